@@ -1,0 +1,19 @@
+//! The command `linetab`, over an opener of files and a writer.
+//!
+//! [`run`] reads the words of the command, opens the files that they name, and writes the answer. It reaches
+//! nothing of the system itself: a program hands it an [`Opener`] and a writer.
+#![tactic(auto)]
+
+mod opener;
+mod program;
+mod stop;
+mod text;
+mod units;
+mod words;
+
+pub use opener::Opener;
+pub use program::run;
+pub use stop::{CliStop, Status};
+
+#[cfg(test)]
+mod tests;

@@ -1,0 +1,38 @@
+//! One run of the command.
+ghost use Rattle.std.specs.Prelude.{IfErr};
+ghost use Rattle.std.specs.Io.KnownBytes.{Keeps};
+ghost use Rattle.lnt_cli.specs.Stops.{IsUsage};
+
+use crate::opener::{Opener, read_file};
+use crate::stop::{CliStop, Status};
+use crate::units::print_units;
+use crate::words::{Request, request_of};
+use std::alloc::Global;
+use std::io::Write;
+
+/// Runs the command of the words, of which the first is the program's own name, and writes its answer to `out`.
+///
+/// `out` isn't flushed. A run is stopped by `Usage` before a file is opened, and `out` has then gained nothing;
+/// by `Read` or `TooLong` for a file that the words name; by `Write` where `out` failed, and then it holds a
+/// front of the text; and by `Memory`.
+pub fn run<O: Opener, W: Write>(
+    alloc: Global,
+    words: Vec<String>,
+    opener: &mut O,
+    out: &mut W,
+) -> Result<Status, CliStop>
+    ensures usage { IfErr result (λ stop. IsUsage stop → Keeps (W.contents out.old) (W.contents out.new)) }
+{
+    match request_of(alloc, words.as_slice())? {
+        Request::Help(text) => {
+            if out.write_all(text.as_bytes()).is_err() {
+                return Err(CliStop::Write);
+            }
+            Ok(Status::Done)
+        }
+        Request::Units { section, order } => {
+            let section = read_file(alloc, opener, section)?;
+            print_units(alloc, section.as_slice(), order, out)
+        }
+    }
+}

@@ -1,0 +1,78 @@
+//! The words of the command.
+use crate::stop::CliStop;
+use clap::error::ErrorKind;
+use clap::{Arg, ArgAction, ArgMatches, Command};
+use lnt_wire::Order;
+use std::alloc::{AllocError, Global};
+
+// What the words ask for.
+#[derive(Drop)]
+pub(crate) enum Request<'a> {
+    // A help text.
+    Help(String),
+    // A line for each unit of a section.
+    Units { section: &'a str, order: Order },
+}
+
+// What the words ask for, of which the first is the program's name.
+pub(crate) fn request_of<'a>(alloc: Global, words: &'a [String]) -> Result<Request<'a>, CliStop> {
+    let error = match command_of(alloc)?.try_get_matches_from(words) {
+        Ok(matches) => return request_in(&matches),
+        Err(error) => error,
+    };
+    if error.kind() == ErrorKind::OutOfMemory {
+        return Err(CliStop::Memory);
+    }
+    let text = error.to_string(alloc)?;
+    if error.use_stderr() {
+        return Err(CliStop::Usage(text));
+    }
+    Ok(Request::Help(text))
+}
+
+fn request_in<'a>(matches: &ArgMatches<'a>) -> Result<Request<'a>, CliStop> {
+    match matches.subcommand() {
+        Some(("units", units)) => Ok(Request::Units {
+            section: units.get_str("SECTION").ok_or(CliStop::Memory)?,
+            order: order_in(units),
+        }),
+        _ => Err(CliStop::Memory),
+    }
+}
+
+fn order_in(matches: &ArgMatches<'_>) -> Order {
+    if matches.get_flag("big") {
+        Order::Big
+    } else {
+        Order::Little
+    }
+}
+
+// The command with all that it takes.
+fn command_of<'a>(alloc: Global) -> Result<Command<'a>, AllocError> {
+    Command::new(alloc, "linetab")
+        .about("Reads and checks DWARF 5 line number sections")
+        .subcommand_required(true)
+        .subcommand(units_command(alloc)?)
+}
+
+fn units_command<'a>(alloc: Global) -> Result<Command<'a>, AllocError> {
+    Command::new(alloc, "units")
+        .about("Prints the offset, the format and the length of each unit of a section")
+        .arg(section_argument(alloc))?
+        .arg(big_option(alloc))
+}
+
+fn section_argument<'a>(alloc: Global) -> Arg<'a> {
+    Arg::new(alloc, "SECTION")
+        .required(true)
+        .action(ArgAction::Set)
+        .help("The file with the bytes of a .debug_line section, or - for standard input")
+}
+
+fn big_option<'a>(alloc: Global) -> Arg<'a> {
+    Arg::new(alloc, "big")
+        .long("big")
+        .action(ArgAction::SetTrue)
+        .help("The section is big-endian; otherwise it is little-endian")
+}

@@ -1,0 +1,420 @@
+-- What is written of a header.
+use Rattle.std.proofs.Common.{◌≡◌, ℕ, zero, suc, ◌+◌, ◌%◌, ◌^◌, ◌<◌, ◌≤◌, List, [], ◌∷◌, ◌++◌, length, take, get_or, refl, sym, ap, subst, ◌∙◌, append_assoc, append-nil, arith, map}
+use Rattle.std.proofs.lemmas.List.{length-append, take_more}
+use Rattle.std.specs.List.{AllByRecursion}
+use Rattle.lnt_wire.specs.declared.format.Format.{Format}
+use Rattle.lnt_wire.specs.declared.format.Format.TheVariants.{D32, D64}
+use Rattle.lnt_wire.specs.declared.format.Order.{Order}
+use Rattle.lnt_wire.specs.declared.form.FormValue.{FormValue}
+use Rattle.lnt_wire.specs.declared.form.FormValue.TheVariants.{Text, LineStrp, Strp, Udata, Data1, Data2, Data4, Data8, Data16, Block, Block1, Block2, Block4}
+use Rattle.lnt_wire.specs.declared.put.EncodeFault.{EncodeFault}
+use Rattle.lnt_wire.specs.declared.put.EncodeFault.TheVariants.{TooLarge, Memory}
+use Rattle.lnt_wire.specs.Bytes.{Exactly, Then, IsShortest, Appends}
+use Rattle.lnt_wire.specs.FormBytes.{form_of, form_code, HasSpelling, FormBytes, IsTooLarge}
+use Rattle.lnt_wire.specs.Leb128.{UnsignedLeb}
+use Rattle.lnt_wire.specs.FrameBytes.{version_five, frame_bytes}
+use Rattle.lnt_wire.specs.InitialLength.{initial_length, LengthFits}
+use Rattle.lnt_wire.specs.Laws.Lengths.{length-number_bytes}
+use Rattle.lnt_wire.specs.Numbers.{NumberBytes, OffsetBytes, IsLargeOffset, number_bytes, offset_size}
+use Rattle.lnt_header.specs.declared.header.Entry.{Entry}
+use Rattle.lnt_header.specs.declared.header.HeaderParts.{HeaderParts}
+use Rattle.lnt_header.specs.HeaderBytes.{HeaderFieldsBytes, HeaderBytesIn, unit_body}
+use Rattle.lnt_header.specs.declared.header.Pair.{Pair}
+use Rattle.lnt_header.specs.Encoding.{NoSpelling, RefusedPut, EntryParts}
+use Rattle.lnt_header.specs.HeaderRules.{IsEntryOf, IsTable, IsHeader, six_bytes, single_bytes}
+use Rattle.lnt_header.specs.Joins.{Each}
+use Rattle.lnt_header.specs.TableBytes.{PairBytes, ValuesBytes, EntryBytes, TableBytes, TableOf}
+
+-- ---- joins
+
+-- the shortest of a join is the join of the shortest
+join_shortest : {X Y : Type 0} (P : X → List ℕ → Type 0) (Q : Y → List ℕ → Type 0) (u : X) (v : Y) (x y : List ℕ) → IsShortest P u x → IsShortest Q v y → IsShortest (λ (w : X × Y). Then (P w.0) (Q w.1)) (u, v) (x ++ y)
+join_shortest P Q u v x y p q = record {
+  spelled = record { front = x; back = y; first = p.spelled; second = q.spelled; joined = refl };
+  shortest = λ other t. omega (arith, length-append x y, ap length t.joined, length-append t.front t.back, p.shortest t.front t.first, q.shortest t.back t.second);
+}
+
+-- one put behind another
+join_put : {X Y : Type 0} (P : X → List ℕ → Type 0) (Q : Y → List ℕ → Type 0) (u : X) (v : Y) (old middle new : List ℕ) → Appends P u old middle → Appends Q v middle new → Appends (λ (w : X × Y). Then (P w.0) (Q w.1)) (u, v) old new
+join_put P Q u v old middle new p q = record {
+  spelling = p.spelling ++ q.spelling;
+  spelled = join_shortest P Q u v p.spelling q.spelling p.spelled q.spelled;
+  joined = q.joined ∙ ap (λ (z : List ℕ). z ++ q.spelling) p.joined ∙ append_assoc old p.spelling q.spelling;
+}
+
+-- the same bytes as another value
+put_as : {X Y : Type 0} (P : X → List ℕ → Type 0) (Q : Y → List ℕ → Type 0) (u : X) (v : Y) (old new : List ℕ) → ((x : List ℕ) → P u x → Q v x) → ((x : List ℕ) → Q v x → P u x) → Appends P u old new → Appends Q v old new
+put_as P Q u v old new to from p = record {
+  spelling = p.spelling;
+  spelled = record { spelled = to p.spelling p.spelled.spelled; shortest = λ other q. p.spelled.shortest other (from other q) };
+  joined = p.joined;
+}
+
+-- ---- lists
+
+each_begun : {X : Type 0} (P : X → List ℕ → Type 0) (old : List ℕ) → Appends (Each P) [] old old
+each_begun P old = record { spelling = []; spelled = record { spelled = refl; shortest = λ other p. omega arith }; joined = sym (append-nil old) }
+
+each_push : {X : Type 0} (P : X → List ℕ → Type 0) (us : List X) (u : X) (x y : List ℕ) → Each P us x → P u y → Each P (us ++ u ∷ []) (x ++ y)
+each_push P [] u x y p q = record { front = y; back = []; first = q; second = refl; joined = ap (λ (z : List ℕ). z ++ y) p ∙ sym (append-nil y) }
+each_push P (v ∷ us) u x y p q = record {
+  front = p.front;
+  back = p.back ++ y;
+  first = p.first;
+  second = each_push P us u p.back y p.second q;
+  joined = ap (λ (z : List ℕ). z ++ y) p.joined ∙ append_assoc p.front p.back y;
+}
+
+-- a spelling of a list with one more value, in two
+record Parted {X : Type 0} (P : X → List ℕ → Type 0) (us : List X) (u : X) (bytes : List ℕ) : Type 0 where
+  front : List ℕ
+  back : List ℕ
+  first : Each P us front
+  last : P u back
+  joined : bytes ≡ front ++ back
+
+each_part : {X : Type 0} (P : X → List ℕ → Type 0) (us : List X) (u : X) (bytes : List ℕ) → Each P (us ++ u ∷ []) bytes → Parted P us u bytes
+each_part P [] u bytes p = record { front = []; back = p.front; first = refl; last = p.first; joined = p.joined ∙ ap (λ (z : List ℕ). p.front ++ z) p.second ∙ append-nil p.front }
+each_part P (v ∷ us) u bytes p =
+    let rest = each_part P us u p.back p.second in
+    record {
+      front = p.front ++ rest.front;
+      back = rest.back;
+      first = record { front = p.front; back = rest.front; first = p.first; second = rest.first; joined = refl };
+      last = rest.last;
+      joined = p.joined ∙ ap (λ (z : List ℕ). p.front ++ z) rest.joined ∙ sym (append_assoc p.front rest.front rest.back);
+    }
+
+each_more : {X : Type 0} (P : X → List ℕ → Type 0) (xs : List X) (i : ℕ) (d : X) (old middle new : List ℕ) → i < length xs → Appends (Each P) (take i xs) old middle → Appends P (get_or xs i d) middle new
+    → Appends (Each P) (take (i + 1) xs) old new
+each_more P xs i d old middle new lt p q =
+    let us = take i xs in
+    let u = get_or xs i d in
+    let all : Appends (Each P) (us ++ u ∷ []) old new = record {
+      spelling = p.spelling ++ q.spelling;
+      spelled = record {
+        spelled = each_push P us u p.spelling q.spelling p.spelled.spelled q.spelled.spelled;
+        shortest = λ other t.
+            let parts = each_part P us u other t in
+            omega (arith, length-append p.spelling q.spelling, ap length parts.joined, length-append parts.front parts.back, p.spelled.shortest parts.front parts.first, q.spelled.shortest parts.back parts.last);
+      };
+      joined = q.joined ∙ ap (λ (z : List ℕ). z ++ q.spelling) p.joined ∙ append_assoc old p.spelling q.spelling;
+    } in
+    subst (λ (vs : List _). Appends (Each P) vs old new) (sym (take_more xs i d lt)) all
+
+taken_all : {X : Type 0} (xs : List X) (n : ℕ) → length xs ≤ n → take n xs ≡ xs
+taken_all [] zero le = refl
+taken_all [] (suc n) le = refl
+taken_all (x ∷ xs) zero le = absurd (omega arith)
+taken_all (x ∷ xs) (suc n) le = ap (λ (ys : List _). x ∷ ys) (taken_all xs n (omega arith))
+
+each_done : {X : Type 0} (P : X → List ℕ → Type 0) (xs : List X) (n : ℕ) (old new : List ℕ) → length xs ≤ n → Appends (Each P) (take n xs) old new → Appends (Each P) xs old new
+each_done P xs n old new le p = subst (λ (ys : List _). Appends (Each P) ys old new) (taken_all xs n le) p
+
+-- each value of a list that has a spelling has one
+each_at : {X : Type 0} (P : X → List ℕ → Type 0) (xs : List X) (i : ℕ) (d : X) (bytes : List ℕ) → i < length xs → Each P xs bytes → (x : List ℕ) × P (get_or xs i d) x
+each_at P [] i d bytes lt p = absurd (omega arith)
+each_at P (x ∷ xs) zero d bytes lt p = (p.front, p.first)
+each_at P (x ∷ xs) (suc i) d bytes lt p = each_at P xs i d p.back (omega arith) p.second
+
+each_refused : {X : Type 0} (P : X → List ℕ → Type 0) (xs : List X) (i : ℕ) (d : X) (fault : EncodeFault) → i < length xs → RefusedPut P (get_or xs i d) fault → RefusedPut (Each P) xs fault
+each_refused P xs i d fault lt refused = record {
+  none = λ large bytes p. let one = each_at P xs i d bytes lt p in refused.none large one.0 one.1;
+}
+
+-- want of memory says nothing
+pub refused_memory : {X : Type 0} (Spells : X → List ℕ → Type 0) (x : X) (fault : EncodeFault) → fault ≡ Memory → RefusedPut Spells x fault
+refused_memory Spells x fault is = record { none = λ large. absurd cc }
+
+-- ---- pairs
+
+pub pair_put : (pair : Pair) (code : ℕ) (old middle new : List ℕ) → Appends UnsignedLeb pair.content old middle → code ≡ form_code pair.form → Appends UnsignedLeb code middle new → Appends PairBytes pair old new
+pair_put pair code old middle new p is q =
+    let second : Appends UnsignedLeb (form_code pair.form) middle new = subst (λ (n : ℕ). Appends UnsignedLeb n middle new) is q in
+    put_as (λ (w : ℕ × ℕ). Then (UnsignedLeb w.0) (UnsignedLeb w.1)) PairBytes (pair.content, form_code pair.form) pair old new (λ x t. t) (λ x t. t)
+    (join_put UnsignedLeb UnsignedLeb pair.content (form_code pair.form) old middle new p second)
+
+pub pairs_begun : (old : List ℕ) → Appends (Each PairBytes) [] old old
+pairs_begun old = each_begun PairBytes old
+
+pub pairs_more : (pairs : List Pair) (i : ℕ) (d : Pair) (old middle new : List ℕ) → i < length pairs → Appends (Each PairBytes) (take i pairs) old middle → Appends PairBytes (get_or pairs i d) middle new
+    → Appends (Each PairBytes) (take (i + 1) pairs) old new
+pairs_more pairs i d old middle new lt p q = each_more PairBytes pairs i d old middle new lt p q
+
+pub pairs_done : (pairs : List Pair) (n : ℕ) (old new : List ℕ) → length pairs ≤ n → Appends (Each PairBytes) (take n pairs) old new → Appends (Each PairBytes) pairs old new
+pairs_done pairs n old new le p = each_done PairBytes pairs n old new le p
+
+-- ---- values
+
+large_value : (format : Format) (order : Order) (value : FormValue) (x : List ℕ) → IsTooLarge format value → FormBytes format order value x → ⊥
+large_value D32 order (Strp n) x large p = omega (arith, p.fits, large)
+large_value D32 order (LineStrp n) x large p = omega (arith, p.fits, large)
+large_value D64 order (Strp n) x large p = large
+large_value D64 order (LineStrp n) x large p = large
+large_value format order value x large p = absurd large
+
+pub values_begun : (format : Format) (order : Order) (old : List ℕ) → Appends (Each (FormBytes format order)) [] old old
+values_begun format order old = each_begun (FormBytes format order) old
+
+pub values_more : (format : Format) (order : Order) (values : List FormValue) (i : ℕ) (value : FormValue) (old middle new : List ℕ) → i < length values → value ≡ get_or values i value
+    → Appends (Each (FormBytes format order)) (take i values) old middle → Appends (FormBytes format order) value middle new → Appends (Each (FormBytes format order)) (take (i + 1) values) old new
+values_more format order values i value old middle new lt is p q =
+    each_more (FormBytes format order) values i value old middle new lt p (subst (λ (v : FormValue). Appends (FormBytes format order) v middle new) is q)
+
+pub values_done : (format : Format) (order : Order) (values : List FormValue) (n : ℕ) (old new : List ℕ) → length values ≤ n → Appends (Each (FormBytes format order)) (take n values) old new → Appends (Each (FormBytes format order)) values old new
+values_done format order values n old new le p = each_done (FormBytes format order) values n old new le p
+
+pub values_refused : (format : Format) (order : Order) (values : List FormValue) (i : ℕ) (value : FormValue) (fault : EncodeFault) → i < length values → value ≡ get_or values i value → (fault ≡ TooLarge → IsTooLarge format value)
+    → RefusedPut (Each (FormBytes format order)) values fault
+values_refused format order values i value fault lt is large =
+    each_refused (FormBytes format order) values i value fault lt
+    (record { none = λ e x p. large_value format order value x (large e) (subst (λ (v : FormValue). FormBytes format order v x) (sym is) p) })
+
+-- ---- entries
+
+pub entries_begun : (format : Format) (order : Order) (old : List ℕ) → Appends (Each (EntryParts format order)) [] old old
+entries_begun format order old = each_begun (EntryParts format order) old
+
+pub entries_more : (format : Format) (order : Order) (entries : List Entry) (i : ℕ) (entry : Entry) (old middle new : List ℕ) → i < length entries → entry ≡ get_or entries i entry
+    → Appends (Each (EntryParts format order)) (take i entries) old middle → Appends (Each (FormBytes format order)) entry.values middle new → Appends (Each (EntryParts format order)) (take (i + 1) entries) old new
+entries_more format order entries i entry old middle new lt is p q =
+    let one = put_as (Each (FormBytes format order)) (EntryParts format order) entry.values entry middle new (λ x t. t) (λ x t. t) q in
+    each_more (EntryParts format order) entries i entry old middle new lt p (subst (λ (e : Entry). Appends (EntryParts format order) e middle new) is one)
+
+pub entries_done : (format : Format) (order : Order) (entries : List Entry) (n : ℕ) (old new : List ℕ) → length entries ≤ n → Appends (Each (EntryParts format order)) (take n entries) old new → Appends (Each (EntryParts format order)) entries old new
+entries_done format order entries n old new le p = each_done (EntryParts format order) entries n old new le p
+
+pub entries_refused : (format : Format) (order : Order) (entries : List Entry) (i : ℕ) (entry : Entry) (values : List FormValue) (fault : EncodeFault) → i < length entries → entry ≡ get_or entries i entry
+    → values ≡ entry.values → RefusedPut (Each (FormBytes format order)) values fault → RefusedPut (Each (EntryParts format order)) entries fault
+entries_refused format order entries i entry values fault lt is same refused =
+    let one : RefusedPut (EntryParts format order) entry fault = record { none = λ e x p. refused.none e x (rw same p) } in
+    each_refused (EntryParts format order) entries i entry fault lt (subst (λ (e : Entry). RefusedPut (EntryParts format order) e fault) is one)
+
+-- ---- tables
+
+values_as : (format : Format) (order : Order) (pairs : List Pair) (values : List FormValue) (x : List ℕ) → map form_of values ≡ map (λ pair. pair.form) pairs → Each (FormBytes format order) values x → ValuesBytes format order pairs values x
+values_as format order [] [] x e p = p
+values_as format order [] (v ∷ values) x e p = absurd cc
+values_as format order (pair ∷ pairs) [] x e p = absurd cc
+values_as format order (pair ∷ pairs) (v ∷ values) x e p =
+    let first : form_of v ≡ pair.form = cc in
+    let behind : map form_of values ≡ map (λ pair. pair.form) pairs = cc in
+    (first, record { front = p.front; back = p.back; first = p.first; second = values_as format order pairs values p.back behind p.second; joined = p.joined })
+
+as_values : (format : Format) (order : Order) (pairs : List Pair) (values : List FormValue) (x : List ℕ) → ValuesBytes format order pairs values x → Each (FormBytes format order) values x
+as_values format order [] [] x p = p
+as_values format order [] (v ∷ values) x p = absurd p
+as_values format order (pair ∷ pairs) [] x p = absurd p
+as_values format order (pair ∷ pairs) (v ∷ values) x p =
+    record { front = p.1.front; back = p.1.back; first = p.1.first; second = as_values format order pairs values p.1.back p.1.second; joined = p.1.joined }
+
+entries_as : (format : Format) (order : Order) (pairs : List Pair) (entries : List Entry) (x : List ℕ) → AllByRecursion (IsEntryOf pairs) entries → Each (EntryParts format order) entries x → Each (EntryBytes format order pairs) entries x
+entries_as format order pairs [] x h p = p
+entries_as format order pairs (entry ∷ entries) x h p = record {
+  front = p.front;
+  back = p.back;
+  first = values_as format order pairs entry.values p.front h.0.forms p.first;
+  second = entries_as format order pairs entries p.back h.1 p.second;
+  joined = p.joined;
+}
+
+as_entries : (format : Format) (order : Order) (pairs : List Pair) (entries : List Entry) (x : List ℕ) → Each (EntryBytes format order pairs) entries x → Each (EntryParts format order) entries x
+as_entries format order pairs [] x p = p
+as_entries format order pairs (entry ∷ entries) x p = record {
+  front = p.front;
+  back = p.back;
+  first = as_values format order pairs entry.values p.front p.first;
+  second = as_entries format order pairs entries p.back p.second;
+  joined = p.joined;
+}
+
+pub table_refused : (format : Format) (order : Order) (pairs : List Pair) (entries : List Entry) (fault : EncodeFault) → RefusedPut (Each (EntryParts format order)) entries fault → RefusedPut (TableOf format order) (pairs, entries) fault
+table_refused format order pairs entries fault refused = record {
+  none = λ large bytes p. refused.none large p.spelled.second.second.back (as_entries format order pairs entries p.spelled.second.second.back p.spelled.second.second.second);
+}
+
+byte_put : (n : ℕ) (old : List ℕ) → Appends (λ (k : ℕ). Exactly (k ∷ [])) n old (old ++ n ∷ [])
+byte_put n old = record { spelling = n ∷ []; spelled = record { spelled = refl; shortest = λ other p. omega (arith, ap length p) }; joined = refl }
+
+abbrev TableParts : Format → Order → ℕ × (List Pair × (ℕ × List Entry)) → List ℕ → Type 0
+TableParts format order t bytes = Then (Exactly (t.0 ∷ [])) (Then (Each PairBytes t.1.0) (Then (UnsignedLeb t.1.1.0) (Each (EntryParts format order) t.1.1.1))) bytes
+
+pub table_put : (format : Format) (order : Order) (pairs : List Pair) (entries : List Entry) (old m1 m2 m3 new : List ℕ) → IsTable pairs entries → m1 ≡ old ++ length pairs ∷ [] → Appends (Each PairBytes) pairs m1 m2
+    → Appends UnsignedLeb (length entries) m2 m3 → Appends (Each (EntryParts format order)) entries m3 new → Appends (TableOf format order) (pairs, entries) old new
+table_put format order pairs entries old m1 m2 m3 new is pushed p q r =
+    let count : Appends (λ (k : ℕ). Exactly (k ∷ [])) (length pairs) old m1 = subst (λ (z : List ℕ). Appends (λ (k : ℕ). Exactly (k ∷ [])) (length pairs) old z) (sym pushed) (byte_put (length pairs) old) in
+    let back = join_put UnsignedLeb (Each (EntryParts format order)) (length entries) entries m2 m3 new q r in
+    let behind = join_put (Each PairBytes) (λ (w : ℕ × List Entry). Then (UnsignedLeb w.0) (Each (EntryParts format order) w.1)) pairs (length entries, entries) m1 m2 new p back in
+    let all = join_put (λ (k : ℕ). Exactly (k ∷ [])) (λ (w : List Pair × (ℕ × List Entry)). Then (Each PairBytes w.0) (Then (UnsignedLeb w.1.0) (Each (EntryParts format order) w.1.1))) (length pairs) (pairs, (length entries, entries)) old m1 new count behind in
+    put_as (TableParts format order) (TableOf format order) (length pairs, (pairs, (length entries, entries))) (pairs, entries) old new
+    (λ x t. record {
+      few_pairs = is.few_pairs;
+      none_without_pairs = is.none_without_pairs;
+      spelled = record {
+        front = t.front;
+        back = t.back;
+        first = t.first;
+        second = record {
+          front = t.second.front;
+          back = t.second.back;
+          first = t.second.first;
+          second = record {
+            front = t.second.second.front;
+            back = t.second.second.back;
+            first = t.second.second.first;
+            second = entries_as format order pairs entries t.second.second.back is.of_format t.second.second.second;
+            joined = t.second.second.joined;
+          };
+          joined = t.second.joined;
+        };
+        joined = t.joined;
+      };
+    })
+    (λ x t. let s = t.spelled in record {
+      front = s.front;
+      back = s.back;
+      first = s.first;
+      second = record {
+        front = s.second.front;
+        back = s.second.back;
+        first = s.second.first;
+        second = record {
+          front = s.second.second.front;
+          back = s.second.second.back;
+          first = s.second.second.first;
+          second = as_entries format order pairs entries s.second.second.back s.second.second.second;
+          joined = s.second.second.joined;
+        };
+        joined = s.second.joined;
+      };
+      joined = s.joined;
+    })
+    all
+
+-- ---- what header_length counts
+
+length-single : (h : HeaderParts) → length (single_bytes h) ≡ length (six_bytes h) + length h.standard_lengths
+length-single h = length-append (six_bytes h) h.standard_lengths
+
+length-four : (a b c d : List ℕ) → length (a ++ b ++ c ++ d) ≡ length a + length b + length c + length d
+length-four a b c d = simp length-append refl
+
+table_named : (format : Format) (order : Order) (pairs pairs' : List Pair) (entries entries' : List Entry) (old new : List ℕ) → pairs ≡ pairs' → entries ≡ entries' → Appends (TableOf format order) (pairs, entries) old new
+    → Appends (TableOf format order) (pairs', entries') old new
+table_named format order pairs pairs' entries entries' old new p e put =
+    subst (λ (ps : List Pair). Appends (TableOf format order) (ps, entries') old new) p (subst (λ (es : List Entry). Appends (TableOf format order) (pairs, es) old new) e put)
+
+pub fields_put : (h : HeaderParts) (o0 o1 o2 o3 o4 o5 lengths extra : List ℕ) (d_pairs f_pairs : List Pair) (d_entries f_entries : List Entry) → IsHeader h → o0 ≡ [] → o1 ≡ o0 ++ six_bytes h
+    → lengths ≡ h.standard_lengths → o2 ≡ o1 ++ lengths → d_pairs ≡ h.directory_format → d_entries ≡ h.directories → Appends (TableOf h.format h.order) (d_pairs, d_entries) o2 o3
+    → f_pairs ≡ h.file_format → f_entries ≡ h.files → Appends (TableOf h.format h.order) (f_pairs, f_entries) o3 o4 → extra ≡ h.extra → o5 ≡ o4 ++ extra → IsShortest HeaderFieldsBytes h o5
+fields_put h o0 o1 o2 o3 o4 o5 lengths extra d_pairs f_pairs d_entries f_entries is begun first lengths_are second_put dp de d_put fp fe f_put extra_is last_put =
+    let second : o2 ≡ o1 ++ h.standard_lengths = second_put ∙ ap (λ (z : List ℕ). o1 ++ z) lengths_are in
+    let last : o5 ≡ o4 ++ h.extra = last_put ∙ ap (λ (z : List ℕ). o4 ++ z) extra_is in
+    let d : Appends (TableOf h.format h.order) (h.directory_format, h.directories) o2 o3 = table_named h.format h.order d_pairs h.directory_format d_entries h.directories o2 o3 dp de d_put in
+    let f : Appends (TableOf h.format h.order) (h.file_format, h.files) o3 o4 = table_named h.format h.order f_pairs h.file_format f_entries h.files o3 o4 fp fe f_put in
+    let front : o2 ≡ single_bytes h = second ∙ ap (λ (z : List ℕ). z ++ h.standard_lengths) (first ∙ ap (λ (z : List ℕ). z ++ six_bytes h) begun) in
+    let whole : o5 ≡ single_bytes h ++ d.spelling ++ f.spelling ++ h.extra =
+    last ∙ ap (λ (z : List ℕ). z ++ h.extra) (f.joined ∙ ap (λ (z : List ℕ). z ++ f.spelling) (d.joined ∙ ap (λ (z : List ℕ). z ++ d.spelling) front)) in
+    record {
+      spelled = record {
+        directories = d.spelling;
+        files = f.spelling;
+        numbers = is.numbers;
+        directory_table = d.spelled.spelled;
+        file_table = f.spelled.spelled;
+        joined = whole;
+      };
+      shortest = λ other p.
+          omega (
+            arith,
+            ap length whole,
+            length-four (single_bytes h) d.spelling f.spelling h.extra,
+            ap length p.joined,
+            length-four (single_bytes h) p.directories p.files h.extra,
+            d.spelled.shortest p.directories p.directory_table,
+            f.spelled.shortest p.files p.file_table,
+          );
+    }
+
+pub directories_refused : (h : HeaderParts) (pairs : List Pair) (entries : List Entry) (fault : EncodeFault) → pairs ≡ h.directory_format → entries ≡ h.directories → RefusedPut (TableOf h.format h.order) (pairs, entries) fault
+    → RefusedPut HeaderFieldsBytes h fault
+directories_refused h pairs entries fault p e refused = record { none = λ large bytes q. refused.none large q.directories (rw (p, e) q.directory_table) }
+
+pub files_refused : (h : HeaderParts) (pairs : List Pair) (entries : List Entry) (fault : EncodeFault) → pairs ≡ h.file_format → entries ≡ h.files → RefusedPut (TableOf h.format h.order) (pairs, entries) fault
+    → RefusedPut HeaderFieldsBytes h fault
+files_refused h pairs entries fault p e refused = record { none = λ large bytes q. refused.none large q.files (rw (p, e) q.file_table) }
+
+-- ---- the whole unit
+
+length-initial-same : (format : Format) (order : Order) (m n : ℕ) → length (initial_length format order m) ≡ length (initial_length format order n)
+length-initial-same D32 order m n = length-number_bytes order 4 m ∙ sym (length-number_bytes order 4 n)
+length-initial-same D64 order m n =
+    omega (arith, length-append (number_bytes order 4 0xffffffff) (number_bytes order 8 m), length-append (number_bytes order 4 0xffffffff) (number_bytes order 8 n), length-number_bytes order 8 m, length-number_bytes order 8 n)
+
+length-five : (a b c d e : List ℕ) → length (a ++ b ++ c ++ d ++ e) ≡ length a + length b + length c + length d + length e
+length-five a b c d e = simp length-append refl
+
+length-body : (h : HeaderParts) (fields program : List ℕ) → length (unit_body h fields program) ≡ 4 + offset_size h.format + length fields + length program
+length-body h fields program =
+    let number = number_bytes h.order (offset_size h.format) (length fields) in
+    omega (arith, length-five (version_five h.order) (h.address_size ∷ 0 ∷ []) number fields program, length-number_bytes h.order 2 5, length-number_bytes h.order (offset_size h.format) (length fields))
+
+regroup_out : (a b c d e f : List ℕ) → ((((a ++ b) ++ c) ++ d) ++ e) ++ f ≡ a ++ (b ++ c ++ d ++ e ++ f)
+regroup_out a b c d e f = simp append_assoc
+
+pub header_put : (h : HeaderParts) (program fields : List ℕ) (n count : ℕ) (o0 o1 o2 size o3 o4 o5 o6 : List ℕ) → IsShortest HeaderFieldsBytes h fields → n ≡ 4 + offset_size h.format + length fields + length program → LengthFits h.format n
+    → o0 ≡ [] → o1 ≡ o0 ++ initial_length h.format h.order n → Appends (NumberBytes h.order 2) 5 o1 o2 → size ≡ o2 ++ h.address_size ∷ [] → o3 ≡ size ++ 0 ∷ [] → count ≡ length fields → Appends (OffsetBytes h.format h.order) count o3 o4
+    → o5 ≡ o4 ++ fields → o6 ≡ o5 ++ program → IsShortest (HeaderBytesIn h.order) (h, program) o6
+header_put h program fields n count o0 o1 o2 size o3 o4 o5 o6 p n_is fits begun initial version size_put selector_put count_is length_put counted last =
+    let body = unit_body h fields program in
+    let long : n ≡ length body = n_is ∙ sym (length-body h fields program) in
+    let a = initial_length h.format h.order n in
+    let v = version_five h.order in
+    let s = h.address_size ∷ 0 ∷ [] in
+    let number = number_bytes h.order (offset_size h.format) (length fields) in
+    let e1 : o1 ≡ a = initial ∙ ap (λ (z : List ℕ). z ++ a) begun in
+    let e2 : o2 ≡ a ++ v = version.joined ∙ ap (λ (z : List ℕ). z ++ version.spelling) e1 ∙ ap (λ (z : List ℕ). a ++ z) version.spelled.spelled.spelled in
+    let sizes : o3 ≡ o2 ++ s = selector_put ∙ ap (λ (z : List ℕ). z ++ 0 ∷ []) size_put ∙ append_assoc o2 (h.address_size ∷ []) (0 ∷ []) in
+    let e3 : o3 ≡ (a ++ v) ++ s = sizes ∙ ap (λ (z : List ℕ). z ++ s) e2 in
+    let number_is : length_put.spelling ≡ number = length_put.spelled.spelled.spelled ∙ ap (λ (k : ℕ). number_bytes h.order (offset_size h.format) k) count_is in
+    let e4 : o4 ≡ ((a ++ v) ++ s) ++ number = length_put.joined ∙ ap (λ (z : List ℕ). z ++ length_put.spelling) e3 ∙ ap (λ (z : List ℕ). ((a ++ v) ++ s) ++ z) number_is in
+    let e5 : o5 ≡ (((a ++ v) ++ s) ++ number) ++ fields = counted ∙ ap (λ (z : List ℕ). z ++ fields) e4 in
+    let e6 : o6 ≡ a ++ body = last ∙ ap (λ (z : List ℕ). z ++ program) e5 ∙ regroup_out a v s number fields program in
+    let whole : o6 ≡ frame_bytes h.order h.format body = e6 ∙ ap (λ (k : ℕ). initial_length h.format h.order k ++ body) long in
+    record {
+      spelled = record { order_is = refl; spelled = record { fields = fields; counted = p.spelled; fits = subst (LengthFits h.format) long fits; joined = whole } };
+      shortest = λ other q.
+          let t = q.spelled in
+          let body' = unit_body h t.fields program in
+          omega (
+            arith,
+            ap length whole,
+            length-append (initial_length h.format h.order (length body)) body,
+            ap length t.joined,
+            length-append (initial_length h.format h.order (length body')) body',
+            length-initial-same h.format h.order (length body) (length body'),
+            length-body h fields program,
+            length-body h t.fields program,
+            p.shortest t.fields t.counted,
+          );
+    }
+
+pub header_refused : (h : HeaderParts) (program : List ℕ) (fault : EncodeFault) → RefusedPut HeaderFieldsBytes h fault → RefusedPut (HeaderBytesIn h.order) (h, program) fault
+header_refused h program fault refused = record { none = λ large bytes p. refused.none large p.spelled.fields p.spelled.counted }
+
+fits_less : (format : Format) (m n : ℕ) → m ≤ n → LengthFits format n → LengthFits format m
+fits_less D32 m n le fits = omega arith
+fits_less D64 m n le fits = omega arith
+
+pub header_too_long : (h : HeaderParts) (program fields : List ℕ) (m n : ℕ) (fault : EncodeFault) → IsShortest HeaderFieldsBytes h fields → m ≡ length fields → n ≡ length program
+    → (LengthFits h.format (4 + offset_size h.format + m + n) → ⊥) → RefusedPut (HeaderBytesIn h.order) (h, program) fault
+header_too_long h program fields m n fault p m_is n_is long = record {
+  none = λ large bytes q.
+      let t = q.spelled in
+      long (fits_less h.format (4 + offset_size h.format + m + n) (length (unit_body h t.fields program)) (omega (arith, m_is, n_is, length-body h t.fields program, p.shortest t.fields t.counted)) t.fits);
+}
+
+-- an offset within a unit whose length fits is never too large
+pub offset_fits : (format : Format) (n length_is : ℕ) → n ≤ length_is → LengthFits format length_is → IsLargeOffset format n → ⊥
+offset_fits D32 n length_is le fits large = omega (arith, le, fits, large)
+offset_fits D64 n length_is le fits large = large

@@ -1,0 +1,10 @@
+pub mod Allowed
+pub mod DecodeLemmas
+pub mod EncodeLemmas
+pub mod HeaderFrames
+pub mod HeaderReaders
+pub mod Places
+pub mod Readers
+pub mod StartReaders
+pub mod TableReaders
+pub mod TestLemmas

@@ -1,0 +1,167 @@
+-- Tests of a header's parts.
+use Rattle.std.proofs.Common.{◌≡◌, ℕ, zero, suc, ◌+◌, ◌<◌, ◌≤◌, List, [], ◌∷◌, ◌++◌, length, take, drop, min, get_or, refl, sym, ap, subst, ◌∙◌, arith, ◌⊎◌, inl, inr}
+use Rattle.std.proofs.lemmas.List.{take_more, drop_more, take-append-drop, length-take-le}
+use Rattle.std.specs.Prelude.{Bool, true, false, IsTrue, ◌≢◌, map, FitsSigned}
+use Rattle.std.specs.Bool.{MatchBool}
+use Rattle.std.specs.List.{AllByRecursion, AllZip}
+use Rattle.std.specs.Int.{w8}
+use Rattle.lnt_wire.specs.declared.form.FormValue.{FormValue}
+use Rattle.lnt_wire.specs.declared.form.FormValue.TheVariants.{Text, LineStrp, Strp, Udata, Data1, Data2, Data4, Data8, Data16, Block, Block1, Block2, Block4}
+use Rattle.lnt_wire.specs.FormBytes.{form_of, HasSpelling}
+use Rattle.lnt_header.specs.declared.header.Entry.{Entry}
+use Rattle.lnt_header.specs.declared.header.HeaderParts.{HeaderParts}
+use Rattle.lnt_header.specs.declared.header.Pair.{Pair}
+use Rattle.lnt_header.specs.HeaderRules.{IsAddressSize, AreStandardLengths, known_lengths, six_bytes, HasHeaderNumbers, IsEntryOf, IsHeader}
+use Rattle.lnt_header.specs.HeaderTests.{IsFirstNot, IsFormat, FitsItsForm, HoldsNoZero, FitsPair, IsOfFormat, HasSoundTexts}
+
+all_push : {X : Type 0} (P : X → Type 0) (xs : List X) (x : X) → AllByRecursion P xs → P x → AllByRecursion P (xs ++ x ∷ [])
+all_push P [] x h p = (p, tt)
+all_push P (y ∷ xs) x h p = (h.0, all_push P xs x h.1 p)
+
+pub all_more : {X : Type 0} (P : X → Type 0) (xs : List X) (i : ℕ) (d : X) → i < length xs → AllByRecursion P (take i xs) → P (get_or xs i d) → AllByRecursion P (take (i + 1) xs)
+all_more P xs i d lt h p = subst (AllByRecursion P) (sym (take_more xs i d lt)) (all_push P (take i xs) (get_or xs i d) h p)
+
+pub all_taken : {X : Type 0} (P : X → Type 0) (xs : List X) (n : ℕ) → length xs ≤ n → AllByRecursion P (take n xs) → AllByRecursion P xs
+all_taken P [] n le h = tt
+all_taken P (x ∷ xs) zero le h = absurd (omega arith)
+all_taken P (x ∷ xs) (suc n) le h = (h.0, all_taken P xs n (omega arith) h.1)
+
+all_at : {X : Type 0} (P : X → Type 0) (xs : List X) (i : ℕ) (d : X) → i < length xs → AllByRecursion P xs → P (get_or xs i d)
+all_at P [] i d lt h = absurd (omega arith)
+all_at P (x ∷ xs) zero d lt h = h.0
+all_at P (x ∷ xs) (suc i) d lt h = all_at P xs i d (omega arith) h.1
+
+pub not_all : {X : Type 0} (P : X → Type 0) (xs : List X) (i : ℕ) (d : X) → i < length xs → (P (get_or xs i d) → ⊥) → AllByRecursion P xs → ⊥
+not_all P xs i d lt other h = other (all_at P xs i d lt h)
+
+pub first_not : {X : Type 0} (P : X → Type 0) (xs : List X) (i : ℕ) (d : X) → i < length xs → AllByRecursion P (take i xs) → (P (get_or xs i d) → ⊥) → IsFirstNot P xs i
+first_not P xs i d lt h other = record {
+  before = take i xs;
+  value = get_or xs i d;
+  behind = drop (i + 1) xs;
+  joined = sym (take-append-drop i xs) ∙ ap (λ (z : List _). take i xs ++ z) (drop_more xs i d lt);
+  index_is = sym (length-take-le i xs (omega arith));
+  all_before = h;
+  not_so = other;
+}
+
+-- ---- the standard lengths
+
+taken_capped : (xs : List ℕ) (k : ℕ) → take (min (length xs) k) xs ≡ take k xs
+taken_capped [] zero = refl
+taken_capped [] (suc k) = let least : min 0 (suc k) ≡ 0 = omega arith in rw least refl
+taken_capped (x ∷ xs) zero = let least : min (length (x ∷ xs)) 0 ≡ 0 = omega arith in rw least refl
+taken_capped (x ∷ xs) (suc k) =
+    let least : min (length (x ∷ xs)) (suc k) ≡ suc (min (length xs) k) = omega arith in
+    rw least (ap (λ (z : List ℕ). x ∷ z) (taken_capped xs k))
+
+front_is : (xs : List ℕ) (m : ℕ) → m ≡ min (length xs) 12 → take m xs ≡ take 12 xs
+front_is xs m e = ap (λ (n : ℕ). take n xs) e ∙ taken_capped xs 12
+
+known_is : (xs : List ℕ) (m : ℕ) → m ≡ min (length xs) 12 → take m known_lengths ≡ take (length xs) known_lengths
+known_is xs m e =
+    let swapped : m ≡ min (length known_lengths) (length xs) = omega (arith, e) in
+    ap (λ (n : ℕ). take n known_lengths) swapped ∙ taken_capped known_lengths (length xs)
+
+-- a comparison of the known ones
+pub standard_lengths : (xs : List ℕ) (m : ℕ) (r : Bool) → m ≡ min (length xs) 12 → MatchBool r (take m xs ≡ take m known_lengths) (take m xs ≢ take m known_lengths)
+    → (IsTrue r → AreStandardLengths xs) × (AreStandardLengths xs → IsTrue r)
+standard_lengths xs m true e same = ((λ t. sym (front_is xs m e) ∙ same ∙ known_is xs m e), (λ are. refl))
+standard_lengths xs m false e other = ((λ t. absurd cc), (λ are. absurd (other (front_is xs m e ∙ are ∙ sym (known_is xs m e)))))
+
+-- ---- pairs and values side by side
+
+-- what is left of two lists decides of them
+pub record ZipLeft {X Y : Type 0} (P : X → Y → Type 0) (xs : List X) (ys : List Y) (left : List X) (right : List Y) : Type 0 where
+  pub as_long : length left ≡ length right
+  pub to : AllZip P left right → AllZip P xs ys
+  pub from : AllZip P xs ys → AllZip P left right
+
+pub zip_start : {X Y : Type 0} (P : X → Y → Type 0) (xs left : List X) (ys right : List Y) → left ≡ xs → right ≡ ys → length ys ≡ length xs → ZipLeft P xs ys left right
+zip_start P xs left ys right same same' long = rw (same, same') (record { as_long = sym long; to = λ h. h; from = λ h. h })
+
+pub zip_more : {X Y : Type 0} (P : X → Y → Type 0) (xs left left' : List X) (ys right right' : List Y) (x : X) (y : Y) → ZipLeft P xs ys left right → left ≡ x ∷ left' → right ≡ y ∷ right' → P x y → ZipLeft P xs ys left' right'
+zip_more P xs left left' ys right right' x y h is is' p =
+    let k : ZipLeft P xs ys (x ∷ left') (y ∷ right') = subst (λ (z : List _). ZipLeft P xs ys z (y ∷ right')) is (subst (λ (z : List _). ZipLeft P xs ys left z) is' h) in
+    record { as_long = omega (arith, k.as_long); to = λ all. k.to (p, all); from = λ all. (k.from all).1 }
+
+pub zip_not : {X Y : Type 0} (P : X → Y → Type 0) (xs left left' : List X) (ys right right' : List Y) (x : X) (y : Y) → ZipLeft P xs ys left right → left ≡ x ∷ left' → right ≡ y ∷ right' → (P x y → ⊥) → AllZip P xs ys → ⊥
+zip_not P xs left left' ys right right' x y h is is' other all =
+    let k : ZipLeft P xs ys (x ∷ left') (y ∷ right') = subst (λ (z : List _). ZipLeft P xs ys z (y ∷ right')) is (subst (λ (z : List _). ZipLeft P xs ys left z) is' h) in
+    other (k.from all).0
+
+ends : {X Y : Type 0} (P : X → Y → Type 0) (left : List X) (right : List Y) → length left ≡ length right → (left ≡ []) ⊎ (right ≡ []) → AllZip P left right
+ends P [] [] e none = tt
+ends P [] (y ∷ right) e none = absurd (omega arith)
+ends P (x ∷ left) [] e none = absurd (omega arith)
+ends P (x ∷ left) (y ∷ right) e none = elim none [ inl a ↦ absurd cc | inr a ↦ absurd cc ]
+
+pub zip_end : {X Y : Type 0} (P : X → Y → Type 0) (xs left : List X) (ys right : List Y) → ZipLeft P xs ys left right → (left ≡ []) ⊎ (right ≡ []) → AllZip P xs ys
+zip_end P xs left ys right h none = h.to (ends P left right h.as_long none)
+
+pub other_lengths : {X Y : Type 0} (P : X → Y → Type 0) (xs : List X) (ys : List Y) → (length ys ≡ length xs → ⊥) → AllZip P xs ys → ⊥
+other_lengths P [] [] other h = other refl
+other_lengths P [] (y ∷ ys) other h = h
+other_lengths P (x ∷ xs) [] other h = h
+other_lengths P (x ∷ xs) (y ∷ ys) other h = other_lengths P xs ys (λ e. other (ap suc e)) h.1
+
+-- ---- the whole
+
+bytes_join : (xs ys : List ℕ) → AllByRecursion (λ byte. byte < 256) xs → AllByRecursion (λ byte. byte < 256) ys → AllByRecursion (λ byte. byte < 256) (xs ++ ys)
+bytes_join [] ys h k = k
+bytes_join (x ∷ xs) ys h k = (h.0, bytes_join xs ys h.1 k)
+
+pub header_numbers : (h : HeaderParts) → IsAddressSize h.address_size → FitsSigned w8 h.line_base → AllByRecursion (λ byte. byte < 256) (six_bytes h) → AllByRecursion (λ byte. byte < 256) h.standard_lengths
+    → 0 < h.max_ops → 0 < h.line_range → h.opcode_base ≡ length h.standard_lengths + 1 → AreStandardLengths h.standard_lengths → HasHeaderNumbers h
+header_numbers h size fits six lengths max_ops line_range opcode_base known = record {
+  address_size = size;
+  line_base = fits;
+  bytes = bytes_join (six_bytes h) h.standard_lengths six lengths;
+  max_ops = max_ops;
+  line_range = line_range;
+  opcode_base = opcode_base;
+  lengths = known;
+}
+
+both_tests : (value : FormValue) → FitsItsForm value → HoldsNoZero value → HasSpelling value
+both_tests (Text text) f z = z
+both_tests (LineStrp n) f z = f
+both_tests (Strp n) f z = f
+both_tests (Udata n) f z = f
+both_tests (Data1 n) f z = f
+both_tests (Data2 n) f z = f
+both_tests (Data4 n) f z = f
+both_tests (Data8 n) f z = f
+both_tests (Data16 bytes) f z = f
+both_tests (Block block) f z = f
+both_tests (Block1 block) f z = f
+both_tests (Block2 block) f z = f
+both_tests (Block4 block) f z = f
+
+record AreValues (pairs : List Pair) (values : List FormValue) : Type 0 where
+  forms : map form_of values ≡ map (λ pair. pair.form) pairs
+  spelled : AllByRecursion HasSpelling values
+
+are_values : (pairs : List Pair) (values : List FormValue) → AllZip FitsPair pairs values → AllByRecursion HoldsNoZero values → AreValues pairs values
+are_values [] [] h z = record { forms = refl; spelled = tt }
+are_values [] (v ∷ values) h z = absurd h
+are_values (pair ∷ pairs) [] h z = absurd h
+are_values (pair ∷ pairs) (v ∷ values) h z =
+    let rest = are_values pairs values h.1 z.1 in
+    let first : form_of v ≡ pair.form = h.0.0 in
+    let behind = rest.forms in
+    record { forms = cc; spelled = (both_tests v h.0.1 z.0, rest.spelled) }
+
+are_entries : (pairs : List Pair) (entries : List Entry) → AllByRecursion (IsOfFormat pairs) entries → AllByRecursion HasSoundTexts entries → AllByRecursion (IsEntryOf pairs) entries
+are_entries pairs [] h z = tt
+are_entries pairs (entry ∷ entries) h z =
+    let one = are_values pairs entry.values h.0 z.0 in
+    (record { forms = one.forms; spelled = one.spelled }, are_entries pairs entries h.1 z.1)
+
+pub tests_passed : (h : HeaderParts) → HasHeaderNumbers h → IsFormat h.directory_format h.directories → IsFormat h.file_format h.files
+    → AllByRecursion (IsOfFormat h.directory_format) h.directories → AllByRecursion (IsOfFormat h.file_format) h.files → AllByRecursion HasSoundTexts h.directories → AllByRecursion HasSoundTexts h.files → IsHeader h
+tests_passed h numbers d f of_d of_f text_d text_f = record {
+  numbers = numbers;
+  directories = record { few_pairs = d.few_pairs; none_without_pairs = d.none_without_pairs; of_format = are_entries h.directory_format h.directories of_d text_d };
+  files = record { few_pairs = f.few_pairs; none_without_pairs = f.none_without_pairs; of_format = are_entries h.file_format h.files of_f text_f };
+}

@@ -1,0 +1,17 @@
+use Rattle.std.proofs.Common.{◌-◌, ◌+◌, ℕ, List, length, get_or, refl, arith, ap, subst, sym, ◌∙◌}
+use Rattle.lnt_header.proofs.HeaderReaders.{Agrees, refuses_length}
+use Rattle.lnt_header.proofs.numbers.read_lengths.Goals as goal
+
+pub returns-then-bytes-i-clause-err : goal.returns-then-bytes-i-clause-err
+returns-then-bytes-i-clause-err c =
+    let same = c.rest-bytes.ensures in
+    let i = c.loop-opcode.opcode - 1 in
+    let agrees : Agrees i c.args.cursor.now.rest = subst (λ (z : List ℕ). Agrees i z) same c.loop-opcode.invariant.1 in
+    let low = c.loop-opcode.invariant.0 in
+    refuses_length c.args.opcode_base i c.loop-opcode.opcode (get_or c.rest-bytes.result.now i 0) c.args.cursor.now _ agrees
+    (omega (arith, low, c.loop-opcode-test.true, c.known_end-known.ensures.low))
+    (omega (arith, low, c.loop-opcode-test.true, c.known_end-known.ensures.high))
+    (omega (arith, c.if-i-bytes.true, ap length same))
+    (ap (λ (z : List ℕ). get_or z i 0) same)
+    (λ e. c.if-bytes-i.true (e ∙ sym c.known_length.ensures))
+    (omega (arith, low)) (ap (λ (p : ℕ). p + i) c.place-place.ensures.value) refl

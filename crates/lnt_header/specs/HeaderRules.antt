@@ -1,0 +1,53 @@
+-- Which values a header has, whatever bytes spell it (DWARF 5, section 6.2.4).
+use Rattle.std.specs.Prelude.{◌≡◌, ℕ, ◌+◌, ◌<◌, ◌⊎◌, List, [], ◌∷◌, ◌++◌, length, map, take, FitsSigned}
+use Rattle.std.specs.Int.{w8, cast_unsigned}
+use Rattle.std.specs.List.{AllByRecursion}
+use Rattle.lnt_wire.specs.FormBytes.{form_of, HasSpelling}
+use Rattle.lnt_header.specs.declared.header.Entry.{Entry}
+use Rattle.lnt_header.specs.declared.header.HeaderParts.{HeaderParts}
+use Rattle.lnt_header.specs.declared.header.Pair.{Pair}
+
+abbrev pub IsAddressSize : ℕ → Type 0
+IsAddressSize size = (size ≡ 2) ⊎ (size ≡ 4) ⊎ (size ≡ 8)
+
+-- how many operands each of the standard opcodes 1 to 12 has
+abbrev pub known_lengths : List ℕ
+known_lengths = 0 ∷ 1 ∷ 1 ∷ 1 ∷ 1 ∷ 0 ∷ 0 ∷ 0 ∷ 1 ∷ 0 ∷ 0 ∷ 1 ∷ []
+
+-- Lengths of the opcodes from 1 on, of which those of the known opcodes are as stated.
+abbrev pub AreStandardLengths : List ℕ → Type 0
+AreStandardLengths lengths = take 12 lengths ≡ take (length lengths) known_lengths
+
+-- the fields of one byte from minimum_instruction_length to opcode_base
+abbrev pub six_bytes : HeaderParts → List ℕ
+six_bytes h = h.minimum_instruction_length ∷ h.max_ops ∷ h.default_is_stmt ∷ cast_unsigned w8 h.line_base ∷ h.line_range ∷ h.opcode_base ∷ []
+
+-- the same, and the standard opcode lengths
+abbrev pub single_bytes : HeaderParts → List ℕ
+single_bytes h = six_bytes h ++ h.standard_lengths
+
+-- The numbers of a header that can be read.
+pub record HasHeaderNumbers (h : HeaderParts) : Type 0 where
+  pub address_size : IsAddressSize h.address_size
+  pub line_base : FitsSigned w8 h.line_base
+  pub bytes : AllByRecursion (λ byte. byte < 256) (single_bytes h)
+  pub max_ops : 0 < h.max_ops
+  pub line_range : 0 < h.line_range
+  pub opcode_base : h.opcode_base ≡ length h.standard_lengths + 1
+  pub lengths : AreStandardLengths h.standard_lengths
+
+-- An entry with one value for each pair, of the pair's form. Each value has a spelling: a text has no zero byte, and a block fits its length.
+pub record IsEntryOf (pairs : List Pair) (entry : Entry) : Type 0 where
+  pub forms : map form_of entry.values ≡ map (λ pair. pair.form) pairs
+  pub spelled : AllByRecursion HasSpelling entry.values
+
+-- A format of at most 255 pairs, and entries of that format. Without pairs there are no entries.
+pub record IsTable (pairs : List Pair) (entries : List Entry) : Type 0 where
+  pub few_pairs : length pairs < 256
+  pub none_without_pairs : pairs ≡ [] → entries ≡ []
+  pub of_format : AllByRecursion (IsEntryOf pairs) entries
+
+pub record IsHeader (h : HeaderParts) : Type 0 where
+  pub numbers : HasHeaderNumbers h
+  pub directories : IsTable h.directory_format h.directories
+  pub files : IsTable h.file_format h.files

@@ -1,0 +1,16 @@
+pub mod Broken
+pub mod Encoding
+pub mod FieldFaults
+pub mod HeaderBytes
+pub mod HeaderReading
+pub mod HeaderRules
+pub mod HeaderTests
+pub mod HeaderFaults
+pub mod FieldsBytes
+pub mod Joins
+pub mod Laws
+pub mod OpRules
+pub mod OpViews
+pub mod StartBytes
+pub mod TableBytes
+pub mod TableFaults

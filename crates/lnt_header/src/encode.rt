@@ -1,0 +1,191 @@
+//! Headers, written as the bytes of their units.
+ghost use Rattle.std.specs.Prelude.{◌≡◌, ◌+◌, ◌++◌, IfOk, IfErr, OnOk};
+ghost use Rattle.std.specs.List.{AllByRecursion};
+ghost use Rattle.lnt_wire.specs.Bytes.{IsShortest, Appends};
+ghost use Rattle.lnt_wire.specs.FormBytes.{HasSpelling, FormBytes};
+ghost use Rattle.lnt_wire.specs.InitialLength.{initial_length, LengthFits};
+ghost use Rattle.lnt_wire.specs.Numbers.{offset_size};
+ghost use Rattle.lnt_header.specs.Encoding.{RefusedPut, EntryParts};
+ghost use Rattle.lnt_header.specs.HeaderBytes.{HeaderFieldsBytes, HeaderBytesIn};
+ghost use Rattle.lnt_header.specs.HeaderRules.{IsHeader, IsTable};
+ghost use Rattle.lnt_header.specs.Joins.{Each};
+ghost use Rattle.lnt_header.specs.TableBytes.{PairBytes, TableOf};
+
+use crate::header::{Entry, Header, HeaderParts, Pair};
+use crate::tested::single_fields;
+use lnt_wire::{
+    EncodeFault, FormValue, Format, Order, put_form, put_offset, put_u16, put_u32, put_u64,
+    put_uleb,
+};
+use std::alloc::Global;
+
+/// The bytes of a unit with this header and this program, each LEB128 in its shortest spelling (DWARF 5, section
+/// 6.2.4). `TooLarge` where nothing spells them in the header's format, and else `Memory`.
+pub fn encode_header(alloc: Global, header: &Header, program: &[u8]) -> Result<Vec<u8>, EncodeFault>
+    ensures ok { IfOk result (λ bytes. IsShortest (HeaderBytesIn header.now.order) (header.now, program.now) bytes.items) }
+    ensures err { IfErr result (λ fault. RefusedPut (HeaderBytesIn header.now.order) (header.now, program.now) fault) }
+{
+    encode_parts(alloc, header.parts(), program)
+}
+
+#[tactic(auto, using(crate::proofs::EncodeLemmas::header_put, crate::proofs::EncodeLemmas::header_refused, crate::proofs::EncodeLemmas::header_too_long, crate::proofs::EncodeLemmas::refused_memory))]
+fn encode_parts(alloc: Global, parts: &HeaderParts, program: &[u8]) -> Result<Vec<u8>, EncodeFault>
+    requires { IsHeader parts.now }
+    ensures ok { IfOk result (λ bytes. IsShortest (HeaderBytesIn parts.now.order) (parts.now, program.now) bytes.items) }
+    ensures err { IfErr result (λ fault. RefusedPut (HeaderBytesIn parts.now.order) (parts.now, program.now) fault) }
+{
+    let fields = counted_fields(alloc, parts)?;
+    let length = unit_length(parts.format, fields.len(), program.len())?;
+    let mut out = Vec::new(alloc);
+    add_initial_length(&mut out, length, parts.format, parts.order)?;
+    put_u16(&mut out, 5, parts.order)?;
+    out.push(parts.address_size)?;
+    out.push(0)?;
+    put_offset(&mut out, fields.len() as u64, parts.format, parts.order)?;
+    out.extend_from_slice(&fields)?;
+    out.extend_from_slice(program)?;
+    Ok(out)
+}
+
+// How many bytes a unit has behind its initial length.
+fn unit_length(format: Format, fields: usize, program: usize) -> Result<u64, EncodeFault>
+    ensures ok { IfOk result (λ length. (length ≡ 4 + offset_size format + fields + program) × LengthFits format length) }
+    ensures err { IfErr result (λ fault. (fault ≡ EncodeFault.TooLarge) × (LengthFits format (4 + offset_size format + fields + program) → ⊥)) }
+{
+    let (offset_size, limit) = match format {
+        Format::D32 => (4, 0xffff_fff0),
+        Format::D64 => (8, 1 << 64),
+    };
+    let length = 4 + offset_size + fields as u128 + program as u128;
+    if length < limit {
+        Ok(length as u64)
+    } else {
+        Err(EncodeFault::TooLarge)
+    }
+}
+
+// Adds an initial length.
+fn add_initial_length(
+    out: &mut Vec<u8>,
+    length: u64,
+    format: Format,
+    order: Order,
+) -> Result<(), EncodeFault>
+    requires { LengthFits format length }
+    ensures ok { OnOk result (out.new.items ≡ out.old.items ++ initial_length format order length) }
+    ensures err { IfErr result (λ fault. fault ≡ EncodeFault.Memory) }
+{
+    match format {
+        Format::D32 => put_u32(out, length as u32, order),
+        Format::D64 => {
+            put_u32(out, u32::MAX, order)?;
+            put_u64(out, length, order)
+        }
+    }
+}
+
+// The fields that header_length counts.
+#[tactic(auto, using(crate::proofs::EncodeLemmas::fields_put, crate::proofs::EncodeLemmas::directories_refused, crate::proofs::EncodeLemmas::files_refused, crate::proofs::EncodeLemmas::refused_memory))]
+fn counted_fields(alloc: Global, parts: &HeaderParts) -> Result<Vec<u8>, EncodeFault>
+    requires { IsHeader parts.now }
+    ensures ok { IfOk result (λ bytes. IsShortest HeaderFieldsBytes parts.now bytes.items) }
+    ensures err { IfErr result (λ fault. RefusedPut HeaderFieldsBytes parts.now fault) }
+{
+    let (format, order) = (parts.format, parts.order);
+    let mut out = Vec::new(alloc);
+    out.extend_from_slice(&single_fields(parts))?;
+    out.extend_from_slice(parts.standard_lengths.as_slice())?;
+    add_table(
+        &mut out,
+        parts.directory_format.as_slice(),
+        parts.directories.as_slice(),
+        format,
+        order,
+    )?;
+    add_table(
+        &mut out,
+        parts.file_format.as_slice(),
+        parts.files.as_slice(),
+        format,
+        order,
+    )?;
+    out.extend_from_slice(parts.extra.as_slice())?;
+    Ok(out)
+}
+
+// Adds a table.
+#[tactic(auto, using(crate::proofs::EncodeLemmas::table_put, crate::proofs::EncodeLemmas::table_refused, crate::proofs::EncodeLemmas::refused_memory))]
+fn add_table(
+    out: &mut Vec<u8>,
+    pairs: &[Pair],
+    entries: &[Entry],
+    format: Format,
+    order: Order,
+) -> Result<(), EncodeFault>
+    requires { IsTable pairs.now entries.now }
+    ensures ok { OnOk result (Appends (TableOf format order) (pairs.now, entries.now) out.old.items out.new.items) }
+    ensures err { IfErr result (λ fault. RefusedPut (TableOf format order) (pairs.now, entries.now) fault) }
+{
+    out.push(pairs.len() as u8)?;
+    add_pairs(out, pairs)?;
+    put_uleb(out, entries.len() as u64)?;
+    add_entries(out, entries, format, order)?;
+    Ok(())
+}
+
+// Adds the pairs of a format.
+#[tactic(auto, using(crate::proofs::EncodeLemmas::pairs_begun, crate::proofs::EncodeLemmas::pairs_more, crate::proofs::EncodeLemmas::pairs_done))]
+fn add_pairs(out: &mut Vec<u8>, pairs: &[Pair]) -> Result<(), EncodeFault>
+    ensures ok { OnOk result (Appends (Each PairBytes) pairs.now out.old.items out.new.items) }
+    ensures err { IfErr result (λ fault. fault ≡ EncodeFault.Memory) }
+{
+    for pair in pairs {
+        add_pair(out, pair)?;
+    }
+    Ok(())
+}
+
+#[tactic(auto, using(crate::proofs::EncodeLemmas::pair_put))]
+fn add_pair(out: &mut Vec<u8>, pair: &Pair) -> Result<(), EncodeFault>
+    ensures ok { OnOk result (Appends PairBytes pair.now out.old.items out.new.items) }
+    ensures err { IfErr result (λ fault. fault ≡ EncodeFault.Memory) }
+{
+    put_uleb(out, pair.content)?;
+    put_uleb(out, pair.form.code())
+}
+
+// Adds the entries of a table.
+#[tactic(auto, using(crate::proofs::EncodeLemmas::entries_begun, crate::proofs::EncodeLemmas::entries_more, crate::proofs::EncodeLemmas::entries_done, crate::proofs::EncodeLemmas::entries_refused, crate::proofs::EncodeLemmas::refused_memory))]
+fn add_entries(
+    out: &mut Vec<u8>,
+    entries: &[Entry],
+    format: Format,
+    order: Order,
+) -> Result<(), EncodeFault>
+    requires { AllByRecursion (λ entry. AllByRecursion HasSpelling entry.values) entries.now }
+    ensures ok { OnOk result (Appends (Each (EntryParts format order)) entries.now out.old.items out.new.items) }
+    ensures err { IfErr result (λ fault. RefusedPut (Each (EntryParts format order)) entries.now fault) }
+{
+    for entry in entries {
+        add_values(out, entry.values.as_slice(), format, order)?;
+    }
+    Ok(())
+}
+
+// Adds the values of an entry.
+#[tactic(auto, using(crate::proofs::EncodeLemmas::values_begun, crate::proofs::EncodeLemmas::values_more, crate::proofs::EncodeLemmas::values_done, crate::proofs::EncodeLemmas::values_refused, crate::proofs::EncodeLemmas::refused_memory))]
+fn add_values(
+    out: &mut Vec<u8>,
+    values: &[FormValue],
+    format: Format,
+    order: Order,
+) -> Result<(), EncodeFault>
+    requires { AllByRecursion HasSpelling values.now }
+    ensures ok { OnOk result (Appends (Each (FormBytes format order)) values.now out.old.items out.new.items) }
+    ensures err { IfErr result (λ fault. RefusedPut (Each (FormBytes format order)) values.now fault) }
+{
+    for value in values {
+        put_form(out, value, format, order)?;
+    }
+    Ok(())
+}

@@ -1,0 +1,236 @@
+//! The header of a unit (DWARF 5, section 6.2.4).
+ghost use Rattle.std.specs.Prelude.{◌≡◌, ◌<◌, IfOk, IfErr};
+
+use crate::fault::UnitFault;
+use crate::tested::parts_fault;
+use lnt_wire::{Form, FormValue, Format, Items, Order};
+use std::marker::Model;
+
+/// A part of an entry's format: a content type, and the form of its values.
+#[derive(Clone, Copy, Debug, PartialEq, Eq)]
+pub struct Pair {
+    /// The content type (DWARF 5, section 6.2.4.1): 1 path, 2 directory index, 5 MD5 and others.
+    pub content: u64,
+    /// The form of the values.
+    pub form: Form,
+}
+
+/// A directory or a file.
+#[derive(Debug, Drop, PartialEq, Eq)]
+pub struct Entry {
+    /// One value for each pair of the table's format, in order.
+    pub values: Items<FormValue>,
+}
+
+/// One of the two tables of a header.
+#[derive(Clone, Copy, Debug, PartialEq, Eq)]
+pub enum Which {
+    Directories,
+    Files,
+}
+
+/// What a header is made of, but for the lengths, which follow from it.
+#[derive(Debug, Drop, PartialEq, Eq)]
+pub struct HeaderParts {
+    /// The format of the unit.
+    pub format: Format,
+    /// The order of the bytes of its numbers.
+    pub order: Order,
+    /// How many bytes an address has.
+    pub address_size: u8,
+    /// How many bytes the smallest instruction has.
+    pub minimum_instruction_length: u8,
+    /// How many operations an instruction has at most.
+    pub max_ops: u8,
+    /// Whether a row begins a statement by default: where it isn't 0.
+    pub default_is_stmt: u8,
+    /// The least increment of the line of a special opcode.
+    pub line_base: i8,
+    /// How many increments of the line special opcodes have.
+    pub line_range: u8,
+    /// The first special opcode.
+    pub opcode_base: u8,
+    /// How many operands each opcode from 1 on below `opcode_base` has.
+    pub standard_lengths: Items<u8>,
+    /// What each directory consists of.
+    pub directory_format: Items<Pair>,
+    /// The directories, the compilation directory first.
+    pub directories: Items<Entry>,
+    /// What each file consists of.
+    pub file_format: Items<Pair>,
+    /// The files, the primary source file first.
+    pub files: Items<Entry>,
+    /// The bytes between the file table and the program.
+    pub extra: Items<u8>,
+}
+
+/// A header that a reader can have read. Contracts see its parts.
+#[derive(Debug, Drop)]
+pub struct Header {
+    parts: HeaderParts,
+}
+
+impl Model for Header {
+    ghost use Rattle.lnt_header.specs.declared.header.HeaderParts.{HeaderParts};
+    ghost use Rattle.lnt_header.specs.HeaderRules.{IsHeader};
+
+    ghost Value = { HeaderParts };
+
+    ghost view = { λ header. header.parts };
+
+    ghost invariant = { λ header. IsHeader header.parts };
+}
+
+impl Header {
+    ghost use Rattle.lnt_header.specs.HeaderRules.{IsAddressSize, IsHeader};
+    ghost use Rattle.lnt_header.specs.HeaderTests.{IsPartsFault};
+
+    /// The header of the parts, if some header that was decoded can have them, its lengths and the offsets of the
+    /// 32-bit format aside. It takes no memory, and hands the parts back with the first fault: `HeaderNumber`,
+    /// then `EntryNotOfFormat`, then `TextHoldsZero`, each of the directories before the files.
+    pub fn new(parts: HeaderParts) -> Result<Header, (UnitFault, HeaderParts)>
+        ensures ok { IfOk result (λ header. header ≡ parts) }
+        ensures err { IfErr result (λ refused. IsPartsFault refused.0 parts × (refused.1 ≡ parts)) }
+    {
+        match parts_fault(&parts) {
+            None => Ok(Header { parts }),
+            Some(fault) => Err((fault, parts)),
+        }
+    }
+
+    // The header of parts that a reader can have read.
+    pub(crate) fn of(parts: HeaderParts) -> Header
+        requires { IsHeader parts }
+        ensures { result ≡ parts }
+    {
+        Header { parts }
+    }
+
+    // What the header is made of.
+    pub(crate) fn parts(&self) -> &HeaderParts
+        ensures value { result.now ≡ self.now }
+        ensures header { IsHeader self.now }
+    {
+        &self.parts
+    }
+
+    /// The format of the unit.
+    #[inline(always)]
+    pub fn format(&self) -> Format
+        ensures { result ≡ self.now.format }
+    {
+        self.parts.format
+    }
+
+    /// The order of the bytes of the unit's numbers.
+    #[inline(always)]
+    pub fn order(&self) -> Order
+        ensures { result ≡ self.now.order }
+    {
+        self.parts.order
+    }
+
+    /// How many bytes an address has: 2, 4 or 8.
+    #[inline(always)]
+    pub fn address_size(&self) -> u8
+        ensures value { result ≡ self.now.address_size }
+        ensures size { IsAddressSize result }
+    {
+        self.parts.address_size
+    }
+
+    /// How many bytes the smallest instruction has.
+    #[inline(always)]
+    pub fn minimum_instruction_length(&self) -> u8
+        ensures { result ≡ self.now.minimum_instruction_length }
+    {
+        self.parts.minimum_instruction_length
+    }
+
+    /// How many operations an instruction has at most. It isn't 0.
+    #[inline(always)]
+    pub fn max_ops(&self) -> u8
+        ensures value { result ≡ self.now.max_ops }
+        ensures some { 0 < result }
+    {
+        self.parts.max_ops
+    }
+
+    /// Whether a row begins a statement by default, as it is written: where it isn't 0.
+    #[inline(always)]
+    pub fn default_is_stmt(&self) -> u8
+        ensures value { result ≡ self.now.default_is_stmt }
+        ensures header { IsHeader self.now }
+    {
+        self.parts.default_is_stmt
+    }
+
+    /// The least increment of the line of a special opcode.
+    #[inline(always)]
+    pub fn line_base(&self) -> i8
+        ensures { result ≡ self.now.line_base }
+    {
+        self.parts.line_base
+    }
+
+    /// How many increments of the line special opcodes have. It isn't 0.
+    #[inline(always)]
+    pub fn line_range(&self) -> u8
+        ensures value { result ≡ self.now.line_range }
+        ensures some { 0 < result }
+    {
+        self.parts.line_range
+    }
+
+    /// The first special opcode. It isn't 0.
+    #[inline(always)]
+    pub fn opcode_base(&self) -> u8
+        ensures value { result ≡ self.now.opcode_base }
+        ensures some { 0 < result }
+    {
+        self.parts.opcode_base
+    }
+
+    /// How many operands each opcode from 1 on below `opcode_base` has.
+    #[inline(always)]
+    pub fn standard_lengths(&self) -> &[u8]
+        ensures { result.now ≡ self.now.standard_lengths }
+    {
+        self.parts.standard_lengths.as_slice()
+    }
+
+    /// What each directory consists of.
+    pub fn directory_format(&self) -> &[Pair]
+        ensures { result.now ≡ self.now.directory_format }
+    {
+        self.parts.directory_format.as_slice()
+    }
+
+    /// The directories, the compilation directory first.
+    pub fn directories(&self) -> &[Entry]
+        ensures { result.now ≡ self.now.directories }
+    {
+        self.parts.directories.as_slice()
+    }
+
+    /// What each file consists of.
+    pub fn file_format(&self) -> &[Pair]
+        ensures { result.now ≡ self.now.file_format }
+    {
+        self.parts.file_format.as_slice()
+    }
+
+    /// The files, the primary source file first.
+    pub fn files(&self) -> &[Entry]
+        ensures { result.now ≡ self.now.files }
+    {
+        self.parts.files.as_slice()
+    }
+
+    /// The bytes between the file table and the program.
+    pub fn extra(&self) -> &[u8]
+        ensures { result.now ≡ self.now.extra }
+    {
+        self.parts.extra.as_slice()
+    }
+}

@@ -1,0 +1,25 @@
+//! The headers of DWARF 5 line number units, read and written, and the operations that they admit.
+#![tactic(auto)]
+
+mod decode;
+mod encode;
+mod fault;
+mod fields;
+mod header;
+pub mod laws;
+mod numbers;
+mod op;
+mod start;
+mod table;
+mod tested;
+mod view;
+
+pub use decode::decode_header;
+pub use encode::encode_header;
+pub use fault::UnitFault;
+pub use header::{Entry, Header, HeaderParts, Pair, Which};
+pub use op::Op;
+pub use view::{OpView, Operands};
+
+#[cfg(test)]
+mod tests;

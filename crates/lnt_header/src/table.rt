@@ -1,0 +1,126 @@
+//! The two tables of a header.
+ghost use Rattle.std.specs.Prelude.{◌≡◌, length, IfOk, IfErr};
+ghost use Rattle.lnt_header.specs.Joins.{Several};
+ghost use Rattle.lnt_wire.specs.Reading.{Reads, Refuses, RefusesOr};
+ghost use Rattle.lnt_header.specs.TableBytes.{PairBytes, ValuesBytes, EntryBytes, TableOf};
+ghost use Rattle.lnt_header.specs.TableFaults.{IsTableFault};
+
+use crate::header::{Entry, Pair};
+use lnt_wire::{Cursor, Fault, Form, FormValue, Format, Items, Reason};
+use std::alloc::Global;
+
+// A content type and a form code.
+#[tactic(auto, using(crate::proofs::TableReaders::reads_pair, crate::proofs::TableReaders::refuses_pair_content, crate::proofs::TableReaders::refuses_pair_form, crate::proofs::TableReaders::refuses_unknown))]
+fn read_pair(cursor: &mut Cursor<'_>) -> Result<Pair, Fault>
+    ensures ok { IfOk result (λ pair. Reads PairBytes pair cursor.old cursor.new) }
+    ensures err { IfErr result (λ fault. Refuses IsTableFault PairBytes cursor.old fault) }
+{
+    let content = cursor.uleb()?;
+    let place = cursor.place();
+    let code = cursor.uleb()?;
+    match Form::of(code) {
+        Some(form) => Ok(Pair { content, form }),
+        None => Err(Fault {
+            place,
+            reason: Reason::UnknownForm(code),
+        }),
+    }
+}
+
+// As many pairs as the count says.
+#[tactic(auto, using(crate::proofs::TableReaders::pairs_none, crate::proofs::TableReaders::pairs_more, crate::proofs::TableReaders::refuses_pairs))]
+fn read_pairs(alloc: Global, cursor: &mut Cursor<'_>, count: u8) -> Result<Vec<Pair>, Fault>
+    ensures ok { IfOk result (λ pairs. Reads (Several count PairBytes) pairs.items cursor.old cursor.new) }
+    ensures err { IfErr result (λ fault. RefusesOr IsTableFault (Several count PairBytes) cursor.old fault) }
+{
+    let mut pairs = Vec::new(alloc);
+    for _ in 0..count {
+        let place = cursor.place();
+        let pair = read_pair(cursor)?;
+        if pairs.push(pair).is_err() {
+            return Err(Fault {
+                place,
+                reason: Reason::Memory,
+            });
+        }
+    }
+    Ok(pairs)
+}
+
+// One value for each pair.
+#[tactic(auto, using(crate::proofs::TableReaders::values_none, crate::proofs::TableReaders::values_next, crate::proofs::TableReaders::refuses_values_at))]
+fn read_values(
+    alloc: Global,
+    cursor: &mut Cursor<'_>,
+    format: Format,
+    pairs: &[Pair],
+) -> Result<Vec<FormValue>, Fault>
+    ensures ok { IfOk result (λ values. Reads (ValuesBytes format cursor.old.order pairs.now) values.items cursor.old cursor.new) }
+    ensures err { IfErr result (λ fault. RefusesOr IsTableFault (ValuesBytes format cursor.old.order pairs.now) cursor.old fault) }
+{
+    let mut values = Vec::new(alloc);
+    for pair in pairs {
+        let place = cursor.place();
+        let value = cursor.form(alloc, pair.form, format)?;
+        if values.push(value).is_err() {
+            return Err(Fault {
+                place,
+                reason: Reason::Memory,
+            });
+        }
+    }
+    Ok(values)
+}
+
+// As many entries as the count says.
+#[tactic(auto, using(crate::proofs::TableReaders::entries_none, crate::proofs::TableReaders::entries_more, crate::proofs::TableReaders::refuses_entries))]
+fn read_entries(
+    alloc: Global,
+    cursor: &mut Cursor<'_>,
+    format: Format,
+    pairs: &[Pair],
+    count: u64,
+) -> Result<Vec<Entry>, Fault>
+    ensures ok { IfOk result (λ entries. Reads (Several count (EntryBytes format cursor.old.order pairs.now)) entries.items cursor.old cursor.new) }
+    ensures err { IfErr result (λ fault. RefusesOr IsTableFault (Several count (EntryBytes format cursor.old.order pairs.now)) cursor.old fault) }
+{
+    let mut entries = Vec::new(alloc);
+    for _ in 0..count {
+        let place = cursor.place();
+        let values = read_values(alloc, cursor, format, pairs)?;
+        let entry = Entry {
+            values: Items::new(values),
+        };
+        if entries.push(entry).is_err() {
+            return Err(Fault {
+                place,
+                reason: Reason::Memory,
+            });
+        }
+    }
+    Ok(entries)
+}
+
+/// A format, and its entries.
+#[tactic(auto, using(crate::proofs::TableReaders::reads_table, crate::proofs::TableReaders::refuses_count, crate::proofs::TableReaders::refuses_kinds, crate::proofs::TableReaders::refuses_size, crate::proofs::TableReaders::refuses_empty, crate::proofs::TableReaders::refuses_rest))]
+pub(crate) fn read_table(
+    alloc: Global,
+    cursor: &mut Cursor<'_>,
+    format: Format,
+) -> Result<(Vec<Pair>, Vec<Entry>), Fault>
+    ensures ok { IfOk result (λ table. Reads (TableOf format cursor.old.order) (table.0.items, table.1.items) cursor.old cursor.new) }
+    ensures err { IfErr result (λ fault. RefusesOr IsTableFault (TableOf format cursor.old.order) cursor.old fault) }
+{
+    let count = cursor.u8()?;
+    let pairs = read_pairs(alloc, cursor, count)?;
+    let place = cursor.place();
+    let size = cursor.uleb()?;
+    if count == 0 && size > 0 {
+        return Err(Fault {
+            place,
+            reason: Reason::EmptyFormat,
+        });
+    }
+    let entries = read_entries(alloc, cursor, format, &pairs, size)?;
+    Ok((pairs, entries))
+}

@@ -1,0 +1,173 @@
+//! Tests of a header's parts.
+ghost use Rattle.std.specs.Prelude.{◌≡◌, ◌↔◌, ◌<◌, FitsSigned, IsTrue, MatchOption, length, slice_index};
+ghost use Rattle.std.specs.Int.{w8};
+ghost use Rattle.std.specs.List.{AllByRecursion};
+ghost use Rattle.lnt_header.specs.HeaderRules.{six_bytes, AreStandardLengths, HasHeaderNumbers, IsHeader};
+ghost use Rattle.lnt_header.specs.HeaderTests.{FitsItsForm, FitsPair, HoldsNoZero, IsFormat, IsOfFormat, HasSoundTexts, IsFirstNot, HasNumbersAndFormats, IsPartsFault};
+
+use crate::fault::UnitFault;
+use crate::header::{Entry, HeaderParts, Pair, Which};
+use crate::start::is_address_size;
+use lnt_wire::FormValue;
+
+// How many operands each of the known opcodes 1 to 12 has.
+const KNOWN_LENGTHS: [u8; 12] = [0, 1, 1, 1, 1, 0, 0, 0, 1, 0, 0, 1];
+
+/// What is wrong with the parts, if no header has them.
+#[tactic(auto, using(crate::proofs::TestLemmas::tests_passed))]
+pub(crate) fn parts_fault(parts: &HeaderParts) -> Option<UnitFault>
+    ensures { MatchOption result (IsHeader parts.now) (λ fault. IsPartsFault fault parts.now) }
+{
+    if !has_numbers(parts)
+        || !is_format(
+            parts.directory_format.as_slice(),
+            parts.directories.as_slice(),
+        )
+        || !is_format(parts.file_format.as_slice(), parts.files.as_slice())
+    {
+        return Some(UnitFault::HeaderNumber);
+    }
+    if let Some(index) = first_of_no_format(
+        parts.directories.as_slice(),
+        parts.directory_format.as_slice(),
+    ) {
+        return Some(UnitFault::EntryNotOfFormat(Which::Directories, index));
+    }
+    if let Some(index) = first_of_no_format(parts.files.as_slice(), parts.file_format.as_slice()) {
+        return Some(UnitFault::EntryNotOfFormat(Which::Files, index));
+    }
+    if let Some(index) = first_with_zero(parts.directories.as_slice()) {
+        return Some(UnitFault::TextHoldsZero(Which::Directories, index));
+    }
+    if let Some(index) = first_with_zero(parts.files.as_slice()) {
+        return Some(UnitFault::TextHoldsZero(Which::Files, index));
+    }
+    None
+}
+
+#[tactic(auto, using(crate::proofs::TestLemmas::header_numbers))]
+fn has_numbers(parts: &HeaderParts) -> bool
+    ensures { IsTrue result ↔ HasHeaderNumbers parts.now }
+{
+    let lengths = parts.standard_lengths.as_slice();
+    is_address_size(parts.address_size)
+        && has_no_zero_number(&single_fields(parts), parts.line_base)
+        && usize::from(parts.opcode_base) == lengths.len() + 1
+        && are_standard_lengths(lengths)
+}
+
+/// The fields of one byte before the standard lengths.
+pub(crate) fn single_fields(parts: &HeaderParts) -> [u8; 6]
+    ensures { result ≡ six_bytes parts.now }
+{
+    [
+        parts.minimum_instruction_length,
+        parts.max_ops,
+        parts.default_is_stmt,
+        parts.line_base.cast_unsigned(),
+        parts.line_range,
+        parts.opcode_base,
+    ]
+}
+
+// Whether max_ops and line_range aren't 0, among these fields.
+fn has_no_zero_number(fields: &[u8], line_base: i8) -> bool
+    requires { length fields.now ≡ 6 }
+    ensures numbers { IsTrue result ↔ (0 < slice_index fields.now 1) × (0 < slice_index fields.now 4) }
+    ensures bytes { AllByRecursion (λ byte. byte < 256) fields.now }
+    ensures fits { FitsSigned w8 line_base }
+{
+    fields[1] != 0 && fields[4] != 0
+}
+
+fn are_standard_lengths(lengths: &[u8]) -> bool
+    ensures bytes { AllByRecursion (λ byte. byte < 256) lengths.now }
+    ensures known { IsTrue result ↔ AreStandardLengths lengths.now }
+{
+    let known = lengths.len().min(KNOWN_LENGTHS.len());
+    lengths[..known] == KNOWN_LENGTHS[..known]
+}
+
+fn is_format(pairs: &[Pair], entries: &[Entry]) -> bool
+    ensures { IsTrue result ↔ IsFormat pairs.now entries.now }
+{
+    pairs.len() < 256 && (!pairs.is_empty() || entries.is_empty())
+}
+
+// The first of the entries that hasn't the format.
+#[tactic(auto, using(crate::proofs::TestLemmas::all_more, crate::proofs::TestLemmas::all_taken, crate::proofs::TestLemmas::first_not))]
+fn first_of_no_format(entries: &[Entry], pairs: &[Pair]) -> Option<u64>
+    ensures { MatchOption result (AllByRecursion (IsOfFormat pairs.now) entries.now) (λ index. IsFirstNot (IsOfFormat pairs.now) entries.now index) }
+{
+    for (index, entry) in entries.iter().enumerate() {
+        if !is_of_format(entry, pairs) {
+            return Some(index as u64);
+        }
+    }
+    None
+}
+
+#[tactic(auto, using(crate::proofs::TestLemmas::zip_start, crate::proofs::TestLemmas::zip_more, crate::proofs::TestLemmas::zip_not, crate::proofs::TestLemmas::zip_end, crate::proofs::TestLemmas::other_lengths))]
+fn is_of_format(entry: &Entry, pairs: &[Pair]) -> bool
+    ensures { IsTrue result ↔ IsOfFormat pairs.now entry.now }
+{
+    let values = entry.values.as_slice();
+    if values.len() != pairs.len() {
+        return false;
+    }
+    for (pair, value) in pairs.iter().zip(values) {
+        if !fits_pair(value, pair) {
+            return false;
+        }
+    }
+    true
+}
+
+fn fits_pair(value: &FormValue, pair: &Pair) -> bool
+    ensures { IsTrue result ↔ FitsPair pair.now value.now }
+{
+    value.form() == pair.form && fits_its_form(value)
+}
+
+fn fits_its_form(value: &FormValue) -> bool
+    ensures { IsTrue result ↔ FitsItsForm value.now }
+{
+    match value {
+        FormValue::Text(_) => true,
+        other => other.has_spelling(),
+    }
+}
+
+// The first of the entries that has a text with a zero byte in it.
+#[tactic(auto, using(crate::proofs::TestLemmas::all_more, crate::proofs::TestLemmas::all_taken, crate::proofs::TestLemmas::first_not))]
+fn first_with_zero(entries: &[Entry]) -> Option<u64>
+    ensures { MatchOption result (AllByRecursion HasSoundTexts entries.now) (λ index. IsFirstNot HasSoundTexts entries.now index) }
+{
+    for (index, entry) in entries.iter().enumerate() {
+        if !has_sound_texts(entry) {
+            return Some(index as u64);
+        }
+    }
+    None
+}
+
+#[tactic(auto, using(crate::proofs::TestLemmas::all_more, crate::proofs::TestLemmas::all_taken, crate::proofs::TestLemmas::not_all))]
+fn has_sound_texts(entry: &Entry) -> bool
+    ensures { IsTrue result ↔ HasSoundTexts entry.now }
+{
+    for value in entry.values.as_slice() {
+        if !holds_no_zero(value) {
+            return false;
+        }
+    }
+    true
+}
+
+fn holds_no_zero(value: &FormValue) -> bool
+    ensures { IsTrue result ↔ HoldsNoZero value.now }
+{
+    match value {
+        FormValue::Text(_) => value.has_spelling(),
+        _ => true,
+    }
+}

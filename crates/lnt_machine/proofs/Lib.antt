@@ -1,0 +1,5 @@
+pub mod AdvanceLemmas
+pub mod ChangeLemmas
+pub mod MatrixLemmas
+pub mod StepLemmas
+pub mod Worked

@@ -1,0 +1,147 @@
+-- A machine that did an operation stands after it.
+use Rattle.std.proofs.Common.{◌≡◌, ℕ, ◌+◌, ◌-◌, ◌*◌, ◌%◌, min, ◌^◌, ◌<◌, List, ◌∷◌, refl, sym, ap, subst, ◌∙◌, true, false, arith}
+use Rattle.std.specs.Prelude.{ℤ, pos, negsuc, unsigned_abs, Option}
+use Rattle.std.proofs.Math.Nat.{mod-lt}
+use Rattle.std.proofs.Math.Pow.{pow_pos}
+use Rattle.std.proofs.lemmas.Int.{ints}
+use Rattle.lnt_header.specs.declared.header.HeaderParts.{HeaderParts}
+use Rattle.lnt_header.specs.declared.op.Op.{Op}
+use Rattle.lnt_header.specs.declared.op.Op.TheVariants.{Special, Copy, AdvancePc, AdvanceLine, SetFile, SetColumn, NegateStmt, SetBasicBlock, ConstAddPc, FixedAdvancePc, SetPrologueEnd, SetEpilogueBegin, SetIsa, UnknownStandard, EndSequence, SetAddress, SetDiscriminator, UnknownExtended}
+use Rattle.lnt_header.specs.declared.view.OpView.{OpView}
+use Rattle.lnt_header.specs.declared.view.OpView.TheVariants as views
+use Rattle.lnt_header.specs.HeaderRules.{IsHeader}
+use Rattle.lnt_header.specs.OpViews.{StandsFor}
+use Rattle.lnt_header.specs.OpRules.{Admits}
+use Rattle.lnt_machine.specs.declared.row.Row.{Row}
+use Rattle.lnt_machine.specs.Changes.{changed, Changes, initial_registers, IsAllowed, line_reached, made, plain}
+use Rattle.lnt_machine.specs.Matrix.{row_made}
+use Rattle.lnt_machine.specs.Registers.{IsLine, line, registers_after}
+use Rattle.lnt_machine.specs.State.{IsBounded, StandsAfter, State}
+use Rattle.lnt_machine.specs.Steps.{LeavesRange, Steps}
+use Rattle.lnt_machine.proofs.ChangeLemmas.{changed_after, line_from, line_into, made_after, pow_bytes}
+
+-- ---- views
+
+-- two operations do the same behind `back`
+record DoTheSame (h : HeaderParts) (back : List Op) (one other : Op) : Type 0 where
+  registers : registers_after h (one ∷ back) ≡ registers_after h (other ∷ back)
+  line : line h (one ∷ back) ≡ line h (other ∷ back)
+  row : row_made h back one ≡ row_made h back other
+
+itself : (h : HeaderParts) (back : List Op) (op : Op) → DoTheSame h back op op
+itself h back op = record { registers = refl; line = refl; row = refl }
+
+-- the operand makes no difference where it is the same
+same_operand : {X : Type 0} (h : HeaderParts) (back : List Op) (make : X → Op) (x y : X) → x ≡ y → DoTheSame h back (make x) (make y)
+same_operand h back make x y e = subst (λ z. DoTheSame h back (make x) (make z)) e (itself h back (make x))
+
+does_the_same : (h : HeaderParts) (back : List Op) (view : OpView) (op : Op) → StandsFor view op → DoTheSame h back (plain view) op
+does_the_same h back (views.Special c) (Special d) s = same_operand h back Special c d s
+does_the_same h back views.Copy Copy s = itself h back Copy
+does_the_same h back (views.AdvancePc m) (AdvancePc n) s = same_operand h back AdvancePc m n s
+does_the_same h back (views.AdvanceLine y) (AdvanceLine z) s = same_operand h back AdvanceLine y z s
+does_the_same h back (views.SetFile m) (SetFile n) s = same_operand h back SetFile m n s
+does_the_same h back (views.SetColumn m) (SetColumn n) s = same_operand h back SetColumn m n s
+does_the_same h back views.NegateStmt NegateStmt s = itself h back NegateStmt
+does_the_same h back views.SetBasicBlock SetBasicBlock s = itself h back SetBasicBlock
+does_the_same h back views.ConstAddPc ConstAddPc s = itself h back ConstAddPc
+does_the_same h back (views.FixedAdvancePc m) (FixedAdvancePc n) s = same_operand h back FixedAdvancePc m n s
+does_the_same h back views.SetPrologueEnd SetPrologueEnd s = itself h back SetPrologueEnd
+does_the_same h back views.SetEpilogueBegin SetEpilogueBegin s = itself h back SetEpilogueBegin
+does_the_same h back (views.SetIsa m) (SetIsa n) s = same_operand h back SetIsa m n s
+does_the_same h back (views.UnknownStandard j operands) (UnknownStandard k numbers) s = record { registers = refl; line = refl; row = refl }
+does_the_same h back views.EndSequence EndSequence s = itself h back EndSequence
+does_the_same h back (views.SetAddress m) (SetAddress n) s = same_operand h back SetAddress m n s
+does_the_same h back (views.SetDiscriminator m) (SetDiscriminator n) s = same_operand h back SetDiscriminator m n s
+does_the_same h back (views.UnknownExtended c bytes) (UnknownExtended d operand) s = record { registers = refl; line = refl; row = refl }
+does_the_same h back view op s = absurd s
+
+pub allowed : (h : HeaderParts) (view : OpView) (op : Op) → StandsFor view op → Admits h op → IsAllowed h (plain view)
+allowed h (views.Special c) (Special d) s a = subst (λ x. IsAllowed h (Special x)) (sym s) a
+allowed h (views.Special c) op s a = absurd s
+allowed h (views.SetAddress m) (SetAddress n) s a = subst (λ x. IsAllowed h (SetAddress x)) (sym s) a
+allowed h (views.SetAddress m) op s a = absurd s
+allowed h view op s a = tt
+
+-- ---- bounds
+
+line_bounded : (z : ℤ) → IsLine z → unsigned_abs z < 2 ^ 32
+line_bounded (pos n) fits = omega (arith, ints, fits.1)
+line_bounded (negsuc n) fits = absurd (omega (arith, ints, fits.0))
+
+-- a number cut to the bytes of addresses
+cut : (h : HeaderParts) (n : ℕ) → n % 2 ^ (8 * h.address_size) < 2 ^ (8 * h.address_size)
+cut h n = mod-lt n (pow_pos (8 * h.address_size))
+
+bounded_changed : (h : HeaderParts) (r : Row) (op : Op) → IsBounded h r → IsAllowed h op → IsLine (line_reached h r op) → IsBounded h (changed h r op)
+bounded_changed h r (Special c) b a fits = record { address = cut h _; op_index = mod-lt _ (omega arith); line = line_bounded _ fits }
+bounded_changed h r (AdvancePc n) b a fits = record { address = cut h _; op_index = mod-lt _ (omega arith); line = b.line }
+bounded_changed h r ConstAddPc b a fits = record { address = cut h _; op_index = mod-lt _ (omega arith); line = b.line }
+bounded_changed h r (FixedAdvancePc n) b a fits = record { address = cut h _; op_index = omega arith; line = b.line }
+bounded_changed h r (SetAddress n) b a fits = record { address = subst (λ (t : ℕ). n < t) (pow_bytes h.address_size) a; op_index = omega arith; line = b.line }
+bounded_changed h r (AdvanceLine z) b a fits = record { address = b.address; op_index = b.op_index; line = line_bounded _ fits }
+bounded_changed h r EndSequence b a fits = record { address = pow_pos (8 * h.address_size); op_index = omega arith; line = omega arith }
+bounded_changed h r op b a fits = record { address = b.address; op_index = b.op_index; line = b.line }
+
+pub bounded_initial : (h : HeaderParts) → IsHeader h → IsBounded h (initial_registers h)
+bounded_initial h valid = record { address = pow_pos (8 * h.address_size); op_index = valid.numbers.max_ops; line = omega arith }
+
+-- ---- steps
+
+-- the state of a machine
+abbrev state : HeaderParts → Row → ℕ → State
+state h registers count = record { header = h; registers = registers; count = count }
+
+pub step_bounded : (machine : State) (h : HeaderParts) (view : OpView) (old new : Row) (row : Option Row) (m : ℕ) → state h old m ≡ machine
+    → (o : Op) × StandsFor view o × Admits machine.header o → IsBounded h old → Changes h (plain view) old new row → IsBounded h new
+step_bounded machine h view old new row m e (o, w, admits) b c =
+    let a : IsAllowed h (plain view) = allowed h view o w (subst (λ (x : State). Admits x.header o) (sym e) admits) in
+    subst (IsBounded h) (sym c.new_is) (bounded_changed h old (plain view) b a c.line)
+
+-- it stands after the operation too
+stands_more : (h : HeaderParts) (view : OpView) (old new : Row) (row : Option Row) (m n : ℕ) (back : List Op) (op : Op)
+    → IsBounded h old → IsAllowed h (plain view) → Changes h (plain view) old new row → StandsAfter (state h old m) back → StandsFor view op
+    → StandsAfter (state h new n) (op ∷ back)
+stands_more h view old new row m n back op b a c s v =
+    let same = does_the_same h back view op v in
+    let some : 0 < h.max_ops = omega arith in
+    let reached : IsLine (line_reached h (registers_after h back) (plain view)) = subst (λ (r : Row). IsLine (line_reached h r (plain view))) s.registers c.line in
+    record {
+      registers = c.new_is ∙ ap (λ (r : Row). changed h r (plain view)) s.registers ∙ changed_after h back (plain view) some a s.line ∙ same.registers;
+      line = subst IsLine same.line (line_into h back (plain view) s.line reached);
+    }
+
+-- the row is that of the operation
+row_more : (h : HeaderParts) (view : OpView) (old new : Row) (row : Option Row) (m : ℕ) (back : List Op) (op : Op)
+    → IsBounded h old → Changes h (plain view) old new row → StandsAfter (state h old m) back → StandsFor view op → row ≡ row_made h back op
+row_more h view old new row m back op b c s v =
+    let some : 0 < h.max_ops = omega arith in
+    c.row_is ∙ ap (λ (r : Row). made h r (plain view)) s.registers ∙ made_after h back (plain view) some s.line ∙ (does_the_same h back view op v).row
+
+pub steps : (machine : State) (h : HeaderParts) (view : OpView) (old new : Row) (row : Option Row) (m n : ℕ) → state h old m ≡ machine
+    → (o : Op) × StandsFor view o × Admits machine.header o → IsBounded h old → Changes h (plain view) old new row → n ≡ min (m + 1) (2 ^ 64 - 1)
+    → Steps view machine (state h new n) row
+steps machine h view old new row m n e (o, w, admits) b c count =
+    let a : IsAllowed h (plain view) = allowed h view o w (subst (λ (x : State). Admits x.header o) (sym e) admits) in
+    subst (λ (x : State). Steps view x (state h new n) row) e (record {
+      stands = λ back op s v. stands_more h view old new row m n back op b a c s v;
+      row_is = λ back op s v. row_more h view old new row m back op b c s v;
+      header = refl;
+      count = count;
+    })
+
+-- the line would be out of range
+refused : (h : HeaderParts) (view : OpView) (old : Row) (m : ℕ) (back : List Op) (op : Op) → (IsLine (line_reached h old (plain view)) → ⊥)
+    → StandsAfter (state h old m) back → StandsFor view op → IsLine (line h (op ∷ back)) → ⊥
+refused h view old m back op out s v fits =
+    let same = does_the_same h back view op v in
+    out (subst (λ (r : Row). IsLine (line_reached h r (plain view))) (sym s.registers) (line_from h back (plain view) s.line (subst IsLine (sym same.line) fits)))
+
+pub step_refused : (machine : State) (h : HeaderParts) (view : OpView) (old : Row) (m : ℕ) → state h old m ≡ machine
+    → (IsLine (line_reached h old (plain view)) → ⊥) → LeavesRange view machine
+step_refused machine h view old m e out = subst (LeavesRange view) e (λ back op s v fits. refused h view old m back op out s v fits)
+
+pub step_in_range : (machine : State) (h : HeaderParts) (view : OpView) (old : Row) (m : ℕ) → state h old m ≡ machine
+    → (IsLine (line_reached h old (plain view)) → ⊥)
+    → (back : List Op) (op : Op) → StandsAfter machine back → StandsFor view op → IsLine (line machine.header (op ∷ back)) → false ≡ true
+step_in_range machine h view old m e out back op s v fits = absurd (step_refused machine h view old m e out back op s v fits)

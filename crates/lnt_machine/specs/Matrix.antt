@@ -1,0 +1,79 @@
+-- The rows and the sequences of a line number program (DWARF 5, sections 6.2.2 and 6.2.5).
+use Rattle.std.specs.Prelude.{◌≡◌, ℕ, ◌+◌, ◌<◌, ◌≤◌, true, cond, List, [], ◌∷◌, length, take, reverse, Option, Some, None}
+use Rattle.std.specs.List.{cons_option, flat_map}
+use Rattle.lnt_header.specs.declared.header.HeaderParts.{HeaderParts}
+use Rattle.lnt_unit.specs.declared.unit.Parts.{Parts}
+use Rattle.lnt_header.specs.declared.op.Op.{Op}
+use Rattle.lnt_header.specs.declared.op.Op.TheVariants.{Special, Copy, EndSequence}
+use Rattle.lnt_machine.specs.declared.fault.RunFault.{RunFault}
+use Rattle.lnt_machine.specs.declared.fault.RunFault.TheVariants.{LineOutOfRange, OpenSequence, Memory}
+use Rattle.lnt_machine.specs.declared.row.Row.{Row}
+use Rattle.lnt_machine.specs.declared.row.Sequence.{Sequence}
+use Rattle.lnt_machine.specs.Registers.{registers_after, discriminator, basic_block, prologue_end, epilogue_begin, line, IsLine}
+
+-- The row of a Copy or a Special that comes behind `back`: the registers with it, but the marks and the discriminator without it.
+abbrev pub row_of : HeaderParts → List Op → Op → Row
+row_of h back op = record (registers_after h (op ∷ back)) {
+  discriminator = discriminator back;
+  basic_block = basic_block back;
+  prologue_end = prologue_end back;
+  epilogue_begin = epilogue_begin back;
+}
+
+-- The row of an EndSequence that comes behind `back`: the registers without it.
+abbrev pub end_row_of : HeaderParts → List Op → Row
+end_row_of h back = record (registers_after h back) { end_sequence = true }
+
+-- the row that an operation behind `back` makes, if it makes one
+abbrev pub row_made : HeaderParts → List Op → Op → Option Row
+row_made h back Copy = Some (row_of h back Copy)
+row_made h back (Special c) = Some (row_of h back (Special c))
+row_made h back EndSequence = Some (end_row_of h back)
+row_made h back _ = None
+
+-- the rows of operations that come behind `back`
+abbrev pub rows_behind : HeaderParts → List Op → List Op → List Row
+rows_behind h back [] = []
+rows_behind h back (op ∷ ops) = cons_option (row_made h back op) (rows_behind h (op ∷ back) ops)
+
+-- the rows of a program
+abbrev pub rows : Parts → List Row
+rows unit = rows_behind unit.header [] unit.ops
+
+-- a row put before the first of some sequences; where there is none, it belongs to none
+abbrev pub onto_first : Row → List Sequence → List Sequence
+onto_first row [] = []
+onto_first row (sequence ∷ sequences) = record { rows = row ∷ sequence.rows } ∷ sequences
+
+-- The sequences of rows: each is cut behind an end row. Rows behind the last end row belong to none.
+abbrev pub sequences_of : List Row → List Sequence
+sequences_of [] = []
+sequences_of (row ∷ rows) = cond row.end_sequence (record { rows = row ∷ [] } ∷ sequences_of rows) (onto_first row (sequences_of rows))
+
+-- the sequences of a program
+abbrev pub sequences : Parts → List Sequence
+sequences unit = sequences_of (rows unit)
+
+-- the rows of sequences, one after another
+abbrev pub joined_rows : List Sequence → List Row
+joined_rows sequences = flat_map (λ sequence. sequence.rows) sequences
+
+-- the first k operations of a program, the newest first
+abbrev pub done : List Op → ℕ → List Op
+done ops k = reverse (take k ops)
+
+-- the line is in range before the operations, and after each of the first k
+abbrev pub LinesFit : Parts → ℕ → Type 0
+LinesFit unit k = (j : ℕ) → j ≤ k → IsLine (line unit.header (done unit.ops j))
+
+-- The program runs: its lines are in range, and each of its rows stands in a sequence, so that none follows the last end row.
+pub record Runs (unit : Parts) : Type 0 where
+  pub lines : LinesFit unit (length unit.ops)
+  pub closed : joined_rows (sequences unit) ≡ rows unit
+
+-- Why a program doesn't run. The line leaves its range with an operation and with none before it; or no line does, and
+-- some row stands in no sequence. Want of memory says nothing of the program.
+abbrev pub IsRunFault : Parts → RunFault → Type 0
+IsRunFault unit (LineOutOfRange k) = (k < length unit.ops) × LinesFit unit k × (IsLine (line unit.header (done unit.ops (k + 1))) → ⊥)
+IsRunFault unit OpenSequence = LinesFit unit (length unit.ops) × (joined_rows (sequences unit) ≡ rows unit → ⊥)
+IsRunFault unit Memory = Unit {0}

@@ -1,0 +1,24 @@
+-- What contracts see of a machine, and the lists of operations that it stands after.
+use Rattle.std.specs.Prelude.{◌≡◌, ℕ, ◌*◌, ◌^◌, ◌<◌, List}
+use Rattle.lnt_header.specs.declared.header.HeaderParts.{HeaderParts}
+use Rattle.lnt_header.specs.declared.op.Op.{Op}
+use Rattle.lnt_machine.specs.declared.row.Row.{Row}
+use Rattle.lnt_machine.specs.Registers.{IsLine, line, registers_after}
+
+-- the header that operations are read by, the registers, and how many operations were done
+pub record State : Type 0 where
+  pub header : HeaderParts
+  pub registers : Row
+  pub count : ℕ
+
+-- The machine stands after the operations of `back`, the newest first: its registers are those that looking back over
+-- them gives, and their line is in range.
+pub record StandsAfter (machine : State) (back : List Op) : Type 0 where
+  pub registers : machine.registers ≡ registers_after machine.header back
+  pub line : IsLine (line machine.header back)
+
+-- the bounds of the registers of every machine
+pub record IsBounded (h : HeaderParts) (registers : Row) : Type 0 where
+  pub address : registers.address < 2 ^ (8 * h.address_size)
+  pub op_index : registers.op_index < h.max_ops
+  pub line : registers.line < 2 ^ 32

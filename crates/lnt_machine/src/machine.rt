@@ -1,0 +1,81 @@
+//! A machine that does one operation after another.
+ghost use Rattle.std.specs.Prelude.{◌≡◌, List, [], ◌∷◌, IfOk, IsOk, IfErr, OnErr};
+ghost use Rattle.lnt_machine.specs.Registers.{IsLine, line};
+ghost use Rattle.lnt_machine.specs.State.{StandsAfter};
+ghost use Rattle.lnt_machine.specs.Steps.{LeavesRange, Steps};
+ghost use Rattle.lnt_header.specs.OpViews.{StandsFor};
+ghost use Rattle.lnt_header.specs.OpRules.{Admits};
+ghost use Rattle.lnt_header.specs.declared.op.Op.{Op};
+
+use crate::fault::RunFault;
+use crate::registers::{change, initial};
+use crate::row::Row;
+use lnt_unit::{Header, OpView};
+use std::marker::Model;
+
+/// The registers of a line number program between two of its operations, and how many were done.
+///
+/// Contracts see the header, the registers and the count (`State`). A machine stands after a list of operations
+/// (`StandsAfter`) where each register is what DWARF 5 makes of that list in sections 6.2.2 and 6.2.5, as a sum over it
+/// or a look back at the last operation of a kind. The count stays at `u64::MAX` once it is there.
+#[derive(Drop)]
+pub struct Machine<'a> {
+    header: &'a Header,
+    registers: Row,
+    count: u64,
+}
+
+impl<'a> Model for Machine<'a> {
+    ghost use Rattle.lnt_machine.specs.State.{State, IsBounded};
+
+    ghost Value = { State };
+
+    ghost view = { λ m. record { header = m.header.now; registers = m.registers; count = m.count } };
+
+    ghost invariant = { λ m. IsBounded m.header.now m.registers };
+}
+
+impl<'a> Machine<'a> {
+    /// A machine before the first operation of a program with this header: it stands after none. It takes no memory.
+    pub fn new(header: &'a Header) -> Machine<'a>
+        ensures header { result.header ≡ header.entry.now }
+        ensures stands { StandsAfter result [] }
+        ensures count { result.count ≡ 0 }
+    {
+        Machine {
+            header,
+            registers: initial(header),
+            count: 0,
+        }
+    }
+
+    /// Does an operation that the header admits, and gives the row that it makes.
+    ///
+    /// Whatever list of operations the machine stood after, it then stands after that list with this operation added,
+    /// and the row is that of this operation behind them (`Steps`; DWARF 5, section 6.2.5). It refuses exactly where
+    /// the line would be below 0, or 2^32 or more: with `LineOutOfRange` (22) of the count, which is the operation's
+    /// index. The machine is then as before. It takes no memory.
+    #[inline(always)]
+    pub fn step(&mut self, view: &OpView<'_>) -> Result<Option<Row>, RunFault>
+        requires { (op : Op) × StandsFor view.now op × Admits self.old.header op }
+        ensures ok { IfOk result (Steps view.now self.old self.new) }
+
+        // It refuses where the line leaves its range, with the operation's index, and nowhere else.
+        ensures in_range { (back : List Op) (op : Op) → StandsAfter self.old back → StandsFor view.now op
+            → IsLine (line self.old.header (op ∷ back)) → IsOk result }
+        ensures out_of_range { OnErr result (LeavesRange view.now self.old) }
+        ensures fault { IfErr result (λ fault. fault ≡ RunFault.LineOutOfRange self.old.count) }
+        ensures unchanged { OnErr result (self.new ≡ self.old) }
+    {
+        let Machine {
+            header,
+            registers,
+            count,
+        } = self;
+        let Ok(row) = change(registers, header, view) else {
+            return Err(RunFault::LineOutOfRange(*count));
+        };
+        *count = count.saturating_add(1);
+        Ok(row)
+    }
+}

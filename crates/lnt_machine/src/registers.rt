@@ -1,0 +1,201 @@
+//! How operations change the registers (DWARF 5, section 6.2.5).
+ghost use Rattle.std.specs.Prelude.{◌≡◌, ◌+◌, ◌*◌, ◌%◌, ◌^◌, ◌<◌, ◌≤◌, pos, ◌+ℤ◌, unsigned_abs, IfOk, OnOk, OnErr};
+ghost use Rattle.lnt_machine.specs.Changes.{advanced, Changes, initial_registers, IsAllowed, line_reached, plain, set_by, special_row, unmarked};
+ghost use Rattle.lnt_machine.specs.Registers.{IsLine};
+ghost use Rattle.lnt_machine.specs.State.{IsBounded};
+ghost use Rattle.lnt_header.specs.HeaderRules.{IsAddressSize};
+ghost use Rattle.lnt_header.specs.declared.op.Op.{Op};
+
+use crate::row::Row;
+use lnt_unit::{Header, OpView};
+
+// A line below 0, or of 2^32 or more.
+#[derive(Drop)]
+pub(crate) struct OutOfRange;
+
+// The registers at the start of a sequence.
+#[inline(always)]
+#[tactic(auto, using(crate::proofs::StepLemmas::bounded_initial))]
+pub(crate) fn initial(header: &Header) -> Row
+    ensures value { result ≡ initial_registers header.now }
+    ensures bounded { IsBounded header.now result }
+{
+    Row {
+        address: 0,
+        op_index: 0,
+        file: 1,
+        line: 1,
+        column: 0,
+        isa: 0,
+        discriminator: 0,
+        is_stmt: header.default_is_stmt() != 0,
+        basic_block: false,
+        end_sequence: false,
+        prologue_end: false,
+        epilogue_begin: false,
+    }
+}
+
+// Changes the registers as an operation says, and makes its row. They stay where the line would be out of range.
+#[inline(always)]
+pub(crate) fn change(
+    registers: &mut Row,
+    header: &Header,
+    view: &OpView<'_>,
+) -> Result<Option<Row>, OutOfRange>
+    requires allowed { IsAllowed header.now (plain view.now) }
+    requires bounded { IsBounded header.now registers.old }
+    ensures ok { IfOk result (λ row. Changes header.now (plain view.now) registers.old registers.new row) }
+    ensures err { OnErr result (IsLine (line_reached header.now registers.old (plain view.now)) → ⊥) }
+    ensures unchanged { OnErr result (registers.new ≡ registers.old) }
+{
+    match *view {
+        OpView::Special(opcode) => {
+            let row = special(registers, header, opcode)?;
+            Ok(Some(row))
+        }
+        OpView::Copy => Ok(Some(append(registers))),
+        OpView::EndSequence => {
+            let row = Row {
+                end_sequence: true,
+                ..*registers
+            };
+            *registers = initial(header);
+            Ok(Some(row))
+        }
+        OpView::AdvanceLine(by) => {
+            registers.line = moved_line(registers.line, by)?;
+            Ok(None)
+        }
+        _ => {
+            set(registers, header, view);
+            Ok(None)
+        }
+    }
+}
+
+// Changes the registers as an operation says that neither makes a row nor moves the line. Others change nothing here.
+#[inline(always)]
+fn set(registers: &mut Row, header: &Header, view: &OpView<'_>)
+    requires bounded { IsBounded header.now registers.old }
+    ensures { registers.new ≡ set_by header.now registers.old (plain view.now) }
+{
+    match *view {
+        OpView::AdvancePc(by) => advance(registers, header, by),
+        OpView::SetFile(file) => registers.file = file,
+        OpView::SetColumn(column) => registers.column = column,
+        OpView::NegateStmt => registers.is_stmt = !registers.is_stmt,
+        OpView::SetBasicBlock => registers.basic_block = true,
+        OpView::ConstAddPc => {
+            let adjusted = 255 - header.opcode_base();
+            advance(registers, header, u64::from(adjusted / header.line_range()))
+        }
+        OpView::FixedAdvancePc(by) => {
+            let address = registers.address.wrapping_add(u64::from(by));
+            set_address(registers, within(header, address))
+        }
+        OpView::SetPrologueEnd => registers.prologue_end = true,
+        OpView::SetEpilogueBegin => registers.epilogue_begin = true,
+        OpView::SetIsa(isa) => registers.isa = isa,
+        OpView::SetAddress(address) => set_address(registers, address),
+        OpView::SetDiscriminator(discriminator) => registers.discriminator = discriminator,
+        _ => {}
+    }
+}
+
+// Does a special opcode, and gives its row.
+#[inline(always)]
+fn special(registers: &mut Row, header: &Header, opcode: u8) -> Result<Row, OutOfRange>
+    requires allowed { header.now.opcode_base ≤ opcode }
+    requires bounded { IsBounded header.now registers.old }
+    ensures line { OnOk result (IsLine (line_reached header.now registers.old (Op.Special opcode))) }
+    ensures row { IfOk result (λ row. row ≡ special_row header.now registers.old opcode) }
+    ensures after { OnOk result (registers.new ≡ unmarked (special_row header.now registers.old opcode)) }
+    ensures err { OnErr result (IsLine (line_reached header.now registers.old (Op.Special opcode)) → ⊥) }
+    ensures unchanged { OnErr result (registers.new ≡ registers.old) }
+{
+    let adjusted = opcode - header.opcode_base();
+    let range = header.line_range();
+    let by = i64::from(header.line_base()) + i64::from(adjusted % range);
+    registers.line = moved_line(registers.line, by)?;
+    advance(registers, header, u64::from(adjusted / range));
+    Ok(append(registers))
+}
+
+// The registers as a row. What a row resets is reset.
+#[inline(always)]
+fn append(registers: &mut Row) -> Row
+    ensures row { result ≡ registers.old }
+    ensures reset { registers.new ≡ unmarked registers.old }
+{
+    let row = *registers;
+    registers.discriminator = 0;
+    registers.basic_block = false;
+    registers.prologue_end = false;
+    registers.epilogue_begin = false;
+    row
+}
+
+// Moves the address to the first operation of an instruction.
+#[inline(always)]
+fn set_address(registers: &mut Row, address: u64)
+    ensures { registers.new ≡ record registers.old { address = address; op_index = 0 } }
+{
+    registers.address = address;
+    registers.op_index = 0;
+}
+
+// Advances the address by so many operations.
+#[inline(always)]
+#[tactic(auto, using(crate::proofs::AdvanceLemmas::advanced_by_parts))]
+fn advance(registers: &mut Row, header: &Header, by: u64)
+    requires { registers.old.op_index < header.now.max_ops }
+    ensures { registers.new ≡ advanced header.now registers.old by }
+{
+    let max_ops = u64::from(header.max_ops());
+    if max_ops == 1 {
+        registers.address = moved(header, registers.address, by);
+    } else {
+        let rest = registers.op_index + by % max_ops;
+        registers.address = moved(header, registers.address, by / max_ops + rest / max_ops);
+        registers.op_index = rest % max_ops;
+    }
+}
+
+// The address so many instructions behind another.
+#[inline(always)]
+fn moved(header: &Header, from: u64, instructions: u64) -> u64
+    ensures { result ≡ (from + header.now.minimum_instruction_length * instructions) % 2 ^ (8 * header.now.address_size) }
+{
+    let bytes = u64::from(header.minimum_instruction_length()).wrapping_mul(instructions);
+    within(header, from.wrapping_add(bytes))
+}
+
+// What is left of an address in the bytes that addresses have.
+#[inline(always)]
+fn within(header: &Header, address: u64) -> u64
+    ensures value { result ≡ address % 2 ^ (8 * header.now.address_size) }
+    ensures size { IsAddressSize header.now.address_size }
+{
+    match header.address_size() {
+        8 => address,
+        4 => address % (1 << 32),
+        _ => address % (1 << 16),
+    }
+}
+
+// The line so far from another one, if it is in range.
+#[inline(always)]
+fn moved_line(from: u64, by: i64) -> Result<u64, OutOfRange>
+    requires { from < 2 ^ 32 }
+    ensures ok { IfOk result (λ to. IsLine (pos from +ℤ by) × (to ≡ unsigned_abs (pos from +ℤ by))) }
+    ensures err { OnErr result (IsLine (pos from +ℤ by) → ⊥) }
+{
+    // A line below 0 wraps to one far above.
+    let to = from.wrapping_add_signed(by);
+    if to < 1 << 32 {
+        Ok(to)
+    } else {
+        Err(OutOfRange)
+    }
+}

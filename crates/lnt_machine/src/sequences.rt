@@ -1,0 +1,64 @@
+//! The sequences of a unit.
+ghost use Rattle.std.specs.Prelude.{◌≡◌, List, [], ◌∷◌, ◌++◌, IfOk, OnOk, IfErr};
+ghost use Rattle.lnt_machine.specs.Laws.Sequences.{IsCut};
+ghost use Rattle.lnt_machine.specs.Matrix.{IsRunFault, Runs, sequences};
+ghost use Rattle.lnt_machine.specs.declared.row.Row.{Row};
+
+use crate::fault::RunFault;
+use crate::machine::Machine;
+use crate::row::{Row, Sequence};
+use lnt_unit::Unit;
+use lnt_wire::Items;
+use std::alloc::Global;
+use std::mem;
+
+/// The rows of a unit, sequence by sequence, where its program runs (`Runs`; DWARF 5, sections 6.2.2 and 6.2.5).
+///
+/// It refuses with `LineOutOfRange` (22) where an operation, with this index and none before it, leads to a line below
+/// 0, or of 2^32 or more; with `OpenSequence` (23) where no operation does, and rows follow the last end row, or there
+/// are rows and no end row; and with `Memory` (24).
+#[tactic(auto, using(crate::proofs::MatrixLemmas::ran_open, crate::proofs::MatrixLemmas::ran_sequences))]
+pub fn matrix(alloc: Global, unit: &Unit) -> Result<Vec<Sequence>, RunFault>
+    ensures runs { OnOk result (Runs unit.now) }
+    ensures rows { IfOk result (λ made. made.items ≡ sequences unit.now) }
+    ensures err { IfErr result (IsRunFault unit.now) }
+{
+    let mut machine = Machine::new(unit.header());
+    let mut sequences = Vec::new(alloc);
+    let mut rows = Vec::new(alloc);
+    for op in unit.ops() {
+        let Some(row) = machine.step(&op.view())? else {
+            continue;
+        };
+        add_row(alloc, row, &mut rows, &mut sequences)?;
+    }
+    if rows.is_empty() {
+        Ok(sequences)
+    } else {
+        Err(RunFault::OpenSequence)
+    }
+}
+
+// Adds a row to those behind the last end row. An end row makes a sequence of them. The only error is `Memory`.
+#[tactic(auto, using(crate::specs::Laws::Sequences::cut_more, crate::specs::Laws::Sequences::cut_end))]
+fn add_row(
+    alloc: Global,
+    row: Row,
+    rows: &mut Vec<Row>,
+    sequences: &mut Vec<Sequence>,
+) -> Result<(), RunFault>
+    ensures ok { OnOk result ((all : List Row) → IsCut all sequences.old.items rows.old.items
+        → IsCut (all ++ row ∷ []) sequences.new.items rows.new.items) }
+    ensures err { IfErr result (λ fault. fault ≡ RunFault.Memory) }
+{
+    if rows.push(row).is_err() {
+        return Err(RunFault::Memory);
+    }
+    if row.end_sequence {
+        let rows = Items::new(mem::replace(rows, Vec::new(alloc)));
+        if sequences.push(Sequence { rows }).is_err() {
+            return Err(RunFault::Memory);
+        }
+    }
+    Ok(())
+}

@@ -1,0 +1,10 @@
+pub mod FrameLemmas
+pub mod FrameListLemmas
+pub mod LebLemmas
+pub mod NumberLemmas
+pub mod PullLemmas
+pub mod PutLemmas
+pub mod ReadLemmas
+pub mod RefusedForms
+pub mod TextLemmas
+pub mod ValueLemmas

@@ -1,0 +1,38 @@
+-- What is wrong where no value in a form begins some bytes. Each reason holds at the value's first byte.
+use Rattle.std.specs.Prelude.{◌≡◌, ℕ, ◌<◌, List, ◌++◌, length}
+use Rattle.lnt_wire.specs.declared.format.Order.{Order}
+use Rattle.lnt_wire.specs.declared.format.Format.{Format}
+use Rattle.lnt_wire.specs.declared.form.Form.{Form}
+use Rattle.lnt_wire.specs.declared.form.Form.TheVariants as forms
+use Rattle.lnt_wire.specs.declared.fault.Reason.{Reason}
+use Rattle.lnt_wire.specs.declared.fault.Reason.TheVariants.{Truncated}
+use Rattle.lnt_wire.specs.FormBytes.{HasNoZero}
+use Rattle.lnt_wire.specs.Leb128.{UnsignedLeb, IsLargeUnsigned, IsLebFault}
+use Rattle.lnt_wire.specs.Numbers.{NumberBytes, offset_size}
+use Rattle.lnt_wire.specs.Reading.{IsCutShort}
+
+-- no zero byte follows
+pub record IsCutText (reason : Reason) (bytes : List ℕ) : Type 0 where
+  pub reason_is : reason ≡ Truncated
+  pub no_zero : HasNoZero bytes
+
+-- The length of a block isn't there, or not as many bytes as it says. Length is how it is spelled, and IsLengthFault why it isn't.
+pub data IsBlockFault (Length : ℕ → List ℕ → Type 0) (IsLengthFault : Reason → List ℕ → Type 0) (reason : Reason) (bytes : List ℕ) : Type 0 where
+  no_length : IsLengthFault reason bytes → IsBlockFault Length IsLengthFault reason bytes
+  cut_block : (size : ℕ) (spelling rest : List ℕ) → reason ≡ Truncated → Length size spelling → bytes ≡ spelling ++ rest → length rest < size → IsBlockFault Length IsLengthFault reason bytes
+
+-- why no value in the form is read
+abbrev pub IsValueFault : Format → Order → Form → Reason → List ℕ → Type 0
+IsValueFault format order forms.Data1 = IsCutShort 1
+IsValueFault format order forms.Data2 = IsCutShort 2
+IsValueFault format order forms.Data4 = IsCutShort 4
+IsValueFault format order forms.Data8 = IsCutShort 8
+IsValueFault format order forms.Data16 = IsCutShort 16
+IsValueFault format order forms.Strp = IsCutShort (offset_size format)
+IsValueFault format order forms.LineStrp = IsCutShort (offset_size format)
+IsValueFault format order forms.Udata = IsLebFault IsLargeUnsigned
+IsValueFault format order forms.Text = IsCutText
+IsValueFault format order forms.Block = IsBlockFault UnsignedLeb (IsLebFault IsLargeUnsigned)
+IsValueFault format order forms.Block1 = IsBlockFault (NumberBytes order 1) (IsCutShort 1)
+IsValueFault format order forms.Block2 = IsBlockFault (NumberBytes order 2) (IsCutShort 2)
+IsValueFault format order forms.Block4 = IsBlockFault (NumberBytes order 4) (IsCutShort 4)

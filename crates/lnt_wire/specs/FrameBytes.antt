@@ -1,0 +1,43 @@
+-- Frames: the units of a section by their initial lengths and versions alone (DWARF 5, sections 6.2.4 and 7.4).
+use Rattle.std.specs.Prelude.{◌≡◌, ℕ, ◌+◌, ◌^◌, ◌<◌, List, [], ◌∷◌, ◌++◌, length}
+use Rattle.lnt_wire.specs.declared.format.Order.{Order}
+use Rattle.lnt_wire.specs.declared.format.Format.{Format}
+use Rattle.lnt_wire.specs.declared.frame.Frame.{Frame}
+use Rattle.lnt_wire.specs.Numbers.{number_bytes}
+use Rattle.lnt_wire.specs.InitialLength.{initial_length, LengthFits}
+
+-- the version of each unit
+abbrev pub version_five : Order → List ℕ
+version_five order = number_bytes order 2 5
+
+-- the bytes of a body that begins with version 5
+pub record BeginsWithFive (order : Order) (body : List ℕ) : Type 0 where
+  pub behind : List ℕ
+  pub joined : body ≡ version_five order ++ behind
+
+-- an initial length, and the body that it counts
+abbrev pub frame_bytes : Order → Format → List ℕ → List ℕ
+frame_bytes order format body = initial_length format order (length body) ++ body
+
+-- The bytes of a frame by its format and its body: the initial length, and the body that it counts, which begins with version 5.
+pub record FrameBytes (order : Order) (frame : Format × List ℕ) (bytes : List ℕ) : Type 0 where
+  pub fits : LengthFits frame.0 (length frame.1)
+  pub version : BeginsWithFive order frame.1
+  pub joined : bytes ≡ frame_bytes order frame.0 frame.1
+
+-- the frame of these bytes
+pub record IsFrame (order : Order) (frame : Frame) (bytes : List ℕ) : Type 0 where
+  pub length_is : frame.length ≡ length frame.body.now
+  pub spelled : FrameBytes order (frame.format, frame.body.now) bytes
+
+-- a frame that ends below 2 ^ 64, counted from the section's first byte
+pub record IsPlacedFrame (order : Order) (frame : Frame) : Type 0 where
+  pub is : IsFrame order frame (frame_bytes order frame.format frame.body.now)
+  pub room : frame.offset + length (frame_bytes order frame.format frame.body.now) < 2 ^ 64
+
+-- The bytes of frames, one behind the other. The first frame stands at the offset, and each further one behind all before it.
+abbrev pub FramesFrom : Order → ℕ → List Frame → List ℕ → Type 0
+FramesFrom order offset [] bytes = bytes ≡ []
+FramesFrom order offset (frame ∷ frames) bytes =
+    (front : List ℕ) × (back : List ℕ) × (bytes ≡ front ++ back)
+    × (frame.offset ≡ offset) × IsFrame order frame front × FramesFrom order (offset + length front) frames back

@@ -1,0 +1,22 @@
+-- The frames of a section, and how they end (DWARF 5, sections 6.2.4 and 7.4).
+use Rattle.std.specs.Prelude.{◌≡◌, ℕ, ◌<◌, List, [], ◌++◌, length, Option, Some, None}
+use Rattle.lnt_wire.specs.declared.format.Order.{Order}
+use Rattle.lnt_wire.specs.declared.fault.Fault.{Fault}
+use Rattle.lnt_wire.specs.declared.frame.Frame.{Frame}
+use Rattle.lnt_wire.specs.At.{At}
+use Rattle.lnt_wire.specs.FrameBytes.{FrameBytes, FramesFrom}
+use Rattle.lnt_wire.specs.FrameFaults.{IsFrameFault}
+use Rattle.lnt_wire.specs.Reading.{Refuses}
+
+-- What stands behind the last frame: nothing; or, where there is a fault, bytes that no frame begins, for the fault's reason at its place.
+abbrev pub EndsBy : At → Option Fault → Type 0
+EndsBy at None = at.rest ≡ []
+EndsBy at (Some fault) = (0 < length at.rest) × Refuses (IsFrameFault at.order) (FrameBytes at.order) at fault
+
+-- The frames joined are a front of the bytes. The first stands at offset 0, and each offset is the length of all before.
+pub record AreFrames (order : Order) (bytes : List ℕ) (frames : List Frame) (fault : Option Fault) : Type 0 where
+  pub front : List ℕ
+  pub rest : List ℕ
+  pub whole : bytes ≡ front ++ rest
+  pub joined : FramesFrom order 0 frames front
+  pub ends : EndsBy (record { place = length front; rest = rest; order = order }) fault

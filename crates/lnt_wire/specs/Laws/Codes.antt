@@ -1,0 +1,79 @@
+-- Kinds of spelling in which none begins another, and each spells one value. These are proofs: nothing here is to be believed.
+use Rattle.std.proofs.Common.{◌≡◌, ℕ, List, [], ◌∷◌, ◌++◌, length, sym, ap, ◌∙◌, append_assoc, arith}
+use Rattle.lnt_wire.specs.declared.format.Order.{Order}
+use Rattle.lnt_wire.specs.Bytes.{TakenBytes, Then, IsCode}
+use Rattle.lnt_wire.specs.Leb128.{IsLeb, groups, signed_groups, UnsignedLeb, SignedLeb}
+use Rattle.lnt_wire.specs.Numbers.{NumberBytes}
+use Rattle.lnt_wire.specs.Laws.Lengths.{IsWidth, length-number_bytes, same_front, same_rest}
+
+-- ---- numbers in groups of seven bits
+
+pub same_leb : (x y r s : List ℕ) → IsLeb x → IsLeb y → x ++ r ≡ y ++ s → x ≡ y
+same_leb [] y r s p q e = absurd p
+same_leb (a ∷ []) [] r s p q e = absurd q
+same_leb (a ∷ []) (b ∷ []) r s p q e = let heads : a ≡ b = cc in cc
+same_leb (a ∷ []) (b ∷ c ∷ y) r s p q e = let heads : a ≡ b = cc in absurd (omega arith)
+same_leb (a ∷ c ∷ x) [] r s p q e = absurd q
+same_leb (a ∷ c ∷ x) (b ∷ []) r s p q e = let heads : a ≡ b = cc in absurd (omega arith)
+same_leb (a ∷ c ∷ x) (b ∷ d ∷ y) r s p q e =
+    let heads : a ≡ b = cc in
+    let tails : (c ∷ x) ++ r ≡ (d ∷ y) ++ s = cc in
+    let rest : c ∷ x ≡ d ∷ y = same_leb (c ∷ x) (d ∷ y) r s p.1 q.1 tails in
+    cc
+
+pub unsigned_code : IsCode UnsignedLeb
+unsigned_code = record {
+  one = λ m n x y r s p q e.
+      let same : x ≡ y = same_leb x y r s p.shape q.shape e in
+      (p.value ∙ ap groups same ∙ sym q.value, same);
+}
+
+pub signed_code : IsCode SignedLeb
+signed_code = record {
+  one = λ m n x y r s p q e.
+      let same : x ≡ y = same_leb x y r s p.shape q.shape e in
+      (p.value ∙ ap signed_groups same ∙ sym q.value, same);
+}
+
+-- ---- numbers of fixed width
+
+pub number_code : (order : Order) (size : ℕ) → IsWidth size → IsCode (NumberBytes order size)
+number_code order size width = record {
+  one = λ m n x y r s p q e.
+      let len : length x ≡ length y = ap length p.spelled ∙ length-number_bytes order size m ∙ sym (length-number_bytes order size n) ∙ ap length (sym q.spelled) in
+      let same : x ≡ y = same_front x y r s len e in
+      (width.same order m n p.fits q.fits (sym p.spelled ∙ same ∙ q.spelled), same);
+}
+
+-- ---- bytes that stand for themselves
+
+pub taken_code : (count : ℕ) → IsCode (TakenBytes count)
+taken_code count = record {
+  one = λ u v x y r s p q e.
+      let same : x ≡ y = same_front x y r s (p.count_is ∙ sym q.count_is) e in
+      (p.taken_is ∙ same ∙ sym q.taken_is, same);
+}
+
+-- ---- joins
+
+-- the front of two joins, of a kind that is a code
+pub record Peeled {X : Type 0} (u v : X) (front front' rest rest' : List ℕ) : Type 0 where
+  pub value : u ≡ v
+  pub bytes : front ≡ front'
+  pub behind : rest ≡ rest'
+
+pub peel_by : {X : Type 0} {P P' Q Q' : List ℕ → Type 0} (u v : X) (x y r s : List ℕ)
+    → ((a b c d : List ℕ) → P a → P' b → a ++ c ≡ b ++ d → (u ≡ v) × (a ≡ b))
+    → (t : Then P Q x) → (t' : Then P' Q' y) → x ++ r ≡ y ++ s → Peeled u v t.front t'.front (t.back ++ r) (t'.back ++ s)
+peel_by u v x y r s one t t' e =
+    let all : t.front ++ (t.back ++ r) ≡ t'.front ++ (t'.back ++ s) =
+    sym (append_assoc t.front t.back r) ∙ ap (λ (z : List ℕ). z ++ r) (sym t.joined) ∙ e ∙ ap (λ (z : List ℕ). z ++ s) t'.joined ∙ append_assoc t'.front t'.back s in
+    let found : (u ≡ v) × (t.front ≡ t'.front) = one t.front t'.front (t.back ++ r) (t'.back ++ s) t.first t'.first all in
+    record { value = found.0; bytes = found.1; behind = same_rest t.front t'.front (t.back ++ r) (t'.back ++ s) found.1 all }
+
+pub peel : {X : Type 0} {P : X → List ℕ → Type 0} {Q Q' : List ℕ → Type 0} → IsCode P → (u v : X) (x y r s : List ℕ)
+    → (t : Then (P u) Q x) → (t' : Then (P v) Q' y) → x ++ r ≡ y ++ s → Peeled u v t.front t'.front (t.back ++ r) (t'.back ++ s)
+peel code u v x y r s t t' e = peel_by u v x y r s (λ a b c d. code.one u v a b c d) t t' e
+
+pub same_join : {P Q P' Q' : List ℕ → Type 0} (x y : List ℕ) → (t : Then P Q x) → (t' : Then P' Q' y) → t.front ≡ t'.front → t.back ≡ t'.back → x ≡ y
+same_join x y t t' p q = let a = t.joined in let b = t'.joined in cc (a, b, p, q)

@@ -1,0 +1,15 @@
+pub mod At
+pub mod Bytes
+pub mod FormBytes
+pub mod FormFaults
+pub mod FrameBytes
+pub mod FrameFaults
+pub mod Frames
+pub mod InitialLength
+pub mod Laws
+pub mod Leb128
+pub mod Numbers
+pub mod Prefixes
+pub mod Pulling
+pub mod Reading
+pub mod Texts

@@ -1,0 +1,95 @@
+//! A source over a reader, with a limit.
+ghost use Rattle.std.specs.Prelude.{◌≡◌, ℕ, ◌+◌, ◌-◌, ◌^◌, ◌<◌, ◌≤◌, ◌∷◌, [], length, min, false, is_some, option_to_list, IsTrue, true};
+ghost use Rattle.std.specs.Io.KnownBytes.{prepend_known};
+ghost use Rattle.lnt_wire.specs.Pulling.{more_of};
+
+use crate::source::{ReadFault, Source};
+use std::io::Read;
+
+// The greatest limit.
+const MOST: u64 = 1 << 40;
+
+/// Gives the bytes of a reader, up to a limit.
+///
+/// Every error of the reader is a failure and isn't tried again, also where a call was interrupted. Once the
+/// limit is reached, one more byte is asked for: where it is there, the source is too long, and the byte is kept
+/// among those that it has to give.
+#[derive(Drop)]
+pub struct Counted<R> {
+    reader: R,
+    left: u64,
+    failures: u64,
+    beyond: Option<u8>,
+    ghost full: { is_some beyond ≡ true → left ≡ 0 },
+}
+
+impl<R: Read> Counted<R> {
+    /// A source of at most `limit` bytes of the reader; a limit above 2^40 counts as 2^40.
+    pub fn new(reader: R, limit: u64) -> Counted<R>
+        ensures remaining { ⟦<Counted<R> as Source>⟧.remaining result ≡ R.remaining reader }
+        ensures failures { ⟦<Counted<R> as Source>⟧.failures result ≡ 0 }
+        ensures too_long { ⟦<Counted<R> as Source>⟧.too_long result ≡ false }
+        ensures left { ⟦<Counted<R> as Source>⟧.left result ≡ min limit (2 ^ 40) }
+    {
+        Counted {
+            reader,
+            left: limit.min(MOST),
+            failures: 0,
+            beyond: None,
+        }
+    }
+}
+
+impl<R: Read> Source for Counted<R> {
+    ghost remaining = { λ s. prepend_known (option_to_list s.beyond) (R.remaining s.reader) };
+
+    ghost failures = { λ s. s.failures };
+
+    ghost too_long = { λ s. is_some s.beyond };
+
+    ghost left = { λ s. s.left };
+
+    ghost more = { λ s found. more_of s.beyond (R.remaining s.reader) s.left found (s.full found) };
+
+    fn pull(&mut self, buf: &mut [u8]) -> Result<usize, ReadFault> {
+        if buf.is_empty() || self.too_long() {
+            return Ok(0);
+        }
+        let Counted {
+            reader,
+            left,
+            failures,
+            beyond,
+        } = self;
+        let mut one = [0];
+        let full = *left == 0;
+        let read = if full {
+            reader.read(&mut one)
+        } else {
+            let room = (buf.len() as u64).min(*left) as usize;
+            reader.read(&mut buf[..room])
+        };
+        let Ok(count) = read else {
+            *failures += 1;
+            return Err(ReadFault);
+        };
+        if full {
+            *beyond = one[..count].first().copied();
+            return Ok(0);
+        }
+        *left -= count as u64;
+        Ok(count)
+    }
+
+    fn failures(&self) -> u64 {
+        self.failures
+    }
+
+    fn too_long(&self) -> bool {
+        self.beyond.is_some()
+    }
+
+    fn left(&self) -> u64 {
+        self.left
+    }
+}

@@ -1,0 +1,110 @@
+//! Frames: the units of a section by their initial lengths and versions alone (DWARF 5, sections 6.2.4 and 7.4).
+ghost use Rattle.std.specs.Prelude.{◌≡◌, IfOk, IfErr, OnErr};
+ghost use Rattle.lnt_wire.specs.FrameBytes.{FrameBytes, IsFrame};
+ghost use Rattle.lnt_wire.specs.FrameFaults.{IsFrameFault};
+ghost use Rattle.lnt_wire.specs.Frames.{AreFrames};
+ghost use Rattle.lnt_wire.specs.Reading.{Reads, Refuses};
+
+use crate::cursor::Cursor;
+use crate::fault::{Fault, Reason};
+use crate::format::{Format, Order};
+use crate::initial::{begins_with_five, initial_length};
+use std::alloc::Global;
+
+/// A unit that was not looked into: its initial length, and the body that it counts, which begins with version 5.
+#[derive(Clone, Copy, Debug)]
+pub struct Frame<'a> {
+    /// The offset in the section of the first byte of the initial length.
+    pub offset: u64,
+    /// The format that the initial length has.
+    pub format: Format,
+    /// How many bytes the body has.
+    pub length: u64,
+    /// The bytes behind the initial length.
+    pub body: &'a [u8],
+}
+
+/// The frame at the cursor, which moves past it.
+///
+/// It refuses only where no frame stands there, and leaves the cursor as it was: `Truncated` at the cursor where
+/// the initial length is cut or counts more bytes than are left, and at the version where the body ends within
+/// it; `ReservedLength` at the cursor; `VersionNotFive` at the version.
+#[tactic(auto, using(crate::proofs::FrameLemmas::refuses_initial, crate::proofs::FrameLemmas::refuses_long, crate::proofs::FrameLemmas::refuses_version, crate::proofs::FrameLemmas::reads_frame))]
+pub fn take_frame<'a>(cursor: &mut Cursor<'a>) -> Result<Frame<'a>, Fault>
+    ensures ok { IfOk result (λ frame. Reads (IsFrame cursor.old.order) frame cursor.old cursor.new) }
+    ensures offset { IfOk result (λ frame. frame.offset ≡ cursor.old.place) }
+    ensures err { IfErr result (λ fault. Refuses (IsFrameFault cursor.old.order) (FrameBytes cursor.old.order) cursor.old fault) }
+    ensures unchanged { OnErr result (cursor.new ≡ cursor.old) }
+{
+    let offset = cursor.place();
+    let mut ahead = cursor.fork();
+    let (format, length) = match initial_length(&mut ahead) {
+        Ok(initial) => initial,
+        Err(reason) => {
+            return Err(Fault {
+                place: offset,
+                reason,
+            });
+        }
+    };
+    let start = ahead.place();
+    let Ok(body) = ahead.take(length as usize) else {
+        return Err(Fault {
+            place: offset,
+            reason: Reason::Truncated,
+        });
+    };
+    begins_with_five(body, start, cursor.order())?;
+    *cursor = ahead;
+    Ok(Frame {
+        offset,
+        format,
+        length,
+        body,
+    })
+}
+
+/// The frames of a section, and why what stands behind them is no frame.
+#[derive(Debug, Drop)]
+pub struct Framed<'a> {
+    /// The frames in order, from the section's first byte on, one behind the other.
+    pub frames: Vec<Frame<'a>>,
+    /// None where the section ends behind the last frame.
+    pub fault: Option<Fault>,
+}
+
+/// The frames of the section `bytes`: all of them, or those before the first fault.
+///
+/// The bytes of the frames joined are the section, or, where there is a fault, the part of it before the bytes
+/// that no frame begins. The only error is `Memory`.
+#[tactic(auto, using(crate::proofs::FrameListLemmas::no_frames, crate::proofs::FrameListLemmas::one_more_frame, crate::proofs::FrameListLemmas::frame_long))]
+pub fn frames<'a>(alloc: Global, bytes: &'a [u8], order: Order) -> Result<Framed<'a>, Fault>
+    ensures ok { IfOk result (λ framed. AreFrames order bytes.entry.now framed.frames.items framed.fault) }
+    ensures err { IfErr result (λ fault. fault.reason ≡ Reason.Memory) }
+{
+    let mut frames = Vec::new(alloc);
+    let mut cursor = Cursor::new(bytes, 0, order);
+    while !cursor.rest().is_empty() {
+        let place = cursor.place();
+        match take_frame(&mut cursor) {
+            Ok(frame) => {
+                if frames.push(frame).is_err() {
+                    return Err(Fault {
+                        place,
+                        reason: Reason::Memory,
+                    });
+                }
+            }
+            Err(fault) => {
+                return Ok(Framed {
+                    frames,
+                    fault: Some(fault),
+                });
+            }
+        }
+    }
+    Ok(Framed {
+        frames,
+        fault: None,
+    })
+}

@@ -1,0 +1,46 @@
+//! The initial length and the version of a unit (DWARF 5, sections 6.2.4 and 7.4).
+ghost use Rattle.std.specs.Prelude.{◌≡◌, ℕ, ◌+◌, ◌^◌, ◌<◌, ◌++◌, List, length, IfOk, IfErr, OnOk};
+ghost use Rattle.lnt_wire.specs.FrameBytes.{BeginsWithFive};
+ghost use Rattle.lnt_wire.specs.FrameFaults.{IsInitialFault, IsVersionFault};
+ghost use Rattle.lnt_wire.specs.InitialLength.{InitialBytes};
+ghost use Rattle.lnt_wire.specs.Reading.{Reads};
+
+use crate::cursor::Cursor;
+use crate::fault::{Fault, Reason};
+use crate::format::{Format, Order};
+
+// The initial length at the cursor. After a refusal nothing is said of the cursor.
+pub(crate) fn initial_length(cursor: &mut Cursor<'_>) -> Result<(Format, u64), Reason>
+    ensures ok { IfOk result (λ initial. Reads (InitialBytes cursor.old.order) initial cursor.old cursor.new) }
+    ensures err { IfErr result (λ reason. IsInitialFault cursor.old.order reason cursor.old.rest) }
+{
+    let Ok(first) = cursor.u32() else {
+        return Err(Reason::Truncated);
+    };
+    if first < 0xffff_fff0 {
+        return Ok((Format::D32, u64::from(first)));
+    }
+    if first < 0xffff_ffff {
+        return Err(Reason::ReservedLength);
+    }
+    match cursor.u64() {
+        Ok(length) => Ok((Format::D64, length)),
+        Err(_) => Err(Reason::Truncated),
+    }
+}
+
+// Tests that the body of a unit, which stands at the place, begins with version 5.
+pub(crate) fn begins_with_five(body: &[u8], place: u64, order: Order) -> Result<(), Fault>
+    requires { place + length body.now < 2 ^ 64 }
+    ensures ok { OnOk result (BeginsWithFive order body.now) }
+    ensures err { IfErr result (λ fault. (fault.place ≡ place) × IsVersionFault order fault.reason body.now) }
+{
+    let version = Cursor::new(body, place, order).u16()?;
+    if version != 5 {
+        return Err(Fault {
+            place,
+            reason: Reason::VersionNotFive(version),
+        });
+    }
+    Ok(())
+}

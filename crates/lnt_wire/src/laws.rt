@@ -1,0 +1,23 @@
+//! Laws of the format, each the contract of a function without parameters that does nothing.
+//!
+//! They say that what is written is read again: no spelling of a kind begins another one, and each spells one value.
+//! So a read of bytes that begin with a spelling gives the value that it spells, whatever follows.
+ghost use Rattle.lnt_wire.specs.Laws.{OneNumber, OneLeb, OneValue};
+
+/// Fixed-width numbers and offsets, in either order and format (DWARF 5, sections 7.4 and 7.5.5).
+#[tactic(auto, using(crate::specs::Laws::Values::one_number))]
+pub fn one_number()
+    ensures { OneNumber }
+{}
+
+/// LEB128 numbers, unsigned and signed, padded or not (DWARF 5, section 7.6).
+#[tactic(auto, using(crate::specs::Laws::Values::one_leb))]
+pub fn one_leb()
+    ensures { OneLeb }
+{}
+
+/// Values of one form, in either order and format (DWARF 5, section 7.5.6).
+#[tactic(auto, using(crate::specs::Laws::Values::one_value))]
+pub fn one_value()
+    ensures { OneValue }
+{}

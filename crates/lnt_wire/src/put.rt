@@ -1,0 +1,290 @@
+//! Numbers and values written at the end of a vector (DWARF 5, sections 7.4, 7.5.6 and 7.6).
+ghost use Rattle.std.specs.Prelude.{◌≡◌, ◌<◌, ◌↔◌, ◌++◌, pos, length, take, IsErrOf, IfErr, OnOk, OnErr};
+ghost use Rattle.std.specs.Int.{int_rem_euclid};
+ghost use Rattle.lnt_wire.specs.Bytes.{Appends, Extends};
+ghost use Rattle.lnt_wire.specs.FormBytes.{HasNoZero, BlockBytes, FormBytes, TextBytes, HasSpelling, IsTooLarge};
+ghost use Rattle.lnt_wire.specs.Leb128.{UnsignedLeb, SignedLeb};
+ghost use Rattle.lnt_wire.specs.Prefixes.{LengthFits, LengthBytes};
+ghost use Rattle.lnt_wire.specs.Numbers.{NumberBytes, OffsetBytes, IsLargeOffset};
+
+use crate::form::{FormValue, Prefix};
+use crate::format::{Format, Order};
+use byteorder::{BigEndian, ByteOrder, LittleEndian};
+use std::alloc::{AllocError, AllocFailed};
+
+/// Why a value isn't written.
+#[derive(Clone, Copy, Debug, PartialEq, Eq)]
+pub enum EncodeFault {
+    /// 20: a length or an offset that the 32-bit format can't say.
+    TooLarge,
+    /// 21: memory ran out.
+    Memory,
+}
+
+impl From<AllocError> for EncodeFault {
+    ghost use Rattle.lnt_wire.specs.declared.put.EncodeFault.TheVariants.{Memory};
+
+    ghost from_gives = { λ _ fault. fault ≡ Memory };
+
+    fn from(_error: AllocError) -> EncodeFault {
+        EncodeFault::Memory
+    }
+}
+
+impl<T: Drop> From<AllocFailed<T>> for EncodeFault {
+    ghost use Rattle.lnt_wire.specs.declared.put.EncodeFault.TheVariants.{Memory};
+
+    ghost from_gives = { λ _ fault. fault ≡ Memory };
+
+    fn from(_error: AllocFailed<T>) -> EncodeFault {
+        EncodeFault::Memory
+    }
+}
+
+/// Adds the shortest unsigned LEB128 of the number. The only refusal is `Memory`, and then `out` is as before.
+#[tactic(auto, using(crate::proofs::PutLemmas::taken_back))]
+pub fn put_uleb(out: &mut Vec<u8>, n: u64) -> Result<(), EncodeFault>
+    ensures ok { OnOk result (Appends UnsignedLeb n out.old.items out.new.items) }
+    ensures err { IfErr result (λ fault. fault ≡ EncodeFault.Memory) }
+    ensures unchanged { OnErr result (out.new.items ≡ out.old.items) }
+{
+    let start = out.len();
+    let ended = add_uleb(out, n);
+    cut_back(out, start, ended)
+}
+
+/// Adds the shortest signed LEB128 of the number. The only refusal is `Memory`, and then `out` is as before.
+#[tactic(auto, using(crate::proofs::PutLemmas::taken_back))]
+pub fn put_sleb(out: &mut Vec<u8>, z: i64) -> Result<(), EncodeFault>
+    ensures ok { OnOk result (Appends SignedLeb z out.old.items out.new.items) }
+    ensures err { IfErr result (λ fault. fault ≡ EncodeFault.Memory) }
+    ensures unchanged { OnErr result (out.new.items ≡ out.old.items) }
+{
+    let start = out.len();
+    let ended = add_sleb(out, z);
+    cut_back(out, start, ended)
+}
+
+/// Adds the value in its form, each LEB128 in its shortest spelling. The caller sees to it that a `Text` holds no
+/// zero byte, and that the length of a `Block1`, `Block2` or `Block4` fits its 1, 2 or 4 bytes.
+///
+/// It refuses with `TooLarge` exactly where an offset of 2^32 or more has no spelling in the 32-bit format, and else
+/// only with `Memory`. Then `out` is as before.
+#[tactic(auto, using(crate::proofs::PutLemmas::taken_back))]
+pub fn put_form(
+    out: &mut Vec<u8>,
+    value: &FormValue,
+    format: Format,
+    order: Order,
+) -> Result<(), EncodeFault>
+    requires { HasSpelling value.now }
+    ensures ok { OnOk result (Appends (FormBytes format order) value.now out.old.items out.new.items) }
+    ensures too_large { IsErrOf result EncodeFault.TooLarge ↔ IsTooLarge format value.now }
+    ensures unchanged { OnErr result (out.new.items ≡ out.old.items) }
+{
+    let start = out.len();
+    let ended = add_form(out, value, format, order);
+    cut_back(out, start, ended)
+}
+
+/// Adds the number in 2 bytes of the order. The only refusal is `Memory`, and then `out` is as before.
+pub fn put_u16(out: &mut Vec<u8>, n: u16, order: Order) -> Result<(), EncodeFault>
+    ensures ok { OnOk result (Appends (NumberBytes order 2) n out.old.items out.new.items) }
+    ensures err { IfErr result (λ fault. fault ≡ EncodeFault.Memory) }
+    ensures unchanged { OnErr result (out.new.items ≡ out.old.items) }
+{
+    let mut bytes = [0; 2];
+    match order {
+        Order::Little => LittleEndian::write_u16(&mut bytes, n),
+        Order::Big => BigEndian::write_u16(&mut bytes, n),
+    }
+    out.extend_from_slice(&bytes)?;
+    Ok(())
+}
+
+/// Adds the number in 4 bytes of the order. The only refusal is `Memory`, and then `out` is as before.
+pub fn put_u32(out: &mut Vec<u8>, n: u32, order: Order) -> Result<(), EncodeFault>
+    ensures ok { OnOk result (Appends (NumberBytes order 4) n out.old.items out.new.items) }
+    ensures err { IfErr result (λ fault. fault ≡ EncodeFault.Memory) }
+    ensures unchanged { OnErr result (out.new.items ≡ out.old.items) }
+{
+    let mut bytes = [0; 4];
+    match order {
+        Order::Little => LittleEndian::write_u32(&mut bytes, n),
+        Order::Big => BigEndian::write_u32(&mut bytes, n),
+    }
+    out.extend_from_slice(&bytes)?;
+    Ok(())
+}
+
+/// Adds the number in 8 bytes of the order. The only refusal is `Memory`, and then `out` is as before.
+pub fn put_u64(out: &mut Vec<u8>, n: u64, order: Order) -> Result<(), EncodeFault>
+    ensures ok { OnOk result (Appends (NumberBytes order 8) n out.old.items out.new.items) }
+    ensures err { IfErr result (λ fault. fault ≡ EncodeFault.Memory) }
+    ensures unchanged { OnErr result (out.new.items ≡ out.old.items) }
+{
+    let mut bytes = [0; 8];
+    match order {
+        Order::Little => LittleEndian::write_u64(&mut bytes, n),
+        Order::Big => BigEndian::write_u64(&mut bytes, n),
+    }
+    out.extend_from_slice(&bytes)?;
+    Ok(())
+}
+
+/// Adds the offset in the 4 bytes of the 32-bit format or the 8 of the 64-bit one.
+///
+/// It refuses with `TooLarge` exactly where an offset of 2^32 or more has no spelling in the 32-bit format, and else
+/// only with `Memory`. Then `out` is as before.
+pub fn put_offset(
+    out: &mut Vec<u8>,
+    n: u64,
+    format: Format,
+    order: Order,
+) -> Result<(), EncodeFault>
+    ensures ok { OnOk result (Appends (OffsetBytes format order) n out.old.items out.new.items) }
+    ensures too_large { IsErrOf result EncodeFault.TooLarge ↔ IsLargeOffset format n }
+    ensures unchanged { OnErr result (out.new.items ≡ out.old.items) }
+{
+    match format {
+        Format::D32 => match u32::try_from(n) {
+            Ok(n) => put_u32(out, n, order),
+            Err(_) => Err(EncodeFault::TooLarge),
+        },
+        Format::D64 => put_u64(out, n, order),
+    }
+}
+
+// Takes back what a refused call has added behind the start.
+fn cut_back(
+    out: &mut Vec<u8>,
+    start: usize,
+    ended: Result<(), EncodeFault>,
+) -> Result<(), EncodeFault>
+    ensures same { result ≡ ended }
+    ensures ok { OnOk ended (out.new.items ≡ out.old.items) }
+    ensures err { OnErr ended (out.new.items ≡ take start out.old.items) }
+{
+    if ended.is_err() {
+        out.truncate(start);
+    }
+    ended
+}
+
+// Adds the shortest unsigned LEB128. After a refusal a part of it may be there.
+#[tactic(auto, using(crate::proofs::PutLemmas::begun_unsigned, crate::proofs::PutLemmas::put_unsigned, crate::proofs::PutLemmas::last_unsigned, crate::proofs::PutLemmas::begun_extends))]
+fn add_uleb(out: &mut Vec<u8>, n: u64) -> Result<(), EncodeFault>
+    ensures ok { OnOk result (Appends UnsignedLeb n out.old.items out.new.items) }
+    ensures err { IfErr result (λ fault. fault ≡ EncodeFault.Memory) }
+    ensures extends { OnErr result (Extends out.old.items out.new.items) }
+{
+    let mut rest = n;
+    while rest >= 128 {
+        out.push((rest % 128) as u8 + 128)?;
+        rest /= 128;
+    }
+    out.push(rest as u8)?;
+    Ok(())
+}
+
+// Adds the shortest signed LEB128. After a refusal a part of it may be there.
+#[tactic(auto, using(crate::proofs::PutLemmas::begun_signed, crate::proofs::PutLemmas::begun_extends))]
+fn add_sleb(out: &mut Vec<u8>, z: i64) -> Result<(), EncodeFault>
+    ensures ok { OnOk result (Appends SignedLeb z out.old.items out.new.items) }
+    ensures err { IfErr result (λ fault. fault ≡ EncodeFault.Memory) }
+    ensures extends { OnErr result (Extends out.old.items out.new.items) }
+{
+    let mut rest = z;
+    while rest < -64 || rest >= 64 {
+        out.push(low_group(rest) + 128)?;
+        rest = rest.div_euclid(128);
+    }
+    out.push(low_group(rest))?;
+    Ok(())
+}
+
+// The low seven bits, in two's complement.
+fn low_group(z: i64) -> u8
+    ensures value { int_rem_euclid z (pos 128) ≡ pos result }
+    ensures low { result < 128 }
+{
+    z.rem_euclid(128) as u8
+}
+
+// Adds the value in its form. After a refusal a part of it may be there.
+fn add_form(
+    out: &mut Vec<u8>,
+    value: &FormValue,
+    format: Format,
+    order: Order,
+) -> Result<(), EncodeFault>
+    requires { HasSpelling value.now }
+    ensures ok { OnOk result (Appends (FormBytes format order) value.now out.old.items out.new.items) }
+    ensures too_large { IsErrOf result EncodeFault.TooLarge ↔ IsTooLarge format value.now }
+    ensures extends { OnErr result (Extends out.old.items out.new.items) }
+{
+    match value {
+        FormValue::Text(text) => add_text(out, text.as_slice()),
+        FormValue::LineStrp(offset) => put_offset(out, *offset, format, order),
+        FormValue::Strp(offset) => put_offset(out, *offset, format, order),
+        FormValue::Udata(n) => put_uleb(out, *n),
+        FormValue::Data1(n) => Ok(out.push(*n)?),
+        FormValue::Data2(n) => put_u16(out, *n, order),
+        FormValue::Data4(n) => put_u32(out, *n, order),
+        FormValue::Data8(n) => put_u64(out, *n, order),
+        FormValue::Data16(bytes) => Ok(out.extend_from_slice(bytes)?),
+        FormValue::Block(block) => add_block(out, block.as_slice(), Prefix::Leb, order),
+        FormValue::Block1(block) => add_block(out, block.as_slice(), Prefix::One, order),
+        FormValue::Block2(block) => add_block(out, block.as_slice(), Prefix::Two, order),
+        FormValue::Block4(block) => add_block(out, block.as_slice(), Prefix::Four, order),
+    }
+}
+
+// Adds the bytes of a text, and a zero byte. After a refusal a part of it may be there.
+fn add_text(out: &mut Vec<u8>, text: &[u8]) -> Result<(), EncodeFault>
+    requires { HasNoZero text.now }
+    ensures ok { OnOk result (Appends TextBytes text.now out.old.items out.new.items) }
+    ensures err { IfErr result (λ fault. fault ≡ EncodeFault.Memory) }
+    ensures extends { OnErr result (Extends out.old.items out.new.items) }
+{
+    out.extend_from_slice(text)?;
+    out.push(0)?;
+    Ok(())
+}
+
+// Adds the length of a block, and its bytes. After a refusal a part of it may be there.
+fn add_block(
+    out: &mut Vec<u8>,
+    block: &[u8],
+    prefix: Prefix,
+    order: Order,
+) -> Result<(), EncodeFault>
+    requires { LengthFits prefix (length block.now) }
+    ensures ok { OnOk result (Appends (BlockBytes (LengthBytes order prefix)) block.now out.old.items out.new.items) }
+    ensures err { IfErr result (λ fault. fault ≡ EncodeFault.Memory) }
+    ensures extends { OnErr result (Extends out.old.items out.new.items) }
+{
+    add_length(out, block.len(), prefix, order)?;
+    out.extend_from_slice(block)?;
+    Ok(())
+}
+
+// Adds the length of a block.
+fn add_length(
+    out: &mut Vec<u8>,
+    length: usize,
+    prefix: Prefix,
+    order: Order,
+) -> Result<(), EncodeFault>
+    requires { LengthFits prefix length }
+    ensures ok { OnOk result (Appends (LengthBytes order prefix) length out.old.items out.new.items) }
+    ensures err { IfErr result (λ fault. fault ≡ EncodeFault.Memory) }
+    ensures unchanged { OnErr result (out.new.items ≡ out.old.items) }
+{
+    match prefix {
+        Prefix::Leb => put_uleb(out, length as u64),
+        Prefix::One => Ok(out.push(length as u8)?),
+        Prefix::Two => put_u16(out, length as u16, order),
+        Prefix::Four => put_u32(out, length as u32, order),
+    }
+}

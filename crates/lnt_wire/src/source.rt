@@ -1,0 +1,110 @@
+//! Where the bytes of a section come from, some at a time.
+ghost use Rattle.std.specs.Prelude.{◌≡◌, ◌≢◌, ℕ, ◌+◌, ◌-◌, ◌^◌, ◌<◌, ◌≤◌, length, IfOk, IfErr, IsErrOf, IfSome, IsTrue, true, Bool, Option, List, MatchResult, take};
+ghost use Rattle.lnt_wire.specs.Pulling.{Pulls, GivesMore, IsAtEnd, HasMoreThan};
+
+use std::alloc::Global;
+
+/// A source failed to give its next bytes (refusal 34).
+#[derive(Clone, Copy, Debug, PartialEq, Eq)]
+pub struct ReadFault;
+
+/// Gives bytes, some at a time, up to a limit, and may fail.
+///
+/// Its meaning is in four ghost members: the bytes that it has to give from here on, where it tells them; how
+/// often it failed; whether it was found to have more bytes than it may give; and how many it may still give.
+pub trait Source {
+    ghost remaining: { Self → Option (List ℕ) };
+
+    ghost failures: { Self → ℕ };
+
+    ghost too_long: { Self → Bool };
+
+    ghost left: { Self → ℕ };
+
+    /// Puts the next bytes into the front of `buf`, and answers how many.
+    ///
+    /// It answers 0 with room in `buf` only at their end, or where the source is too long. A refusal, and nothing
+    /// else, raises the number of failures, by one; of `buf` and of the bytes that are left it says nothing. The
+    /// caller sees to it that the number of failures is below `u64::MAX`.
+    fn pull(&mut self, buf: &mut [u8]) -> Result<usize, ReadFault>
+        requires { failures self.old < 2 ^ 64 - 1 }
+        ensures bound { IfOk result (λ k. k ≤ length buf.new) }
+        ensures bytes { IfOk result (λ k. Pulls (remaining self.old) (remaining self.new) (take k buf.new)) }
+        ensures end { IfOk result (λ k. k ≡ 0 → 0 < length buf.new → IsAtEnd (remaining self.new) (too_long self.new)) }
+        ensures left { IfOk result (λ k. left self.new + k ≡ left self.old) }
+        ensures failures { MatchResult result (λ _. failures self.new ≡ failures self.old) (λ _. failures self.new ≡ failures self.old + 1) };
+
+    /// How often a pull was refused.
+    fn failures(&self) -> u64
+        ensures { result ≡ failures self.now };
+
+    /// Whether the source was found to have more bytes than it may give.
+    fn too_long(&self) -> bool
+        ensures { result ≡ too_long self.now };
+
+    /// How many bytes the source may still give, at most.
+    fn left(&self) -> u64
+        ensures { result ≡ left self.now };
+
+    // A source that is too long has more bytes than it may still give.
+    ghost more: { (s : Self) → too_long s ≡ true → HasMoreThan (remaining s) (left s) };
+}
+
+/// Why the bytes of a source were not taken.
+#[derive(Clone, Copy, Debug, PartialEq, Eq)]
+pub enum SourceStop {
+    /// 33: memory ran out.
+    Memory,
+    /// 34: the source failed.
+    Read,
+    /// 35: the source has more bytes than it may give.
+    TooLong,
+}
+
+// How many bytes are asked of a source at once.
+const BLOCK: usize = 1 << 16;
+
+// Takes the next bytes of the source, a block at most, right into the room behind those that were taken. It
+// answers how many came.
+
+fn take_block<R: Source>(source: &mut R, all: &mut Vec<u8>) -> Result<usize, SourceStop>
+    requires { R.failures source.old < 2 ^ 64 - 1 }
+    ensures bytes { IfOk result (λ k. GivesMore (R.remaining source.old) (R.remaining source.new) all.old.items all.new.items k) }
+    ensures end { IfOk result (λ k. k ≡ 0 → IsAtEnd (R.remaining source.new) (R.too_long source.new)) }
+    ensures left { IfOk result (λ k. R.left source.new + k ≡ R.left source.old) }
+    ensures read { IsErrOf result SourceStop.Read → R.failures source.new ≡ R.failures source.old + 1 }
+    ensures no_failure { result ≢ Err SourceStop.Read → R.failures source.new ≡ R.failures source.old }
+    ensures not_long { IsErrOf result SourceStop.TooLong → ⊥ }
+{
+    let start = all.len();
+    if all.resize(start + BLOCK, 0).is_err() {
+        return Err(SourceStop::Memory);
+    }
+    let Ok(count) = source.pull(&mut all[start..]) else {
+        return Err(SourceStop::Read);
+    };
+    all.truncate(start + count);
+    Ok(count)
+}
+
+/// All bytes that the source has to give.
+///
+/// It stops with `Memory`; with `Read` only where the source failed, which is not tried again; and with
+/// `TooLong` only where the source is too long. Nothing is reserved ahead of the bytes that come, but for one
+/// block. The caller sees to it that the number of failures is below `u64::MAX`.
+#[tactic(auto, using(crate::proofs::PullLemmas::pulls_none, crate::proofs::PullLemmas::pulls_more, crate::proofs::PullLemmas::pulls_all, crate::proofs::PullLemmas::more_from_start))]
+pub fn read_all<R: Source>(alloc: Global, source: &mut R) -> Result<Vec<u8>, SourceStop>
+    requires { R.failures source.old < 2 ^ 64 - 1 }
+    ensures ok { IfOk result (λ all. IfSome (R.remaining source.old) (λ bytes. all.items ≡ bytes)) }
+    ensures read { IsErrOf result SourceStop.Read → R.failures source.new ≡ R.failures source.old + 1 }
+    ensures no_failure { result ≢ Err SourceStop.Read → R.failures source.new ≡ R.failures source.old }
+    ensures too_long { IsErrOf result SourceStop.TooLong → IsTrue (R.too_long source.new) }
+    ensures more { IsErrOf result SourceStop.TooLong → HasMoreThan (R.remaining source.old) (R.left source.old) }
+{
+    let mut all = Vec::new(alloc);
+    while take_block(source, &mut all)? > 0 {}
+    if source.too_long() {
+        return Err(SourceStop::TooLong);
+    }
+    Ok(all)
+}

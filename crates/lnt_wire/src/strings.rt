@@ -1,0 +1,64 @@
+//! The texts of strings (DWARF 5, sections 7.5.5 and 7.26).
+ghost use Rattle.std.specs.Prelude.{◌≡◌, ◌<◌, length, take, drop, get_or, MatchOption};
+ghost use Rattle.std.specs.Option.{option_map};
+ghost use Rattle.lnt_wire.specs.FormBytes.{HasNoZero};
+ghost use Rattle.lnt_wire.specs.Texts.{text_of, up_to_zero};
+
+use crate::form::FormValue;
+
+/// The string sections that offsets lead into.
+#[derive(Clone, Copy)]
+pub struct Strings<'a> {
+    /// The bytes of `.debug_line_str`.
+    pub line: &'a [u8],
+    /// The bytes of `.debug_str`.
+    pub general: &'a [u8],
+}
+
+impl<'a> Strings<'a> {
+    /// The text of the value: a `Text`'s own bytes; for a `LineStrp` or a `Strp` those of its section from the offset
+    /// up to the first zero byte.
+    ///
+    /// None exactly where the offset is outside of the section, no zero byte follows, or the value is no string. It
+    /// takes no memory.
+    pub fn text<'s>(&'s self, value: &'s FormValue) -> Option<&'s [u8]>
+        ensures { option_map (λ text. text.now) result ≡ text_of self.now.line.now self.now.general.now value.now }
+    {
+        match value {
+            FormValue::Text(text) => Some(text.as_slice()),
+            FormValue::LineStrp(offset) => text_at(self.line, *offset),
+            FormValue::Strp(offset) => text_at(self.general, *offset),
+            _ => None,
+        }
+    }
+}
+
+// The text at the offset.
+#[tactic(auto, using(crate::proofs::TextLemmas::no_end, crate::proofs::TextLemmas::first_end))]
+fn text_at(section: &[u8], offset: u64) -> Option<&[u8]>
+    ensures { option_map (λ text. text.now) result ≡ up_to_zero (drop offset section.now) }
+{
+    if offset > section.len() as u64 {
+        return None;
+    }
+    let (_, bytes) = section.split_at(offset as usize);
+    let Some(size) = text_size(bytes) else {
+        return None;
+    };
+    let (text, _) = bytes.split_at(size);
+    Some(text)
+}
+
+// How many bytes stand before the first zero byte, where there is one.
+#[tactic(auto, using(crate::proofs::TextLemmas::no_zero_more))]
+pub(crate) fn text_size(bytes: &[u8]) -> Option<usize>
+    ensures { MatchOption result (HasNoZero bytes.now)
+        (λ size. (size < length bytes.now) × HasNoZero (take size bytes.now) × (get_or bytes.now size 0 ≡ 0)) }
+{
+    for (i, byte) in bytes.iter().enumerate() {
+        if *byte == 0 {
+            return Some(i);
+        }
+    }
+    None
+}

@@ -1,0 +1,4 @@
+mod frames;
+mod numbers;
+mod sources;
+mod values;

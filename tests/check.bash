@@ -1,0 +1,38 @@
+# For the scripts of tests/: runs a command and compares what it writes and its exit status with what is wanted.
+passed=0
+failed=0
+work=$(mktemp -d) || exit 1
+trap 'rm -rf "$work"' EXIT
+
+# Builds the program, where it isn't built.
+./linetab --help >/dev/null || exit 1
+
+# The bytes of hexadecimal digits.
+bytes() {
+  printf '%b' "$(printf '%s' "$*" | tr -d ' \n' | sed 's/../\\x&/g')"
+}
+
+# expect NAME STATUS STDOUT STDERR COMMAND..: STDOUT and STDERR as $'..' texts, byte for byte.
+expect() {
+  local name=$1 status=$2 out=$3 err=$4 given
+  shift 4
+  "$@" >"$work/out" 2>"$work/err"
+  given=$?
+  printf '%s' "$out" >"$work/out.wanted"
+  printf '%s' "$err" >"$work/err.wanted"
+  if [ "$given" -eq "$status" ] && cmp -s "$work/out" "$work/out.wanted" && cmp -s "$work/err" "$work/err.wanted"; then
+    passed=$((passed + 1))
+    return
+  fi
+  failed=$((failed + 1))
+  echo "failed: $name: status $given, wanted $status"
+  diff "$work/out.wanted" "$work/out" | head -n 10
+  diff "$work/err.wanted" "$work/err" | head -n 10
+}
+
+# Prints the counts, and ends the script.
+finish() {
+  echo "$passed passed, $failed failed"
+  [ "$failed" -eq 0 ]
+  exit
+}

@@ -1,0 +1,48 @@
+#!/usr/bin/env bash
+# Each request for memory refused in turn: the program stops for want of memory, or gives its answer where the
+# library tried again in another way. It never gives another answer.
+cd "$(dirname "$0")/.." || exit 1
+. tests/check.bash
+cc -O1 -shared -fPIC -o "$work/refuse.so" tests/refuse_memory.c -ldl || exit 1
+program=crates/linetab/out/linetab
+
+# in_turn NAME WORD..: what the program does with ample memory, and with the Nth request refused, for each N
+# until a run meets no refusal.
+in_turn() {
+  local name=$1 status n=0 met=0 wanted
+  shift
+  "$program" "$@" >"$work/wanted" 2>&1
+  wanted=$?
+  while [ "$n" -lt 500 ]; do
+    n=$((n + 1))
+    rm -f "$work/met"
+    REFUSE=$n REFUSED=$work/met LD_PRELOAD=$work/refuse.so "$program" "$@" >"$work/out" 2>"$work/err"
+    status=$?
+    [ -e "$work/met" ] && met=$((met + 1))
+    cat "$work/out" "$work/err" >"$work/both"
+    if [ "$status" -eq 4 ] && [ "$(cat "$work/err")" = 'linetab: out of memory' ] && [ -e "$work/met" ]; then
+      continue
+    fi
+    if [ "$status" -ne "$wanted" ] || ! cmp -s "$work/both" "$work/wanted"; then
+      echo "failed: $name: with request $n refused, status $status:" "$(head -c 200 "$work/both")"
+      failed=$((failed + 1))
+      return
+    fi
+    [ -e "$work/met" ] || break
+  done
+  if [ "$met" -lt 10 ] || [ "$n" -eq 500 ]; then
+    echo "failed: $name: $met of $n requests were refused"
+    failed=$((failed + 1))
+    return
+  fi
+  passed=$((passed + 1))
+}
+
+in_turn 'one unit' units examples/hello.debug_line
+in_turn 'eight units' units examples/gc-sections.debug_line
+cat examples/gc-sections.debug_line{,,,,,,,,,} examples/README.md >"$work/many"
+in_turn 'many units and a fault' units "$work/many"
+in_turn 'help' units --help
+in_turn 'no such file' units "$work/none"
+in_turn 'usage' units
+finish

@@ -1,0 +1,36 @@
+#!/usr/bin/env bash
+# The program as a process: its streams, its texts and its exit statuses.
+cd "$(dirname "$0")/.." || exit 1
+. tests/check.bash
+top=$PWD
+stop() { # NAME STATUS STDERR COMMAND..: nothing on standard output
+  expect "$1" "$2" '' "$3" "${@:4}"
+}
+usage=$'\nUsage: linetab units [OPTIONS] <SECTION>\n\nFor more information, try \'--help\'.\n'
+
+expect 'a name' 0 $'0x0 32 156\n' '' ./linetab units examples/hello.debug_line
+expect 'standard input' 0 $'0x0 32 156\n' '' ./linetab units - <examples/hello.debug_line
+expect 'a pipe' 0 $'0x0 32 156\n' '' bash -c 'cat examples/hello.debug_line | ./linetab units -'
+expect 'another folder' 0 $'0x0 32 156\n' '' bash -c "cd /tmp && '$top/linetab' units '$top/examples/hello.debug_line'"
+expect 'a link to the launcher' 0 $'0x0 32 156\n' '' bash -c "ln -s '$top/linetab' '$work/link' && '$work/link' units examples/hello.debug_line"
+expect 'an empty section' 0 '' '' ./linetab units /dev/null
+expect 'behind two dashes' 0 $'0x0 32 156\n' '' ./linetab units -- examples/hello.debug_line
+
+head -c 100 examples/hello.debug_line >"$work/cut"
+expect 'a cut section' 1 $'no 25 malformed at 0x0: truncated\n' '' ./linetab units "$work/cut"
+cat examples/hello.debug_line "$work/cut" >"$work/second_cut"
+expect 'a cut second unit' 1 $'0x0 32 156\nno 25 malformed at 0xa0: truncated\n' '' ./linetab units "$work/second_cut"
+(bytes 'f0 ff ff ff') >"$work/reserved"
+expect 'a reserved length' 1 $'no 25 malformed at 0x0: reserved length\n' '' ./linetab units "$work/reserved"
+
+stop 'no such file' 3 $'linetab: cannot read no such file\n' ./linetab units 'no such file'
+stop 'a folder' 3 $'linetab: cannot read tests\n' ./linetab units tests
+stop 'closed standard input' 3 $'linetab: cannot read -\n' bash -c './linetab units - <&-'
+stop 'a full device' 3 $'linetab: cannot write\n' bash -c './linetab units examples/hello.debug_line >/dev/full'
+stop 'a closed standard output' 3 $'linetab: cannot write\n' bash -c './linetab units examples/hello.debug_line >&-'
+stop 'a closed pipe' 3 $'linetab: cannot write\n' bash -c '{ sleep 0.2; ./linetab units examples/hello.debug_line; echo $? >"$0/status"; } | true; exit "$(cat "$0/status")"' "$work"
+stop 'an option twice' 2 $'error: the argument \'--big\' cannot be used multiple times\n'"$usage" ./linetab units - --big --big
+stop 'an unknown option' 2 $'error: unexpected argument \'--bog\' found\n\n  tip: a similar argument exists: \'--big\'\n\nUsage: linetab units --big <SECTION>\n\nFor more information, try \'--help\'.\n' ./linetab units --bog x
+stop 'a second section' 2 $'error: unexpected argument \'y\' found\n'"$usage" ./linetab units x y
+stop 'a word that is no text' 2 $'error: a word isn\'t UTF-8\n\nFor more information, try \'--help\'.\n' ./linetab units $'\xff'
+finish
