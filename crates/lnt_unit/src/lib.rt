@@ -4,6 +4,7 @@
 mod unit;
 
 pub use lnt_header::{
-    Entry, Header, HeaderParts, Op, OpView, Operands, Pair, UnitFault, Which, decode_header, encode_header,
+    Entry, Header, HeaderParts, Op, OpView, Operands, Pair, UnitFault, Which, decode_header,
+    encode_header,
 };
 pub use unit::{Parts, Unit};
