@@ -4,6 +4,7 @@
 //! nothing of the system itself: a program hands it an [`Opener`] and a writer.
 #![tactic(auto)]
 
+mod dump;
 mod opener;
 mod program;
 mod stop;

@@ -3,6 +3,7 @@ ghost use Rattle.std.specs.Prelude.{IfErr};
 ghost use Rattle.std.specs.Io.KnownBytes.{Keeps};
 ghost use Rattle.lnt_cli.specs.Stops.{IsUsage};
 
+use crate::dump::print_dump;
 use crate::opener::{Opener, read_file};
 use crate::stop::{CliStop, Status};
 use crate::units::print_units;
@@ -25,14 +26,16 @@ pub fn run<O: Opener, W: Write>(
 {
     match request_of(alloc, words.as_slice())? {
         Request::Help(text) => {
-            if out.write_all(text.as_bytes()).is_err() {
-                return Err(CliStop::Write);
-            }
+            out.write_all(text.as_bytes())?;
             Ok(Status::Done)
         }
         Request::Units { section, order } => {
             let section = read_file(alloc, opener, section)?;
             print_units(alloc, section.as_slice(), order, out)
+        }
+        Request::Dump { section, order } => {
+            let section = read_file(alloc, opener, section)?;
+            print_dump(alloc, section.as_slice(), order, out)
         }
     }
 }

@@ -1,8 +1,9 @@
 //! How a run ends.
 ghost use Rattle.std.specs.Prelude.{◌≡◌};
-ghost use Rattle.lnt_cli.specs.declared.stop.CliStop.TheVariants.{Memory};
+ghost use Rattle.lnt_cli.specs.declared.stop.CliStop.TheVariants.{Memory, Write};
 
 use std::alloc::AllocError;
+use std::io;
 use thiserror::Error;
 
 /// How a run ended that nothing stopped.
@@ -39,5 +40,14 @@ impl From<AllocError> for CliStop {
 
     fn from(_error: AllocError) -> CliStop {
         CliStop::Memory
+    }
+}
+
+// Only writes fail so: a failed read is told by its source.
+impl From<io::Error> for CliStop {
+    ghost from_gives = { λ _ stop. stop ≡ Write };
+
+    fn from(_error: io::Error) -> CliStop {
+        CliStop::Write
     }
 }

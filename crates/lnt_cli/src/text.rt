@@ -1,6 +1,11 @@
 //! How values are printed.
+ghost use Rattle.std.specs.Prelude.{IfErr};
+ghost use Rattle.lnt_cli.specs.Stops.{IsUsage};
+
+use crate::stop::{CliStop, Status};
 use lnt_wire::{Fault, Format, Reason};
 use std::fmt;
+use std::io::Write;
 
 // The width that a format is named by.
 pub(crate) fn width_of(format: Format) -> u8 {
@@ -10,9 +15,38 @@ pub(crate) fn width_of(format: Format) -> u8 {
     }
 }
 
+// A text between quotes. Each byte that isn't printable, and each quote and backslash, is written by its digits.
+#[derive(Clone, Copy)]
+pub(crate) struct Quoted<'a>(pub(crate) &'a [u8]);
+
+impl fmt::Display for Quoted<'_> {
+    fn fmt<W: fmt::Write>(&self, f: &mut fmt::Formatter<W>) -> fmt::Result {
+        f.write_char('"')?;
+        for &byte in self.0 {
+            match byte {
+                b'"' | b'\\' => write!(f, "\\x{byte:02x}")?,
+                b' '..=b'~' => f.write_char(char::from(byte))?,
+                _ => write!(f, "\\x{byte:02x}")?,
+            }
+        }
+        f.write_char('"')
+    }
+}
+
+// Prints the line that says which bytes are refused, and why.
+pub(crate) fn print_fault<W: Write>(fault: Fault, out: &mut W) -> Result<Status, CliStop>
+    ensures { IfErr result (λ stop. IsUsage stop → ⊥) }
+{
+    if fault.reason == Reason::Memory {
+        return Err(CliStop::Memory);
+    }
+    writeln!(out, "{}", MalformedLine(fault))?;
+    Ok(Status::No)
+}
+
 // The line that says which bytes are refused, and why.
 #[derive(Clone, Copy)]
-pub(crate) struct MalformedLine(pub(crate) Fault);
+struct MalformedLine(Fault);
 
 impl fmt::Display for MalformedLine {
     fn fmt<W: fmt::Write>(&self, f: &mut fmt::Formatter<W>) -> fmt::Result {

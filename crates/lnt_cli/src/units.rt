@@ -3,7 +3,7 @@ ghost use Rattle.std.specs.Prelude.{IfErr};
 ghost use Rattle.lnt_cli.specs.Stops.{IsUsage};
 
 use crate::stop::{CliStop, Status};
-use crate::text::{MalformedLine, width_of};
+use crate::text::{print_fault, width_of};
 use lnt_wire::{Frame, Order, frames};
 use std::alloc::Global;
 use std::io::Write;
@@ -23,24 +23,16 @@ pub(crate) fn print_units<W: Write>(
     for frame in &framed.frames {
         print_frame(frame, out)?;
     }
-    let Some(fault) = framed.fault else {
-        return Ok(Status::Done);
-    };
-    let line = MalformedLine(fault);
-    if writeln!(out, "{line}").is_err() {
-        return Err(CliStop::Write);
+    match framed.fault {
+        None => Ok(Status::Done),
+        Some(fault) => print_fault(fault, out),
     }
-    Ok(Status::No)
 }
 
 fn print_frame<W: Write>(frame: &Frame<'_>, out: &mut W) -> Result<(), CliStop>
     ensures { IfErr result (λ stop. IsUsage stop → ⊥) }
 {
-    let offset = frame.offset;
-    let width = width_of(frame.format);
-    let length = frame.length;
-    if writeln!(out, "0x{offset:x} {width} {length}").is_err() {
-        return Err(CliStop::Write);
-    }
+    let (offset, width, length) = (frame.offset, width_of(frame.format), frame.length);
+    writeln!(out, "0x{offset:x} {width} {length}")?;
     Ok(())
 }

@@ -12,6 +12,8 @@ pub(crate) enum Request<'a> {
     Help(String),
     // A line for each unit of a section.
     Units { section: &'a str, order: Order },
+    // The headers of the units of a section.
+    Dump { section: &'a str, order: Order },
 }
 
 // What the words ask for, of which the first is the program's name.
@@ -33,11 +35,20 @@ pub(crate) fn request_of<'a>(alloc: Global, words: &'a [String]) -> Result<Reque
 fn request_in<'a>(matches: &ArgMatches<'a>) -> Result<Request<'a>, CliStop> {
     match matches.subcommand() {
         Some(("units", units)) => Ok(Request::Units {
-            section: units.get_str("SECTION").ok_or(CliStop::Memory)?,
+            section: section_in(units)?,
             order: order_in(units),
+        }),
+        Some(("dump", dump)) => Ok(Request::Dump {
+            section: section_in(dump)?,
+            order: order_in(dump),
         }),
         _ => Err(CliStop::Memory),
     }
+}
+
+// The name of the section's file, which is required.
+fn section_in<'a>(matches: &ArgMatches<'a>) -> Result<&'a str, CliStop> {
+    matches.get_str("SECTION").ok_or(CliStop::Memory)
 }
 
 fn order_in(matches: &ArgMatches<'_>) -> Order {
@@ -53,12 +64,20 @@ fn command_of<'a>(alloc: Global) -> Result<Command<'a>, AllocError> {
     Command::new(alloc, "linetab")
         .about("Reads and checks DWARF 5 line number sections")
         .subcommand_required(true)
-        .subcommand(units_command(alloc)?)
+        .subcommand(units_command(alloc)?)?
+        .subcommand(dump_command(alloc)?)
 }
 
 fn units_command<'a>(alloc: Global) -> Result<Command<'a>, AllocError> {
     Command::new(alloc, "units")
         .about("Prints the offset, the format and the length of each unit of a section")
+        .arg(section_argument(alloc))?
+        .arg(big_option(alloc))
+}
+
+fn dump_command<'a>(alloc: Global) -> Result<Command<'a>, AllocError> {
+    Command::new(alloc, "dump")
+        .about("Prints the header of each unit of a section, with its directories and files")
         .arg(section_argument(alloc))?
         .arg(big_option(alloc))
 }
