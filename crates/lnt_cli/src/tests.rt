@@ -1,3 +1,5 @@
+mod dump;
+
 use super::*;
 use std::alloc::{AllocError, Global};
 use std::io::{self, Read, Write};
@@ -240,7 +242,7 @@ fn stops_and_their_texts(rt: HostRuntime) -> Result<(), Fail> {
         ),
         (
             "linetab",
-            "error: 'linetab' requires a subcommand but one was not provided\n  [subcommands: units, help]\n\nUsage: linetab <COMMAND>\n\nFor more information, try '--help'.\n",
+            "error: 'linetab' requires a subcommand but one was not provided\n  [subcommands: units, dump, help]\n\nUsage: linetab <COMMAND>\n\nFor more information, try '--help'.\n",
         ),
     ] {
         let mut out = Vec::new(alloc);

@@ -1,0 +1,127 @@
+use super::{OneFile, PLAIN, WIDE};
+use crate::{Status, run};
+use std::alloc::{AllocError, Global};
+use std::test::Fail;
+
+// What the command prints of the file of these bytes, and how it ends.
+fn dumped(alloc: Global, bytes: &[u8], line: &str) -> Result<(String, Status), Fail> {
+    let mut out = Vec::new(alloc);
+    let status = run(
+        alloc,
+        super::words(alloc, line)?,
+        &mut OneFile::of(bytes),
+        &mut out,
+    )?;
+    Ok((String::from_utf8(out)?, status))
+}
+
+// The bytes with others in the place of some of them.
+fn spliced(alloc: Global, front: &[u8], middle: &[u8], back: &[u8]) -> Result<Vec<u8>, AllocError> {
+    let mut bytes = Vec::from_slice(alloc, front)?;
+    bytes.extend_from_slice(middle)?;
+    bytes.extend_from_slice(back)?;
+    Ok(bytes)
+}
+
+const PLAIN_TEXT: &str =
+    "unit 0x0 32 67\nheader 8 1 1 1 -5 14 13\ndir 0 1=\"/s\"\nfile 0 1=\"a.c\" 2=0\nfile 1 1=\"a.c\" 2=0\n";
+
+#[test]
+fn headers_of_whole_units(rt: HostRuntime) -> Result<(), Fail> {
+    let alloc = rt.alloc();
+    let (text, status) = dumped(alloc, &PLAIN, "linetab dump F")?;
+    assert_eq!(rt; (text.as_str(), status), (PLAIN_TEXT, Status::Done));
+    let (text, status) = dumped(alloc, &WIDE, "linetab dump --big F")?;
+    assert_eq!(rt; status, Status::Done);
+    assert_eq!(rt;
+        text.as_str().split_once('\n'),
+        Some(("unit 0x0 64 71", &PLAIN_TEXT[15..]))
+    );
+    let (text, status) = dumped(alloc, &[], "linetab dump -")?;
+    assert_eq!(rt; (text.as_str(), status), ("", Status::Done));
+    Ok(())
+}
+
+#[test]
+fn values_of_each_form(rt: HostRuntime) -> Result<(), Fail> {
+    let alloc = rt.alloc();
+    // A directory of twelve components, behind the first 30 bytes, and no file.
+    let table = [
+        12, 1, 0x08, 2, 0x1f, 3, 0x0e, 4, 0x0f, 5, 0x0b, 6, 0x05, 7, 0x06, 8, 0x07, 9, 0x1e, 10,
+        0x09, 0x81, 0x40, 0x0a, 12, 0x04, 1, b'a', b'"', 0x7f, b'\\', b'~', b' ', 0, 0x10, 0, 0, 0,
+        0x20, 0, 0, 0, 0x80, 1, 0xff, 0xfe, 0xff, 4, 3, 2, 1, 8, 7, 6, 5, 4, 3, 2, 1, 0xd4, 0x1d,
+        0x8c, 0xd9, 0x8f, 0, 0xb2, 4, 0xe9, 0x80, 9, 0x98, 0xec, 0xf8, 0x42, 0x7e, 0, 2, 0xaa,
+        0xbb, 1, 0, 0, 0, 0xcc, 0, 0,
+    ];
+    let start = [112, 0, 0, 0, 5, 0, 8, 0, 104];
+    let unit = spliced(alloc, &start, &PLAIN[9..30], &table)?;
+    let text =
+        "unit 0x0 32 112\nheader 8 1 1 1 -5 14 13\ndir 0 1=\"a\\x22\\x7f\\x5c~ \" 2=line_strp:0x10 3=strp:0x20 4=128 5=255 6=65534 7=16909060 8=72623859790382856 9=d41d8cd98f00b204e9800998ecf8427e 10=block: 8193=block:aabb 12=block:cc\n";
+    let (given, status) = dumped(alloc, &unit, "linetab dump F")?;
+    assert_eq!(rt; given.as_str(), text);
+    assert_eq!(rt; status, Status::Done);
+    Ok(())
+}
+
+#[test]
+fn a_fault_behind_whole_units(rt: HostRuntime) -> Result<(), Fail> {
+    let alloc = rt.alloc();
+    for (place, byte, line) in [
+        (16, 0, "no 25 malformed at 0x57: zero line range\n"),
+        (
+            18,
+            1,
+            "no 25 malformed at 0x59: length 1 of standard opcode 1\n",
+        ),
+        (8, 0x3c, "no 25 malformed at 0x4f: header length\n"),
+        (6, 3, "no 25 malformed at 0x4d: address size 3\n"),
+        (7, 1, "no 25 malformed at 0x4e: segment selector size 1\n"),
+        (
+            13,
+            0,
+            "no 25 malformed at 0x54: zero operations per instruction\n",
+        ),
+        (17, 0, "no 25 malformed at 0x58: zero opcode base\n"),
+        (32, 0x0c, "no 25 malformed at 0x67: form 0xc\n"),
+        (32, 0x0a, "no 25 malformed at 0x69: truncated\n"),
+        (4, 4, "no 25 malformed at 0x4b: version 4\n"),
+    ] {
+        let mut second = PLAIN;
+        second[place] = byte;
+        let section = spliced(alloc, &PLAIN, &second, &[])?;
+        let (text, status) = dumped(alloc, &section, "linetab dump F")?;
+        assert_eq!(rt; status, Status::No);
+        assert_eq!(rt; text.as_str().strip_prefix(PLAIN_TEXT), Some(line));
+    }
+    let no_pairs = spliced(alloc, &PLAIN[..30], &[0, 1], &PLAIN[37..])?;
+    let many_files = spliced(
+        alloc,
+        &PLAIN[..42],
+        &[0xff, 0xff, 0xff, 0xff, 0xff, 0xff, 0xff, 0xff, 0xff, 1],
+        &PLAIN[43..],
+    )?;
+    for (mut unit, unit_length, header_length, line) in [
+        (
+            no_pairs,
+            0x3e,
+            0x24,
+            "no 25 malformed at 0x1f: entries without a format\n",
+        ),
+        (
+            many_files,
+            0x4c,
+            0x32,
+            "no 25 malformed at 0x3e: truncated\n",
+        ),
+    ] {
+        if let Some(low) = unit.get_mut(0) {
+            *low = unit_length;
+        }
+        if let Some(low) = unit.get_mut(8) {
+            *low = header_length;
+        }
+        let (text, status) = dumped(alloc, &unit, "linetab dump F")?;
+        assert_eq!(rt; (text.as_str(), status), (line, Status::No));
+    }
+    Ok(())
+}

@@ -1,0 +1,52 @@
+#!/usr/bin/env bash
+# Compares what the program says of a section with what llvm-dwarfdump and readelf say of it, where they are there.
+# peers.sh [SECTION LINE_STR little|big]..: the raw sections; with no words, those of examples/.
+cd "$(dirname "$0")/.." || exit 1
+. tests/check.bash
+
+# A program that has the sections and nothing else, for tools that don't read raw ones.
+image() { # SECTION LINE_STR ORDER
+  local target=elf64-x86-64
+  [ "$3" = big ] && target=elf64-powerpc
+  llvm-objcopy -I binary -O "$target" --rename-section .data=.debug_line "$1" "$work/image" &&
+    llvm-objcopy --add-section ".debug_line_str=$2" "$work/image"
+}
+
+# same NAME: whether the texts `ours` and `theirs` are the same, and not empty.
+same() {
+  if [ -s "$work/ours" ] && cmp -s "$work/ours" "$work/theirs"; then
+    passed=$((passed + 1))
+    return
+  fi
+  failed=$((failed + 1))
+  echo "failed: $1"
+  diff "$work/theirs" "$work/ours" | head -n 10
+}
+
+compare() { # SECTION LINE_STR ORDER
+  local big=
+  [ "$3" = big ] && big=--big
+  image "$@" || { failed=$((failed + 1)); echo "failed: no image of $1"; return; }
+  ./linetab dump $big "$1" | awk -f tests/peers/ours.awk >"$work/headers"
+  cp "$work/headers" "$work/ours"
+  llvm-dwarfdump --debug-line --verbose "$work/image" | awk -f tests/peers/llvm.awk >"$work/theirs"
+  same "headers of $1 by llvm-dwarfdump"
+  sed -E 's/^(unit [^ ]*) [^ ]*/\1/; s/^(file .*) [^ ]*$/\1/' "$work/headers" >"$work/ours"
+  readelf --debug-dump=rawline "$work/image" 2>"$work/err" | awk -f tests/peers/readelf.awk >"$work/theirs"
+  same "headers of $1 by readelf"
+}
+
+for tool in llvm-objcopy llvm-dwarfdump readelf; do
+  command -v "$tool" >/dev/null || { echo "skipped: $tool isn't here"; finish; }
+done
+if [ $# -eq 0 ]; then
+  for name in hello hello-clang gc-sections; do
+    set -- "$@" "examples/$name.debug_line" "examples/$name.debug_line_str" little
+  done
+  set -- "$@" examples/powerpc64.debug_line examples/powerpc64.debug_line_str big
+fi
+while [ $# -ge 3 ]; do
+  compare "$1" "$2" "$3"
+  shift 3
+done
+finish
