@@ -93,6 +93,12 @@ fn a_fault_behind_whole_units(rt: HostRuntime) -> Result<(), Fail> {
         assert_eq!(rt; status, Status::No);
         assert_eq!(rt; text.as_str().strip_prefix(PLAIN_TEXT), Some(line));
     }
+    Ok(())
+}
+
+#[test]
+fn counts_that_are_not_filled(rt: HostRuntime) -> Result<(), Fail> {
+    let alloc = rt.alloc();
     let no_pairs = spliced(alloc, &PLAIN[..30], &[0, 1], &PLAIN[37..])?;
     let many_files = spliced(
         alloc,
