@@ -44,6 +44,7 @@ cat examples/gc-sections.debug_line{,,,,,,,,,} examples/README.md >"$work/many"
 in_turn 'many units and a fault' units "$work/many"
 in_turn 'headers' dump examples/gc-sections.debug_line
 in_turn 'headers with sums' dump --big examples/powerpc64.debug_line
+in_turn 'operations and rows' dump --ops --rows examples/hello.debug_line
 in_turn 'help' units --help
 in_turn 'no such file' units "$work/none"
 in_turn 'usage' units

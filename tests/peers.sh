@@ -34,6 +34,13 @@ compare() { # SECTION LINE_STR ORDER
   sed -E 's/^(unit [^ ]*) [^ ]*/\1/; s/^(file .*) [^ ]*$/\1/' "$work/headers" >"$work/ours"
   readelf --debug-dump=rawline "$work/image" 2>"$work/err" | awk -f tests/peers/readelf.awk >"$work/theirs"
   same "headers of $1 by readelf"
+  ./linetab dump --ops $big "$1" | grep '^op ' >"$work/ours"
+  readelf --debug-dump=rawline "$work/image" 2>"$work/err" | awk -f tests/peers/readelf_ops.awk >"$work/theirs"
+  same "operations of $1 by readelf"
+  # llvm-dwarfdump keeps 16 bits of a column, and no operation index.
+  ./linetab dump --rows $big "$1" | awk '$1 == "row" { print $1, $2, $3, $5, $6, $7 % 65536, $8, $9, $10, $11 }' >"$work/ours"
+  llvm-dwarfdump --debug-line "$work/image" | awk -f tests/peers/llvm_rows.awk >"$work/theirs"
+  same "rows of $1 by llvm-dwarfdump"
 }
 
 for tool in llvm-objcopy llvm-dwarfdump readelf; do

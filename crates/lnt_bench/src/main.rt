@@ -10,6 +10,7 @@ use anyhow::{Result, anyhow, bail};
 use lnt_wire::{Counted, Order, read_all};
 use std::time::Instant;
 use std::{env, fs};
+use walks::Walk;
 
 fn main(rt: HostRuntime) -> Result<()> {
     let alloc = rt.alloc();
@@ -24,6 +25,9 @@ fn main(rt: HostRuntime) -> Result<()> {
     let start = Instant::now(&rt)?;
     let result = match walk.as_str() {
         "leb" => walks::sum_of_lebs(bytes.as_slice(), Order::Little),
+        "ops" => walks::sum_of_section(alloc, bytes.as_slice(), Walk::Ops)?,
+        "rows" => walks::sum_of_section(alloc, bytes.as_slice(), Walk::Rows)?,
+        "units" => walks::sum_of_units(alloc, bytes.as_slice())?,
         _ => return Err(anyhow!("no walk {walk}")),
     };
     let nanoseconds = start.elapsed(&rt)?.as_nanos();

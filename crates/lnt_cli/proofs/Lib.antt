@@ -1,1 +1,1 @@
-pub mod Frames
+pub mod Walks

@@ -1,124 +1,94 @@
 //! The subcommand `dump`.
-ghost use Rattle.std.specs.Prelude.{IfErr};
-ghost use Rattle.lnt_cli.specs.Stops.{IsUsage};
+ghost use Rattle.std.specs.Prelude.{◌-◌, ◌^◌, ◌<◌};
 
-use crate::stop::{CliStop, Status};
-use crate::text::{Quoted, print_fault, width_of};
-use lnt_unit::{Entry, Header, Pair, decode_header};
-use lnt_wire::{Cursor, FormValue, Frame, Order, take_frame};
+use crate::halt::Halt;
+use crate::header::print_header;
+use crate::operations::print_ops;
+use crate::rows::print_rows;
+use crate::stop::Status;
+use crate::text::{print_fault, print_run_fault};
+use crate::units::{Next, next_of};
+use lnt_machine::{Machine, RunFault};
+use lnt_unit::{SectionReader, UnitBuffer, UnitView};
+use lnt_wire::{Order, Source};
 use std::alloc::Global;
 use std::io::Write;
 
-// Prints the header of each unit of the section. At the first fault it prints nothing of that unit, and the fault.
-#[tactic(auto, using(crate::proofs::Frames::frame_long, crate::proofs::Frames::frame_placed, crate::proofs::Frames::room_behind))]
-pub(crate) fn print_dump<W: Write>(
+// What is printed of a unit behind its header.
+#[derive(Clone, Copy)]
+pub(crate) struct Shown {
+    pub(crate) ops: bool,
+    pub(crate) rows: bool,
+}
+
+// Prints the units of the section. At the first fault it prints nothing of that unit, and the fault.
+pub(crate) fn print_dump<R: Source, W: Write>(
     alloc: Global,
-    section: &[u8],
+    source: &mut R,
     order: Order,
+    shown: Shown,
     out: &mut W,
-) -> Result<Status, CliStop>
-    ensures { IfErr result (λ stop. IsUsage stop → ⊥) }
+) -> Result<Status, Halt>
+    requires { R.failures source.old < 2 ^ 64 - 1 }
 {
-    let mut cursor = Cursor::new(section, 0, order);
-    while !cursor.rest().is_empty() {
-        let frame = match take_frame(&mut cursor) {
-            Ok(frame) => frame,
-            Err(fault) => return print_fault(fault, out),
+    let mut reader = SectionReader::new(source, order);
+    loop {
+        let unit = match next_of(alloc, &mut reader)? {
+            Next::Unit(unit) => unit,
+            Next::Fault(fault) => return print_fault(fault, out),
+            Next::End => return Ok(Status::Done),
         };
-        match decode_header(alloc, &frame, order) {
-            Ok((header, _)) => print_header(alloc, &frame, &header, out)?,
-            Err(fault) => return print_fault(fault, out),
+        if print_unit(alloc, &unit, shown, out)? == Status::No {
+            return Ok(Status::No);
         }
+    }
+}
+
+// Prints a unit, or the fault of it.
+fn print_unit<W: Write>(
+    alloc: Global,
+    buffer: &UnitBuffer,
+    shown: Shown,
+    out: &mut W,
+) -> Result<Status, Halt> {
+    let unit = match UnitView::over(alloc, buffer) {
+        Ok(unit) => unit,
+        Err(fault) => return print_fault(fault, out),
+    };
+    if let Err(fault) = unit.operation_count() {
+        return print_fault(fault, out);
+    }
+    if shown.rows {
+        if let Err(fault) = run(&unit) {
+            return print_run_fault(buffer.offset(), fault, out);
+        }
+    }
+    print_header(alloc, &buffer.frame(), unit.header(), out)?;
+    if shown.ops {
+        print_ops(alloc, &unit, out)?;
+    }
+    if shown.rows {
+        print_rows(&unit, out)?;
     }
     Ok(Status::Done)
 }
 
-// Prints the lines of a unit's header and of its two tables.
-fn print_header<W: Write>(
-    alloc: Global,
-    frame: &Frame<'_>,
-    header: &Header,
-    out: &mut W,
-) -> Result<(), CliStop>
-    ensures { IfErr result (λ stop. IsUsage stop → ⊥) }
-{
-    let (offset, width, length) = (frame.offset, width_of(frame.format), frame.length);
-    writeln!(out, "unit 0x{offset:x} {width} {length}")?;
-    print_numbers(header, out)?;
-    let directories = header.directories();
-    print_entries(alloc, "dir", header.directory_format(), directories, out)?;
-    print_entries(alloc, "file", header.file_format(), header.files(), out)
-}
-
-fn print_numbers<W: Write>(header: &Header, out: &mut W) -> Result<(), CliStop>
-    ensures { IfErr result (λ stop. IsUsage stop → ⊥) }
-{
-    let address_size = header.address_size();
-    let minimum = header.minimum_instruction_length();
-    let max_ops = header.max_ops();
-    let default_is_stmt = header.default_is_stmt();
-    let line_base = header.line_base();
-    let line_range = header.line_range();
-    let opcode_base = header.opcode_base();
-    writeln!(
-        out,
-        "header {address_size} {minimum} {max_ops} {default_is_stmt} {line_base} {line_range} {opcode_base}"
-    )?;
-    Ok(())
-}
-
-// Prints a line for each entry of a table.
-fn print_entries<W: Write>(
-    alloc: Global,
-    name: &str,
-    format: &[Pair],
-    entries: &[Entry],
-    out: &mut W,
-) -> Result<(), CliStop>
-    ensures { IfErr result (λ stop. IsUsage stop → ⊥) }
-{
-    for (index, entry) in entries.iter().enumerate() {
-        write!(out, "{name} {index}")?;
-        print_components(alloc, format, entry, out)?;
-        writeln!(out)?;
-    }
-    Ok(())
-}
-
-fn print_components<W: Write>(
-    alloc: Global,
-    format: &[Pair],
-    entry: &Entry,
-    out: &mut W,
-) -> Result<(), CliStop>
-    ensures { IfErr result (λ stop. IsUsage stop → ⊥) }
-{
-    for (pair, value) in format.iter().zip(entry.values.as_slice()) {
-        let content = pair.content;
-        write!(out, " {content}=")?;
-        print_value(alloc, value, out)?;
-    }
-    Ok(())
-}
-
-fn print_value<W: Write>(alloc: Global, value: &FormValue, out: &mut W) -> Result<(), CliStop>
-    ensures { IfErr result (λ stop. IsUsage stop → ⊥) }
-{
-    match value {
-        FormValue::Text(text) => write!(out, "{}", Quoted(text.as_slice()))?,
-        FormValue::LineStrp(offset) => write!(out, "line_strp:0x{offset:x}")?,
-        FormValue::Strp(offset) => write!(out, "strp:0x{offset:x}")?,
-        FormValue::Udata(n) | FormValue::Data8(n) => write!(out, "{n}")?,
-        FormValue::Data1(n) => write!(out, "{n}")?,
-        FormValue::Data2(n) => write!(out, "{n}")?,
-        FormValue::Data4(n) => write!(out, "{n}")?,
-        FormValue::Data16(bytes) => write!(out, "{}", hex::encode(alloc, bytes.as_slice())?)?,
-        FormValue::Block(bytes)
-        | FormValue::Block1(bytes)
-        | FormValue::Block2(bytes)
-        | FormValue::Block4(bytes) => {
-            write!(out, "block:{}", hex::encode(alloc, bytes.as_slice())?)?;
+// Runs the program of the unit, which has no fault.
+#[tactic(auto, using(lnt_machine::specs::Laws::Walks::step_allowed))]
+fn run(unit: &UnitView<'_>) -> Result<(), RunFault> {
+    let mut machine = Machine::new(unit.header());
+    let mut open = false;
+    for op in unit.ops() {
+        let Ok(op) = op else {
+            break;
+        };
+        if let Some(row) = machine.step(&op)? {
+            open = !row.end_sequence;
         }
     }
-    Ok(())
+    if open {
+        Err(RunFault::OpenSequence)
+    } else {
+        Ok(())
+    }
 }

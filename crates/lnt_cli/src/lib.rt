@@ -5,8 +5,12 @@
 #![tactic(auto)]
 
 mod dump;
+mod halt;
+mod header;
 mod opener;
+mod operations;
 mod program;
+mod rows;
 mod stop;
 mod text;
 mod units;

@@ -1,14 +1,18 @@
 //! The files that the words name.
-ghost use Rattle.std.specs.Prelude.{IfErr};
+ghost use Rattle.std.specs.Prelude.{◌≡◌, IfOk, IfErr};
 ghost use Rattle.lnt_cli.specs.Stops.{IsUsage};
 
+use crate::halt::Halt;
 use crate::stop::CliStop;
-use lnt_wire::{Counted, SourceStop, read_all};
+use lnt_wire::{Counted, Source};
 use std::alloc::Global;
-use std::io::Read;
+use std::io::{BufReader, Read};
 
 // The most bytes that are read of a file.
 const LIMIT: u64 = 1 << 40;
+
+// How many bytes are read of a file at once.
+const BLOCK: usize = 1 << 16;
 
 /// Gives readers of files by their names.
 pub trait Opener {
@@ -19,21 +23,20 @@ pub trait Opener {
     fn reader_of(&mut self, name: &str) -> Option<Self::Reader>;
 }
 
-// All bytes of the file of this name.
-pub(crate) fn read_file<O: Opener>(
+// The file of this name, as a source of the bytes that it holds. It is read block by block, as they are asked for.
+pub(crate) fn open_file<O: Opener>(
     alloc: Global,
     opener: &mut O,
     name: &str,
-) -> Result<Vec<u8>, CliStop>
-    ensures { IfErr result (λ stop. IsUsage stop → ⊥) }
+) -> Result<Counted<BufReader<O::Reader>>, CliStop>
+    ensures usage { IfErr result (λ stop. IsUsage stop → ⊥) }
+    ensures failures { IfOk result (λ source. ⟦<Counted<BufReader<O::Reader>> as Source>⟧.failures source ≡ 0) }
 {
     let Some(reader) = opener.reader_of(name) else {
-        return Err(CliStop::Read(String::from_str(alloc, name)?));
+        return Err(Halt::Read.of_file(alloc, name));
     };
-    match read_all(alloc, &mut Counted::new(reader, LIMIT)) {
-        Ok(bytes) => Ok(bytes),
-        Err(SourceStop::Memory) => Err(CliStop::Memory),
-        Err(SourceStop::Read) => Err(CliStop::Read(String::from_str(alloc, name)?)),
-        Err(SourceStop::TooLong) => Err(CliStop::TooLong(String::from_str(alloc, name)?)),
-    }
+    let Ok(reader) = BufReader::with_capacity(alloc, BLOCK, reader) else {
+        return Err(CliStop::Memory);
+    };
+    Ok(Counted::new(reader, LIMIT))
 }

@@ -4,7 +4,8 @@ ghost use Rattle.std.specs.Io.KnownBytes.{Keeps};
 ghost use Rattle.lnt_cli.specs.Stops.{IsUsage};
 
 use crate::dump::print_dump;
-use crate::opener::{Opener, read_file};
+use crate::halt::Halt;
+use crate::opener::{Opener, open_file};
 use crate::stop::{CliStop, Status};
 use crate::units::print_units;
 use crate::words::{Request, request_of};
@@ -30,12 +31,28 @@ pub fn run<O: Opener, W: Write>(
             Ok(Status::Done)
         }
         Request::Units { section, order } => {
-            let section = read_file(alloc, opener, section)?;
-            print_units(alloc, section.as_slice(), order, out)
+            let mut source = open_file(alloc, opener, section)?;
+            let ended = print_units(alloc, &mut source, order, out);
+            of_file(alloc, section, ended)
         }
-        Request::Dump { section, order } => {
-            let section = read_file(alloc, opener, section)?;
-            print_dump(alloc, section.as_slice(), order, out)
+        Request::Dump {
+            section,
+            order,
+            shown,
+        } => {
+            let mut source = open_file(alloc, opener, section)?;
+            let ended = print_dump(alloc, &mut source, order, shown, out);
+            of_file(alloc, section, ended)
         }
+    }
+}
+
+// How the work on the file of this name ended.
+fn of_file(alloc: Global, name: &str, ended: Result<Status, Halt>) -> Result<Status, CliStop>
+    ensures { IfErr result (λ stop. IsUsage stop → ⊥) }
+{
+    match ended {
+        Ok(status) => Ok(status),
+        Err(halt) => Err(halt.of_file(alloc, name)),
     }
 }

@@ -270,27 +270,30 @@ fn stops_and_their_texts(rt: HostRuntime) -> Result<(), Fail> {
 #[test]
 fn failing_reads(rt: HostRuntime) -> Result<(), Fail> {
     let alloc = rt.alloc();
-    for piece in [1, 40, 71] {
-        for reads_until_fault in 0..2 {
-            let mut opener = OneFile {
-                bytes: &PLAIN,
-                piece,
-                reads_until_fault,
-            };
-            let mut out = Vec::new(alloc);
-            match run(
-                alloc,
-                words(alloc, "linetab units F")?,
-                &mut opener,
-                &mut out,
-            ) {
-                Ok(_) => assert!(rt; false, "a read failed"),
-                Err(stop) => {
-                    assert_eq!(rt; stop.to_string(alloc)?.as_str(), "linetab: cannot read F");
-                }
-            }
-            assert!(rt; out.is_empty());
+    let mut two = PLAIN.to_vec(alloc)?;
+    two.extend_from_slice(&PLAIN)?;
+    for (piece, reads_until_fault, text) in [
+        (1, 0, ""),
+        (40, 0, ""),
+        (40, 1, ""),
+        (71, 1, "0x0 32 67\n"),
+        (1, 141, "0x0 32 67\n"),
+        (100, 1, "0x0 32 67\n"),
+        (1, 142, "0x0 32 67\n0x47 32 67\n"),
+        (142, 1, "0x0 32 67\n0x47 32 67\n"),
+    ] {
+        let mut opener = OneFile {
+            bytes: two.as_slice(),
+            piece,
+            reads_until_fault,
+        };
+        let mut out = Vec::new(alloc);
+        let line = words(alloc, "linetab units F")?;
+        match run(alloc, line, &mut opener, &mut out) {
+            Ok(_) => assert!(rt; false, "a read failed"),
+            Err(stop) => assert_eq!(rt; stop.to_string(alloc)?.as_str(), "linetab: cannot read F"),
         }
+        assert_eq!(rt; out.as_slice(), text.as_bytes());
     }
     Ok(())
 }

@@ -1,8 +1,7 @@
 //! How values are printed.
-ghost use Rattle.std.specs.Prelude.{IfErr};
-ghost use Rattle.lnt_cli.specs.Stops.{IsUsage};
-
-use crate::stop::{CliStop, Status};
+use crate::halt::Halt;
+use crate::stop::Status;
+use lnt_machine::RunFault;
 use lnt_wire::{Fault, Format, Reason};
 use std::fmt;
 use std::io::Write;
@@ -34,13 +33,26 @@ impl fmt::Display for Quoted<'_> {
 }
 
 // Prints the line that says which bytes are refused, and why.
-pub(crate) fn print_fault<W: Write>(fault: Fault, out: &mut W) -> Result<Status, CliStop>
-    ensures { IfErr result (λ stop. IsUsage stop → ⊥) }
-{
+pub(crate) fn print_fault<W: Write>(fault: Fault, out: &mut W) -> Result<Status, Halt> {
     if fault.reason == Reason::Memory {
-        return Err(CliStop::Memory);
+        return Err(Halt::Memory);
     }
     writeln!(out, "{}", MalformedLine(fault))?;
+    Ok(Status::No)
+}
+
+// Prints the line that says why the program of the unit at the offset doesn't run.
+pub(crate) fn print_run_fault<W: Write>(
+    offset: u64,
+    fault: RunFault,
+    out: &mut W,
+) -> Result<Status, Halt> {
+    write!(out, "no 26 run unit 0x{offset:x}: ")?;
+    match fault {
+        RunFault::LineOutOfRange(index) => writeln!(out, "line out of range at operation {index}")?,
+        RunFault::OpenSequence => writeln!(out, "open sequence")?,
+        RunFault::Memory => return Err(Halt::Memory),
+    }
     Ok(Status::No)
 }
 

@@ -1,37 +1,65 @@
 //! The subcommand `units`.
-ghost use Rattle.std.specs.Prelude.{IfErr};
-ghost use Rattle.lnt_cli.specs.Stops.{IsUsage};
+ghost use Rattle.std.specs.Prelude.{◌≡◌, ◌-◌, ◌^◌, ◌<◌, IfOk};
+ghost use Rattle.lnt_stream.specs.declared.reader.Progress.TheVariants.{Reading};
+ghost use Rattle.lnt_cli.specs.Nexts.{IsUnit};
 
-use crate::stop::{CliStop, Status};
+use crate::halt::Halt;
+use crate::stop::Status;
 use crate::text::{print_fault, width_of};
-use lnt_wire::{Frame, Order, frames};
+use lnt_unit::{SectionReader, SectionStop, UnitBuffer};
+use lnt_wire::{Fault, Order, Source};
 use std::alloc::Global;
 use std::io::Write;
 
 // Prints a line for each frame of the section, and behind them the line of the fault, where there is one.
-pub(crate) fn print_units<W: Write>(
+pub(crate) fn print_units<R: Source, W: Write>(
     alloc: Global,
-    section: &[u8],
+    source: &mut R,
     order: Order,
     out: &mut W,
-) -> Result<Status, CliStop>
-    ensures { IfErr result (λ stop. IsUsage stop → ⊥) }
+) -> Result<Status, Halt>
+    requires { R.failures source.old < 2 ^ 64 - 1 }
 {
-    let Ok(framed) = frames(alloc, section, order) else {
-        return Err(CliStop::Memory);
-    };
-    for frame in &framed.frames {
-        print_frame(frame, out)?;
-    }
-    match framed.fault {
-        None => Ok(Status::Done),
-        Some(fault) => print_fault(fault, out),
+    let mut reader = SectionReader::new(source, order);
+    loop {
+        match next_of(alloc, &mut reader)? {
+            Next::Unit(unit) => print_frame(&unit, out)?,
+            Next::Fault(fault) => return print_fault(fault, out),
+            Next::End => return Ok(Status::Done),
+        }
     }
 }
 
-fn print_frame<W: Write>(frame: &Frame<'_>, out: &mut W) -> Result<(), CliStop>
-    ensures { IfErr result (λ stop. IsUsage stop → ⊥) }
+// What comes next in a section.
+#[derive(Drop)]
+pub(crate) enum Next {
+    Unit(UnitBuffer),
+    // No unit, for this fault.
+    Fault(Fault),
+    End,
+}
+
+// What comes next from a reader that wasn't stopped.
+pub(crate) fn next_of<R: Source>(
+    alloc: Global,
+    reader: &mut SectionReader<'_, R>,
+) -> Result<Next, Halt>
+    requires { reader.old.progress ≡ Reading }
+    ensures { IfOk result (λ next. IsUnit next → (reader.new.progress ≡ Reading) × (R.left reader.new.source.now < R.left reader.old.source.now)) }
 {
+    match reader.next_unit(alloc) {
+        Ok(Some(unit)) => Ok(Next::Unit(unit)),
+        Ok(None) => Ok(Next::End),
+        Err(SectionStop::Fault(fault)) => Ok(Next::Fault(fault)),
+        Err(SectionStop::Read) => Err(Halt::Read),
+        Err(SectionStop::TooLong) => Err(Halt::TooLong),
+        Err(SectionStop::Memory) => Err(Halt::Memory),
+        Err(SectionStop::Failed) => unreachable!(),
+    }
+}
+
+fn print_frame<W: Write>(unit: &UnitBuffer, out: &mut W) -> Result<(), Halt> {
+    let frame = unit.frame();
     let (offset, width, length) = (frame.offset, width_of(frame.format), frame.length);
     writeln!(out, "0x{offset:x} {width} {length}")?;
     Ok(())

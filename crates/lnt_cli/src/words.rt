@@ -1,4 +1,5 @@
 //! The words of the command.
+use crate::dump::Shown;
 use crate::stop::CliStop;
 use clap::error::ErrorKind;
 use clap::{Arg, ArgAction, ArgMatches, Command};
@@ -11,9 +12,16 @@ pub(crate) enum Request<'a> {
     // A help text.
     Help(String),
     // A line for each unit of a section.
-    Units { section: &'a str, order: Order },
-    // The headers of the units of a section.
-    Dump { section: &'a str, order: Order },
+    Units {
+        section: &'a str,
+        order: Order,
+    },
+    // The units of a section, with their headers.
+    Dump {
+        section: &'a str,
+        order: Order,
+        shown: Shown,
+    },
 }
 
 // What the words ask for, of which the first is the program's name.
@@ -41,6 +49,10 @@ fn request_in<'a>(matches: &ArgMatches<'a>) -> Result<Request<'a>, CliStop> {
         Some(("dump", dump)) => Ok(Request::Dump {
             section: section_in(dump)?,
             order: order_in(dump),
+            shown: Shown {
+                ops: dump.get_flag("ops"),
+                rows: dump.get_flag("rows"),
+            },
         }),
         _ => Err(CliStop::Memory),
     }
@@ -79,6 +91,8 @@ fn dump_command<'a>(alloc: Global) -> Result<Command<'a>, AllocError> {
     Command::new(alloc, "dump")
         .about("Prints the header of each unit of a section, with its directories and files")
         .arg(section_argument(alloc))?
+        .arg(flag(alloc, "ops", "Prints the operations of each unit too"))?
+        .arg(flag(alloc, "rows", "Prints the rows of each unit too"))?
         .arg(big_option(alloc))
 }
 
@@ -90,8 +104,14 @@ fn section_argument<'a>(alloc: Global) -> Arg<'a> {
 }
 
 fn big_option<'a>(alloc: Global) -> Arg<'a> {
-    Arg::new(alloc, "big")
-        .long("big")
+    let help = "The section is big-endian; otherwise it is little-endian";
+    flag(alloc, "big", help)
+}
+
+// An option that takes no word.
+fn flag<'a>(alloc: Global, name: &'a str, help: &'a str) -> Arg<'a> {
+    Arg::new(alloc, name)
+        .long(name)
         .action(ArgAction::SetTrue)
-        .help("The section is big-endian; otherwise it is little-endian")
+        .help(help)
 }

@@ -1,130 +1,30 @@
 -- What is written of a header.
-use Rattle.std.proofs.Common.{◌≡◌, ℕ, zero, suc, ◌+◌, ◌%◌, ◌^◌, ◌<◌, ◌≤◌, List, [], ◌∷◌, ◌++◌, length, take, get_or, refl, sym, ap, subst, ◌∙◌, append_assoc, append-nil, arith, map}
-use Rattle.std.proofs.lemmas.List.{length-append, take_more}
+use Rattle.std.proofs.Common.{◌≡◌, ℕ, ◌+◌, ◌<◌, ◌≤◌, List, [], ◌∷◌, ◌++◌, length, take, get_or, refl, sym, ap, subst, ◌∙◌, append_assoc, arith, map}
+use Rattle.std.proofs.lemmas.List.{length-append}
 use Rattle.std.specs.List.{AllByRecursion}
 use Rattle.lnt_wire.specs.declared.format.Format.{Format}
 use Rattle.lnt_wire.specs.declared.format.Format.TheVariants.{D32, D64}
 use Rattle.lnt_wire.specs.declared.format.Order.{Order}
 use Rattle.lnt_wire.specs.declared.form.FormValue.{FormValue}
-use Rattle.lnt_wire.specs.declared.form.FormValue.TheVariants.{Text, LineStrp, Strp, Udata, Data1, Data2, Data4, Data8, Data16, Block, Block1, Block2, Block4}
+use Rattle.lnt_wire.specs.declared.form.FormValue.TheVariants.{LineStrp, Strp}
 use Rattle.lnt_wire.specs.declared.put.EncodeFault.{EncodeFault}
-use Rattle.lnt_wire.specs.declared.put.EncodeFault.TheVariants.{TooLarge, Memory}
+use Rattle.lnt_wire.specs.declared.put.EncodeFault.TheVariants.{TooLarge}
 use Rattle.lnt_wire.specs.Bytes.{Exactly, Then, IsShortest, Appends}
-use Rattle.lnt_wire.specs.FormBytes.{form_of, form_code, HasSpelling, FormBytes, IsTooLarge}
+use Rattle.lnt_wire.specs.FormBytes.{form_of, form_code, FormBytes, IsTooLarge}
 use Rattle.lnt_wire.specs.Leb128.{UnsignedLeb}
 use Rattle.lnt_wire.specs.FrameBytes.{version_five, frame_bytes}
 use Rattle.lnt_wire.specs.InitialLength.{initial_length, LengthFits}
-use Rattle.lnt_wire.specs.Laws.Lengths.{length-number_bytes}
 use Rattle.lnt_wire.specs.Numbers.{NumberBytes, OffsetBytes, IsLargeOffset, number_bytes, offset_size}
 use Rattle.lnt_header.specs.declared.header.Entry.{Entry}
 use Rattle.lnt_header.specs.declared.header.HeaderParts.{HeaderParts}
 use Rattle.lnt_header.specs.HeaderBytes.{HeaderFieldsBytes, HeaderBytesIn, unit_body}
 use Rattle.lnt_header.specs.declared.header.Pair.{Pair}
-use Rattle.lnt_header.specs.Encoding.{NoSpelling, RefusedPut, EntryParts}
+use Rattle.lnt_header.specs.Encoding.{RefusedPut, EntryParts}
 use Rattle.lnt_header.specs.HeaderRules.{IsEntryOf, IsTable, IsHeader, six_bytes, single_bytes}
 use Rattle.lnt_header.specs.Joins.{Each}
-use Rattle.lnt_header.specs.TableBytes.{PairBytes, ValuesBytes, EntryBytes, TableBytes, TableOf}
-
--- ---- joins
-
--- the shortest of a join is the join of the shortest
-join_shortest : {X Y : Type 0} (P : X → List ℕ → Type 0) (Q : Y → List ℕ → Type 0) (u : X) (v : Y) (x y : List ℕ) → IsShortest P u x → IsShortest Q v y → IsShortest (λ (w : X × Y). Then (P w.0) (Q w.1)) (u, v) (x ++ y)
-join_shortest P Q u v x y p q = record {
-  spelled = record { front = x; back = y; first = p.spelled; second = q.spelled; joined = refl };
-  shortest = λ other t. omega (arith, length-append x y, ap length t.joined, length-append t.front t.back, p.shortest t.front t.first, q.shortest t.back t.second);
-}
-
--- one put behind another
-join_put : {X Y : Type 0} (P : X → List ℕ → Type 0) (Q : Y → List ℕ → Type 0) (u : X) (v : Y) (old middle new : List ℕ) → Appends P u old middle → Appends Q v middle new → Appends (λ (w : X × Y). Then (P w.0) (Q w.1)) (u, v) old new
-join_put P Q u v old middle new p q = record {
-  spelling = p.spelling ++ q.spelling;
-  spelled = join_shortest P Q u v p.spelling q.spelling p.spelled q.spelled;
-  joined = q.joined ∙ ap (λ (z : List ℕ). z ++ q.spelling) p.joined ∙ append_assoc old p.spelling q.spelling;
-}
-
--- the same bytes as another value
-put_as : {X Y : Type 0} (P : X → List ℕ → Type 0) (Q : Y → List ℕ → Type 0) (u : X) (v : Y) (old new : List ℕ) → ((x : List ℕ) → P u x → Q v x) → ((x : List ℕ) → Q v x → P u x) → Appends P u old new → Appends Q v old new
-put_as P Q u v old new to from p = record {
-  spelling = p.spelling;
-  spelled = record { spelled = to p.spelling p.spelled.spelled; shortest = λ other q. p.spelled.shortest other (from other q) };
-  joined = p.joined;
-}
-
--- ---- lists
-
-each_begun : {X : Type 0} (P : X → List ℕ → Type 0) (old : List ℕ) → Appends (Each P) [] old old
-each_begun P old = record { spelling = []; spelled = record { spelled = refl; shortest = λ other p. omega arith }; joined = sym (append-nil old) }
-
-each_push : {X : Type 0} (P : X → List ℕ → Type 0) (us : List X) (u : X) (x y : List ℕ) → Each P us x → P u y → Each P (us ++ u ∷ []) (x ++ y)
-each_push P [] u x y p q = record { front = y; back = []; first = q; second = refl; joined = ap (λ (z : List ℕ). z ++ y) p ∙ sym (append-nil y) }
-each_push P (v ∷ us) u x y p q = record {
-  front = p.front;
-  back = p.back ++ y;
-  first = p.first;
-  second = each_push P us u p.back y p.second q;
-  joined = ap (λ (z : List ℕ). z ++ y) p.joined ∙ append_assoc p.front p.back y;
-}
-
--- a spelling of a list with one more value, in two
-record Parted {X : Type 0} (P : X → List ℕ → Type 0) (us : List X) (u : X) (bytes : List ℕ) : Type 0 where
-  front : List ℕ
-  back : List ℕ
-  first : Each P us front
-  last : P u back
-  joined : bytes ≡ front ++ back
-
-each_part : {X : Type 0} (P : X → List ℕ → Type 0) (us : List X) (u : X) (bytes : List ℕ) → Each P (us ++ u ∷ []) bytes → Parted P us u bytes
-each_part P [] u bytes p = record { front = []; back = p.front; first = refl; last = p.first; joined = p.joined ∙ ap (λ (z : List ℕ). p.front ++ z) p.second ∙ append-nil p.front }
-each_part P (v ∷ us) u bytes p =
-    let rest = each_part P us u p.back p.second in
-    record {
-      front = p.front ++ rest.front;
-      back = rest.back;
-      first = record { front = p.front; back = rest.front; first = p.first; second = rest.first; joined = refl };
-      last = rest.last;
-      joined = p.joined ∙ ap (λ (z : List ℕ). p.front ++ z) rest.joined ∙ sym (append_assoc p.front rest.front rest.back);
-    }
-
-each_more : {X : Type 0} (P : X → List ℕ → Type 0) (xs : List X) (i : ℕ) (d : X) (old middle new : List ℕ) → i < length xs → Appends (Each P) (take i xs) old middle → Appends P (get_or xs i d) middle new
-    → Appends (Each P) (take (i + 1) xs) old new
-each_more P xs i d old middle new lt p q =
-    let us = take i xs in
-    let u = get_or xs i d in
-    let all : Appends (Each P) (us ++ u ∷ []) old new = record {
-      spelling = p.spelling ++ q.spelling;
-      spelled = record {
-        spelled = each_push P us u p.spelling q.spelling p.spelled.spelled q.spelled.spelled;
-        shortest = λ other t.
-            let parts = each_part P us u other t in
-            omega (arith, length-append p.spelling q.spelling, ap length parts.joined, length-append parts.front parts.back, p.spelled.shortest parts.front parts.first, q.spelled.shortest parts.back parts.last);
-      };
-      joined = q.joined ∙ ap (λ (z : List ℕ). z ++ q.spelling) p.joined ∙ append_assoc old p.spelling q.spelling;
-    } in
-    subst (λ (vs : List _). Appends (Each P) vs old new) (sym (take_more xs i d lt)) all
-
-taken_all : {X : Type 0} (xs : List X) (n : ℕ) → length xs ≤ n → take n xs ≡ xs
-taken_all [] zero le = refl
-taken_all [] (suc n) le = refl
-taken_all (x ∷ xs) zero le = absurd (omega arith)
-taken_all (x ∷ xs) (suc n) le = ap (λ (ys : List _). x ∷ ys) (taken_all xs n (omega arith))
-
-each_done : {X : Type 0} (P : X → List ℕ → Type 0) (xs : List X) (n : ℕ) (old new : List ℕ) → length xs ≤ n → Appends (Each P) (take n xs) old new → Appends (Each P) xs old new
-each_done P xs n old new le p = subst (λ (ys : List _). Appends (Each P) ys old new) (taken_all xs n le) p
-
--- each value of a list that has a spelling has one
-each_at : {X : Type 0} (P : X → List ℕ → Type 0) (xs : List X) (i : ℕ) (d : X) (bytes : List ℕ) → i < length xs → Each P xs bytes → (x : List ℕ) × P (get_or xs i d) x
-each_at P [] i d bytes lt p = absurd (omega arith)
-each_at P (x ∷ xs) zero d bytes lt p = (p.front, p.first)
-each_at P (x ∷ xs) (suc i) d bytes lt p = each_at P xs i d p.back (omega arith) p.second
-
-each_refused : {X : Type 0} (P : X → List ℕ → Type 0) (xs : List X) (i : ℕ) (d : X) (fault : EncodeFault) → i < length xs → RefusedPut P (get_or xs i d) fault → RefusedPut (Each P) xs fault
-each_refused P xs i d fault lt refused = record {
-  none = λ large bytes p. let one = each_at P xs i d bytes lt p in refused.none large one.0 one.1;
-}
-
--- want of memory says nothing
-pub refused_memory : {X : Type 0} (Spells : X → List ℕ → Type 0) (x : X) (fault : EncodeFault) → fault ≡ Memory → RefusedPut Spells x fault
-refused_memory Spells x fault is = record { none = λ large. absurd cc }
+use Rattle.lnt_header.specs.Laws.Programs.{length-initial-same, length-body, fits_less}
+use Rattle.lnt_header.specs.Laws.Puts.{byte_put, join_put, put_as, each_begun, each_more, each_done, each_refused}
+use Rattle.lnt_header.specs.TableBytes.{PairBytes, ValuesBytes, EntryBytes, TableOf}
 
 -- ---- pairs
 
@@ -232,9 +132,6 @@ pub table_refused : (format : Format) (order : Order) (pairs : List Pair) (entri
 table_refused format order pairs entries fault refused = record {
   none = λ large bytes p. refused.none large p.spelled.second.second.back (as_entries format order pairs entries p.spelled.second.second.back p.spelled.second.second.second);
 }
-
-byte_put : (n : ℕ) (old : List ℕ) → Appends (λ (k : ℕ). Exactly (k ∷ [])) n old (old ++ n ∷ [])
-byte_put n old = record { spelling = n ∷ []; spelled = record { spelled = refl; shortest = λ other p. omega (arith, ap length p) }; joined = refl }
 
 abbrev TableParts : Format → Order → ℕ × (List Pair × (ℕ × List Entry)) → List ℕ → Type 0
 TableParts format order t bytes = Then (Exactly (t.0 ∷ [])) (Then (Each PairBytes t.1.0) (Then (UnsignedLeb t.1.1.0) (Each (EntryParts format order) t.1.1.1))) bytes
@@ -346,19 +243,6 @@ files_refused h pairs entries fault p e refused = record { none = λ large bytes
 
 -- ---- the whole unit
 
-length-initial-same : (format : Format) (order : Order) (m n : ℕ) → length (initial_length format order m) ≡ length (initial_length format order n)
-length-initial-same D32 order m n = length-number_bytes order 4 m ∙ sym (length-number_bytes order 4 n)
-length-initial-same D64 order m n =
-    omega (arith, length-append (number_bytes order 4 0xffffffff) (number_bytes order 8 m), length-append (number_bytes order 4 0xffffffff) (number_bytes order 8 n), length-number_bytes order 8 m, length-number_bytes order 8 n)
-
-length-five : (a b c d e : List ℕ) → length (a ++ b ++ c ++ d ++ e) ≡ length a + length b + length c + length d + length e
-length-five a b c d e = simp length-append refl
-
-length-body : (h : HeaderParts) (fields program : List ℕ) → length (unit_body h fields program) ≡ 4 + offset_size h.format + length fields + length program
-length-body h fields program =
-    let number = number_bytes h.order (offset_size h.format) (length fields) in
-    omega (arith, length-five (version_five h.order) (h.address_size ∷ 0 ∷ []) number fields program, length-number_bytes h.order 2 5, length-number_bytes h.order (offset_size h.format) (length fields))
-
 regroup_out : (a b c d e f : List ℕ) → ((((a ++ b) ++ c) ++ d) ++ e) ++ f ≡ a ++ (b ++ c ++ d ++ e ++ f)
 regroup_out a b c d e f = simp append_assoc
 
@@ -401,10 +285,6 @@ header_put h program fields n count o0 o1 o2 size o3 o4 o5 o6 p n_is fits begun 
 
 pub header_refused : (h : HeaderParts) (program : List ℕ) (fault : EncodeFault) → RefusedPut HeaderFieldsBytes h fault → RefusedPut (HeaderBytesIn h.order) (h, program) fault
 header_refused h program fault refused = record { none = λ large bytes p. refused.none large p.spelled.fields p.spelled.counted }
-
-fits_less : (format : Format) (m n : ℕ) → m ≤ n → LengthFits format n → LengthFits format m
-fits_less D32 m n le fits = omega arith
-fits_less D64 m n le fits = omega arith
 
 pub header_too_long : (h : HeaderParts) (program fields : List ℕ) (m n : ℕ) (fault : EncodeFault) → IsShortest HeaderFieldsBytes h fields → m ≡ length fields → n ≡ length program
     → (LengthFits h.format (4 + offset_size h.format + m + n) → ⊥) → RefusedPut (HeaderBytesIn h.order) (h, program) fault

@@ -11,7 +11,7 @@ use Rattle.lnt_wire.specs.declared.fault.Reason.TheVariants.{Truncated, MaxOpsZe
 use Rattle.lnt_wire.specs.declared.format.Format.{Format}
 use Rattle.lnt_wire.specs.declared.format.Order.{Order}
 use Rattle.lnt_wire.specs.Laws.Lengths.{same_front}
-use Rattle.lnt_header.proofs.Readers.{any, any_local, refuses_any, moved, refuses_first, refuses_second, reads_both}
+use Rattle.lnt_header.specs.Laws.Readers.{any, any_local, refuses_any, moved, refuses_first, refuses_second, reads_both}
 use Rattle.lnt_header.specs.declared.header.Entry.{Entry}
 use Rattle.lnt_header.specs.declared.header.Pair.{Pair}
 use Rattle.lnt_header.specs.TableBytes.{TableOf}

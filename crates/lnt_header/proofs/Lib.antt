@@ -4,7 +4,6 @@ pub mod EncodeLemmas
 pub mod HeaderFrames
 pub mod HeaderReaders
 pub mod Places
-pub mod Readers
 pub mod StartReaders
 pub mod TableReaders
 pub mod TestLemmas

@@ -15,7 +15,8 @@ use Rattle.std.proofs.lemmas.List.{append-nil}
 use Rattle.lnt_header.specs.Broken.{InHeader, UpToLimit, IsAt}
 use Rattle.lnt_header.specs.FieldsBytes.{IsHeaderFault}
 use Rattle.lnt_header.specs.FieldsBytes.IsHeaderFault.{table, singles, lengths}
-use Rattle.lnt_header.proofs.TableReaders.{cut_later, small_offset}
+use Rattle.lnt_header.proofs.TableReaders.{small_offset}
+use Rattle.lnt_header.specs.Laws.Readers.{cut_later}
 
 cut_at : (order : Order) (before left from : List ℕ) → 0 < length before → UpToLimit order left before from → IsCutField before left → IsAt order Truncated before from
 cut_at order [] left from some w h = absurd (omega arith)

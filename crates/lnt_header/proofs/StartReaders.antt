@@ -14,12 +14,11 @@ use Rattle.lnt_wire.specs.Laws.Codes.{number_code}
 use Rattle.lnt_wire.specs.Laws.Lengths.{same_rest}
 use Rattle.lnt_wire.specs.Laws.Values.{offset_width}
 use Rattle.lnt_header.specs.HeaderRules.{IsAddressSize}
-use Rattle.lnt_header.specs.Laws.Tables.{byte_code}
+use Rattle.lnt_header.specs.Laws.Tables.{byte_code, one_digit}
 use Rattle.lnt_header.specs.StartBytes.{AddressSizeBytes, IsSizeFault, SelectorBytes, IsSelectorFault, CountedBytes, IsCountedFault, BehindSize, StartBytes, IsStartFault}
 use Rattle.lnt_header.specs.StartBytes.IsStartFault.{address_size, selector, header_length}
 use Rattle.lnt_header.specs.Joins.{Both}
-use Rattle.lnt_header.proofs.Readers.{any_local, nothing_asked, moved_field, refuses_field, reads_map, reads_both, refuses_first, refuses_second}
-use Rattle.lnt_header.proofs.TableReaders.{one_digit}
+use Rattle.lnt_header.specs.Laws.Readers.{any_local, nothing_asked, moved_field, refuses_field, reads_map, reads_both, refuses_first, refuses_second}
 
 -- ---- one byte
 

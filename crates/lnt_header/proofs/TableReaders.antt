@@ -26,20 +26,12 @@ use Rattle.lnt_wire.specs.Laws.Lengths.{width_1}
 use Rattle.lnt_header.specs.Joins.{Both, Several, Each}
 use Rattle.lnt_header.specs.Laws.Lists.{several_code}
 use Rattle.lnt_wire.specs.Laws.Values.{same_value}
-use Rattle.lnt_header.proofs.Readers.{IsLocal, any, any_local, refuses_here, nothing_asked, moved, refuses_field, refuses_map, reads_map, reads_both, refuses_first, refuses_second, reads_none, reads_more, refuses_more}
+use Rattle.lnt_header.specs.Laws.Readers.{IsLocal, cut_later, any, any_local, refuses_here, nothing_asked, moved, refuses_field, refuses_map, reads_map, reads_both, refuses_first, refuses_second, reads_none, reads_more, refuses_more}
 use Rattle.lnt_header.specs.declared.header.Entry.{Entry}
 use Rattle.lnt_header.specs.declared.header.Pair.{Pair}
 use Rattle.lnt_header.specs.TableBytes.{PairBytes, ValuesBytes, EntryBytes, TableOf}
 use Rattle.lnt_header.specs.TableFaults.{IsTableFault}
-use Rattle.lnt_header.specs.Laws.Tables.{pair_code, entry_code}
-
-pub cut_later : (front before left : List ℕ) → IsCutField before left → IsCutField (front ++ before) left
-cut_later front before left (number size small short) = number size small short
-cut_later front before left (text h) = text h
-cut_later front before left (leb h) = leb h
-cut_later front before left (block n spelling rest p e lt) = block n spelling rest p e lt
-cut_later front before left (sized_block order size n spelling rest small p e lt) = sized_block order size n spelling rest small p e lt
-cut_later front before left (operation n earlier spelling p e lt) = operation n (front ++ earlier) spelling p (ap (λ (z : List ℕ). front ++ z) e ∙ sym (append_assoc front earlier (0 ∷ spelling))) lt
+use Rattle.lnt_header.specs.Laws.Tables.{one_digit, pair_code, entry_code}
 
 later : (reason : Reason) (front before left : List ℕ) → IsTableFault reason before left → IsTableFault reason (front ++ before) left
 later Truncated front before left h = cut_later front before left h
@@ -243,10 +235,6 @@ CountOn format order v bytes = Both (NumberBytes order 1) (KindsOn format order)
 
 table_part : List Pair × List Entry → ℕ × (List Pair × (ℕ × List Entry))
 table_part t = (length t.0, (t.0, (length t.1, t.1)))
-
-pub one_digit : (order : Order) (n : ℕ) → n < 256 → number_bytes order 1 n ≡ n ∷ []
-one_digit Little n lt = let same : n % 256 ≡ n = omega arith in rw same refl
-one_digit Big n lt = let same : n % 256 ≡ n = omega arith in rw same refl
 
 no_entries : (entries : List Entry) → entries ≡ [] → length entries ≡ 0
 no_entries entries e = ap length e

@@ -1,6 +1,5 @@
 -- Tests of a header's parts.
-use Rattle.std.proofs.Common.{◌≡◌, ℕ, zero, suc, ◌+◌, ◌<◌, ◌≤◌, List, [], ◌∷◌, ◌++◌, length, take, drop, min, get_or, refl, sym, ap, subst, ◌∙◌, arith, ◌⊎◌, inl, inr}
-use Rattle.std.proofs.lemmas.List.{take_more, drop_more, take-append-drop, length-take-le}
+use Rattle.std.proofs.Common.{◌≡◌, ℕ, zero, suc, ◌+◌, ◌<◌, List, [], ◌∷◌, ◌++◌, length, take, min, refl, sym, ap, subst, ◌∙◌, arith, ◌⊎◌, inl, inr}
 use Rattle.std.specs.Prelude.{Bool, true, false, IsTrue, ◌≢◌, map, FitsSigned}
 use Rattle.std.specs.Bool.{MatchBool}
 use Rattle.std.specs.List.{AllByRecursion, AllZip}
@@ -8,42 +7,15 @@ use Rattle.std.specs.Int.{w8}
 use Rattle.lnt_wire.specs.declared.form.FormValue.{FormValue}
 use Rattle.lnt_wire.specs.declared.form.FormValue.TheVariants.{Text, LineStrp, Strp, Udata, Data1, Data2, Data4, Data8, Data16, Block, Block1, Block2, Block4}
 use Rattle.lnt_wire.specs.FormBytes.{form_of, HasSpelling}
+use Rattle.lnt_header.specs.declared.fault.UnitFault.{UnitFault}
+use Rattle.lnt_header.specs.declared.fault.UnitFault.TheVariants.{HeaderNumber, EntryNotOfFormat, TextHoldsZero, OpNotOfUnit}
 use Rattle.lnt_header.specs.declared.header.Entry.{Entry}
 use Rattle.lnt_header.specs.declared.header.HeaderParts.{HeaderParts}
 use Rattle.lnt_header.specs.declared.header.Pair.{Pair}
-use Rattle.lnt_header.specs.HeaderRules.{IsAddressSize, AreStandardLengths, known_lengths, six_bytes, HasHeaderNumbers, IsEntryOf, IsHeader}
-use Rattle.lnt_header.specs.HeaderTests.{IsFirstNot, IsFormat, FitsItsForm, HoldsNoZero, FitsPair, IsOfFormat, HasSoundTexts}
-
-all_push : {X : Type 0} (P : X → Type 0) (xs : List X) (x : X) → AllByRecursion P xs → P x → AllByRecursion P (xs ++ x ∷ [])
-all_push P [] x h p = (p, tt)
-all_push P (y ∷ xs) x h p = (h.0, all_push P xs x h.1 p)
-
-pub all_more : {X : Type 0} (P : X → Type 0) (xs : List X) (i : ℕ) (d : X) → i < length xs → AllByRecursion P (take i xs) → P (get_or xs i d) → AllByRecursion P (take (i + 1) xs)
-all_more P xs i d lt h p = subst (AllByRecursion P) (sym (take_more xs i d lt)) (all_push P (take i xs) (get_or xs i d) h p)
-
-pub all_taken : {X : Type 0} (P : X → Type 0) (xs : List X) (n : ℕ) → length xs ≤ n → AllByRecursion P (take n xs) → AllByRecursion P xs
-all_taken P [] n le h = tt
-all_taken P (x ∷ xs) zero le h = absurd (omega arith)
-all_taken P (x ∷ xs) (suc n) le h = (h.0, all_taken P xs n (omega arith) h.1)
-
-all_at : {X : Type 0} (P : X → Type 0) (xs : List X) (i : ℕ) (d : X) → i < length xs → AllByRecursion P xs → P (get_or xs i d)
-all_at P [] i d lt h = absurd (omega arith)
-all_at P (x ∷ xs) zero d lt h = h.0
-all_at P (x ∷ xs) (suc i) d lt h = all_at P xs i d (omega arith) h.1
-
-pub not_all : {X : Type 0} (P : X → Type 0) (xs : List X) (i : ℕ) (d : X) → i < length xs → (P (get_or xs i d) → ⊥) → AllByRecursion P xs → ⊥
-not_all P xs i d lt other h = other (all_at P xs i d lt h)
-
-pub first_not : {X : Type 0} (P : X → Type 0) (xs : List X) (i : ℕ) (d : X) → i < length xs → AllByRecursion P (take i xs) → (P (get_or xs i d) → ⊥) → IsFirstNot P xs i
-first_not P xs i d lt h other = record {
-  before = take i xs;
-  value = get_or xs i d;
-  behind = drop (i + 1) xs;
-  joined = sym (take-append-drop i xs) ∙ ap (λ (z : List _). take i xs ++ z) (drop_more xs i d lt);
-  index_is = sym (length-take-le i xs (omega arith));
-  all_before = h;
-  not_so = other;
-}
+use Rattle.lnt_header.specs.declared.header.Which.TheVariants.{Directories, Files}
+use Rattle.lnt_header.specs.Laws.Firsts.{first_is_wrong}
+use Rattle.lnt_header.specs.HeaderRules.{IsAddressSize, AreStandardLengths, known_lengths, six_bytes, HasHeaderNumbers, IsEntryOf, IsTable, IsHeader}
+use Rattle.lnt_header.specs.HeaderTests.{IsFormat, IsPartsFault, FitsItsForm, HoldsNoZero, FitsPair, IsOfFormat, HasSoundTexts}
 
 -- ---- the standard lengths
 
@@ -165,3 +137,57 @@ tests_passed h numbers d f of_d of_f text_d text_f = record {
   directories = record { few_pairs = d.few_pairs; none_without_pairs = d.none_without_pairs; of_format = are_entries h.directory_format h.directories of_d text_d };
   files = record { few_pairs = f.few_pairs; none_without_pairs = f.none_without_pairs; of_format = are_entries h.file_format h.files of_f text_f };
 }
+
+-- ---- what is refused
+
+format_of : (pairs : List Pair) (entries : List Entry) → IsTable pairs entries → IsFormat pairs entries
+format_of pairs entries t = record { few_pairs = t.few_pairs; none_without_pairs = t.none_without_pairs }
+
+own_form : (value : FormValue) → HasSpelling value → FitsItsForm value
+own_form (Text text) h = tt
+own_form (LineStrp n) h = h
+own_form (Strp n) h = h
+own_form (Udata n) h = h
+own_form (Data1 n) h = h
+own_form (Data2 n) h = h
+own_form (Data4 n) h = h
+own_form (Data8 n) h = h
+own_form (Data16 bytes) h = h
+own_form (Block block) h = h
+own_form (Block1 block) h = h
+own_form (Block2 block) h = h
+own_form (Block4 block) h = h
+
+no_zero : (value : FormValue) → HasSpelling value → HoldsNoZero value
+no_zero (Text text) h = h
+no_zero value h = tt
+
+of_format : (pairs : List Pair) (values : List FormValue) → map form_of values ≡ map (λ pair. pair.form) pairs → AllByRecursion HasSpelling values → AllZip FitsPair pairs values
+of_format [] [] e h = tt
+of_format [] (v ∷ values) e h = absurd cc
+of_format (pair ∷ pairs) [] e h = absurd cc
+of_format (pair ∷ pairs) (v ∷ values) e h =
+    let first : form_of v ≡ pair.form = cc in
+    let behind : map form_of values ≡ map (λ pair. pair.form) pairs = cc in
+    ((first, own_form v h.0), of_format pairs values behind h.1)
+
+sound_texts : (values : List FormValue) → AllByRecursion HasSpelling values → AllByRecursion HoldsNoZero values
+sound_texts [] h = tt
+sound_texts (v ∷ values) h = (no_zero v h.0, sound_texts values h.1)
+
+all_of_format : (pairs : List Pair) (entries : List Entry) → AllByRecursion (IsEntryOf pairs) entries → AllByRecursion (IsOfFormat pairs) entries
+all_of_format pairs [] h = tt
+all_of_format pairs (entry ∷ entries) h = (of_format pairs entry.values h.0.forms h.0.spelled, all_of_format pairs entries h.1)
+
+all_sound : (pairs : List Pair) (entries : List Entry) → AllByRecursion (IsEntryOf pairs) entries → AllByRecursion HasSoundTexts entries
+all_sound pairs [] h = tt
+all_sound pairs (entry ∷ entries) h = (sound_texts entry.values h.0.spelled, all_sound pairs entries h.1)
+
+pub no_header : (h : HeaderParts) (fault : UnitFault) → IsPartsFault fault h → IsHeader h → ⊥
+no_header h HeaderNumber wrong is =
+    wrong (record { numbers = is.numbers; directories = format_of h.directory_format h.directories is.directories; files = format_of h.file_format h.files is.files })
+no_header h (EntryNotOfFormat Directories index) wrong is = first_is_wrong wrong.1 (all_of_format h.directory_format h.directories is.directories.of_format)
+no_header h (EntryNotOfFormat Files index) wrong is = first_is_wrong wrong.2 (all_of_format h.file_format h.files is.files.of_format)
+no_header h (TextHoldsZero Directories index) wrong is = first_is_wrong wrong.2 (all_sound h.directory_format h.directories is.directories.of_format)
+no_header h (TextHoldsZero Files index) wrong is = first_is_wrong wrong.3 (all_sound h.file_format h.files is.files.of_format)
+no_header h (OpNotOfUnit index) wrong is = wrong

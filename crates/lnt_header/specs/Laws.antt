@@ -1,5 +1,9 @@
+pub mod Firsts
 pub mod Headers
 pub mod Lists
+pub mod Programs
+pub mod Puts
+pub mod Readers
 pub mod Tables
 -- What is spelled is read again, whatever follows: no spelling begins another, and each spells one value.
 use Rattle.lnt_wire.specs.declared.format.Order.{Order}

@@ -8,6 +8,10 @@ use Rattle.lnt_header.specs.declared.op.Op.TheVariants.{Special, Copy, AdvancePc
 abbrev pub standard_length : HeaderParts → ℕ → ℕ
 standard_length h k = slice_index h.standard_lengths (k - 1)
 
+-- an unknown standard opcode, with as many operands as the header gives it
+abbrev pub IsUnknownOf : HeaderParts → ℕ → ℕ → Type 0
+IsUnknownOf h k count = (13 ≤ k) × (k < h.opcode_base) × (count ≡ standard_length h k)
+
 -- The header admits the operation: its number belongs to its kind, and its operands fit.
 abbrev pub Admits : HeaderParts → Op → Type 0
 Admits h (Special c) = h.opcode_base ≤ c
@@ -23,7 +27,7 @@ Admits h (FixedAdvancePc n) = 9 < h.opcode_base
 Admits h SetPrologueEnd = 10 < h.opcode_base
 Admits h SetEpilogueBegin = 11 < h.opcode_base
 Admits h (SetIsa n) = 12 < h.opcode_base
-Admits h (UnknownStandard k operands) = (13 ≤ k) × (k < h.opcode_base) × (length operands ≡ standard_length h k)
+Admits h (UnknownStandard k operands) = IsUnknownOf h k (length operands)
 Admits h EndSequence = Unit {0}
 Admits h (SetAddress address) = address < 256 ^ h.address_size
 Admits h (SetDiscriminator n) = Unit {0}

@@ -28,7 +28,7 @@ pub fn encode_header(alloc: Global, header: &Header, program: &[u8]) -> Result<V
     encode_parts(alloc, header.parts(), program)
 }
 
-#[tactic(auto, using(crate::proofs::EncodeLemmas::header_put, crate::proofs::EncodeLemmas::header_refused, crate::proofs::EncodeLemmas::header_too_long, crate::proofs::EncodeLemmas::refused_memory))]
+#[tactic(auto, using(crate::proofs::EncodeLemmas::header_put, crate::proofs::EncodeLemmas::header_refused, crate::proofs::EncodeLemmas::header_too_long, crate::specs::Laws::Puts::refused_memory))]
 fn encode_parts(alloc: Global, parts: &HeaderParts, program: &[u8]) -> Result<Vec<u8>, EncodeFault>
     requires { IsHeader parts.now }
     ensures ok { IfOk result (λ bytes. IsShortest (HeaderBytesIn parts.now.order) (parts.now, program.now) bytes.items) }
@@ -85,7 +85,7 @@ fn add_initial_length(
 }
 
 // The fields that header_length counts.
-#[tactic(auto, using(crate::proofs::EncodeLemmas::fields_put, crate::proofs::EncodeLemmas::directories_refused, crate::proofs::EncodeLemmas::files_refused, crate::proofs::EncodeLemmas::refused_memory))]
+#[tactic(auto, using(crate::proofs::EncodeLemmas::fields_put, crate::proofs::EncodeLemmas::directories_refused, crate::proofs::EncodeLemmas::files_refused, crate::specs::Laws::Puts::refused_memory))]
 fn counted_fields(alloc: Global, parts: &HeaderParts) -> Result<Vec<u8>, EncodeFault>
     requires { IsHeader parts.now }
     ensures ok { IfOk result (λ bytes. IsShortest HeaderFieldsBytes parts.now bytes.items) }
@@ -114,7 +114,7 @@ fn counted_fields(alloc: Global, parts: &HeaderParts) -> Result<Vec<u8>, EncodeF
 }
 
 // Adds a table.
-#[tactic(auto, using(crate::proofs::EncodeLemmas::table_put, crate::proofs::EncodeLemmas::table_refused, crate::proofs::EncodeLemmas::refused_memory))]
+#[tactic(auto, using(crate::proofs::EncodeLemmas::table_put, crate::proofs::EncodeLemmas::table_refused, crate::specs::Laws::Puts::refused_memory))]
 fn add_table(
     out: &mut Vec<u8>,
     pairs: &[Pair],
@@ -155,7 +155,7 @@ fn add_pair(out: &mut Vec<u8>, pair: &Pair) -> Result<(), EncodeFault>
 }
 
 // Adds the entries of a table.
-#[tactic(auto, using(crate::proofs::EncodeLemmas::entries_begun, crate::proofs::EncodeLemmas::entries_more, crate::proofs::EncodeLemmas::entries_done, crate::proofs::EncodeLemmas::entries_refused, crate::proofs::EncodeLemmas::refused_memory))]
+#[tactic(auto, using(crate::proofs::EncodeLemmas::entries_begun, crate::proofs::EncodeLemmas::entries_more, crate::proofs::EncodeLemmas::entries_done, crate::proofs::EncodeLemmas::entries_refused, crate::specs::Laws::Puts::refused_memory))]
 fn add_entries(
     out: &mut Vec<u8>,
     entries: &[Entry],
@@ -173,7 +173,7 @@ fn add_entries(
 }
 
 // Adds the values of an entry.
-#[tactic(auto, using(crate::proofs::EncodeLemmas::values_begun, crate::proofs::EncodeLemmas::values_more, crate::proofs::EncodeLemmas::values_done, crate::proofs::EncodeLemmas::values_refused, crate::proofs::EncodeLemmas::refused_memory))]
+#[tactic(auto, using(crate::proofs::EncodeLemmas::values_begun, crate::proofs::EncodeLemmas::values_more, crate::proofs::EncodeLemmas::values_done, crate::proofs::EncodeLemmas::values_refused, crate::specs::Laws::Puts::refused_memory))]
 fn add_values(
     out: &mut Vec<u8>,
     values: &[FormValue],

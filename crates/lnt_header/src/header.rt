@@ -87,15 +87,26 @@ impl Header {
 
     /// The header of the parts, if some header that was decoded can have them, its lengths and the offsets of the
     /// 32-bit format aside. It takes no memory, and hands the parts back with the first fault: `HeaderNumber`,
-    /// then `EntryNotOfFormat`, then `TextHoldsZero`, each of the directories before the files.
+    /// then `EntryNotOfFormat`, then `TextHoldsZero`, each of the directories before the files. Then no header has them.
+    #[tactic(auto, using(crate::proofs::TestLemmas::no_header))]
     pub fn new(parts: HeaderParts) -> Result<Header, (UnitFault, HeaderParts)>
         ensures ok { IfOk result (λ header. header ≡ parts) }
         ensures err { IfErr result (λ refused. IsPartsFault refused.0 parts × (refused.1 ≡ parts)) }
+        ensures none { IfErr result (λ _. IsHeader parts → ⊥) }
     {
         match parts_fault(&parts) {
             None => Ok(Header { parts }),
             Some(fault) => Err((fault, parts)),
         }
+    }
+
+    /// What the header is made of. It takes no memory.
+    pub fn into_parts(self) -> HeaderParts
+        ensures value { result ≡ self }
+        ensures header { IsHeader result }
+    {
+        let Header { parts } = self;
+        parts
     }
 
     // The header of parts that a reader can have read.
@@ -125,7 +136,8 @@ impl Header {
     /// The order of the bytes of the unit's numbers.
     #[inline(always)]
     pub fn order(&self) -> Order
-        ensures { result ≡ self.now.order }
+        ensures value { result ≡ self.now.order }
+        ensures header { IsHeader self.now }
     {
         self.parts.order
     }
@@ -187,6 +199,7 @@ impl Header {
     pub fn opcode_base(&self) -> u8
         ensures value { result ≡ self.now.opcode_base }
         ensures some { 0 < result }
+        ensures header { IsHeader self.now }
     {
         self.parts.opcode_base
     }
@@ -194,7 +207,8 @@ impl Header {
     /// How many operands each opcode from 1 on below `opcode_base` has.
     #[inline(always)]
     pub fn standard_lengths(&self) -> &[u8]
-        ensures { result.now ≡ self.now.standard_lengths }
+        ensures value { result.now ≡ self.now.standard_lengths }
+        ensures header { IsHeader self.now }
     {
         self.parts.standard_lengths.as_slice()
     }

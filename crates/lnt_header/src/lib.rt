@@ -1,6 +1,7 @@
 //! The headers of DWARF 5 line number units, read and written, and the operations that they admit.
 #![tactic(auto)]
 
+mod admits;
 mod decode;
 mod encode;
 mod fault;
@@ -21,5 +22,7 @@ pub use header::{Entry, Header, HeaderParts, Pair, Which};
 pub use op::Op;
 pub use view::{OpView, Operands};
 
+#[cfg(test)]
+mod admits_tests;
 #[cfg(test)]
 mod tests;

@@ -95,7 +95,7 @@ fn is_format(pairs: &[Pair], entries: &[Entry]) -> bool
 }
 
 // The first of the entries that hasn't the format.
-#[tactic(auto, using(crate::proofs::TestLemmas::all_more, crate::proofs::TestLemmas::all_taken, crate::proofs::TestLemmas::first_not))]
+#[tactic(auto, using(crate::specs::Laws::Firsts::all_more, crate::specs::Laws::Firsts::all_taken, crate::specs::Laws::Firsts::first_not))]
 fn first_of_no_format(entries: &[Entry], pairs: &[Pair]) -> Option<u64>
     ensures { MatchOption result (AllByRecursion (IsOfFormat pairs.now) entries.now) (λ index. IsFirstNot (IsOfFormat pairs.now) entries.now index) }
 {
@@ -139,7 +139,7 @@ fn fits_its_form(value: &FormValue) -> bool
 }
 
 // The first of the entries that has a text with a zero byte in it.
-#[tactic(auto, using(crate::proofs::TestLemmas::all_more, crate::proofs::TestLemmas::all_taken, crate::proofs::TestLemmas::first_not))]
+#[tactic(auto, using(crate::specs::Laws::Firsts::all_more, crate::specs::Laws::Firsts::all_taken, crate::specs::Laws::Firsts::first_not))]
 fn first_with_zero(entries: &[Entry]) -> Option<u64>
     ensures { MatchOption result (AllByRecursion HasSoundTexts entries.now) (λ index. IsFirstNot HasSoundTexts entries.now index) }
 {
@@ -151,7 +151,7 @@ fn first_with_zero(entries: &[Entry]) -> Option<u64>
     None
 }
 
-#[tactic(auto, using(crate::proofs::TestLemmas::all_more, crate::proofs::TestLemmas::all_taken, crate::proofs::TestLemmas::not_all))]
+#[tactic(auto, using(crate::specs::Laws::Firsts::all_more, crate::specs::Laws::Firsts::all_taken, crate::specs::Laws::Firsts::not_all))]
 fn has_sound_texts(entry: &Entry) -> bool
     ensures { IsTrue result ↔ HasSoundTexts entry.now }
 {

@@ -19,3 +19,8 @@ pub record IsTrueFault (order : Order) (fault : Fault) (section : List ℕ) : Ty
   pub some : 0 < length rest
   pub split : section ≡ front ++ rest
   pub broken : BrokenUnit order fault (length front) rest
+
+-- No list of units spells the section, and the fault is true of it.
+pub record BrokenSection (order : Order) (fault : Fault) (section : List ℕ) : Type 0 where
+  pub none : (units : List (ℕ × Parts)) → SectionBytes order units section → ⊥
+  pub true_fault : IsTrueFault order fault section

@@ -1,5 +1,6 @@
 pub mod BrokenUnits
 pub mod Laws
-pub mod OpBytes
 pub mod UnitBytes
 pub mod UnitRules
+pub mod UnitTests
+pub mod Views

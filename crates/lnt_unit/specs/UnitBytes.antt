@@ -3,7 +3,7 @@ use Rattle.std.specs.Prelude.{◌≡◌, ℕ, ◌+◌, List, [], ◌∷◌, ◌+
 use Rattle.lnt_wire.specs.declared.format.Order.{Order}
 use Rattle.lnt_unit.specs.declared.unit.Parts.{Parts}
 use Rattle.lnt_header.specs.Joins.{Each}
-use Rattle.lnt_unit.specs.OpBytes.{OpBytes}
+use Rattle.lnt_ops.specs.OpBytes.{OpBytes}
 use Rattle.lnt_header.specs.HeaderBytes.{HeaderBytes}
 
 -- The bytes of a unit: its header, and one spelling of each operation in order.

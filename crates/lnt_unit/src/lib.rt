@@ -1,10 +1,22 @@
 //! The units of DWARF 5 line number sections: headers and operations, read and written.
 #![tactic(auto)]
 
+mod decode;
+mod encode;
+pub mod laws;
 mod unit;
+mod view;
 
+pub use decode::{decode_section, decode_unit};
+pub use encode::encode_unit;
 pub use lnt_header::{
     Entry, Header, HeaderParts, Op, OpView, Operands, Pair, UnitFault, Which, decode_header,
     encode_header,
 };
+pub use lnt_ops::Ops;
+pub use lnt_stream::{SectionReader, SectionStop, UnitBuffer};
 pub use unit::{Parts, Unit};
+pub use view::UnitView;
+
+#[cfg(test)]
+mod tests;

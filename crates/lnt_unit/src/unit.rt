@@ -1,7 +1,10 @@
 //! A unit: a header and its operations (DWARF 5, section 6.2.4).
-ghost use Rattle.std.specs.Prelude.{◌≡◌};
+ghost use Rattle.std.specs.Prelude.{◌≡◌, IfOk, IfErr, MatchOption};
+ghost use Rattle.std.specs.List.{AllByRecursion};
+ghost use Rattle.lnt_header.specs.HeaderTests.{IsFirstNot};
+ghost use Rattle.lnt_header.specs.OpRules.{Admits};
 
-use lnt_header::{Header, HeaderParts, Op};
+use lnt_header::{Header, HeaderParts, Op, UnitFault};
 use lnt_wire::Items;
 use std::marker::Model;
 
@@ -33,7 +36,53 @@ impl Model for Unit {
 }
 
 impl Unit {
+    ghost use Rattle.std.specs.List.{AllByRecursion};
+    ghost use Rattle.lnt_header.specs.OpRules.{Admits};
     ghost use Rattle.lnt_unit.specs.UnitRules.{IsUnit};
+    ghost use Rattle.lnt_unit.specs.UnitTests.{IsUnitFault};
+
+    /// The unit of the parts, if some unit that was decoded can have them, its lengths and the offsets of the 32-bit
+    /// format aside. It takes no memory, and hands the parts back with the first fault: those of `Header::new`, and
+    /// then `OpNotOfUnit` with the first operation that the header doesn't admit. Then no unit has them.
+    #[tactic(auto, using(crate::proofs::UnitLemmas::no_header_first, crate::proofs::UnitLemmas::no_ops, crate::proofs::UnitLemmas::header_fault))]
+    pub fn new(parts: Parts) -> Result<Unit, (UnitFault, Parts)>
+        ensures ok { IfOk result (λ unit. unit ≡ parts) }
+        ensures err { IfErr result (λ refused. IsUnitFault refused.0 parts × (refused.1 ≡ parts)) }
+        ensures none { IfErr result (λ _. IsUnit parts → ⊥) }
+    {
+        let Parts { header, ops } = parts;
+        let header = match Header::new(header) {
+            Ok(header) => header,
+            Err((fault, header)) => return Err((fault, Parts { header, ops })),
+        };
+        match first_not_admitted(&header, ops.as_slice()) {
+            None => Ok(Unit { header, ops }),
+            Some(index) => {
+                let header = header.into_parts();
+                Err((UnitFault::OpNotOfUnit(index), Parts { header, ops }))
+            }
+        }
+    }
+
+    /// What the unit is made of. It takes no memory.
+    pub fn into_parts(self) -> Parts
+        ensures value { result ≡ self }
+        ensures unit { IsUnit result }
+    {
+        let Unit { header, ops } = self;
+        Parts {
+            header: header.into_parts(),
+            ops,
+        }
+    }
+
+    // The unit of a header and operations that it admits.
+    pub(crate) fn of(header: Header, ops: Items<Op>) -> Unit
+        requires { AllByRecursion (Admits header) ops }
+        ensures { result ≡ record { header = header; ops = ops } }
+    {
+        Unit { header, ops }
+    }
 
     /// The header.
     pub fn header(&self) -> &Header
@@ -49,4 +98,17 @@ impl Unit {
     {
         self.ops.as_slice()
     }
+}
+
+// The first of the operations that the header doesn't admit.
+#[tactic(auto, using(lnt_header::specs::Laws::Firsts::all_more, lnt_header::specs::Laws::Firsts::all_taken, lnt_header::specs::Laws::Firsts::first_not))]
+fn first_not_admitted(header: &Header, ops: &[Op]) -> Option<u64>
+    ensures { MatchOption result (AllByRecursion (Admits header.now) ops.now) (λ index. IsFirstNot (Admits header.now) ops.now index) }
+{
+    for (index, op) in ops.iter().enumerate() {
+        if !header.admits(op) {
+            return Some(index as u64);
+        }
+    }
+    None
 }

@@ -2,7 +2,6 @@ pub mod FrameLemmas
 pub mod FrameListLemmas
 pub mod LebLemmas
 pub mod NumberLemmas
-pub mod PullLemmas
 pub mod PutLemmas
 pub mod ReadLemmas
 pub mod RefusedForms

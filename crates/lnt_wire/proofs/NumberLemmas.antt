@@ -1,11 +1,10 @@
 -- Fixed-width numbers: what byteorder reads is spelled by the bytes, and no other number is.
-use Rattle.std.proofs.Common.{◌≡◌, ℕ, zero, suc, ◌%◌, ◌<◌, List, [], ◌∷◌, length, get_or, refl, sym, ap, arith}
+use Rattle.std.proofs.Common.{◌≡◌, ℕ, ◌%◌, ◌<◌, List, [], ◌∷◌, length, get_or, sym, arith}
 use Rattle.std.proofs.lemmas.Nat.{le_bytes_2, be_bytes_2, le_bytes_4, be_bytes_4, le_bytes_8, be_bytes_8}
-use Rattle.std.specs.Int.{bytes_low_first, bytes_high_first}
 use Rattle.byteorder.specs.Endian.{little_number, big_number}
 use Rattle.lnt_wire.specs.declared.format.Order.{Order}
 use Rattle.lnt_wire.specs.declared.format.Order.TheVariants.{Little, Big}
-use Rattle.lnt_wire.specs.Numbers.{number_bytes, NumberBytes}
+use Rattle.lnt_wire.specs.Numbers.{NumberBytes}
 
 -- what byteorder reads
 abbrev pub number_in : Order → ℕ → List ℕ → ℕ

@@ -14,7 +14,7 @@ use Rattle.lnt_wire.specs.declared.form.FormValue.TheVariants.{Text, LineStrp, S
 use Rattle.lnt_wire.specs.declared.form.Prefix.TheVariants.{Leb, One, Two, Four}
 use Rattle.lnt_wire.specs.FormBytes.{TextBytes, BlockBytes, ValueBytes}
 use Rattle.lnt_wire.specs.Prefixes.{LengthBytes}
-use Rattle.lnt_wire.specs.FormFaults.{IsCutText, IsBlockFault, IsValueFault}
+use Rattle.lnt_wire.specs.FormFaults.{IsCutText, IsValueFault}
 use Rattle.lnt_wire.specs.Leb128.{UnsignedLeb, IsLargeUnsigned, IsLebFault}
 use Rattle.lnt_wire.specs.Numbers.{NumberBytes, OffsetBytes, offset_size}
 use Rattle.lnt_wire.specs.Prefixes.{IsPrefixedFault}

@@ -2,15 +2,12 @@
 use Rattle.std.proofs.Common.{◌≡◌, ℕ, ◌+◌, ◌<◌, ◌≤◌, List, [], ◌∷◌, ◌++◌, length, get_or, take, drop, refl, sym, ap, subst, ◌∙◌, append_assoc, arith}
 use Rattle.std.proofs.lemmas.List.{length-append, length-take-le, take_more, take-append-drop}
 use Rattle.lnt_wire.specs.At.{At}
-use Rattle.lnt_wire.specs.Bytes.{IsCode}
-use Rattle.lnt_wire.specs.declared.format.Order.{Order}
 use Rattle.lnt_wire.specs.declared.fault.Fault.{Fault}
 use Rattle.lnt_wire.specs.declared.fault.Reason.TheVariants.{Truncated}
 use Rattle.lnt_wire.specs.declared.form.Prefix.{Prefix}
-use Rattle.lnt_wire.specs.declared.form.Prefix.TheVariants.{Leb, One, Two, Four}
 use Rattle.lnt_wire.specs.FormBytes.{HasNoZero, TextBytes, BlockBytes}
 use Rattle.lnt_wire.specs.Prefixes.{LengthBytes}
-use Rattle.lnt_wire.specs.FormFaults.{IsCutText, IsBlockFault}
+use Rattle.lnt_wire.specs.FormFaults.{IsCutText}
 use Rattle.lnt_wire.specs.Prefixes.{IsLengthFault}
 use Rattle.lnt_wire.specs.FormFaults.IsBlockFault.{no_length, cut_block}
 use Rattle.lnt_wire.specs.Prefixes.{IsPrefixedFault}

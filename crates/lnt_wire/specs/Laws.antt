@@ -1,5 +1,7 @@
 pub mod Codes
+pub mod Frames
 pub mod Lengths
+pub mod Pulls
 pub mod Values
 -- What is spelled is read again, whatever follows: no spelling begins another, and each spells one value.
 use Rattle.std.specs.Prelude.{◌≡◌, ℕ, List}

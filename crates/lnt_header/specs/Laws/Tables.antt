@@ -1,6 +1,7 @@
 -- A table has one value for its bytes, and none begins another. These are proofs: nothing here is to be believed.
-use Rattle.std.proofs.Common.{◌≡◌, ℕ, List, [], ◌∷◌, ◌++◌, length, refl, sym, ap, subst, ◌∙◌}
+use Rattle.std.proofs.Common.{◌≡◌, ℕ, ◌%◌, ◌<◌, List, [], ◌∷◌, ◌++◌, length, refl, sym, ap, subst, ◌∙◌, arith}
 use Rattle.lnt_wire.specs.declared.format.Order.{Order}
+use Rattle.lnt_wire.specs.declared.format.Order.TheVariants.{Little, Big}
 use Rattle.lnt_wire.specs.declared.format.Format.{Format}
 use Rattle.lnt_wire.specs.declared.form.Form.{Form}
 use Rattle.lnt_wire.specs.declared.form.FormValue.{FormValue}
@@ -10,6 +11,7 @@ use Rattle.lnt_wire.specs.Laws.Codes.{unsigned_code, peel, peel_by, same_join}
 use Rattle.lnt_wire.specs.Laws.Lengths.{same_front, same_rest}
 use Rattle.lnt_header.specs.Joins.{Each}
 use Rattle.lnt_wire.specs.Laws.Values.{same_value, same_code}
+use Rattle.lnt_wire.specs.Numbers.{number_bytes}
 use Rattle.lnt_header.specs.declared.header.Entry.{Entry}
 use Rattle.lnt_header.specs.declared.header.Pair.{Pair}
 use Rattle.lnt_header.specs.Laws.Lists.{same_each}
@@ -23,6 +25,11 @@ byte_code = record {
       let spelled : m ∷ [] ≡ n ∷ [] = sym p ∙ same ∙ q in
       (cc, same);
 }
+
+-- the same as a number
+pub one_digit : (order : Order) (n : ℕ) → n < 256 → number_bytes order 1 n ≡ n ∷ []
+one_digit Little n lt = let same : n % 256 ≡ n = omega arith in rw same refl
+one_digit Big n lt = let same : n % 256 ≡ n = omega arith in rw same refl
 
 abbrev pair_of : ℕ → Form → Pair
 pair_of content form = record { content = content; form = form }

@@ -1,8 +1,9 @@
-use Rattle.std.proofs.Common.{◌≡◌, ◌+◌, ◌^◌, ◌<◌, length}
+use Rattle.std.proofs.Common.{◌≡◌}
+use Rattle.lnt_stream.specs.declared.reader.Progress.TheVariants.{Reading}
 use Rattle.lnt_cli.proofs.dump.print_dump.Given as goal
 
-abbrev pub invariant-loop-cursor : goal.invariant-loop-cursor
-invariant-loop-cursor g l = (l.cursor.order ≡ l.fn.order) × (l.cursor.place + length l.cursor.rest < 2 ^ 64)
+abbrev pub invariant-loop-unit : goal.invariant-loop-unit
+invariant-loop-unit g l = l.reader.progress ≡ Reading
 
-abbrev pub decreases-loop-cursor : goal.decreases-loop-cursor
-decreases-loop-cursor g l = length l.cursor.rest
+abbrev pub decreases-loop-unit : goal.decreases-loop-unit
+decreases-loop-unit g l = g.R.Source.left l.reader.source.now

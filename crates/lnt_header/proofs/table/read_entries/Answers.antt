@@ -4,7 +4,7 @@ use Rattle.std.proofs.lemmas.Grind.{common_steps}
 use Rattle.std.proofs.lemmas.Result.{err_from_is_err_and}
 use Rattle.lnt_header.specs.Joins.{Several}
 use Rattle.lnt_wire.specs.Reading.{Reads, Refuses, RefusesOr}
-use Rattle.lnt_header.proofs.Readers.{refuses_map, reads_map}
+use Rattle.lnt_header.specs.Laws.Readers.{refuses_map, reads_map}
 use Rattle.lnt_header.specs.declared.header.Entry.{Entry}
 use Rattle.lnt_header.specs.TableBytes.{ValuesBytes, EntryBytes}
 use Rattle.lnt_header.specs.TableFaults.{IsTableFault}

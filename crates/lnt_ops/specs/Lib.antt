@@ -1,0 +1,9 @@
+pub mod Laws
+pub mod OpBytes
+pub mod OpFaults
+pub mod OpReading
+pub mod OpSpellings
+pub mod OpSteps
+pub mod OperandLists
+pub mod Programs
+pub mod Walks

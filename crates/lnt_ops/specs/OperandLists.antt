@@ -1,0 +1,23 @@
+-- The operands of unknown standard operations as lists.
+use Rattle.std.specs.Prelude.{◌≡◌, ℕ, List, ◌++◌}
+use Rattle.lnt_wire.specs.At.{At}
+use Rattle.lnt_wire.specs.Leb128.{UnsignedLeb}
+use Rattle.lnt_header.specs.declared.view.Operands.{Operands}
+use Rattle.lnt_header.specs.Joins.{Each}
+use Rattle.lnt_header.specs.OpViews.{AreOperands}
+
+-- the operands are some numbers
+pub record IsOperands (operands : Operands) : Type 0 where
+  pub numbers : List ℕ
+  pub are : AreOperands operands numbers
+
+-- the bytes spell some numbers
+pub record SpellsNumbers (bytes : List ℕ) : Type 0 where
+  pub numbers : List ℕ
+  pub spelled : Each UnsignedLeb numbers bytes
+
+-- the numbers of the bytes up to a cursor
+pub record NumbersSoFar (bytes numbers : List ℕ) (at : At) : Type 0 where
+  pub front : List ℕ
+  pub spelled : Each UnsignedLeb numbers front
+  pub whole : bytes ≡ front ++ at.rest

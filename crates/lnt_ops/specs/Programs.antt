@@ -1,0 +1,47 @@
+-- Programs: operations one behind another (DWARF 5, section 6.2.5).
+use Rattle.std.specs.Prelude.{◌≡◌, ℕ, ◌+◌, List, ◌++◌, length}
+use Rattle.std.specs.List.{AllByRecursion}
+use Rattle.lnt_wire.specs.At.{At}
+use Rattle.lnt_wire.specs.declared.fault.Fault.{Fault}
+use Rattle.lnt_wire.specs.declared.fault.Reason.{Reason}
+use Rattle.lnt_header.specs.declared.header.HeaderParts.{HeaderParts}
+use Rattle.lnt_header.specs.declared.op.Op.{Op}
+use Rattle.lnt_header.specs.declared.view.OpView.{OpView}
+use Rattle.lnt_header.specs.Joins.{Each}
+use Rattle.lnt_header.specs.OpRules.{Admits}
+use Rattle.lnt_header.specs.OpViews.{StandsFor}
+use Rattle.lnt_ops.specs.OpBytes.{OpBytes}
+use Rattle.lnt_ops.specs.OpFaults.{IsOpFault, IsFirstFault}
+
+-- The fault is that of an operation that isn't there behind some that are.
+pub record IsFirstIn (h : HeaderParts) (reason : Reason) (before left : List ℕ) : Type 0 where
+  pub ops : List Op
+  pub front : List ℕ
+  pub fields : List ℕ
+  pub sound : Each (OpBytes h) ops front
+  pub joined : before ≡ front ++ fields
+  pub fault : IsFirstFault h reason fields left
+
+-- No operations spell the whole program, which stands at a place, and the fault says why: its own place lies behind the bytes `before`.
+pub record BrokenProgram (h : HeaderParts) (place : ℕ) (program : List ℕ) (fault : Fault) : Type 0 where
+  pub before : List ℕ
+  pub left : List ℕ
+  pub split : program ≡ before ++ left
+  pub place_is : fault.place ≡ place + length before
+  pub reason : IsOpFault h.address_size fault.reason before left
+  pub first : IsFirstIn h fault.reason before left
+  pub none : (ops : List Op) → Each (OpBytes h) ops program → ⊥
+
+-- the operations of the program up to a cursor
+pub record OpsSoFar (h : HeaderParts) (place : ℕ) (program : List ℕ) (ops : List Op) (at : At) : Type 0 where
+  pub front : List ℕ
+  pub spelled : Each (OpBytes h) ops front
+  pub admitted : AllByRecursion (Admits h) ops
+  pub whole : program ≡ front ++ at.rest
+  pub place_is : at.place ≡ place + length front
+  pub order_is : at.order ≡ h.order
+
+-- the view stands for some operation
+pub record IsView (view : OpView) : Type 0 where
+  pub op : Op
+  pub stands : StandsFor view op

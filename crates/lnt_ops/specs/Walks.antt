@@ -1,0 +1,45 @@
+-- Walks over the operations of a program, one by one.
+use Rattle.std.specs.Prelude.{◌≡◌, ◌<◌, ◌⊎◌, Bool, true, false, length, Option, Some, None, Result, Ok, Err}
+use Rattle.lnt_wire.specs.At.{At}
+use Rattle.lnt_wire.specs.declared.fault.Fault.{Fault}
+use Rattle.lnt_wire.specs.Reading.{Refuses}
+use Rattle.lnt_header.specs.declared.header.HeaderParts.{HeaderParts}
+use Rattle.lnt_header.specs.declared.view.OpView.{OpView}
+use Rattle.lnt_ops.specs.OpBytes.{OpBytes}
+use Rattle.lnt_ops.specs.OpFaults.{IsOpFault, IsFirstFault}
+use Rattle.lnt_ops.specs.OpReading.{GivesOp}
+
+-- What a walk is: the header of the unit, where it stands in the program, and whether an operation was refused.
+pub record Walk : Type 0 where
+  pub header : HeaderParts
+  pub at : At
+  pub failed : Bool
+
+-- the walk has ended: nothing is left, or an operation was refused earlier
+pub record Ends (old new : Walk) : Type 0 where
+  pub ended : (old.failed ≡ true) ⊎ (length old.at.rest ≡ 0)
+  pub unchanged : new ≡ old
+
+-- the next operation
+pub record Steps (view : OpView) (old new : Walk) : Type 0 where
+  pub going : old.failed ≡ false
+  pub goes_on : new.failed ≡ false
+  pub header_is : new.header ≡ old.header
+  pub gives : GivesOp old.header view old.at new.at
+  pub shorter : length new.at.rest < length old.at.rest
+
+-- bytes are left, and no operation begins them
+pub record Fails (fault : Fault) (old new : Walk) : Type 0 where
+  pub going : old.failed ≡ false
+  pub failed : new.failed ≡ true
+  pub header_is : new.header ≡ old.header
+  pub at_is : new.at ≡ old.at
+  pub some : 0 < length old.at.rest
+  pub refuses : Refuses (IsOpFault old.header.address_size) (OpBytes old.header) old.at fault
+  pub first : Refuses (IsFirstFault old.header) (OpBytes old.header) old.at fault
+
+-- one step of a walk
+abbrev pub WalkStep : Walk → Option (Result OpView Fault) → Walk → Type 0
+WalkStep old None new = Ends old new
+WalkStep old (Some (Ok view)) new = Steps view old new
+WalkStep old (Some (Err fault)) new = Fails fault old new

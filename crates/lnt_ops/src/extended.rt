@@ -1,0 +1,100 @@
+//! Extended operations (DWARF 5, section 6.2.5.3).
+ghost use Rattle.std.specs.Prelude.{◌≡◌, ◌↔◌, ◌+◌, ◌^◌, ◌<◌, length, IfOk, IfErr, OnErr, IsTrue, MatchBool};
+ghost use Rattle.lnt_wire.specs.Leb128.{IsLeb};
+ghost use Rattle.lnt_wire.specs.Numbers.{NumberBytes};
+ghost use Rattle.lnt_wire.specs.Reading.{Refuses};
+ghost use Rattle.lnt_header.specs.Broken.{IsWrongOperand};
+ghost use Rattle.lnt_ops.specs.OpSteps.{BehindBytes, IsFaultBehind, GivesBehind, IsRightOperand, GivesCounted, IsCountedFault};
+
+use lnt_header::{Header, OpView};
+use lnt_wire::{Cursor, Fault, Reason};
+
+/// An extended operation behind its zero byte: a length, and as many bytes, which are a code and its operand.
+#[inline(never)]
+#[tactic(auto, using(crate::proofs::ExtendedReaders::gives_extended, crate::proofs::ExtendedReaders::refuses_length, crate::proofs::ExtendedReaders::refuses_cut, crate::proofs::ExtendedReaders::refuses_counted))]
+pub(crate) fn read_extended<'a>(
+    cursor: &mut Cursor<'a>,
+    header: &Header,
+) -> Result<OpView<'a>, Fault>
+    requires standard { 0 < header.now.opcode_base }
+    ensures ok { IfOk result (λ view. GivesBehind header.now 0 view cursor.old cursor.new) }
+    ensures err { IfErr result (λ fault. Refuses (IsFaultBehind header.now 0) (BehindBytes header.now 0) cursor.old fault) }
+{
+    let length_place = cursor.place();
+    let length = cursor.uleb()?;
+    let start = cursor.place();
+    let counted = cursor.take(length as usize)?;
+    read_counted(counted, length_place, start, header)
+}
+
+// The operation that these bytes are, which stand at the place `start`.
+#[tactic(auto, using(crate::proofs::ExtendedReaders::address_whole, crate::proofs::ExtendedReaders::gives_end, crate::proofs::ExtendedReaders::gives_address, crate::proofs::ExtendedReaders::gives_discriminator, crate::proofs::ExtendedReaders::gives_other, crate::proofs::ExtendedReaders::refuses_discriminator))]
+fn read_counted<'a>(
+    bytes: &'a [u8],
+    length_place: u64,
+    start: u64,
+    header: &Header,
+) -> Result<OpView<'a>, Fault>
+    requires { start + length bytes.now < 2 ^ 64 }
+    ensures ok { IfOk result (λ view. GivesCounted header.now view bytes.now) }
+    ensures err { IfErr result (λ fault. IsCountedFault header.now.address_size length_place start fault bytes.now) }
+{
+    if !has_right_operand(bytes, header.address_size()) {
+        return Err(Fault {
+            place: length_place,
+            reason: Reason::ExtendedLength,
+        });
+    }
+    let (_, operand) = bytes.split_at(1);
+    let mut cursor = Cursor::new(operand, start + 1, header.order());
+    match bytes[0] {
+        1 => Ok(OpView::EndSequence),
+        2 => Ok(OpView::SetAddress(read_address(&mut cursor, header)?)),
+        4 => Ok(OpView::SetDiscriminator(cursor.uleb()?)),
+        code => Ok(OpView::UnknownExtended(code, operand)),
+    }
+}
+
+// Whether these bytes are a code and an operand that fits it in length and shape.
+#[tactic(auto, using(crate::proofs::ExtendedReaders::right_operand, crate::proofs::ExtendedReaders::wrong_end, crate::proofs::ExtendedReaders::wrong_address, crate::proofs::ExtendedReaders::wrong_discriminator, crate::proofs::ExtendedReaders::no_code))]
+fn has_right_operand(bytes: &[u8], address_size: u8) -> bool
+    ensures { MatchBool result (IsRightOperand address_size bytes.now) (IsWrongOperand address_size bytes.now) }
+{
+    if bytes.is_empty() {
+        return false;
+    }
+    let (_, operand) = bytes.split_at(1);
+    match bytes[0] {
+        1 => operand.is_empty(),
+        2 => operand.len() == usize::from(address_size),
+        4 => is_leb(operand),
+        _ => true,
+    }
+}
+
+// Whether these bytes are one number in groups of seven bits: the last byte is the first below 128.
+#[tactic(auto, using(crate::proofs::ExtendedReaders::leb_more, crate::proofs::ExtendedReaders::leb_found, crate::proofs::ExtendedReaders::leb_last, crate::proofs::ExtendedReaders::leb_all))]
+fn is_leb(bytes: &[u8]) -> bool
+    ensures { IsTrue result ↔ IsLeb bytes.now }
+{
+    for (i, byte) in bytes.iter().enumerate() {
+        if *byte < 128 {
+            return i + 1 == bytes.len();
+        }
+    }
+    false
+}
+
+// An address that is there whole.
+fn read_address(cursor: &mut Cursor<'_>, header: &Header) -> Result<u64, Fault>
+    requires size { length cursor.old.rest ≡ header.now.address_size }
+    requires order { cursor.old.order ≡ header.now.order }
+    ensures ok { IfOk result (λ address. NumberBytes header.now.order header.now.address_size address cursor.old.rest) }
+    ensures err { OnErr result ⊥ }
+{
+    match header.address_size() {
+        2 => Ok(u64::from(cursor.u16()?)),
+        4 => Ok(u64::from(cursor.u32()?)),
+        _ => cursor.u64(),
+    }
+}

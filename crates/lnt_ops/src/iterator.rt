@@ -1,0 +1,76 @@
+//! The operations of a program one by one.
+ghost use Rattle.std.specs.Prelude.{◌≡◌, ◌+◌, ◌^◌, ◌<◌, length, false, if◌then◌else◌};
+ghost use Rattle.std.specs.Iterator.{at_most};
+ghost use Rattle.lnt_ops.specs.Walks.{WalkStep};
+
+use crate::operation::read_op;
+use lnt_header::{Header, OpView};
+use lnt_wire::{Cursor, Fault};
+use std::marker::Model;
+
+/// The operations of a program in order, each from its own bytes (DWARF 5, section 6.2.5). It takes no memory.
+///
+/// It ends behind the last operation, or after its first fault, which is that of [`read_op`]. So it gives at most as
+/// many items as the program has bytes.
+#[derive(Drop)]
+pub struct Ops<'a> {
+    header: &'a Header,
+    cursor: Cursor<'a>,
+    failed: bool,
+}
+
+impl<'a> Model for Ops<'a> {
+    ghost use Rattle.std.specs.Prelude.{◌≡◌};
+    ghost use Rattle.lnt_ops.specs.Walks.{Walk};
+
+    ghost Value = { Walk };
+
+    ghost view = { λ ops. record { header = ops.header.now; at = ops.cursor; failed = ops.failed } };
+
+    ghost invariant = { λ ops. ops.cursor.order ≡ ops.header.now.order };
+}
+
+impl<'a> Ops<'a> {
+    ghost use Rattle.lnt_header.specs.HeaderRules.{IsHeader};
+
+    /// The operations of a program in a unit with this header. The program's first byte stands at the offset `place`
+    /// of the section, and the offset behind its last byte is below 2^64.
+    pub fn new(header: &'a Header, program: &'a [u8], place: u64) -> Ops<'a>
+        requires { place + length program.now < 2 ^ 64 }
+        ensures header { result.header ≡ header.entry.now }
+        ensures place { result.at.place ≡ place }
+        ensures rest { result.at.rest ≡ program.entry.now }
+        ensures order { result.at.order ≡ header.entry.now.order }
+        ensures going { result.failed ≡ false }
+        ensures is_header { IsHeader header.entry.now }
+    {
+        Ops {
+            header,
+            cursor: Cursor::new(program, place, header.order()),
+            failed: false,
+        }
+    }
+}
+
+impl<'a> Iterator for Ops<'a> {
+    type Item = Result<OpView<'a>, Fault>;
+
+    ghost next_gives = { WalkStep };
+
+    ghost remaining = { λ walk. at_most (if walk.failed then 0 else length walk.at.rest) };
+
+    #[inline(always)]
+    #[tactic(auto, using(crate::proofs::WalkLemmas::ends_failed, crate::proofs::WalkLemmas::ends_empty, crate::proofs::WalkLemmas::steps_on, crate::proofs::WalkLemmas::fails_here, crate::proofs::WalkLemmas::order_kept))]
+    fn next(&mut self) -> Option<Result<OpView<'a>, Fault>> {
+        if self.failed || self.cursor.rest().is_empty() {
+            return None;
+        }
+        match read_op(&mut self.cursor, self.header) {
+            Ok(view) => Some(Ok(view)),
+            Err(fault) => {
+                self.failed = true;
+                Some(Err(fault))
+            }
+        }
+    }
+}

@@ -1,0 +1,69 @@
+//! One operation, from its first byte on.
+ghost use Rattle.std.specs.Prelude.{◌≡◌, ◌<◌, IfOk, IfErr, OnErr};
+ghost use Rattle.lnt_wire.specs.Reading.{Refuses};
+ghost use Rattle.lnt_ops.specs.OpBytes.{OpBytes};
+ghost use Rattle.lnt_ops.specs.OpFaults.{IsFirstFault, IsOpFault};
+ghost use Rattle.lnt_ops.specs.OpReading.{GivesOp};
+ghost use Rattle.lnt_ops.specs.OpSteps.{BehindBytes, IsFaultBehind, GivesBehind};
+
+use crate::extended::read_extended;
+use crate::unknown::read_unknown;
+use lnt_header::{Header, OpView};
+use lnt_wire::{Cursor, Fault};
+
+/// The next operation of a program in a unit with this header (DWARF 5, section 6.2.5). It takes no memory.
+///
+/// It refuses only where no front of the bytes that are left spells an operation, and then leaves the cursor as it
+/// was. A number that isn't there whole is `Truncated`, and one out of range is `LebTooLarge`, both at its first byte.
+/// An extended operation whose length isn't that of its code and operand is `ExtendedLength` at the length; where
+/// the bytes end before the length does, it is `Truncated` at the first byte that the length counts.
+#[inline(always)]
+#[tactic(auto, using(crate::proofs::OpReaders::gives_special, crate::proofs::OpReaders::gives_behind, crate::proofs::OpReaders::first_opcode, crate::proofs::OpReaders::first_behind, crate::proofs::OpReaders::refuses_opcode, crate::proofs::OpReaders::refuses_behind))]
+pub fn read_op<'a>(cursor: &mut Cursor<'a>, header: &Header) -> Result<OpView<'a>, Fault>
+    requires { cursor.old.order ≡ header.now.order }
+    ensures ok { IfOk result (λ view. GivesOp header.now view cursor.old cursor.new) }
+    ensures err { IfErr result (λ fault. Refuses (IsOpFault header.now.address_size) (OpBytes header.now) cursor.old fault) }
+    ensures first { IfErr result (λ fault. Refuses (IsFirstFault header.now) (OpBytes header.now) cursor.old fault) }
+    ensures unchanged { OnErr result (cursor.new ≡ cursor.old) }
+{
+    let mut ahead = Cursor::new(cursor.rest(), cursor.place(), cursor.order());
+    let opcode = ahead.u8()?;
+    if opcode >= header.opcode_base() {
+        *cursor = ahead;
+        return Ok(OpView::Special(opcode));
+    }
+    let view = read_behind(&mut ahead, header, opcode)?;
+    *cursor = ahead;
+    Ok(view)
+}
+
+// What follows the opcode of an operation that isn't special.
+#[inline(always)]
+#[tactic(auto, using(crate::proofs::StandardReaders::gives_copy, crate::proofs::StandardReaders::gives_advance_pc, crate::proofs::StandardReaders::gives_advance_line, crate::proofs::StandardReaders::gives_set_file, crate::proofs::StandardReaders::gives_set_column, crate::proofs::StandardReaders::gives_negate_stmt, crate::proofs::StandardReaders::gives_set_basic_block, crate::proofs::StandardReaders::gives_const_add_pc, crate::proofs::StandardReaders::gives_fixed_advance_pc, crate::proofs::StandardReaders::gives_set_prologue_end, crate::proofs::StandardReaders::gives_set_epilogue_begin, crate::proofs::StandardReaders::gives_set_isa, crate::proofs::StandardReaders::refuses_advance_pc, crate::proofs::StandardReaders::refuses_advance_line, crate::proofs::StandardReaders::refuses_set_file, crate::proofs::StandardReaders::refuses_set_column, crate::proofs::StandardReaders::refuses_fixed_advance_pc, crate::proofs::StandardReaders::refuses_set_isa))]
+fn read_behind<'a>(
+    cursor: &mut Cursor<'a>,
+    header: &Header,
+    opcode: u8,
+) -> Result<OpView<'a>, Fault>
+    requires standard { opcode < header.now.opcode_base }
+    requires order { cursor.old.order ≡ header.now.order }
+    ensures ok { IfOk result (λ view. GivesBehind header.now opcode view cursor.old cursor.new) }
+    ensures err { IfErr result (λ fault. Refuses (IsFaultBehind header.now opcode) (BehindBytes header.now opcode) cursor.old fault) }
+{
+    match opcode {
+        0 => read_extended(cursor, header),
+        1 => Ok(OpView::Copy),
+        2 => Ok(OpView::AdvancePc(cursor.uleb()?)),
+        3 => Ok(OpView::AdvanceLine(cursor.sleb()?)),
+        4 => Ok(OpView::SetFile(cursor.uleb()?)),
+        5 => Ok(OpView::SetColumn(cursor.uleb()?)),
+        6 => Ok(OpView::NegateStmt),
+        7 => Ok(OpView::SetBasicBlock),
+        8 => Ok(OpView::ConstAddPc),
+        9 => Ok(OpView::FixedAdvancePc(cursor.u16()?)),
+        10 => Ok(OpView::SetPrologueEnd),
+        11 => Ok(OpView::SetEpilogueBegin),
+        12 => Ok(OpView::SetIsa(cursor.uleb()?)),
+        _ => read_unknown(cursor, header, opcode),
+    }
+}

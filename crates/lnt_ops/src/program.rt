@@ -1,0 +1,46 @@
+//! Whole programs.
+ghost use Rattle.std.specs.Prelude.{◌≢◌, ◌+◌, ◌^◌, ◌<◌, length, IfOk, IfErr};
+ghost use Rattle.std.specs.List.{AllByRecursion};
+ghost use Rattle.lnt_header.specs.Joins.{Each};
+ghost use Rattle.lnt_header.specs.OpRules.{Admits};
+ghost use Rattle.lnt_ops.specs.OpBytes.{OpBytes};
+ghost use Rattle.lnt_ops.specs.Programs.{BrokenProgram};
+
+use crate::iterator::Ops;
+use crate::owned::owned_op;
+use lnt_header::{Header, Op};
+use lnt_wire::{Fault, Items, Reason};
+use std::alloc::Global;
+
+/// The operations of a whole program in a unit with this header (DWARF 5, section 6.2.5). The program's first byte
+/// stands at the offset `place` of the section.
+///
+/// It refuses only where no operations spell the program, with the fault of the first operation that isn't there,
+/// or with `Memory`.
+#[tactic(auto, using(crate::specs::Laws::Programs::ops_none, crate::specs::Laws::Programs::ops_more, crate::specs::Laws::Programs::ops_spelled, crate::specs::Laws::Programs::ops_admitted, crate::specs::Laws::Programs::walk_done, crate::specs::Laws::Programs::is_view))]
+pub fn read_ops(
+    alloc: Global,
+    header: &Header,
+    program: &[u8],
+    place: u64,
+) -> Result<Items<Op>, Fault>
+    requires { place + length program.now < 2 ^ 64 }
+    ensures ok { IfOk result (λ ops. Each (OpBytes header.now) ops program.now) }
+    ensures admitted { IfOk result (λ ops. AllByRecursion (Admits header.now) ops) }
+    ensures err { IfErr result (λ fault. fault.reason ≢ Reason.Memory → BrokenProgram header.now place program.now fault) }
+{
+    let memory = Fault {
+        place,
+        reason: Reason::Memory,
+    };
+    let mut ops = Vec::new(alloc);
+    for view in Ops::new(header, program, place) {
+        let Ok(op) = owned_op(alloc, view?) else {
+            return Err(memory);
+        };
+        if ops.push(op).is_err() {
+            return Err(memory);
+        }
+    }
+    Ok(Items::new(ops))
+}

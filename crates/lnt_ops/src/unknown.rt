@@ -1,0 +1,41 @@
+//! Standard operations that DWARF 5 doesn't know (DWARF 5, section 6.2.5.2).
+ghost use Rattle.std.specs.Prelude.{◌<◌, ◌≤◌, IfOk, IfErr, OnOk};
+ghost use Rattle.lnt_wire.specs.Leb128.{UnsignedLeb};
+ghost use Rattle.lnt_wire.specs.Reading.{Refuses};
+ghost use Rattle.lnt_header.specs.Joins.{Several};
+ghost use Rattle.lnt_ops.specs.OpSteps.{BehindBytes, IsFaultBehind, GivesBehind, PassesOperands, IsOperandFault};
+
+use lnt_header::{Header, OpView, Operands};
+use lnt_wire::{Cursor, Fault};
+
+/// The operands of a standard operation from 13 on.
+#[inline(never)]
+#[tactic(auto, using(crate::proofs::UnknownReaders::opcode_there, crate::proofs::UnknownReaders::gives_unknown, crate::proofs::UnknownReaders::refuses_unknown))]
+pub(crate) fn read_unknown<'a>(
+    cursor: &mut Cursor<'a>,
+    header: &Header,
+    opcode: u8,
+) -> Result<OpView<'a>, Fault>
+    requires unknown { 13 ≤ opcode }
+    requires standard { opcode < header.now.opcode_base }
+    ensures ok { IfOk result (λ view. GivesBehind header.now opcode view cursor.old cursor.new) }
+    ensures err { IfErr result (λ fault. Refuses (IsFaultBehind header.now opcode) (BehindBytes header.now opcode) cursor.old fault) }
+{
+    let count = header.standard_lengths()[usize::from(opcode) - 1];
+    let bytes = cursor.rest();
+    pass_operands(cursor, count)?;
+    let (operands, _) = bytes.split_at(bytes.len() - cursor.rest().len());
+    Ok(OpView::UnknownStandard(opcode, Operands::Spelled(operands)))
+}
+
+// Moves past as many numbers as the count says.
+#[tactic(auto, using(crate::proofs::UnknownReaders::operands_none, crate::proofs::UnknownReaders::operands_more, crate::proofs::UnknownReaders::refuses_operands))]
+fn pass_operands(cursor: &mut Cursor<'_>, count: u8) -> Result<(), Fault>
+    ensures ok { OnOk result (PassesOperands count cursor.old cursor.new) }
+    ensures err { IfErr result (λ fault. Refuses (IsOperandFault count) (Several count UnsignedLeb) cursor.old fault) }
+{
+    for _ in 0..count {
+        cursor.uleb()?;
+    }
+    Ok(())
+}

@@ -1,0 +1,139 @@
+-- Joining a span with one that touches it and answers the same.
+use Rattle.std.proofs.Common.{append_assoc, ◌≡◌, ◌≢◌, ◌∙◌, List, [], ◌∷◌, ◌++◌, inl, inr, map, refl, ap, sym, subst, Some, None, false}
+use Rattle.std.specs.Option.{option_map}
+use Rattle.lnt_spans.specs.declared.answer.Version.{Version}
+use Rattle.lnt_spans.specs.declared.position.Position.{Position}
+use Rattle.lnt_spans.specs.declared.span.Span.{Span}
+use Rattle.lnt_spans.specs.Answers.{in_version}
+use Rattle.lnt_spans.specs.Positions.{IsBelow, IsAtMost}
+use Rattle.lnt_spans.specs.Spans.{AreInOrder, DifferWhereTheyTouch, span_answer, span_in_version, version_answer}
+use Rattle.lnt_spans.specs.Laws.Answering.{answer_in, answer_before, answer_behind, answer_same, first_holds, rest_in_order}
+use Rattle.lnt_spans.specs.Laws.Positions.{order_cases, below_at_most, below_is_at_most}
+
+-- what stands for an element past a list's end
+abbrev pub no_span : Span
+no_span = record {
+  low = record { address = 0; op = 0 };
+  high = record { address = 0; op = 0 };
+  answer = record { unit = 0; file = 0; line = 0; column = 0; is_stmt = false; more = None };
+}
+
+-- ---- two spans joined, behind others
+
+-- a span that goes on to another end
+abbrev pub joined_span : Span → Position → Span
+joined_span first high = record first { high = high }
+
+joined_holds : (first next : Span) → first.high ≡ next.low → IsBelow first.low first.high → IsBelow next.low next.high → IsBelow first.low next.high
+joined_holds first next touch h k = below_at_most (subst (λ (p : Position). IsBelow first.low p) touch h) (below_is_at_most k)
+
+pub join_order : (done : List Span) (first next : Span) (more : List Span) → first.high ≡ next.low → AreInOrder (done ++ first ∷ next ∷ more) → AreInOrder (done ++ joined_span first next.high ∷ more)
+join_order [] first next [] touch h = joined_holds first next touch h.0 h.2
+join_order [] first next (m ∷ more) touch h = (joined_holds first next touch h.0 h.2.0, h.2.1, h.2.2)
+join_order (d ∷ []) first next more touch h = (h.0, h.1, join_order [] first next more touch h.2)
+join_order (d ∷ e ∷ done) first next more touch h = (h.0, h.1, join_order (e ∷ done) first next more touch h.2)
+
+pub join_differ : (done : List Span) (first : Span) (high : Position) → DifferWhereTheyTouch (done ++ first ∷ []) → DifferWhereTheyTouch (done ++ joined_span first high ∷ [])
+join_differ [] first high h = tt
+join_differ (d ∷ []) first high h = (h.0, tt)
+join_differ (d ∷ e ∷ done) first high h = (h.0, join_differ (e ∷ done) first high h.1)
+
+pub push_differ : (done : List Span) (first next : Span) → DifferWhereTheyTouch (done ++ first ∷ []) → (first.high ≡ next.low → first.answer ≢ next.answer)
+    → DifferWhereTheyTouch ((done ++ first ∷ []) ++ next ∷ [])
+push_differ [] first next h k = (k, tt)
+push_differ (d ∷ []) first next h k = (h.0, (k, tt))
+push_differ (d ∷ e ∷ done) first next h k = (h.0, push_differ (e ∷ done) first next h.1 k)
+
+answer_joined : (first next : Span) (more : List Span) (p : Position) → first.high ≡ next.low → first.answer ≡ next.answer → IsBelow first.low first.high → IsBelow next.low next.high
+    → span_answer (joined_span first next.high ∷ more) p ≡ span_answer (first ∷ next ∷ more) p
+answer_joined first next more p touch same h k = elim (order_cases p first.low) [
+  | inl before ↦
+      let early : IsBelow p next.low = subst (λ (q : Position). IsBelow p q) touch (below_at_most before (below_is_at_most h)) in
+      answer_before (joined_span first next.high) more p before ∙ sym (answer_before first (next ∷ more) p before ∙ answer_before next more p early)
+  | inr from ↦ elim (order_cases p first.high) [
+    | inl under ↦
+        let early : IsBelow p next.low = subst (λ (q : Position). IsBelow p q) touch under in
+        answer_in (joined_span first next.high) more p from (below_at_most early (below_is_at_most k))
+        ∙ sym (answer_in first (next ∷ more) p from under)
+    | inr over ↦
+        let late : IsAtMost next.low p = subst (λ (q : Position). IsAtMost q p) touch over in
+        elim (order_cases p next.high) [
+          | inl under ↦ answer_in (joined_span first next.high) more p from under ∙ ap Some same
+              ∙ sym (answer_behind first (next ∷ more) p over ∙ answer_in next more p late under)
+          | inr behind ↦ answer_behind (joined_span first next.high) more p behind
+              ∙ sym (answer_behind first (next ∷ more) p over ∙ answer_behind next more p behind)
+        ]
+  ]
+]
+
+pub join_answer : (done : List Span) (first next : Span) (more : List Span) (p : Position) → first.high ≡ next.low → first.answer ≡ next.answer
+    → AreInOrder (done ++ first ∷ next ∷ more) → span_answer (done ++ joined_span first next.high ∷ more) p ≡ span_answer (done ++ first ∷ next ∷ more) p
+join_answer [] first next more p touch same h = answer_joined first next more p touch same h.0 (first_holds next more h.2)
+join_answer (d ∷ done) first next more p touch same h =
+    answer_same d (done ++ joined_span first next.high ∷ more) (done ++ first ∷ next ∷ more) p (join_answer done first next more p touch same (rest_in_order d (done ++ first ∷ next ∷ more) h))
+
+-- ---- the loop
+
+-- what is joined so far, the span that may still grow, and the spans behind it
+pub record Joining (spans done : List Span) (first : Span) (rest : List Span) : Type 0 where
+  pub order : AreInOrder (done ++ first ∷ rest)
+  pub differ : DifferWhereTheyTouch (done ++ first ∷ [])
+  pub same : (p : Position) → span_answer (done ++ first ∷ rest) p ≡ span_answer spans p
+
+pub keep_join : (spans done : List Span) (first next : Span) (more : List Span) → Joining spans done first (next ∷ more)
+    → (first.high ≡ next.low) × (first.answer ≡ next.answer) → Joining spans done (joined_span first next.high) more
+keep_join spans done first next more j e = record {
+  order = join_order done first next more e.0 j.order;
+  differ = join_differ done first next.high j.differ;
+  same = λ p. join_answer done first next more p e.0 e.1 j.order ∙ j.same p;
+}
+
+pub keep_push : (spans done : List Span) (first next : Span) (more : List Span) → Joining spans done first (next ∷ more)
+    → (first.high ≡ next.low → first.answer ≢ next.answer) → Joining spans (done ++ first ∷ []) next more
+keep_push spans done first next more j e =
+    let cut = append_assoc done (first ∷ []) (next ∷ more) in record {
+      order = subst AreInOrder (sym cut) j.order;
+      differ = push_differ done first next j.differ e;
+      same = λ p. ap (λ (xs : List Span). span_answer xs p) cut ∙ j.same p;
+    }
+
+-- ---- answers as a version tells them
+
+abbrev pub told : Version → List Span → List Span
+told version spans = map (span_in_version version) spans
+
+pub told_order : (version : Version) (spans : List Span) → AreInOrder spans → AreInOrder (told version spans)
+told_order version [] h = tt
+told_order version (s ∷ []) h = h
+told_order version (s ∷ t ∷ spans) h = (h.0, h.1, told_order version (t ∷ spans) h.2)
+
+pub told_answer : (version : Version) (spans : List Span) (p : Position) → span_answer (told version spans) p ≡ version_answer version spans p
+told_answer version [] p = refl
+told_answer version (s ∷ spans) p = elim (order_cases p s.low) [
+  | inl before ↦
+      answer_before (span_in_version version s) (told version spans) p before ∙ told_answer version spans p
+      ∙ sym (ap (option_map (in_version version)) (answer_before s spans p before))
+  | inr from ↦ elim (order_cases p s.high) [
+    | inl under ↦ answer_in (span_in_version version s) (told version spans) p from under ∙ sym (ap (option_map (in_version version)) (answer_in s spans p from under))
+    | inr over ↦
+        answer_behind (span_in_version version s) (told version spans) p over ∙ told_answer version spans p
+        ∙ sym (ap (option_map (in_version version)) (answer_behind s spans p over))
+  ]
+]
+
+-- ---- the first span, and the end
+
+pub join_start : (version : Version) (spans rest : List Span) (first : Span) → spans ≡ first ∷ rest → AreInOrder spans
+    → Joining (told version spans) [] (span_in_version version first) (told version rest)
+join_start version spans rest first e o =
+    rw e
+    (record {
+      order = told_order version (first ∷ rest) (rw e at o);
+      differ = tt;
+      same = λ p. refl;
+    })
+
+pub join_end : (version : Version) (spans done rest : List Span) (last : Span) → Joining (told version spans) done last (told version rest) → rest ≡ []
+    → (p : Position) → span_answer (done ++ last ∷ []) p ≡ version_answer version spans p
+join_end version spans done rest last j e p =
+    let whole : Joining (told version spans) done last [] = rw e at j in whole.same p ∙ told_answer version spans p

@@ -1,0 +1,7 @@
+pub mod BisectionLemmas
+pub mod BorderLemmas
+pub mod CanonicalLemmas
+pub mod JoinLemmas
+pub mod MergeLemmas
+pub mod ScanLemmas
+pub mod SortLemmas

@@ -1,0 +1,14 @@
+-- Answers, and how much of them the versions of the address table tell.
+use Rattle.std.specs.Prelude.{None}
+use Rattle.lnt_spans.specs.declared.answer.Answer.{Answer}
+use Rattle.lnt_spans.specs.declared.answer.Version.{Version}
+use Rattle.lnt_spans.specs.declared.answer.Version.TheVariants.{One, Two}
+
+-- the answer without its instruction set and discriminator
+abbrev pub narrowed : Answer → Answer
+narrowed answer = record answer { more = None }
+
+-- the answer as a version tells it
+abbrev pub in_version : Version → Answer → Answer
+in_version One answer = narrowed answer
+in_version Two answer = answer

@@ -1,0 +1,55 @@
+-- A section's spans compared with the records of a table, as far as these have come.
+use Rattle.std.specs.Prelude.{◌≡◌, List, [], ◌∷◌, Option, Some, None}
+use Rattle.lnt_spans.specs.declared.answer.Answer.{Answer}
+use Rattle.lnt_spans.specs.declared.answer.Version.{Version}
+use Rattle.lnt_spans.specs.declared.difference.Difference.{Difference}
+use Rattle.lnt_spans.specs.declared.position.Position.{Position}
+use Rattle.lnt_spans.specs.declared.span.Span.{Span}
+use Rattle.lnt_spans.specs.Differences.{IsLeastDifference}
+use Rattle.lnt_spans.specs.Positions.{IsBelow, IsAtMost}
+use Rattle.lnt_spans.specs.Scanning.{EndsBehind}
+use Rattle.lnt_spans.specs.Spans.{AreInOrder, span_answer, version_answer}
+
+-- what contracts see of a merge: the version of the table, the spans that may matter from `at` on, the end of the
+-- records so far, and the first difference below it
+pub record State : Type 0 where
+  pub version : Version
+  pub rest : List Span
+  pub at : Position
+  pub first : Option Difference
+
+-- While there is no difference, the first span that is left ends behind `at`.
+pub record IsSound (rest : List Span) (at : Position) (first : Option Difference) : Type 0 where
+  pub order : AreInOrder rest
+  pub behind : first ≡ None → EndsBehind at rest
+
+-- No difference is below `at`.
+pub record AgreeBefore (state : State) (spans : List Span) (by_table : Position → Option Answer) : Type 0 where
+  pub rest_same : (p : Position) → IsAtMost state.at p → span_answer state.rest p ≡ span_answer spans p
+  pub agree : (p : Position) → IsBelow p state.at → version_answer state.version spans p ≡ by_table p
+
+-- The least difference is below `at`.
+pub record DifferBefore (state : State) (spans : List Span) (by_table : Position → Option Answer) (difference : Difference) : Type 0 where
+  pub below : IsBelow difference.position state.at
+  pub least : IsLeastDifference (version_answer state.version spans) by_table difference
+
+-- One of the two, as `first` tells.
+abbrev pub IsComparedBy : Option Difference → State → List Span → (Position → Option Answer) → Type 0
+IsComparedBy None state spans by_table = AgreeBefore state spans by_table
+IsComparedBy (Some difference) state spans by_table = DifferBefore state spans by_table difference
+
+abbrev pub IsCompared : State → List Span → (Position → Option Answer) → Type 0
+IsCompared state spans by_table = IsComparedBy state.first state spans by_table
+
+-- where the records end
+abbrev pub end_of : List Span → Position
+end_of [] = record { address = 0; op = 0 }
+end_of (first ∷ []) = first.high
+end_of (first ∷ next ∷ records) = end_of (next ∷ records)
+
+-- The merge has compared the spans with these records, which are in order.
+pub record Compares (state : State) (spans records : List Span) : Type 0 where
+  pub order : AreInOrder records
+  pub at : state.at ≡ end_of records
+  pub ended : (p : Position) → IsAtMost state.at p → span_answer records p ≡ None
+  pub compared : IsCompared state spans (span_answer records)

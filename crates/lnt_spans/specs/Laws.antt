@@ -1,0 +1,31 @@
+pub mod Answering
+pub mod Between
+pub mod EachTwo
+pub mod Positions
+-- What the laws of spans say.
+use Rattle.std.specs.Prelude.{◌≡◌, List, [], ◌∷◌}
+use Rattle.std.specs.List.{AllByRecursion}
+use Rattle.lnt_spans.specs.declared.position.Position.{Position}
+use Rattle.lnt_spans.specs.declared.span.Span.{Span}
+use Rattle.lnt_spans.specs.Spans.{AreInOrder, IsCanonical, span_answer}
+
+-- Both lists answer the same at p.
+abbrev pub AgreeAt : List Span → List Span → Position → Type 0
+AgreeAt xs ys p = span_answer xs p ≡ span_answer ys p
+
+abbrev pub AgreeEverywhere : List Span → List Span → Type 0
+AgreeEverywhere xs ys = (p : Position) → AgreeAt xs ys p
+
+-- where the spans begin and end
+abbrev pub borders : List Span → List Position
+borders [] = []
+borders (span ∷ spans) = span.low ∷ span.high ∷ borders spans
+
+-- Lists in order that answer alike where a span of either begins or ends answer alike everywhere.
+abbrev pub Borders : Type 0
+Borders = (xs ys : List Span) → AreInOrder xs → AreInOrder ys
+    → AllByRecursion (AgreeAt xs ys) (borders xs) → AllByRecursion (AgreeAt xs ys) (borders ys) → AgreeEverywhere xs ys
+
+-- Canonical lists that answer alike everywhere are the same list.
+abbrev pub OneCanonical : Type 0
+OneCanonical = (xs ys : List Span) → IsCanonical xs → IsCanonical ys → AgreeEverywhere xs ys → xs ≡ ys

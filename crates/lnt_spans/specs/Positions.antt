@@ -1,0 +1,20 @@
+-- Positions: pairs of an address and an operation index, in dictionary order.
+use Rattle.std.specs.Prelude.{◌≡◌, ◌<◌, ◌≤◌, Bool, ◌&&◌, ◌||◌, nat_lt, nat_le, ◌==◌}
+use Rattle.lnt_spans.specs.declared.position.Position.{Position}
+
+-- p comes before q: its address isn't greater, and at the same address its operation index is lower.
+pub record IsBelow (p q : Position) : Type 0 where
+  pub address : p.address ≤ q.address
+  pub op : p.address ≡ q.address → p.op < q.op
+
+-- p is q or comes before it.
+pub record IsAtMost (p q : Position) : Type 0 where
+  pub address : p.address ≤ q.address
+  pub op : p.address ≡ q.address → p.op ≤ q.op
+
+-- the same as tests
+abbrev pub is_below : Position → Position → Bool
+is_below p q = nat_lt p.address q.address || (p.address == q.address && nat_lt p.op q.op)
+
+abbrev pub is_at_most : Position → Position → Bool
+is_at_most p q = nat_lt p.address q.address || (p.address == q.address && nat_le p.op q.op)

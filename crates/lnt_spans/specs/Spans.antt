@@ -1,0 +1,57 @@
+-- Lists of spans: what they answer, and the one list for each way to answer.
+use Rattle.std.specs.Prelude.{◌≡◌, ◌≢◌, ℕ, ◌+◌, ◌<◌, Bool, true, ◌&&◌, List, [], ◌∷◌, Option, length, slice_index_or}
+use Rattle.std.specs.List.{find}
+use Rattle.std.specs.Option.{option_map}
+use Rattle.lnt_spans.specs.declared.answer.Answer.{Answer}
+use Rattle.lnt_spans.specs.declared.answer.Version.{Version}
+use Rattle.lnt_spans.specs.declared.position.Position.{Position}
+use Rattle.lnt_spans.specs.declared.span.Span.{Span}
+use Rattle.lnt_spans.specs.Answers.{in_version}
+use Rattle.lnt_spans.specs.Positions.{IsBelow, IsAtMost, is_below, is_at_most}
+
+-- ---- what spans answer
+
+-- whether the span holds p: the positions from low up to high, and not high itself
+abbrev pub is_in_span : Position → Span → Bool
+is_in_span p span = is_at_most span.low p && is_below p span.high
+
+-- the answer of the span that holds p, else none
+abbrev pub span_answer : List Span → Position → Option Answer
+span_answer spans p = option_map (λ span. span.answer) (find (is_in_span p) spans)
+
+-- the same as a version of the address table tells it
+abbrev pub version_answer : Version → List Span → Position → Option Answer
+version_answer version spans p = option_map (in_version version) (span_answer spans p)
+
+-- a span whose answer is told so
+abbrev pub span_in_version : Version → Span → Span
+span_in_version version span = record span { answer = in_version version span.answer }
+
+-- ---- spans in order
+
+-- Each span holds something, and none begins below the end of the one before it.
+abbrev pub AreInOrder : List Span → Type 0
+AreInOrder [] = Unit {0}
+AreInOrder (span ∷ []) = IsBelow span.low span.high
+AreInOrder (span ∷ next ∷ spans) = IsBelow span.low span.high × IsAtMost span.high next.low × AreInOrder (next ∷ spans)
+
+-- No position is in both.
+abbrev pub AreDisjoint : Span → Span → Type 0
+AreDisjoint one other = (p : Position) → is_in_span p one ≡ true → is_in_span p other ≡ true → ⊥
+
+-- No span begins below the beginning of the one before it.
+abbrev pub AreSortedByLow : List Span → Type 0
+AreSortedByLow spans = (k : ℕ) (d : Span) → k + 1 < length spans → IsAtMost (slice_index_or spans k d).low (slice_index_or spans (k + 1) d).low
+
+-- ---- canonical spans
+
+-- No span that ends where the next one begins has its answer.
+abbrev pub DifferWhereTheyTouch : List Span → Type 0
+DifferWhereTheyTouch [] = Unit {0}
+DifferWhereTheyTouch (span ∷ []) = Unit {0}
+DifferWhereTheyTouch (span ∷ next ∷ spans) = (span.high ≡ next.low → span.answer ≢ next.answer) × DifferWhereTheyTouch (next ∷ spans)
+
+-- In order, none empty, and no two that touch with the same answer.
+pub record IsCanonical (spans : List Span) : Type 0 where
+  pub in_order : AreInOrder spans
+  pub differ : DifferWhereTheyTouch spans

@@ -1,0 +1,58 @@
+//! What is answered at a position, and how much of it an address table tells.
+ghost use Rattle.std.specs.Prelude.{◌≡◌};
+ghost use Rattle.lnt_spans.specs.Answers.{narrowed, in_version};
+
+/// How much an address table tells of an answer.
+#[derive(Clone, Copy, Debug, PartialEq, Eq)]
+pub enum Version {
+    /// Unit, file, line, column and `is_stmt`.
+    One,
+    /// The instruction set and the discriminator too.
+    Two,
+}
+
+/// What version 2 of the address table tells above version 1 (DWARF 5, section 6.2.2).
+#[derive(Clone, Copy, Debug, PartialEq, Eq)]
+pub struct More {
+    /// The instruction set.
+    pub isa: u64,
+    /// Which of the blocks of one source line it is.
+    pub discriminator: u64,
+}
+
+/// Where in the source the code at a position comes from (DWARF 5, section 6.2.2).
+#[derive(Clone, Copy, Debug, PartialEq, Eq)]
+pub struct Answer {
+    /// The offset in the section of the unit that says so.
+    pub unit: u64,
+    /// The index of the source file in that unit.
+    pub file: u64,
+    /// The line in it: 1 is the first, and 0 says that there is none.
+    pub line: u64,
+    /// The column in the line: 1 is the first, and 0 is the line's left edge.
+    pub column: u64,
+    /// Whether it is a good place for a breakpoint, as the beginning of a statement.
+    pub is_stmt: bool,
+    /// What version 1 of the address table doesn't tell, or None where it is left out.
+    pub more: Option<More>,
+}
+
+impl Answer {
+    /// The answer as version 1 of the address table tells it: with no instruction set and no discriminator.
+    pub fn narrow(self) -> Answer
+        ensures { result ≡ narrowed self }
+    {
+        Answer { more: None, ..self }
+    }
+
+    /// The answer as a version of the address table tells it.
+    #[inline(always)]
+    pub fn in_version(self, version: Version) -> Answer
+        ensures { result ≡ in_version version self }
+    {
+        match version {
+            Version::One => self.narrow(),
+            Version::Two => self,
+        }
+    }
+}

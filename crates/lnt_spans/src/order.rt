@@ -1,0 +1,32 @@
+//! Spans put in order.
+ghost use Rattle.std.specs.Prelude.{◌≡◌};
+ghost use Rattle.std.specs.List.{All, AllPairs};
+ghost use Rattle.std.specs.List.Sorted.{IsPermutation};
+ghost use Rattle.lnt_spans.specs.declared.position.Position.{Position};
+ghost use Rattle.lnt_spans.specs.Positions.{IsBelow};
+ghost use Rattle.lnt_spans.specs.Spans.{AreDisjoint, AreInOrder, AreSortedByLow, span_answer};
+
+use crate::span::Span;
+
+/// Puts spans in order, where they lie. They answer as before.
+///
+/// The caller sees to it that none is empty, and that no position is held by two. Spans in order already cost one pass.
+/// It takes no memory.
+#[tactic(auto, using(crate::proofs::SortLemmas::sorted_answers))]
+pub fn put_in_order(spans: &mut [Span])
+    requires some { All (λ span. IsBelow span.low span.high) spans.old }
+    requires apart { AllPairs AreDisjoint spans.old }
+    ensures permutation { IsPermutation spans.old spans.new }
+    ensures in_order { AreInOrder spans.new }
+    ensures same { (p : Position) → span_answer spans.new p ≡ span_answer spans.old p }
+{
+    sort_by_low(spans);
+}
+
+// Sorts spans by where they begin. A sorted run is found first, so it costs one pass.
+fn sort_by_low(spans: &mut [Span])
+    ensures permutation { IsPermutation spans.old spans.new }
+    ensures sorted { AreSortedByLow spans.new }
+{
+    spans.sort_unstable_by_key(|span| (span.low.address, span.low.op));
+}

@@ -1,0 +1,31 @@
+//! Runs of positions with one answer.
+ghost use Rattle.std.specs.Prelude.{◌≡◌};
+ghost use Rattle.lnt_spans.specs.Spans.{span_in_version};
+
+use crate::answer::{Answer, Version};
+use crate::position::Position;
+
+/// The positions from `low` up to `high`, which is not among them, with one answer. It is empty where `low` isn't below
+/// `high`.
+#[derive(Clone, Copy, Debug, PartialEq, Eq)]
+pub struct Span {
+    /// The first position that it holds.
+    pub low: Position,
+    /// The first position behind it.
+    pub high: Position,
+    /// The answer at each position that it holds.
+    pub answer: Answer,
+}
+
+impl Span {
+    // The span with its answer as a version of the address table tells it.
+    #[inline(always)]
+    pub(crate) fn in_version(self, version: Version) -> Span
+        ensures { result ≡ span_in_version version self }
+    {
+        Span {
+            answer: self.answer.in_version(version),
+            ..self
+        }
+    }
+}

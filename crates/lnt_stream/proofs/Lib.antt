@@ -1,0 +1,4 @@
+pub mod BufferLemmas
+pub mod ReaderLemmas
+pub mod SizeLemmas
+pub mod TakingLemmas

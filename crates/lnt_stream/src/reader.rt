@@ -1,0 +1,137 @@
+//! A section, read unit by unit.
+ghost use Rattle.std.specs.Prelude.{◌≡◌, ◌≢◌, ℕ, ◌+◌, ◌-◌, ◌^◌, ◌<◌, length, IsTrue, false, IfOk, IfErr, OnErr, IsErrOf, IfSome, IfNone};
+ghost use Rattle.lnt_wire.specs.Pulling.{HasMoreThan};
+ghost use Rattle.lnt_stream.specs.Stops.{IfFault};
+ghost use Rattle.lnt_stream.specs.Units.{IsNextUnit, SectionEndsBy};
+ghost use Rattle.lnt_stream.specs.declared.reader.Progress.TheVariants.{Reading};
+
+use crate::buffer::UnitBuffer;
+use crate::stop::SectionStop;
+use crate::taking::take_unit_bytes;
+use lnt_wire::{Order, Source};
+use std::alloc::Global;
+
+// Where a reader stands.
+#[derive(Clone, Copy, Debug, PartialEq, Eq)]
+enum Progress {
+    // Before a unit, or at the end of the section.
+    Reading,
+    // Behind the end, which was answered.
+    Ended,
+    // Behind a stop.
+    Failed,
+}
+
+/// Reads a section unit by unit from a source, which it borrows.
+///
+/// A contract sees the source, the order, the offset in the section at which the next unit stands, and the
+/// progress: reading, or ended, or failed.
+#[derive(Drop)]
+pub struct SectionReader<'s, R: Source> {
+    source: &'s mut R,
+    order: Order,
+    offset: u64,
+    progress: Progress,
+    ghost room: { progress ≡ Reading → offset + R.left source.now < 2 ^ 64 },
+    ghost countable: { progress ≡ Reading → R.failures source.now < 2 ^ 64 - 1 },
+}
+
+impl<'s, R: Source> SectionReader<'s, R> {
+    /// A reader before the first unit of the section that the source has to give, with numbers in this order. It
+    /// takes nothing of the source yet. The caller sees to it that the number of the source's failures is below
+    /// `u64::MAX`.
+    pub fn new(source: &'s mut R, order: Order) -> SectionReader<'s, R>
+        requires { R.failures source.now < 2 ^ 64 - 1 }
+        ensures source { result.source.now ≡ source.entry.now }
+        ensures same_reference { result.source.ghost_name ≡ source.entry.ghost_name }
+        ensures reading { result.progress ≡ Progress.Reading }
+        ensures offset { result.offset ≡ 0 }
+        ensures order { result.order ≡ order }
+    {
+        // The bytes to come are counted by a u64, so each offset is one.
+        let _left = source.left();
+        SectionReader {
+            source,
+            order,
+            offset: 0,
+            progress: Progress::Reading,
+        }
+    }
+
+    /// The next unit of the section, or none at its end (DWARF 5, sections 6.2.4 and 7.4).
+    ///
+    /// The unit's bytes are the next ones of the source, and its offset is the number of all bytes given before.
+    /// None comes only where the section ends behind the last unit, and again in each later call. The source is
+    /// never asked for more bytes than the initial length, or the unit at hand, still needs, and no room is
+    /// reserved further than a block of 64 KiB ahead of the bytes that came.
+    ///
+    /// It is stopped by a `Fault` only where bytes are left that no unit begins, which is true of them at its place
+    /// as in `take_frame`: where the section ends within the unit, `Truncated` at the unit's offset; by `Read` only
+    /// where the source failed; by `TooLong` only where it has more bytes than it may give; and by `Memory`. After
+    /// each of them every call answers `Failed`, and leaves the source alone.
+    pub fn next_unit(&mut self, alloc: Global) -> Result<Option<UnitBuffer>, SectionStop>
+        ensures unit { IfOk result (λ got. IfSome got (λ unit. IsNextUnit self.old.offset self.old.order (R.remaining self.old.source.now) (R.remaining self.new.source.now) unit)) }
+        ensures goes_on { IfOk result (λ got. IfSome got (λ unit. (self.new.progress ≡ Progress.Reading) × (self.new.offset ≡ self.old.offset + length unit.bytes))) }
+        ensures left { IfOk result (λ got. IfSome got (λ unit. R.left self.new.source.now + length unit.bytes ≡ R.left self.old.source.now)) }
+        ensures fewer { IfOk result (λ got. IfSome got (λ unit. R.left self.new.source.now < R.left self.old.source.now)) }
+        ensures end { self.old.progress ≡ Progress.Reading → IfOk result (λ got. IfNone got (SectionEndsBy self.old.offset self.old.order (R.remaining self.old.source.now) None)) }
+        ensures not_long { self.old.progress ≡ Progress.Reading → IfOk result (λ got. IfNone got (R.too_long self.new.source.now ≡ false)) }
+        ensures ends { IfOk result (λ got. IfNone got (self.new.progress ≡ Progress.Ended)) }
+        ensures fault { IfErr result (λ stop. IfFault stop (λ fault. SectionEndsBy self.old.offset self.old.order (R.remaining self.old.source.now) (Some fault))) }
+        ensures read { IsErrOf result SectionStop.Read → R.failures self.new.source.now ≡ R.failures self.old.source.now + 1 }
+        ensures no_failure { result ≢ Err SectionStop.Read → R.failures self.new.source.now ≡ R.failures self.old.source.now }
+        ensures too_long { IsErrOf result SectionStop.TooLong → IsTrue (R.too_long self.new.source.now) }
+        ensures more { IsErrOf result SectionStop.TooLong → HasMoreThan (R.remaining self.old.source.now) (R.left self.old.source.now) }
+        ensures stops { OnErr result (self.new.progress ≡ Progress.Failed) }
+        ensures ended { self.old.progress ≡ Progress.Ended → (result ≡ Ok None) × (self.new ≡ self.old) }
+        ensures failed { self.old.progress ≡ Progress.Failed → (result ≡ Err SectionStop.Failed) × (self.new ≡ self.old) }
+        ensures failed_before { IsErrOf result SectionStop.Failed → self.old.progress ≡ Progress.Failed }
+        ensures order { self.new.order ≡ self.old.order }
+        ensures same_reference { self.new.source.ghost_name ≡ self.old.source.ghost_name }
+    {
+        match self.progress {
+            Progress::Reading => {}
+            Progress::Ended => return Ok(None),
+            Progress::Failed => return Err(SectionStop::Failed),
+        }
+        // It has failed, unless all goes well.
+        self.progress = Progress::Failed;
+        let Some(unit) = take_unit(alloc, self.source, self.offset, self.order)? else {
+            self.progress = Progress::Ended;
+            return Ok(None);
+        };
+        self.offset += unit.bytes().len() as u64;
+        self.progress = Progress::Reading;
+        Ok(Some(unit))
+    }
+}
+
+// The unit that comes next from the source and stands at the offset, or none where the source has ended. After a
+// stop nothing is said of how far the source was read.
+#[tactic(auto, using(crate::proofs::ReaderLemmas::section_ends, crate::proofs::ReaderLemmas::ended_short, crate::proofs::ReaderLemmas::section_refused))]
+fn take_unit<R: Source>(
+    alloc: Global,
+    source: &mut R,
+    offset: u64,
+    order: Order,
+) -> Result<Option<UnitBuffer>, SectionStop>
+    requires failures { R.failures source.old < 2 ^ 64 - 1 }
+    requires room { offset + R.left source.old < 2 ^ 64 }
+    ensures unit { IfOk result (λ got. IfSome got (λ unit. IsNextUnit offset order (R.remaining source.old) (R.remaining source.new) unit)) }
+    ensures left { IfOk result (λ got. IfSome got (λ unit. R.left source.new + length unit.bytes ≡ R.left source.old)) }
+    ensures end { IfOk result (λ got. IfNone got (SectionEndsBy offset order (R.remaining source.old) None)) }
+    ensures not_long { IfOk result (λ got. IfNone got (R.too_long source.new ≡ false)) }
+    ensures fault { IfErr result (λ stop. IfFault stop (λ fault. SectionEndsBy offset order (R.remaining source.old) (Some fault))) }
+    ensures read { IsErrOf result SectionStop.Read → R.failures source.new ≡ R.failures source.old + 1 }
+    ensures no_failure { result ≢ Err SectionStop.Read → R.failures source.new ≡ R.failures source.old }
+    ensures too_long { IsErrOf result SectionStop.TooLong → IsTrue (R.too_long source.new) }
+    ensures more { IsErrOf result SectionStop.TooLong → HasMoreThan (R.remaining source.old) (R.left source.old) }
+    ensures not_failed { IsErrOf result SectionStop.Failed → ⊥ }
+{
+    let mut bytes = Vec::new(alloc);
+    take_unit_bytes(source, order, &mut bytes)?;
+    if bytes.is_empty() {
+        return Ok(None);
+    }
+    Ok(Some(UnitBuffer::of(bytes, offset, order)?))
+}

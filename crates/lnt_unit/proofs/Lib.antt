@@ -1,0 +1,4 @@
+pub mod SectionLemmas
+pub mod UnitLemmas
+pub mod UnitReaders
+pub mod ViewLemmas

@@ -1,0 +1,60 @@
+-- Units one behind the other.
+use Rattle.std.proofs.Common.{◌≡◌, ℕ, ◌<◌, List, [], ◌∷◌, ◌++◌, length, refl, sym, ap, subst, ◌∙◌, append_assoc, arith}
+use Rattle.std.proofs.lemmas.List.{append-nil, length-append}
+use Rattle.lnt_wire.specs.At.{At}
+use Rattle.lnt_wire.specs.Reading.{Reads}
+use Rattle.lnt_wire.specs.declared.fault.Fault.{Fault}
+use Rattle.lnt_wire.specs.declared.format.Order.{Order}
+use Rattle.lnt_unit.specs.BrokenUnits.{BrokenUnit, IsTrueFault, BrokenSection}
+use Rattle.lnt_unit.specs.Laws.Units.{unit_is_some, units_push, no_section}
+use Rattle.lnt_unit.specs.UnitBytes.{UnitBytesIn, SectionBytes}
+use Rattle.lnt_unit.specs.declared.unit.Parts.{Parts}
+
+-- the units that were read up to the cursor
+pub record UnitsSoFar (order : Order) (bytes : List ℕ) (units : List (ℕ × Parts)) (cursor : At) : Type 0 where
+  pub front : List ℕ
+  pub whole : bytes ≡ front ++ cursor.rest
+  pub joined : SectionBytes order units front
+  pub place : cursor.place ≡ length front
+  pub order_is : cursor.order ≡ order
+
+pub no_units : (order : Order) (bytes : List ℕ) (cursor : At) → cursor.rest ≡ bytes → cursor.place ≡ 0 → cursor.order ≡ order → UnitsSoFar order bytes [] cursor
+no_units order bytes cursor rest place order_is = record { front = []; whole = sym rest; joined = refl; place = place; order_is = order_is }
+
+pub one_more_unit : (order : Order) (bytes : List ℕ) (units : List (ℕ × Parts)) (unit : ℕ × Parts) (old new : At) → UnitsSoFar order bytes units old → Reads (UnitBytesIn order) unit.1 old new
+    → unit.0 ≡ old.place → UnitsSoFar order bytes (units ++ unit ∷ []) new
+one_more_unit order bytes units unit old new so_far r here = record {
+  front = so_far.front ++ r.spelling;
+  whole = so_far.whole ∙ ap (λ (z : List ℕ). so_far.front ++ z) r.whole ∙ sym (append_assoc so_far.front r.spelling new.rest);
+  joined = units_push order 0 units unit so_far.front r.spelling so_far.joined (omega (arith, here, so_far.place)) r.spelled;
+  place = omega (arith, r.place, so_far.place, length-append so_far.front r.spelling);
+  order_is = r.order ∙ so_far.order_is;
+}
+
+-- a unit has bytes
+pub unit_long : (order : Order) (unit : Parts) (old new : At) → Reads (UnitBytesIn order) unit old new → length new.rest < length old.rest
+unit_long order unit old new r = omega (arith, ap length r.whole, length-append r.spelling new.rest, unit_is_some order unit r.spelling r.spelled)
+
+-- nothing is left
+pub all_units : (order : Order) (bytes : List ℕ) (units : List (ℕ × Parts)) (cursor : At) → UnitsSoFar order bytes units cursor → cursor.rest ≡ [] → SectionBytes order units bytes
+all_units order bytes units cursor so_far nothing =
+    subst (λ (z : List ℕ). SectionBytes order units z) (sym (so_far.whole ∙ ap (λ (z : List ℕ). so_far.front ++ z) nothing ∙ append-nil so_far.front)) so_far.joined
+
+-- no unit begins what is left
+true_fault : (order : Order) (bytes : List ℕ) (units : List (ℕ × Parts)) (fault : Fault) (cursor : At) → UnitsSoFar order bytes units cursor → 0 < length cursor.rest
+    → BrokenUnit order fault cursor.place cursor.rest → IsTrueFault order fault bytes
+true_fault order bytes units fault cursor so_far some b = record {
+  units = units;
+  front = so_far.front;
+  rest = cursor.rest;
+  sound = so_far.joined;
+  some = some;
+  split = so_far.whole;
+  broken = subst (λ (n : ℕ). BrokenUnit order fault n cursor.rest) so_far.place b;
+}
+
+pub section_broken : (order : Order) (bytes : List ℕ) (units : List (ℕ × Parts)) (fault : Fault) (cursor : At) → UnitsSoFar order bytes units cursor → 0 < length cursor.rest
+    → BrokenUnit order fault cursor.place cursor.rest → BrokenSection order fault bytes
+section_broken order bytes units fault cursor so_far some b =
+    let t = true_fault order bytes units fault cursor so_far some b in
+    record { none = no_section order fault bytes t; true_fault = t }

@@ -1,0 +1,35 @@
+-- Operations of a unit that are counted.
+use Rattle.std.proofs.Common.{◌≡◌, ℕ, ◌+◌, ◌^◌, ◌<◌, ◌≤◌, List, [], ◌∷◌, ◌++◌, length, refl, false, ap, arith}
+use Rattle.std.proofs.lemmas.List.{length-append}
+use Rattle.lnt_header.specs.declared.op.Op.{Op}
+use Rattle.lnt_header.specs.declared.view.OpView.{OpView}
+use Rattle.lnt_ops.specs.Walks.{Walk, Ends, Steps}
+use Rattle.lnt_unit.specs.Laws.Views.{given_none, given_more, given_all}
+use Rattle.lnt_unit.specs.Views.{View, IsView, HasGiven, HasCount}
+
+-- So many operations were given, each of a byte or more.
+pub record CountedTo (view : View) (count : ℕ) (walk : Walk) : Type 0 where
+  pub ops : List Op
+  pub given : HasGiven view ops walk
+  pub count_is : count ≡ length ops
+  pub few : count + length walk.at.rest ≤ length view.program
+
+pub counted_none : (view : View) (walk : Walk) → walk.header ≡ view.header → walk.failed ≡ false → walk.at.place ≡ view.place → walk.at.rest ≡ view.program → walk.at.order ≡ view.header.order → CountedTo view 0 walk
+counted_none view walk same going place rest order =
+    record { ops = []; given = given_none view walk same going place rest order; count_is = refl; few = omega (arith, ap length rest) }
+
+pub counted_more : (view : View) (count : ℕ) (item : OpView) (old new : Walk) → CountedTo view count old → Steps item old new → CountedTo view (count + 1) new
+counted_more view count item old new so step =
+    let op = step.gives.op in
+    record {
+      ops = so.ops ++ op ∷ [];
+      given = given_more view so.ops op item old new so.given step step.gives.stands;
+      count_is = omega (arith, so.count_is, length-append so.ops (op ∷ []));
+      few = omega (arith, so.few, step.shorter);
+    }
+
+pub counted_all : (view : View) (count : ℕ) (old new : Walk) → IsView view → CountedTo view count old → Ends old new → HasCount view count
+counted_all view count old new is so ends = record { ops = so.ops; spelled = given_all view so.ops old new is so.given ends; count_is = so.count_is }
+
+pub counted_room : (view : View) (count : ℕ) (item : OpView) (old new : Walk) → CountedTo view count old → Steps item old new → length view.program < 2 ^ 64 → count + 1 < 2 ^ 64
+counted_room view count item old new so step lt = omega (arith, so.few, step.shorter, lt)

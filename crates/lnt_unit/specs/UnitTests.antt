@@ -1,0 +1,12 @@
+-- What `Unit::new` finds wrong with parts that no decoded unit has. The header is tested before the operations, and the least index is told.
+use Rattle.lnt_header.specs.declared.fault.UnitFault.{UnitFault}
+use Rattle.lnt_header.specs.declared.fault.UnitFault.TheVariants.{OpNotOfUnit}
+use Rattle.lnt_header.specs.HeaderRules.{IsHeader}
+use Rattle.lnt_header.specs.HeaderTests.{IsFirstNot, IsPartsFault}
+use Rattle.lnt_header.specs.OpRules.{Admits}
+use Rattle.lnt_unit.specs.declared.unit.Parts.{Parts}
+
+-- What is wrong. Whatever is tested earlier is sound.
+abbrev pub IsUnitFault : UnitFault → Parts → Type 0
+IsUnitFault (OpNotOfUnit index) unit = IsHeader unit.header × IsFirstNot (Admits unit.header) unit.ops index
+IsUnitFault fault unit = IsPartsFault fault unit.header

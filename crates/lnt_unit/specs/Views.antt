@@ -1,0 +1,39 @@
+-- A unit that lies in a buffer: its header with its program, and how far its operations were read.
+use Rattle.std.specs.Prelude.{◌≡◌, ℕ, ◌+◌, ◌^◌, ◌<◌, List, length, false}
+use Rattle.lnt_header.specs.declared.header.HeaderParts.{HeaderParts}
+use Rattle.lnt_header.specs.declared.op.Op.{Op}
+use Rattle.lnt_header.specs.HeaderBytes.{HeaderBytesIn}
+use Rattle.lnt_ops.specs.Programs.{OpsSoFar}
+use Rattle.lnt_ops.specs.Walks.{Walk}
+use Rattle.lnt_stream.specs.Units.{UnitBytes}
+use Rattle.lnt_unit.specs.declared.unit.Parts.{Parts}
+use Rattle.lnt_unit.specs.UnitBytes.{UnitBytesIn}
+
+-- the bytes, the header, and the program with the offset of the section at which it begins
+pub record View : Type 0 where
+  pub unit : UnitBytes
+  pub header : HeaderParts
+  pub program : List ℕ
+  pub place : ℕ
+
+-- The header with the program spells the bytes, and the program ends where they do, below 2 ^ 64.
+pub record IsView (view : View) : Type 0 where
+  pub spelled : HeaderBytesIn view.unit.order (view.header, view.program) view.unit.bytes
+  pub end : view.place + length view.program ≡ view.unit.offset + length view.unit.bytes
+  pub room : view.place + length view.program < 2 ^ 64
+
+-- the unit of these operations
+abbrev pub with_ops : View → List Op → Parts
+with_ops view ops = record { header = view.header; ops = ops }
+
+-- A walk over the program stands behind these operations, and none was refused.
+pub record HasGiven (view : View) (ops : List Op) (walk : Walk) : Type 0 where
+  pub header_is : walk.header ≡ view.header
+  pub going : walk.failed ≡ false
+  pub so : OpsSoFar view.header view.place view.program ops walk.at
+
+-- The bytes are the unit of so many operations.
+pub record HasCount (view : View) (count : ℕ) : Type 0 where
+  pub ops : List Op
+  pub spelled : UnitBytesIn view.unit.order (with_ops view ops) view.unit.bytes
+  pub count_is : count ≡ length ops

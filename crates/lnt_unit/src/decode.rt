@@ -1,0 +1,70 @@
+//! Units and sections, read from their bytes (DWARF 5, section 6.2.4).
+ghost use Rattle.std.specs.Prelude.{◌≡◌, ◌≢◌, ◌+◌, length, IfOk, IfErr, OnErr};
+ghost use Rattle.lnt_wire.specs.FrameBytes.{frame_bytes, IsPlacedFrame};
+ghost use Rattle.lnt_wire.specs.Reading.{Reads};
+ghost use Rattle.lnt_unit.specs.BrokenUnits.{BrokenUnit, BrokenSection};
+ghost use Rattle.lnt_unit.specs.UnitBytes.{UnitBytesIn, SectionBytes};
+
+use crate::unit::Unit;
+use lnt_header::decode_header;
+use lnt_ops::read_ops;
+use lnt_wire::{Cursor, Fault, Frame, Order, Reason, take_frame};
+use std::alloc::Global;
+
+/// The unit at the cursor, which moves past exactly the bytes that spell it. The caller sees to it that `order` is
+/// the cursor's.
+///
+/// It refuses with `Memory`, and else only where no unit begins the bytes that are left. The fault's place is that
+/// of the field at fault, which is the unit's own where its initial length is cut, is reserved, or counts more bytes
+/// than are left. After a refusal the cursor is as it was.
+#[tactic(auto, using(crate::proofs::UnitReaders::frame_placed, crate::proofs::UnitReaders::frame_end, crate::proofs::UnitReaders::unit_read))]
+pub fn decode_unit(alloc: Global, cursor: &mut Cursor<'_>, order: Order) -> Result<Unit, Fault>
+    requires { cursor.old.order ≡ order }
+    ensures ok { IfOk result (λ unit. Reads (UnitBytesIn order) unit cursor.old cursor.new) }
+    ensures err { IfErr result (λ fault. fault.reason ≢ Reason.Memory → BrokenUnit order fault cursor.old.place cursor.old.rest) }
+    ensures unchanged { OnErr result (cursor.new ≡ cursor.old) }
+{
+    let mut ahead = Cursor::new(cursor.rest(), cursor.place(), order);
+    let frame = take_frame(&mut ahead)?;
+    let unit = unit_of(alloc, &frame, ahead.place(), order)?;
+    *cursor = ahead;
+    Ok(unit)
+}
+
+// The unit of a frame. It ends before the offset `end` of the section.
+fn unit_of(alloc: Global, frame: &Frame<'_>, end: u64, order: Order) -> Result<Unit, Fault>
+    requires frame { IsPlacedFrame order frame.now }
+    requires end { end ≡ frame.now.offset + length (frame_bytes order frame.now.format frame.now.body.now) }
+    ensures ok { IfOk result (λ unit. UnitBytesIn order unit (frame_bytes order frame.now.format frame.now.body.now)) }
+    ensures err { IfErr result (λ fault. fault.reason ≢ Reason.Memory → BrokenUnit order fault frame.now.offset (frame_bytes order frame.now.format frame.now.body.now)) }
+{
+    let (header, program) = decode_header(alloc, frame, order)?;
+    let place = end - program.len() as u64;
+    let ops = read_ops(alloc, &header, program, place)?;
+    Ok(Unit::of(header, ops))
+}
+
+/// The units of the section `bytes` with their offsets in it, in order. They stand one behind the other, and their
+/// bytes joined are the section: the last one ends where the section does.
+///
+/// It refuses with `Memory`, and else only where no units spell the section, with the fault of the first unit that
+/// isn't there: `decode_unit`'s at the offset behind those before it.
+#[tactic(auto, using(crate::proofs::SectionLemmas::no_units, crate::proofs::SectionLemmas::one_more_unit, crate::proofs::SectionLemmas::unit_long, crate::proofs::SectionLemmas::all_units))]
+pub fn decode_section(alloc: Global, bytes: &[u8], order: Order) -> Result<Vec<(u64, Unit)>, Fault>
+    ensures ok { IfOk result (λ units. SectionBytes order units.items bytes.now) }
+    ensures err { IfErr result (λ fault. fault.reason ≢ Reason.Memory → BrokenSection order fault bytes.now) }
+{
+    let mut units = Vec::new(alloc);
+    let mut cursor = Cursor::new(bytes, 0, order);
+    while !cursor.rest().is_empty() {
+        let offset = cursor.place();
+        let unit = decode_unit(alloc, &mut cursor, order)?;
+        if units.push((offset, unit)).is_err() {
+            return Err(Fault {
+                place: offset,
+                reason: Reason::Memory,
+            });
+        }
+    }
+    Ok(units)
+}
