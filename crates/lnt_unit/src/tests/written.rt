@@ -1,8 +1,13 @@
 use super::worked::{
-    BIG_ENDIAN_64, LINE_BELOW_ZERO, MARKS_AND_DISCRIMINATOR, MD5_WITHOUT_PROGRAM, OPCODE_BASE_15,
-    PLAIN, VENDOR_BLOCK1,
+    ADDRESS_WRAPS, BIG_ENDIAN_64, CONST_ADD_PC, EMPTY_SEQUENCE, FILE_ZERO, FIXED_ADVANCE_PC,
+    LINE_BELOW_ZERO, LINE_STRP_DIRECTORY, MARKS_AND_DISCRIMINATOR, MD5_WITHOUT_PROGRAM,
+    ONE_FILE_FROM_ZERO, OPCODE_BASE_10, OPCODE_BASE_15, PADDED_OPERAND, PARTED_SEQUENCES, PLAIN,
+    THREE_OPERATIONS_PER_INSTRUCTION, TOUCHING_SEQUENCES, TWO_ROWS_AT_ONE_ADDRESS, TWO_SEQUENCES,
+    VENDOR_BLOCK1, VENDOR_BLOCK2, VENDOR_BLOCK4,
 };
-use crate::{Entry, Op, Pair, Parts, Unit, UnitFault, Which, decode_header, encode_unit};
+use crate::{
+    Entry, Op, Pair, Parts, Unit, UnitFault, Which, decode_header, decode_section, encode_unit,
+};
 use lnt_wire::{Cursor, EncodeFault, Fault, Form, FormValue, Format, Items, Order, take_frame};
 use std::alloc::{AllocError, AllocFailed, Global};
 use std::test::Fail;
@@ -182,5 +187,54 @@ fn a_large_offset_has_no_spelling(rt: HostRuntime) -> Result<(), Fail> {
         Some(EncodeFault::TooLarge)
     );
     assert_eq!(rt; large_offset(alloc, Format::D64)?, None);
+    Ok(())
+}
+
+// What the units of a section are, decoded and encoded again.
+fn again(alloc: Global, bytes: &[u8], order: Order) -> Result<Vec<u8>, Fail> {
+    let units = decode_section(alloc, bytes, order)?;
+    let mut joined = Vec::new(alloc);
+    for (_, unit) in &units {
+        joined.extend_from_slice(&encode_unit(alloc, unit)?)?;
+    }
+    Ok(joined)
+}
+
+#[test]
+fn sections_are_written_again(rt: HostRuntime) -> Result<(), Fail> {
+    let alloc = rt.alloc();
+    for bytes in [
+        PLAIN.as_slice(),
+        &ADDRESS_WRAPS,
+        &CONST_ADD_PC,
+        &EMPTY_SEQUENCE,
+        &FILE_ZERO,
+        &FIXED_ADVANCE_PC,
+        &LINE_BELOW_ZERO,
+        &LINE_STRP_DIRECTORY,
+        &MARKS_AND_DISCRIMINATOR,
+        &MD5_WITHOUT_PROGRAM,
+        &ONE_FILE_FROM_ZERO,
+        &OPCODE_BASE_10,
+        &OPCODE_BASE_15,
+        &PARTED_SEQUENCES,
+        &THREE_OPERATIONS_PER_INSTRUCTION,
+        &TOUCHING_SEQUENCES,
+        &TWO_ROWS_AT_ONE_ADDRESS,
+        &TWO_SEQUENCES,
+        &VENDOR_BLOCK1,
+        &VENDOR_BLOCK2,
+        &VENDOR_BLOCK4,
+    ] {
+        assert_eq!(rt; again(alloc, bytes, Order::Little)?.as_slice(), bytes);
+    }
+    assert_eq!(rt;
+        again(alloc, &BIG_ENDIAN_64, Order::Big)?.as_slice(),
+        BIG_ENDIAN_64.as_slice()
+    );
+    assert_eq!(rt;
+        again(alloc, &PADDED_OPERAND, Order::Little)?.as_slice(),
+        PLAIN.as_slice()
+    );
     Ok(())
 }
