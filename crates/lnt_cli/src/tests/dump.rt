@@ -131,3 +131,94 @@ fn counts_that_are_not_filled(rt: HostRuntime) -> Result<(), Fail> {
     }
     Ok(())
 }
+
+const PROGRAM_TEXT: &str =
+    "op 0 set_address 0x1000\nop 1 special 20\nop 2 special 75\nop 3 advance_pc 2\nop 4 end_sequence\n";
+
+const ROWS_TEXT: &str =
+    "row 0 0x1000 0 1 3 0 1 - 0 0\nrow 1 0x1004 0 1 4 0 1 - 0 0\nrow 2 0x1006 0 1 4 0 1 e 0 0\n";
+
+#[test]
+fn operations_and_rows(rt: HostRuntime) -> Result<(), Fail> {
+    let alloc = rt.alloc();
+    for (line, ops, rows) in [
+        ("linetab dump F --ops --rows", PROGRAM_TEXT, ROWS_TEXT),
+        ("linetab dump --ops F", PROGRAM_TEXT, ""),
+        ("linetab dump --rows F", "", ROWS_TEXT),
+    ] {
+        let (text, status) = dumped(alloc, &PLAIN, line)?;
+        let program = text.as_str().strip_prefix(PLAIN_TEXT);
+        assert_eq!(rt;
+            program.and_then(|program| program.strip_prefix(ops)),
+            Some(rows)
+        );
+        assert_eq!(rt; status, Status::Done);
+    }
+    // Unknown operations, marks and a discriminator.
+    let head = [
+        0x49, 0, 0, 0, 5, 0, 8, 0, 0x2b, 0, 0, 0, 1, 1, 1, 0xfb, 14, 15, 0, 1, 1, 1, 1, 0, 0, 0, 1,
+        0, 0, 1, 2, 0,
+    ];
+    let program = [
+        13, 128, 1, 5, 14, 0, 2, 0x80, 0xab, 0, 1, 3, 10, 7, 0, 2, 4, 7, 22, 3, 0x7f, 9,
+    ];
+    let mut unit = spliced(alloc, &head, &PLAIN[30..53], &program)?;
+    unit.extend_from_slice(&[4, 0, 2, 2, 0, 1, 1])?;
+    if let Some(low) = unit.get_mut(0) {
+        *low = 0x50;
+    }
+    let text =
+        "op 0 unknown_standard 13 128 5\nop 1 unknown_standard 14\nop 2 unknown_extended 128 ab\nop 3 unknown_extended 3\nop 4 set_prologue_end\nop 5 set_basic_block\nop 6 set_discriminator 7\nop 7 special 22\nop 8 advance_line -1\nop 9 fixed_advance_pc 4\nop 10 advance_pc 2\nop 11 end_sequence\nrow 0 0x0 0 1 3 0 1 bp 0 7\nrow 1 0x6 0 1 2 0 1 e 0 0\n";
+    let (given, status) = dumped(alloc, &unit, "linetab dump --rows --ops F")?;
+    assert_eq!(rt;
+        given.as_str().split_once("op 0").map(|parts| parts.1),
+        text.strip_prefix("op 0")
+    );
+    assert_eq!(rt; status, Status::Done);
+    Ok(())
+}
+
+#[test]
+fn programs_at_fault(rt: HostRuntime) -> Result<(), Fail> {
+    let alloc = rt.alloc();
+    let mut short = spliced(alloc, &PLAIN[..68], &[], &[])?;
+    if let Some(low) = short.get_mut(0) {
+        *low = 0x40;
+    }
+    let mut below_zero = spliced(alloc, &PLAIN[..64], &[3, 0x7e, 1, 2, 2, 0, 1, 1], &[])?;
+    if let Some(low) = below_zero.get_mut(0) {
+        *low = 0x44;
+    }
+    let no_length = spliced(alloc, &PLAIN[..69], &[0], &PLAIN[70..])?;
+    let long_length = spliced(alloc, &PLAIN[..69], &[2], &PLAIN[70..])?;
+    for (unit, line, text) in [
+        (
+            &short,
+            "linetab dump --rows F",
+            "no 26 run unit 0x0: open sequence\n",
+        ),
+        (
+            &below_zero,
+            "linetab dump --ops --rows F",
+            "no 26 run unit 0x0: line out of range at operation 1\n",
+        ),
+        (
+            &no_length,
+            "linetab dump --rows F",
+            "no 25 malformed at 0x45: extended length\n",
+        ),
+        (
+            &long_length,
+            "linetab dump F",
+            "no 25 malformed at 0x46: truncated\n",
+        ),
+    ] {
+        let (given, status) = dumped(alloc, unit, line)?;
+        assert_eq!(rt; (given.as_str(), status), (text, Status::No), "for {line}");
+    }
+    // Without rows no run is judged.
+    let (given, status) = dumped(alloc, &short, "linetab dump F")?;
+    assert_eq!(rt; given.as_str().starts_with("unit 0x0 32 64\nheader "), true);
+    assert_eq!(rt; status, Status::Done);
+    Ok(())
+}
