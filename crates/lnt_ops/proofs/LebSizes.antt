@@ -1,6 +1,6 @@
 -- How long the shortest unsigned LEB128 of a number is.
-use Rattle.std.proofs.Common.{◌≡◌, ℕ, suc, refl, ◌+◌, ◌*◌, ◌-◌, ◌/◌, ◌%◌, ◌^◌, ◌<◌, ◌≤◌, List, [], ◌∷◌, ◌++◌, length, ap, arith}
-use Rattle.lnt_wire.specs.Bytes.{IsShortest, Appends}
+use Rattle.std.proofs.Common.{◌≡◌, ℕ, suc, refl, ◌+◌, ◌-◌, ◌/◌, ◌%◌, ◌^◌, ◌<◌, ◌≤◌, List, [], ◌∷◌, length, ap, arith}
+use Rattle.lnt_wire.specs.Bytes.{IsShortest}
 use Rattle.lnt_wire.specs.Leb128.{IsLeb, groups, UnsignedLeb}
 
 -- a spelling of this length

@@ -1,5 +1,5 @@
 -- Units by their parts, tested and written.
-use Rattle.std.proofs.Common.{◌≡◌, ap, ◌∙◌, Vec, Global, ℕ, ◌+◌, ◌<◌, ◌≤◌, List, [], ◌++◌, length, refl, sym, subst, arith}
+use Rattle.std.proofs.Common.{◌≡◌, ap, ◌∙◌, Vec, Global, ℕ, List, [], ◌++◌, sym, subst, arith}
 use Rattle.std.specs.Prelude.{Result, Ok, Err, IfOk, IfErr}
 use Rattle.lnt_wire.specs.declared.format.Order.{Order}
 use Rattle.lnt_wire.specs.declared.put.EncodeFault.{EncodeFault}
@@ -18,7 +18,7 @@ use Rattle.lnt_header.specs.Laws.Programs.{shorter_program}
 use Rattle.lnt_header.specs.OpRules.{Admits}
 use Rattle.lnt_ops.specs.OpBytes.{OpBytes}
 use Rattle.lnt_unit.specs.declared.unit.Parts.{Parts}
-use Rattle.lnt_unit.specs.UnitBytes.{UnitBytes, UnitBytesIn}
+use Rattle.lnt_unit.specs.UnitBytes.{UnitBytesIn}
 use Rattle.lnt_unit.specs.UnitRules.{IsUnit}
 use Rattle.lnt_unit.specs.UnitTests.{IsUnitFault}
 

@@ -1,4 +1,3 @@
-use Rattle.std.proofs.Common.{ap}
 use Rattle.std.proofs.lemmas.Result.{err_from_is_err_and}
 use Rattle.lnt_ops.proofs.OpPutLemmas.{appended_extends, extends_more, ops_more}
 use Rattle.lnt_ops.proofs.put.add_ops.Goals as goal
