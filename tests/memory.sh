@@ -45,6 +45,11 @@ in_turn 'many units and a fault' units "$work/many"
 in_turn 'headers' dump examples/gc-sections.debug_line
 in_turn 'headers with sums' dump --big examples/powerpc64.debug_line
 in_turn 'operations and rows' dump --ops --rows examples/hello.debug_line
+in_turn 'a table' table examples/hello.debug_line --line-str examples/hello.debug_line_str
+in_turn 'a check' check examples/hello.debug_line examples/hello.csv --line-str examples/hello.debug_line_str
+in_turn 'a lookup' lookup examples/hello.debug_line 0x1137 --line-str examples/hello.debug_line_str
+in_turn 'a conversion' convert examples/hello.debug_line --format 64 --order big
+in_turn 'sums' md5 examples/hello-clang.debug_line --line-str examples/hello-clang.debug_line_str
 in_turn 'help' units --help
 in_turn 'no such file' units "$work/none"
 in_turn 'usage' units

@@ -4,14 +4,19 @@
 //! nothing of the system itself: a program hands it an [`Opener`] and a writer.
 #![tactic(auto)]
 
+mod command;
+mod convert;
 mod dump;
+mod evidence;
 mod halt;
 mod header;
+mod judged;
 mod opener;
 mod operations;
 mod program;
 mod rows;
 mod stop;
+mod sums;
 mod text;
 mod units;
 mod words;

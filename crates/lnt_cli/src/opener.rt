@@ -9,7 +9,7 @@ use std::alloc::Global;
 use std::io::{BufReader, Read};
 
 // The most bytes that are read of a file.
-const LIMIT: u64 = 1 << 40;
+pub(crate) const LIMIT: u64 = 1 << 40;
 
 // How many bytes are read of a file at once.
 const BLOCK: usize = 1 << 16;

@@ -3,10 +3,13 @@ ghost use Rattle.std.specs.Prelude.{IfErr};
 ghost use Rattle.std.specs.Io.KnownBytes.{Keeps};
 ghost use Rattle.lnt_cli.specs.Stops.{IsUsage};
 
+use crate::convert::print_converted;
 use crate::dump::print_dump;
 use crate::halt::Halt;
+use crate::judged::{lines_of, print_check, print_lookup, print_table};
 use crate::opener::{Opener, open_file};
 use crate::stop::{CliStop, Status};
+use crate::sums::print_sums;
 use crate::units::print_units;
 use crate::words::{Request, request_of};
 use std::alloc::Global;
@@ -44,6 +47,38 @@ pub fn run<O: Opener, W: Write>(
             let ended = print_dump(alloc, &mut source, order, shown, out);
             of_file(alloc, section, ended)
         }
+        Request::Lookup { from, position } => match lines_of(alloc, &from, opener, out)? {
+            Some(lines) => {
+                let ended = print_lookup(alloc, &lines, position, out);
+                of_file(alloc, from.section, ended)
+            }
+            None => Ok(Status::No),
+        },
+        Request::Check { from, table } => print_check(alloc, &from, table, opener, out),
+        Request::Table { from, version } => match lines_of(alloc, &from, opener, out)? {
+            Some(lines) => {
+                let ended = print_table(alloc, &lines, version, out);
+                of_file(alloc, from.section, ended)
+            }
+            None => Ok(Status::No),
+        },
+        Request::Convert {
+            section,
+            order,
+            format,
+            to,
+        } => {
+            let mut source = open_file(alloc, opener, section)?;
+            let ended = print_converted(alloc, &mut source, order, format, to, out);
+            of_file(alloc, section, ended)
+        }
+        Request::Md5 { from } => match lines_of(alloc, &from, opener, out)? {
+            Some(lines) => {
+                let ended = print_sums(alloc, &lines, opener, out);
+                of_file(alloc, from.section, ended)
+            }
+            None => Ok(Status::No),
+        },
     }
 }
 

@@ -1,4 +1,5 @@
 mod dump;
+mod judged;
 
 use super::*;
 use std::alloc::{AllocError, Global};
@@ -206,7 +207,7 @@ fn help_is_an_answer(rt: HostRuntime) -> Result<(), Fail> {
     for (line, part) in [
         (
             "linetab --help",
-            "  units  Prints the offset, the format and the length of each unit of a section\n",
+            "  units    Prints the offset, the format and the length of each unit of a section\n",
         ),
         ("linetab -h", "Usage: linetab <COMMAND>\n"),
         (
@@ -216,6 +217,30 @@ fn help_is_an_answer(rt: HostRuntime) -> Result<(), Fail> {
         (
             "linetab units --help",
             "  --big   The section is big-endian; otherwise it is little-endian\n",
+        ),
+        (
+            "linetab dump --help",
+            "Usage: linetab dump [OPTIONS] <SECTION>\n",
+        ),
+        (
+            "linetab check --help",
+            "Usage: linetab check [OPTIONS] <SECTION> <TABLE>\n",
+        ),
+        (
+            "linetab lookup --help",
+            "Usage: linetab lookup [OPTIONS] <SECTION> <ADDRESS>\n",
+        ),
+        (
+            "linetab table --help",
+            "Usage: linetab table [OPTIONS] <SECTION>\n",
+        ),
+        (
+            "linetab convert --help",
+            "Usage: linetab convert [OPTIONS] --format <32|64> --order <little|big> <SECTION>\n",
+        ),
+        (
+            "linetab md5 --help",
+            "Usage: linetab md5 [OPTIONS] <SECTION>\n",
         ),
     ] {
         let mut out = Vec::new(alloc);
@@ -242,7 +267,7 @@ fn stops_and_their_texts(rt: HostRuntime) -> Result<(), Fail> {
         ),
         (
             "linetab",
-            "error: 'linetab' requires a subcommand but one was not provided\n  [subcommands: units, dump, help]\n\nUsage: linetab <COMMAND>\n\nFor more information, try '--help'.\n",
+            "error: 'linetab' requires a subcommand but one was not provided\n  [subcommands: units, dump, check, lookup, table, convert, md5, help]\n\nUsage: linetab <COMMAND>\n\nFor more information, try '--help'.\n",
         ),
     ] {
         let mut out = Vec::new(alloc);

@@ -47,18 +47,32 @@ pub(crate) fn print_run_fault<W: Write>(
     fault: RunFault,
     out: &mut W,
 ) -> Result<Status, Halt> {
-    write!(out, "no 26 run unit 0x{offset:x}: ")?;
-    match fault {
-        RunFault::LineOutOfRange(index) => writeln!(out, "line out of range at operation {index}")?,
-        RunFault::OpenSequence => writeln!(out, "open sequence")?,
-        RunFault::Memory => return Err(Halt::Memory),
+    if fault == RunFault::Memory {
+        return Err(Halt::Memory);
     }
+    writeln!(out, "{}", RunLine(offset, fault))?;
     Ok(Status::No)
+}
+
+// The line that says why the program of the unit at the offset doesn't run.
+#[derive(Clone, Copy)]
+pub(crate) struct RunLine(pub(crate) u64, pub(crate) RunFault);
+
+impl fmt::Display for RunLine {
+    fn fmt<W: fmt::Write>(&self, f: &mut fmt::Formatter<W>) -> fmt::Result {
+        let RunLine(offset, fault) = *self;
+        write!(f, "no 26 run unit 0x{offset:x}: ")?;
+        match fault {
+            RunFault::LineOutOfRange(index) => write!(f, "line out of range at operation {index}"),
+            RunFault::OpenSequence => write!(f, "open sequence"),
+            RunFault::Memory => write!(f, "out of memory"),
+        }
+    }
 }
 
 // The line that says which bytes are refused, and why.
 #[derive(Clone, Copy)]
-struct MalformedLine(Fault);
+pub(crate) struct MalformedLine(pub(crate) Fault);
 
 impl fmt::Display for MalformedLine {
     fn fmt<W: fmt::Write>(&self, f: &mut fmt::Formatter<W>) -> fmt::Result {

@@ -1,3 +1,4 @@
+pub mod Conversions
 pub mod Firsts
 pub mod Headers
 pub mod Lists

@@ -1,4 +1,5 @@
 pub mod Broken
+pub mod Conversion
 pub mod Encoding
 pub mod FieldFaults
 pub mod HeaderBytes

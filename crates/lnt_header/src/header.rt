@@ -82,6 +82,7 @@ impl Model for Header {
 }
 
 impl Header {
+    ghost use Rattle.lnt_header.specs.Conversion.{in_format};
     ghost use Rattle.lnt_header.specs.HeaderRules.{IsAddressSize, IsHeader};
     ghost use Rattle.lnt_header.specs.HeaderTests.{IsPartsFault};
 
@@ -107,6 +108,22 @@ impl Header {
     {
         let Header { parts } = self;
         parts
+    }
+
+    /// The header in this format and order: these two are changed, and nothing else (DWARF 5, sections 6.2.4 and 7.4).
+    /// It takes no memory, and refuses nothing.
+    #[tactic(auto, using(crate::specs::Laws::Conversions::header_in_format))]
+    pub fn with_format(self, format: Format, order: Order) -> Header
+        ensures { result ≡ in_format self format order }
+    {
+        let Header { parts } = self;
+        Header {
+            parts: HeaderParts {
+                format,
+                order,
+                ..parts
+            },
+        }
     }
 
     // The header of parts that a reader can have read.

@@ -5,6 +5,7 @@
 #![tactic(auto)]
 
 mod fault;
+pub mod laws;
 mod machine;
 mod registers;
 mod row;

@@ -1,3 +1,4 @@
+pub mod ConvertLemmas
 pub mod SectionLemmas
 pub mod UnitLemmas
 pub mod UnitReaders

@@ -1,12 +1,14 @@
 //! The units of DWARF 5 line number sections: headers and operations, read and written.
 #![tactic(auto)]
 
+mod convert;
 mod decode;
 mod encode;
 pub mod laws;
 mod unit;
 mod view;
 
+pub use convert::{ConvertFault, convert_section};
 pub use decode::{decode_section, decode_unit};
 pub use encode::encode_unit;
 pub use lnt_header::{

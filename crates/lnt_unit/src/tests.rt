@@ -1,3 +1,4 @@
+mod converted;
 mod units;
 mod worked;
 mod written;

@@ -5,7 +5,7 @@ ghost use Rattle.lnt_header.specs.HeaderTests.{IsFirstNot};
 ghost use Rattle.lnt_header.specs.OpRules.{Admits};
 
 use lnt_header::{Header, HeaderParts, Op, UnitFault};
-use lnt_wire::Items;
+use lnt_wire::{Format, Items, Order};
 use std::marker::Model;
 
 /// What a unit is made of.
@@ -39,6 +39,7 @@ impl Unit {
     ghost use Rattle.std.specs.List.{AllByRecursion};
     ghost use Rattle.lnt_header.specs.OpRules.{Admits};
     ghost use Rattle.lnt_unit.specs.UnitRules.{IsUnit};
+    ghost use Rattle.lnt_unit.specs.Converting.{unit_in_format};
     ghost use Rattle.lnt_unit.specs.UnitTests.{IsUnitFault};
 
     /// The unit of the parts, if some unit that was decoded can have them, its lengths and the offsets of the 32-bit
@@ -74,6 +75,15 @@ impl Unit {
             header: header.into_parts(),
             ops,
         }
+    }
+
+    /// The unit in this format and order: these two are changed, and nothing else (DWARF 5, sections 6.2.4 and 7.4).
+    /// It takes no memory, and refuses nothing.
+    pub fn with_format(self, format: Format, order: Order) -> Unit
+        ensures { result ≡ unit_in_format self format order }
+    {
+        let Unit { header, ops } = self;
+        Unit::of(header.with_format(format, order), ops)
     }
 
     // The unit of a header and operations that it admits.

@@ -13,7 +13,12 @@ use std::alloc::{AllocError, AllocFailed, Global};
 use std::test::Fail;
 
 // The parts of the unit that the bytes are, with these operations.
-fn parts(alloc: Global, bytes: &[u8], order: Order, ops: Vec<Op>) -> Result<Parts, Fault> {
+pub(super) fn parts(
+    alloc: Global,
+    bytes: &[u8],
+    order: Order,
+    ops: Vec<Op>,
+) -> Result<Parts, Fault> {
     let frame = take_frame(&mut Cursor::new(bytes, 0, order))?;
     let (header, _) = decode_header(alloc, &frame, order)?;
     Ok(Parts {
@@ -31,7 +36,7 @@ fn ended(ops: &mut Vec<Op>) -> Result<(), AllocFailed<Op>> {
 }
 
 // The operations of most units.
-fn plain(alloc: Global) -> Result<Vec<Op>, AllocFailed<Op>> {
+pub(super) fn plain(alloc: Global) -> Result<Vec<Op>, AllocFailed<Op>> {
     let mut ops = Vec::new(alloc);
     ops.push(Op::SetAddress(0x1000))?;
     ended(&mut ops)?;
@@ -141,7 +146,7 @@ fn operations_that_are_not_of_the_unit(rt: HostRuntime) -> Result<(), Fail> {
 }
 
 // A table of one entry with one value.
-fn entries(alloc: Global, value: FormValue) -> Result<Items<Entry>, Fail> {
+pub(super) fn entries(alloc: Global, value: FormValue) -> Result<Items<Entry>, Fail> {
     let mut values = Vec::new(alloc);
     values.push(value)?;
     let mut entries = Vec::new(alloc);

@@ -1,0 +1,4 @@
+pub mod DigitLemmas
+pub mod OneTextLemmas
+pub mod PutLemmas
+pub mod ReadLemmas

@@ -1,0 +1,165 @@
+-- Numbers written from the last digit on.
+use Rattle.std.proofs.Common.{◌≡◌, ◌∙◌, ℕ, zero, suc, ◌+◌, ◌*◌, ◌/◌, ◌%◌, ◌^◌, ◌<◌, ◌≤◌, ◌-◌, add-one, List, [], ◌∷◌, length, drop, slice_set, length-drop, refl, sym, ap, subst, arith}
+use Rattle.std.proofs.Math.ListN.{length-set}
+use Rattle.std.proofs.lemmas.List.{drop_all}
+use Rattle.std.specs.List.{AllByRecursion}
+use Rattle.lnt_digits.specs.declared.radix.Radix.{Radix}
+use Rattle.lnt_digits.specs.declared.radix.Radix.TheVariants.{Ten, Sixteen}
+use Rattle.lnt_digits.specs.Digits.{HasNoLeadingZero, IsDigit, IsLower, IsPlain, IsPlainAddress, base, digit_code, digit_value, digits_value, most_digits}
+use Rattle.lnt_digits.proofs.DigitLemmas.{code_is_digit, code_is_lower, code_not_zero, code_worth, fewer_digits, last_digit, last_digit_below, lone_digit}
+
+drop_put_suc : (buf : List ℕ) (i v : ℕ) → i < length buf → drop i (slice_set buf i v) ≡ v ∷ drop (suc i) buf
+drop_put_suc [] i v lt = absurd (omega arith)
+drop_put_suc (b ∷ buf) zero v lt = refl
+drop_put_suc (b ∷ buf) (suc i) v lt = drop_put_suc buf i v (omega arith)
+
+pub drop_put : (buf : List ℕ) (i v : ℕ) → i < length buf → drop i (slice_set buf i v) ≡ v ∷ drop (i + 1) buf
+drop_put buf i v lt = rw add-one (drop_put_suc buf i v lt)
+
+-- ---- digits, and the number that is left to write before them
+
+pub record IsPut (radix : Radix) (n : ℕ) (text : List ℕ) (left : ℕ) : Type 0 where
+  pub digits : AllByRecursion (IsDigit radix) text
+  pub some : 0 < length text
+  pub value : digits_value (base radix) left text ≡ n
+  pub lower : AllByRecursion IsLower text
+  pub no_zero : left ≡ 0 → HasNoLeadingZero text
+
+no_zero_first : (c : ℕ) (text : List ℕ) → 48 < c → HasNoLeadingZero (c ∷ text)
+no_zero_first c [] h = tt
+no_zero_first c (d ∷ text) h = h
+
+value_put : (radix : Radix) (n : ℕ) (text : List ℕ) (left : ℕ) → digits_value (base radix) left text ≡ n
+    → digits_value (base radix) (left / base radix) (digit_code (left % base radix) ∷ text) ≡ n
+value_put radix n text left e =
+    let back : left / base radix * base radix + digit_value (digit_code (left % base radix)) ≡ left =
+    ap (λ (d : ℕ). left / base radix * base radix + d) (code_worth (left % base radix)) ∙ last_digit radix left in
+    ap (λ (v : ℕ). digits_value (base radix) v text) back ∙ e
+
+-- one digit before them
+digit_put : (radix : Radix) (n : ℕ) (text : List ℕ) (left : ℕ) → IsPut radix n text left → 0 < left
+    → IsPut radix n (digit_code (left % base radix) ∷ text) (left / base radix)
+digit_put radix n text left p some = record {
+  digits = (code_is_digit radix (left % base radix) (last_digit_below radix left), p.digits);
+  some = omega arith;
+  value = value_put radix n text left p.value;
+  lower = (code_is_lower (left % base radix), p.lower);
+  no_zero = λ e. no_zero_first (digit_code (left % base radix)) text
+      (code_not_zero (left % base radix) (omega (arith, some, lone_digit radix left e)));
+}
+
+-- the last digit
+digit_first : (radix : Radix) (n : ℕ) → IsPut radix n (digit_code (n % base radix) ∷ []) (n / base radix)
+digit_first radix n = record {
+  digits = (code_is_digit radix (n % base radix) (last_digit_below radix n), tt);
+  some = omega arith;
+  value = value_put radix n [] n refl;
+  lower = (code_is_lower (n % base radix), tt);
+  no_zero = λ e. tt;
+}
+
+-- ---- the same at the end of a buffer
+
+-- what stands from a place on, where at most so many digits are left to write
+pub record Stands (radix : Radix) (n : ℕ) (digits : List ℕ) (start left : ℕ) : Type 0 where
+  pub long : length digits ≡ 20
+  pub within : start < 20
+  pub room : ℕ
+  pub room_is : start + most_digits radix ≡ room + 20
+  pub bound : left < base radix ^ room
+  pub put : IsPut radix n (drop start digits) left
+
+first_bound : (radix : Radix) (n : ℕ) → n < 2 ^ 64 → (room : ℕ) × (19 + most_digits radix ≡ room + 20) × (n / base radix < base radix ^ room)
+first_bound Ten n fits = (19, omega arith, omega (arith, fits))
+first_bound Sixteen n fits = (15, omega arith, omega (arith, fits))
+
+pub stands_first : (radix : Radix) (n : ℕ) (digits : List ℕ) → n < 2 ^ 64 → length digits ≡ 20
+    → Stands radix n (slice_set digits 19 (digit_code (n % base radix))) 19 (n / base radix)
+stands_first radix n digits fits long =
+    let lt : 19 < length digits = omega (arith, long) in
+    let none : drop (19 + 1) digits ≡ [] = drop_all 20 digits (omega (arith, long)) in
+    let code : ℕ = digit_code (n % base radix) in
+    let e : drop 19 (slice_set digits 19 code) ≡ code ∷ [] = drop_put digits 19 code lt ∙ ap (λ (xs : List ℕ). code ∷ xs) none in
+    let b = first_bound radix n fits in
+    record {
+      long = length-set digits 19 code ∙ long;
+      within = omega arith;
+      room = b.0;
+      room_is = b.1;
+      bound = b.2;
+      put = subst (λ (text : List ℕ). IsPut radix n text (n / base radix)) (sym e) (digit_first radix n);
+    }
+
+no_room : (radix : Radix) (left : ℕ) → left < base radix ^ 0 → left ≡ 0
+no_room Ten left h = omega (arith, h)
+no_room Sixteen left h = omega (arith, h)
+
+-- while something is left to write, there is room for it
+some_room : (radix : Radix) (room left : ℕ) → left < base radix ^ room → 0 < left → 0 < room
+some_room radix zero left h some = absurd (omega (arith, some, no_room radix left h))
+some_room radix (suc room) left h some = omega arith
+
+most_at_most : (radix : Radix) → most_digits radix ≤ 20
+most_at_most Ten = omega arith
+most_at_most Sixteen = omega arith
+
+pub start_some : (radix : Radix) (n : ℕ) (digits : List ℕ) (start left : ℕ) → Stands radix n digits start left → 0 < left → 0 < start
+start_some radix n digits start left s some = omega (arith, some_room radix s.room left s.bound some, s.room_is, most_at_most radix)
+
+bound_less : (radix : Radix) (room left : ℕ) → left < base radix ^ room → 0 < room → left / base radix < base radix ^ (room - 1)
+bound_less radix room left h some =
+    let back : room - 1 + 1 ≡ room = omega (arith, some) in
+    fewer_digits radix left (room - 1) (subst (λ (k : ℕ). left < base radix ^ k) (sym back) h)
+
+pub stands_more : (radix : Radix) (n : ℕ) (digits : List ℕ) (start left : ℕ) → Stands radix n digits start left → 0 < left
+    → Stands radix n (slice_set digits (start - 1) (digit_code (left % base radix))) (start - 1) (left / base radix)
+stands_more radix n digits start left s some =
+    let room = some_room radix s.room left s.bound some in
+    let before = start_some radix n digits start left s some in
+    let code : ℕ = digit_code (left % base radix) in
+    let lt : start - 1 < length digits = omega (arith, s.long, s.within) in
+    let back : start - 1 + 1 ≡ start = omega (arith, before) in
+    let e : drop (start - 1) (slice_set digits (start - 1) code) ≡ code ∷ drop start digits =
+    drop_put digits (start - 1) code lt ∙ ap (λ (k : ℕ). code ∷ drop k digits) back in
+    record {
+      long = length-set digits (start - 1) code ∙ s.long;
+      within = omega (arith, s.within);
+      room = s.room - 1;
+      room_is = omega (arith, room, before, s.room_is);
+      bound = bound_less radix s.room left s.bound room;
+      put = subst (λ (text : List ℕ). IsPut radix n text (left / base radix)) (sym e) (digit_put radix n (drop start digits) left s.put some);
+    }
+
+pub stands_all : (radix : Radix) (n : ℕ) (digits : List ℕ) (start left : ℕ) → n < 2 ^ 64 → Stands radix n digits start left → left ≡ 0
+    → IsPlain radix (drop start digits) n
+stands_all radix n digits start left fits s e = record {
+  number = record {
+    digits = s.put.digits;
+    some = s.put.some;
+    few = omega (arith, length-drop start digits, s.long, s.room_is);
+    value = sym s.put.value ∙ ap (λ (v : ℕ). digits_value (base radix) v (drop start digits)) e;
+    fits = fits;
+  };
+  no_zero = s.put.no_zero e;
+  lower = s.put.lower;
+}
+
+-- ---- behind what a vector holds
+
+-- 0x before the digits of an address
+pub address_put : (digits : List ℕ) (start n : ℕ) → length digits ≡ 20 → start ≤ 20 → 2 ≤ start → IsPlain Sixteen (drop start digits) n
+    → IsPlainAddress (drop (start - 2) (slice_set (slice_set digits (start - 1) 120) (start - 2) 48)) n
+address_put digits start n long within room plain =
+    let one : start - 1 < length digits = omega (arith, long, within, room) in
+    let two : start - 2 < length (slice_set digits (start - 1) 120) = omega (arith, long, within, room, length-set digits (start - 1) 120) in
+    let next : start - 2 + 1 ≡ start - 1 = omega (arith, room) in
+    let last : start - 1 + 1 ≡ start = omega (arith, room) in
+    record {
+      digits = drop start digits;
+      written =
+          drop_put (slice_set digits (start - 1) 120) (start - 2) 48 two
+          ∙ ap (λ (k : ℕ). 48 ∷ drop k (slice_set digits (start - 1) 120)) next
+          ∙ ap (λ (xs : List ℕ). 48 ∷ xs) (drop_put digits (start - 1) 120 one)
+          ∙ ap (λ (k : ℕ). 48 ∷ 120 ∷ drop k digits) last;
+      plain = plain;
+    }

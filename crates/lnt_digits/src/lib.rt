@@ -1,0 +1,17 @@
+//! Numbers as text: decimal numbers, and addresses in hexadecimal, read and written.
+//!
+//! A decimal number has 1 to 20 decimal digits and is below 2^64. An address is `0x` with 1 to 16 hexadecimal digits of
+//! either case. What is written has no leading zeros, and its letters are in lower case, so each number has one such
+//! text.
+#![tactic(auto)]
+
+pub mod laws;
+mod put;
+mod radix;
+mod read;
+
+pub use put::{put_address, put_decimal};
+pub use read::{address, decimal};
+
+#[cfg(test)]
+mod tests;

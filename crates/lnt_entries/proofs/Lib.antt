@@ -1,0 +1,3 @@
+pub mod KeptLemmas
+pub mod PathLemmas
+pub mod TableLemmas

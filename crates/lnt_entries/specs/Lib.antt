@@ -1,0 +1,6 @@
+pub mod Contents
+pub mod Files
+pub mod Kept
+pub mod Paths
+pub mod Pieces
+pub mod Tables

@@ -1,0 +1,15 @@
+//! The directories and files of DWARF 5 line number headers: what is wrong with them, and the paths and MD5 sums of
+//! files.
+#![tactic(auto)]
+
+mod contents;
+mod files;
+mod paths;
+mod tables;
+
+pub use files::Files;
+pub use paths::{file_count, listed, path_of};
+pub use tables::{TableFault, tables_fault};
+
+#[cfg(test)]
+mod tests;

@@ -1,0 +1,89 @@
+-- Units added to a draft, one at a time.
+use Rattle.std.proofs.Common.{◌≡◌, ℕ, ◌+◌, ◌<◌, ◌≤◌, List, [], ◌∷◌, ◌++◌, map, length, refl, sym, ap, subst, ◌∙◌, arith}
+use Rattle.std.specs.Prelude.{Option}
+use Rattle.std.specs.List.{All, AllByRecursion, AllZip}
+use Rattle.std.proofs.lemmas.List.Elements.{All-cons, All-nil, All-weaker}
+use Rattle.lnt_wire.specs.declared.format.Order.{Order}
+use Rattle.lnt_stream.specs.Units.{UnitBytes}
+use Rattle.lnt_unit.specs.declared.unit.Parts.{Parts}
+use Rattle.lnt_unit.specs.Laws.Units.{unit_is_some}
+use Rattle.lnt_unit.specs.UnitBytes.{UnitsFrom}
+use Rattle.lnt_entries.specs.Files.{AreFilesOf, KeptFile}
+use Rattle.lnt_rows.specs.Laws.Units.{distinct_sequences, offsets_differ, ordered-append}
+use Rattle.lnt_rows.specs.Rules.{AreDistinct, AreOrdered}
+use Rattle.lnt_rows.specs.Sequences.{live_in, live_sequences}
+use Rattle.lnt_spans.specs.Laws.EachTwo.{pairs_cons, pairs_nil}
+use Rattle.lnt_lines.specs.declared.draft.Draft.{Draft}
+use Rattle.lnt_lines.specs.Contents.{AreRising}
+use Rattle.lnt_lines.specs.Drafts.{HasAdded, IsDraftOf}
+use Rattle.lnt_lines.specs.Good.{IsSound}
+use Rattle.lnt_lines.specs.Judging.{IsJudgedSound}
+
+-- ---- one unit more
+
+all_push : {X : Type 0} (P : X → Type 0) (xs : List X) (x : X) → AllByRecursion P xs → P x → AllByRecursion P (xs ++ x ∷ [])
+all_push P [] x all here = (here, tt)
+all_push P (y ∷ xs) x all here = (all.0, all_push P xs x all.1 here)
+
+zip_push : {X Y : Type 0} (R : X → Y → Type 0) (xs : List X) (ys : List Y) (x : X) (y : Y) → AllZip R xs ys → R x y → AllZip R (xs ++ x ∷ []) (ys ++ y ∷ [])
+zip_push R [] [] x y all here = (here, tt)
+zip_push R [] (v ∷ ys) x y all here = absurd all
+zip_push R (u ∷ xs) [] x y all here = absurd all
+zip_push R (u ∷ xs) (v ∷ ys) x y all here = (all.0, zip_push R xs ys x y all.1 here)
+
+offsets_push : (units : List (ℕ × Parts)) (unit : ℕ × Parts) → map (λ (u : ℕ × Parts). u.0) (units ++ unit ∷ []) ≡ map (λ (u : ℕ × Parts). u.0) units ++ unit.0 ∷ []
+offsets_push [] unit = refl
+offsets_push (first ∷ units) unit = ap (λ (rest : List ℕ). first.0 ∷ rest) (offsets_push units unit)
+
+pub added : (text general : List ℕ) (dead : Option ℕ) (buffer : UnitBytes) (old new : Draft) (offset : ℕ) (files : List KeptFile) → IsJudgedSound text general dead buffer old.collected new.collected files
+    → offset ≡ buffer.offset → new.units.items ≡ old.units.items ++ offset ∷ [] → new.files.items ≡ old.files.items ++ files ∷ [] → HasAdded text general dead buffer old new
+added text general dead buffer old new offset files judged at offsets all = record {
+  unit = judged.unit;
+  spelled = judged.spelled;
+  drafts = λ units draft. record {
+    sound = all_push (IsSound text general dead) units (buffer.offset, judged.unit) draft.sound judged.sound;
+    collects = judged.collects units draft.collects;
+    offsets = offsets ∙ ap (λ (n : ℕ). old.units.items ++ n ∷ []) at ∙ ap (λ (list : List ℕ). list ++ buffer.offset ∷ []) draft.offsets
+        ∙ sym (offsets_push units (buffer.offset, judged.unit));
+    files = subst (AllZip (λ (unit : ℕ × Parts) (f : List KeptFile). AreFilesOf text general unit.1.header f) (units ++ (buffer.offset, judged.unit) ∷ [])) (sym all)
+        (zip_push (λ (unit : ℕ × Parts) (f : List KeptFile). AreFilesOf text general unit.1.header f) units old.files.items (buffer.offset, judged.unit) files draft.files judged.files_are);
+  };
+}
+
+-- ---- all units
+
+-- as many files as units
+zip_length : {X Y : Type 0} (R : X → Y → Type 0) (f : X → ℕ) (xs : List X) (ys : List Y) → AllZip R xs ys → length (map f xs) ≡ length ys
+zip_length R f [] [] all = refl
+zip_length R f [] (y ∷ ys) all = absurd all
+zip_length R f (x ∷ xs) [] all = absurd all
+zip_length R f (x ∷ xs) (y ∷ ys) all = let more = zip_length R f xs ys all.1 in omega (arith, more)
+
+pub same_number : (text general : List ℕ) (dead : Option ℕ) (units : List (ℕ × Parts)) (draft : Draft) → IsDraftOf text general dead units draft → length draft.units.items ≡ length draft.files.items
+same_number text general dead units draft d =
+    ap length d.offsets ∙ zip_length (λ (unit : ℕ × Parts) (f : List KeptFile). AreFilesOf text general unit.1.header f) (λ (u : ℕ × Parts). u.0) units draft.files.items d.files
+
+offsets_at_least : (order : Order) (k : ℕ) (units : List (ℕ × Parts)) (bytes : List ℕ) → UnitsFrom order k units bytes → All (λ (n : ℕ). k ≤ n) (map (λ (u : ℕ × Parts). u.0) units)
+offsets_at_least order k [] bytes u = All-nil (λ (n : ℕ). k ≤ n)
+offsets_at_least order k (unit ∷ units) bytes (front, back, at, spelled, whole, rest) =
+    let offsets : List ℕ = map (λ (u : ℕ × Parts). u.0) units in
+    All-cons (λ (n : ℕ). k ≤ n) unit.0 offsets (omega (arith, at))
+    (All-weaker (λ (n : ℕ). k + length front ≤ n) (λ (n : ℕ). k ≤ n) (λ n le. omega (arith, le)) offsets (offsets_at_least order (k + length front) units back rest))
+
+-- the offsets of units rise
+pub rising_from : (order : Order) (k : ℕ) (units : List (ℕ × Parts)) (bytes : List ℕ) → UnitsFrom order k units bytes → AreRising (map (λ (u : ℕ × Parts). u.0) units)
+rising_from order k [] bytes u = pairs_nil (λ (one other : ℕ). one < other)
+rising_from order k (unit ∷ units) bytes (front, back, at, spelled, whole, rest) =
+    let offsets : List ℕ = map (λ (u : ℕ × Parts). u.0) units in
+    pairs_cons (λ (one other : ℕ). one < other) unit.0 offsets
+    (All-weaker (λ (n : ℕ). k + length front ≤ n) (λ (n : ℕ). unit.0 < n) (λ n le. omega (arith, le, at, unit_is_some order unit.1 front spelled)) offsets
+    (offsets_at_least order (k + length front) units back rest))
+    (rising_from order (k + length front) units back rest)
+
+pub distinct : (order : Order) (dead : Option ℕ) (units : List (ℕ × Parts)) (bytes : List ℕ) → UnitsFrom order 0 units bytes → AreDistinct (live_sequences dead units)
+distinct order dead units bytes u = distinct_sequences dead units (offsets_differ order 0 units bytes u)
+
+-- the live sequences of sound units are in order
+pub all_ordered : (text general : List ℕ) (dead : Option ℕ) (units : List (ℕ × Parts)) → AllByRecursion (IsSound text general dead) units → AreOrdered (live_sequences dead units)
+all_ordered text general dead [] all = tt
+all_ordered text general dead (unit ∷ units) all = ordered-append (live_in dead unit) (live_sequences dead units) all.0.ordered (all_ordered text general dead units all.1)

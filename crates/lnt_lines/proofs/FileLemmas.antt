@@ -1,0 +1,88 @@
+-- The files that are held of a unit.
+use Rattle.std.proofs.Common.{◌≡◌, ◌≢◌, ℕ, zero, suc, ◌==◌, ◌<◌, false, List, [], ◌∷◌, map, length, get_or, refl, sym, ap, subst, ◌∙◌, arith}
+use Rattle.std.specs.Prelude.{None, Option, Some}
+use Rattle.std.specs.List.{All, AllZip, Contains, position, position_or_len, slice_get}
+use Rattle.std.specs.Option.{option_and_then, option_map_or}
+use Rattle.std.proofs.lemmas.List.Sums.{position_or_len_is}
+use Rattle.lnt_wire.specs.declared.format.Order.{Order}
+use Rattle.lnt_unit.specs.declared.unit.Parts.{Parts}
+use Rattle.lnt_unit.specs.UnitBytes.{SectionBytes}
+use Rattle.lnt_entries.specs.Files.{AreFilesOf, KeptFile, kept_path, kept_sum}
+use Rattle.lnt_lines.specs.Contents.{Contents, files_at, files_of, TellsOf}
+use Rattle.lnt_lines.specs.Laws.{FilesOfUnits, ListsFilesOf}
+use Rattle.lnt_lines.proofs.DraftLemmas.{rising_from}
+use Rattle.lnt_lines.proofs.PlaceLemmas.{other_is, outside_is, place_found}
+
+-- what two lists hold at one place
+record StandsAt {X Y : Type 0} (R : X → Y → Type 0) (x : X) (ys : List Y) (k : ℕ) : Type 0 where
+  y : Y
+  there : slice_get ys k ≡ Some y
+  related : R x y
+
+zip_at : {X Y : Type 0} (R : X → Y → Type 0) (xs : List X) (ys : List Y) (k : ℕ) (d : X) → AllZip R xs ys → k < length xs → StandsAt R (get_or xs k d) ys k
+zip_at R [] [] k d all lt = absurd (omega arith)
+zip_at R [] (y ∷ ys) k d all lt = absurd all
+zip_at R (x ∷ xs) [] k d all lt = absurd all
+zip_at R (x ∷ xs) (y ∷ ys) zero d all lt = record { y = y; there = refl; related = all.0 }
+zip_at R (x ∷ xs) (y ∷ ys) (suc k) d all lt =
+    let rest = zip_at R xs ys k d all.1 (omega arith) in
+    record { y = rest.y; there = rest.there; related = rest.related }
+
+offset_at : (units : List (ℕ × Parts)) (k : ℕ) (d : ℕ × Parts) → k < length units → get_or (map (λ (u : ℕ × Parts). u.0) units) k 0 ≡ (get_or units k d).0
+offset_at [] k d lt = absurd (omega arith)
+offset_at (unit ∷ units) zero d lt = refl
+offset_at (unit ∷ units) (suc k) d lt = offset_at units k d (omega arith)
+
+as_many : (units : List (ℕ × Parts)) → length (map (λ (u : ℕ × Parts). u.0) units) ≡ length units
+as_many [] = refl
+as_many (unit ∷ units) = let more = as_many units in omega (arith, more)
+
+abbrev FilesOf : List ℕ → List ℕ → ℕ × Parts → List KeptFile → Type 0
+FilesOf text general unit files = AreFilesOf text general unit.1.header files
+
+-- its files are held
+held : (text general : List ℕ) (dead : Option ℕ) (order : Order) (section : List ℕ) (units : List (ℕ × Parts)) (contents : Contents) (unit : ℕ × Parts)
+    → SectionBytes order units section → TellsOf text general dead units contents → Contains units unit → (files : List KeptFile) × (files_of contents unit.0 ≡ Some files) × AreFilesOf text general unit.1.header files
+held text general dead order section units contents unit spelled tells (k, lt, same) =
+    let offsets : List ℕ = map (λ (u : ℕ × Parts). u.0) units in
+    let at = zip_at (FilesOf text general) units contents.files k unit tells.files_are lt in
+    let few : k < length offsets = omega (arith, lt, as_many units) in
+    let place : Some k ≡ position (λ offset. offset == unit.0) offsets =
+    place_found offsets unit.0 k (rising_from order 0 units section spelled) few (offset_at units k unit lt ∙ ap (λ (u : ℕ × Parts). u.0) same) in
+    let there : files_of contents unit.0 ≡ Some at.y =
+    ap (λ (list : List ℕ). files_at list contents.files unit.0) tells.units_are
+    ∙ ap (λ (o : Option ℕ). option_and_then (slice_get contents.files) o) (sym place) ∙ at.there in
+    (at.y, there, subst (λ (u : ℕ × Parts). AreFilesOf text general u.1.header at.y) same at.related)
+
+listed : (text general : List ℕ) (dead : Option ℕ) (order : Order) (section : List ℕ) (units : List (ℕ × Parts)) (contents : Contents) (unit : ℕ × Parts)
+    → SectionBytes order units section → TellsOf text general dead units contents → Contains units unit → ListsFilesOf text general unit contents
+listed text general dead order section units contents unit spelled tells within =
+    let found = held text general dead order section units contents unit spelled tells within in
+    let files = found.2 in
+    record {
+      count = ap (λ (o : Option (List KeptFile)). option_map_or length o 0) found.1 ∙ files.count;
+      paths = λ file. ap (λ (o : Option (List KeptFile)). option_and_then (λ (f : List KeptFile). kept_path f file) o) found.1 ∙ files.paths file;
+      sums = λ file. ap (λ (o : Option (List KeptFile)). option_and_then (λ (f : List KeptFile). kept_sum f file) o) found.1 ∙ files.sums file;
+    }
+
+no_place : (units : List (ℕ × Parts)) (offset : ℕ) → All (λ (unit : ℕ × Parts). unit.0 ≢ offset) units → position (λ (n : ℕ). n == offset) (map (λ (u : ℕ × Parts). u.0) units) ≡ None
+no_place units offset all =
+    let offsets : List ℕ = map (λ (u : ℕ × Parts). u.0) units in
+    let none : (j : ℕ) → j < length offsets → (get_or offsets j 0 == offset) ≡ false = λ j lt.
+    let few : j < length units = omega (arith, lt, as_many units) in
+    other_is (get_or offsets j 0) offset (λ same. all j (0, get_or_unit units j few) few (sym (offset_at units j (0, get_or_unit units j few) few) ∙ same)) in
+    let at : position_or_len (λ (n : ℕ). n == offset) offsets ≡ length offsets =
+    position_or_len_is (λ (n : ℕ). n == offset) offsets (length offsets) 0 (omega arith) none (λ lt. absurd (omega arith)) in
+    rw (at, outside_is (length offsets) (length offsets) (omega arith)) refl
+  where
+    get_or_unit : (us : List (ℕ × Parts)) (j : ℕ) → j < length us → Parts
+    get_or_unit [] j lt = absurd (omega arith)
+    get_or_unit (u ∷ us) j lt = u.1
+
+pub files_of_units : FilesOfUnits
+files_of_units = record {
+  listed = λ text general dead order section units contents unit spelled tells within. listed text general dead order section units contents unit spelled tells within;
+  none = λ text general dead units contents offset tells all.
+      ap (λ (list : List ℕ). files_at list contents.files offset) tells.units_are
+      ∙ ap (λ (o : Option ℕ). option_and_then (slice_get contents.files) o) (no_place units offset all);
+}

@@ -1,0 +1,9 @@
+mod DraftLemmas
+mod FileLemmas
+mod FlawLemmas
+mod JudgeLemmas
+mod PlaceLemmas
+mod RefusalLemmas
+mod RunLemmas
+mod SectionLemmas
+mod WholeLemmas

@@ -1,0 +1,58 @@
+-- What is held of a good section, and what it answers.
+use Rattle.std.specs.Prelude.{◌≡◌, ◌<◌, ℕ, ◌==◌, List, [], ◌∷◌, map, length, Option, Some, None}
+use Rattle.std.specs.List.{AllByRecursion, AllPairs, AllZip, position, slice_get}
+use Rattle.std.specs.Option.{option_and_then, option_map_or}
+use Rattle.lnt_unit.specs.declared.unit.Parts.{Parts}
+use Rattle.lnt_entries.specs.Files.{AreFilesOf, KeptFile, kept_path, kept_sum}
+use Rattle.lnt_rows.specs.Sequences.{line_answer}
+use Rattle.lnt_spans.specs.declared.answer.More.{More}
+use Rattle.lnt_spans.specs.declared.position.Position.{Position}
+use Rattle.lnt_spans.specs.declared.span.Span.{Span}
+use Rattle.lnt_spans.specs.Spans.{AreInOrder, span_answer}
+
+-- the spans, and the offset and the files of each unit
+pub record Contents : Type 0 where
+  pub spans : List Span
+  pub units : List ℕ
+  pub files : List (List KeptFile)
+
+-- each is greater than all before it
+abbrev pub AreRising : List ℕ → Type 0
+AreRising offsets = AllPairs (λ one other. one < other) offsets
+
+-- Each span's answer tells the instruction set and the discriminator too.
+abbrev pub AreWhole : List Span → Type 0
+AreWhole spans = AllByRecursion (λ (span : Span). (more : More) × (span.answer.more ≡ Some more)) spans
+
+-- The spans are in order and their answers are whole, the units are in order, and each has its files.
+pub record AreContents (contents : Contents) : Type 0 where
+  pub in_order : AreInOrder contents.spans
+  pub whole : AreWhole contents.spans
+  pub rising : AreRising contents.units
+  pub each : length contents.units ≡ length contents.files
+
+-- the files of the unit at an offset, if one stands there
+abbrev pub files_at : List ℕ → List (List KeptFile) → ℕ → Option (List KeptFile)
+files_at units files unit = option_and_then (slice_get files) (position (λ offset. offset == unit) units)
+
+abbrev pub files_of : Contents → ℕ → Option (List KeptFile)
+files_of contents unit = files_at contents.units contents.files unit
+
+-- how many files it has; 0 where no unit stands there
+abbrev pub count_in : Contents → ℕ → ℕ
+count_in contents unit = option_map_or length (files_of contents unit) 0
+
+-- the path of one of its files, if that is there
+abbrev pub path_in : Contents → ℕ → ℕ → Option (List ℕ)
+path_in contents unit file = option_and_then (λ files. kept_path files file) (files_of contents unit)
+
+-- the MD5 sum that is listed of one of its files
+abbrev pub sum_in : Contents → ℕ → ℕ → Option (List ℕ)
+sum_in contents unit file = option_and_then (λ files. kept_sum files file) (files_of contents unit)
+
+-- What is held answers as the units do: their rows at each position, their offsets, and their files.
+pub record TellsOf (line general : List ℕ) (dead : Option ℕ) (units : List (ℕ × Parts)) (contents : Contents) : Type 0 where
+  pub in_order : AreInOrder contents.spans
+  pub answers : (p : Position) → span_answer contents.spans p ≡ line_answer dead units p
+  pub units_are : contents.units ≡ map (λ unit. unit.0) units
+  pub files_are : AllZip (λ unit files. AreFilesOf line general unit.1.header files) units contents.files

@@ -1,0 +1,30 @@
+-- What makes a section good (DWARF 5, section 6.2).
+--     line, general   the bytes of .debug_line_str and of .debug_str
+--     dead            the address at which sequences of dead code begin, where one is given
+use Rattle.std.specs.Prelude.{ℕ, List, length, Option}
+use Rattle.std.specs.List.{AllByRecursion}
+use Rattle.lnt_unit.specs.declared.unit.Parts.{Parts}
+use Rattle.lnt_unit.specs.UnitBytes.{SectionBytes}
+use Rattle.lnt_machine.specs.Matrix.{Runs}
+use Rattle.lnt_entries.specs.Tables.{AreUsableTables}
+use Rattle.lnt_rows.specs.Rules.{AreApart, AreOrdered, HaveFiles}
+use Rattle.lnt_rows.specs.Sequences.{live_in, live_sequences}
+use Rattle.lnt_lines.specs.declared.options.Options.{Options}
+
+-- A unit whose program runs, and whose tables are usable: each file's directory is there, and the text of each path.
+pub record IsWellFormed (line general : List ℕ) (unit : Parts) : Type 0 where
+  pub runs : Runs unit
+  pub tables : AreUsableTables line general unit.header
+
+-- A well-formed unit, which stands at an offset. The rows of its live sequences name files that are there, and their
+-- positions never fall.
+pub record IsSound (line general : List ℕ) (dead : Option ℕ) (unit : ℕ × Parts) : Type 0 where
+  pub well_formed : IsWellFormed line general unit.1
+  pub files : HaveFiles (length unit.1.header.files) (live_in dead unit)
+  pub ordered : AreOrdered (live_in dead unit)
+
+-- The section is the bytes of these units. Each of them is sound, and no position is held by two of their live sequences.
+pub record IsGood (line general : List ℕ) (options : Options) (section : List ℕ) (units : List (ℕ × Parts)) : Type 0 where
+  pub spelled : SectionBytes options.order units section
+  pub sound : AllByRecursion (IsSound line general options.dead) units
+  pub apart : AreApart (live_sequences options.dead units)

@@ -1,0 +1,64 @@
+-- One unit, judged.
+--     line, general   the bytes of .debug_line_str and of .debug_str
+--     dead            the address at which sequences of dead code begin, where one is given
+use Rattle.std.specs.Prelude.{◌≡◌, ℕ, List, [], ◌∷◌, ◌++◌, length, Option}
+use Rattle.lnt_wire.specs.declared.fault.Fault.{Fault}
+use Rattle.lnt_stream.specs.Units.{UnitBytes}
+use Rattle.lnt_unit.specs.declared.unit.Parts.{Parts}
+use Rattle.lnt_unit.specs.BrokenUnits.{BrokenUnit}
+use Rattle.lnt_unit.specs.UnitBytes.{UnitBytesIn}
+use Rattle.lnt_unit.specs.Views.{HasCount, View}
+use Rattle.lnt_machine.specs.declared.fault.RunFault.{RunFault}
+use Rattle.lnt_machine.specs.Matrix.{rows, Runs}
+use Rattle.lnt_entries.specs.Files.{AreFilesOf, KeptFile}
+use Rattle.lnt_rows.specs.declared.collected.Collected.{Collected}
+use Rattle.lnt_rows.specs.declared.watch.Watch.{Watch}
+use Rattle.lnt_rows.specs.Sequences.{live_sequences, Placed}
+use Rattle.lnt_rows.specs.Watching.{Collects, CollectsRows, HasSeenAll}
+use Rattle.lnt_lines.specs.declared.no.No.{No}
+use Rattle.lnt_lines.specs.declared.no.No.TheVariants as no
+use Rattle.lnt_lines.specs.declared.refusal.Refusal.{Refusal}
+use Rattle.lnt_lines.specs.declared.refusal.Refusal.TheVariants as refusal
+use Rattle.lnt_lines.specs.declared.stop.Stop.TheVariants as stop
+use Rattle.lnt_lines.specs.Good.{IsSound}
+use Rattle.lnt_lines.specs.Nos.{IsFlaw}
+
+-- The bytes of the buffer are those of a unit with this flaw.
+pub record HasFlaw (line general : List ℕ) (dead : Option ℕ) (buffer : UnitBytes) (reason : No) : Type 0 where
+  pub unit : Parts
+  pub spelled : UnitBytesIn buffer.order unit buffer.bytes
+  pub flaw : IsFlaw line general dead (buffer.offset, unit) reason
+
+-- What is told of the unit in the buffer is so.
+abbrev pub IsUnitNo : List ℕ → List ℕ → Option ℕ → UnitBytes → No → Type 0
+IsUnitNo line general dead buffer (no.Malformed fault) = BrokenUnit buffer.order fault buffer.offset buffer.bytes
+IsUnitNo line general dead buffer other = HasFlaw line general dead buffer other
+
+-- A unit is refused for what is wrong with it, or for want of memory.
+abbrev pub IsUnitRefusal : List ℕ → List ℕ → Option ℕ → UnitBytes → Refusal → Type 0
+IsUnitRefusal line general dead buffer (refusal.No reason) = IsUnitNo line general dead buffer reason
+IsUnitRefusal line general dead buffer (refusal.Stop stop.Memory) = Unit {0}
+IsUnitRefusal line general dead buffer (refusal.Stop _) = ⊥
+
+-- What is told where an operation leads out of the range of lines: the fault, where the bytes are those of a unit, and
+-- else why they aren't.
+pub data IsTold (view : View) (unit : ℕ) (fault : RunFault) (told : Refusal) : Type 0 where
+  of_unit : (count : ℕ) → HasCount view count → told ≡ refusal.No (no.Run unit fault) → IsTold view unit fault told
+  broken : (first : Fault) → BrokenUnit view.unit.order first view.unit.offset view.unit.bytes → told ≡ refusal.No (no.Malformed first) → IsTold view unit fault told
+
+-- The program of the unit ran to its end, and all of its rows were seen.
+pub record HasRun (dead : Option ℕ) (view : View) (old new : Collected) (watch : Watch) : Type 0 where
+  pub unit : Parts
+  pub header_is : unit.header ≡ view.header
+  pub spelled : UnitBytesIn view.unit.order unit view.unit.bytes
+  pub runs : Runs unit
+  pub seen : HasSeenAll dead view.unit.offset (length unit.header.files) watch (rows unit)
+  pub collects : (sequences : List Placed) → Collects old sequences → CollectsRows dead view.unit.offset new sequences (rows unit)
+
+-- The bytes of the buffer are those of a sound unit, with these files. What its live sequences hold was collected.
+pub record IsJudgedSound (line general : List ℕ) (dead : Option ℕ) (buffer : UnitBytes) (old new : Collected) (files : List KeptFile) : Type 0 where
+  pub unit : Parts
+  pub spelled : UnitBytesIn buffer.order unit buffer.bytes
+  pub sound : IsSound line general dead (buffer.offset, unit)
+  pub files_are : AreFilesOf line general unit.header files
+  pub collects : (units : List (ℕ × Parts)) → Collects old (live_sequences dead units) → Collects new (live_sequences dead (units ++ (buffer.offset, unit) ∷ []))

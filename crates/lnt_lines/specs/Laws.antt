@@ -1,0 +1,32 @@
+-- What the laws of judged sections say.
+--     line, general   the bytes of .debug_line_str and of .debug_str
+--     dead            the address at which sequences of dead code begin, where one is given
+use Rattle.std.specs.Prelude.{◌≡◌, ◌≢◌, ℕ, List, length, None, Option}
+use Rattle.std.specs.List.{All, Contains}
+use Rattle.lnt_wire.specs.declared.format.Order.{Order}
+use Rattle.lnt_unit.specs.declared.unit.Parts.{Parts}
+use Rattle.lnt_unit.specs.UnitBytes.{SectionBytes}
+use Rattle.lnt_entries.specs.Paths.{listed_sum, path_bytes}
+use Rattle.lnt_lines.specs.declared.no.No.{No}
+use Rattle.lnt_lines.specs.declared.options.Options.{Options}
+use Rattle.lnt_lines.specs.Contents.{Contents, count_in, files_of, path_in, sum_in, TellsOf}
+use Rattle.lnt_lines.specs.Good.{IsGood}
+use Rattle.lnt_lines.specs.Nos.{IsTrueNo}
+
+-- Of a good section no reason is true.
+abbrev pub GoodHasNoFlaw : Type 0
+GoodHasNoFlaw = (line general : List ℕ) (options : Options) (section : List ℕ) (units : List (ℕ × Parts)) (reason : No)
+    → IsGood line general options section units → IsTrueNo line general options section reason → ⊥
+
+-- The files that are held of a unit are those that its header lists.
+pub record ListsFilesOf (line general : List ℕ) (unit : ℕ × Parts) (contents : Contents) : Type 0 where
+  pub count : count_in contents unit.0 ≡ length unit.1.header.files
+  pub paths : (file : ℕ) → path_in contents unit.0 file ≡ path_bytes line general unit.1.header file
+  pub sums : (file : ℕ) → sum_in contents unit.0 file ≡ listed_sum unit.1.header file
+
+-- So it is of each unit of the section, and no files are held where no unit stands.
+pub record FilesOfUnits : Type 0 where
+  pub listed : (line general : List ℕ) (dead : Option ℕ) (order : Order) (section : List ℕ) (units : List (ℕ × Parts)) (contents : Contents) (unit : ℕ × Parts)
+      → SectionBytes order units section → TellsOf line general dead units contents → Contains units unit → ListsFilesOf line general unit contents
+  pub none : (line general : List ℕ) (dead : Option ℕ) (units : List (ℕ × Parts)) (contents : Contents) (offset : ℕ)
+      → TellsOf line general dead units contents → All (λ unit. unit.0 ≢ offset) units → files_of contents offset ≡ None

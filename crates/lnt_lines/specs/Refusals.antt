@@ -1,0 +1,32 @@
+-- Refusals, and what they are made of.
+use Rattle.std.specs.Prelude.{◌≡◌, ◌≢◌, ℕ}
+use Rattle.lnt_wire.specs.declared.fault.Fault.{Fault}
+use Rattle.lnt_wire.specs.declared.fault.Reason.TheVariants.{Memory}
+use Rattle.lnt_stream.specs.declared.stop.SectionStop.{SectionStop}
+use Rattle.lnt_stream.specs.declared.stop.SectionStop.TheVariants as section
+use Rattle.lnt_entries.specs.declared.tables.TableFault.{TableFault}
+use Rattle.lnt_entries.specs.declared.tables.TableFault.TheVariants as table
+use Rattle.lnt_lines.specs.declared.no.No as no
+use Rattle.lnt_lines.specs.declared.no.No.TheVariants.{Malformed, EntryFormat, StringOutside, DirectoryNumber}
+use Rattle.lnt_lines.specs.declared.refusal.Refusal.{Refusal}
+use Rattle.lnt_lines.specs.declared.refusal.Refusal.TheVariants.{No, Stop}
+use Rattle.lnt_lines.specs.declared.stop.Stop.TheVariants as stop
+
+-- what a fault of a unit makes of the section: bytes that are malformed, or want of memory
+pub data IsFaultRefusal (fault : Fault) (refusal : Refusal) : Type 0 where
+  memory : fault.reason ≡ Memory → refusal ≡ Stop stop.Memory → IsFaultRefusal fault refusal
+  malformed : fault.reason ≢ Memory → refusal ≡ No (Malformed fault) → IsFaultRefusal fault refusal
+
+-- a stop of the section's reader
+abbrev pub stop_refusal : SectionStop → Refusal
+stop_refusal (section.Fault fault) = No (Malformed fault)
+stop_refusal section.Memory = Stop stop.Memory
+stop_refusal section.Read = Stop stop.Read
+stop_refusal section.TooLong = Stop stop.TooLong
+stop_refusal section.Failed = Stop stop.Read
+
+-- what is wrong with the tables of the unit at an offset
+abbrev pub table_no : ℕ → TableFault → no.No
+table_no unit (table.EntryFormat which) = EntryFormat unit which
+table_no unit (table.StringOutside which entry) = StringOutside unit which entry
+table_no unit (table.DirectoryNumber file) = DirectoryNumber unit file

@@ -1,0 +1,20 @@
+//! Laws of judged sections, each the contract of a function without parameters that does nothing.
+ghost use Rattle.lnt_lines.specs.Laws.{FilesOfUnits, GoodHasNoFlaw};
+
+/// A good section has no flaw: nothing that a `No` tells is true of it. So where `verify` doesn't stop, it answers
+/// `Good` exactly where the section is good.
+#[tactic(auto, using(crate::proofs::FlawLemmas::no_flaw))]
+pub fn good_has_no_flaw()
+    ensures { GoodHasNoFlaw }
+{
+    lnt_rows::laws::fall_is_not_ordered();
+    lnt_rows::laws::missing_file_is_not_there();
+    lnt_rows::laws::overlap_is_not_apart();
+}
+
+/// What lines say of the files of each unit is what its header lists, and they say nothing of files where no unit
+/// stands.
+#[tactic(auto, using(crate::proofs::FileLemmas::files_of_units))]
+pub fn files_of_units()
+    ensures { FilesOfUnits }
+{}

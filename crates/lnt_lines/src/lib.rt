@@ -1,0 +1,25 @@
+//! A whole line number section of DWARF 5, judged in one pass, and what a good one answers.
+//!
+//! [`verify`] takes the section unit by unit from a source, keeps no operation and no row, and gives its [`Lines`], or
+//! the first thing that is wrong with it as a [`No`].
+#![tactic(auto)]
+
+mod draft;
+mod judge;
+pub mod laws;
+mod lines;
+mod no;
+mod options;
+mod refusal;
+mod run;
+mod section;
+mod stop;
+
+pub use lines::Lines;
+pub use no::No;
+pub use options::Options;
+pub use section::{Judged, verify};
+pub use stop::Stop;
+
+#[cfg(test)]
+mod tests;

@@ -1,0 +1,52 @@
+//! Why a section isn't good.
+use lnt_header::Which;
+use lnt_machine::RunFault;
+use lnt_rows::SeqId;
+use lnt_spans::Position;
+use lnt_wire::Fault;
+
+/// Why a section isn't good. Each reason has a number, from 25 to 32.
+///
+/// The first one is told. Units are judged in the order in which they stand, each in the order of these numbers, and
+/// `Overlap` is judged behind the last one. A unit is named by its offset in the section. Rows count from 0 over all
+/// rows of the unit, end rows too; entries and files count from 0.
+#[derive(Clone, Copy, Debug, PartialEq, Eq)]
+pub enum No {
+    /// 25: no unit stands where the next one has to, for this fault (DWARF 5, section 6.2.4).
+    Malformed(Fault),
+    /// 26: the program of the unit at this offset doesn't run, for this fault, which isn't `Memory` (section 6.2.5).
+    Run(u64, RunFault),
+    /// 27: the unit at this offset has such a table, with entries, whose format has no path, or a path, a directory
+    /// number or an MD5 sum in a form that it may not have (section 6.2.4.1).
+    EntryFormat(u64, Which),
+    /// 28: the unit at this offset has such a table, and in it this entry, the first whose path has no text.
+    StringOutside(u64, Which, u64),
+    /// 29: the unit at this offset has this file, the first one whose directory isn't there.
+    DirectoryNumber(u64, u64),
+    /// 30: the first row of a live sequence that names a file which isn't there. End rows name none.
+    FileNumber {
+        /// The offset of its unit.
+        unit: u64,
+        /// Its index.
+        row: u64,
+        /// The file.
+        file: u64,
+    },
+    /// 31: the first row whose position is below that of the row before it, in the same live sequence.
+    Falls {
+        /// The offset of its unit.
+        unit: u64,
+        /// Its index.
+        row: u64,
+    },
+    /// 32: the first two live sequences, by their first positions and then by their places in the section, that hold one
+    /// position. No lower one is held by two.
+    Overlap {
+        /// The one that comes first.
+        first: SeqId,
+        /// The other one.
+        second: SeqId,
+        /// The position.
+        position: Position,
+    },
+}

@@ -1,0 +1,66 @@
+//! Why there are no lines of a section.
+ghost use Rattle.std.specs.Prelude.{◌≡◌};
+ghost use Rattle.lnt_lines.specs.declared.no.No.TheVariants.{Overlap as NoOverlap};
+ghost use Rattle.lnt_lines.specs.declared.refusal.Refusal.TheVariants.{No as Bad, Stop as Stopped};
+ghost use Rattle.lnt_lines.specs.declared.stop.Stop.TheVariants.{Memory as StopMemory};
+ghost use Rattle.lnt_lines.specs.Refusals.{IsFaultRefusal, stop_refusal};
+
+use crate::no::No;
+use crate::stop::Stop;
+use lnt_rows::Overlap;
+use lnt_stream::SectionStop;
+use lnt_wire::{Fault, Reason};
+use std::alloc::AllocError;
+
+/// Why there are no lines of a section: it isn't good, or it was not judged.
+#[derive(Clone, Copy, Debug, PartialEq, Eq)]
+pub(crate) enum Refusal {
+    No(No),
+    Stop(Stop),
+}
+
+impl From<Fault> for Refusal {
+    ghost from_gives = { λ fault refusal. IsFaultRefusal fault refusal };
+
+    fn from(fault: Fault) -> Refusal {
+        match fault.reason {
+            Reason::Memory => Refusal::Stop(Stop::Memory),
+            _ => Refusal::No(No::Malformed(fault)),
+        }
+    }
+}
+
+impl From<SectionStop> for Refusal {
+    ghost from_gives = { λ stop refusal. refusal ≡ stop_refusal stop };
+
+    fn from(stop: SectionStop) -> Refusal {
+        match stop {
+            // Frames have no reason `Memory`.
+            SectionStop::Fault(fault) => Refusal::No(No::Malformed(fault)),
+            SectionStop::Memory => Refusal::Stop(Stop::Memory),
+            SectionStop::TooLong => Refusal::Stop(Stop::TooLong),
+            // No unit is asked for behind a stop, so `Failed` doesn't come.
+            SectionStop::Read | SectionStop::Failed => Refusal::Stop(Stop::Read),
+        }
+    }
+}
+
+impl From<Overlap> for Refusal {
+    ghost from_gives = { λ overlap refusal. refusal ≡ Bad (NoOverlap overlap.first overlap.second overlap.position) };
+
+    fn from(overlap: Overlap) -> Refusal {
+        Refusal::No(No::Overlap {
+            first: overlap.first,
+            second: overlap.second,
+            position: overlap.position,
+        })
+    }
+}
+
+impl From<AllocError> for Refusal {
+    ghost from_gives = { λ _ refusal. refusal ≡ Stopped StopMemory };
+
+    fn from(_error: AllocError) -> Refusal {
+        Refusal::Stop(Stop::Memory)
+    }
+}

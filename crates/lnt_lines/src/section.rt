@@ -1,0 +1,105 @@
+//! A whole section, judged.
+ghost use Rattle.std.specs.Prelude.{◌≡◌, ◌≢◌, ◌+◌, ◌-◌, ◌^◌, ◌<◌, IfOk, IfErr, IfSome, IsErrOf, IsTrue};
+ghost use Rattle.lnt_wire.specs.Pulling.{HasMoreThan};
+ghost use Rattle.lnt_lines.specs.Drafts.{AreLinesOf, IsDraftOfSection, IsJudged, IsRefusal};
+ghost use Rattle.lnt_stream.specs.declared.reader.Progress.TheVariants.{Reading};
+
+use crate::draft::Draft;
+use crate::lines::Lines;
+use crate::no::No;
+use crate::options::Options;
+use crate::refusal::Refusal;
+use crate::stop::Stop;
+use lnt_stream::SectionReader;
+use lnt_wire::{Source, Strings};
+use std::alloc::Global;
+
+/// What a section was judged to be.
+#[derive(Debug, Drop)]
+pub enum Judged {
+    /// It is good, and these are its lines.
+    Good(Lines),
+    /// It isn't good, and this is the first reason.
+    Bad(No),
+}
+
+/// Judges the section that the source has to give, a section `.debug_line` (DWARF 5, section 6.2), whose strings may
+/// lie in these string sections.
+///
+/// It is good where its bytes are those of units one after another, and nothing else, whose programs run, whose tables
+/// are usable and whose live sequences name files that are there, never fall, and share no position. Its lines answer
+/// at each position what the last row says that isn't behind the position, in the live sequence that holds it. Else the
+/// first thing that is wrong is told (`No`). Units are taken from the source one at a time, so what is wrong with one is
+/// told before later bytes are asked for.
+///
+/// It stops with `Memory`; with `Read` only where the source failed; and with `TooLong` only where the source has more
+/// bytes than it may give. A stop judges nothing. Nothing is said of how far the source was read. The caller sees to it
+/// that the number of the source's failures is below `u64::MAX`.
+pub fn verify<R: Source>(
+    alloc: Global,
+    section: &mut R,
+    strings: &Strings<'_>,
+    options: &Options,
+) -> Result<Judged, Stop>
+    requires { R.failures section.old < 2 ^ 64 - 1 }
+    ensures judged { IfOk result (λ judged. IfSome (R.remaining section.old) (λ bytes.
+        IsJudged strings.now.line.now strings.now.general.now options.now bytes judged)) }
+    ensures read { IsErrOf result Stop.Read → R.failures section.new ≡ R.failures section.old + 1 }
+    ensures no_failure { result ≢ Err Stop.Read → R.failures section.new ≡ R.failures section.old }
+    ensures too_long { IsErrOf result Stop.TooLong → IsTrue (R.too_long section.new) }
+    ensures more { IsErrOf result Stop.TooLong → HasMoreThan (R.remaining section.old) (R.left section.old) }
+{
+    match judge_section(alloc, section, strings, options) {
+        Ok(lines) => Ok(Judged::Good(lines)),
+        Err(Refusal::No(no)) => Ok(Judged::Bad(no)),
+        Err(Refusal::Stop(stop)) => Err(stop),
+    }
+}
+
+// The lines of the section, or why there are none.
+fn judge_section<R: Source>(
+    alloc: Global,
+    section: &mut R,
+    strings: &Strings<'_>,
+    options: &Options,
+) -> Result<Lines, Refusal>
+    requires { R.failures section.old < 2 ^ 64 - 1 }
+    ensures good { IfOk result (λ lines. IfSome (R.remaining section.old) (λ bytes.
+        AreLinesOf strings.now.line.now strings.now.general.now options.now bytes lines)) }
+    ensures bad { IfErr result (λ refusal. IfSome (R.remaining section.old) (λ bytes.
+        IsRefusal strings.now.line.now strings.now.general.now options.now bytes refusal)) }
+    ensures read { IsErrOf result (Refusal.Stop Stop.Read) → R.failures section.new ≡ R.failures section.old + 1 }
+    ensures no_failure { result ≢ Err (Refusal.Stop Stop.Read) → R.failures section.new ≡ R.failures section.old }
+    ensures too_long { IsErrOf result (Refusal.Stop Stop.TooLong) → IsTrue (R.too_long section.new) }
+    ensures more { IsErrOf result (Refusal.Stop Stop.TooLong) → HasMoreThan (R.remaining section.old) (R.left section.old) }
+{
+    let mut reader = SectionReader::new(section, options.order);
+    let draft = judge_units(alloc, &mut reader, strings, options)?;
+    Ok(draft.finish()?)
+}
+
+// Judges the units that the reader has to give, up to the end of the section, or to the first that isn't sound.
+fn judge_units<R: Source>(
+    alloc: Global,
+    reader: &mut SectionReader<'_, R>,
+    strings: &Strings<'_>,
+    options: &Options,
+) -> Result<Draft, Refusal>
+    requires reading { reader.old.progress ≡ Reading }
+    requires offset { reader.old.offset ≡ 0 }
+    requires order { reader.old.order ≡ options.now.order }
+    ensures draft { IfOk result (IsDraftOfSection strings.now.line.now strings.now.general.now options.now (R.remaining reader.old.source.now)) }
+    ensures bad { IfErr result (λ refusal. IfSome (R.remaining reader.old.source.now) (λ bytes.
+        IsRefusal strings.now.line.now strings.now.general.now options.now bytes refusal)) }
+    ensures read { IsErrOf result (Refusal.Stop Stop.Read) → R.failures reader.new.source.now ≡ R.failures reader.old.source.now + 1 }
+    ensures no_failure { result ≢ Err (Refusal.Stop Stop.Read) → R.failures reader.new.source.now ≡ R.failures reader.old.source.now }
+    ensures too_long { IsErrOf result (Refusal.Stop Stop.TooLong) → IsTrue (R.too_long reader.new.source.now) }
+    ensures more { IsErrOf result (Refusal.Stop Stop.TooLong) → HasMoreThan (R.remaining reader.old.source.now) (R.left reader.old.source.now) }
+    ensures same_reference { reader.new.source.ghost_name ≡ reader.old.source.ghost_name }
+{
+    let mut draft = Draft::new(alloc);
+    while let Some(buffer) = reader.next_unit(alloc)? {
+        draft.add_unit(alloc, &buffer, strings, options.dead)?;
+    }
+    Ok(draft)
+}

@@ -1,0 +1,141 @@
+-- The rows of a unit in another format and byte order. These are proofs: nothing here is to be believed.
+use Rattle.std.proofs.Common.{◌≡◌, ℕ, ◌+◌, ◌%◌, ◌≤◌, List, [], ◌∷◌, length, refl, sym, ap, subst, ◌∙◌}
+use Rattle.std.specs.Prelude.{true, false, ℤ, pos, ◌+ℤ◌, unsigned_abs, Option, Some}
+use Rattle.std.specs.List.{cons_option}
+use Rattle.lnt_wire.specs.declared.format.Format.{Format}
+use Rattle.lnt_wire.specs.declared.format.Order.{Order}
+use Rattle.lnt_header.specs.Conversion.{in_format}
+use Rattle.lnt_header.specs.declared.header.HeaderParts.{HeaderParts}
+use Rattle.lnt_header.specs.declared.op.Op.{Op}
+use Rattle.lnt_header.specs.declared.op.Op.TheVariants.{Special, Copy, AdvanceLine, FixedAdvancePc, EndSequence, SetAddress}
+use Rattle.lnt_unit.specs.Converting.{unit_in_format}
+use Rattle.lnt_unit.specs.declared.unit.Parts.{Parts}
+use Rattle.lnt_machine.specs.Laws.{SameMatrix}
+use Rattle.lnt_machine.specs.Matrix.{row_of, end_row_of, row_made, rows_behind, rows, sequences_of, joined_rows, done, Runs, IsRunFault}
+use Rattle.lnt_machine.specs.Registers.{advance_of, advances, moved, base, line_increment, line_sum, line, IsLine, part, file, column, isa, discriminator, is_stmt, basic_block, prologue_end, epilogue_begin, registers_after}
+use Rattle.lnt_machine.specs.declared.fault.RunFault.{RunFault}
+use Rattle.lnt_machine.specs.declared.fault.RunFault.TheVariants.{LineOutOfRange, OpenSequence, Memory}
+use Rattle.lnt_machine.specs.declared.row.Row.{Row}
+
+-- ---- registers
+
+same_advances : (h : HeaderParts) (format : Format) (order : Order) (back : List Op) → advances (in_format h format order) back ≡ advances h back
+same_advances h format order [] = refl
+same_advances h format order (EndSequence ∷ back) = refl
+same_advances h format order (SetAddress a ∷ back) = refl
+same_advances h format order (FixedAdvancePc n ∷ back) = refl
+same_advances h format order (op ∷ back) = ap (λ (n : ℕ). advance_of h op + n) (same_advances h format order back)
+
+same_base : (h : HeaderParts) (format : Format) (order : Order) (back : List Op) → base (in_format h format order) back ≡ base h back
+same_base h format order [] = refl
+same_base h format order (EndSequence ∷ back) = refl
+same_base h format order (SetAddress a ∷ back) = refl
+same_base h format order (FixedAdvancePc n ∷ back) =
+    ap (λ (from : ℕ). moved h from (advances (in_format h format order) back) + n) (same_base h format order back)
+    ∙ ap (λ (by : ℕ). moved h (base h back) by + n) (same_advances h format order back)
+same_base h format order (op ∷ back) = same_base h format order back
+
+same_increment : (h : HeaderParts) (format : Format) (order : Order) (op : Op) → line_increment (in_format h format order) op ≡ line_increment h op
+same_increment h format order (AdvanceLine z) = refl
+same_increment h format order (Special c) = refl
+same_increment h format order op = refl
+
+same_sum : (h : HeaderParts) (format : Format) (order : Order) (back : List Op) → line_sum (in_format h format order) back ≡ line_sum h back
+same_sum h format order [] = refl
+same_sum h format order (op ∷ back) =
+    ap (λ (z : ℤ). z +ℤ line_sum (in_format h format order) back) (same_increment h format order op)
+    ∙ ap (λ (z : ℤ). line_increment h op +ℤ z) (same_sum h format order back)
+
+same_line : (h : HeaderParts) (format : Format) (order : Order) (back : List Op) → line (in_format h format order) back ≡ line h back
+same_line h format order back = ap (λ (z : ℤ). pos 1 +ℤ z) (same_sum h format order (part back))
+
+-- the registers, by the three sums
+by_sums : HeaderParts → List Op → ℕ → ℕ → ℤ → Row
+by_sums h back from by moves = record {
+  address = moved h from by;
+  op_index = by % h.max_ops;
+  file = file back;
+  line = unsigned_abs (pos 1 +ℤ moves);
+  column = column back;
+  isa = isa back;
+  discriminator = discriminator back;
+  is_stmt = is_stmt h back;
+  basic_block = basic_block back;
+  end_sequence = false;
+  prologue_end = prologue_end back;
+  epilogue_begin = epilogue_begin back;
+}
+
+same_registers : (h : HeaderParts) (format : Format) (order : Order) (back : List Op) → registers_after (in_format h format order) back ≡ registers_after h back
+unfolding by_sums
+same_registers h format order back =
+    let other = in_format h format order in
+    ap (λ (from : ℕ). by_sums h back from (advances other back) (line_sum other (part back))) (same_base h format order back)
+    ∙ ap (λ (by : ℕ). by_sums h back (base h back) by (line_sum other (part back))) (same_advances h format order back)
+    ∙ ap (λ (moves : ℤ). by_sums h back (base h back) (advances h back) moves) (same_sum h format order (part back))
+
+-- ---- rows
+
+same_row : (h : HeaderParts) (format : Format) (order : Order) (back : List Op) (op : Op) → row_of (in_format h format order) back op ≡ row_of h back op
+same_row h format order back op =
+    ap (λ (r : Row). record r { discriminator = discriminator back; basic_block = basic_block back; prologue_end = prologue_end back; epilogue_begin = epilogue_begin back }) (same_registers h format order (op ∷ back))
+
+same_end_row : (h : HeaderParts) (format : Format) (order : Order) (back : List Op) → end_row_of (in_format h format order) back ≡ end_row_of h back
+same_end_row h format order back = ap (λ (r : Row). record r { end_sequence = true }) (same_registers h format order back)
+
+same_made : (h : HeaderParts) (format : Format) (order : Order) (back : List Op) (op : Op) → row_made (in_format h format order) back op ≡ row_made h back op
+same_made h format order back Copy = ap Some (same_row h format order back Copy)
+same_made h format order back (Special c) = ap Some (same_row h format order back (Special c))
+same_made h format order back EndSequence = ap Some (same_end_row h format order back)
+same_made h format order back op = refl
+
+same_rows : (h : HeaderParts) (format : Format) (order : Order) (back ops : List Op) → rows_behind (in_format h format order) back ops ≡ rows_behind h back ops
+same_rows h format order back [] = refl
+same_rows h format order back (op ∷ ops) =
+    ap (λ (row : Option Row). cons_option row (rows_behind (in_format h format order) (op ∷ back) ops)) (same_made h format order back op)
+    ∙ ap (λ (more : List Row). cons_option (row_made h back op) more) (same_rows h format order (op ∷ back) ops)
+
+unit_rows : (unit : Parts) (format : Format) (order : Order) → rows (unit_in_format unit format order) ≡ rows unit
+unit_rows unit format order = same_rows unit.header format order [] unit.ops
+
+-- ---- how the program runs
+
+-- the lines of one are those of the other
+lines_over : (h other : HeaderParts) (ops : List Op) (k : ℕ) → ((back : List Op) → line h back ≡ line other back) → ((j : ℕ) → j ≤ k → IsLine (line h (done ops j))) → (j : ℕ) → j ≤ k → IsLine (line other (done ops j))
+lines_over h other ops k same fit j le = subst IsLine (same (done ops j)) (fit j le)
+
+closed_over : (us vs : List Row) → us ≡ vs → joined_rows (sequences_of us) ≡ us → joined_rows (sequences_of vs) ≡ vs
+closed_over us vs same closed = subst (λ (rows : List Row). joined_rows (sequences_of rows) ≡ rows) same closed
+
+runs_over : (h other : HeaderParts) (ops : List Op) → ((back : List Op) → line h back ≡ line other back) → rows_behind h [] ops ≡ rows_behind other [] ops
+    → Runs (record { header = h; ops = ops }) → Runs (record { header = other; ops = ops })
+runs_over h other ops lines same runs = record {
+  lines = lines_over h other ops (length ops) lines runs.lines;
+  closed = closed_over (rows_behind h [] ops) (rows_behind other [] ops) same runs.closed;
+}
+
+fault_over : (h other : HeaderParts) (ops : List Op) → ((back : List Op) → line h back ≡ line other back) → rows_behind h [] ops ≡ rows_behind other [] ops
+    → (fault : RunFault) → IsRunFault (record { header = h; ops = ops }) fault → IsRunFault (record { header = other; ops = ops }) fault
+fault_over h other ops lines same (LineOutOfRange k) (within, fit, leaves) =
+    (within, lines_over h other ops k lines fit, λ is. leaves (subst IsLine (sym (lines (done ops (k + 1)))) is))
+fault_over h other ops lines same OpenSequence (fit, left) =
+    (lines_over h other ops (length ops) lines fit, λ closed. left (closed_over (rows_behind other [] ops) (rows_behind h [] ops) (sym same) closed))
+fault_over h other ops lines same Memory is = tt
+
+pub same_matrix : SameMatrix
+same_matrix = record {
+  same_rows = unit_rows;
+  same_sequences = λ unit format order. ap sequences_of (unit_rows unit format order);
+  runs = λ unit format order.
+      let h = unit.header in
+      let other = in_format h format order in (
+        runs_over other h unit.ops (same_line h format order) (same_rows h format order [] unit.ops),
+        runs_over h other unit.ops (λ back. sym (same_line h format order back)) (sym (same_rows h format order [] unit.ops)),
+      );
+  faults = λ unit format order fault.
+      let h = unit.header in
+      let other = in_format h format order in (
+        fault_over other h unit.ops (same_line h format order) (same_rows h format order [] unit.ops) fault,
+        fault_over h other unit.ops (λ back. sym (same_line h format order back)) (sym (same_rows h format order [] unit.ops)) fault,
+      );
+}

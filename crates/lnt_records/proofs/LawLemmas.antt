@@ -1,0 +1,170 @@
+-- Bytes have one list of records, these are one table, and no fault is told of a table.
+use Rattle.std.proofs.Common.{◌≡◌, ◌∙◌, ℕ, List, [], ◌∷◌, ◌++◌, length, refl, sym, ap, subst, None, arith}
+use Rattle.std.specs.List.{AllZip}
+use Rattle.csv.specs.Machine.{Read, next_record}
+use Rattle.csv.specs.Reading.{Reached}
+use Rattle.csv.specs.declared.parser.Config.{Config}
+use Rattle.csv.specs.declared.parser.State.{State}
+use Rattle.lnt_spans.specs.declared.answer.Version.{Version}
+use Rattle.lnt_spans.specs.declared.answer.Version.TheVariants.{One, Two}
+use Rattle.lnt_spans.specs.declared.span.Span.{Span}
+use Rattle.lnt_spans.specs.declared.difference.Difference.{Difference}
+use Rattle.lnt_spans.specs.Differences.{Agree, IsLeastDifference}
+use Rattle.lnt_spans.specs.Laws.Answering.{front_in_order}
+use Rattle.lnt_spans.specs.Spans.{AreInOrder, span_answer, version_answer}
+use Rattle.lnt_records.specs.declared.comparison.Compared.TheVariants.{Differs, Fault, Same}
+use Rattle.lnt_records.specs.declared.fault.TableFault.{TableFault}
+use Rattle.lnt_records.specs.declared.fault.TableFault.TheVariants as fault
+use Rattle.lnt_records.specs.Faults.{DiffersSo, HasFaultyRecord, IsFaulty}
+use Rattle.lnt_records.specs.Laws.{Agreement, NoFault, OneTable}
+use Rattle.lnt_records.specs.Table.{BeginsWith, Fields, IsSpanRecord, IsTable, IsTableOf, RecordsOf, column_names}
+use Rattle.lnt_records.proofs.SaidLemmas.{one_span, sound_column}
+
+-- ---- one list of records
+
+-- The records begin with any that are read first.
+read_front : (cfg : Config) (s s1 s2 : State) (xs y1 y2 : List ℕ) (front records : List Fields) → Reached cfg s xs front s1 y1 → Reached cfg s xs records s2 y2
+    → next_record cfg s2 [] [] y2 ≡ None → (behind : List Fields) × (records ≡ front ++ behind)
+unfolding Reached
+read_front cfg s s1 s2 xs y1 y2 [] records h k none = (records, refl)
+read_front cfg s s1 s2 xs y1 y2 (r ∷ front) [] h k none =
+    let last : next_record cfg s [] [] xs ≡ None = rw (k.0, k.1) none in
+    let first = h.1 in
+    absurd (cc (last, first))
+read_front cfg s s1 s2 xs y1 y2 (r ∷ front) (q ∷ records) h k none =
+    let one = h.1 in
+    let two = k.1 in
+    let same : k.0 ≡ h.0 = cc in
+    let first : q ≡ r = k.2 ∙ ap (λ (p : Read). p.0) same ∙ sym h.2 in
+    let rest = read_front cfg h.0.1 s1 s2 h.0.2 y1 y2 front records h.3 (subst (λ (p : Read). Reached cfg p.1 p.2 records s2 y2) same k.3) none in
+    let behind = rest.1 in
+    (rest.0, cc)
+
+front_of : (bytes : List ℕ) (front records : List Fields) → BeginsWith bytes front → RecordsOf bytes records → (behind : List Fields) × (records ≡ front ++ behind)
+front_of bytes front records h k = read_front _ _ _ _ _ _ _ front records h.2 k.2 k.3
+
+begins_all : (bytes : List ℕ) (records : List Fields) → RecordsOf bytes records → BeginsWith bytes records
+begins_all bytes records h = (h.0, h.1, h.2)
+
+same_lists : (xs ys behind more : List Fields) → xs ≡ ys ++ behind → ys ≡ xs ++ more → xs ≡ ys
+same_lists [] [] behind more e f = refl
+same_lists [] (y ∷ ys) behind more e f = absurd (cc e)
+same_lists (x ∷ xs) [] behind more e f = absurd (cc f)
+same_lists (x ∷ xs) (y ∷ ys) behind more e f =
+    let first : x ≡ y = cc in
+    let left : xs ≡ ys ++ behind = cc in
+    let right : ys ≡ xs ++ more = cc in
+    let rest = same_lists xs ys behind more left right in
+    cc
+
+one_list : (bytes : List ℕ) (xs ys : List Fields) → RecordsOf bytes xs → RecordsOf bytes ys → xs ≡ ys
+one_list bytes xs ys h k =
+    let a = front_of bytes ys xs (begins_all bytes ys k) h in
+    let b = front_of bytes xs ys (begins_all bytes xs h) k in
+    same_lists xs ys a.0 b.0 a.1 b.1
+
+-- ---- one table
+
+one_version : (v w : Version) → column_names v ≡ column_names w → v ≡ w
+one_version One One e = refl
+one_version Two Two e = refl
+one_version One Two e = let lengths : 9 ≡ 11 = ap length e in absurd (omega (arith, lengths))
+one_version Two One e = let lengths : 11 ≡ 9 = ap length e in absurd (omega (arith, lengths))
+
+one_spans : (version : Version) (records : List Fields) (xs ys : List Span) → AllZip (IsSpanRecord version) records xs → AllZip (IsSpanRecord version) records ys → xs ≡ ys
+one_spans version [] [] [] a b = refl
+one_spans version [] (x ∷ xs) ys a b = absurd a
+one_spans version [] [] (y ∷ ys) a b = absurd b
+one_spans version (r ∷ records) [] ys a b = absurd a
+one_spans version (r ∷ records) (x ∷ xs) [] a b = absurd b
+one_spans version (r ∷ records) (x ∷ xs) (y ∷ ys) a b =
+    let first = one_span version r x y a.0 b.0 in
+    let rest = one_spans version records xs ys a.1 b.1 in
+    cc
+
+one_of : (records : List Fields) (v w : Version) (xs ys : List Span) → IsTable v records xs → IsTable w records ys → (v ≡ w) × (xs ≡ ys)
+one_of [] v w xs ys a b = absurd a
+one_of (first ∷ records) v w xs ys a b =
+    let same = one_version v w (sym a.0 ∙ b.0) in
+    (same, one_spans w records xs ys (subst (λ (k : Version). AllZip (IsSpanRecord k) records xs) same a.1.each) b.1.each)
+
+pub one_table : OneTable
+one_table bytes v w xs ys a b =
+    let records = one_list bytes b.0 a.0 b.1 a.1 in
+    one_of a.0 v w xs ys a.2 (subst (λ (r : List Fields). IsTable w r ys) records b.2)
+
+-- ---- no fault of a table
+
+-- the spans of the records up to one of them
+record Parted (version : Version) (records : List Fields) (fields : Fields) (spans : List Span) : Type 0 where
+  front : List Span
+  span : Span
+  behind : List Span
+  joined : spans ≡ (front ++ span ∷ []) ++ behind
+  each : AllZip (IsSpanRecord version) records front
+  says : IsSpanRecord version fields span
+
+part : (version : Version) (records : List Fields) (fields : Fields) (behind : List Fields) (spans : List Span) → AllZip (IsSpanRecord version) ((records ++ fields ∷ []) ++ behind) spans
+    → Parted version records fields spans
+part version [] fields behind [] z = absurd z
+part version [] fields behind (s ∷ spans) z = record { front = []; span = s; behind = spans; joined = refl; each = tt; says = z.0 }
+part version (r ∷ records) fields behind [] z = absurd z
+part version (r ∷ records) fields behind (s ∷ spans) z =
+    let p = part version records fields behind spans z.1 in
+    record { front = s ∷ p.front; span = p.span; behind = p.behind; joined = ap (λ (l : List Span). s ∷ l) p.joined; each = (z.0, p.each); says = p.says }
+
+not_faulty : (version : Version) (records : List Fields) (fields : Fields) (spans : List Span) (number : ℕ) (told : TableFault) → (p : Parted version records fields spans)
+    → AreInOrder spans → IsFaulty version p.front number fields told → ⊥
+not_faulty version records fields spans number fault.Header p o f = f
+not_faulty version records fields spans number (fault.Fields k) p o f = f.1 p.says.count
+not_faulty version records fields spans number (fault.Number k i) p o f = f.2.faulty (sound_column version fields p.span p.says i (rw f.1 at f.2.there))
+not_faulty version records fields spans number (fault.Order k) p o f =
+    let same : f.1 ≡ p.span = one_span version fields f.1 p.span f.2 p.says in
+    let front = front_in_order (p.front ++ p.span ∷ []) p.behind (rw p.joined at o) in
+    f.3 (subst (λ (s : Span). AreInOrder (p.front ++ s ∷ [])) (sym same) front)
+
+-- a faulty record among those of a table
+faulty_none : (v version : Version) (records behind : List Fields) (fields : Fields) (before spans : List Span) (told : TableFault)
+    → IsTable v records before → IsFaulty v before (length records) fields told → IsTable version ((records ++ fields ∷ []) ++ behind) spans → ⊥
+faulty_none v version [] behind fields before spans told t f all = absurd t
+faulty_none v version (first ∷ records) behind fields before spans told t f all =
+    let same : v ≡ version = one_version v version (sym t.0 ∙ all.0) in
+    let p = part version records fields behind spans all.1.each in
+    let ours = subst (λ (k : Version). AllZip (IsSpanRecord k) records before) same t.1.each in
+    let front : before ≡ p.front = one_spans version records before p.front ours p.each in
+    let faulty = subst (λ (xs : List Span). IsFaulty version xs (length (first ∷ records)) fields told) front (subst (λ (k : Version). IsFaulty k before (length (first ∷ records)) fields told) same f) in
+    not_faulty version records fields spans (length (first ∷ records)) told p all.1.in_order faulty
+
+record_none : (bytes : List ℕ) (version : Version) (spans : List Span) (records : List Fields) (told : TableFault) → RecordsOf bytes records → IsTable version records spans
+    → HasFaultyRecord bytes told → ⊥
+record_none bytes version spans records told all t f =
+    let front = front_of bytes (f.records ++ f.fields ∷ []) records f.begins all in
+    faulty_none f.version version f.records front.0 f.fields f.spans spans told f.table f.faulty (subst (λ (r : List Fields). IsTable version r spans) front.1 t)
+
+header_first : (bytes : List ℕ) (version : Version) (records : List Fields) (spans : List Span) → BeginsWith bytes records → IsTable version records spans → BeginsWith bytes (column_names version ∷ [])
+unfolding Reached
+header_first bytes version [] spans h t = absurd t
+header_first bytes version (first ∷ records) spans h t =
+    let read = h.2 in
+    (read.0.1, read.0.2, (read.0, read.1, sym t.0 ∙ read.2, (refl, refl)))
+
+pub no_fault : NoFault
+no_fault bytes version spans fault.Header t f = f version (header_first bytes version t.0 spans (begins_all bytes t.0 t.1) t.2)
+no_fault bytes version spans (fault.Fields k) t f = record_none bytes version spans t.0 (fault.Fields k) t.1 t.2 f
+no_fault bytes version spans (fault.Number k i) t f = record_none bytes version spans t.0 (fault.Number k i) t.1 t.2 f
+no_fault bytes version spans (fault.Order k) t f = record_none bytes version spans t.0 (fault.Order k) t.1 t.2 f
+
+-- ---- one answer where the table agrees
+
+no_difference : (bytes : List ℕ) (version : Version) (section table : List Span) (difference : Difference) → IsTableOf version bytes table
+    → Agree (version_answer version section) (span_answer table) → DiffersSo bytes section difference → ⊥
+no_difference bytes version section table difference t agree d =
+    let one = one_table bytes d.version version d.table table d.is_table t in
+    let least = subst (λ (v : Version). IsLeastDifference (version_answer v section) (span_answer d.table) difference) one.0 d.least in
+    let here = subst (λ (xs : List Span). IsLeastDifference (version_answer version section) (span_answer xs) difference) one.1 least in
+    here.differ (here.table ∙ sym (agree difference.position) ∙ sym here.section)
+
+pub agreement : Agreement
+agreement bytes version section table Same t agree h = refl
+agreement bytes version section table (Fault told) t agree h = absurd (no_fault bytes version table told t h)
+agreement bytes version section table (Differs difference) t agree h = absurd (no_difference bytes version section table difference t agree h)

@@ -1,0 +1,296 @@
+-- Lines that are written, and that `csv` reads them as a table.
+use Rattle.std.proofs.Common.{◌≡◌, ◌∙◌, ℕ, suc, ◌+◌, ◌<◌, ◌≤◌, Bool, true, false, List, [], ◌∷◌, ◌++◌, Option, Some, None, length, get_or, take, refl, sym, ap, subst, append_assoc, arith}
+use Rattle.std.proofs.KnownBytes.{Appends-nil, Appends-trans}
+use Rattle.std.proofs.lemmas.Bool.{ne_eqb}
+use Rattle.std.proofs.lemmas.List.{append-nil, take_more, take_all}
+use Rattle.std.specs.Io.KnownBytes.{Appends}
+use Rattle.std.specs.List.{AllByRecursion, AllZip, list_any}
+use Rattle.csv.specs.Machine.{next_record}
+use Rattle.csv.specs.Reading.{Reached, default_config, strip_bom}
+use Rattle.csv.specs.Writing.{default_writer, field_text, fields_text, is_blank, needs_byte, read_back, row_text}
+use Rattle.csv.specs.declared.parser.State.TheVariants as st
+use Rattle.csv.proofs.RoundTrip.{read-write, rows_text}
+use Rattle.lnt_digits.specs.Digits.{IsPlainAddress, IsPlainDecimal}
+use Rattle.lnt_digits.specs.Laws.Texts.{FromZero, address_from_zero, decimal_from_zero, plain_address}
+use Rattle.lnt_spans.specs.declared.answer.Answer.{Answer}
+use Rattle.lnt_spans.specs.declared.answer.More.{More}
+use Rattle.lnt_spans.specs.declared.answer.Version.{Version}
+use Rattle.lnt_spans.specs.declared.answer.Version.TheVariants.{One, Two}
+use Rattle.lnt_spans.specs.declared.span.Span.{Span}
+use Rattle.lnt_spans.specs.Spans.{AreInOrder}
+use Rattle.lnt_records.specs.Table.{AreMore, Fields, IsFlag, Kind, RecordsOf, column_count, column_names}
+use Rattle.lnt_records.specs.Written.{AddsAnswer, AddsFlag, AddsMore, AddsNumber, AddsPosition, AddsRecord, ArePlain, IsOfVersion, IsPlainRecord, IsWrittenTable, following, line_text, lines_text}
+use Rattle.lnt_records.proofs.ComparisonLemmas.{zip_push}
+use Rattle.lnt_records.proofs.SaidLemmas.{each_holds, records_plain}
+
+-- ---- fields behind each other
+
+following_append : (xs ys : Fields) → following (xs ++ ys) ≡ following xs ++ following ys
+following_append [] ys = refl
+following_append (x ∷ xs) ys = ap (λ (t : List ℕ). 44 ∷ x ++ t) (following_append xs ys) ∙ sym (append_assoc (44 ∷ x) (following xs) (following ys))
+
+adds_both : (a b c : List ℕ) (xs ys : Fields) → b ≡ a ++ following xs → c ≡ b ++ following ys → c ≡ a ++ following (xs ++ ys)
+adds_both a b c xs ys e f = f ∙ ap (λ (t : List ℕ). t ++ following ys) e ∙ append_assoc a (following xs) (following ys) ∙ ap (λ (t : List ℕ). a ++ t) (sym (following_append xs ys))
+
+pub no_more_put : (old : List ℕ) → AddsMore None old old
+no_more_put old = record { fields = []; joined = sym (append-nil old); fields_are = refl }
+
+pub flag_put : (on : Bool) (s0 s1 s2 text : List ℕ) → s1 ≡ s0 ++ 44 ∷ [] → s2 ≡ s1 ++ text → IsFlag text on → AddsFlag on s0 s2
+flag_put on s0 s1 s2 text e f is = record {
+  text = text;
+  joined = f ∙ ap (λ (t : List ℕ). t ++ text) e ∙ append_assoc s0 (44 ∷ []) text ∙ ap (λ (t : List ℕ). s0 ++ 44 ∷ t) (sym (append-nil text));
+  text_is = is;
+}
+
+pub more_put : (more : More) (s0 s1 s2 : List ℕ) → AddsNumber more.isa s0 s1 → AddsNumber more.discriminator s1 s2 → AddsMore (Some more) s0 s2
+more_put more s0 s1 s2 a b = record {
+  fields = a.text ∷ b.text ∷ [];
+  joined = adds_both s0 s1 s2 (a.text ∷ []) (b.text ∷ []) a.joined b.joined;
+  fields_are = (a.text, b.text, refl, a.text_is, b.text_is);
+}
+
+pub answer_put : (answer : Answer) (s0 s1 s2 s3 s4 s5 s6 : List ℕ) → AddsNumber answer.unit s0 s1 → AddsNumber answer.file s1 s2 → AddsNumber answer.line s2 s3
+    → AddsNumber answer.column s3 s4 → AddsFlag answer.is_stmt s4 s5 → AddsMore answer.more s5 s6 → AddsAnswer answer s0 s6
+answer_put answer s0 s1 s2 s3 s4 s5 s6 unit file line column is_stmt more = record {
+  unit = unit.text;
+  file = file.text;
+  line = line.text;
+  column = column.text;
+  is_stmt = is_stmt.text;
+  more = more.fields;
+  joined =
+      adds_both s0 s1 s6 (unit.text ∷ []) (file.text ∷ line.text ∷ column.text ∷ is_stmt.text ∷ more.fields) unit.joined
+      (adds_both s1 s2 s6 (file.text ∷ []) (line.text ∷ column.text ∷ is_stmt.text ∷ more.fields) file.joined
+      (adds_both s2 s3 s6 (line.text ∷ []) (column.text ∷ is_stmt.text ∷ more.fields) line.joined
+      (adds_both s3 s4 s6 (column.text ∷ []) (is_stmt.text ∷ more.fields) column.joined
+      (adds_both s4 s5 s6 (is_stmt.text ∷ []) more.fields is_stmt.joined more.joined))));
+  unit_is = unit.text_is;
+  file_is = file.text_is;
+  line_is = line.text_is;
+  column_is = column.text_is;
+  is_stmt_is = is_stmt.text_is;
+  more_are = more.fields_are;
+}
+
+-- ---- a line
+
+plain_more : (version : Version) (answer : Answer) (m : Fields) (a b c d e f g h i : List ℕ) → IsOfVersion version answer → ArePlain answer.more m
+    → (length (a ∷ b ∷ c ∷ d ∷ e ∷ f ∷ g ∷ h ∷ i ∷ m) ≡ column_count version)
+    × AreMore IsPlainDecimal version (a ∷ b ∷ c ∷ d ∷ e ∷ f ∷ g ∷ h ∷ i ∷ m) answer.more
+plain_more One answer m a b c d e f g h i is p = let none = rw is at p in rw none (refl, is)
+plain_more Two answer m a b c d e f g h i is p = let some = rw is.1 at p in rw (is.1, some.2) (refl, (some.3, some.4))
+
+-- the text of a line, from its parts
+line_joined : (s0 s1 s2 s3 s4 s5 first second third fourth : List ℕ) (rest : Fields) → s1 ≡ s0 ++ first ++ following (second ∷ []) → s2 ≡ s1 ++ 44 ∷ []
+    → s3 ≡ s2 ++ third ++ following (fourth ∷ []) → s4 ≡ s3 ++ following rest → s5 ≡ s4 ++ 10 ∷ [] → s5 ≡ s0 ++ line_text (first ∷ second ∷ third ∷ fourth ∷ rest)
+line_joined s0 s1 s2 s3 s4 s5 first second third fourth rest e1 e2 e3 e4 e5 =
+    let last : List ℕ = following (fourth ∷ []) in
+    let high : s3 ≡ s1 ++ following (third ∷ fourth ∷ []) =
+    e3 ∙ ap (λ (t : List ℕ). t ++ third ++ last) e2 ∙ append_assoc (s1 ++ 44 ∷ []) third last ∙ append_assoc s1 (44 ∷ []) (third ++ last) in
+    let behind : s4 ≡ s1 ++ following (third ∷ fourth ∷ rest) = adds_both s1 s3 s4 (third ∷ fourth ∷ []) rest high e4 in
+    let fields : List ℕ = following (second ∷ third ∷ fourth ∷ rest) in
+    let all : s4 ≡ s0 ++ first ++ fields = adds_both (s0 ++ first) s1 s4 (second ∷ []) (third ∷ fourth ∷ rest) e1 behind in
+    e5 ∙ ap (λ (t : List ℕ). t ++ 10 ∷ []) (all ∙ append_assoc s0 first fields) ∙ append_assoc s0 (first ++ fields) (10 ∷ [])
+
+pub span_put : (span : Span) (s0 s1 s2 s3 s4 s5 : List ℕ) → AddsPosition span.low s0 s1 → s2 ≡ s1 ++ 44 ∷ [] → AddsPosition span.high s2 s3 → AddsAnswer span.answer s3 s4
+    → s5 ≡ s4 ++ 10 ∷ [] → (version : Version) → IsOfVersion version span.answer → AddsRecord version span s0 s5
+span_put span s0 s1 s2 s3 s4 s5 low comma high answer feed version is =
+    let more = plain_more version span.answer answer.more low.address low.op high.address high.op answer.unit answer.file answer.line answer.column answer.is_stmt is answer.more_are in
+    record {
+      fields = low.address ∷ low.op ∷ high.address ∷ high.op ∷ answer.unit ∷ answer.file ∷ answer.line ∷ answer.column ∷ answer.is_stmt ∷ answer.more;
+      joined = line_joined s0 s1 s2 s3 s4 s5 low.address low.op high.address high.op (answer.unit ∷ answer.file ∷ answer.line ∷ answer.column ∷ answer.is_stmt ∷ answer.more)
+          low.joined comma high.joined answer.joined feed;
+      plain = record {
+        count = more.0;
+        low = low.address_is;
+        low_op = low.op_is;
+        high = high.address_is;
+        high_op = high.op_is;
+        unit = answer.unit_is;
+        file = answer.file_is;
+        line = answer.line_is;
+        column = answer.column_is;
+        is_stmt = answer.is_stmt_is;
+        more = more.1;
+      };
+    }
+
+-- ---- plain fields need no quotes
+
+abbrev IsQuiet : List ℕ → Type 0
+IsQuiet field = list_any (needs_byte default_writer) field ≡ false
+
+quiet_byte : (c : ℕ) → 48 ≤ c → needs_byte default_writer c ≡ false
+quiet_byte c h =
+    let comma = ne_eqb c 44 (λ e. omega (arith, h, e)) in
+    let quote = ne_eqb c 34 (λ e. omega (arith, h, e)) in
+    let return = ne_eqb c 13 (λ e. omega (arith, h, e)) in
+    let feed = ne_eqb c 10 (λ e. omega (arith, h, e)) in
+    rw (comma, quote, return, feed) refl
+
+quiet_bytes : (text : List ℕ) → AllByRecursion FromZero text → IsQuiet text
+quiet_bytes [] h = refl
+quiet_bytes (c ∷ text) h = rw (quiet_byte c h.0, quiet_bytes text h.1) refl
+
+quiet_number : (text : List ℕ) (n : ℕ) → IsPlainDecimal text n → IsQuiet text
+quiet_number text n h = quiet_bytes text (decimal_from_zero text n h.number)
+
+quiet_address : (text : List ℕ) (n : ℕ) → IsPlainAddress text n → IsQuiet text
+quiet_address text n h = quiet_bytes text (address_from_zero text n (plain_address text n h))
+
+quiet_flag : (text : List ℕ) (on : Bool) → IsFlag text on → IsQuiet text
+quiet_flag text true e = rw e refl
+quiet_flag text false e = rw e refl
+
+all_from_each : (P : List ℕ → Type 0) (fields : Fields) → ((i : ℕ) → i < length fields → P (get_or fields i [])) → AllByRecursion P fields
+all_from_each P [] h = tt
+all_from_each P (x ∷ fields) h = (h 0 (omega arith), all_from_each P fields (λ i lt. h (suc i) (omega (arith, lt))))
+
+quiet_record : (version : Version) (fields : Fields) (span : Span) → IsPlainRecord version fields span → AllByRecursion IsQuiet fields
+quiet_record version fields span s =
+    all_from_each IsQuiet fields
+    (λ i lt.
+    each_holds IsPlainAddress IsPlainDecimal (λ (k : Kind) (text : List ℕ). IsQuiet text) version fields span
+    (record { of_address = quiet_address; of_number = quiet_number; of_flag = quiet_flag }) s i (rw s.count at lt))
+
+-- ---- a line is what `csv` writes of its fields
+
+quiet_text : (field : List ℕ) → IsQuiet field → field_text default_writer field ≡ field
+quiet_text field q = rw q refl
+
+quiet_following : (fields : Fields) → AllByRecursion IsQuiet fields → fields_text default_writer fields ≡ following fields
+unfolding fields_text
+quiet_following [] q = refl
+quiet_following (field ∷ fields) q = rw (quiet_text field q.0, quiet_following fields q.1) refl
+
+quiet_line : (fields : Fields) → 2 ≤ length fields → AllByRecursion IsQuiet fields → row_text default_writer fields ≡ line_text fields
+unfolding is_blank
+quiet_line [] h q = absurd (omega (arith, h))
+quiet_line (a ∷ []) h q = absurd (omega (arith, h))
+quiet_line (a ∷ b ∷ fields) h q =
+    let rest = quiet_following (b ∷ fields) q.1 in
+    let first = quiet_text a q.0 in
+    rw (first, rest) refl
+
+count_some : (version : Version) → 2 ≤ column_count version
+count_some One = omega arith
+count_some Two = omega arith
+
+quiet_names : (version : Version) → AllByRecursion IsQuiet (column_names version)
+quiet_names One = (refl, (refl, (refl, (refl, (refl, (refl, (refl, (refl, (refl, tt)))))))))
+quiet_names Two = (refl, (refl, (refl, (refl, (refl, (refl, (refl, (refl, (refl, (refl, (refl, tt)))))))))))
+
+names_count : (version : Version) → length (column_names version) ≡ column_count version
+names_count One = refl
+names_count Two = refl
+
+-- ---- lines are read back
+
+-- records that are no single field, and need no quotes
+abbrev AreQuiet : List Fields → Type 0
+AreQuiet records = AllByRecursion (λ fields. (2 ≤ length fields) × AllByRecursion IsQuiet fields) records
+
+quiet_lines : (records : List Fields) → AreQuiet records → rows_text records ≡ lines_text records
+unfolding rows_text
+quiet_lines [] q = refl
+quiet_lines (fields ∷ records) q = rw (quiet_line fields q.0.0 q.0.1, quiet_lines records q.1) refl
+
+same_back : (fields : Fields) → 2 ≤ length fields → fields ≡ read_back fields
+same_back [] h = absurd (omega (arith, h))
+same_back (x ∷ fields) h = refl
+
+lines_read : (records : List Fields) → AreQuiet records → Reached default_config st.StartRecord (rows_text records) records st.StartRecord []
+unfolding Reached rows_text
+lines_read [] q = (refl, refl)
+lines_read (fields ∷ records) q =
+    ((read_back fields, st.StartRecord, rows_text records), read-write fields (rows_text records), same_back fields q.0.0, lines_read records q.1)
+
+none_left : next_record default_config st.StartRecord [] [] [] ≡ None
+unfolding next_record
+none_left = refl
+
+-- a table begins with no byte order mark
+no_mark : (version : Version) (records : List Fields) → strip_bom (lines_text (column_names version ∷ records)) ≡ lines_text (column_names version ∷ records)
+unfolding strip_bom
+no_mark One records = refl
+no_mark Two records = refl
+
+quiet_spans : (version : Version) (records : List Fields) (spans : List Span) → AllZip (IsPlainRecord version) records spans → AreQuiet records
+quiet_spans version [] [] z = tt
+quiet_spans version [] (s ∷ spans) z = absurd z
+quiet_spans version (r ∷ records) [] z = absurd z
+quiet_spans version (r ∷ records) (s ∷ spans) z =
+    let some : 2 ≤ length r = subst (λ (n : ℕ). 2 ≤ n) (sym z.0.count) (count_some version) in
+    ((some, quiet_record version r s z.0), quiet_spans version records spans z.1)
+
+records_of_lines : (version : Version) (records : List Fields) (spans : List Span) → AllZip (IsPlainRecord version) records spans
+    → RecordsOf (lines_text (column_names version ∷ records)) (column_names version ∷ records)
+records_of_lines version records spans z =
+    let some : 2 ≤ length (column_names version) = subst (λ (n : ℕ). 2 ≤ n) (sym (names_count version)) (count_some version) in
+    let quiet : AreQuiet (column_names version ∷ records) = ((some, quiet_names version), quiet_spans version records spans z) in
+    let read = lines_read (column_names version ∷ records) quiet in
+    (st.StartRecord, [], rw (no_mark version records) (rw (quiet_lines (column_names version ∷ records) quiet) at read), none_left)
+
+written_table : (version : Version) (bytes : List ℕ) (records : List Fields) (spans : List Span) → AllZip (IsPlainRecord version) records spans → AreInOrder spans
+    → bytes ≡ lines_text (column_names version ∷ records) → IsWrittenTable version bytes spans
+written_table version bytes records spans z o e = record {
+  table = (
+    column_names version ∷ records,
+    subst (λ (b : List ℕ). RecordsOf b (column_names version ∷ records)) (sym e) (records_of_lines version records spans z),
+    (refl, record { each = records_plain version records spans z; in_order = o }),
+  );
+  plain = record { records = records; lines = e; each = z };
+}
+
+-- ---- a loop that writes
+
+lines_append : (xs ys : List Fields) → lines_text (xs ++ ys) ≡ lines_text xs ++ lines_text ys
+lines_append [] ys = refl
+lines_append (x ∷ xs) ys = ap (λ (t : List ℕ). line_text x ++ t) (lines_append xs ys) ∙ sym (append_assoc (line_text x) (lines_text xs) (lines_text ys))
+
+-- These bytes are the lines of the first spans. A front of them was handed on.
+pub record Lines (version : Version) (old now : Option (List ℕ)) (block : List ℕ) (spans : List Span) (i : ℕ) : Type 0 where
+  pub sent : List ℕ
+  pub handed : Appends old now sent
+  pub records : List Fields
+  pub lines : sent ++ block ≡ lines_text (column_names version ∷ records)
+  pub each : AllZip (IsPlainRecord version) records (take i spans)
+
+pub no_lines : (version : Version) (old : Option (List ℕ)) (block : List ℕ) (spans : List Span) → block ≡ line_text (column_names version) → Lines version old old block spans 0
+no_lines version old block spans e = record {
+  sent = [];
+  handed = Appends-nil old;
+  records = [];
+  lines = e ∙ sym (append-nil (line_text (column_names version)));
+  each = tt;
+}
+
+abbrev pub no_span : Span
+no_span = record {
+  low = record { address = 0; op = 0 };
+  high = record { address = 0; op = 0 };
+  answer = record { unit = 0; file = 0; line = 0; column = 0; is_stmt = false; more = None };
+}
+
+pub line_more : (version : Version) (old now new : Option (List ℕ)) (block grown left sent : List ℕ) (spans : List Span) (i : ℕ) (d : Span) → i < length spans
+    → Lines version old now block spans i → AddsRecord version (get_or spans i d) block grown → Appends now new sent → grown ≡ sent ++ left → Lines version old new left spans (i + 1)
+line_more version old now new block grown left sent spans i d lt l r more e = record {
+  sent = l.sent ++ sent;
+  handed = Appends-trans old now new l.sent sent l.handed more;
+  records = l.records ++ r.fields ∷ [];
+  lines =
+      append_assoc l.sent sent left ∙ ap (λ (t : List ℕ). l.sent ++ t) (sym e ∙ r.joined) ∙ sym (append_assoc l.sent block (line_text r.fields))
+      ∙ ap (λ (t : List ℕ). t ++ line_text r.fields) l.lines
+      ∙ ap (λ (t : List ℕ). lines_text (column_names version ∷ l.records) ++ t) (sym (append-nil (line_text r.fields)))
+      ∙ sym (lines_append (column_names version ∷ l.records) (r.fields ∷ []));
+  each = subst (λ (xs : List Span). AllZip (IsPlainRecord version) (l.records ++ r.fields ∷ []) xs) (sym (take_more spans i d lt))
+      (zip_push (IsPlainRecord version) l.records (take i spans) r.fields (get_or spans i d) l.each r.plain);
+}
+
+pub all_lines : (version : Version) (old now new : Option (List ℕ)) (block : List ℕ) (spans : List Span) (i : ℕ) → length spans ≤ i → AreInOrder spans
+    → Lines version old now block spans i → Appends now new block → (bytes : List ℕ) × Appends old new bytes × IsWrittenTable version bytes spans
+all_lines version old now new block spans i le o l more = (
+  l.sent ++ block,
+  Appends-trans old now new l.sent block l.handed more,
+  written_table version (l.sent ++ block) l.records spans (subst (λ (xs : List Span). AllZip (IsPlainRecord version) l.records xs) (take_all i spans le) l.each) o l.lines,
+)

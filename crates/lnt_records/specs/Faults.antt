@@ -1,0 +1,67 @@
+-- What is wrong with a table, and what a comparison with a section's spans tells.
+use Rattle.std.specs.Prelude.{◌≡◌, ◌≢◌, ℕ, ◌<◌, List, [], ◌∷◌, ◌++◌, length}
+use Rattle.lnt_spans.specs.declared.answer.Version.{Version}
+use Rattle.lnt_spans.specs.declared.difference.Difference.{Difference}
+use Rattle.lnt_spans.specs.declared.span.Span.{Span}
+use Rattle.lnt_spans.specs.Differences.{Agree, IsLeastDifference}
+use Rattle.lnt_spans.specs.Spans.{AreInOrder, span_answer, version_answer}
+use Rattle.lnt_records.specs.declared.comparison.Compared.{Compared}
+use Rattle.lnt_records.specs.declared.comparison.Compared.TheVariants.{Same, Fault, Differs}
+use Rattle.lnt_records.specs.declared.fault.TableFault.{TableFault}
+use Rattle.lnt_records.specs.declared.fault.TableFault.TheVariants as fault
+use Rattle.lnt_records.specs.Table.{BeginsWith, Fields, IsSound, IsSpanRecord, IsTable, IsTableOf, column_count, column_names}
+
+-- ---- one record
+
+-- each column before this one is of its kind, and this one isn't
+pub record IsFaultyColumn (fields : Fields) (i : ℕ) : Type 0 where
+  pub there : i < length fields
+  pub before : (k : ℕ) → k < i → IsSound fields k
+  pub faulty : IsSound fields i → ⊥
+
+-- Behind the records of these spans this record, which has that number, is faulty so.
+abbrev pub IsFaulty : Version → List Span → ℕ → Fields → TableFault → Type 0
+IsFaulty version spans number fields fault.Header = ⊥
+IsFaulty version spans number fields (fault.Fields k) = (k ≡ number) × (length fields ≢ column_count version)
+IsFaulty version spans number fields (fault.Number k i) = (k ≡ number) × (length fields ≡ column_count version) × IsFaultyColumn fields i
+IsFaulty version spans number fields (fault.Order k) = (k ≡ number) × (span : Span) × IsSpanRecord version fields span × (AreInOrder (spans ++ span ∷ []) → ⊥)
+
+-- ---- all records
+
+-- A faulty record behind records that are a table.
+pub record HasFaultyRecord (bytes : List ℕ) (told : TableFault) : Type 0 where
+  pub version : Version
+  pub records : List Fields
+  pub spans : List Span
+  pub fields : Fields
+  pub begins : BeginsWith bytes (records ++ fields ∷ [])
+  pub table : IsTable version records spans
+  pub faulty : IsFaulty version spans (length records) fields told
+
+-- The fault that is told is the first one of the bytes.
+abbrev pub IsFault : List ℕ → TableFault → Type 0
+IsFault bytes fault.Header = (version : Version) → BeginsWith bytes (column_names version ∷ []) → ⊥
+IsFault bytes (fault.Fields k) = HasFaultyRecord bytes (fault.Fields k)
+IsFault bytes (fault.Number k i) = HasFaultyRecord bytes (fault.Number k i)
+IsFault bytes (fault.Order k) = HasFaultyRecord bytes (fault.Order k)
+
+-- ---- a comparison
+
+-- The bytes are a table, and where it differs from the section first is told in the table's version.
+pub record DiffersSo (bytes : List ℕ) (section : List Span) (difference : Difference) : Type 0 where
+  pub version : Version
+  pub table : List Span
+  pub is_table : IsTableOf version bytes table
+  pub least : IsLeastDifference (version_answer version section) (span_answer table) difference
+
+-- The bytes are a table that answers at every position as the section does, as far as the table's version tells.
+pub record AnswersAs (bytes : List ℕ) (section : List Span) : Type 0 where
+  pub version : Version
+  pub table : List Span
+  pub is_table : IsTableOf version bytes table
+  pub agree : Agree (version_answer version section) (span_answer table)
+
+abbrev pub IsComparison : List ℕ → List Span → Compared → Type 0
+IsComparison bytes section Same = AnswersAs bytes section
+IsComparison bytes section (Fault told) = IsFault bytes told
+IsComparison bytes section (Differs difference) = DiffersSo bytes section difference

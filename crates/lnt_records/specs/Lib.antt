@@ -1,0 +1,5 @@
+pub mod Faults
+pub mod Laws
+pub mod Progress
+pub mod Table
+pub mod Written

@@ -1,0 +1,91 @@
+-- How far a table is read and compared. The bodies of this crate use it among themselves.
+use Rattle.std.specs.Prelude.{◌≡◌, ◌≢◌, ℕ, ◌+◌, ◌<◌, ◌≤◌, true, false, List, [], ◌∷◌, Option, Some, None, length, get_or, suc}
+use Rattle.std.proofs.Common.{Bor}
+use Rattle.csv.specs.Machine.{ends_at_end}
+use Rattle.csv.specs.Reading.{Reached, Ready, default_config, is_flexible, reader_config, reader_state, reader_trim, source_of, strip_bom}
+use Rattle.csv.specs.declared.parser.State.TheVariants as state
+use Rattle.csv.specs.declared.reader.Reader.{Reader}
+use Rattle.csv.specs.declared.reader.Trim.TheVariants as trim
+use Rattle.lnt_spans.specs.declared.answer.Version.{Version}
+use Rattle.lnt_spans.specs.declared.span.Span.{Span}
+use Rattle.lnt_spans.specs.Comparing.{Compares}
+use Rattle.lnt_records.specs.declared.comparison.Comparison.{Comparison}
+use Rattle.lnt_spans.specs.declared.answer.Answer.{Answer}
+use Rattle.lnt_spans.specs.declared.position.Position.{Position}
+use Rattle.lnt_digits.specs.Digits.{IsAddress, IsDecimal}
+use Rattle.lnt_records.specs.declared.record.RecordFault.{RecordFault}
+use Rattle.lnt_records.specs.declared.record.RecordFault.TheVariants as record_fault
+use Rattle.lnt_records.specs.Faults.{IsFaultyColumn}
+use Rattle.lnt_records.specs.Table.{AreMore, Fields, IsFlag, IsSound, IsTable, Kind, column_count, decimal, kinds}
+
+-- ---- one record
+
+-- these fields, from this column on, are the names
+abbrev pub AreNamed : ℕ → Fields → Fields → Type 0
+AreNamed i [] fields = Unit {0}
+AreNamed i (name ∷ names) fields = (get_or fields i [] ≡ name) × AreNamed (suc i) names fields
+
+abbrev pub IsColumnOf : Kind → ℕ → Type 0
+IsColumnOf kind i = get_or kinds i decimal ≡ kind
+
+-- each column before this one is of its kind
+abbrev pub AreSoundBefore : Fields → ℕ → Type 0
+AreSoundBefore fields i = (k : ℕ) → k < i → IsSound fields k
+
+-- a column is the first that isn't of its kind
+abbrev pub IsColumnFault : Fields → RecordFault → Type 0
+IsColumnFault fields record_fault.Fields = ⊥
+IsColumnFault fields (record_fault.Number i) = IsFaultyColumn fields i
+
+-- the same, or the record hasn't the columns of the version
+abbrev pub IsRecordFault : Version → Fields → RecordFault → Type 0
+IsRecordFault version fields record_fault.Fields = length fields ≢ column_count version
+IsRecordFault version fields (record_fault.Number i) = (length fields ≡ column_count version) × IsFaultyColumn fields i
+
+-- what two columns say
+pub record SaysPosition (fields : Fields) (i : ℕ) (position : Position) : Type 0 where
+  pub address : IsAddress (get_or fields i []) position.address
+  pub op : IsDecimal (get_or fields (i + 1) []) position.op
+
+-- what the columns behind the positions say
+pub record SaysAnswer (version : Version) (fields : Fields) (answer : Answer) : Type 0 where
+  pub unit : IsDecimal (get_or fields 4 []) answer.unit
+  pub file : IsDecimal (get_or fields 5 []) answer.file
+  pub line : IsDecimal (get_or fields 6 []) answer.line
+  pub column : IsDecimal (get_or fields 7 []) answer.column
+  pub is_stmt : IsFlag (get_or fields 8 []) answer.is_stmt
+  pub more : AreMore IsDecimal version fields answer.more
+
+-- ---- all records
+
+-- a reader of bytes in memory
+abbrev pub BytesReader : Type 0
+BytesReader = Reader (Bor (List ℕ))
+
+abbrev pub bytes_left : BytesReader → Option (List ℕ)
+bytes_left reader = source_of (λ s. Some s.now) reader
+
+abbrev pub known_length : Option (List ℕ) → ℕ
+known_length None = 0
+known_length (Some bytes) = length bytes
+
+-- The reader has read these records, the first ones of the bytes, and stands between two records. It takes records of any
+-- length, so that only memory can fail it.
+pub record HasRead (reader : BytesReader) (bytes : List ℕ) (records : List Fields) : Type 0 where
+  pub config : reader_config reader ≡ default_config
+  pub flexible : is_flexible reader ≡ true
+  pub trim : reader_trim reader ≡ trim.None
+  pub ready : Ready reader
+  pub between : ends_at_end (reader_state reader) ≡ false
+  pub rest : List ℕ
+  pub left : bytes_left reader ≡ Some rest
+  pub reached : Reached default_config state.StartRecord (strip_bom bytes) records (reader_state reader) rest
+  pub few : length records + length rest ≤ length bytes
+
+-- These records are a table so far, and compared with the spans of a section.
+pub record Judges (comparison : Comparison) (section : List Span) (records : List Fields) : Type 0 where
+  pub table : List Span
+  pub is_table : IsTable comparison.version records table
+  pub count : comparison.count ≡ length records
+  pub version : comparison.merge.version ≡ comparison.version
+  pub compares : Compares comparison.merge section table

@@ -1,0 +1,106 @@
+-- An address table, as `csv` reads its records from the bytes.
+use Rattle.std.specs.Prelude.{◌≡◌, ℕ, Bool, true, false, List, [], ◌∷◌, ◌++◌, Option, Some, None, length, get_or, codes}
+use Rattle.std.specs.List.{AllZip}
+use Rattle.csv.specs.Reading.{AreRecords, Reached, default_config, strip_bom}
+use Rattle.csv.specs.declared.parser.State.{State}
+use Rattle.csv.specs.declared.parser.State.TheVariants as state
+use Rattle.lnt_digits.specs.Digits.{IsAddress, IsDecimal}
+use Rattle.lnt_spans.specs.declared.answer.More.{More}
+use Rattle.lnt_spans.specs.declared.answer.Version.{Version}
+use Rattle.lnt_spans.specs.declared.answer.Version.TheVariants.{One, Two}
+use Rattle.lnt_spans.specs.declared.span.Span.{Span}
+use Rattle.lnt_spans.specs.Spans.{AreInOrder}
+
+-- A record is a list of fields, and a field is a list of bytes.
+abbrev pub Fields : Type 0
+Fields = List (List ℕ)
+
+-- ---- the columns
+
+abbrev pub common_names : Fields
+common_names =
+    codes "low" ∷ codes "low_op" ∷ codes "high" ∷ codes "high_op" ∷ codes "unit" ∷ codes "file" ∷ codes "line" ∷ codes "column" ∷ codes "is_stmt" ∷ []
+
+-- record 0
+abbrev pub column_names : Version → Fields
+column_names One = common_names
+column_names Two = common_names ++ codes "isa" ∷ codes "discriminator" ∷ []
+
+abbrev pub column_count : Version → ℕ
+column_count One = 9
+column_count Two = 11
+
+-- what a column holds
+pub data Kind : Type 0 where
+  address : Kind
+  decimal : Kind
+  flag : Kind
+
+abbrev pub kinds : List Kind
+kinds = address ∷ decimal ∷ address ∷ decimal ∷ decimal ∷ decimal ∷ decimal ∷ decimal ∷ flag ∷ decimal ∷ decimal ∷ []
+
+-- 0 or 1
+abbrev pub IsFlag : List ℕ → Bool → Type 0
+IsFlag text false = text ≡ codes "0"
+IsFlag text true = text ≡ codes "1"
+
+abbrev pub IsOfKind : Kind → List ℕ → Type 0
+IsOfKind address text = (n : ℕ) × IsAddress text n
+IsOfKind decimal text = (n : ℕ) × IsDecimal text n
+IsOfKind flag text = (on : Bool) × IsFlag text on
+
+-- the field in a column is of the column's kind
+abbrev pub IsSound : Fields → ℕ → Type 0
+IsSound fields i = IsOfKind (get_or kinds i decimal) (get_or fields i [])
+
+-- ---- a span's record
+
+-- the two columns that version 2 has more
+abbrev pub AreMore : (List ℕ → ℕ → Type 0) → Version → Fields → Option More → Type 0
+AreMore Number One fields more = more ≡ None
+AreMore Number Two fields None = ⊥
+AreMore Number Two fields (Some more) = Number (get_or fields 9 []) more.isa × Number (get_or fields 10 []) more.discriminator
+
+-- A record that says the span, where addresses and numbers are written in these ways.
+pub record SaysSpan (Address Number : List ℕ → ℕ → Type 0) (version : Version) (fields : Fields) (span : Span) : Type 0 where
+  pub count : length fields ≡ column_count version
+  pub low : Address (get_or fields 0 []) span.low.address
+  pub low_op : Number (get_or fields 1 []) span.low.op
+  pub high : Address (get_or fields 2 []) span.high.address
+  pub high_op : Number (get_or fields 3 []) span.high.op
+  pub unit : Number (get_or fields 4 []) span.answer.unit
+  pub file : Number (get_or fields 5 []) span.answer.file
+  pub line : Number (get_or fields 6 []) span.answer.line
+  pub column : Number (get_or fields 7 []) span.answer.column
+  pub is_stmt : IsFlag (get_or fields 8 []) span.answer.is_stmt
+  pub more : AreMore Number version fields span.answer.more
+
+-- A record that says the span.
+abbrev pub IsSpanRecord : Version → Fields → Span → Type 0
+IsSpanRecord version fields span = SaysSpan IsAddress IsDecimal version fields span
+
+-- ---- a table
+
+-- each record says a span, and the spans are in order, none empty
+pub record AreSpans (version : Version) (records : List Fields) (spans : List Span) : Type 0 where
+  pub each : AllZip (IsSpanRecord version) records spans
+  pub in_order : AreInOrder spans
+
+-- the names of the columns, and a record for each span
+abbrev pub IsTable : Version → List Fields → List Span → Type 0
+IsTable version [] spans = ⊥
+IsTable version (first ∷ records) spans = (first ≡ column_names version) × AreSpans version records spans
+
+-- ---- the bytes of a table
+
+-- all records of the bytes
+abbrev pub RecordsOf : List ℕ → List Fields → Type 0
+RecordsOf bytes records = AreRecords default_config state.StartRecord (strip_bom bytes) records
+
+-- the records of the bytes begin with these
+abbrev pub BeginsWith : List ℕ → List Fields → Type 0
+BeginsWith bytes records = (after : State) × (rest : List ℕ) × Reached default_config state.StartRecord (strip_bom bytes) records after rest
+
+-- The bytes are a table of these spans.
+abbrev pub IsTableOf : Version → List ℕ → List Span → Type 0
+IsTableOf version bytes spans = (records : List Fields) × RecordsOf bytes records × IsTable version records spans

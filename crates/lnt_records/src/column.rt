@@ -1,0 +1,87 @@
+//! The fields of a record, by their columns.
+ghost use Rattle.std.specs.Prelude.{◌≡◌, ◌≢◌, ◌+◌, ◌<◌, [], length, get_or, IfOk, IfErr, OnOk, MatchOption, Bool};
+ghost use Rattle.std.specs.Bool.{MatchBool};
+ghost use Rattle.csv.specs.Records.{fields_of};
+ghost use Rattle.lnt_digits.specs.Digits.{IsAddress, IsDecimal};
+ghost use Rattle.lnt_records.specs.Progress.{AreSoundBefore, IsColumnFault, IsColumnOf};
+ghost use Rattle.lnt_records.specs.Table.{IsFlag};
+ghost use Rattle.lnt_records.specs.Table as table;
+
+use crate::record::RecordFault;
+use csv::ByteRecord;
+
+// The field in a column.
+#[tactic(auto, using(crate::proofs::ColumnLemmas::field_is, crate::proofs::ColumnLemmas::field_there))]
+pub(crate) fn field(row: &ByteRecord, i: usize) -> &[u8]
+    requires { i < length (fields_of row.now) }
+    ensures { result.now ≡ get_or (fields_of row.now) i [] }
+{
+    row.get(i).unwrap_or(&[])
+}
+
+// Whether the field in a column is this text.
+pub(crate) fn is_field(row: &ByteRecord, i: usize, text: &[u8]) -> bool
+    requires { i < length (fields_of row.now) }
+    ensures { MatchBool result (get_or (fields_of row.now) i [] ≡ text.now) (get_or (fields_of row.now) i [] ≢ text.now) }
+{
+    field(row, i) == text
+}
+
+// The address in a column, where each column before it is of its kind.
+#[tactic(auto, using(crate::proofs::ColumnLemmas::sound_address, crate::proofs::ColumnLemmas::no_address))]
+pub(crate) fn address_at(row: &ByteRecord, i: usize) -> Result<u64, RecordFault>
+    requires there { i < length (fields_of row.now) }
+    requires kind { IsColumnOf table.address i }
+    requires before { AreSoundBefore (fields_of row.now) i }
+    ensures ok { IfOk result (λ n. IsAddress (get_or (fields_of row.now) i []) n) }
+    ensures after { OnOk result (AreSoundBefore (fields_of row.now) (i + 1)) }
+    ensures err { IfErr result (λ fault. IsColumnFault (fields_of row.now) fault) }
+{
+    match lnt_digits::address(field(row, i)) {
+        Some(address) => Ok(address),
+        None => Err(RecordFault::Number(i as u64)),
+    }
+}
+
+// The same of a decimal number.
+#[tactic(auto, using(crate::proofs::ColumnLemmas::sound_decimal, crate::proofs::ColumnLemmas::no_decimal))]
+pub(crate) fn decimal_at(row: &ByteRecord, i: usize) -> Result<u64, RecordFault>
+    requires there { i < length (fields_of row.now) }
+    requires kind { IsColumnOf table.decimal i }
+    requires before { AreSoundBefore (fields_of row.now) i }
+    ensures ok { IfOk result (λ n. IsDecimal (get_or (fields_of row.now) i []) n) }
+    ensures after { OnOk result (AreSoundBefore (fields_of row.now) (i + 1)) }
+    ensures err { IfErr result (λ fault. IsColumnFault (fields_of row.now) fault) }
+{
+    match lnt_digits::decimal(field(row, i)) {
+        Some(number) => Ok(number),
+        None => Err(RecordFault::Number(i as u64)),
+    }
+}
+
+// The same of `0` or `1`.
+#[tactic(auto, using(crate::proofs::ColumnLemmas::sound_flag, crate::proofs::ColumnLemmas::no_flag))]
+pub(crate) fn flag_at(row: &ByteRecord, i: usize) -> Result<bool, RecordFault>
+    requires there { i < length (fields_of row.now) }
+    requires kind { IsColumnOf table.flag i }
+    requires before { AreSoundBefore (fields_of row.now) i }
+    ensures ok { IfOk result (λ on. IsFlag (get_or (fields_of row.now) i []) on) }
+    ensures after { OnOk result (AreSoundBefore (fields_of row.now) (i + 1)) }
+    ensures err { IfErr result (λ fault. IsColumnFault (fields_of row.now) fault) }
+{
+    match flag(field(row, i)) {
+        Some(on) => Ok(on),
+        None => Err(RecordFault::Number(i as u64)),
+    }
+}
+
+// A lone `0` or `1`.
+fn flag(text: &[u8]) -> Option<bool>
+    ensures { MatchOption result ((on : Bool) → IsFlag text.now on → ⊥) (λ on. IsFlag text.now on) }
+{
+    match text {
+        [b'0'] => Some(false),
+        [b'1'] => Some(true),
+        _ => None,
+    }
+}

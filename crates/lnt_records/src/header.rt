@@ -1,0 +1,70 @@
+//! Record 0 of a table, which names its columns.
+ghost use Rattle.std.specs.Prelude.{◌≡◌, ◌≢◌, ◌≤◌, length, MatchOption};
+ghost use Rattle.std.specs.Bool.{MatchBool};
+ghost use Rattle.csv.specs.Records.{fields_of};
+ghost use Rattle.lnt_spans.specs.declared.answer.Version.{Version};
+ghost use Rattle.lnt_spans.specs.declared.answer.Version.TheVariants as version;
+ghost use Rattle.lnt_records.specs.Progress.{AreNamed};
+ghost use Rattle.lnt_records.specs.Table.{column_count, column_names, common_names};
+
+use crate::column::is_field;
+use csv::ByteRecord;
+use lnt_spans::Version;
+
+// How many columns a table of the version has.
+#[inline(always)]
+pub(crate) fn columns(version: Version) -> usize
+    ensures { result ≡ column_count version }
+{
+    match version {
+        Version::One => 9,
+        Version::Two => 11,
+    }
+}
+
+// The version whose columns a record names.
+#[tactic(auto, using(crate::proofs::HeaderLemmas::names_none))]
+pub(crate) fn version_of(row: &ByteRecord) -> Option<Version>
+    ensures { MatchOption result ((v : Version) → fields_of row.now ≢ column_names v)
+        (λ v. fields_of row.now ≡ column_names v) }
+{
+    if names_version_one(row) {
+        Some(Version::One)
+    } else if names_version_two(row) {
+        Some(Version::Two)
+    } else {
+        None
+    }
+}
+
+#[tactic(auto, using(crate::proofs::HeaderLemmas::names_one, crate::proofs::HeaderLemmas::not_one))]
+fn names_version_one(row: &ByteRecord) -> bool
+    ensures { MatchBool result (fields_of row.now ≡ column_names version.One) (fields_of row.now ≢ column_names version.One) }
+{
+    row.len() == 9 && names_common_columns(row)
+}
+
+#[tactic(auto, using(crate::proofs::HeaderLemmas::names_two, crate::proofs::HeaderLemmas::not_two))]
+fn names_version_two(row: &ByteRecord) -> bool
+    ensures { MatchBool result (fields_of row.now ≡ column_names version.Two) (fields_of row.now ≢ column_names version.Two) }
+{
+    row.len() == 11
+        && names_common_columns(row)
+        && is_field(row, 9, b"isa")
+        && is_field(row, 10, b"discriminator")
+}
+
+fn names_common_columns(row: &ByteRecord) -> bool
+    requires { 9 ≤ length (fields_of row.now) }
+    ensures { MatchBool result (AreNamed 0 common_names (fields_of row.now)) (AreNamed 0 common_names (fields_of row.now) → ⊥) }
+{
+    is_field(row, 0, b"low")
+        && is_field(row, 1, b"low_op")
+        && is_field(row, 2, b"high")
+        && is_field(row, 3, b"high_op")
+        && is_field(row, 4, b"unit")
+        && is_field(row, 5, b"file")
+        && is_field(row, 6, b"line")
+        && is_field(row, 7, b"column")
+        && is_field(row, 8, b"is_stmt")
+}

@@ -1,0 +1,24 @@
+//! Address tables: records of comma-separated values, each a span of positions with its answer, read and compared with
+//! the spans of a section, and written.
+//!
+//! Record 0 names the columns: `low,low_op,high,high_op,unit,file,line,column,is_stmt` in version 1, and the same with
+//! `,isa,discriminator` in version 2. Each later record is a span: `low` and `high` are addresses, `is_stmt` is `0` or
+//! `1`, and the other fields are decimal numbers. The spans are in order, and none is empty. Records are counted from 0,
+//! so the first span is record 1, and columns too.
+#![tactic(auto)]
+
+mod column;
+mod comparison;
+mod fault;
+mod header;
+pub mod laws;
+mod reading;
+mod record;
+mod write;
+
+pub use comparison::{Compared, compare};
+pub use fault::{TableFault, TableStop, WriteStop};
+pub use write::write_spans;
+
+#[cfg(test)]
+mod tests;

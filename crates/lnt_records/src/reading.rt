@@ -1,0 +1,53 @@
+//! The records of a table, read one by one.
+ghost use Rattle.std.specs.Prelude.{◌≡◌, ◌<◌, ℕ, true, List, [], ◌∷◌, ◌++◌, IfOk, MatchOption};
+ghost use Rattle.std.specs.Bool.{MatchBool};
+ghost use Rattle.csv.specs.Records.{fields_of};
+ghost use Rattle.lnt_spans.specs.declared.answer.Version.{Version};
+ghost use Rattle.lnt_records.specs.Progress.{HasRead, bytes_left, known_length};
+ghost use Rattle.lnt_records.specs.Table.{BeginsWith, Fields, RecordsOf, column_names};
+
+use crate::fault::TableStop;
+use crate::header::version_of;
+use csv::{ByteRecord, Reader, ReaderBuilder};
+use lnt_spans::Version;
+use std::alloc::Global;
+
+// A reader of the records of some bytes: no record is a header of the reader's own, and each may have any number of
+// fields.
+pub(crate) fn reader_of<'a>(alloc: Global, bytes: &'a [u8]) -> Reader<&'a [u8]>
+    ensures { HasRead result bytes.now [] }
+{
+    ReaderBuilder::new()
+        .has_headers(false)
+        .flexible(true)
+        .from_reader(alloc, bytes)
+}
+
+// The next record into `row`, and whether there was one. An error of the reader over bytes in memory is answered as
+// `Memory`.
+pub(crate) fn read_next(reader: &mut Reader<&[u8]>, row: &mut ByteRecord) -> Result<bool, TableStop>
+    requires { (bytes : List ℕ) × (records : List Fields) × HasRead reader.old bytes records }
+    ensures read { IfOk result (λ found. (bytes : List ℕ) (records : List Fields) → HasRead reader.old bytes records
+        → MatchBool found (HasRead reader.new bytes (records ++ fields_of row.new ∷ [])) (RecordsOf bytes records)) }
+    ensures less { IfOk result (λ found. found ≡ true → known_length (bytes_left reader.new) < known_length (bytes_left reader.old)) }
+{
+    let Ok(found) = reader.read_byte_record(row) else {
+        return Err(TableStop::Memory);
+    };
+    Ok(found)
+}
+
+// The version that record 0 names, if it is a header.
+pub(crate) fn read_header(
+    reader: &mut Reader<&[u8]>,
+    row: &mut ByteRecord,
+) -> Result<Option<Version>, TableStop>
+    requires { (bytes : List ℕ) × HasRead reader.old bytes [] }
+    ensures { IfOk result (λ found. (bytes : List ℕ) → HasRead reader.old bytes []
+        → MatchOption found ((v : Version) → BeginsWith bytes (column_names v ∷ []) → ⊥) (λ v. HasRead reader.new bytes (column_names v ∷ []))) }
+{
+    if !read_next(reader, row)? {
+        return Ok(None);
+    }
+    Ok(version_of(row))
+}

@@ -1,0 +1,100 @@
+//! The span that a record says.
+ghost use Rattle.std.specs.Prelude.{◌≡◌, ◌+◌, ◌<◌, length, IfOk, IfErr, OnOk};
+ghost use Rattle.csv.specs.Records.{fields_of};
+ghost use Rattle.lnt_digits.specs.Digits.{IsDecimal};
+ghost use Rattle.lnt_records.specs.Progress.{AreSoundBefore, IsColumnFault, IsColumnOf, IsRecordFault, SaysAnswer, SaysPosition};
+ghost use Rattle.lnt_records.specs.Table.{AreMore, IsSpanRecord, column_count};
+ghost use Rattle.lnt_records.specs.Table as table;
+
+use crate::column::{address_at, decimal_at, flag_at};
+use crate::header::columns;
+use csv::ByteRecord;
+use lnt_spans::{Answer, More, Position, Span, Version};
+
+/// Why a record says no span.
+#[derive(Clone, Copy, Debug, PartialEq, Eq)]
+pub(crate) enum RecordFault {
+    /// It hasn't as many fields as the table has columns.
+    Fields,
+    /// This column is the first that isn't of its kind.
+    Number(u64),
+}
+
+// The span that a record says.
+pub(crate) fn span_of(row: &ByteRecord, version: Version) -> Result<Span, RecordFault>
+    ensures ok { IfOk result (λ span. IsSpanRecord version (fields_of row.now) span) }
+    ensures err { IfErr result (λ fault. IsRecordFault version (fields_of row.now) fault) }
+{
+    if row.len() != columns(version) {
+        return Err(RecordFault::Fields);
+    }
+    span_in(row, version)
+}
+
+#[tactic(auto, using(crate::proofs::RecordLemmas::common_columns, crate::proofs::RecordLemmas::none_before, crate::proofs::RecordLemmas::says_span, crate::proofs::RecordLemmas::column_fault))]
+fn span_in(row: &ByteRecord, version: Version) -> Result<Span, RecordFault>
+    requires { length (fields_of row.now) ≡ column_count version }
+    ensures ok { IfOk result (λ span. IsSpanRecord version (fields_of row.now) span) }
+    ensures err { IfErr result (λ fault. IsRecordFault version (fields_of row.now) fault) }
+{
+    let low = position_at(row, 0)?;
+    let high = position_at(row, 2)?;
+    let answer = answer_in(row, version)?;
+    Ok(Span { low, high, answer })
+}
+
+// The position in two columns, where each column before them is of its kind.
+fn position_at(row: &ByteRecord, i: usize) -> Result<Position, RecordFault>
+    requires there { i + 1 < length (fields_of row.now) }
+    requires address { IsColumnOf table.address i }
+    requires op { IsColumnOf table.decimal (i + 1) }
+    requires before { AreSoundBefore (fields_of row.now) i }
+    ensures ok { IfOk result (λ position. SaysPosition (fields_of row.now) i position) }
+    ensures after { OnOk result (AreSoundBefore (fields_of row.now) (i + 2)) }
+    ensures err { IfErr result (λ fault. IsColumnFault (fields_of row.now) fault) }
+{
+    let address = address_at(row, i)?;
+    let op = decimal_at(row, i + 1)?;
+    Ok(Position { address, op })
+}
+
+// The answer in the columns behind the positions, where those before it are of their kinds.
+#[tactic(auto, using(crate::proofs::RecordLemmas::common_columns))]
+fn answer_in(row: &ByteRecord, version: Version) -> Result<Answer, RecordFault>
+    requires count { length (fields_of row.now) ≡ column_count version }
+    requires before { AreSoundBefore (fields_of row.now) 4 }
+    ensures ok { IfOk result (λ answer. SaysAnswer version (fields_of row.now) answer) }
+    ensures err { IfErr result (λ fault. IsColumnFault (fields_of row.now) fault) }
+{
+    let unit = decimal_at(row, 4)?;
+    let file = decimal_at(row, 5)?;
+    let line = decimal_at(row, 6)?;
+    let column = decimal_at(row, 7)?;
+    let is_stmt = flag_at(row, 8)?;
+    let more = more_in(row, version)?;
+    Ok(Answer {
+        unit,
+        file,
+        line,
+        column,
+        is_stmt,
+        more,
+    })
+}
+
+// What version 2 has more.
+fn more_in(row: &ByteRecord, version: Version) -> Result<Option<More>, RecordFault>
+    requires count { length (fields_of row.now) ≡ column_count version }
+    requires before { AreSoundBefore (fields_of row.now) 9 }
+    ensures ok { IfOk result (λ more. AreMore IsDecimal version (fields_of row.now) more) }
+    ensures err { IfErr result (λ fault. IsColumnFault (fields_of row.now) fault) }
+{
+    match version {
+        Version::One => Ok(None),
+        Version::Two => {
+            let isa = decimal_at(row, 9)?;
+            let discriminator = decimal_at(row, 10)?;
+            Ok(Some(More { isa, discriminator }))
+        }
+    }
+}

@@ -1,0 +1,7 @@
+pub mod EvidenceLemmas
+pub mod ExtentLemmas
+pub mod OverlapLemmas
+pub mod RowLemmas
+pub mod SpanLemmas
+pub mod TestLemmas
+pub mod WatchLemmas

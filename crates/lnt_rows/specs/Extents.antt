@@ -1,0 +1,106 @@
+-- The positions that sequences hold, each from its first position up to its last, and the first that two of them hold.
+use Rattle.std.specs.Prelude.{◌≡◌, ◌≢◌, ◌⊎◌, ℕ, ◌+◌, ◌<◌, ◌≤◌, cond, List, [], ◌∷◌, Option, Some, length, slice_index_or}
+use Rattle.std.specs.List.{flat_map, All, AllPairs, Contains}
+use Rattle.lnt_machine.specs.declared.row.Row.{Row}
+use Rattle.lnt_spans.specs.declared.position.Position.{Position}
+use Rattle.lnt_spans.specs.Positions.{IsBelow, IsAtMost, is_below}
+use Rattle.lnt_rows.specs.declared.extent.Extent.{Extent}
+use Rattle.lnt_rows.specs.declared.extent.Overlap.{Overlap}
+use Rattle.lnt_rows.specs.declared.sequence.SeqId.{SeqId}
+use Rattle.lnt_rows.specs.Sequences.{position_of, first_row, last_row, Holds, Placed}
+
+-- ---- which comes first
+
+-- By first position, and then by place in the section, the one isn't behind the other.
+pub record IsNotLater (p : Position) (id : SeqId) (q : Position) (other : SeqId) : Type 0 where
+  pub low : IsAtMost p q
+  pub unit : p.address ≡ q.address → p.op ≡ q.op → id.unit ≤ other.unit
+  pub index : p.address ≡ q.address → p.op ≡ q.op → id.unit ≡ other.unit → id.index ≤ other.index
+
+-- the same of two sequences
+pub record BeginsNoLater (one other : Placed) : Type 0 where
+  pub first : Row
+  pub other_first : Row
+  pub first_is : first_row one.rows ≡ Some first
+  pub other_is : first_row other.rows ≡ Some other_first
+  pub order : IsNotLater (position_of first) one.id (position_of other_first) other.id
+
+-- ---- the first overlap
+
+-- Two different sequences hold the position, and no lower position is held by two. By first position and then by place
+-- these are, in order, the first two that hold it. So it is the position where the second begins.
+pub record IsFirstOverlap (sequences : List Placed) (overlap : Overlap) : Type 0 where
+  pub one : Placed
+  pub other : Placed
+  pub one_in : Contains sequences one
+  pub other_in : Contains sequences other
+  pub first_is : overlap.first ≡ one.id
+  pub second_is : overlap.second ≡ other.id
+  pub different : overlap.first ≢ overlap.second
+  pub one_holds : Holds one.rows overlap.position
+  pub other_holds : Holds other.rows overlap.position
+  pub lower : AllPairs (λ a b. (p : Position) → IsBelow p overlap.position → Holds a.rows p → Holds b.rows p → ⊥) sequences
+  pub in_turn : BeginsNoLater one other
+  pub begins : overlap.position ≡ position_of in_turn.other_first
+  pub first_two : All (λ placed. Holds placed.rows overlap.position
+      → (placed.id ≡ overlap.first) ⊎ (placed.id ≡ overlap.second) ⊎ BeginsNoLater other placed) sequences
+
+-- ---- the extents of sequences
+
+-- the extent from a first position up to a last one, if it holds anything
+abbrev pub extent_between : SeqId → Position → Position → List Extent
+extent_between id low high = cond (is_below low high) (record { low = low; high = high; id = id } ∷ []) []
+
+-- the extent of a sequence, if it holds anything
+abbrev pub extent_of_rows : SeqId → Option Row → Option Row → List Extent
+extent_of_rows id (Some first) (Some last) = extent_between id (position_of first) (position_of last)
+extent_of_rows id _ _ = []
+
+abbrev pub extent_of : Placed → List Extent
+extent_of placed = extent_of_rows placed.id (first_row placed.rows) (last_row placed.rows)
+
+-- the extents of the sequences that hold anything
+abbrev pub extents_of : List Placed → List Extent
+extents_of sequences = flat_map extent_of sequences
+
+-- ---- extents in order. The bodies of this crate use what follows among themselves.
+
+-- p is held
+pub record IsIn (p : Position) (extent : Extent) : Type 0 where
+  pub from : IsAtMost extent.low p
+  pub below : IsBelow p extent.high
+
+abbrev pub ComesNoLater : Extent → Extent → Type 0
+ComesNoLater one other = IsNotLater one.low one.id other.low other.id
+
+-- by first position, and then by place
+abbrev pub AreSorted : List Extent → Type 0
+AreSorted extents = (k : ℕ) (d : Extent) → k + 1 < length extents → ComesNoLater (slice_index_or extents k d) (slice_index_or extents (k + 1) d)
+
+-- of the first n and the next, none begins below the end of the one before it
+abbrev pub AreApartUpTo : ℕ → List Extent → Type 0
+AreApartUpTo n extents = (k : ℕ) (d : Extent) → k < n → IsAtMost (slice_index_or extents k d).high (slice_index_or extents (k + 1) d).low
+
+-- no position is held by both
+abbrev pub ExtentsDisjoint : Extent → Extent → Type 0
+ExtentsDisjoint one other = (p : Position) → IsIn p one → IsIn p other → ⊥
+
+-- Both hold the position where the second begins, no lower position is held by two, and they are the first two that
+-- hold it.
+pub record AreFirstToOverlap (extents : List Extent) (one other : Extent) : Type 0 where
+  pub one_in : Contains extents one
+  pub other_in : Contains extents other
+  pub different : one.id ≢ other.id
+  pub order : ComesNoLater one other
+  pub one_holds : IsIn other.low one
+  pub other_holds : IsIn other.low other
+  pub lower : (p : Position) → IsBelow p other.low → AllPairs (λ a b. IsIn p a → IsIn p b → ⊥) extents
+  pub first_two : All (λ extent. IsIn other.low extent → (extent ≡ one) ⊎ (extent ≡ other) ⊎ ComesNoLater other extent) extents
+
+pub record ExtentsOverlap (extents : List Extent) (overlap : Overlap) : Type 0 where
+  pub one : Extent
+  pub other : Extent
+  pub first_is : overlap.first ≡ one.id
+  pub second_is : overlap.second ≡ other.id
+  pub position_is : overlap.position ≡ other.low
+  pub first : AreFirstToOverlap extents one other

@@ -1,0 +1,40 @@
+//! Laws of what rows say of positions, each the contract of a function without parameters that does nothing.
+ghost use Rattle.lnt_rows.specs.Laws.{CollectedUnit, DistinctSequences, FallIsNotOrdered, MissingFileIsNotThere, OverlapIsNotApart, SequenceSpans, SpansAnswer};
+
+/// The spans of sequences whose positions never fall answer at every position as their rows do.
+#[tactic(auto, using(crate::proofs::RowLemmas::spans_answer))]
+pub fn spans_answer()
+    ensures { SpansAnswer }
+{}
+
+/// The spans of one sequence whose positions never fall hold the positions that it holds, and no other, and answer there
+/// what the last of its rows says that isn't behind the position.
+#[tactic(auto, using(crate::proofs::ExtentLemmas::sequence_spans))]
+pub fn sequence_spans()
+    ensures { SequenceSpans }
+{}
+
+/// Where two sequences overlap, some position is held by two.
+pub fn overlap_is_not_apart()
+    ensures { OverlapIsNotApart }
+{}
+
+/// Where a row falls, the positions of its sequence are not in order.
+pub fn fall_is_not_ordered()
+    ensures { FallIsNotOrdered }
+{}
+
+/// Where a row of a live sequence names a file that is missing, not every row of the live sequences names one that is there.
+pub fn missing_file_is_not_there()
+    ensures { MissingFileIsNotThere }
+{}
+
+/// What a watch on a unit has collected of all its rows, whose program runs, is collected of its live sequences.
+pub fn collected_unit()
+    ensures { CollectedUnit }
+{}
+
+/// The live sequences of units at different offsets have different ids.
+pub fn distinct_sequences()
+    ensures { DistinctSequences }
+{}

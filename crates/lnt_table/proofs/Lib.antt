@@ -1,0 +1,3 @@
+mod CheckLemmas
+mod LawLemmas
+mod WriteLemmas

@@ -1,0 +1,20 @@
+-- What the laws of verdicts say.
+use Rattle.std.specs.Prelude.{◌≡◌, ℕ, List}
+use Rattle.lnt_spans.specs.declared.answer.Version.{Version}
+use Rattle.lnt_lines.specs.declared.options.Options.{Options}
+use Rattle.lnt_lines.specs.Contents.{Contents}
+use Rattle.lnt_lines.specs.Drafts.{AreLinesOf}
+use Rattle.lnt_table.specs.declared.verdict.Verdict.{Verdict}
+use Rattle.lnt_table.specs.declared.verdict.Verdict.TheVariants.{Yes}
+use Rattle.lnt_table.specs.Headline.{AnswersRight, IsTrueVerdict}
+use Rattle.lnt_table.specs.Written.{IsTableOfLines}
+
+-- Of a good section, and a table that answers as it does, no verdict is true but Yes.
+abbrev pub OnlyYes : Type 0
+OnlyYes = (line general : List ℕ) (options : Options) (section table : List ℕ) (verdict : Verdict) → AnswersRight line general options section table
+    → IsTrueVerdict line general options section table verdict → verdict ≡ Yes
+
+-- Of a good section, and a table that was written of its lines, no verdict is true but Yes.
+abbrev pub OwnTable : Type 0
+OwnTable = (line general : List ℕ) (options : Options) (section table : List ℕ) (lines : Contents) (version : Version) (verdict : Verdict)
+    → AreLinesOf line general options section lines → IsTableOfLines version lines.spans table → IsTrueVerdict line general options section table verdict → verdict ≡ Yes

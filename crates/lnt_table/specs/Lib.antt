@@ -1,0 +1,4 @@
+pub mod Headline
+pub mod Laws
+pub mod Verdicts
+pub mod Written

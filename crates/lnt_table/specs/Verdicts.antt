@@ -1,0 +1,15 @@
+-- What a comparison of a table with a good section makes of the two. The bodies of this crate use it among themselves.
+use Rattle.lnt_records.specs.declared.comparison.Compared.{Compared}
+use Rattle.lnt_records.specs.declared.comparison.Compared.TheVariants.{Same, Fault, Differs}
+use Rattle.lnt_records.specs.declared.fault.TableFault.TheVariants as fault
+use Rattle.lnt_table.specs.declared.verdict.TableNo.TheVariants as no
+use Rattle.lnt_table.specs.declared.verdict.Verdict.{Verdict}
+use Rattle.lnt_table.specs.declared.verdict.Verdict.TheVariants.{Yes, No}
+
+abbrev pub verdict_of : Compared → Verdict
+verdict_of Same = Yes
+verdict_of (Fault fault.Header) = No no.Header
+verdict_of (Fault (fault.Fields k)) = No (no.Fields k)
+verdict_of (Fault (fault.Number k i)) = No (no.Number k i)
+verdict_of (Fault (fault.Order k)) = No (no.Order k)
+verdict_of (Differs difference) = No (no.Differs difference.position difference.by_table difference.by_section)

@@ -1,0 +1,15 @@
+-- The table that is written of a section's lines.
+use Rattle.std.specs.Prelude.{◌≡◌, ℕ, List}
+use Rattle.lnt_spans.specs.declared.answer.Version.{Version}
+use Rattle.lnt_spans.specs.declared.position.Position.{Position}
+use Rattle.lnt_spans.specs.declared.span.Span.{Span}
+use Rattle.lnt_spans.specs.Spans.{IsCanonical, span_answer, version_answer}
+use Rattle.lnt_records.specs.Written.{IsWrittenTable}
+
+-- The bytes are a table of this version, on plain lines, of the canonical spans that answer as the section's spans do,
+-- as the version tells answers.
+pub record IsTableOfLines (version : Version) (section : List Span) (bytes : List ℕ) : Type 0 where
+  pub spans : List Span
+  pub canonical : IsCanonical spans
+  pub same : (p : Position) → span_answer spans p ≡ version_answer version section p
+  pub written : IsWrittenTable version bytes spans

@@ -1,0 +1,101 @@
+//! A section checked against an address table.
+ghost use Rattle.std.specs.Prelude.{◌≡◌, ◌≢◌, ◌+◌, ◌-◌, ◌^◌, ◌<◌, ◌⊎◌, IfOk, IfErr, IfSome, IsErrOf};
+ghost use Rattle.lnt_lines.specs.declared.no.No.{No as SectionNo};
+ghost use Rattle.lnt_lines.specs.declared.stop.Stop.TheVariants.{Memory, Read, TooLong};
+ghost use Rattle.lnt_records.specs.Faults.{IsComparison};
+ghost use Rattle.lnt_table.specs.Headline.{IsTooLong, IsTrueOfSection, IsTrueVerdict};
+
+use crate::verdict::{TableNo, Verdict, verdict_of};
+use lnt_lines::{Judged, Lines, Options, Stop, verify};
+use lnt_records::{Compared, TableStop, compare};
+use lnt_wire::{Source, SourceStop, Strings, read_all};
+use std::alloc::Global;
+
+/// Checks the section `.debug_line` (DWARF 5, section 6.2) that one source has to give against the address table that
+/// another has to give.
+///
+/// **Where it answers Yes, the section's bytes spell exactly a list of well-formed units, positions never fall within a
+/// live sequence, no position is held by two live sequences, every file and directory number used exists, and for every
+/// address and operation index the table's answer is that of the last matrix row at or before it in the live sequence
+/// holding it, or none where none does.**
+///
+/// Each phrase is a definition, and all of them stand in `IsTrueVerdict`, of the case `Yes`:
+/// - *answers Yes*: the call returns `Ok(Verdict::Yes)`;
+/// - *the section's bytes*: all that `section` has to give at entry, where it tells its bytes, however its reads are cut
+///   (`Source.remaining`);
+/// - *spell exactly*: `SectionBytes` of `lnt_unit`, with nothing before, between or after the units;
+/// - *well-formed*: `IsWellFormed` of `lnt_lines`: the program runs, and the tables are usable;
+/// - *never fall*: `AreOrdered` of `lnt_rows`; equal positions are allowed;
+/// - *live*: `live_sequences` of `lnt_rows`: not begun at the address of dead code, where the options give one;
+/// - *held*, *held by two*: `Holds` and `AreApart` of `lnt_rows`: from the position of a sequence's first row up to that
+///   of its end row, which is not held;
+/// - *file number used*: `HaveFiles` of `lnt_rows`, of each row of a live sequence but end rows;
+/// - *directory number used*: `AreUsableTables` of `lnt_entries`, of each file that a unit lists;
+/// - *the table's answer*: `IsTableOf` of `lnt_records`, of all bytes that `table` has to give, and `span_answer` of
+///   `lnt_spans`, of the table's spans;
+/// - *the last matrix row at or before it*: `line_answer` of `lnt_rows`, over the rows of `lnt_machine`; under version 1
+///   of the table without instruction set and discriminator.
+///
+/// Else it tells the first thing that is wrong (`TableNo`). The section is judged first, and the table is read only
+/// where the section is good. The strings are those of the string sections that the section's forms lead into.
+///
+/// It stops with `Memory`; with `Read` only where one of the sources failed; and with `TooLong` only where one has more
+/// bytes than it may give. A stop judges nothing. Nothing is said of how far the sources were read. The caller sees to
+/// it that the number of each source's failures is below `u64::MAX`.
+pub fn check<R: Source, T: Source>(
+    alloc: Global,
+    section: &mut R,
+    strings: &Strings<'_>,
+    table: &mut T,
+    options: &Options,
+) -> Result<Verdict, Stop>
+    requires section_fails { R.failures section.old < 2 ^ 64 - 1 }
+    requires table_fails { T.failures table.old < 2 ^ 64 - 1 }
+    ensures verdict { IfOk result (λ verdict. IfSome (R.remaining section.old) (λ bytes. IfSome (T.remaining table.old) (λ text.
+        IsTrueVerdict strings.now.line.now strings.now.general.now options.now bytes text verdict))) }
+
+    // Of the section it tells the truth whatever the table is, and a section that isn't good keeps the table unread.
+    ensures of_section { IfOk result (λ verdict. IfSome (R.remaining section.old) (λ bytes.
+        IsTrueOfSection strings.now.line.now strings.now.general.now options.now bytes verdict)) }
+    ensures unread { (no : SectionNo) → result ≡ Ok (Verdict.No (TableNo.Section no)) → table.new ≡ table.old }
+    ensures read { IsErrOf result Stop.Read → R.failures section.new + T.failures table.new ≡ R.failures section.old + T.failures table.old + 1 }
+    ensures section_fine { result ≢ Err Stop.Read → R.failures section.new ≡ R.failures section.old }
+    ensures table_fine { result ≢ Err Stop.Read → T.failures table.new ≡ T.failures table.old }
+    ensures too_long { IsErrOf result Stop.TooLong → IsTooLong (R.too_long section.new) (R.remaining section.old) (R.left section.old)
+        ⊎ IsTooLong (T.too_long table.new) (T.remaining table.old) (T.left table.old) }
+{
+    let lines = match verify(alloc, section, strings, options)? {
+        Judged::Good(lines) => lines,
+        Judged::Bad(no) => return Ok(Verdict::No(TableNo::Section(no))),
+    };
+    let text = read_table(alloc, table)?;
+    let compared = compare_lines(alloc, &text, &lines)?;
+    Ok(verdict_of(compared))
+}
+
+// All bytes of the table.
+fn read_table<T: Source>(alloc: Global, table: &mut T) -> Result<Vec<u8>, Stop>
+    requires { T.failures table.old < 2 ^ 64 - 1 }
+    ensures ok { IfOk result (λ text. IfSome (T.remaining table.old) (λ bytes. text.items ≡ bytes)) }
+    ensures read { IsErrOf result Stop.Read → T.failures table.new ≡ T.failures table.old + 1 }
+    ensures no_failure { result ≢ Err Stop.Read → T.failures table.new ≡ T.failures table.old }
+    ensures too_long { IsErrOf result Stop.TooLong → IsTooLong (T.too_long table.new) (T.remaining table.old) (T.left table.old) }
+{
+    match read_all(alloc, table) {
+        Ok(text) => Ok(text),
+        Err(SourceStop::Memory) => Err(Stop::Memory),
+        Err(SourceStop::Read) => Err(Stop::Read),
+        Err(SourceStop::TooLong) => Err(Stop::TooLong),
+    }
+}
+
+// What a comparison of the table with the lines finds.
+fn compare_lines(alloc: Global, text: &[u8], lines: &Lines) -> Result<Compared, Stop>
+    ensures ok { IfOk result (IsComparison text.now lines.now.spans) }
+    ensures err { IfErr result (λ stop. stop ≡ Memory) }
+{
+    match compare(alloc, text, lines.spans()) {
+        Ok(compared) => Ok(compared),
+        Err(TableStop::Memory) => Err(Stop::Memory),
+    }
+}

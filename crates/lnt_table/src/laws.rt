@@ -1,0 +1,28 @@
+//! Laws of answers and verdicts, each the contract of a function without parameters that does nothing.
+ghost use Rattle.lnt_spans.specs.Laws.{Borders};
+ghost use Rattle.lnt_table.specs.Laws.{OnlyYes, OwnTable};
+
+/// Two lists of spans in order, none empty, that answer alike wherever a span of either begins or ends answer alike at
+/// every position. So the spans of a table and of a section need comparing at their borders alone.
+pub fn borders()
+    ensures { Borders }
+{
+    lnt_spans::laws::borders();
+}
+
+/// Of a good section, and a table that answers as it does at every position, no verdict is true but Yes. So where `check`
+/// doesn't stop, it answers Yes exactly there.
+pub fn only_yes()
+    ensures { OnlyYes }
+{
+    lnt_lines::laws::good_has_no_flaw();
+    lnt_records::laws::one_table();
+    lnt_records::laws::no_fault();
+}
+
+/// Of a good section, and the table that `write_table` wrote of its lines in either version, no verdict is true but Yes.
+pub fn own_table()
+    ensures { OwnTable }
+{
+    only_yes();
+}

@@ -1,0 +1,71 @@
+//! What a check answers.
+ghost use Rattle.std.specs.Prelude.{◌≡◌};
+ghost use Rattle.lnt_table.specs.Verdicts.{verdict_of};
+
+use lnt_lines::No;
+use lnt_records::{Compared, TableFault};
+use lnt_spans::{Answer, Position};
+
+/// Whether a table answers as a section does.
+#[derive(Clone, Copy, Debug, PartialEq, Eq)]
+pub enum Verdict {
+    /// The section is good, and the table answers as it does at every position.
+    Yes,
+    /// It isn't so, and this is the first reason.
+    No(TableNo),
+}
+
+/// Why a table doesn't answer as a section does. Each reason has a number, from 25 to 32 for the section and from 36 to
+/// 40 for the table.
+///
+/// The first one is told. The section is judged before the table is read, and the records of the table are judged
+/// before answers are compared. Records and columns count from 0, so the first span is record 1.
+#[derive(Clone, Copy, Debug, PartialEq, Eq)]
+pub enum TableNo {
+    /// 25 to 32: the section isn't good, for this reason.
+    Section(No),
+    /// 36: the table has no record 0, or that names other columns than those of either version.
+    Header,
+    /// 37: this record hasn't as many fields as the table has columns.
+    Fields(u64),
+    /// 38: in this record, this column is the first that holds no number of its kind.
+    Number {
+        /// The record.
+        record: u64,
+        /// The column.
+        column: u64,
+    },
+    /// 39: the span of this record is empty, or begins below the end of the span before it.
+    Order(u64),
+    /// 40: the least position at which the two answer differently, with both answers there, as the version of the table
+    /// tells answers. None where a side answers nothing.
+    Differs {
+        /// The position.
+        position: Position,
+        /// What the table answers.
+        by_table: Option<Answer>,
+        /// What the section answers.
+        by_section: Option<Answer>,
+    },
+}
+
+// What a comparison of the table with a good section makes of the two.
+pub(crate) fn verdict_of(compared: Compared) -> Verdict
+    ensures { result ≡ verdict_of compared }
+{
+    match compared {
+        Compared::Same => Verdict::Yes,
+        Compared::Fault(TableFault::Header) => Verdict::No(TableNo::Header),
+        Compared::Fault(TableFault::Fields(record)) => Verdict::No(TableNo::Fields(record)),
+        Compared::Fault(TableFault::Number(record, column)) => Verdict::No(TableNo::Number {
+            record,
+            column,
+        }),
+        Compared::Fault(TableFault::Order(record)) => Verdict::No(TableNo::Order(record)),
+        Compared::Differs(difference) => Verdict::No(TableNo::Differs {
+            position: difference.position,
+            by_table: difference.by_table,
+            by_section: difference.by_section,
+        }),
+    }
+}

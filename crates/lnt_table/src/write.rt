@@ -1,0 +1,32 @@
+//! The table of a section's lines, written.
+ghost use Rattle.std.specs.Prelude.{ℕ, List, OnOk};
+ghost use Rattle.std.specs.Io.KnownBytes.{Appends};
+ghost use Rattle.lnt_table.specs.Written.{IsTableOfLines};
+
+use lnt_lines::Lines;
+use lnt_records::{WriteStop, write_spans};
+use lnt_spans::Version;
+use std::alloc::Global;
+use std::io::Write;
+
+/// Writes the table of some lines in a version, block by block.
+///
+/// Where it answers Ok, the writer has gained bytes that are a table of exactly the canonical spans of the lines, which
+/// is the one shortest table that answers as the lines do, as far as the version tells. Each record is on a line of its
+/// own.
+///
+/// It stops by `Memory` (33) where memory ran out, and by `Write` (42) where the writer refused some bytes; then nothing
+/// is said of what the writer gained.
+pub fn write_table<W: Write>(
+    alloc: Global,
+    lines: &Lines,
+    version: Version,
+    out: &mut W,
+) -> Result<(), WriteStop>
+    ensures { OnOk result ((bytes : List ℕ) × Appends (W.contents out.old) (W.contents out.new) bytes × IsTableOfLines version lines.now.spans bytes) }
+{
+    let Ok(spans) = lines.canonical(alloc, version) else {
+        return Err(WriteStop::Memory);
+    };
+    write_spans(alloc, &spans, version, out)
+}

@@ -1,0 +1,55 @@
+#!/usr/bin/env bash
+# Tables of the example sections, checked against them, whole and changed; sections converted and back.
+cd "$(dirname "$0")/.." || exit 1
+. tests/check.bash
+
+# Changes one digit of the last number of a record.
+changed() { # RECORD FILE
+  awk -F , -v OFS=, -v at="$1" 'NR == at + 1 { $7 = $7 + 1 } { print }' "$2"
+}
+
+judge() { # NAME [OPTION..]
+  local section=examples/$1.debug_line strings=examples/$1.debug_line_str records
+  local words=("${@:2}" --line-str "$strings")
+  ./linetab table "$section" "${words[@]}" >"$work/table"
+  ./linetab table --wide "$section" "${words[@]}" >"$work/wide"
+  expect "$1 and its table" 0 $'yes\n' '' ./linetab check "$section" "$work/table" "${words[@]}"
+  expect "$1 and its wide table" 0 $'yes\n' '' ./linetab check "$section" "$work/wide" "${words[@]}"
+  expect "$1 and its table on standard input" 0 $'yes\n' '' ./linetab check "$section" - "${words[@]}" <"$work/table"
+  records=$(($(wc -l <"$work/table") - 1))
+  # Three records, picked by a fixed rule, with another line.
+  for record in 1 $((records / 3 + 1)) "$records"; do
+    changed "$record" "$work/table" >"$work/other"
+    IFS=, read -r low op _ _ unit file line column stmt < <(sed -n "$((record + 1))p" "$work/table")
+    expect "$1 and its table with another line in record $record" 1 \
+      "no 40 differs at $low,$op table $unit,$file,$((line + 1)),$column,$stmt section $unit,$file,$line,$column,$stmt"$'\n' '' \
+      ./linetab check "$section" "$work/other" "${words[@]}"
+  done
+  head -n -1 "$work/table" >"$work/other"
+  IFS=, read -r low op _ _ rest < <(tail -n 1 "$work/table")
+  expect "$1 and its table without the last record" 1 "no 40 differs at $low,$op table none section $rest"$'\n' '' \
+    ./linetab check "$section" "$work/other" "${words[@]}"
+}
+
+# A section in both formats and orders has the same operations, and rows, and comes back as it was.
+convert() { # NAME [--big]
+  local section=examples/$1.debug_line order=little
+  [ "${2:-}" = --big ] && order=big
+  local format
+  format=$(./linetab units "${@:2}" "$section" | awk 'NR == 1 { print $2 }')
+  ./linetab convert "${@:2}" "$section" --format 64 --order big >"$work/wide_section"
+  ./linetab convert --big "$work/wide_section" --format "$format" --order "$order" >"$work/again"
+  ./linetab dump --ops --rows "${@:2}" "$section" | grep -v '^unit' >"$work/dump"
+  expect "$1 in the 64-bit format, big-endian" 0 "$(cat "$work/dump")"$'\n' '' bash -c "./linetab dump --ops --rows --big '$work/wide_section' | grep -v '^unit'"
+  expect "$1 and back" 0 '' '' cmp "$section" "$work/again"
+}
+
+judge hello
+judge hello-clang
+judge gc-sections --dead 0x0
+judge powerpc64 --big
+for name in hello hello-clang gc-sections; do
+  convert "$name"
+done
+convert powerpc64 --big
+finish
