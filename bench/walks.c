@@ -65,6 +65,60 @@ struct header {
     const uint8_t *lengths;
 };
 
+static inline int skip(struct cursor *cursor, uint64_t count) {
+    if (count > (uint64_t)(cursor->end - cursor->at))
+        return 0;
+    cursor->at += count;
+    return 1;
+}
+
+// A value of a form, in the 32-bit format.
+static int value(struct cursor *cursor, uint64_t form) {
+    uint64_t count = 0;
+    const uint8_t *zero;
+    switch (form) {
+    case 0x08:
+        zero = memchr(cursor->at, 0, (size_t)(cursor->end - cursor->at));
+        return zero && skip(cursor, (uint64_t)(zero - cursor->at) + 1);
+    case 0x0b:
+        return skip(cursor, 1);
+    case 0x05:
+        return skip(cursor, 2);
+    case 0x06:
+    case 0x0e:
+    case 0x1f:
+        return skip(cursor, 4);
+    case 0x07:
+        return skip(cursor, 8);
+    case 0x1e:
+        return skip(cursor, 16);
+    case 0x0f:
+        return uleb(cursor, &count);
+    case 0x09:
+        return uleb(cursor, &count) && skip(cursor, count);
+    default:
+        return 0;
+    }
+}
+
+// A table of a header, of which nothing is kept.
+static int table(struct cursor *cursor) {
+    uint64_t forms[255], content, size;
+    if (cursor->at == cursor->end)
+        return 0;
+    unsigned pairs = *cursor->at++;
+    for (unsigned i = 0; i < pairs; i++)
+        if (!uleb(cursor, &content) || !uleb(cursor, &forms[i]))
+            return 0;
+    if (!uleb(cursor, &size) || (pairs == 0 && size > 0))
+        return 0;
+    for (; size > 0; size--)
+        for (unsigned i = 0; i < pairs; i++)
+            if (!value(cursor, forms[i]))
+                return 0;
+    return 1;
+}
+
 struct row {
     uint64_t address, op_index, file, line, column, isa, discriminator;
     uint8_t is_stmt, basic_block, end_sequence, prologue_end, epilogue_begin;
@@ -212,7 +266,7 @@ static inline int program(struct cursor c, const struct header *h, int rows, uin
     return 1;
 }
 
-// The sum over a little-endian section of the 32-bit format. The tables of headers are passed over.
+// The sum over a little-endian section of the 32-bit format. The tables of headers are read, and not kept.
 static uint64_t sum_of_section(const uint8_t *bytes, size_t length, int rows) {
     uint64_t sum = 0;
     const uint8_t *at = bytes, *end = bytes + length;
@@ -225,6 +279,9 @@ static uint64_t sum_of_section(const uint8_t *bytes, size_t length, int rows) {
         const uint8_t *p = at + 12;
         struct header h = {at[6], p[0], p[1], p[2], p[4], p[5], (int8_t)p[3], p + 6};
         if (h.max_ops == 0 || h.line_range == 0 || h.opcode_base == 0 || h.address_size > 8)
+            break;
+        struct cursor tables = {p + 6, p + header_length};
+        if (header_length < 6 || !skip(&tables, h.opcode_base - 1u) || !table(&tables) || !table(&tables))
             break;
         struct cursor c = {p + header_length, at + 4 + unit_length};
         if (!program(c, &h, rows, &sum))

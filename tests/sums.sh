@@ -1,0 +1,19 @@
+#!/usr/bin/env bash
+# The listed sum of a program that clang compiled, where it is here: its source as it was, changed and gone.
+cd "$(dirname "$0")/.." || exit 1
+. tests/check.bash
+for tool in clang objcopy; do
+  command -v "$tool" >/dev/null || { echo "skipped: $tool isn't here"; finish; }
+done
+folder=$(cd "$work" && pwd -P)
+source=$folder/sum.c
+echo 'int main(void) { return 0; }' >"$source"
+(cd "$folder" && clang -gdwarf-5 -o sum sum.c && objcopy --dump-section .debug_line=line --dump-section .debug_line_str=line_str sum) || exit 1
+sums=(./linetab md5 "$folder/line" --line-str "$folder/line_str")
+expect 'a source as it was' 0 "unit 0 file 0 same \"$source\""$'\n' '' "${sums[@]}"
+echo '// changed' >>"$source"
+sum=$(md5sum "$source" | cut -d ' ' -f 1)
+expect 'a source that was changed' 1 "unit 0 file 0 differs $sum \"$source\""$'\n' '' "${sums[@]}"
+rm "$source"
+expect 'a source that is gone' 1 "unit 0 file 0 unreadable \"$source\""$'\n' '' "${sums[@]}"
+finish
