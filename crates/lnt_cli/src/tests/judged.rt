@@ -1,5 +1,5 @@
 use super::{OneFile, PLAIN};
-use crate::{CliStop, Opener, Status, run};
+use crate::{Opener, Status, run};
 use std::alloc::{AllocError, Global};
 use std::io::{self, Read};
 use std::test::Fail;
@@ -195,6 +195,15 @@ fn sections_that_are_not_good(rt: HostRuntime) -> Result<(), Fail> {
     Ok(())
 }
 
+// What the command prints of a section with these bytes in the file of strings.
+fn with_strings(alloc: Global, unit: &[u8], strings: &[u8], line: &str) -> Result<String, Fail> {
+    let files = Files {
+        strings,
+        ..section(unit)
+    };
+    Ok(printed(alloc, files, line)?.0)
+}
+
 #[test]
 fn strings_in_their_own_files(rt: HostRuntime) -> Result<(), Fail> {
     let alloc = rt.alloc();
@@ -208,30 +217,22 @@ fn strings_in_their_own_files(rt: HostRuntime) -> Result<(), Fail> {
     if let Some(low) = unit.get_mut(8) {
         *low = 0x2a;
     }
-    for (strings, line, text) in [
-        (
-            b"/s\0".as_slice(),
-            "linetab lookup --line-str L F 0x1000",
-            "0x1000,0 unit 0 file 1 line 3 column 0 stmt 1 path \"/s/a.c\"\n",
-        ),
-        (
-            b"/s",
-            "linetab lookup --line-str L F 0x1000",
-            "no 28 string outside unit 0x0 directories entry 0\n",
-        ),
-        (
-            b"/s\0",
-            "linetab lookup --str L F 0x1000",
-            "no 28 string outside unit 0x0 directories entry 0\n",
-        ),
-    ] {
-        let files = Files {
-            strings,
-            ..section(&unit)
-        };
-        let (given, _) = printed(alloc, files, line)?;
-        assert_eq!(rt; given.as_str(), text);
-    }
+    let path = "0x1000,0 unit 0 file 1 line 3 column 0 stmt 1 path \"/s/a.c\"\n";
+    let outside = "no 28 string outside unit 0x0 directories entry 0\n";
+    let line_strings = "linetab lookup --line-str L F 0x1000";
+    let strings = "linetab lookup --str L F 0x1000";
+    assert_eq!(rt;
+        with_strings(alloc, &unit, b"/s\0", line_strings)?.as_str(),
+        path
+    );
+    assert_eq!(rt;
+        with_strings(alloc, &unit, b"/s", line_strings)?.as_str(),
+        outside
+    );
+    assert_eq!(rt;
+        with_strings(alloc, &unit, b"/s\0", strings)?.as_str(),
+        outside
+    );
     Ok(())
 }
 
@@ -301,29 +302,31 @@ fn converted_sections(rt: HostRuntime) -> Result<(), Fail> {
 #[test]
 fn bad_words(rt: HostRuntime) -> Result<(), Fail> {
     let alloc = rt.alloc();
-    for (line, word) in [
-        ("linetab lookup F 1005", "1005"),
-        ("linetab lookup G 0X1005 --op x", "0X1005"),
-        ("linetab lookup F 0x1005 --op 0x7 --dead y", "0x7"),
-        ("linetab check F T --dead 7", "7"),
-        ("linetab convert F --format 16 --order x", "16"),
-        ("linetab convert F --format 32 --order x", "x"),
+    for (line, text) in [
+        ("linetab lookup F 1005", "linetab: bad word 1005\n"),
+        (
+            "linetab lookup G 0X1005 --op x",
+            "linetab: bad word 0X1005\n",
+        ),
+        (
+            "linetab lookup F 0x1005 --op 0x7 --dead y",
+            "linetab: bad word 0x7\n",
+        ),
+        ("linetab check F T --dead 7", "linetab: bad word 7\n"),
+        (
+            "linetab convert F --format 16 --order x",
+            "linetab: bad word 16\n",
+        ),
+        (
+            "linetab convert F --format 32 --order x",
+            "linetab: bad word x\n",
+        ),
     ] {
         let mut out = Vec::new(alloc);
-        match run(
-            alloc,
-            super::words(alloc, line)?,
-            &mut section(&PLAIN),
-            &mut out,
-        ) {
-            Err(CliStop::Usage(text)) => {
-                let found = text.as_str().strip_prefix("linetab: bad word ");
-                assert_eq!(rt;
-                    found.and_then(|found| found.strip_suffix('\n')),
-                    Some(word)
-                );
-            }
-            _ => assert!(rt; false, "for {line}"),
+        let words = super::words(alloc, line)?;
+        match run(alloc, words, &mut section(&PLAIN), &mut out) {
+            Ok(_) => assert!(rt; false, "for {line}"),
+            Err(stop) => assert_eq!(rt; stop.to_string(alloc)?.as_str(), text),
         }
         assert!(rt; out.is_empty());
     }
