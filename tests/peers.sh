@@ -1,6 +1,7 @@
 #!/usr/bin/env bash
 # Compares what the program says of a section with what llvm-dwarfdump and readelf say of it, where they are there.
-# peers.sh [SECTION LINE_STR little|big]..: the raw sections; with no words, those of examples/.
+# peers.sh [SECTION LINE_STR little|big DEAD]..: the raw sections, each with the 16 digits of the address at which its
+# discarded sequences begin, or - where there are none; with no words, those of examples/.
 cd "$(dirname "$0")/.." || exit 1
 . tests/check.bash
 
@@ -23,10 +24,11 @@ same() {
   diff "$work/theirs" "$work/ours" | head -n 10
 }
 
-compare() { # SECTION LINE_STR ORDER
-  local big=
+compare() { # SECTION LINE_STR ORDER DEAD
+  local big= dead=()
   [ "$3" = big ] && big=--big
-  image "$@" || { failed=$((failed + 1)); echo "failed: no image of $1"; return; }
+  [ "$4" = - ] || dead=(--dead "$4")
+  image "$1" "$2" "$3" || { failed=$((failed + 1)); echo "failed: no image of $1"; return; }
   ./linetab dump $big "$1" | awk -f tests/peers/ours.awk >"$work/headers"
   cp "$work/headers" "$work/ours"
   llvm-dwarfdump --debug-line --verbose "$work/image" | awk -f tests/peers/llvm.awk >"$work/theirs"
@@ -41,19 +43,23 @@ compare() { # SECTION LINE_STR ORDER
   ./linetab dump --rows $big "$1" | awk '$1 == "row" { print $1, $2, $3, $5, $6, $7 % 65536, $8, $9, $10, $11 }' >"$work/ours"
   llvm-dwarfdump --debug-line "$work/image" | awk -f tests/peers/llvm_rows.awk >"$work/theirs"
   same "rows of $1 by llvm-dwarfdump"
+  { echo low,low_op,high,high_op,unit,file,line,column,is_stmt
+    llvm-dwarfdump --debug-line "$work/image" | awk -v dead="$4" -f tests/peers/llvm_table.awk | LC_ALL=C sort; } >"$work/table"
+  expect "$1 and a table of llvm-dwarfdump's rows" 0 $'yes\n' '' ./linetab check $big "${dead[@]}" "$1" "$work/table" --line-str "$2"
 }
 
 for tool in llvm-objcopy llvm-dwarfdump readelf; do
   command -v "$tool" >/dev/null || { echo "skipped: $tool isn't here"; finish; }
 done
 if [ $# -eq 0 ]; then
-  for name in hello hello-clang gc-sections; do
-    set -- "$@" "examples/$name.debug_line" "examples/$name.debug_line_str" little
+  for name in hello hello-clang; do
+    set -- "$@" "examples/$name.debug_line" "examples/$name.debug_line_str" little -
   done
-  set -- "$@" examples/powerpc64.debug_line examples/powerpc64.debug_line_str big
+  set -- "$@" examples/gc-sections.debug_line examples/gc-sections.debug_line_str little 0x0000000000000000
+  set -- "$@" examples/powerpc64.debug_line examples/powerpc64.debug_line_str big -
 fi
-while [ $# -ge 3 ]; do
-  compare "$1" "$2" "$3"
-  shift 3
+while [ $# -ge 4 ]; do
+  compare "$1" "$2" "$3" "$4"
+  shift 4
 done
 finish
