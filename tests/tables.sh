@@ -44,6 +44,29 @@ convert() { # NAME [--big]
   expect "$1 and back" 0 '' '' cmp "$section" "$work/again"
 }
 
+# A thousand units, each of two rows at an address of its own.
+many() {
+  local all address k
+  local start=430000000500080029000000 numbers=010101fb0e0d000101010100000001000001
+  local directories=010108012f7300 files=020108020b02612e630000612e630000
+  all=$(awk -v header="$start$numbers$directories$files" 'BEGIN {
+    for (k = 0; k < 1000; k++) {
+      address = 4096 + 16 * k
+      printf "%s000902%02x%02x000000000000144b0202000101", header, address % 256, int(address / 256)
+    }
+  }')
+  bytes "$all" >"$work/many"
+  ./linetab table "$work/many" >"$work/table"
+  expect 'a thousand units' 0 $'2001\n' '' bash -c "wc -l <'$work/table'"
+  expect 'a thousand units and their table' 0 $'yes\n' '' ./linetab check "$work/many" "$work/table"
+  head -n -2 "$work/table" >"$work/other"
+  expect 'a thousand units and a table without the last of them' 1 $'no 40 differs at 0x4e70,0 table none section 70929,1,3,0,1\n' '' ./linetab check "$work/many" "$work/other"
+  for k in 0 1 500 999; do
+    address=$(printf '0x%x' $((4096 + 16 * k)))
+    expect "the first row of unit $k" 0 "$address,0 unit $((71 * k)) file 1 line 3 column 0 stmt 1 path \"/s/a.c\""$'\n' '' ./linetab lookup "$work/many" "$address"
+  done
+}
+
 judge hello
 judge hello-clang
 judge gc-sections --dead 0x0
@@ -52,4 +75,5 @@ for name in hello hello-clang gc-sections; do
   convert "$name"
 done
 convert powerpc64 --big
+many
 finish
