@@ -116,7 +116,7 @@ impl Header {
     pub fn with_format(self, format: Format, order: Order) -> Header
         ensures { result ≡ in_format self format order }
     {
-        let Header { parts } = self;
+        let parts = self.into_parts();
         Header {
             parts: HeaderParts {
                 format,
