@@ -255,37 +255,45 @@ fn a_large_offset_has_no_spelling(rt: HostRuntime) -> Result<(), Fail> {
     Ok(())
 }
 
+// Why no header has the parts.
+fn refused(parts: HeaderParts) -> Option<UnitFault> {
+    match Header::new(parts) {
+        Ok(_header) => None,
+        Err((fault, _parts)) => Some(fault),
+    }
+}
+
 #[test]
-fn parts_of_no_header(rt: HostRuntime) -> Result<(), Fail> {
+fn parts_without_their_numbers(rt: HostRuntime) -> Result<(), Fail> {
     let alloc = rt.alloc();
     let mut no_format = parts(alloc, Form::Text, text(alloc, b"/s")?)?;
     no_format.directory_format = Items::new(Vec::new(alloc));
+    assert_eq!(rt; refused(no_format), Some(UnitFault::HeaderNumber));
     let mut lengths = parts(alloc, Form::Text, text(alloc, b"/s")?)?;
     lengths.opcode_base = 2;
+    assert_eq!(rt; refused(lengths), Some(UnitFault::HeaderNumber));
+    Ok(())
+}
+
+#[test]
+fn parts_with_wrong_entries(rt: HostRuntime) -> Result<(), Fail> {
+    let alloc = rt.alloc();
+    let no_format = Some(UnitFault::EntryNotOfFormat(Which::Directories, 0));
+    let other = parts(alloc, Form::Data1, FormValue::Udata(1))?;
+    assert_eq!(rt; refused(other), no_format);
+    let long = Items::new(Vec::from_slice(alloc, &[7; 256])?);
+    let block = parts(alloc, Form::Block1, FormValue::Block1(long))?;
+    assert_eq!(rt; refused(block), no_format);
+    let zero = parts(alloc, Form::Text, text(alloc, b"/\0")?)?;
+    assert_eq!(rt;
+        refused(zero),
+        Some(UnitFault::TextHoldsZero(Which::Directories, 0))
+    );
     let mut files = parts(alloc, Form::Text, text(alloc, b"/s")?)?;
     (files.file_format, files.files) = table(alloc, Form::Text, text(alloc, &[0])?)?;
-    let long = Vec::from_slice(alloc, &[7; 256])?;
-    for (parts, fault) in [
-        (no_format, UnitFault::HeaderNumber),
-        (lengths, UnitFault::HeaderNumber),
-        (
-            parts(alloc, Form::Data1, FormValue::Udata(1))?,
-            UnitFault::EntryNotOfFormat(Which::Directories, 0),
-        ),
-        (
-            parts(alloc, Form::Block1, FormValue::Block1(Items::new(long)))?,
-            UnitFault::EntryNotOfFormat(Which::Directories, 0),
-        ),
-        (
-            parts(alloc, Form::Text, text(alloc, b"/\0")?)?,
-            UnitFault::TextHoldsZero(Which::Directories, 0),
-        ),
-        (files, UnitFault::TextHoldsZero(Which::Files, 0)),
-    ] {
-        match Header::new(parts) {
-            Ok(_) => assert!(rt; false, "no {fault:?}"),
-            Err((found, _)) => assert_eq!(rt; found, fault),
-        }
-    }
+    assert_eq!(rt;
+        refused(files),
+        Some(UnitFault::TextHoldsZero(Which::Files, 0))
+    );
     Ok(())
 }
