@@ -24,6 +24,26 @@ same() {
   diff "$work/theirs" "$work/ours" | head -n 10
 }
 
+# What `lookup` says at a sample of the table's addresses, always the same, and outside of all its records.
+lookups() { # WORD..
+  local records low high unit file line column stmt at
+  RANDOM=1
+  mapfile -t records < <(tail -n +2 "$work/table")
+  : >"$work/ours" >"$work/theirs"
+  for _ in {1..20}; do
+    IFS=, read -r low _ high _ unit file line column stmt <<<"${records[(RANDOM * 32768 + RANDOM) % ${#records[@]}]}"
+    at=$(printf '0x%x' $((low + RANDOM % (high - low))))
+    ./linetab lookup "$@" "$at" | sed 's/ path .*//' >>"$work/ours"
+    echo "$at,0 unit $unit file $file line $line column $column stmt $stmt" >>"$work/theirs"
+  done
+  IFS=, read -r low _ <<<"${records[0]}"
+  IFS=, read -r _ _ high _ <<<"${records[-1]}"
+  for at in $(printf '0x%x 0x%x' $((low - 1)) $((high))); do
+    ./linetab lookup "$@" "$at" >>"$work/ours"
+    echo "$at,0 none" >>"$work/theirs"
+  done
+}
+
 compare() { # SECTION LINE_STR ORDER DEAD
   local big= dead=()
   [ "$3" = big ] && big=--big
@@ -46,6 +66,8 @@ compare() { # SECTION LINE_STR ORDER DEAD
   { echo low,low_op,high,high_op,unit,file,line,column,is_stmt
     llvm-dwarfdump --debug-line "$work/image" | awk -v dead="$4" -f tests/peers/llvm_table.awk | LC_ALL=C sort; } >"$work/table"
   expect "$1 and a table of llvm-dwarfdump's rows" 0 $'yes\n' '' ./linetab check $big "${dead[@]}" "$1" "$work/table" --line-str "$2"
+  lookups $big "${dead[@]}" "$1" --line-str "$2"
+  same "lookups in $1 by llvm-dwarfdump"
 }
 
 for tool in llvm-objcopy llvm-dwarfdump readelf; do

@@ -6,12 +6,13 @@ ghost use Rattle.lnt_cli.specs.Stops.{IsUsage};
 use crate::convert::print_converted;
 use crate::dump::print_dump;
 use crate::halt::Halt;
-use crate::judged::{lines_of, print_check, print_lookup, print_table};
+use crate::judged::{Judging, lines_of, print_check, print_lookup, print_table};
 use crate::opener::{Opener, open_file};
 use crate::stop::{CliStop, Status};
 use crate::sums::print_sums;
 use crate::units::print_units;
-use crate::words::{Request, request_of};
+use crate::words::{Question, Reading, Request, request_of};
+use lnt_wire::Order;
 use std::alloc::Global;
 use std::io::Write;
 
@@ -33,53 +34,57 @@ pub fn run<O: Opener, W: Write>(
             out.write_all(text.as_bytes())?;
             Ok(Status::Done)
         }
-        Request::Units { section, order } => {
-            let mut source = open_file(alloc, opener, section)?;
-            let ended = print_units(alloc, &mut source, order, out);
-            of_file(alloc, section, ended)
-        }
-        Request::Dump {
+        Request::Read {
             section,
             order,
-            shown,
-        } => {
-            let mut source = open_file(alloc, opener, section)?;
-            let ended = print_dump(alloc, &mut source, order, shown, out);
-            of_file(alloc, section, ended)
-        }
-        Request::Lookup { from, position } => match lines_of(alloc, &from, opener, out)? {
-            Some(lines) => {
-                let ended = print_lookup(alloc, &lines, position, out);
-                of_file(alloc, from.section, ended)
-            }
-            None => Ok(Status::No),
-        },
+            reading,
+        } => read_section(alloc, section, order, reading, opener, out),
+        Request::Judge { from, question } => answer(alloc, &from, question, opener, out),
         Request::Check { from, table } => print_check(alloc, &from, table, opener, out),
-        Request::Table { from, version } => match lines_of(alloc, &from, opener, out)? {
-            Some(lines) => {
-                let ended = print_table(alloc, &lines, version, out);
-                of_file(alloc, from.section, ended)
-            }
-            None => Ok(Status::No),
-        },
-        Request::Convert {
-            section,
-            order,
-            format,
-            to,
-        } => {
-            let mut source = open_file(alloc, opener, section)?;
-            let ended = print_converted(alloc, &mut source, order, format, to, out);
-            of_file(alloc, section, ended)
-        }
-        Request::Md5 { from } => match lines_of(alloc, &from, opener, out)? {
-            Some(lines) => {
-                let ended = print_sums(alloc, &lines, opener, out);
-                of_file(alloc, from.section, ended)
-            }
-            None => Ok(Status::No),
-        },
     }
+}
+
+// Reads a section without judging its lines.
+fn read_section<O: Opener, W: Write>(
+    alloc: Global,
+    section: &str,
+    order: Order,
+    reading: Reading,
+    opener: &mut O,
+    out: &mut W,
+) -> Result<Status, CliStop>
+    ensures { IfErr result (λ stop. IsUsage stop → ⊥) }
+{
+    let mut source = open_file(alloc, opener, section)?;
+    let ended = match reading {
+        Reading::Units => print_units(alloc, &mut source, order, out),
+        Reading::Dump(shown) => print_dump(alloc, &mut source, order, shown, out),
+        Reading::Convert { format, to } => {
+            print_converted(alloc, &mut source, order, format, to, out)
+        }
+    };
+    of_file(alloc, section, ended)
+}
+
+// Answers a question about a good section. Of another one its line is printed.
+fn answer<O: Opener, W: Write>(
+    alloc: Global,
+    from: &Judging<'_>,
+    question: Question,
+    opener: &mut O,
+    out: &mut W,
+) -> Result<Status, CliStop>
+    ensures { IfErr result (λ stop. IsUsage stop → ⊥) }
+{
+    let Some(lines) = lines_of(alloc, from, opener, out)? else {
+        return Ok(Status::No);
+    };
+    let ended = match question {
+        Question::Lookup(position) => print_lookup(alloc, &lines, position, out),
+        Question::Table(version) => print_table(alloc, &lines, version, out),
+        Question::Md5 => print_sums(alloc, &lines, opener, out),
+    };
+    of_file(alloc, from.section, ended)
 }
 
 // How the work on the file of this name ended.

@@ -16,43 +16,44 @@ use std::alloc::Global;
 pub(crate) enum Request<'a> {
     // A help text.
     Help(String),
-    // A line for each unit of a section.
-    Units {
+    // What the units of a section are.
+    Read {
         section: &'a str,
         order: Order,
+        reading: Reading,
     },
-    // The units of a section, with their headers.
-    Dump {
-        section: &'a str,
-        order: Order,
-        shown: Shown,
-    },
-    // The answer at a position.
-    Lookup {
+    // What a good section says.
+    Judge {
         from: Judging<'a>,
-        position: Position,
+        question: Question,
     },
     // Whether a table answers as a section does.
     Check {
         from: Judging<'a>,
         table: &'a str,
     },
-    // The address table of a section.
-    Table {
-        from: Judging<'a>,
-        version: Version,
-    },
-    // A section in another format and byte order.
-    Convert {
-        section: &'a str,
-        order: Order,
-        format: Format,
-        to: Order,
-    },
+}
+
+// How a section is read whose lines aren't judged.
+#[derive(Clone, Copy)]
+pub(crate) enum Reading {
+    // A line for each unit.
+    Units,
+    // The units with their headers.
+    Dump(Shown),
+    // The section in another format and byte order.
+    Convert { format: Format, to: Order },
+}
+
+// What is asked of a good section.
+#[derive(Clone, Copy)]
+pub(crate) enum Question {
+    // The answer at a position.
+    Lookup(Position),
+    // Its address table.
+    Table(Version),
     // Whether files have the sums that are listed.
-    Md5 {
-        from: Judging<'a>,
-    },
+    Md5,
 }
 
 // What the words ask for, of which the first is the program's name.
@@ -73,37 +74,50 @@ pub(crate) fn request_of<'a>(alloc: Global, words: &'a [String]) -> Result<Reque
 
 fn request_in<'a>(alloc: Global, matches: &ArgMatches<'a>) -> Result<Request<'a>, CliStop> {
     match matches.subcommand() {
-        Some(("units", words)) => Ok(Request::Units {
-            section: word_in(words, "SECTION")?,
-            order: order_in(words),
-        }),
-        Some(("dump", words)) => Ok(Request::Dump {
-            section: word_in(words, "SECTION")?,
-            order: order_in(words),
-            shown: Shown {
+        Some(("units", words)) => read_in(words, Reading::Units),
+        Some(("dump", words)) => {
+            let shown = Shown {
                 ops: words.get_flag("ops"),
                 rows: words.get_flag("rows"),
-            },
-        }),
+            };
+            read_in(words, Reading::Dump(shown))
+        }
         Some(("lookup", words)) => lookup_in(alloc, words),
         Some(("check", words)) => Ok(Request::Check {
             from: judging_in(alloc, words)?,
             table: word_in(words, "TABLE")?,
         }),
-        Some(("table", words)) => Ok(Request::Table {
-            from: judging_in(alloc, words)?,
-            version: if words.get_flag("wide") {
+        Some(("table", words)) => {
+            let version = if words.get_flag("wide") {
                 Version::Two
             } else {
                 Version::One
-            },
-        }),
+            };
+            judge_in(alloc, words, Question::Table(version))
+        }
         Some(("convert", words)) => convert_in(alloc, words),
-        Some(("md5", words)) => Ok(Request::Md5 {
-            from: judging_in(alloc, words)?,
-        }),
+        Some(("md5", words)) => judge_in(alloc, words, Question::Md5),
         _ => Err(CliStop::Memory),
     }
+}
+
+fn read_in<'a>(words: &ArgMatches<'a>, reading: Reading) -> Result<Request<'a>, CliStop> {
+    Ok(Request::Read {
+        section: word_in(words, "SECTION")?,
+        order: order_in(words),
+        reading,
+    })
+}
+
+fn judge_in<'a>(
+    alloc: Global,
+    words: &ArgMatches<'a>,
+    question: Question,
+) -> Result<Request<'a>, CliStop> {
+    Ok(Request::Judge {
+        from: judging_in(alloc, words)?,
+        question,
+    })
 }
 
 fn lookup_in<'a>(alloc: Global, words: &ArgMatches<'a>) -> Result<Request<'a>, CliStop> {
@@ -112,10 +126,7 @@ fn lookup_in<'a>(alloc: Global, words: &ArgMatches<'a>) -> Result<Request<'a>, C
         Some(word) => number_of(alloc, word)?,
         None => 0,
     };
-    Ok(Request::Lookup {
-        from: judging_in(alloc, words)?,
-        position: Position { address, op },
-    })
+    judge_in(alloc, words, Question::Lookup(Position { address, op }))
 }
 
 fn convert_in<'a>(alloc: Global, words: &ArgMatches<'a>) -> Result<Request<'a>, CliStop> {
@@ -129,12 +140,7 @@ fn convert_in<'a>(alloc: Global, words: &ArgMatches<'a>) -> Result<Request<'a>, 
         "big" => Order::Big,
         word => return Err(bad_word(alloc, word)),
     };
-    Ok(Request::Convert {
-        section: word_in(words, "SECTION")?,
-        order: order_in(words),
-        format,
-        to,
-    })
+    read_in(words, Reading::Convert { format, to })
 }
 
 // A section that is judged, with its strings and the marker of dead code.
