@@ -12,6 +12,7 @@ pub fn borders()
 
 /// Of a good section, and a table that answers as it does at every position, no verdict is true but Yes. So where `check`
 /// doesn't stop, it answers Yes exactly there.
+#[tactic(auto, using(crate::proofs::LawLemmas::only_yes))]
 pub fn only_yes()
     ensures { OnlyYes }
 {
@@ -21,6 +22,7 @@ pub fn only_yes()
 }
 
 /// Of a good section, and the table that `write_table` wrote of its lines in either version, no verdict is true but Yes.
+#[tactic(auto, using(crate::proofs::LawLemmas::own_table))]
 pub fn own_table()
     ensures { OwnTable }
 {
