@@ -91,6 +91,7 @@ impl Watch {
     /// rows (DWARF 5, section 6.2.4). None where each of them names one of the unit's files.
     ///
     /// The answer is of a unit all of whose rows the watch has seen, and whose program runs.
+    #[tactic(auto, using(crate::proofs::EvidenceLemmas::files_judged))]
     pub fn missing_file(&self) -> Option<MissingFile>
         ensures { (dead : Option ℕ) (unit files : ℕ) (rows : List Row) → HasSeenAll dead unit files self.now rows
             → MatchOption result (HaveFiles files (live_of dead (placed_rows unit rows))) (IsFirstMissingFile dead files (placed_rows unit rows)) }
@@ -102,6 +103,7 @@ impl Watch {
     /// same live sequence (DWARF 5, section 6.2.5). None where positions never fall in a live sequence.
     ///
     /// The answer is of a unit all of whose rows the watch has seen, and whose program runs.
+    #[tactic(auto, using(crate::proofs::EvidenceLemmas::falls_judged))]
     pub fn falls(&self) -> Option<u64>
         ensures { (dead : Option ℕ) (unit files : ℕ) (rows : List Row) → HasSeenAll dead unit files self.now rows
             → MatchOption result (AreOrdered (live_of dead (placed_rows unit rows))) (IsFirstFall dead (placed_rows unit rows)) }
