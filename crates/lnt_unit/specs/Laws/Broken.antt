@@ -15,7 +15,7 @@ use Rattle.lnt_wire.specs.declared.fault.Reason.TheVariants.{Truncated, Reserved
 use Rattle.lnt_wire.specs.declared.format.Format.{Format}
 use Rattle.lnt_wire.specs.declared.format.Order.{Order}
 use Rattle.lnt_wire.specs.declared.format.Order.TheVariants.{Little, Big}
-use Rattle.lnt_header.specs.Broken.{IsAt, IsWrongLength, BrokenHeader}
+use Rattle.lnt_header.specs.Broken.{Broken, IsAt, IsWrongLength, BrokenHeader}
 use Rattle.lnt_header.specs.FieldFaults.{IsCutField}
 use Rattle.lnt_header.specs.FieldFaults.IsCutField.{number}
 use Rattle.lnt_header.specs.HeaderBytes.{unit_body, HeaderBytes, HeaderBytesIn}
@@ -27,9 +27,10 @@ use Rattle.lnt_ops.specs.OpBytes.{OpBytes}
 use Rattle.lnt_ops.specs.OpFaults.{IsOpFault}
 use Rattle.lnt_ops.specs.OpFaults.IsOpFault.{cut_field, large_number, wrong_length}
 use Rattle.lnt_ops.specs.Programs.{BrokenProgram}
-use Rattle.lnt_unit.specs.BrokenUnits.{BrokenUnit}
+use Rattle.lnt_unit.specs.BrokenUnits.{BeginsWithHeader, BrokenUnit}
 use Rattle.lnt_unit.specs.Laws.Units.{header_of}
-use Rattle.lnt_unit.specs.Laws.Frames.{unit_frame}
+use Rattle.lnt_unit.specs.Laws.Frames.{header_frame, unit_frame}
+use Rattle.lnt_unit.specs.UnitBytes.{UnitBytesIn}
 
 -- ---- the frame
 
@@ -42,24 +43,30 @@ frame_at order reason before from h = absurd h
 
 pub frame_broken : (order : Order) (old : At) (fault : Fault) → Refuses (IsFrameFault order) (FrameBytes order) old fault → BrokenUnit order fault old.place old.rest
 frame_broken order old fault r = record {
-  none = λ unit x more p e. r.none _ x more (unit_frame order unit x p) e;
-  before = r.before;
-  from = r.left;
-  split = r.split;
-  place = r.place;
-  reason = frame_at order fault.reason r.before r.left r.reason;
+  broken = record {
+    none = λ unit x more p e. r.none _ x more (unit_frame order unit x p) e;
+    before = r.before;
+    from = r.left;
+    split = r.split;
+    place = r.place;
+    reason = frame_at order fault.reason r.before r.left r.reason;
+  };
+  in_program = λ header place program g. absurd (r.none _ g.front g.more (header_frame order header program g.front g.spelled) (sym g.joined));
 }
 
 -- ---- the header
 
 pub header_broken : (order : Order) (fault : Fault) (offset : ℕ) (bytes : List ℕ) → BrokenHeader order fault offset bytes → BrokenUnit order fault offset bytes
 header_broken order fault offset bytes b = record {
-  none = λ unit x more p e. b.none (unit.header, p.spelled.program) x more (header_of order unit x p) e;
-  before = b.before;
-  from = b.from;
-  split = b.split;
-  place = b.place;
-  reason = b.reason;
+  broken = record {
+    none = λ unit x more p e. b.none (unit.header, p.spelled.program) x more (header_of order unit x p) e;
+    before = b.before;
+    from = b.from;
+    split = b.split;
+    place = b.place;
+    reason = b.reason;
+  };
+  in_program = λ header place program g. absurd (b.none (header, program) g.front g.more g.spelled (sym g.joined));
 }
 
 -- ---- the operations
@@ -95,8 +102,16 @@ op_at order format reason size initial head before left from some is w (wrong_le
       subst (λ (n : ℕ). IsWrongLength n left) (sym is) h,
     )
 
+-- the fault of a program, where the program and its place have other names
+first_of : (h : HeaderParts) (program bytes : List ℕ) (fault : Fault) (offset place : ℕ) → HeaderBytes h program bytes → place + length program ≡ offset + length bytes → BrokenProgram h place program fault
+    → (header : HeaderParts) (other : ℕ) (named : List ℕ) → BeginsWithHeader h.order offset bytes header other named → BrokenProgram header other named fault
+first_of h program bytes fault offset place p ends b header other named g =
+    let found = same_header header h named program g.front bytes g.more [] g.spelled.order_is g.spelled.spelled p (sym g.joined ∙ sym (append-nil bytes)) in
+    let places : other ≡ place = omega (arith, g.ends, ends, ap length found.program, ap length found.bytes) in
+    rw (found.header, found.program, places) b
+
 ops_broken_in : (h : HeaderParts) (program bytes : List ℕ) (fault : Fault) (offset place : ℕ) → HeaderBytes h program bytes → place + length program ≡ offset + length bytes
-    → BrokenProgram h place program fault → BrokenUnit h.order fault offset bytes
+    → BrokenProgram h place program fault → Broken (UnitBytesIn h.order) h.order fault offset bytes
 unfolding fields_of
 ops_broken_in h program bytes fault offset place p ends b =
     let head = fields_of h p.fields in
@@ -127,4 +142,5 @@ ops_broken_in h program bytes fault offset place p ends b =
 pub ops_broken : (order : Order) (h : HeaderParts) (program bytes : List ℕ) (fault : Fault) (offset place : ℕ) → HeaderBytesIn order (h, program) bytes → place + length program ≡ offset + length bytes
     → BrokenProgram h place program fault → BrokenUnit order fault offset bytes
 ops_broken order h program bytes fault offset place p ends b =
-    subst (λ (o : Order). BrokenUnit o fault offset bytes) p.order_is (ops_broken_in h program bytes fault offset place p.spelled ends b)
+    subst (λ (o : Order). BrokenUnit o fault offset bytes) p.order_is
+    (record { broken = ops_broken_in h program bytes fault offset place p.spelled ends b; in_program = first_of h program bytes fault offset place p.spelled ends b })

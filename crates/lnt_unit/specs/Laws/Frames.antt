@@ -11,10 +11,11 @@ use Rattle.lnt_wire.specs.FrameFaults.{InFrame, IsCutFrame, IsReserved}
 use Rattle.lnt_wire.specs.Laws.Frames.{frame_code, frame_not_cut}
 use Rattle.lnt_wire.specs.Numbers.{number_bytes, offset_size}
 use Rattle.lnt_header.specs.Broken.{InHeader, UpToLimit, IsAt}
-use Rattle.lnt_header.specs.HeaderBytes.{unit_body}
+use Rattle.lnt_header.specs.HeaderBytes.{unit_body, HeaderBytesIn}
 use Rattle.lnt_header.specs.Laws.Headers.{regroup}
+use Rattle.lnt_header.specs.declared.header.HeaderParts.{HeaderParts}
 use Rattle.lnt_unit.specs.declared.unit.Parts.{Parts}
-use Rattle.lnt_unit.specs.BrokenUnits.{BrokenUnit}
+use Rattle.lnt_unit.specs.BrokenUnits.{BeginsWithHeader, BrokenUnit}
 use Rattle.lnt_unit.specs.UnitBytes.{UnitBytesIn}
 
 -- ---- places
@@ -57,34 +58,48 @@ at_more order reason before from more whole h = absurd h
 
 -- ---- units
 
--- the frame of a unit
-pub unit_frame : (order : Order) (unit : Parts) (x : List ℕ) → (p : UnitBytesIn order unit x) → FrameBytes order (unit.header.format, unit_body unit.header p.spelled.whole.fields p.spelled.program) x
-unit_frame order unit x p =
-    let h = unit.header in
-    let whole = p.spelled.whole in
+-- the frame of a header with its program
+pub header_frame : (order : Order) (h : HeaderParts) (program x : List ℕ) → (p : HeaderBytesIn order (h, program) x) → FrameBytes order (h.format, unit_body h p.spelled.fields program) x
+header_frame order h program x p =
+    let whole = p.spelled in
     let number = number_bytes h.order (offset_size h.format) (length whole.fields) in
     let start = h.address_size ∷ 0 ∷ [] in
     record {
       fits = whole.fits;
       version = record {
-        behind = start ++ (number ++ (whole.fields ++ p.spelled.program));
-        joined = regroup (version_five h.order) start number whole.fields p.spelled.program
-            ∙ ap (λ (o : Order). version_five o ++ (start ++ (number ++ (whole.fields ++ p.spelled.program)))) p.order_is;
+        behind = start ++ (number ++ (whole.fields ++ program));
+        joined = regroup (version_five h.order) start number whole.fields program ∙ ap (λ (o : Order). version_five o ++ (start ++ (number ++ (whole.fields ++ program)))) p.order_is;
       };
-      joined = subst (λ (o : Order). x ≡ frame_bytes o h.format (unit_body h whole.fields p.spelled.program)) p.order_is whole.joined;
+      joined = subst (λ (o : Order). x ≡ frame_bytes o h.format (unit_body h whole.fields program)) p.order_is whole.joined;
     }
+
+-- the frame of a unit
+pub unit_frame : (order : Order) (unit : Parts) (x : List ℕ) → (p : UnitBytesIn order unit x) → FrameBytes order (unit.header.format, unit_body unit.header p.spelled.whole.fields p.spelled.program) x
+unit_frame order unit x p = header_frame order unit.header p.spelled.program x (record { order_is = p.order_is; spelled = p.spelled.whole })
+
+-- a header with a program that begins a frame and more begins the frame
+header_first : (order : Order) (offset : ℕ) (frame : Format × List ℕ) (bytes more : List ℕ) (header : HeaderParts) (place : ℕ) (program : List ℕ) → FrameBytes order frame bytes
+    → BeginsWithHeader order offset (bytes ++ more) header place program → BeginsWithHeader order offset bytes header place program
+header_first order offset frame bytes more header place program is g =
+    let one = (frame_code order).one _ frame g.front bytes g.more more (header_frame order header program g.front g.spelled) is (sym g.joined) in
+    record { front = g.front; more = []; spelled = g.spelled; joined = sym one.1 ∙ sym (append-nil g.front); ends = g.ends }
 
 -- a frame in which no unit was found, and whatever follows it
 pub broken_more : (order : Order) (fault : Fault) (offset : ℕ) (frame : Format × List ℕ) (bytes more : List ℕ) → FrameBytes order frame bytes → BrokenUnit order fault offset bytes
     → BrokenUnit order fault offset (bytes ++ more)
-broken_more order fault offset frame bytes more is b = record {
-  none = λ unit x rest p e.
-      let one = (frame_code order).one _ frame x bytes rest more (unit_frame order unit x p) is e in
-      b.none unit x [] p (append-nil x ∙ one.1);
-  before = b.before;
-  from = b.from ++ more;
-  split = ap (λ (z : List ℕ). z ++ more) b.split ∙ append_assoc b.before b.from more;
-  place = b.place;
-  reason = at_more order fault.reason b.before b.from more
-      (λ nothing cut. frame_not_cut order frame bytes is (subst (IsCutFrame order) (ap (λ (z : List ℕ). z ++ b.from) (sym nothing) ∙ sym b.split) cut)) b.reason;
-}
+broken_more order fault offset frame bytes more is broken =
+    let b = broken.broken in
+    record {
+      broken = record {
+        none = λ unit x rest p e.
+            let one = (frame_code order).one _ frame x bytes rest more (unit_frame order unit x p) is e in
+            b.none unit x [] p (append-nil x ∙ one.1);
+        before = b.before;
+        from = b.from ++ more;
+        split = ap (λ (z : List ℕ). z ++ more) b.split ∙ append_assoc b.before b.from more;
+        place = b.place;
+        reason = at_more order fault.reason b.before b.from more
+            (λ nothing cut. frame_not_cut order frame bytes is (subst (IsCutFrame order) (ap (λ (z : List ℕ). z ++ b.from) (sym nothing) ∙ sym b.split) cut)) b.reason;
+      };
+      in_program = λ header place program g. broken.in_program header place program (header_first order offset frame bytes more header place program is g);
+    }

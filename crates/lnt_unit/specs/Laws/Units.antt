@@ -110,7 +110,7 @@ none_behind order k l (v ∷ vs) (u ∷ us) front rest whole p q e none some =
     none_behind order (k + length p.0) (l + length q.0) vs us p.1 rest q.1 p.5 q.5 behind none some
 
 pub no_section : (order : Order) (fault : Fault) (section : List ℕ) → IsTrueFault order fault section → (units : List (ℕ × Parts)) → SectionBytes order units section → ⊥
-no_section order fault section t units q = none_behind order 0 0 t.units units t.front t.rest section t.sound q t.split t.broken.none t.some
+no_section order fault section t units q = none_behind order 0 0 t.units units t.front t.rest section t.sound q t.split t.broken.broken.none t.some
 
 pub one_section : OneSection
 one_section = record { units = λ order us vs bytes p q. same_units order 0 us vs bytes p q; fault = λ order fault units bytes t q. no_section order fault bytes t units q }
