@@ -1,11 +1,25 @@
--- Operations of a unit that are counted.
+-- Units in a buffer: their headers, and their operations, which are counted.
 use Rattle.std.proofs.Common.{◌≡◌, ℕ, ◌+◌, ◌^◌, ◌<◌, ◌≤◌, List, [], ◌∷◌, ◌++◌, length, refl, false, ap, arith}
 use Rattle.std.proofs.lemmas.List.{length-append}
+use Rattle.lnt_wire.specs.FrameBytes.{frame_bytes}
+use Rattle.lnt_wire.specs.declared.fault.Fault.{Fault}
+use Rattle.lnt_wire.specs.declared.format.Order.{Order}
+use Rattle.lnt_wire.specs.declared.frame.Frame.{Frame}
+use Rattle.lnt_header.specs.Broken.{BrokenHeader}
 use Rattle.lnt_header.specs.declared.op.Op.{Op}
 use Rattle.lnt_header.specs.declared.view.OpView.{OpView}
 use Rattle.lnt_ops.specs.Walks.{Walk, Ends, Steps}
 use Rattle.lnt_unit.specs.Laws.Views.{given_none, given_more, given_all}
 use Rattle.lnt_unit.specs.Views.{View, IsView, HasGiven, HasCount}
+
+-- ---- the header
+
+-- no header with a program begins the bytes of a buffer, since none begins their frame
+pub no_header : (order other : Order) (offset : ℕ) (bytes : List ℕ) (frame : Frame) (fault : Fault) → other ≡ order → frame.offset ≡ offset → frame_bytes order frame.format frame.body.now ≡ bytes
+    → BrokenHeader other fault frame.offset (frame_bytes other frame.format frame.body.now) → BrokenHeader order fault offset bytes
+no_header order other offset bytes frame fault same here is b = rw (← is, ← here, ← same) b
+
+-- ---- operations
 
 -- So many operations were given, each of a byte or more.
 pub record CountedTo (view : View) (count : ℕ) (walk : Walk) : Type 0 where

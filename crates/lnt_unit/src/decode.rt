@@ -16,7 +16,8 @@ use std::alloc::Global;
 ///
 /// It refuses with `Memory`, and else only where no unit begins the bytes that are left. The fault's place is that
 /// of the field at fault, which is the unit's own where its initial length is cut, is reserved, or counts more bytes
-/// than are left. After a refusal the cursor is as it was.
+/// than are left. Where a header with a program is there, the fault is that of the program's first operation that
+/// isn't there (`read_ops`). After a refusal the cursor is as it was.
 #[tactic(auto, using(crate::proofs::UnitReaders::frame_placed, crate::proofs::UnitReaders::frame_end, crate::proofs::UnitReaders::unit_read))]
 pub fn decode_unit(alloc: Global, cursor: &mut Cursor<'_>, order: Order) -> Result<Unit, Fault>
     requires { cursor.old.order ≡ order }

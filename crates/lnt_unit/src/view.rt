@@ -1,5 +1,6 @@
 //! A unit that lies in a buffer, and its operations one by one.
 ghost use Rattle.std.specs.Prelude.{◌≡◌, ◌≢◌, IfOk, IfErr, false};
+ghost use Rattle.lnt_header.specs.Broken.{BrokenHeader};
 ghost use Rattle.lnt_unit.specs.BrokenUnits.{BrokenUnit};
 
 use lnt_header::{Header, decode_header};
@@ -37,12 +38,14 @@ impl<'a> UnitView<'a> {
 
     /// The unit in a buffer.
     ///
-    /// It refuses with `Memory`, and else only where the bytes are those of no unit, with the fault of the header
-    /// (`decode_header`). The program isn't judged yet.
+    /// It refuses with `Memory`, and else only where no header with a program begins the bytes, with the fault of
+    /// `decode_header`; so they are those of no unit. The program isn't judged yet.
     pub fn over(alloc: Global, buffer: &'a UnitBuffer) -> Result<UnitView<'a>, Fault>
         ensures ok { IfOk result (λ view. view.unit ≡ buffer.entry.now) }
         ensures err { IfErr result (λ fault. fault.reason ≢ Reason.Memory
             → BrokenUnit buffer.entry.now.order fault buffer.entry.now.offset buffer.entry.now.bytes) }
+        ensures header { IfErr result (λ fault. fault.reason ≢ Reason.Memory
+            → BrokenHeader buffer.entry.now.order fault buffer.entry.now.offset buffer.entry.now.bytes) }
     {
         let (header, program) = decode_header(alloc, &buffer.frame(), buffer.order())?;
         let end = buffer.offset() + buffer.bytes().len() as u64;
