@@ -1,4 +1,5 @@
 mod converted;
 mod units;
+mod walked;
 mod worked;
 mod written;

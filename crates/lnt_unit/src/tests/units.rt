@@ -49,8 +49,14 @@ fn units_with_one_program(rt: HostRuntime) -> Result<(), Fail> {
     Ok(())
 }
 
+// Whether the section is one unit of these operations.
+fn has_ops(alloc: Global, bytes: &[u8], ops: &[Op]) -> Result<bool, Fault> {
+    let units = decode_section(alloc, bytes, Order::Little)?;
+    Ok(ops_of(&units) == Some(ops))
+}
+
 #[test]
-fn units_with_other_programs(rt: HostRuntime) -> Result<(), Fail> {
+fn units_that_advance_otherwise(rt: HostRuntime) -> Result<(), Fail> {
     let alloc = rt.alloc();
     let wraps = [
         Op::SetAddress(0xffff_ffff_ffff_fff0),
@@ -66,20 +72,29 @@ fn units_with_other_programs(rt: HostRuntime) -> Result<(), Fail> {
         Op::AdvancePc(1),
         Op::EndSequence,
     ];
-    let file = [
-        Op::SetAddress(0x1000),
-        Op::SetFile(0),
-        Op::Special(20),
-        Op::Special(75),
-        Op::AdvancePc(2),
-        Op::EndSequence,
-    ];
     let fixed = [
         Op::SetAddress(0x1000),
         Op::Special(20),
         Op::AdvancePc(1),
         Op::FixedAdvancePc(5),
         Op::Copy,
+        Op::AdvancePc(2),
+        Op::EndSequence,
+    ];
+    assert!(rt; has_ops(alloc, &ADDRESS_WRAPS, &wraps)?);
+    assert!(rt; has_ops(alloc, &CONST_ADD_PC, &added)?);
+    assert!(rt; has_ops(alloc, &FIXED_ADVANCE_PC, &fixed)?);
+    Ok(())
+}
+
+#[test]
+fn units_of_other_files_and_lines(rt: HostRuntime) -> Result<(), Fail> {
+    let alloc = rt.alloc();
+    let file = [
+        Op::SetAddress(0x1000),
+        Op::SetFile(0),
+        Op::Special(20),
+        Op::Special(75),
         Op::AdvancePc(2),
         Op::EndSequence,
     ];
@@ -90,6 +105,22 @@ fn units_with_other_programs(rt: HostRuntime) -> Result<(), Fail> {
         Op::AdvancePc(2),
         Op::EndSequence,
     ];
+    let low_base = [
+        Op::SetAddress(0x1000),
+        Op::AdvanceLine(9),
+        Op::Special(10),
+        Op::AdvancePc(2),
+        Op::EndSequence,
+    ];
+    assert!(rt; has_ops(alloc, &FILE_ZERO, &file)?);
+    assert!(rt; has_ops(alloc, &LINE_BELOW_ZERO, &below)?);
+    assert!(rt; has_ops(alloc, &OPCODE_BASE_10, &low_base)?);
+    Ok(())
+}
+
+#[test]
+fn units_with_marks_or_nothing(rt: HostRuntime) -> Result<(), Fail> {
+    let alloc = rt.alloc();
     let marks = [
         Op::SetAddress(0x1000),
         Op::SetDiscriminator(7),
@@ -100,26 +131,8 @@ fn units_with_other_programs(rt: HostRuntime) -> Result<(), Fail> {
         Op::AdvancePc(2),
         Op::EndSequence,
     ];
-    let low_base = [
-        Op::SetAddress(0x1000),
-        Op::AdvanceLine(9),
-        Op::Special(10),
-        Op::AdvancePc(2),
-        Op::EndSequence,
-    ];
-    for (bytes, ops) in [
-        (ADDRESS_WRAPS.as_slice(), wraps.as_slice()),
-        (&CONST_ADD_PC, &added),
-        (&FILE_ZERO, &file),
-        (&FIXED_ADVANCE_PC, &fixed),
-        (&LINE_BELOW_ZERO, &below),
-        (&MARKS_AND_DISCRIMINATOR, &marks),
-        (&MD5_WITHOUT_PROGRAM, &[]),
-        (&OPCODE_BASE_10, &low_base),
-    ] {
-        let units = decode_section(alloc, bytes, Order::Little)?;
-        assert_eq!(rt; ops_of(&units), Some(ops));
-    }
+    assert!(rt; has_ops(alloc, &MARKS_AND_DISCRIMINATOR, &marks)?);
+    assert!(rt; has_ops(alloc, &MD5_WITHOUT_PROGRAM, &[])?);
     Ok(())
 }
 
