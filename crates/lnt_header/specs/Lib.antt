@@ -15,3 +15,4 @@ pub mod OpViews
 pub mod StartBytes
 pub mod TableBytes
 pub mod TableFaults
+pub mod ShortLists

@@ -1,5 +1,5 @@
 //! Headers, read from the bytes of their units.
-ghost use Rattle.std.specs.Prelude.{◌≢◌, ◌+◌, ◌^◌, ◌<◌, length, IfOk, IfErr};
+ghost use Rattle.std.specs.Prelude.{◌≡◌, ◌≢◌, ◌+◌, ◌^◌, ◌<◌, length, IfOk, IfErr};
 ghost use Rattle.lnt_wire.specs.FrameBytes.{frame_bytes, IsPlacedFrame};
 ghost use Rattle.lnt_wire.specs.Reading.{RefusesOr};
 ghost use Rattle.lnt_header.specs.Broken.{BrokenHeader};
@@ -68,15 +68,8 @@ fn read_parts(
 {
     let mut cursor = Cursor::new(header, place, order);
     let fields = read_fields(alloc, &mut cursor, format)?;
-    let (Ok(lengths), Ok(extra)) = (
-        Vec::from_slice(alloc, fields.lengths),
-        Vec::from_slice(alloc, cursor.rest()),
-    ) else {
-        return Err(Fault {
-            place,
-            reason: Reason::Memory,
-        });
-    };
+    let lengths = copied(alloc, fields.lengths, place)?;
+    let extra = copied(alloc, cursor.rest(), place)?;
     let singles = fields.singles;
     Ok(HeaderParts {
         format,
@@ -88,11 +81,25 @@ fn read_parts(
         line_base: singles.line_base.cast_signed(),
         line_range: singles.line_range,
         opcode_base: singles.opcode_base,
-        standard_lengths: Items::new(lengths),
+        standard_lengths: lengths,
         directory_format: Items::new(fields.directories.0),
         directories: Items::new(fields.directories.1),
         file_format: Items::new(fields.files.0),
         files: Items::new(fields.files.1),
-        extra: Items::new(extra),
+        extra,
     })
+}
+
+// A copy of the bytes.
+fn copied(alloc: Global, bytes: &[u8], place: u64) -> Result<Items<u8>, Fault>
+    ensures ok { IfOk result (λ items. items ≡ bytes.now) }
+    ensures err { IfErr result (λ fault. fault.reason ≡ Reason.Memory) }
+{
+    match Vec::from_slice(alloc, bytes) {
+        Ok(values) => Ok(Items::new(values)),
+        Err(_) => Err(Fault {
+            place,
+            reason: Reason::Memory,
+        }),
+    }
 }

@@ -2,6 +2,7 @@
 ghost use Rattle.std.specs.Prelude.{◌≡◌, ◌<◌, IfOk, IfErr};
 
 use crate::fault::UnitFault;
+use crate::short_list::ShortList;
 use crate::tested::parts_fault;
 use lnt_wire::{Form, FormValue, Format, Items, Order};
 use std::marker::Model;
@@ -19,7 +20,7 @@ pub struct Pair {
 #[derive(Debug, Drop, PartialEq, Eq)]
 pub struct Entry {
     /// One value for each pair of the table's format, in order.
-    pub values: Items<FormValue>,
+    pub values: ShortList<FormValue>,
 }
 
 /// One of the two tables of a header.

@@ -10,6 +10,7 @@ mod header;
 pub mod laws;
 mod numbers;
 mod op;
+mod short_list;
 mod start;
 mod table;
 mod tested;
@@ -20,6 +21,7 @@ pub use encode::encode_header;
 pub use fault::UnitFault;
 pub use header::{Entry, Header, HeaderParts, Pair, Which};
 pub use op::Op;
+pub use short_list::ShortList;
 pub use view::{OpView, Operands};
 
 #[cfg(test)]

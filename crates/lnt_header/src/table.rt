@@ -6,7 +6,8 @@ ghost use Rattle.lnt_header.specs.TableBytes.{PairBytes, ValuesBytes, EntryBytes
 ghost use Rattle.lnt_header.specs.TableFaults.{IsTableFault};
 
 use crate::header::{Entry, Pair};
-use lnt_wire::{Cursor, Fault, Form, FormValue, Format, Items, Reason};
+use crate::short_list::ShortList;
+use lnt_wire::{Cursor, Fault, Form, FormValue, Format, Reason};
 use std::alloc::Global;
 
 // A content type and a form code.
@@ -33,15 +34,13 @@ fn read_pairs(alloc: Global, cursor: &mut Cursor<'_>, count: u8) -> Result<Vec<P
     ensures ok { IfOk result (λ pairs. Reads (Several count PairBytes) pairs.items cursor.old cursor.new) }
     ensures err { IfErr result (λ fault. RefusesOr IsTableFault (Several count PairBytes) cursor.old fault) }
 {
-    let mut pairs = Vec::new(alloc);
+    let Ok(mut pairs) = Vec::with_capacity(alloc, usize::from(count)) else {
+        return Err(no_memory(cursor));
+    };
     for _ in 0..count {
-        let place = cursor.place();
         let pair = read_pair(cursor)?;
         if pairs.push(pair).is_err() {
-            return Err(Fault {
-                place,
-                reason: Reason::Memory,
-            });
+            return Err(no_memory(cursor));
         }
     }
     Ok(pairs)
@@ -54,19 +53,15 @@ fn read_values(
     cursor: &mut Cursor<'_>,
     format: Format,
     pairs: &[Pair],
-) -> Result<Vec<FormValue>, Fault>
-    ensures ok { IfOk result (λ values. Reads (ValuesBytes format cursor.old.order pairs.now) values.items cursor.old cursor.new) }
+) -> Result<ShortList<FormValue>, Fault>
+    ensures ok { IfOk result (λ values. Reads (ValuesBytes format cursor.old.order pairs.now) values cursor.old cursor.new) }
     ensures err { IfErr result (λ fault. RefusesOr IsTableFault (ValuesBytes format cursor.old.order pairs.now) cursor.old fault) }
 {
-    let mut values = Vec::new(alloc);
+    let mut values = ShortList::new();
     for pair in pairs {
-        let place = cursor.place();
         let value = cursor.form(alloc, pair.form, format)?;
-        if values.push(value).is_err() {
-            return Err(Fault {
-                place,
-                reason: Reason::Memory,
-            });
+        if values.push(alloc, value).is_err() {
+            return Err(no_memory(cursor));
         }
     }
     Ok(values)
@@ -86,19 +81,22 @@ fn read_entries(
 {
     let mut entries = Vec::new(alloc);
     for _ in 0..count {
-        let place = cursor.place();
         let values = read_values(alloc, cursor, format, pairs)?;
-        let entry = Entry {
-            values: Items::new(values),
-        };
-        if entries.push(entry).is_err() {
-            return Err(Fault {
-                place,
-                reason: Reason::Memory,
-            });
+        if entries.push(Entry { values }).is_err() {
+            return Err(no_memory(cursor));
         }
     }
     Ok(entries)
+}
+
+// That memory ran out where the cursor stands.
+fn no_memory(cursor: &Cursor<'_>) -> Fault
+    ensures { result.reason ≡ Reason.Memory }
+{
+    Fault {
+        place: cursor.place(),
+        reason: Reason::Memory,
+    }
 }
 
 /// A format, and its entries.

@@ -1,4 +1,6 @@
-use crate::{Entry, Header, HeaderParts, Pair, UnitFault, Which, decode_header, encode_header};
+use crate::{
+    Entry, Header, HeaderParts, Pair, ShortList, UnitFault, Which, decode_header, encode_header,
+};
 use lnt_wire::{
     Cursor, EncodeFault, Fault, Form, FormValue, Format, Items, Order, Reason, take_frame,
 };
@@ -204,12 +206,10 @@ fn table(
     value: FormValue,
 ) -> Result<(Items<Pair>, Items<Entry>), AllocError> {
     let pair = Pair { content: 1, form };
-    let mut values = Vec::new(alloc);
-    values.push(value)?;
+    let mut values = ShortList::new();
+    values.push(alloc, value)?;
     let mut entries = Vec::new(alloc);
-    entries.push(Entry {
-        values: Items::new(values),
-    })?;
+    entries.push(Entry { values })?;
     Ok((
         Items::new(Vec::from_slice(alloc, &[pair])?),
         Items::new(entries),

@@ -1,5 +1,5 @@
 //! One operation, from its first byte on.
-ghost use Rattle.std.specs.Prelude.{◌≡◌, ◌<◌, IfOk, IfErr, OnErr};
+ghost use Rattle.std.specs.Prelude.{◌≡◌, ◌<◌, ◌≤◌, ◌⊎◌, IfOk, IfErr, OnErr};
 ghost use Rattle.lnt_wire.specs.Reading.{Refuses};
 ghost use Rattle.lnt_ops.specs.OpBytes.{OpBytes};
 ghost use Rattle.lnt_ops.specs.OpFaults.{IsFirstFault, IsOpFault};
@@ -51,7 +51,7 @@ fn read_behind<'a>(
     ensures err { IfErr result (λ fault. Refuses (IsFaultBehind header.now opcode) (BehindBytes header.now opcode) cursor.old fault) }
 {
     match opcode {
-        0 => read_extended(cursor, header),
+        0 => read_apart(cursor, header, 0),
         1 => Ok(OpView::Copy),
         2 => Ok(OpView::AdvancePc(cursor.uleb()?)),
         3 => Ok(OpView::AdvanceLine(cursor.sleb()?)),
@@ -64,6 +64,25 @@ fn read_behind<'a>(
         10 => Ok(OpView::SetPrologueEnd),
         11 => Ok(OpView::SetEpilogueBegin),
         12 => Ok(OpView::SetIsa(cursor.uleb()?)),
-        _ => read_unknown(cursor, header, opcode),
+        _ => read_apart(cursor, header, opcode),
     }
+}
+
+// What follows an opcode of which few are there. The cursor isn't lent, so that it needn't lie in memory.
+#[inline(always)]
+fn read_apart<'a>(cursor: &mut Cursor<'a>, header: &Header, opcode: u8) -> Result<OpView<'a>, Fault>
+    requires standard { opcode < header.now.opcode_base }
+    requires rare { (opcode ≡ 0) ⊎ (13 ≤ opcode) }
+    requires order { cursor.old.order ≡ header.now.order }
+    ensures ok { IfOk result (λ view. GivesBehind header.now opcode view cursor.old cursor.new) }
+    ensures err { IfErr result (λ fault. Refuses (IsFaultBehind header.now opcode) (BehindBytes header.now opcode) cursor.old fault) }
+{
+    let mut ahead = Cursor::new(cursor.rest(), cursor.place(), cursor.order());
+    let view = if opcode == 0 {
+        read_extended(&mut ahead, header)?
+    } else {
+        read_unknown(&mut ahead, header, opcode)?
+    };
+    *cursor = ahead;
+    Ok(view)
 }

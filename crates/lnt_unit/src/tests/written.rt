@@ -6,7 +6,8 @@ use super::worked::{
     VENDOR_BLOCK1, VENDOR_BLOCK2, VENDOR_BLOCK4,
 };
 use crate::{
-    Entry, Op, Pair, Parts, Unit, UnitFault, Which, decode_header, decode_section, encode_unit,
+    Entry, Op, Pair, Parts, ShortList, Unit, UnitFault, Which, decode_header, decode_section,
+    encode_unit,
 };
 use lnt_wire::{Cursor, EncodeFault, Fault, Form, FormValue, Format, Items, Order, take_frame};
 use std::alloc::{AllocError, AllocFailed, Global};
@@ -147,12 +148,10 @@ fn operations_that_are_not_of_the_unit(rt: HostRuntime) -> Result<(), Fail> {
 
 // A table of one entry with one value.
 pub(super) fn entries(alloc: Global, value: FormValue) -> Result<Items<Entry>, Fail> {
-    let mut values = Vec::new(alloc);
-    values.push(value)?;
+    let mut values = ShortList::new();
+    values.push(alloc, value)?;
     let mut entries = Vec::new(alloc);
-    entries.push(Entry {
-        values: Items::new(values),
-    })?;
+    entries.push(Entry { values })?;
     Ok(Items::new(entries))
 }
 

@@ -15,12 +15,12 @@ returns-clause-ok c =
       line_base = ap (λ (z : ℤ). cast_signed w8 (cast_unsigned w8 z)) c.cast_signed.ensures;
       line_range = refl;
       opcode_base = refl;
-      lengths_are = c.new.ensures ∙ c.in-Ok-Ok.ensures.items;
-      directory_format = c.new-2.ensures;
-      directories_are = c.new-3.ensures;
-      file_format = c.new-4.ensures;
-      files_are = c.new-5.ensures;
-      extra_is = c.new-6.ensures ∙ c.in-Ok-Ok.ensures'.items ∙ c.rest.ensures;
+      lengths_are = c.in_ok-lengths.ensures.ok;
+      directory_format = c.new.ensures;
+      directories_are = c.new-2.ensures;
+      file_format = c.new-3.ensures;
+      files_are = c.new-4.ensures;
+      extra_is = c.in_ok-extra.ensures.ok ∙ c.rest.ensures;
     } in
     fields_found c.args.format c.args.order c.args.address_size c.args.header.now s _ _ _ c.new-cursor.result c.read_fields.new.cursor _
     refl refl refl c.requires.size (λ i. (c.type_inv.header i).fits) c.new-cursor.ensures.rest c.new-cursor.ensures.order c.in_ok-fields.ensures.ok are

@@ -24,10 +24,10 @@ returns-in_err-values-clause-err c =
 
 pub loop-preserved : goal.loop-preserved
 loop-preserved c =
-    let entry : Entry = record { values = c.in_ok-values.values.items } in
+    let entry : Entry = record { values = c.in_ok-values.values } in
     let items : c.push.new.self.items ≡ c.loop.entries.items ++ entry ∷ [] = grind (arith, common_steps) in
     let one : Reads (EntryBytes c.args.format c.loop.cursor.order c.args.pairs.now) entry c.loop.cursor c.read_values.new.cursor =
-    reads_map (ValuesBytes c.args.format c.loop.cursor.order c.args.pairs.now) (EntryBytes c.args.format c.loop.cursor.order c.args.pairs.now) c.in_ok-values.values.items entry c.loop.cursor c.read_values.new.cursor (λ x q. q) c.in_ok-values.ensures.ok in
+    reads_map (ValuesBytes c.args.format c.loop.cursor.order c.args.pairs.now) (EntryBytes c.args.format c.loop.cursor.order c.args.pairs.now) c.in_ok-values.values entry c.loop.cursor c.read_values.new.cursor (λ x q. q) c.in_ok-values.ensures.ok in
     rw items (
       omega (arith, length-append c.loop.entries.items (entry ∷ []), c.loop.invariant.0),
       entries_more c.args.format c.args.pairs.now c.loop.entries.items entry c.args.cursor.now c.loop.cursor c.read_values.new.cursor c.loop.invariant.1 one,

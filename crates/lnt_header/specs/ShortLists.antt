@@ -1,0 +1,12 @@
+-- Lists that are mostly short, as they are kept.
+use Rattle.std.specs.Prelude.{List, []}
+use Rattle.lnt_header.specs.declared.short_list.Kept.{Kept}
+use Rattle.lnt_header.specs.declared.short_list.Kept.TheVariants.{Zero, One, Two, Three, More}
+
+-- the list of them
+abbrev pub listed : {T : Type 0} → Kept T → List T
+listed Zero = []
+listed (One values) = values
+listed (Two values) = values
+listed (Three values) = values
+listed (More values) = values.items

@@ -1,0 +1,114 @@
+//! Lists that are mostly short.
+ghost use Rattle.std.specs.Prelude.{◌≡◌, ◌∷◌, ◌++◌, [], IfOk};
+ghost use Rattle.lnt_header.specs.ShortLists.{listed};
+
+use std::alloc::{AllocError, Global};
+use std::marker::Model;
+use std::mem;
+
+// Where the values are kept.
+#[derive(Debug, Drop)]
+enum Kept<T> {
+    Zero,
+    One([T; 1]),
+    Two([T; 2]),
+    Three([T; 3]),
+    More(Vec<T>),
+}
+
+/// Values in order, of which up to three take no memory of their own. A contract sees the list alone.
+#[derive(Debug, Drop)]
+pub struct ShortList<T> {
+    kept: Kept<T>,
+}
+
+impl<T> Model for ShortList<T> {
+    ghost use Rattle.std.specs.Prelude.{List};
+    ghost use Rattle.lnt_header.specs.ShortLists.{listed};
+
+    ghost Value = { List T };
+
+    ghost view = { λ list. listed list.kept };
+}
+
+impl<T> ShortList<T> {
+    /// The values.
+    pub fn as_slice(&self) -> &[T]
+        ensures { result.now ≡ self.now }
+    {
+        match &self.kept {
+            Kept::Zero => &[],
+            Kept::One(values) => values,
+            Kept::Two(values) => values,
+            Kept::Three(values) => values,
+            Kept::More(values) => values.as_slice(),
+        }
+    }
+}
+
+impl<T: Drop> ShortList<T> {
+    /// No values. It takes no memory.
+    pub fn new() -> ShortList<T>
+        ensures { result ≡ [] }
+    {
+        ShortList { kept: Kept::Zero }
+    }
+
+    /// Adds a value behind the others. After the error, that memory ran out, nothing is said of the list.
+    pub fn push(&mut self, alloc: Global, value: T) -> Result<(), AllocError>
+        ensures { IfOk result (λ _. self.new ≡ self.old ++ value ∷ []) }
+    {
+        let ShortList { kept } = mem::replace(self, ShortList::new());
+        *self = ShortList {
+            kept: pushed(alloc, kept, value)?,
+        };
+        Ok(())
+    }
+}
+
+// The values and one more.
+fn pushed<T: Drop>(alloc: Global, kept: Kept<T>, value: T) -> Result<Kept<T>, AllocError>
+    ensures { IfOk result (λ more. listed more ≡ listed kept ++ value ∷ []) }
+{
+    match kept {
+        Kept::Zero => Ok(Kept::One([value])),
+        Kept::One([first]) => Ok(Kept::Two([first, value])),
+        Kept::Two([first, second]) => Ok(Kept::Three([first, second, value])),
+        Kept::Three(three) => Ok(Kept::More(four(alloc, three, value)?)),
+        Kept::More(mut values) => {
+            values.push(value)?;
+            Ok(Kept::More(values))
+        }
+    }
+}
+
+// Three values and one more.
+fn four<T: Drop>(alloc: Global, three: [T; 3], value: T) -> Result<Vec<T>, AllocError>
+    ensures { IfOk result (λ values. values.items ≡ three ++ value ∷ []) }
+{
+    let [first, second, third] = three;
+    let mut values = Vec::with_capacity(alloc, 4)?;
+    values.push(first)?;
+    values.push(second)?;
+    values.push(third)?;
+    values.push(value)?;
+    Ok(values)
+}
+
+impl<T: PartialEq> PartialEq for ShortList<T> {
+    ghost use Rattle.std.specs.Cmp.Lexicographic.{pointwise, lists_per};
+
+    ghost eq = { λ x y. pointwise T.eq x y };
+
+    ghost laws = { lists_per T.laws };
+
+    fn eq(&self, other: &ShortList<T>) -> bool {
+        self.as_slice() == other.as_slice()
+    }
+}
+
+impl<T: Eq> Eq for ShortList<T> {
+    ghost use Rattle.std.specs.Cmp.Lexicographic.{lists_equiv};
+
+    ghost laws = { lists_equiv T.Eq.laws };
+}
