@@ -179,7 +179,7 @@ fn operations_and_rows(rt: HostRuntime) -> Result<(), Fail> {
 }
 
 #[test]
-fn programs_at_fault(rt: HostRuntime) -> Result<(), Fail> {
+fn programs_that_do_not_run(rt: HostRuntime) -> Result<(), Fail> {
     let alloc = rt.alloc();
     let mut short = spliced(alloc, &PLAIN[..68], &[], &[])?;
     if let Some(low) = short.get_mut(0) {
@@ -189,8 +189,6 @@ fn programs_at_fault(rt: HostRuntime) -> Result<(), Fail> {
     if let Some(low) = below_zero.get_mut(0) {
         *low = 0x44;
     }
-    let no_length = spliced(alloc, &PLAIN[..69], &[0], &PLAIN[70..])?;
-    let long_length = spliced(alloc, &PLAIN[..69], &[2], &PLAIN[70..])?;
     for (unit, line, text) in [
         (
             &short,
@@ -202,6 +200,23 @@ fn programs_at_fault(rt: HostRuntime) -> Result<(), Fail> {
             "linetab dump --ops --rows F",
             "no 26 run unit 0x0: line out of range at operation 1\n",
         ),
+    ] {
+        let (given, status) = dumped(alloc, unit, line)?;
+        assert_eq!(rt; (given.as_str(), status), (text, Status::No), "for {line}");
+    }
+    // Without rows no run is judged.
+    let (given, status) = dumped(alloc, &short, "linetab dump F")?;
+    assert_eq!(rt; given.as_str().starts_with("unit 0x0 32 64\nheader "), true);
+    assert_eq!(rt; status, Status::Done);
+    Ok(())
+}
+
+#[test]
+fn programs_that_are_not_read(rt: HostRuntime) -> Result<(), Fail> {
+    let alloc = rt.alloc();
+    let no_length = spliced(alloc, &PLAIN[..69], &[0], &PLAIN[70..])?;
+    let long_length = spliced(alloc, &PLAIN[..69], &[2], &PLAIN[70..])?;
+    for (unit, line, text) in [
         (
             &no_length,
             "linetab dump --rows F",
@@ -216,9 +231,5 @@ fn programs_at_fault(rt: HostRuntime) -> Result<(), Fail> {
         let (given, status) = dumped(alloc, unit, line)?;
         assert_eq!(rt; (given.as_str(), status), (text, Status::No), "for {line}");
     }
-    // Without rows no run is judged.
-    let (given, status) = dumped(alloc, &short, "linetab dump F")?;
-    assert_eq!(rt; given.as_str().starts_with("unit 0x0 32 64\nheader "), true);
-    assert_eq!(rt; status, Status::Done);
     Ok(())
 }

@@ -93,19 +93,41 @@ fn answers_at_positions(rt: HostRuntime) -> Result<(), Fail> {
     Ok(())
 }
 
+const WIDE_TABLE: &str =
+    "low,low_op,high,high_op,unit,file,line,column,is_stmt,isa,discriminator\n0x1000,0,0x1004,0,0,1,3,0,1,0,0\n0x1004,0,0x1006,0,0,1,4,0,1,0,0\n";
+
 #[test]
-fn tables_and_their_check(rt: HostRuntime) -> Result<(), Fail> {
+fn tables_of_sections(rt: HostRuntime) -> Result<(), Fail> {
     let alloc = rt.alloc();
-    let (text, status) = printed(alloc, section(&PLAIN), "linetab table F")?;
-    assert_eq!(rt; (text.as_str(), status), (TABLE, Status::Done));
-    let wide =
-        "low,low_op,high,high_op,unit,file,line,column,is_stmt,isa,discriminator\n0x1000,0,0x1004,0,0,1,3,0,1,0,0\n0x1004,0,0x1006,0,0,1,4,0,1,0,0\n";
-    let (text, status) = printed(alloc, section(&PLAIN), "linetab table --wide F")?;
-    assert_eq!(rt; (text.as_str(), status), (wide, Status::Done));
+    for (line, table) in [
+        ("linetab table F", TABLE),
+        ("linetab table --wide F", WIDE_TABLE),
+    ] {
+        let (text, status) = printed(alloc, section(&PLAIN), line)?;
+        assert_eq!(rt;
+            (text.as_str(), status),
+            (table, Status::Done),
+            "for {line}"
+        );
+    }
+    Ok(())
+}
+
+// What the check of the section against a table prints, and how it ends.
+fn checked(alloc: Global, table: &str) -> Result<(String, Status), Fail> {
+    let files = Files {
+        table: table.as_bytes(),
+        ..section(&PLAIN)
+    };
+    printed(alloc, files, "linetab check F T")
+}
+
+#[test]
+fn tables_checked(rt: HostRuntime) -> Result<(), Fail> {
+    let alloc = rt.alloc();
     for (table, text, status) in [
         (TABLE, "yes\n", Status::Done),
-        (wide, "yes\n", Status::Done),
-        ("", "no 36 table header\n", Status::No),
+        (WIDE_TABLE, "yes\n", Status::Done),
         (
             "low,low_op,high,high_op,unit,file,line,column,is_stmt\n",
             "no 40 differs at 0x1000,0 table none section 0,1,3,0,1\n",
@@ -116,28 +138,33 @@ fn tables_and_their_check(rt: HostRuntime) -> Result<(), Fail> {
             "no 40 differs at 0x1006,0 table 0,1,4,0,1 section none\n",
             Status::No,
         ),
+    ] {
+        let (given, ended) = checked(alloc, table)?;
+        assert_eq!(rt; (given.as_str(), ended), (text, status));
+    }
+    Ok(())
+}
+
+#[test]
+fn tables_at_fault(rt: HostRuntime) -> Result<(), Fail> {
+    let alloc = rt.alloc();
+    for (table, text) in [
+        ("", "no 36 table header\n"),
         (
             "low,low_op,high,high_op,unit,file,line,column,is_stmt\n0x1000,0,0x1004,0,0,1,3,0\n",
             "no 37 table fields record 1\n",
-            Status::No,
         ),
         (
             "low,low_op,high,high_op,unit,file,line,column,is_stmt\n0x1000,0,0x1004,0,0,1,3,0,2\n",
             "no 38 table number record 1 column 8\n",
-            Status::No,
         ),
         (
             "low,low_op,high,high_op,unit,file,line,column,is_stmt\n0x1004,0,0x1000,0,0,1,3,0,1\n",
             "no 39 table order record 1\n",
-            Status::No,
         ),
     ] {
-        let files = Files {
-            table: table.as_bytes(),
-            ..section(&PLAIN)
-        };
-        let (given, ended) = printed(alloc, files, "linetab check F T")?;
-        assert_eq!(rt; (given.as_str(), ended), (text, status));
+        let (given, ended) = checked(alloc, table)?;
+        assert_eq!(rt; (given.as_str(), ended), (text, Status::No));
     }
     Ok(())
 }
