@@ -23,7 +23,8 @@ const BLOCK: usize = 1 << 16;
 ///
 /// The caller sees to it that the spans are in order, that none is empty, and that each answer tells what the version
 /// tells: an instruction set and a discriminator in version 2, and none in version 1. It stops by `Memory` where memory
-/// ran out, and by `Write` where the writer refused some bytes; then nothing is said of what the writer gained.
+/// ran out, and by `Write` where the writer refused some bytes; then nothing is said of what the writer gained. No
+/// contract of a writer tells when it refuses, so no clause says that `Write` comes only then.
 pub fn write_spans<W: Write>(
     alloc: Global,
     spans: &[Span],

@@ -16,7 +16,8 @@ use std::io::Write;
 /// own.
 ///
 /// It stops by `Memory` (33) where memory ran out, and by `Write` (42) where the writer refused some bytes; then nothing
-/// is said of what the writer gained.
+/// is said of what the writer gained. No contract of a writer tells when it refuses, so no clause says that `Write`
+/// comes only then.
 pub fn write_table<W: Write>(
     alloc: Global,
     lines: &Lines,
