@@ -4,7 +4,7 @@ ghost use Rattle.lnt_stream.specs.declared.reader.Progress.TheVariants.{Reading}
 
 use anyhow::{Result, anyhow};
 use lnt_machine::Machine;
-use lnt_unit::{OpView, SectionReader, UnitBuffer, UnitView, decode_section};
+use lnt_unit::{OpView, SectionReader, UnitView, decode_section};
 use lnt_wire::{Counted, Cursor, Order};
 use std::alloc::Global;
 
@@ -56,20 +56,16 @@ pub(crate) fn sum_of_section(alloc: Global, bytes: &[u8], walk: Walk) -> Result<
         let Ok(Some(buffer)) = reader.next_unit(alloc) else {
             break;
         };
-        sum = sum.wrapping_add(sum_of_unit(alloc, &buffer, walk)?);
-        reader.recycle(buffer);
+        let Ok(unit) = UnitView::over(alloc, &buffer) else {
+            return Err(anyhow!("a unit is malformed"));
+        };
+        let of_unit = match walk {
+            Walk::Ops => sum_of_ops(&unit),
+            Walk::Rows => sum_of_rows(&unit),
+        };
+        sum = sum.wrapping_add(of_unit);
     }
     Ok(sum)
-}
-
-fn sum_of_unit(alloc: Global, buffer: &UnitBuffer, walk: Walk) -> Result<u64> {
-    let Ok(unit) = UnitView::over(alloc, buffer) else {
-        return Err(anyhow!("a unit is malformed"));
-    };
-    Ok(match walk {
-        Walk::Ops => sum_of_ops(&unit),
-        Walk::Rows => sum_of_rows(&unit),
-    })
 }
 
 fn sum_of_ops(unit: &UnitView<'_>) -> u64 {

@@ -41,7 +41,6 @@ pub(crate) fn print_dump<R: Source, W: Write>(
         if print_unit(alloc, &unit, shown, out)? == Status::No {
             return Ok(Status::No);
         }
-        reader.recycle(unit);
     }
 }
 

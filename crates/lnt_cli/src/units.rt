@@ -23,10 +23,7 @@ pub(crate) fn print_units<R: Source, W: Write>(
     let mut reader = SectionReader::new(source, order);
     loop {
         match next_of(alloc, &mut reader)? {
-            Next::Unit(unit) => {
-                print_frame(&unit, out)?;
-                reader.recycle(unit);
-            }
+            Next::Unit(unit) => print_frame(&unit, out)?,
             Next::Fault(fault) => return print_fault(fault, out),
             Next::End => return Ok(Status::Done),
         }

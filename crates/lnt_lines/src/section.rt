@@ -100,7 +100,6 @@ fn judge_units<R: Source>(
     let mut draft = Draft::new(alloc);
     while let Some(buffer) = reader.next_unit(alloc)? {
         draft.add_unit(alloc, &buffer, strings, options.dead)?;
-        reader.recycle(buffer);
     }
     Ok(draft)
 }

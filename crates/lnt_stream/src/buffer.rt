@@ -51,14 +51,6 @@ impl UnitBuffer {
         })
     }
 
-    // The bytes, in the room that they take.
-    pub(crate) fn into_bytes(self) -> Vec<u8>
-        ensures { result.items ≡ self.bytes }
-    {
-        let UnitBuffer { bytes, .. } = self;
-        bytes
-    }
-
     /// The offset in the section of the unit's first byte.
     pub fn offset(&self) -> u64
         ensures { result ≡ self.now.offset }

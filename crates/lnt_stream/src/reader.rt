@@ -1,6 +1,5 @@
 //! A section, read unit by unit.
-ghost use Rattle.std.specs.Prelude.{◌≡◌, ◌≢◌, ℕ, ◌+◌, ◌-◌, ◌^◌, ◌<◌, length, [], IsTrue, false, IfOk, IfErr, OnErr, IsErrOf, IfSome, IfNone};
-ghost use Rattle.std.specs.Option.{ForSome};
+ghost use Rattle.std.specs.Prelude.{◌≡◌, ◌≢◌, ℕ, ◌+◌, ◌-◌, ◌^◌, ◌<◌, length, IsTrue, false, IfOk, IfErr, OnErr, IsErrOf, IfSome, IfNone};
 ghost use Rattle.lnt_wire.specs.Pulling.{HasMoreThan};
 ghost use Rattle.lnt_stream.specs.Stops.{IfFault};
 ghost use Rattle.lnt_stream.specs.Units.{IsNextUnit, SectionEndsBy};
@@ -33,11 +32,8 @@ pub struct SectionReader<'s, R: Source> {
     order: Order,
     offset: u64,
     progress: Progress,
-    // The room of a unit that was given back.
-    spare: Option<Vec<u8>>,
     ghost room: { progress ≡ Reading → offset + R.left source.now < 2 ^ 64 },
     ghost countable: { progress ≡ Reading → R.failures source.now < 2 ^ 64 - 1 },
-    ghost empty: { ForSome spare (λ bytes. bytes.items ≡ []) },
 }
 
 impl<'s, R: Source> SectionReader<'s, R> {
@@ -59,21 +55,7 @@ impl<'s, R: Source> SectionReader<'s, R> {
             order,
             offset: 0,
             progress: Progress::Reading,
-            spare: None,
         }
-    }
-
-    /// Takes a unit back that is done with. The next one lies in its room, as far as that goes.
-    pub fn recycle(&mut self, unit: UnitBuffer)
-        ensures source { self.new.source.now ≡ self.old.source.now }
-        ensures same_reference { self.new.source.ghost_name ≡ self.old.source.ghost_name }
-        ensures progress { self.new.progress ≡ self.old.progress }
-        ensures offset { self.new.offset ≡ self.old.offset }
-        ensures order { self.new.order ≡ self.old.order }
-    {
-        let mut bytes = unit.into_bytes();
-        bytes.clear();
-        self.spare = Some(bytes);
     }
 
     /// The next unit of the section, or none at its end (DWARF 5, sections 6.2.4 and 7.4).
@@ -114,8 +96,7 @@ impl<'s, R: Source> SectionReader<'s, R> {
         }
         // It has failed, unless all goes well.
         self.progress = Progress::Failed;
-        let bytes = self.spare.take().unwrap_or(Vec::new(alloc));
-        let Some(unit) = take_unit(bytes, self.source, self.offset, self.order)? else {
+        let Some(unit) = take_unit(alloc, self.source, self.offset, self.order)? else {
             self.progress = Progress::Ended;
             return Ok(None);
         };
@@ -125,18 +106,17 @@ impl<'s, R: Source> SectionReader<'s, R> {
     }
 }
 
-// The unit that comes next from the source and stands at the offset, or none where the source has ended. Its bytes
-// are put into the empty vector. After a stop nothing is said of how far the source was read.
+// The unit that comes next from the source and stands at the offset, or none where the source has ended. After a
+// stop nothing is said of how far the source was read.
 #[tactic(auto, using(crate::proofs::ReaderLemmas::section_ends, crate::proofs::ReaderLemmas::ended_short, crate::proofs::ReaderLemmas::section_refused))]
 fn take_unit<R: Source>(
-    mut bytes: Vec<u8>,
+    alloc: Global,
     source: &mut R,
     offset: u64,
     order: Order,
 ) -> Result<Option<UnitBuffer>, SectionStop>
     requires failures { R.failures source.old < 2 ^ 64 - 1 }
     requires room { offset + R.left source.old < 2 ^ 64 }
-    requires empty { bytes.items ≡ [] }
     ensures unit { IfOk result (λ got. IfSome got (λ unit. IsNextUnit offset order (R.remaining source.old) (R.remaining source.new) unit)) }
     ensures left { IfOk result (λ got. IfSome got (λ unit. R.left source.new + length unit.bytes ≡ R.left source.old)) }
     ensures end { IfOk result (λ got. IfNone got (SectionEndsBy offset order (R.remaining source.old) None)) }
@@ -148,6 +128,7 @@ fn take_unit<R: Source>(
     ensures more { IsErrOf result SectionStop.TooLong → HasMoreThan (R.remaining source.old) (R.left source.old) }
     ensures not_failed { IsErrOf result SectionStop.Failed → ⊥ }
 {
+    let mut bytes = Vec::new(alloc);
     take_unit_bytes(source, order, &mut bytes)?;
     if bytes.is_empty() {
         return Ok(None);

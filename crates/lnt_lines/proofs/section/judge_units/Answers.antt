@@ -29,8 +29,7 @@ loop-draft-preserved g c =
     rw c.in-Some.is at c.in_ok-buffer.ensures.unit in
     let goes_on = rw c.in-Some.is at c.in_ok-buffer.ensures.goes_on in
     let left = rw c.in-Some.is at c.in_ok-buffer.ensures.left in
-    let back = c.recycle.ensures in
-    rw (back.source, back.offset, back.order, back.progress, back.same_reference) (record {
+    record {
       judged = judged_more c.args.strings.now.line.now c.args.strings.now.general.now c.args.options.now (g.R.Source.remaining c.args.reader.now.source.now) (g.R.Source.remaining c.loop-draft.reader.source.now)
           (g.R.Source.remaining c.next_unit.new.self.source.now) c.loop-draft.reader.order c.loop-draft.reader.offset c.next_unit.new.self.offset c.in-Some.buffer c.loop-draft.draft c.add_unit.new.self
           inv.judged inv.order_is next goes_on.1 c.in_ok-add_unit.ensures.ok;
@@ -39,4 +38,4 @@ loop-draft-preserved g c =
       failures = grind (arith, common_steps);
       left = omega (arith, left, goes_on.1, inv.left);
       same_reference = c.in_ok-buffer.ensures.same_reference ∙ inv.same_reference;
-    })
+    }
