@@ -1,5 +1,5 @@
 -- What the steps of decoding a header find.
-use Rattle.std.proofs.Common.{◌≡◌, ◌≢◌, ℕ, suc, ◌+◌, ◌-◌, ◌^◌, ◌<◌, ◌≤◌, List, [], ◌∷◌, ◌++◌, length, take, drop, get_or, refl, sym, ap, subst, ◌∙◌, append_assoc, arith}
+use Rattle.std.proofs.Common.{◌≡◌, ℕ, suc, ◌+◌, ◌<◌, List, [], ◌∷◌, ◌++◌, length, get_or, sym, ap, subst, ◌∙◌, append_assoc, arith}
 use Rattle.std.specs.Prelude.{FitsSigned}
 use Rattle.std.specs.Int.{w8, cast_unsigned, cast_signed}
 use Rattle.std.proofs.lemmas.Int.{of_z-to_z, ints}
@@ -11,7 +11,6 @@ use Rattle.lnt_wire.specs.declared.format.Order.{Order}
 use Rattle.lnt_header.specs.declared.header.HeaderParts.{HeaderParts}
 use Rattle.lnt_header.specs.declared.numbers.Singles.{Singles}
 use Rattle.lnt_header.specs.FieldsBytes.{Table, FieldsBytes}
-use Rattle.lnt_header.specs.HeaderBytes.{HeaderFieldsBytes}
 use Rattle.lnt_header.specs.HeaderReading.{HasFields}
 use Rattle.lnt_header.specs.HeaderRules.{IsAddressSize, HasHeaderNumbers, single_bytes}
 use Rattle.lnt_header.specs.TableBytes.{TableBytes}

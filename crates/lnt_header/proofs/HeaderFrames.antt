@@ -1,5 +1,5 @@
 -- Headers in the frames that they stand in: what was found, and why none is there.
-use Rattle.std.proofs.Common.{◌≡◌, ◌≢◌, ℕ, ◌+◌, ◌-◌, ◌^◌, ◌<◌, ◌≤◌, List, [], ◌∷◌, ◌++◌, length, refl, sym, ap, subst, ◌∙◌, append_assoc, arith}
+use Rattle.std.proofs.Common.{◌≡◌, ℕ, ◌+◌, ◌^◌, ◌<◌, ◌≤◌, List, [], ◌∷◌, ◌++◌, length, refl, sym, ap, subst, ◌∙◌, append_assoc, arith}
 use Rattle.std.proofs.lemmas.List.{append_cancel_left, append-nil, length-append}
 use Rattle.std.specs.Int.{w8, cast_unsigned}
 use Rattle.lnt_wire.specs.At.{At}
@@ -12,12 +12,12 @@ use Rattle.lnt_wire.specs.Laws.Values.{offset_width}
 use Rattle.lnt_wire.specs.Numbers.{number_bytes, offset_size}
 use Rattle.lnt_wire.specs.Reading.{Reads, Refuses}
 use Rattle.lnt_wire.specs.declared.fault.Fault.{Fault}
-use Rattle.lnt_wire.specs.declared.fault.Reason.TheVariants.{Memory}
 use Rattle.lnt_wire.specs.declared.format.Format.{Format}
 use Rattle.lnt_wire.specs.declared.format.Order.{Order}
 use Rattle.lnt_header.specs.declared.header.HeaderParts.{HeaderParts}
 use Rattle.lnt_header.specs.declared.numbers.Singles.{Singles}
-use Rattle.lnt_header.specs.Broken.{InHeader, sound_start, IsAt, BrokenHeader}
+use Rattle.lnt_header.specs.Broken.{InHeader, sound_start, IsFirstField, BrokenHeader}
+use Rattle.lnt_header.specs.Broken.IsFirstField.{start}
 use Rattle.lnt_header.specs.FieldsBytes.{FieldsBytes, IsHeaderFault}
 use Rattle.lnt_header.specs.HeaderBytes.{HeaderFieldsBytes, unit_body, HeaderBytesIn}
 use Rattle.lnt_header.specs.HeaderReading.{standing, IsBehindVersion, HasFields}
@@ -115,12 +115,15 @@ refuses_start order format offset body old fault fits b there =
     let long = length-head order format body in
     let some : 0 < length ((initial ++ version) ++ r.before) = omega (arith, length-append (initial ++ version) r.before, long) in
     record {
-      none = λ unit x more p e. no_start order format body old.rest unit b.joined r.none (candidate order format body fits unit x more p e);
-      before = (initial ++ version) ++ r.before;
-      from = r.left;
-      split = ap (λ (z : List ℕ). initial ++ z) body_is ∙ sym (append_assoc initial (version ++ r.before) r.left) ∙ ap (λ (z : List ℕ). z ++ r.left) (sym (append_assoc initial version r.before));
-      place = omega (arith, r.place, b.place_is, length-append (initial ++ version) r.before, long);
-      reason = at_start order format fault.reason (initial ++ version) r.before r.left r.left in_frame some r.reason;
+      broken = record {
+        none = λ unit x more p e. no_start order format body old.rest unit b.joined r.none (candidate order format body fits unit x more p e);
+        before = (initial ++ version) ++ r.before;
+        from = r.left;
+        split = ap (λ (z : List ℕ). initial ++ z) body_is ∙ sym (append_assoc initial (version ++ r.before) r.left) ∙ ap (λ (z : List ℕ). z ++ r.left) (sym (append_assoc initial version r.before));
+        place = omega (arith, r.place, b.place_is, length-append (initial ++ version) r.before, long);
+        reason = at_start order format fault.reason (initial ++ version) r.before r.left r.left in_frame some r.reason;
+      };
+      first = start format r.before r.left in_frame r.reason;
     }
 
 -- ---- what header_length counts
@@ -206,38 +209,41 @@ no_fields order format body size counted program offset place unit at none c =
 
 pub refuses_fields : (order : Order) (format : Format) (offset : ℕ) (body : List ℕ) (size zero_size place : ℕ) (counted : List ℕ) (old new : At) (fault : Fault) → LengthFits format (length body)
     → IsBehindVersion order format offset body old → Reads (StartBytes format old.order) (size, (zero_size, counted)) old new → place + length counted ≡ new.place
-    → Refuses IsHeaderFault (FieldsBytes format order) (standing place counted order) fault → BrokenHeader order fault offset (frame_bytes order format body)
+    → Refuses (IsHeaderFault format order) (FieldsBytes format order) (standing place counted order) fault → BrokenHeader order fault offset (frame_bytes order format body)
 refuses_fields order format offset body size zero_size place counted old new fault fits b there placed r =
     let at = counted_by order format offset body size zero_size place counted old new b there placed in
     let initial = initial_length format order (length body) in
-    let start = sound_start order size in
+    let start_bytes = sound_start order size in
     let number = number_bytes order (offset_size format) (length counted) in
-    let head = initial ++ (start ++ number) in
+    let head = initial ++ (start_bytes ++ number) in
     let number_is : number ≡ number_bytes order (offset_size format) (length (r.before ++ r.left)) = ap (λ (z : List ℕ). number_bytes order (offset_size format) (length z)) r.split in
-    let fields = start ++ number_bytes order (offset_size format) (length (r.before ++ r.left)) ++ r.before in
-    let fields_are : (start ++ number) ++ r.before ≡ fields = ap (λ (z : List ℕ). start ++ z ++ r.before) number_is in
+    let fields = start_bytes ++ number_bytes order (offset_size format) (length (r.before ++ r.left)) ++ r.before in
+    let fields_are : (start_bytes ++ number) ++ r.before ≡ fields = ap (λ (z : List ℕ). start_bytes ++ z ++ r.before) number_is in
     let body_is : body ≡ fields ++ (r.left ++ new.rest) =
-    at.laid_out ∙ ap (λ (z : List ℕ). start ++ number ++ z ++ new.rest) r.split ∙ shift start number r.before r.left new.rest ∙ ap (λ (z : List ℕ). z ++ (r.left ++ new.rest)) fields_are in
+    at.laid_out ∙ ap (λ (z : List ℕ). start_bytes ++ number ++ z ++ new.rest) r.split ∙ shift start_bytes number r.before r.left new.rest ∙ ap (λ (z : List ℕ). z ++ (r.left ++ new.rest)) fields_are in
     let in_frame : InFrame order format fields (r.left ++ new.rest) (head ++ r.before) (r.left ++ new.rest) = record {
       more = [];
       fits = subst (λ (z : List ℕ). LengthFits format (length z)) body_is fits;
-      before_is = append_assoc initial (start ++ number) r.before ∙ ap (λ (z : List ℕ). initial_length format order (length z) ++ ((start ++ number) ++ r.before)) body_is
+      before_is = append_assoc initial (start_bytes ++ number) r.before ∙ ap (λ (z : List ℕ). initial_length format order (length z) ++ ((start_bytes ++ number) ++ r.before)) body_is
           ∙ ap (λ (z : List ℕ). initial_length format order (length (fields ++ (r.left ++ new.rest))) ++ z) fields_are;
       from_is = sym (append-nil (r.left ++ new.rest));
     } in
     let in_header : InHeader order r.before r.left (head ++ r.before) (r.left ++ new.rest) =
     record { format = format; address_size = size; program = new.rest; address_size_is = at.address_size; in_frame = in_frame } in
-    let long_start : length start ≡ 4 = length-append (version_five order) (size ∷ 0 ∷ []) ∙ ap (λ (n : ℕ). n + 2) (length-number_bytes order 2 5) in
+    let long_start : length start_bytes ≡ 4 = length-append (version_five order) (size ∷ 0 ∷ []) ∙ ap (λ (n : ℕ). n + 2) (length-number_bytes order 2 5) in
     let long_number : length number ≡ offset_size format = length-number_bytes order (offset_size format) (length counted) in
-    let long : length head ≡ length initial + 4 + offset_size format = omega (arith, length-append initial (start ++ number), length-append start number, long_start, long_number) in
+    let long : length head ≡ length initial + 4 + offset_size format = omega (arith, length-append initial (start_bytes ++ number), length-append start_bytes number, long_start, long_number) in
     record {
-      none = λ unit x more p e. no_fields order format body size counted new.rest offset place unit at r.none (candidate order format body fits unit x more p e);
-      before = head ++ r.before;
-      from = r.left ++ new.rest;
-      split = ap (λ (z : List ℕ). initial ++ z) (body_is ∙ ap (λ (z : List ℕ). z ++ (r.left ++ new.rest)) (sym fields_are))
-          ∙ sym (append_assoc initial ((start ++ number) ++ r.before) (r.left ++ new.rest)) ∙ ap (λ (z : List ℕ). z ++ (r.left ++ new.rest)) (sym (append_assoc initial (start ++ number) r.before));
-      place = omega (arith, r.place, at.place_is, length-append head r.before, long);
-      reason = at_header order fault.reason head r.before r.left (r.left ++ new.rest) in_header (omega (arith, length-append head r.before, long)) r.reason;
+      broken = record {
+        none = λ unit x more p e. no_fields order format body size counted new.rest offset place unit at r.none (candidate order format body fits unit x more p e);
+        before = head ++ r.before;
+        from = r.left ++ new.rest;
+        split = ap (λ (z : List ℕ). initial ++ z) (body_is ∙ ap (λ (z : List ℕ). z ++ (r.left ++ new.rest)) (sym fields_are))
+            ∙ sym (append_assoc initial ((start_bytes ++ number) ++ r.before) (r.left ++ new.rest)) ∙ ap (λ (z : List ℕ). z ++ (r.left ++ new.rest)) (sym (append_assoc initial (start_bytes ++ number) r.before));
+        place = omega (arith, r.place, at.place_is, length-append head r.before, long);
+        reason = at_header order format fault.reason head r.before r.left (r.left ++ new.rest) in_header (omega (arith, length-append head r.before, long)) r.reason;
+      };
+      first = IsFirstField.counted r.before r.left in_header r.reason;
     }
   where
     shift : (a b c d e : List ℕ) → a ++ b ++ (c ++ d) ++ e ≡ ((a ++ b) ++ c) ++ (d ++ e)

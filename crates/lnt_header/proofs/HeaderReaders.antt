@@ -1,28 +1,25 @@
 -- The fields of one byte that are read, and refused.
-use Rattle.std.proofs.Common.{◌≡◌, ◌≢◌, ℕ, zero, suc, ◌+◌, ◌-◌, ◌<◌, ◌≤◌, List, [], ◌∷◌, ◌++◌, length, take, drop, get_or, refl, sym, ap, subst, ◌∙◌, append_assoc, arith, ◌⊎◌, inl, inr}
+use Rattle.std.proofs.Common.{◌≡◌, ◌≢◌, ℕ, zero, suc, ◌+◌, ◌-◌, ◌<◌, ◌≤◌, List, [], ◌∷◌, ◌++◌, length, take, drop, get_or, refl, sym, ap, subst, ◌∙◌, arith, ◌⊎◌, inl, inr}
 use Rattle.std.proofs.lemmas.List.{length-append, append-nil, length-take-le, get_or-take, drop_more, take-append-drop}
 use Rattle.lnt_wire.specs.At.{At}
 use Rattle.lnt_wire.specs.Bytes.{NoneSpelled, IsCode, TakenBytes}
 use Rattle.lnt_wire.specs.Reading.{Reads, Refuses}
-use Rattle.lnt_header.specs.FieldFaults.IsCutField.{number}
 use Rattle.lnt_wire.specs.declared.fault.Fault.{Fault}
 use Rattle.lnt_wire.specs.declared.fault.Reason.{Reason}
 use Rattle.lnt_wire.specs.declared.fault.Reason.TheVariants.{Truncated, MaxOpsZero, LineRangeZero, OpcodeBaseZero, StandardLength}
 use Rattle.lnt_wire.specs.declared.format.Format.{Format}
 use Rattle.lnt_wire.specs.declared.format.Order.{Order}
 use Rattle.lnt_wire.specs.Laws.Lengths.{same_front}
-use Rattle.lnt_header.specs.Laws.Readers.{any, any_local, refuses_any, moved, refuses_first, refuses_second, reads_both}
+use Rattle.lnt_header.specs.Laws.Readers.{first_refused, second_refused, reads_both}
 use Rattle.lnt_header.specs.declared.header.Entry.{Entry}
 use Rattle.lnt_header.specs.declared.header.Pair.{Pair}
 use Rattle.lnt_header.specs.TableBytes.{TableOf}
 use Rattle.lnt_header.specs.TableFaults.{IsTableFault}
-use Rattle.lnt_header.specs.FieldsBytes.{FieldsBytes, BehindSingles, BehindLengths, TwoTables, IsHeaderFault}
-use Rattle.lnt_header.specs.FieldsBytes.IsHeaderFault.{table, singles, lengths}
+use Rattle.lnt_header.specs.FieldsBytes.{FieldsBytes, BehindSingles, BehindLengths, TwoTables, TwoTablesFault, BehindSinglesFault, IsHeaderFault}
 use Rattle.lnt_header.specs.Laws.Tables.{same_table}
-use Rattle.lnt_header.proofs.TableReaders.{table_local}
 use Rattle.lnt_header.specs.declared.numbers.Singles.{Singles}
 use Rattle.lnt_header.specs.HeaderRules.{known_lengths, AreStandardLengths}
-use Rattle.lnt_header.specs.HeaderFaults.{SinglesBytes, IsSinglesFault, LengthsBytes, IsLengthsFault}
+use Rattle.lnt_header.specs.HeaderFaults.{SinglesBytes, AreCutSingles, IsSinglesFault, LengthsBytes, AreCutLengths, IsLengthsFault}
 
 -- a fault behind so many bytes
 behind : {X : Type 0} {IsSo : Reason → List ℕ → List ℕ → Type 0} (Spells : X → List ℕ → Type 0) (old : At) (fault : Fault) (reason : Reason) (i : ℕ)
@@ -87,9 +84,11 @@ cut {X} {IsSo} Spells old fault place same so none = record {
   none = none;
 }
 
-pub cut_singles : (old : At) (fault : Fault) → length old.rest < 6 → fault.place ≡ old.place + length old.rest → fault.reason ≡ Truncated → Refuses IsSinglesFault SinglesBytes old fault
-cut_singles old fault lt place reason =
-    cut SinglesBytes old fault place reason (number 1 (omega arith) (omega arith)) (λ s x more p e. omega (arith, ap length e, length-append x more, ap length p.spelled))
+pub cut_singles : (old : At) (fault : Fault) → length old.rest < 6 → (1 < length old.rest → get_or old.rest 1 0 ≢ 0) → (4 < length old.rest → get_or old.rest 4 0 ≢ 0) → fault.place ≡ old.place + length old.rest
+    → fault.reason ≡ Truncated → Refuses IsSinglesFault SinglesBytes old fault
+cut_singles old fault lt max_ops line_range place reason =
+    let cut_there : AreCutSingles old.rest [] = record { ends = refl; few = lt; max_ops = λ there. omega (arith, max_ops there); line_range = λ there. omega (arith, line_range there) } in
+    cut SinglesBytes old fault place reason cut_there (λ s x more p e. omega (arith, ap length e, length-append x more, ap length p.spelled))
 
 six_of : (bytes : List ℕ) → length bytes ≡ 6 → bytes ≡ get_or bytes 0 0 ∷ get_or bytes 1 0 ∷ get_or bytes 2 0 ∷ get_or bytes 3 0 ∷ get_or bytes 4 0 ∷ get_or bytes 5 0 ∷ []
 six_of (a ∷ b ∷ c ∷ d ∷ f ∷ g ∷ []) e = refl
@@ -194,10 +193,11 @@ refuses_length opcode_base i opcode given old fault h lt small long given_is oth
     )
     (none_length opcode_base i old.rest lt small (λ e. other (given_is ∙ e)))
 
-pub cut_lengths : (opcode_base : ℕ) (old : At) (fault : Fault) → 0 < opcode_base → length old.rest < opcode_base - 1 → fault.place ≡ old.place + length old.rest → fault.reason ≡ Truncated
-    → Refuses (IsLengthsFault opcode_base) (LengthsBytes opcode_base) old fault
-cut_lengths opcode_base old fault some lt place reason =
-    cut (LengthsBytes opcode_base) old fault place reason (number 1 (omega arith) (omega arith)) (λ ls x more p e. omega (arith, ap length e, length-append x more, ap length p.2, p.0))
+pub cut_lengths : (opcode_base n : ℕ) (old : At) (fault : Fault) → 0 < opcode_base → length old.rest < opcode_base - 1 → Agrees n old.rest → (n < 12 → opcode_base ≡ n + 1) → fault.place ≡ old.place + length old.rest
+    → fault.reason ≡ Truncated → Refuses (IsLengthsFault opcode_base) (LengthsBytes opcode_base) old fault
+cut_lengths opcode_base n old fault some lt h all place reason =
+    let cut_there : AreCutLengths opcode_base old.rest [] = record { ends = refl; few = omega (arith, lt); standard = are_standard old.rest n h (λ small. omega (arith, all small, lt)) } in
+    cut (LengthsBytes opcode_base) old fault place reason cut_there (λ ls x more p e. omega (arith, ap length e, length-append x more, ap length p.2, p.0))
 
 pub reads_lengths : (opcode_base n : ℕ) (given_lengths : List ℕ) (old new : At) → 0 < opcode_base → Reads (TakenBytes (opcode_base - 1)) given_lengths old new → Agrees n old.rest → (n < 12 → opcode_base ≡ n + 1)
     → Reads (LengthsBytes opcode_base) given_lengths old new
@@ -246,41 +246,31 @@ table_code format order = record {
       (ap (λ (ps : List Pair). (ps, s.1)) same.format ∙ ap (λ (es : List Entry). (t.0, es)) same.values, same.bytes);
 }
 
--- a fault in a header's fields is one of a header
-lift_table : (reason : Reason) (before left : List ℕ) → IsTableFault reason before left → IsHeaderFault reason before left
-lift_table reason before left h = table h
+pub refuses_singles : (format : Format) (old : At) (fault : Fault) → Refuses IsSinglesFault SinglesBytes old fault → Refuses (IsHeaderFault format old.order) (FieldsBytes format old.order) old fault
+refuses_singles format old fault r = first_refused SinglesBytes (BehindSingles format old.order) old fault r
 
-as_header : {X : Type 0} (P : X → List ℕ → Type 0) (old : At) (fault : Fault) → Refuses IsTableFault P old fault → Refuses IsHeaderFault P old fault
-as_header P old fault r = record { before = r.before; left = r.left; split = r.split; place = r.place; reason = table r.reason; none = r.none }
-
-pub refuses_singles : (format : Format) (old : At) (fault : Fault) → Refuses IsSinglesFault SinglesBytes old fault → Refuses IsHeaderFault (FieldsBytes format old.order) old fault
-refuses_singles format old fault r =
-    let at : Refuses IsHeaderFault SinglesBytes old fault = record { before = r.before; left = r.left; split = r.split; place = r.place; reason = singles r.reason; none = r.none } in
-    refuses_first SinglesBytes (BehindSingles format old.order) old fault at
+behind_singles : (format : Format) (s : Singles) (old m1 : At) (fault : Fault) → Reads SinglesBytes s old m1 → Refuses (BehindSinglesFault format m1.order s) (BehindSingles format m1.order s) m1 fault
+    → Refuses (IsHeaderFault format old.order) (FieldsBytes format old.order) old fault
+behind_singles format s old m1 fault r t = second_refused (BehindSinglesFault format) SinglesBytes (BehindSingles format) s old m1 fault singles_code r t
 
 pub refuses_lengths : (format : Format) (s : Singles) (old m1 : At) (fault : Fault) → Reads SinglesBytes s old m1 → Refuses (IsLengthsFault s.opcode_base) (LengthsBytes s.opcode_base) m1 fault
-    → Refuses IsHeaderFault (FieldsBytes format old.order) old fault
-refuses_lengths format s old m1 fault r t =
-    let whole = refuses_second SinglesBytes (BehindSingles format) s old m1 fault any_local singles_code r
-    (refuses_first (LengthsBytes s.opcode_base) (BehindLengths format m1.order) m1 fault (refuses_any m1 fault t)) in
-    moved (FieldsBytes format old.order) s old m1 fault r t (lengths s r.spelling t.before r.spelled refl t.reason) whole.none
+    → Refuses (IsHeaderFault format old.order) (FieldsBytes format old.order) old fault
+refuses_lengths format s old m1 fault r t = behind_singles format s old m1 fault r (first_refused (LengthsBytes s.opcode_base) (BehindLengths format m1.order) m1 fault t)
 
 behind_lengths : (format : Format) (s : Singles) (ls : List ℕ) (old m1 m2 : At) (fault : Fault) → Reads SinglesBytes s old m1 → Reads (LengthsBytes s.opcode_base) ls m1 m2
-    → Refuses IsTableFault (TwoTables format m2.order) m2 fault → Refuses IsHeaderFault (FieldsBytes format old.order) old fault
+    → Refuses (TwoTablesFault format m2.order) (TwoTables format m2.order) m2 fault → Refuses (IsHeaderFault format old.order) (FieldsBytes format old.order) old fault
 behind_lengths format s ls old m1 m2 fault r t u =
-    as_header (FieldsBytes format old.order) old fault
-    (refuses_second SinglesBytes (BehindSingles format) s old m1 fault table_local singles_code r
-    (refuses_second (LengthsBytes s.opcode_base) (BehindLengths format) ls m1 m2 fault table_local (lengths_code s.opcode_base) t u))
+    behind_singles format s old m1 fault r (second_refused (λ order _. TwoTablesFault format order) (LengthsBytes s.opcode_base) (BehindLengths format) ls m1 m2 fault (lengths_code s.opcode_base) t u)
 
 pub refuses_directories : (format : Format) (s : Singles) (ls : List ℕ) (old m1 m2 : At) (fault : Fault) → Reads SinglesBytes s old m1 → Reads (LengthsBytes s.opcode_base) ls m1 m2
-    → Refuses IsTableFault (TableOf format m2.order) m2 fault → Refuses IsHeaderFault (FieldsBytes format old.order) old fault
-refuses_directories format s ls old m1 m2 fault r t u = behind_lengths format s ls old m1 m2 fault r t (refuses_first (TableOf format m2.order) (λ _. TableOf format m2.order) m2 fault u)
+    → Refuses (IsTableFault format m2.order) (TableOf format m2.order) m2 fault → Refuses (IsHeaderFault format old.order) (FieldsBytes format old.order) old fault
+refuses_directories format s ls old m1 m2 fault r t u = behind_lengths format s ls old m1 m2 fault r t (first_refused (TableOf format m2.order) (λ _. TableOf format m2.order) m2 fault u)
 
 pub refuses_files : (format : Format) (s : Singles) (ls : List ℕ) (directories : List Pair × List Entry) (old m1 m2 m3 : At) (fault : Fault) → Reads SinglesBytes s old m1 → Reads (LengthsBytes s.opcode_base) ls m1 m2
-    → Reads (TableOf format m2.order) directories m2 m3 → Refuses IsTableFault (TableOf format m3.order) m3 fault → Refuses IsHeaderFault (FieldsBytes format old.order) old fault
+    → Reads (TableOf format m2.order) directories m2 m3 → Refuses (IsTableFault format m3.order) (TableOf format m3.order) m3 fault → Refuses (IsHeaderFault format old.order) (FieldsBytes format old.order) old fault
 refuses_files format s ls directories old m1 m2 m3 fault r t u v =
     behind_lengths format s ls old m1 m2 fault r t
-    (refuses_second (TableOf format m2.order) (λ order _. TableOf format order) directories m2 m3 fault table_local (table_code format m2.order) u v)
+    (second_refused (λ order _. IsTableFault format order) (TableOf format m2.order) (λ order _. TableOf format order) directories m2 m3 fault (table_code format m2.order) u v)
 
 pub reads_fields : (format : Format) (s : Singles) (ls : List ℕ) (directories files : List Pair × List Entry) (old m1 m2 m3 new : At) → Reads SinglesBytes s old m1 → Reads (LengthsBytes s.opcode_base) ls m1 m2
     → Reads (TableOf format m2.order) directories m2 m3 → Reads (TableOf format m3.order) files m3 new → Reads (FieldsBytes format old.order) (s, (ls, (directories, files))) old new

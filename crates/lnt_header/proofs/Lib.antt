@@ -7,3 +7,4 @@ pub mod Places
 pub mod StartReaders
 pub mod TableReaders
 pub mod TestLemmas
+pub mod WrongTables

@@ -1,15 +1,15 @@
 -- The fields up to header_length that are read, and refused.
-use Rattle.std.proofs.Common.{◌≡◌, ◌≢◌, ℕ, ◌^◌, ◌<◌, List, [], ◌∷◌, ◌++◌, length, refl, sym, ap, subst, ◌∙◌, append_assoc, arith}
+use Rattle.std.proofs.Common.{◌≡◌, ◌≢◌, ℕ, List, [], ◌∷◌, ◌++◌, length, refl, sym, ap, subst, ◌∙◌, append_assoc, arith}
 use Rattle.std.proofs.lemmas.List.{length-append}
 use Rattle.lnt_wire.specs.At.{At}
-use Rattle.lnt_wire.specs.Bytes.{NoneSpelled, IsCode, TakenBytes}
-use Rattle.lnt_wire.specs.Numbers.{NumberBytes, number_bytes, offset_size, OffsetBytes}
+use Rattle.lnt_wire.specs.Bytes.{IsCode, TakenBytes}
+use Rattle.lnt_wire.specs.Numbers.{NumberBytes, offset_size, OffsetBytes}
 use Rattle.lnt_wire.specs.Reading.{Reads, RefusesField, Refuses, IsCutShort}
 use Rattle.lnt_wire.specs.declared.format.Format.{Format}
 use Rattle.lnt_wire.specs.declared.format.Order.{Order}
 use Rattle.lnt_wire.specs.declared.fault.Fault.{Fault}
 use Rattle.lnt_wire.specs.declared.fault.Reason.{Reason}
-use Rattle.lnt_wire.specs.declared.fault.Reason.TheVariants.{Truncated, AddressSize, SegmentSelector, HeaderLength}
+use Rattle.lnt_wire.specs.declared.fault.Reason.TheVariants.{AddressSize, SegmentSelector, HeaderLength}
 use Rattle.lnt_wire.specs.Laws.Codes.{number_code}
 use Rattle.lnt_wire.specs.Laws.Lengths.{same_rest}
 use Rattle.lnt_wire.specs.Laws.Values.{offset_width}

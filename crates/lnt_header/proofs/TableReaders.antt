@@ -1,90 +1,38 @@
 -- Tables that are read, and refused.
-use Rattle.std.proofs.Common.{◌≡◌, ℕ, ◌+◌, ◌%◌, ◌<◌, ◌≤◌, List, [], ◌∷◌, ◌++◌, length, take, drop, get_or, refl, sym, ap, subst, ◌∙◌, append_assoc, add-zero, arith, inl}
+use Rattle.std.proofs.Common.{◌≡◌, ℕ, ◌+◌, ◌<◌, List, [], ◌∷◌, ◌++◌, length, take, drop, get_or, refl, sym, ap, subst, ◌∙◌, append_assoc, add-zero, arith}
 use Rattle.std.proofs.lemmas.List.{length-append, append-nil, take_more, drop_more, take-append-drop}
 use Rattle.lnt_wire.specs.At.{At}
 use Rattle.lnt_wire.specs.Bytes.{NoneSpelled, IsCode}
 use Rattle.lnt_wire.specs.FormBytes.{form_code, IsUnknownForm, ValueBytes}
-use Rattle.lnt_wire.specs.FormFaults.{IsCutText, IsBlockFault, IsValueFault}
-use Rattle.lnt_wire.specs.FormFaults.IsBlockFault.{no_length, cut_block}
+use Rattle.lnt_wire.specs.FormFaults.{IsValueFault}
 use Rattle.lnt_wire.specs.Leb128.{UnsignedLeb, IsLargeUnsigned, IsLebFault}
-use Rattle.lnt_wire.specs.Numbers.{NumberBytes, number_bytes, offset_size}
+use Rattle.lnt_wire.specs.Numbers.{NumberBytes}
 use Rattle.lnt_wire.specs.Reading.{Reads, RefusesField, Refuses, IsCutShort}
-use Rattle.lnt_header.specs.FieldFaults.{IsCutField}
-use Rattle.lnt_header.specs.FieldFaults.IsCutField.{number, text, leb, block, sized_block, operation}
 use Rattle.lnt_wire.specs.declared.form.Form.{Form}
-use Rattle.lnt_wire.specs.declared.form.Form.TheVariants as forms
 use Rattle.lnt_wire.specs.declared.form.FormValue.{FormValue}
 use Rattle.lnt_wire.specs.declared.format.Format.{Format}
-use Rattle.lnt_wire.specs.declared.format.Format.TheVariants.{D32, D64}
 use Rattle.lnt_wire.specs.declared.format.Order.{Order}
-use Rattle.lnt_wire.specs.declared.format.Order.TheVariants.{Little, Big}
 use Rattle.lnt_wire.specs.declared.fault.Fault.{Fault}
-use Rattle.lnt_wire.specs.declared.fault.Reason.{Reason}
-use Rattle.lnt_wire.specs.declared.fault.Reason.TheVariants.{Truncated, UnknownForm, EmptyFormat, LebTooLarge}
+use Rattle.lnt_wire.specs.declared.fault.Reason.TheVariants.{UnknownForm, EmptyFormat}
 use Rattle.lnt_wire.specs.Laws.Codes.{unsigned_code, number_code, peel_by}
 use Rattle.lnt_wire.specs.Laws.Lengths.{width_1}
 use Rattle.lnt_header.specs.Joins.{Both, Several, Each}
 use Rattle.lnt_header.specs.Laws.Lists.{several_code}
 use Rattle.lnt_wire.specs.Laws.Values.{same_value}
-use Rattle.lnt_header.specs.Laws.Readers.{IsLocal, cut_later, any, any_local, refuses_here, nothing_asked, moved, refuses_field, refuses_map, reads_map, reads_both, refuses_first, refuses_second, reads_none, reads_more, refuses_more}
+use Rattle.lnt_header.specs.Laws.Readers.{refuses_here, moved_field, refuses_field, refuses_map, reads_map, reads_both, first_refused, second_refused, several_refused, reads_none, reads_more}
 use Rattle.lnt_header.specs.declared.header.Entry.{Entry}
 use Rattle.lnt_header.specs.declared.header.Pair.{Pair}
 use Rattle.lnt_header.specs.TableBytes.{PairBytes, ValuesBytes, EntryBytes, TableOf}
-use Rattle.lnt_header.specs.TableFaults.{IsTableFault}
+use Rattle.lnt_header.specs.FirstFaults.FirstOf.{first}
+use Rattle.lnt_header.specs.TableFaults.{IsNumberFault, IsCodeFault, IsPairFault, IsPairsFault, IsEntryFault, IsEntriesFault, IsSizeFault, BehindPairsFault, BehindCountFault, IsTableFault}
+use Rattle.lnt_header.specs.TableFaults.IsCodeFault.{no_code}
+use Rattle.lnt_header.specs.TableFaults.IsEntryFault.{no_value}
+use Rattle.lnt_header.specs.TableFaults.IsSizeFault.{no_size}
 use Rattle.lnt_header.specs.Laws.Tables.{one_digit, pair_code, entry_code}
 
-later : (reason : Reason) (front before left : List ℕ) → IsTableFault reason before left → IsTableFault reason (front ++ before) left
-later Truncated front before left h = cut_later front before left h
-later LebTooLarge front before left h = h
-later (UnknownForm code) front before left h = h
-later EmptyFormat front before left h = (h.0, h.1, h.2, front ++ h.3, h.4, h.5, h.6, ap (λ (z : List ℕ). front ++ z) h.7 ∙ sym (append_assoc front h.3 (0 ∷ [])))
-later reason front before left h = absurd h
-
-pub table_local : IsLocal IsTableFault
-table_local = record { later = later }
-
-short_so : (n : ℕ) (reason : Reason) (bytes : List ℕ) → n ≤ 16 → IsCutShort n reason bytes → IsTableFault reason [] bytes
-short_so n reason bytes small h = subst (λ (c : Reason). IsTableFault c [] bytes) (sym h.reason_is) (number n small h.short)
-
-leb_so : (reason : Reason) (bytes : List ℕ) → IsLebFault IsLargeUnsigned reason bytes → IsTableFault reason [] bytes
-leb_so Truncated bytes h = leb h
-leb_so LebTooLarge bytes h = (h.0, h.1, h.2, h.4, inl h.3)
-leb_so reason bytes h = absurd h
-
-text_so : (reason : Reason) (bytes : List ℕ) → IsCutText reason bytes → IsTableFault reason [] bytes
-text_so reason bytes h = subst (λ (c : Reason). IsTableFault c [] bytes) (sym h.reason_is) (text h.no_zero)
-
-block_so : (reason : Reason) (bytes : List ℕ) → IsBlockFault UnsignedLeb (IsLebFault IsLargeUnsigned) reason bytes → IsTableFault reason [] bytes
-block_so reason bytes (no_length h) = leb_so reason bytes h
-block_so reason bytes (cut_block n spelling rest e p joined lt) = subst (λ (c : Reason). IsTableFault c [] bytes) (sym e) (block n spelling rest p joined lt)
-
-sized_so : (order : Order) (size : ℕ) (reason : Reason) (bytes : List ℕ) → size ≤ 4 → IsBlockFault (NumberBytes order size) (IsCutShort size) reason bytes → IsTableFault reason [] bytes
-sized_so order size reason bytes small (no_length h) = short_so size reason bytes (omega arith) h
-sized_so order size reason bytes small (cut_block n spelling rest e p joined lt) =
-    subst (λ (c : Reason). IsTableFault c [] bytes) (sym e) (sized_block order size n spelling rest small p joined lt)
-
-pub small_offset : (format : Format) → offset_size format ≤ 16
-small_offset D32 = omega arith
-small_offset D64 = omega arith
-
-value_so : (format : Format) (order : Order) (form : Form) (reason : Reason) (bytes : List ℕ) → IsValueFault format order form reason bytes → IsTableFault reason [] bytes
-value_so format order forms.Data1 reason bytes h = short_so 1 reason bytes (omega arith) h
-value_so format order forms.Data2 reason bytes h = short_so 2 reason bytes (omega arith) h
-value_so format order forms.Data4 reason bytes h = short_so 4 reason bytes (omega arith) h
-value_so format order forms.Data8 reason bytes h = short_so 8 reason bytes (omega arith) h
-value_so format order forms.Data16 reason bytes h = short_so 16 reason bytes (omega arith) h
-value_so format order forms.Strp reason bytes h = short_so (offset_size format) reason bytes (small_offset format) h
-value_so format order forms.LineStrp reason bytes h = short_so (offset_size format) reason bytes (small_offset format) h
-value_so format order forms.Udata reason bytes h = leb_so reason bytes h
-value_so format order forms.Text reason bytes h = text_so reason bytes h
-value_so format order forms.Block reason bytes h = block_so reason bytes h
-value_so format order forms.Block1 reason bytes h = sized_so order 1 reason bytes (omega arith) h
-value_so format order forms.Block2 reason bytes h = sized_so order 2 reason bytes (omega arith) h
-value_so format order forms.Block4 reason bytes h = sized_so order 4 reason bytes (omega arith) h
-
 -- numbers that are refused
-refuses_leb : (old : At) (fault : Fault) → RefusesField (IsLebFault IsLargeUnsigned) UnsignedLeb old fault → Refuses IsTableFault UnsignedLeb old fault
-refuses_leb old fault r = refuses_field old fault (leb_so fault.reason old.rest) r
+refuses_leb : (old : At) (fault : Fault) → RefusesField (IsLebFault IsLargeUnsigned) UnsignedLeb old fault → Refuses IsNumberFault UnsignedLeb old fault
+refuses_leb old fault r = refuses_field old fault (λ so. (refl, so)) r
 
 -- ---- pairs
 
@@ -98,33 +46,33 @@ reads_pair old middle new content code pair r s content_is code_is =
 pair_part : Pair → ℕ × ℕ
 pair_part pair = (pair.content, form_code pair.form)
 
-pub refuses_pair_content : (old : At) (fault : Fault) → RefusesField (IsLebFault IsLargeUnsigned) UnsignedLeb old fault → Refuses IsTableFault PairBytes old fault
+pub refuses_pair_content : (old : At) (fault : Fault) → RefusesField (IsLebFault IsLargeUnsigned) UnsignedLeb old fault → Refuses IsPairFault PairBytes old fault
 unfolding pair_part
 refuses_pair_content old fault r =
     refuses_map (Both UnsignedLeb (λ _. UnsignedLeb)) PairBytes pair_part old fault (λ y x p. p)
-    (refuses_first UnsignedLeb (λ _. UnsignedLeb) old fault (refuses_leb old fault r))
+    (first_refused UnsignedLeb (λ _. UnsignedLeb) old fault (refuses_leb old fault r))
 
-pub refuses_pair_form : (old middle : At) (content : ℕ) (fault : Fault) → Reads UnsignedLeb content old middle → RefusesField (IsLebFault IsLargeUnsigned) UnsignedLeb middle fault → Refuses IsTableFault PairBytes old fault
+pub refuses_pair_form : (old middle : At) (content : ℕ) (fault : Fault) → Reads UnsignedLeb content old middle → RefusesField (IsLebFault IsLargeUnsigned) UnsignedLeb middle fault → Refuses IsPairFault PairBytes old fault
 unfolding pair_part
 refuses_pair_form old middle content fault r s =
     refuses_map (Both UnsignedLeb (λ _. UnsignedLeb)) PairBytes pair_part old fault (λ y x p. p)
-    (refuses_second UnsignedLeb (λ _ _. UnsignedLeb) content old middle fault table_local unsigned_code r (refuses_leb middle fault s))
+    (second_refused (λ _ _. IsCodeFault) UnsignedLeb (λ _ _. UnsignedLeb) content old middle fault unsigned_code r (refuses_field middle fault (λ so. no_code (refl, so)) s))
 
 -- a code that is there, and no form has
 abbrev CodeBytes : Form → List ℕ → Type 0
 CodeBytes form bytes = UnsignedLeb (form_code form) bytes
 
 unknown_here : (middle after : At) (code : ℕ) (fault : Fault) → Reads UnsignedLeb code middle after → IsUnknownForm code → fault.place ≡ middle.place → fault.reason ≡ UnknownForm code
-    → Refuses IsTableFault CodeBytes middle fault
+    → Refuses IsCodeFault CodeBytes middle fault
 unknown_here middle after code fault s unknown place reason =
-    refuses_here middle fault (UnknownForm code) place reason (s.spelling, after.rest, s.whole, s.spelled, unknown)
+    refuses_here middle fault (UnknownForm code) place reason (IsCodeFault.unknown code s.spelling after.rest refl refl s.spelled s.whole unknown)
     (λ form x more p e. unknown form (unsigned_code.one (form_code form) code x s.spelling more after.rest p s.spelled (e ∙ s.whole)).0)
 
 pub refuses_unknown : (old middle after : At) (content code : ℕ) (fault : Fault) → Reads UnsignedLeb content old middle → Reads UnsignedLeb code middle after → IsUnknownForm code
-    → fault.place ≡ middle.place → fault.reason ≡ UnknownForm code → Refuses IsTableFault PairBytes old fault
+    → fault.place ≡ middle.place → fault.reason ≡ UnknownForm code → Refuses IsPairFault PairBytes old fault
 refuses_unknown old middle after content code fault r s unknown place reason =
     refuses_map (Both UnsignedLeb (λ _. CodeBytes)) PairBytes (λ pair. (pair.content, pair.form)) old fault (λ y x p. p)
-    (refuses_second UnsignedLeb (λ _ _. CodeBytes) content old middle fault table_local unsigned_code r (unknown_here middle after code fault s unknown place reason))
+    (second_refused (λ _ _. IsCodeFault) UnsignedLeb (λ _ _. CodeBytes) content old middle fault unsigned_code r (unknown_here middle after code fault s unknown place reason))
 
 pub pairs_none : (at : At) → Reads (Each PairBytes) [] at at
 pairs_none at = reads_none PairBytes at
@@ -132,9 +80,9 @@ pairs_none at = reads_none PairBytes at
 pub pairs_more : (pairs : List Pair) (pair : Pair) (old middle new : At) → Reads (Each PairBytes) pairs old middle → Reads PairBytes pair middle new → Reads (Each PairBytes) (pairs ++ pair ∷ []) old new
 pairs_more pairs pair old middle new r s = reads_more (λ _. PairBytes) pairs pair old middle new r s
 
-pub refuses_pairs : (n : ℕ) (pairs : List Pair) (old middle : At) (fault : Fault) → Reads (Each PairBytes) pairs old middle → length pairs < n → Refuses IsTableFault PairBytes middle fault
-    → Refuses IsTableFault (Several n PairBytes) old fault
-refuses_pairs n pairs old middle fault r lt s = refuses_more (λ _. PairBytes) n pairs old middle fault table_local pair_code r lt s
+pub refuses_pairs : (n : ℕ) (pairs : List Pair) (old middle : At) (fault : Fault) → Reads (Each PairBytes) pairs old middle → length pairs < n → Refuses IsPairFault PairBytes middle fault
+    → Refuses (IsPairsFault n) (Several n PairBytes) old fault
+refuses_pairs n pairs old middle fault r lt s = several_refused (λ _. IsPairFault) (λ _. PairBytes) n pairs old middle fault pair_code r lt s
 
 -- ---- entries
 
@@ -143,8 +91,8 @@ pub entries_more : (format : Format) (pairs : List Pair) (entries : List Entry) 
 entries_more format pairs entries entry old middle new r s = reads_more (λ order. EntryBytes format order pairs) entries entry old middle new r s
 
 pub refuses_entries : (format : Format) (pairs : List Pair) (n : ℕ) (entries : List Entry) (old middle : At) (fault : Fault) → Reads (Each (EntryBytes format old.order pairs)) entries old middle → length entries < n
-    → Refuses IsTableFault (EntryBytes format middle.order pairs) middle fault → Refuses IsTableFault (Several n (EntryBytes format old.order pairs)) old fault
-refuses_entries format pairs n entries old middle fault r lt s = refuses_more (λ order. EntryBytes format order pairs) n entries old middle fault table_local (entry_code format old.order pairs) r lt s
+    → Refuses (IsEntryFault format middle.order pairs) (EntryBytes format middle.order pairs) middle fault → Refuses (IsEntriesFault format old.order pairs n) (Several n (EntryBytes format old.order pairs)) old fault
+refuses_entries format pairs n entries old middle fault r lt s = several_refused (λ order. IsEntryFault format order pairs) (λ order. EntryBytes format order pairs) n entries old middle fault (entry_code format old.order pairs) r lt s
 
 -- ---- values
 
@@ -190,11 +138,11 @@ none_values format order (a ∷ pairs) pair behind (u ∷ us) x rest bytes p who
     none_values format order pairs pair behind us p.1.back rest (p.1.back ++ rest) p.1.second refl none vs q.1.back more q.1.second one.behind
 
 pub refuses_values : (format : Format) (pairs : List Pair) (pair : Pair) (behind : List Pair) (values : List FormValue) (old middle : At) (fault : Fault) → Reads (ValuesBytes format old.order pairs) values old middle
-    → RefusesField (IsValueFault format middle.order pair.form) (ValueBytes format middle.order pair.form) middle fault → Refuses IsTableFault (ValuesBytes format old.order (pairs ++ pair ∷ behind)) old fault
+    → RefusesField (IsValueFault format middle.order pair.form) (ValueBytes format middle.order pair.form) middle fault → Refuses (IsEntryFault format old.order (pairs ++ pair ∷ behind)) (ValuesBytes format old.order (pairs ++ pair ∷ behind)) old fault
 refuses_values format pairs pair behind values old middle fault r s =
     let none : NoneSpelled (ValueBytes format old.order pair.form) middle.rest = subst (λ (o : Order). NoneSpelled (ValueBytes format o pair.form) middle.rest) r.order s.none in
-    let so : Refuses IsTableFault (ValueBytes format middle.order pair.form) middle fault = refuses_field middle fault (value_so format middle.order pair.form fault.reason middle.rest) s in
-    moved (ValuesBytes format old.order (pairs ++ pair ∷ behind)) values old middle fault r so (later fault.reason r.spelling so.before so.left so.reason)
+    let so : IsValueFault format old.order pair.form fault.reason middle.rest = subst (λ (o : Order). IsValueFault format o pair.form fault.reason middle.rest) r.order s.reason in
+    moved_field (ValuesBytes format old.order (pairs ++ pair ∷ behind)) values old middle fault r s.place (no_value pairs pair behind values refl r.spelled so)
     (none_values format old.order pairs pair behind values r.spelling middle.rest old.rest r.spelled r.whole none)
 
 pub values_none : (format : Format) (at : At) → Reads (ValuesBytes format at.order []) [] at at
@@ -210,10 +158,10 @@ values_next format pairs i d values value old middle new lt r s =
 
 pub refuses_values_at : (format : Format) (pairs : List Pair) (i : ℕ) (d : Pair) (values : List FormValue) (old middle : At) (fault : Fault) → i < length pairs
     → Reads (ValuesBytes format old.order (take i pairs)) values old middle → RefusesField (IsValueFault format middle.order (get_or pairs i d).form) (ValueBytes format middle.order (get_or pairs i d).form) middle fault
-    → Refuses IsTableFault (ValuesBytes format old.order pairs) old fault
+    → Refuses (IsEntryFault format old.order pairs) (ValuesBytes format old.order pairs) old fault
 refuses_values_at format pairs i d values old middle fault lt r s =
     let whole : take i pairs ++ get_or pairs i d ∷ drop (i + 1) pairs ≡ pairs = ap (λ (ps : List Pair). take i pairs ++ ps) (sym (drop_more pairs i d lt)) ∙ take-append-drop i pairs in
-    subst (λ (ps : List Pair). Refuses IsTableFault (ValuesBytes format old.order ps) old fault) whole
+    subst (λ (ps : List Pair). Refuses (IsEntryFault format old.order ps) (ValuesBytes format old.order ps) old fault) whole
     (refuses_values format (take i pairs) (get_or pairs i d) (drop (i + 1) pairs) values old middle fault r s)
 
 pub entries_none : (format : Format) (pairs : List Pair) (at : At) → Reads (Each (EntryBytes format at.order pairs)) [] at at
@@ -293,64 +241,47 @@ byte_code order = number_code order 1 width_1
 kinds_code : (n : ℕ) → IsCode (Several n PairBytes)
 kinds_code n = several_code PairBytes n pair_code
 
-refused : (format : Format) (old : At) (fault : Fault) → Refuses IsTableFault (CountOn format old.order) old fault → Refuses IsTableFault (TableOf format old.order) old fault
+refused : (format : Format) (old : At) (fault : Fault) → Refuses (IsTableFault format old.order) (CountOn format old.order) old fault → Refuses (IsTableFault format old.order) (TableOf format old.order) old fault
 refused format old fault r = refuses_map (CountOn format old.order) (TableOf format old.order) table_part old fault (of_table format old.order) r
 
-pub refuses_count : (format : Format) (old : At) (fault : Fault) → RefusesField (IsCutShort 1) (NumberBytes old.order 1) old fault → Refuses IsTableFault (TableOf format old.order) old fault
+pub refuses_count : (format : Format) (old : At) (fault : Fault) → RefusesField (IsCutShort 1) (NumberBytes old.order 1) old fault → Refuses (IsTableFault format old.order) (TableOf format old.order) old fault
 refuses_count format old fault r =
-    refused format old fault (refuses_first (NumberBytes old.order 1) (KindsOn format old.order) old fault
-    (refuses_field old fault (short_so 1 fault.reason old.rest (omega arith)) r))
+    refused format old fault (first_refused (NumberBytes old.order 1) (KindsOn format old.order) old fault (refuses_field old fault (λ so. (refl, so)) r))
 
-behind_count : (format : Format) (n : ℕ) (old m1 : At) (fault : Fault) → Reads (NumberBytes old.order 1) n old m1 → Refuses IsTableFault (KindsOn format m1.order n) m1 fault → Refuses IsTableFault (TableOf format old.order) old fault
-behind_count format n old m1 fault r s = refused format old fault (refuses_second (NumberBytes old.order 1) (KindsOn format) n old m1 fault table_local (byte_code old.order) r s)
+behind_count : (format : Format) (n : ℕ) (old m1 : At) (fault : Fault) → Reads (NumberBytes old.order 1) n old m1 → Refuses (BehindCountFault format m1.order n) (KindsOn format m1.order n) m1 fault → Refuses (IsTableFault format old.order) (TableOf format old.order) old fault
+behind_count format n old m1 fault r s = refused format old fault (second_refused (BehindCountFault format) (NumberBytes old.order 1) (KindsOn format) n old m1 fault (byte_code old.order) r s)
 
-pub refuses_kinds : (format : Format) (n : ℕ) (old m1 : At) (fault : Fault) → Reads (NumberBytes old.order 1) n old m1 → Refuses IsTableFault (Several n PairBytes) m1 fault
-    → Refuses IsTableFault (TableOf format old.order) old fault
-refuses_kinds format n old m1 fault r s = behind_count format n old m1 fault r (refuses_first (Several n PairBytes) (SizeOn format m1.order) m1 fault s)
+pub refuses_kinds : (format : Format) (n : ℕ) (old m1 : At) (fault : Fault) → Reads (NumberBytes old.order 1) n old m1 → Refuses (IsPairsFault n) (Several n PairBytes) m1 fault
+    → Refuses (IsTableFault format old.order) (TableOf format old.order) old fault
+refuses_kinds format n old m1 fault r s = behind_count format n old m1 fault r (first_refused (Several n PairBytes) (SizeOn format m1.order) m1 fault s)
 
 behind_kinds : (format : Format) (n : ℕ) (pairs : List Pair) (old m1 m2 : At) (fault : Fault) → Reads (NumberBytes old.order 1) n old m1 → Reads (Several n PairBytes) pairs m1 m2
-    → Refuses IsTableFault (SizeOn format m2.order pairs) m2 fault → Refuses IsTableFault (TableOf format old.order) old fault
-behind_kinds format n pairs old m1 m2 fault r s t = behind_count format n old m1 fault r (refuses_second (Several n PairBytes) (SizeOn format) pairs m1 m2 fault table_local (kinds_code n) s t)
+    → Refuses (BehindPairsFault format m2.order pairs) (SizeOn format m2.order pairs) m2 fault → Refuses (IsTableFault format old.order) (TableOf format old.order) old fault
+behind_kinds format n pairs old m1 m2 fault r s t = behind_count format n old m1 fault r (second_refused (BehindPairsFault format) (Several n PairBytes) (SizeOn format) pairs m1 m2 fault (kinds_code n) s t)
 
 pub refuses_size : (format : Format) (n : ℕ) (pairs : List Pair) (old m1 m2 : At) (fault : Fault) → Reads (NumberBytes old.order 1) n old m1 → Reads (Several n PairBytes) pairs m1 m2
-    → RefusesField (IsLebFault IsLargeUnsigned) UnsignedLeb m2 fault → Refuses IsTableFault (TableOf format old.order) old fault
+    → RefusesField (IsLebFault IsLargeUnsigned) UnsignedLeb m2 fault → Refuses (IsTableFault format old.order) (TableOf format old.order) old fault
 refuses_size format n pairs old m1 m2 fault r s t =
-    behind_kinds format n pairs old m1 m2 fault r s (refuses_first UnsignedLeb (EntriesOf format m2.order pairs) m2 fault (refuses_leb m2 fault t))
+    behind_kinds format n pairs old m1 m2 fault r s (first_refused UnsignedLeb (EntriesOf format m2.order pairs) m2 fault (refuses_field m2 fault (λ so. no_size (refl, so)) t))
 
 pub refuses_rest : (format : Format) (n size : ℕ) (pairs : List Pair) (old m1 m2 m3 : At) (fault : Fault) → Reads (NumberBytes old.order 1) n old m1 → Reads (Several n PairBytes) pairs m1 m2
-    → Reads UnsignedLeb size m2 m3 → Refuses IsTableFault (Several size (EntryBytes format m3.order pairs)) m3 fault → Refuses IsTableFault (TableOf format old.order) old fault
+    → Reads UnsignedLeb size m2 m3 → Refuses (IsEntriesFault format m3.order pairs size) (Several size (EntryBytes format m3.order pairs)) m3 fault → Refuses (IsTableFault format old.order) (TableOf format old.order) old fault
 refuses_rest format n size pairs old m1 m2 m3 fault r s t u =
     behind_kinds format n pairs old m1 m2 fault r s
-    (refuses_second UnsignedLeb (λ order. EntriesOf format order pairs) size m2 m3 fault table_local unsigned_code t
+    (second_refused (λ order. IsEntriesFault format order pairs) UnsignedLeb (λ order. EntriesOf format order pairs) size m2 m3 fault unsigned_code t
     (refuses_map (Several size (EntryBytes format m3.order pairs)) (EntriesOf format m3.order pairs size) (λ es. es) m3 fault (λ y x p. p.1) u))
 
-no_pairs : (pairs : List Pair) (x : List ℕ) → Each PairBytes pairs x → pairs ≡ [] → x ≡ []
-no_pairs [] x p e = p
-no_pairs (pair ∷ pairs) x p e = absurd cc
-
 pub refuses_empty : (format : Format) (n size : ℕ) (pairs : List Pair) (old m1 m2 m3 : At) (fault : Fault) → Reads (NumberBytes old.order 1) n old m1 → Reads (Several n PairBytes) pairs m1 m2
-    → Reads UnsignedLeb size m2 m3 → n ≡ 0 → 0 < size → fault.place ≡ m2.place → fault.reason ≡ EmptyFormat → Refuses IsTableFault (TableOf format old.order) old fault
+    → Reads UnsignedLeb size m2 m3 → n ≡ 0 → 0 < size → fault.place ≡ m2.place → fault.reason ≡ EmptyFormat → Refuses (IsTableFault format old.order) (TableOf format old.order) old fault
 refuses_empty format n size pairs old m1 m2 m3 fault r s t zero_pairs some place reason =
     let empty : pairs ≡ [] = empty_list pairs (s.spelled.0 ∙ zero_pairs) in
     let no_size : NoneSpelled (SizeOn format m2.order pairs) m2.rest = λ v x more p e.
     let all : p.front ++ (p.back ++ more) ≡ t.spelling ++ m3.rest = sym (append_assoc p.front p.back more) ∙ ap (λ (z : List ℕ). z ++ more) (sym p.joined) ∙ e ∙ t.whole in
     let found = unsigned_code.one v.0 size p.front t.spelling (p.back ++ more) m3.rest p.first t.spelled all in
     omega (arith, found.0, p.second.0 empty, some) in
-    let at_size : Refuses any (SizeOn format m2.order pairs) m2 fault = nothing_asked (SizeOn format m2.order pairs) m2 fault place no_size in
-    let at_kinds = refuses_second (Several n PairBytes) (SizeOn format) pairs m1 m2 fault any_local (kinds_code n) s at_size in
-    let at_count = refuses_second (NumberBytes old.order 1) (KindsOn format) n old m1 fault any_local (byte_code old.order) r at_kinds in
-    let none_at = refuses_map (CountOn format old.order) (TableOf format old.order) table_part old fault (of_table format old.order) at_count in
-    let digit : r.spelling ≡ 0 ∷ [] = r.spelled.spelled ∙ one_digit old.order n r.spelled.fits ∙ ap (λ (k : ℕ). k ∷ []) zero_pairs in
-    let nothing : s.spelling ≡ [] = no_pairs pairs s.spelling s.spelled.1 empty in
-    record {
-      before = r.spelling ++ s.spelling;
-      left = m2.rest;
-      split = r.whole ∙ ap (λ (z : List ℕ). r.spelling ++ z) s.whole ∙ sym (append_assoc r.spelling s.spelling m2.rest);
-      place = omega (arith, place, s.place, r.place, length-append r.spelling s.spelling);
-      reason = subst (λ (c : Reason). IsTableFault c (r.spelling ++ s.spelling) m2.rest) (sym reason)
-          (size, t.spelling, m3.rest, [], t.whole, t.spelled, some, ap (λ (z : List ℕ). z ++ s.spelling) digit ∙ ap (λ (z : List ℕ). 0 ∷ z) nothing);
-      none = none_at.none;
-    }
+    let at_size : Refuses (BehindPairsFault format m2.order pairs) (SizeOn format m2.order pairs) m2 fault =
+    refuses_here m2 fault EmptyFormat place reason (first (IsSizeFault.empty size t.spelling m3.rest refl refl empty t.spelled t.whole some)) no_size in
+    behind_kinds format n pairs old m1 m2 fault r s at_size
 
 pub reads_table : (format : Format) (n size : ℕ) (pairs : List Pair) (entries : List Entry) (old m1 m2 m3 new : At) → Reads (NumberBytes old.order 1) n old m1 → Reads (Several n PairBytes) pairs m1 m2
     → Reads UnsignedLeb size m2 m3 → (n ≡ 0 → size ≡ 0) → Reads (Several size (EntryBytes format m3.order pairs)) entries m3 new → Reads (TableOf format old.order) (pairs, entries) old new

@@ -12,10 +12,12 @@ use Rattle.lnt_wire.specs.Leb128.{IsLeb, UnsignedLeb}
 use Rattle.lnt_wire.specs.Numbers.{number_bytes, offset_size}
 use Rattle.lnt_wire.specs.FormBytes.{IsUnknownForm}
 use Rattle.lnt_wire.specs.FrameBytes.{version_five}
-use Rattle.lnt_wire.specs.FrameFaults.{InFrame, IsCutFrame, IsReserved, IsOtherVersion}
+use Rattle.lnt_wire.specs.FrameFaults.{InFrame, IsCutFrame, IsReserved, IsOtherVersion, IsFrameFault}
 use Rattle.lnt_header.specs.FieldFaults.{IsCutField, IsLargeLeb}
 use Rattle.lnt_header.specs.HeaderRules.{IsAddressSize, known_lengths, AreStandardLengths}
+use Rattle.lnt_header.specs.FieldsBytes.{IsHeaderFault}
 use Rattle.lnt_header.specs.HeaderBytes.{HeaderBytesIn}
+use Rattle.lnt_header.specs.StartBytes.{IsStartFault}
 
 -- ---- where a place lies
 
@@ -110,6 +112,15 @@ pub record Broken {X : Type 0} (Spells : X → List ℕ → Type 0) (order : Ord
   pub place : fault.place ≡ offset + length before
   pub reason : IsAt order fault.reason before from
 
--- no header with a program
-abbrev pub BrokenHeader : Order → Fault → ℕ → List ℕ → Type 0
-BrokenHeader order fault offset bytes = Broken (HeaderBytesIn order) order fault offset bytes
+-- ---- headers
+
+-- The first field of a header that isn't there, behind the fields before it: the initial length or the version, a field up to header_length, or one of those that this counts.
+pub data IsFirstField (order : Order) (reason : Reason) (before from : List ℕ) : Type 0 where
+  frame : IsFrameFault order reason before from → IsFirstField order reason before from
+  start : (format : Format) (fields left : List ℕ) → InFrame order format (version_five order ++ fields) left before from → IsStartFault format order reason fields left → IsFirstField order reason before from
+  counted : (fields left : List ℕ) → (place : InHeader order fields left before from) → IsHeaderFault place.format order reason fields left → IsFirstField order reason before from
+
+-- No header with a program begins the bytes, and the fault is that of its first field that isn't there.
+pub record BrokenHeader (order : Order) (fault : Fault) (offset : ℕ) (bytes : List ℕ) : Type 0 where
+  pub broken : Broken (HeaderBytesIn order) order fault offset bytes
+  pub first : IsFirstField order fault.reason broken.before broken.from

@@ -1,11 +1,10 @@
 -- What a call that writes has written, or why it hasn't.
-use Rattle.std.specs.Prelude.{◌≡◌, ℕ, List, ◌++◌}
+use Rattle.std.specs.Prelude.{◌≡◌, ℕ, List}
 use Rattle.lnt_wire.specs.declared.format.Format.{Format}
 use Rattle.lnt_wire.specs.declared.format.Order.{Order}
 use Rattle.lnt_wire.specs.declared.put.EncodeFault.{EncodeFault}
 use Rattle.lnt_wire.specs.declared.put.EncodeFault.TheVariants.{TooLarge}
 use Rattle.lnt_wire.specs.FormBytes.{FormBytes}
-use Rattle.lnt_wire.specs.InitialLength.{initial_length}
 use Rattle.lnt_header.specs.declared.header.Entry.{Entry}
 use Rattle.lnt_header.specs.Joins.{Each}
 

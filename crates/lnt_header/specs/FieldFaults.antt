@@ -1,8 +1,7 @@
 -- What is wrong where a field isn't there whole, or is out of range.
 --     before   the bytes up to the place of the fault
 --     left     the bytes from the place on up to the limit of the field
-use Rattle.std.specs.Prelude.{◌≡◌, ℕ, ◌^◌, ◌<◌, ◌≤◌, ◌⊎◌, List, [], ◌∷◌, ◌++◌, length, FitsSigned}
-use Rattle.std.specs.Int.{w64}
+use Rattle.std.specs.Prelude.{◌≡◌, ℕ, ◌<◌, ◌≤◌, ◌⊎◌, List, ◌∷◌, ◌++◌, length}
 use Rattle.lnt_wire.specs.FormBytes.{HasNoZero}
 use Rattle.lnt_wire.specs.declared.format.Order.{Order}
 use Rattle.lnt_wire.specs.Numbers.{NumberBytes}

@@ -1,8 +1,9 @@
 -- The fields of a header behind header_length, one after another, and what is wrong where they aren't read.
-use Rattle.std.specs.Prelude.{◌≡◌, ℕ, List, ◌++◌}
+use Rattle.std.specs.Prelude.{ℕ, List}
 use Rattle.lnt_wire.specs.declared.format.Format.{Format}
 use Rattle.lnt_wire.specs.declared.format.Order.{Order}
 use Rattle.lnt_wire.specs.declared.fault.Reason.{Reason}
+use Rattle.lnt_header.specs.FirstFaults.{FirstOf}
 use Rattle.lnt_header.specs.Joins.{Both}
 use Rattle.lnt_header.specs.declared.header.Entry.{Entry}
 use Rattle.lnt_header.specs.declared.header.Pair.{Pair}
@@ -27,8 +28,13 @@ BehindSingles format order s v bytes = Both (LengthsBytes s.opcode_base) (Behind
 abbrev pub FieldsBytes : Format → Order → Singles × (List ℕ × (Table × Table)) → List ℕ → Type 0
 FieldsBytes format order v bytes = Both SinglesBytes (BehindSingles format order) v bytes
 
--- the reasons for which these aren't read, each with the bytes before its place
-pub data IsHeaderFault (reason : Reason) (before left : List ℕ) : Type 0 where
-  table : IsTableFault reason before left → IsHeaderFault reason before left
-  singles : IsSinglesFault reason before left → IsHeaderFault reason before left
-  lengths : (s : Singles) (six behind : List ℕ) → SinglesBytes s six → before ≡ six ++ behind → IsLengthsFault s.opcode_base reason behind left → IsHeaderFault reason before left
+-- ---- what is wrong: the first part that isn't there
+
+abbrev pub TwoTablesFault : Format → Order → Reason → List ℕ → List ℕ → Type 0
+TwoTablesFault format order = FirstOf (TableOf format order) (IsTableFault format order) (λ _. IsTableFault format order)
+
+abbrev pub BehindSinglesFault : Format → Order → Singles → Reason → List ℕ → List ℕ → Type 0
+BehindSinglesFault format order s = FirstOf (LengthsBytes s.opcode_base) (IsLengthsFault s.opcode_base) (λ _. TwoTablesFault format order)
+
+abbrev pub IsHeaderFault : Format → Order → Reason → List ℕ → List ℕ → Type 0
+IsHeaderFault format order = FirstOf SinglesBytes IsSinglesFault (BehindSinglesFault format order)

@@ -8,6 +8,7 @@ pub mod HeaderRules
 pub mod HeaderTests
 pub mod HeaderFaults
 pub mod FieldsBytes
+pub mod FirstFaults
 pub mod Joins
 pub mod Laws
 pub mod OpRules

@@ -15,6 +15,10 @@ use lnt_wire::{Cursor, Fault, Format, Frame, Items, Order, Reason};
 use std::alloc::Global;
 
 /// The header of a frame, and the bytes of its program (DWARF 5, section 6.2.4).
+///
+/// It refuses with `Memory`, and else only where no header with a program is the frame's bytes. The fault is that of
+/// the first field that isn't there whole, or has a value that none may have, and its place is the field's first byte;
+/// where the fields of one byte end too early, that is where they end.
 #[tactic(auto, using(crate::proofs::Allowed::found_header, crate::proofs::HeaderFrames::refuses_start, crate::proofs::HeaderFrames::refuses_fields, crate::proofs::HeaderFrames::header_found))]
 pub fn decode_header<'a>(
     alloc: Global,
@@ -64,7 +68,7 @@ fn read_parts(
     requires size { IsAddressSize address_size }
     requires room { place + length header.now < 2 ^ 64 }
     ensures ok { IfOk result (λ h. HasFields format order address_size header.now h) }
-    ensures err { IfErr result (λ fault. RefusesOr IsHeaderFault (FieldsBytes format order) (standing place header.now order) fault) }
+    ensures err { IfErr result (λ fault. RefusesOr (IsHeaderFault format order) (FieldsBytes format order) (standing place header.now order) fault) }
 {
     let mut cursor = Cursor::new(header, place, order);
     let fields = read_fields(alloc, &mut cursor, format)?;

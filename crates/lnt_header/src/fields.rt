@@ -27,7 +27,7 @@ pub(crate) fn read_fields<'a>(
 ) -> Result<Fields<'a>, Fault>
     ensures ok { IfOk result (λ f. Reads (FieldsBytes format cursor.old.order)
         (f.singles, (f.lengths.now, ((f.directories.0.items, f.directories.1.items), (f.files.0.items, f.files.1.items)))) cursor.old cursor.new) }
-    ensures err { IfErr result (λ fault. RefusesOr IsHeaderFault (FieldsBytes format cursor.old.order) cursor.old fault) }
+    ensures err { IfErr result (λ fault. RefusesOr (IsHeaderFault format cursor.old.order) (FieldsBytes format cursor.old.order) cursor.old fault) }
 {
     let singles = read_singles(cursor)?;
     let lengths = read_lengths(cursor, singles.opcode_base)?;

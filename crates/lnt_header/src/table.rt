@@ -3,7 +3,7 @@ ghost use Rattle.std.specs.Prelude.{◌≡◌, length, IfOk, IfErr};
 ghost use Rattle.lnt_header.specs.Joins.{Several};
 ghost use Rattle.lnt_wire.specs.Reading.{Reads, Refuses, RefusesOr};
 ghost use Rattle.lnt_header.specs.TableBytes.{PairBytes, ValuesBytes, EntryBytes, TableOf};
-ghost use Rattle.lnt_header.specs.TableFaults.{IsTableFault};
+ghost use Rattle.lnt_header.specs.TableFaults.{IsPairFault, IsPairsFault, IsEntryFault, IsEntriesFault, IsTableFault};
 
 use crate::header::{Entry, Pair};
 use crate::short_list::ShortList;
@@ -14,7 +14,7 @@ use std::alloc::Global;
 #[tactic(auto, using(crate::proofs::TableReaders::reads_pair, crate::proofs::TableReaders::refuses_pair_content, crate::proofs::TableReaders::refuses_pair_form, crate::proofs::TableReaders::refuses_unknown))]
 fn read_pair(cursor: &mut Cursor<'_>) -> Result<Pair, Fault>
     ensures ok { IfOk result (λ pair. Reads PairBytes pair cursor.old cursor.new) }
-    ensures err { IfErr result (λ fault. Refuses IsTableFault PairBytes cursor.old fault) }
+    ensures err { IfErr result (λ fault. Refuses IsPairFault PairBytes cursor.old fault) }
 {
     let content = cursor.uleb()?;
     let place = cursor.place();
@@ -32,7 +32,7 @@ fn read_pair(cursor: &mut Cursor<'_>) -> Result<Pair, Fault>
 #[tactic(auto, using(crate::proofs::TableReaders::pairs_none, crate::proofs::TableReaders::pairs_more, crate::proofs::TableReaders::refuses_pairs))]
 fn read_pairs(alloc: Global, cursor: &mut Cursor<'_>, count: u8) -> Result<Vec<Pair>, Fault>
     ensures ok { IfOk result (λ pairs. Reads (Several count PairBytes) pairs.items cursor.old cursor.new) }
-    ensures err { IfErr result (λ fault. RefusesOr IsTableFault (Several count PairBytes) cursor.old fault) }
+    ensures err { IfErr result (λ fault. RefusesOr (IsPairsFault count) (Several count PairBytes) cursor.old fault) }
 {
     let Ok(mut pairs) = Vec::with_capacity(alloc, usize::from(count)) else {
         return Err(no_memory(cursor));
@@ -55,7 +55,7 @@ fn read_values(
     pairs: &[Pair],
 ) -> Result<ShortList<FormValue>, Fault>
     ensures ok { IfOk result (λ values. Reads (ValuesBytes format cursor.old.order pairs.now) values cursor.old cursor.new) }
-    ensures err { IfErr result (λ fault. RefusesOr IsTableFault (ValuesBytes format cursor.old.order pairs.now) cursor.old fault) }
+    ensures err { IfErr result (λ fault. RefusesOr (IsEntryFault format cursor.old.order pairs.now) (ValuesBytes format cursor.old.order pairs.now) cursor.old fault) }
 {
     let mut values = ShortList::new();
     for pair in pairs {
@@ -77,7 +77,7 @@ fn read_entries(
     count: u64,
 ) -> Result<Vec<Entry>, Fault>
     ensures ok { IfOk result (λ entries. Reads (Several count (EntryBytes format cursor.old.order pairs.now)) entries.items cursor.old cursor.new) }
-    ensures err { IfErr result (λ fault. RefusesOr IsTableFault (Several count (EntryBytes format cursor.old.order pairs.now)) cursor.old fault) }
+    ensures err { IfErr result (λ fault. RefusesOr (IsEntriesFault format cursor.old.order pairs.now count) (Several count (EntryBytes format cursor.old.order pairs.now)) cursor.old fault) }
 {
     let mut entries = Vec::new(alloc);
     for _ in 0..count {
@@ -107,7 +107,7 @@ pub(crate) fn read_table(
     format: Format,
 ) -> Result<(Vec<Pair>, Vec<Entry>), Fault>
     ensures ok { IfOk result (λ table. Reads (TableOf format cursor.old.order) (table.0.items, table.1.items) cursor.old cursor.new) }
-    ensures err { IfErr result (λ fault. RefusesOr IsTableFault (TableOf format cursor.old.order) cursor.old fault) }
+    ensures err { IfErr result (λ fault. RefusesOr (IsTableFault format cursor.old.order) (TableOf format cursor.old.order) cursor.old fault) }
 {
     let count = cursor.u8()?;
     let pairs = read_pairs(alloc, cursor, count)?;

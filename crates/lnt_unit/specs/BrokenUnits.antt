@@ -1,9 +1,10 @@
 -- What a fault says of the bytes in which no unit was found.
 use Rattle.std.specs.Prelude.{◌≡◌, ℕ, ◌+◌, ◌<◌, List, ◌++◌, length}
+use Rattle.lnt_wire.specs.Bytes.{NoneSpelled}
 use Rattle.lnt_wire.specs.declared.format.Order.{Order}
 use Rattle.lnt_wire.specs.declared.fault.Fault.{Fault}
 use Rattle.lnt_header.specs.declared.header.HeaderParts.{HeaderParts}
-use Rattle.lnt_header.specs.Broken.{Broken}
+use Rattle.lnt_header.specs.Broken.{Broken, IsFirstField}
 use Rattle.lnt_header.specs.HeaderBytes.{HeaderBytesIn}
 use Rattle.lnt_ops.specs.Programs.{BrokenProgram}
 use Rattle.lnt_unit.specs.declared.unit.Parts.{Parts}
@@ -17,9 +18,10 @@ pub record BeginsWithHeader (order : Order) (offset : ℕ) (bytes : List ℕ) (h
   pub joined : bytes ≡ front ++ more
   pub ends : place + length program ≡ offset + length front
 
--- No unit begins the bytes, which stand at the offset, and the fault is so at its place. Where a header with a program begins them, it is the fault of the program's first operation that isn't there.
+-- No unit begins the bytes, which stand at the offset, and the fault is so at its place: where no header with a program begins them, it is that of the header's first field that isn't there; where one does, that of the program's first operation that isn't there.
 pub record BrokenUnit (order : Order) (fault : Fault) (offset : ℕ) (bytes : List ℕ) : Type 0 where
   pub broken : Broken (UnitBytesIn order) order fault offset bytes
+  pub in_header : NoneSpelled (HeaderBytesIn order) bytes → IsFirstField order fault.reason broken.before broken.from
   pub in_program : (header : HeaderParts) (place : ℕ) (program : List ℕ) → BeginsWithHeader order offset bytes header place program → BrokenProgram header place program fault
 
 -- A section is broken behind some units that it begins with: more bytes follow, and no unit begins them.

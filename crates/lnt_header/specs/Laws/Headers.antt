@@ -17,7 +17,7 @@ use Rattle.lnt_header.specs.declared.header.HeaderParts.{HeaderParts}
 use Rattle.lnt_header.specs.declared.header.Pair.{Pair}
 use Rattle.lnt_header.specs.HeaderRules.{single_bytes}
 use Rattle.lnt_header.specs.TableBytes.{TableBytes}
-use Rattle.lnt_header.specs.HeaderBytes.{HeaderFieldsBytes, unit_body, HeaderBytes, HeaderBytesIn}
+use Rattle.lnt_header.specs.HeaderBytes.{HeaderFieldsBytes, unit_body, HeaderBytes}
 use Rattle.lnt_header.specs.Laws.{OneHeader}
 use Rattle.lnt_header.specs.Laws.Tables.{same_table}
 

@@ -1,5 +1,5 @@
 -- Readers of a field, one after another: what they read together, and why nothing is read. These are proofs: nothing here is to be believed.
-use Rattle.std.proofs.Common.{◌≡◌, ℕ, zero, suc, ◌+◌, ◌<◌, List, [], ◌∷◌, ◌++◌, length, refl, sym, ap, subst, ◌∙◌, append_assoc, add-zero, arith}
+use Rattle.std.proofs.Common.{◌≡◌, ℕ, zero, suc, ◌<◌, List, [], ◌∷◌, ◌++◌, length, refl, sym, ap, subst, ◌∙◌, append_assoc, add-zero, arith}
 use Rattle.std.proofs.lemmas.List.{length-append, append-nil}
 use Rattle.lnt_wire.specs.At.{At}
 use Rattle.lnt_wire.specs.Bytes.{NoneSpelled, IsCode}
@@ -11,6 +11,9 @@ use Rattle.lnt_wire.specs.Laws.Codes.{peel}
 use Rattle.lnt_wire.specs.Laws.Lengths.{same_rest}
 use Rattle.lnt_header.specs.FieldFaults.{IsCutField}
 use Rattle.lnt_header.specs.FieldFaults.IsCutField.{number, text, leb, block, sized_block, operation}
+use Rattle.lnt_header.specs.FirstFaults.{FirstOf, FirstOfSeveral}
+use Rattle.lnt_header.specs.FirstFaults.FirstOf.{first, second}
+use Rattle.lnt_header.specs.FirstFaults.FirstOfSeveral.{next}
 use Rattle.lnt_header.specs.Joins.{Each, Both, Several}
 
 -- the first is not there
@@ -128,6 +131,27 @@ refuses_second {X} {Y} {IsSo} P Q u old middle fault so code r s =
       none = none_second P (Q old.order) code u r.spelling old.rest middle.rest r.spelled r.whole none;
     }
 
+-- ---- the first part that isn't there
+
+pub first_refused : {X Y : Type 0} {OfFirst : Reason → List ℕ → List ℕ → Type 0} {OfSecond : X → Reason → List ℕ → List ℕ → Type 0} (P : X → List ℕ → Type 0) (Q : X → Y → List ℕ → Type 0) (old : At) (fault : Fault)
+    → Refuses OfFirst P old fault → Refuses (FirstOf P OfFirst OfSecond) (Both P Q) old fault
+first_refused P Q old fault r =
+    record { before = r.before; left = r.left; split = r.split; place = r.place; reason = first r.reason; none = none_first P Q old.rest r.none }
+
+pub second_refused : {X Y : Type 0} {OfFirst : Reason → List ℕ → List ℕ → Type 0} (OfSecond : Order → X → Reason → List ℕ → List ℕ → Type 0) (P : X → List ℕ → Type 0) (Q : Order → X → Y → List ℕ → Type 0) (u : X)
+    (old middle : At) (fault : Fault) → IsCode P → Reads P u old middle → Refuses (OfSecond middle.order u) (Q middle.order u) middle fault → Refuses (FirstOf P OfFirst (OfSecond old.order)) (Both P (Q old.order)) old fault
+second_refused OfSecond P Q u old middle fault code r s =
+    let none : NoneSpelled (Q old.order u) middle.rest = subst (λ (o : Order). NoneSpelled (Q o u) middle.rest) r.order s.none in
+    let so : OfSecond old.order u fault.reason s.before s.left = subst (λ (o : Order). OfSecond o u fault.reason s.before s.left) r.order s.reason in
+    record {
+      before = r.spelling ++ s.before;
+      left = s.left;
+      split = r.whole ∙ ap (λ (z : List ℕ). r.spelling ++ z) s.split ∙ sym (append_assoc r.spelling s.before s.left);
+      place = omega (arith, s.place, r.place, length-append r.spelling s.before);
+      reason = second u r.spelling s.before r.spelled refl so;
+      none = none_second P (Q old.order) code u r.spelling old.rest middle.rest r.spelled r.whole none;
+    }
+
 -- ---- lists
 
 pub each_more : {X : Type 0} (P : X → List ℕ → Type 0) (us : List X) (u : X) (x y : List ℕ) → Each P us x → P u y → Each P (us ++ u ∷ []) (x ++ y)
@@ -177,5 +201,19 @@ refuses_more P n us old middle fault so code r lt s =
       split = r.whole ∙ ap (λ (z : List ℕ). r.spelling ++ z) s.split ∙ sym (append_assoc r.spelling s.before s.left);
       place = omega (arith, s.place, r.place, length-append r.spelling s.before);
       reason = so.later fault.reason r.spelling s.before s.left s.reason;
+      none = none_several (P old.order) n us r.spelling middle.rest old.rest code r.spelled lt r.whole none;
+    }
+
+pub several_refused : {X : Type 0} (OfOne : Order → Reason → List ℕ → List ℕ → Type 0) (P : Order → X → List ℕ → Type 0) (n : ℕ) (us : List X) (old middle : At) (fault : Fault) → IsCode (P old.order)
+    → Reads (Each (P old.order)) us old middle → length us < n → Refuses (OfOne middle.order) (P middle.order) middle fault → Refuses (FirstOfSeveral n (P old.order) (OfOne old.order)) (Several n (P old.order)) old fault
+several_refused OfOne P n us old middle fault code r lt s =
+    let none : NoneSpelled (P old.order) middle.rest = subst (λ (o : Order). NoneSpelled (P o) middle.rest) r.order s.none in
+    let so : OfOne old.order fault.reason s.before s.left = subst (λ (o : Order). OfOne o fault.reason s.before s.left) r.order s.reason in
+    record {
+      before = r.spelling ++ s.before;
+      left = s.left;
+      split = r.whole ∙ ap (λ (z : List ℕ). r.spelling ++ z) s.split ∙ sym (append_assoc r.spelling s.before s.left);
+      place = omega (arith, s.place, r.place, length-append r.spelling s.before);
+      reason = next us r.spelling s.before lt r.spelled refl so;
       none = none_several (P old.order) n us r.spelling middle.rest old.rest code r.spelled lt r.whole none;
     }

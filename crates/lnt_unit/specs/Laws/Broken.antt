@@ -16,6 +16,7 @@ use Rattle.lnt_wire.specs.declared.format.Format.{Format}
 use Rattle.lnt_wire.specs.declared.format.Order.{Order}
 use Rattle.lnt_wire.specs.declared.format.Order.TheVariants.{Little, Big}
 use Rattle.lnt_header.specs.Broken.{Broken, IsAt, IsWrongLength, BrokenHeader}
+use Rattle.lnt_header.specs.Broken.IsFirstField.{frame}
 use Rattle.lnt_header.specs.FieldFaults.{IsCutField}
 use Rattle.lnt_header.specs.FieldFaults.IsCutField.{number}
 use Rattle.lnt_header.specs.HeaderBytes.{unit_body, HeaderBytes, HeaderBytesIn}
@@ -51,23 +52,27 @@ frame_broken order old fault r = record {
     place = r.place;
     reason = frame_at order fault.reason r.before r.left r.reason;
   };
+  in_header = λ none. frame r.reason;
   in_program = λ header place program g. absurd (r.none _ g.front g.more (header_frame order header program g.front g.spelled) (sym g.joined));
 }
 
 -- ---- the header
 
 pub header_broken : (order : Order) (fault : Fault) (offset : ℕ) (bytes : List ℕ) → BrokenHeader order fault offset bytes → BrokenUnit order fault offset bytes
-header_broken order fault offset bytes b = record {
-  broken = record {
-    none = λ unit x more p e. b.none (unit.header, p.spelled.program) x more (header_of order unit x p) e;
-    before = b.before;
-    from = b.from;
-    split = b.split;
-    place = b.place;
-    reason = b.reason;
-  };
-  in_program = λ header place program g. absurd (b.none (header, program) g.front g.more g.spelled (sym g.joined));
-}
+header_broken order fault offset bytes header_fault =
+    let b = header_fault.broken in
+    record {
+      broken = record {
+        none = λ unit x more p e. b.none (unit.header, p.spelled.program) x more (header_of order unit x p) e;
+        before = b.before;
+        from = b.from;
+        split = b.split;
+        place = b.place;
+        reason = b.reason;
+      };
+      in_header = λ none. header_fault.first;
+      in_program = λ header place program g. absurd (b.none (header, program) g.front g.more g.spelled (sym g.joined));
+    }
 
 -- ---- the operations
 
@@ -143,4 +148,8 @@ pub ops_broken : (order : Order) (h : HeaderParts) (program bytes : List ℕ) (f
     → BrokenProgram h place program fault → BrokenUnit order fault offset bytes
 ops_broken order h program bytes fault offset place p ends b =
     subst (λ (o : Order). BrokenUnit o fault offset bytes) p.order_is
-    (record { broken = ops_broken_in h program bytes fault offset place p.spelled ends b; in_program = first_of h program bytes fault offset place p.spelled ends b })
+    (record {
+      broken = ops_broken_in h program bytes fault offset place p.spelled ends b;
+      in_header = λ none. absurd (none (h, program) bytes [] (record { order_is = refl; spelled = p.spelled }) (append-nil bytes));
+      in_program = first_of h program bytes fault offset place p.spelled ends b;
+    })

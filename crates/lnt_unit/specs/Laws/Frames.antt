@@ -7,10 +7,12 @@ use Rattle.lnt_wire.specs.declared.fault.Fault.{Fault}
 use Rattle.lnt_wire.specs.declared.fault.Reason.{Reason}
 use Rattle.lnt_wire.specs.declared.fault.Reason.TheVariants.{Truncated, ReservedLength, VersionNotFive, AddressSize, SegmentSelector, HeaderLength, MaxOpsZero, LineRangeZero, OpcodeBaseZero, StandardLength, UnknownForm, EmptyFormat, LebTooLarge, ExtendedLength}
 use Rattle.lnt_wire.specs.FrameBytes.{FrameBytes, frame_bytes, version_five}
-use Rattle.lnt_wire.specs.FrameFaults.{InFrame, IsCutFrame, IsReserved}
+use Rattle.lnt_wire.specs.Bytes.{NoneSpelled}
+use Rattle.lnt_wire.specs.FrameFaults.{InFrame, IsCutFrame, IsReserved, IsFrameFault}
 use Rattle.lnt_wire.specs.Laws.Frames.{frame_code, frame_not_cut}
 use Rattle.lnt_wire.specs.Numbers.{number_bytes, offset_size}
-use Rattle.lnt_header.specs.Broken.{InHeader, UpToLimit, IsAt}
+use Rattle.lnt_header.specs.Broken.{InHeader, UpToLimit, IsAt, IsFirstField}
+use Rattle.lnt_header.specs.Broken.IsFirstField.{frame, start, counted}
 use Rattle.lnt_header.specs.HeaderBytes.{unit_body, HeaderBytesIn}
 use Rattle.lnt_header.specs.Laws.Headers.{regroup}
 use Rattle.lnt_header.specs.declared.header.HeaderParts.{HeaderParts}
@@ -56,6 +58,21 @@ at_more order LebTooLarge before from more whole h = (h.0, up_to order h.0 befor
 at_more order ExtendedLength before from more whole h = (h.0, h.1, h.2, h.3, in_frame order h.0 h.1 h.2 before from more h.4, h.5, h.6)
 at_more order reason before from more whole h = absurd h
 
+-- a frame that is whole has no fault but one that it has whatever follows it
+frame_more : (order : Order) (reason : Reason) (before from more : List ℕ) → (before ≡ [] → IsCutFrame order from → ⊥) → IsFrameFault order reason before from → IsFrameFault order reason before (from ++ more)
+frame_more order Truncated [] from more whole h = absurd (whole refl h)
+frame_more order Truncated (b ∷ before) from more whole h = (h.0, h.1, h.2, in_frame order h.0 _ _ (b ∷ before) from more h.3)
+frame_more order ReservedLength before from more whole h = (h.0, reserved order from more h.1)
+frame_more order (VersionNotFive version) before from more whole h = (h.0, h.1, h.2, h.3, in_frame order h.0 _ _ before from more h.4)
+frame_more order reason before from more whole h = absurd h
+
+-- the first field of a header that isn't there, whatever follows its frame
+first_more : (order : Order) (reason : Reason) (before from more : List ℕ) → (before ≡ [] → IsCutFrame order from → ⊥) → IsFirstField order reason before from → IsFirstField order reason before (from ++ more)
+unfolding in_header
+first_more order reason before from more whole (frame h) = frame (frame_more order reason before from more whole h)
+first_more order reason before from more whole (start format fields left w h) = start format fields left (in_frame order format _ left before from more w) h
+first_more order reason before from more whole (counted fields left w h) = counted fields left (in_header order fields left before from more w) h
+
 -- ---- units
 
 -- the frame of a header with its program
@@ -78,28 +95,32 @@ pub unit_frame : (order : Order) (unit : Parts) (x : List ℕ) → (p : UnitByte
 unit_frame order unit x p = header_frame order unit.header p.spelled.program x (record { order_is = p.order_is; spelled = p.spelled.whole })
 
 -- a header with a program that begins a frame and more begins the frame
-header_first : (order : Order) (offset : ℕ) (frame : Format × List ℕ) (bytes more : List ℕ) (header : HeaderParts) (place : ℕ) (program : List ℕ) → FrameBytes order frame bytes
+header_first : (order : Order) (offset : ℕ) (frame_is : Format × List ℕ) (bytes more : List ℕ) (header : HeaderParts) (place : ℕ) (program : List ℕ) → FrameBytes order frame_is bytes
     → BeginsWithHeader order offset (bytes ++ more) header place program → BeginsWithHeader order offset bytes header place program
-header_first order offset frame bytes more header place program is g =
-    let one = (frame_code order).one _ frame g.front bytes g.more more (header_frame order header program g.front g.spelled) is (sym g.joined) in
+header_first order offset frame_is bytes more header place program is g =
+    let one = (frame_code order).one _ frame_is g.front bytes g.more more (header_frame order header program g.front g.spelled) is (sym g.joined) in
     record { front = g.front; more = []; spelled = g.spelled; joined = sym one.1 ∙ sym (append-nil g.front); ends = g.ends }
 
 -- a frame in which no unit was found, and whatever follows it
-pub broken_more : (order : Order) (fault : Fault) (offset : ℕ) (frame : Format × List ℕ) (bytes more : List ℕ) → FrameBytes order frame bytes → BrokenUnit order fault offset bytes
+pub broken_more : (order : Order) (fault : Fault) (offset : ℕ) (frame_is : Format × List ℕ) (bytes more : List ℕ) → FrameBytes order frame_is bytes → BrokenUnit order fault offset bytes
     → BrokenUnit order fault offset (bytes ++ more)
-broken_more order fault offset frame bytes more is broken =
+broken_more order fault offset frame_is bytes more is broken =
     let b = broken.broken in
+    let whole : b.before ≡ [] → IsCutFrame order b.from → ⊥ =
+    λ nothing cut. frame_not_cut order frame_is bytes is (subst (IsCutFrame order) (ap (λ (z : List ℕ). z ++ b.from) (sym nothing) ∙ sym b.split) cut) in
     record {
       broken = record {
         none = λ unit x rest p e.
-            let one = (frame_code order).one _ frame x bytes rest more (unit_frame order unit x p) is e in
+            let one = (frame_code order).one _ frame_is x bytes rest more (unit_frame order unit x p) is e in
             b.none unit x [] p (append-nil x ∙ one.1);
         before = b.before;
         from = b.from ++ more;
         split = ap (λ (z : List ℕ). z ++ more) b.split ∙ append_assoc b.before b.from more;
         place = b.place;
-        reason = at_more order fault.reason b.before b.from more
-            (λ nothing cut. frame_not_cut order frame bytes is (subst (IsCutFrame order) (ap (λ (z : List ℕ). z ++ b.from) (sym nothing) ∙ sym b.split) cut)) b.reason;
+        reason = at_more order fault.reason b.before b.from more whole b.reason;
       };
-      in_program = λ header place program g. broken.in_program header place program (header_first order offset frame bytes more header place program is g);
+      in_header = λ none.
+          let none_before : NoneSpelled (HeaderBytesIn order) bytes = λ header x rest p e. none header x (rest ++ more) p (sym (append_assoc x rest more) ∙ ap (λ (z : List ℕ). z ++ more) e) in
+          first_more order fault.reason b.before b.from more whole (broken.in_header none_before);
+      in_program = λ header place program g. broken.in_program header place program (header_first order offset frame_is bytes more header place program is g);
     }

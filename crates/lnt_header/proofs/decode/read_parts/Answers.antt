@@ -1,4 +1,4 @@
-use Rattle.std.proofs.Common.{refl, ◌∙◌, sym, ap}
+use Rattle.std.proofs.Common.{refl, ◌∙◌, ap}
 use Rattle.lnt_header.proofs.DecodeLemmas.{AreFields, fields_found}
 use Rattle.std.specs.Prelude.{ℤ}
 use Rattle.std.specs.Int.{w8, cast_unsigned, cast_signed}

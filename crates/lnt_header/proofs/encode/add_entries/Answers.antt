@@ -3,7 +3,6 @@ use Rattle.std.proofs.lemmas.Result.{err_from_is_err_and}
 use Rattle.lnt_wire.specs.Bytes.{Appends}
 use Rattle.lnt_wire.specs.FormBytes.{FormBytes}
 use Rattle.lnt_wire.specs.declared.form.FormValue.{FormValue}
-use Rattle.lnt_header.specs.Encoding.{EntryParts, RefusedPut}
 use Rattle.lnt_header.specs.Joins.{Each}
 use Rattle.lnt_header.proofs.EncodeLemmas.{entries_more, entries_refused}
 use Rattle.lnt_header.proofs.encode.add_entries.Goals as goal

@@ -7,7 +7,7 @@ use Rattle.lnt_wire.specs.Reading.{Reads, Refuses, RefusesOr}
 use Rattle.lnt_header.specs.Laws.Readers.{refuses_map, reads_map}
 use Rattle.lnt_header.specs.declared.header.Entry.{Entry}
 use Rattle.lnt_header.specs.TableBytes.{ValuesBytes, EntryBytes}
-use Rattle.lnt_header.specs.TableFaults.{IsTableFault}
+use Rattle.lnt_header.specs.TableFaults.{IsEntryFault, IsEntriesFault}
 use Rattle.lnt_header.proofs.TableReaders.{entries_more, refuses_entries}
 use Rattle.lnt_header.proofs.table.read_entries.Goals as goal
 
@@ -15,9 +15,9 @@ pub returns-in_err-values-clause-err : goal.returns-in_err-values-clause-err
 returns-in_err-values-clause-err c =
     let p = err_from_is_err_and c.from_residual.result c.from_residual.ensures.1 in
     let fault = c.in_err-values.field-0.0 in
-    let rest : RefusesOr IsTableFault (Several c.args.count (EntryBytes c.args.format c.args.cursor.now.order c.args.pairs.now)) c.args.cursor.now fault =
+    let rest : RefusesOr (IsEntriesFault c.args.format c.args.cursor.now.order c.args.pairs.now c.args.count) (Several c.args.count (EntryBytes c.args.format c.args.cursor.now.order c.args.pairs.now)) c.args.cursor.now fault =
     λ some.
-    let one : Refuses IsTableFault (EntryBytes c.args.format c.loop.cursor.order c.args.pairs.now) c.loop.cursor fault =
+    let one : Refuses (IsEntryFault c.args.format c.loop.cursor.order c.args.pairs.now) (EntryBytes c.args.format c.loop.cursor.order c.args.pairs.now) c.loop.cursor fault =
     refuses_map (ValuesBytes c.args.format c.loop.cursor.order c.args.pairs.now) (EntryBytes c.args.format c.loop.cursor.order c.args.pairs.now) (λ entry. entry.values) c.loop.cursor fault (λ y x q. q) (c.in_err-values.ensures.err some) in
     refuses_entries c.args.format c.args.pairs.now c.args.count c.loop.entries.items c.args.cursor.now c.loop.cursor fault c.loop.invariant.1 (omega (arith, c.loop.invariant.0, c.loop-test.true)) one in
     rw (p.1, p.2) rest

@@ -3,14 +3,14 @@ use Rattle.std.proofs.lemmas.Grind.{common_steps}
 use Rattle.std.proofs.lemmas.Result.{err_from_is_err_and}
 use Rattle.lnt_wire.specs.Reading.{RefusesOr}
 use Rattle.lnt_header.specs.TableBytes.{ValuesBytes}
-use Rattle.lnt_header.specs.TableFaults.{IsTableFault}
+use Rattle.lnt_header.specs.TableFaults.{IsEntryFault}
 use Rattle.lnt_header.proofs.TableReaders.{values_next, refuses_values_at}
 use Rattle.lnt_header.proofs.table.read_values.Goals as goal
 
 pub returns-in_err-value-clause-err : goal.returns-in_err-value-clause-err
 returns-in_err-value-clause-err c =
     let p = err_from_is_err_and c.from_residual.result c.from_residual.ensures.1 in
-    let rest : RefusesOr IsTableFault (ValuesBytes c.args.format c.args.cursor.now.order c.args.pairs.now) c.args.cursor.now c.in_err-value.field-0.0 =
+    let rest : RefusesOr (IsEntryFault c.args.format c.args.cursor.now.order c.args.pairs.now) (ValuesBytes c.args.format c.args.cursor.now.order c.args.pairs.now) c.args.cursor.now c.in_err-value.field-0.0 =
     λ some. refuses_values_at c.args.format c.args.pairs.now c.loop-pair.pair-index _ c.loop-pair.values c.args.cursor.now c.loop-pair.cursor c.in_err-value.field-0.0 c.loop-pair-test.true c.loop-pair.invariant (c.in_err-value.ensures.err some) in
     rw (p.1, p.2) rest
 
