@@ -73,8 +73,14 @@ fn lines_of(answer: Result<Judged, Stop>) -> Option<Lines> {
     }
 }
 
-fn stop_of(answer: Result<Judged, Stop>) -> Option<Stop> {
-    answer.err()
+// Whether this is wrong with the section.
+fn is_bad(alloc: Global, bytes: &[u8], dead: Option<u64>, no: No) -> bool {
+    no_of(judged(alloc, bytes, dead)) == Some(no)
+}
+
+// Whether nothing is wrong with the section.
+fn is_good(alloc: Global, bytes: &[u8], dead: Option<u64>) -> bool {
+    lines_of(judged(alloc, bytes, dead)).is_some()
 }
 
 // The bytes with one of them set.
@@ -84,6 +90,14 @@ fn with_byte(alloc: Global, bytes: &[u8], place: usize, byte: u8) -> Result<Vec<
         *there = byte;
     }
     Ok(changed)
+}
+
+// Whether this is wrong with the section where one byte is set.
+fn is_bad_with(alloc: Global, bytes: &[u8], place: usize, byte: u8, no: No) -> bool {
+    match with_byte(alloc, bytes, place, byte) {
+        Ok(changed) => is_bad(alloc, &changed, None, no),
+        Err(_) => false,
+    }
 }
 
 fn joined(alloc: Global, pieces: &[&[u8]]) -> Result<Vec<u8>, AllocError> {
@@ -113,54 +127,49 @@ fn overlap(first: u64, second: u64, position: Position) -> No {
 }
 
 #[test]
-fn units_that_are_not_sound(rt: HostRuntime) -> Result<(), Fail> {
+fn programs_that_are_not_sound(rt: HostRuntime) {
     let alloc = rt.alloc();
-    let more = joined(alloc, &[&LINE_BELOW_ZERO, &[0]])?;
-    let run = No::Run(0, RunFault::LineOutOfRange(1));
-    assert_eq!(rt; no_of(judged(alloc, &more, None)), Some(run));
-
+    let open = No::Run(0, RunFault::OpenSequence);
+    assert!(rt; is_bad_with(alloc, &PLAIN[..68], 0, 0x40, open));
     // What is malformed behind the operation is told before it.
-    let malformed = with_byte(alloc, &LINE_BELOW_ZERO, 70, 0)?;
-    let fault = Fault {
+    let malformed = No::Malformed(Fault {
         place: 70,
         reason: Reason::ExtendedLength,
-    };
-    assert_eq!(rt;
-        no_of(judged(alloc, &malformed, None)),
-        Some(No::Malformed(fault))
-    );
+    });
+    assert!(rt; is_bad_with(alloc, &LINE_BELOW_ZERO, 70, 0, malformed));
+}
 
-    let open = with_byte(alloc, &PLAIN[..68], 0, 0x40)?;
-    let run = No::Run(0, RunFault::OpenSequence);
-    assert_eq!(rt; no_of(judged(alloc, &open, None)), Some(run));
+#[test]
+fn a_program_before_bytes_that_are_no_unit(rt: HostRuntime) -> Result<(), Fail> {
+    let alloc = rt.alloc();
+    let more = joined(alloc, &[&LINE_BELOW_ZERO, &[0]])?;
+    assert!(rt; is_bad(alloc, &more, None, No::Run(0, RunFault::LineOutOfRange(1))));
+    Ok(())
+}
 
-    let directory = with_byte(alloc, &PLAIN, 52, 5)?;
-    assert_eq!(rt;
-        no_of(judged(alloc, &directory, None)),
-        Some(No::DirectoryNumber(0, 1))
-    );
-
+#[test]
+fn tables_that_are_not_sound(rt: HostRuntime) {
+    let alloc = rt.alloc();
+    assert!(rt; is_bad_with(alloc, &PLAIN, 52, 5, No::DirectoryNumber(0, 1)));
     // Formats without a path, and a path outside of its section.
-    let format = with_byte(alloc, &PLAIN, 31, 3)?;
-    let no = No::EntryFormat(0, Which::Directories);
-    assert_eq!(rt; no_of(judged(alloc, &format, None)), Some(no));
-    let format = with_byte(alloc, &PLAIN, 38, 3)?;
-    let no = No::EntryFormat(0, Which::Files);
-    assert_eq!(rt; no_of(judged(alloc, &format, None)), Some(no));
-    let no = No::StringOutside(0, Which::Directories, 0);
-    assert_eq!(rt; no_of(judged(alloc, &LINE_STRP_DIRECTORY, None)), Some(no));
+    assert!(rt; is_bad_with(alloc, &PLAIN, 31, 3, No::EntryFormat(0, Which::Directories)));
+    assert!(rt; is_bad_with(alloc, &PLAIN, 38, 3, No::EntryFormat(0, Which::Files)));
+    let outside = No::StringOutside(0, Which::Directories, 0);
+    assert!(rt; is_bad(alloc, &LINE_STRP_DIRECTORY, None, outside));
+}
 
+#[test]
+fn rows_that_are_not_sound(rt: HostRuntime) {
+    let alloc = rt.alloc();
     let file = No::FileNumber {
         unit: 0,
         row: 0,
         file: 1,
     };
-    assert_eq!(rt; no_of(judged(alloc, &ONE_FILE_FROM_ZERO, None)), Some(file));
+    assert!(rt; is_bad(alloc, &ONE_FILE_FROM_ZERO, None, file));
     let falls = No::Falls { unit: 0, row: 1 };
-    assert_eq!(rt; no_of(judged(alloc, &ADDRESS_WRAPS, None)), Some(falls));
-    let dead = Some(0xffff_ffff_ffff_fff0);
-    assert!(rt; lines_of(judged(alloc, &ADDRESS_WRAPS, dead)).is_some());
-    Ok(())
+    assert!(rt; is_bad(alloc, &ADDRESS_WRAPS, None, falls));
+    assert!(rt; is_good(alloc, &ADDRESS_WRAPS, Some(0xffff_ffff_ffff_fff0)));
 }
 
 #[test]
@@ -168,40 +177,44 @@ fn sequences_that_overlap(rt: HostRuntime) -> Result<(), Fail> {
     let alloc = rt.alloc();
     let twice = joined(alloc, &[&PLAIN, &PLAIN])?;
     let no = overlap(0, 71, at(0x1000, 0));
-    assert_eq!(rt; no_of(judged(alloc, &twice, None)), Some(no));
-    assert!(rt; lines_of(judged(alloc, &twice, Some(0x1000))).is_some());
-
+    assert!(rt; is_bad(alloc, &twice, None, no));
+    assert!(rt; is_good(alloc, &twice, Some(0x1000)));
     // Only its first row makes a sequence dead.
-    assert_eq!(rt; no_of(judged(alloc, &twice, Some(0x1004))), Some(no));
+    assert!(rt; is_bad(alloc, &twice, Some(0x1004), no));
+    Ok(())
+}
 
+#[test]
+fn sequences_that_overlap_past_another(rt: HostRuntime) -> Result<(), Fail> {
+    let alloc = rt.alloc();
     let later = with_byte(alloc, &PLAIN, 56, 5)?;
     let three = joined(alloc, &[&PLAIN, &THREE_OPERATIONS_PER_INSTRUCTION, &later])?;
-    let no = overlap(0, 149, at(0x1005, 0));
-    assert_eq!(rt; no_of(judged(alloc, &three, None)), Some(no));
+    assert!(rt; is_bad(alloc, &three, None, overlap(0, 149, at(0x1005, 0))));
     Ok(())
 }
 
 #[test]
-fn stops(rt: HostRuntime) -> Result<(), Fail> {
+fn stops(rt: HostRuntime) {
     let alloc = rt.alloc();
     let read = judged_from(alloc, &PLAIN, true, 1 << 30, None);
-    assert_eq!(rt; stop_of(read), Some(Stop::Read));
+    assert!(rt; read.err() == Some(Stop::Read));
     let long = judged_from(alloc, &PLAIN, false, 70, None);
-    assert_eq!(rt; stop_of(long), Some(Stop::TooLong));
+    assert!(rt; long.err() == Some(Stop::TooLong));
+}
 
-    // What is wrong with a unit is told before later bytes are asked for.
+// What is wrong with a unit is told before later bytes are asked for.
+#[test]
+fn a_unit_before_a_read_that_fails(rt: HostRuntime) -> Result<(), Fail> {
+    let alloc = rt.alloc();
     let directory = with_byte(alloc, &PLAIN, 52, 5)?;
     let answer = judged_from(alloc, &directory, true, 1 << 30, None);
-    assert_eq!(rt; no_of(answer), Some(No::DirectoryNumber(0, 1)));
+    assert!(rt; no_of(answer) == Some(No::DirectoryNumber(0, 1)));
     Ok(())
 }
 
-#[test]
-fn answers(rt: HostRuntime) -> Result<(), Fail> {
-    let alloc = rt.alloc();
-    let Some(lines) = lines_of(judged(alloc, &PLAIN, None)) else {
-        return Err(Fail::from(AllocError));
-    };
+// Whether the lines, which are those of `PLAIN`, answer at its last position, with two probes at most, and not behind
+// it.
+fn are_answered(lines: &Lines) -> bool {
     let answer = Answer {
         unit: 0,
         file: 1,
@@ -214,13 +227,53 @@ fn answers(rt: HostRuntime) -> Result<(), Fail> {
         }),
     };
     let mut probes = Probes::new();
-    assert_eq!(rt; lines.lookup(at(0x1005, 0), &mut probes), Some(answer));
-    assert!(rt; probes.count() <= 2);
+    let last = lines.lookup(at(0x1005, 0), &mut probes);
+    let is_near = probes.count() <= 2;
     let mut probes = Probes::new();
-    assert_eq!(rt; lines.lookup(at(0x1006, 0), &mut probes), None);
-    assert_eq!(rt; lines.spans().len(), 2);
-    assert_eq!(rt; lines.canonical(alloc, Version::One)?.len(), 2);
+    last == Some(answer) && is_near && lines.lookup(at(0x1006, 0), &mut probes).is_none()
+}
+
+// Whether the lines have so many spans, joined or not.
+fn has_spans(alloc: Global, lines: &Lines, count: usize) -> bool {
+    match lines.canonical(alloc, Version::One) {
+        Ok(joined) => joined.len() == count && lines.spans().len() == count,
+        Err(_) => false,
+    }
+}
+
+#[test]
+fn answers(rt: HostRuntime) -> Result<(), Fail> {
+    let alloc = rt.alloc();
+    let Some(lines) = lines_of(judged(alloc, &PLAIN, None)) else {
+        return Err(Fail::from(AllocError));
+    };
+    assert!(rt; are_answered(&lines));
+    assert!(rt; has_spans(alloc, &lines, 2));
     Ok(())
+}
+
+// Whether there are units at 0 and at 71, with two files and one, and no other.
+fn has_two_units(lines: &Lines) -> bool {
+    lines.units() == [0, 71].as_slice()
+        && lines.file_count(0) == 2
+        && lines.file_count(71) == 1
+        && lines.file_count(1) == 0
+}
+
+// Whether this is the path of the file.
+fn has_path(alloc: Global, lines: &Lines, unit: u64, file: u64, path: Option<&[u8]>) -> bool {
+    match lines.path_of(alloc, unit, file) {
+        Ok(found) => found.as_deref() == path,
+        Err(_) => false,
+    }
+}
+
+// Whether the file has a sum with these bytes first and last.
+fn has_sum(lines: &Lines, unit: u64, file: u64, first: u8, last: u8) -> bool {
+    match lines.listed(unit, file) {
+        Some(sum) => sum[0] == first && sum[15] == last,
+        None => false,
+    }
 }
 
 #[test]
@@ -230,24 +283,12 @@ fn files_of_units(rt: HostRuntime) -> Result<(), Fail> {
     let Some(lines) = lines_of(judged(alloc, &section, None)) else {
         return Err(Fail::from(AllocError));
     };
-    assert_eq!(rt; lines.units(), [0, 71].as_slice());
-    assert_eq!(rt;
-        (
-            lines.file_count(0),
-            lines.file_count(71),
-            lines.file_count(1)
-        ),
-        (2, 1, 0)
-    );
-    let path = lines.path_of(alloc, 0, 1)?;
-    assert_eq!(rt; path.as_deref(), Some(b"/s/a.c".as_slice()));
-    assert!(rt; lines.path_of(alloc, 0, 2)?.is_none());
-    assert!(rt; lines.path_of(alloc, 1, 0)?.is_none());
+    assert!(rt; has_two_units(&lines));
+    assert!(rt; has_path(alloc, &lines, 0, 1, Some(b"/s/a.c")));
+    assert!(rt; has_path(alloc, &lines, 0, 2, None));
+    assert!(rt; has_path(alloc, &lines, 1, 0, None));
     assert!(rt; lines.listed(0, 1).is_none());
-    let Some(sum) = lines.listed(71, 0) else {
-        return Err(Fail::from(AllocError));
-    };
-    assert_eq!(rt; (sum[0], sum[15]), (0xd4, 0x7e));
+    assert!(rt; has_sum(&lines, 71, 0, 0xd4, 0x7e));
     Ok(())
 }
 
