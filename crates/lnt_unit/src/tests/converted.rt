@@ -1,90 +1,83 @@
+use super::units::{joined, plain};
 use super::worked::{
     BIG_ENDIAN_64, MD5_WITHOUT_PROGRAM, PADDED_OPERAND, PLAIN, VENDOR_BLOCK1, VENDOR_BLOCK2,
     VENDOR_BLOCK4,
 };
-use super::written::{entries, parts, plain};
+use super::written::{is_encoded, large_unit};
 use crate::{
-    ConvertFault, Pair, Unit, convert_section, decode_header, decode_section, encode_header,
+    ConvertFault, Header, Unit, convert_section, decode_header, decode_section, encode_header,
     encode_unit,
 };
-use lnt_wire::{Cursor, Fault, Form, FormValue, Format, Items, Order, Reason, take_frame};
+use lnt_wire::{Cursor, Fault, Format, Order, Reason, take_frame};
 use std::alloc::Global;
 use std::test::Fail;
 
-#[test]
-fn a_unit_in_both_formats(rt: HostRuntime) -> Result<(), Fail> {
-    let alloc = rt.alloc();
-    for (bytes, order, format, to, want) in [
-        (
-            PLAIN.as_slice(),
-            Order::Little,
-            Format::D64,
-            Order::Big,
-            BIG_ENDIAN_64.as_slice(),
-        ),
-        (
-            &BIG_ENDIAN_64,
-            Order::Big,
-            Format::D32,
-            Order::Little,
-            &PLAIN,
-        ),
-        (&PLAIN, Order::Little, Format::D32, Order::Little, &PLAIN),
-        (
-            &PADDED_OPERAND,
-            Order::Little,
-            Format::D32,
-            Order::Little,
-            &PLAIN,
-        ),
-        (&[], Order::Little, Format::D64, Order::Big, &[]),
-    ] {
-        match convert_section(alloc, bytes, order, format, to) {
-            Ok(converted) => assert_eq!(rt; converted.as_slice(), want),
-            Err(fault) => assert!(rt; false, "{fault:?}"),
-        }
+// Whether the section is converted to these bytes, big-endian and in the 64-bit format.
+fn is_widened(alloc: Global, bytes: &[u8], wide: &[u8]) -> bool {
+    match convert_section(alloc, bytes, Order::Little, Format::D64, Order::Big) {
+        Ok(converted) => converted.as_slice() == wide,
+        Err(_) => false,
     }
-    Ok(())
+}
+
+// Whether the section is converted to these bytes, little-endian and in the 32-bit format.
+fn is_narrowed(alloc: Global, bytes: &[u8], order: Order, narrow: &[u8]) -> bool {
+    match convert_section(alloc, bytes, order, Format::D32, Order::Little) {
+        Ok(converted) => converted.as_slice() == narrow,
+        Err(_) => false,
+    }
+}
+
+#[test]
+fn a_unit_in_both_formats(rt: HostRuntime) {
+    let alloc = rt.alloc();
+    assert!(rt; is_widened(alloc, &PLAIN, &BIG_ENDIAN_64));
+    assert!(rt; is_narrowed(alloc, &BIG_ENDIAN_64, Order::Big, &PLAIN));
+    assert!(rt; is_narrowed(alloc, &PLAIN, Order::Little, &PLAIN));
+    assert!(rt; is_narrowed(alloc, &PADDED_OPERAND, Order::Little, &PLAIN));
+    assert!(rt; is_widened(alloc, &[], &[]));
+}
+
+// Whether the section is longer, big-endian and in the 64-bit format, and from there converted back.
+fn is_there_and_back(alloc: Global, bytes: &[u8]) -> bool {
+    match convert_section(alloc, bytes, Order::Little, Format::D64, Order::Big) {
+        Ok(there) => there.len() > bytes.len() && is_narrowed(alloc, &there, Order::Big, bytes),
+        Err(_) => false,
+    }
 }
 
 #[test]
 fn there_and_back(rt: HostRuntime) -> Result<(), Fail> {
     let alloc = rt.alloc();
-    let mut all = Vec::from_slice(alloc, &VENDOR_BLOCK1)?;
-    all.extend_from_slice(&PLAIN)?;
-    all.extend_from_slice(&VENDOR_BLOCK4)?;
-    for bytes in [
-        VENDOR_BLOCK1.as_slice(),
-        &VENDOR_BLOCK2,
-        &VENDOR_BLOCK4,
-        all.as_slice(),
-    ] {
-        let Ok(there) = convert_section(alloc, bytes, Order::Little, Format::D64, Order::Big) else {
-            assert!(rt; false, "not converted");
-            continue;
-        };
-        assert!(rt; there.len() > bytes.len());
-        match convert_section(alloc, &there, Order::Big, Format::D32, Order::Little) {
-            Ok(back) => assert_eq!(rt; back.as_slice(), bytes),
-            Err(fault) => assert!(rt; false, "{fault:?}"),
-        }
-    }
+    let all = joined(alloc, &[&VENDOR_BLOCK1, &PLAIN, &VENDOR_BLOCK4])?;
+    assert!(rt; is_there_and_back(alloc, &VENDOR_BLOCK1));
+    assert!(rt; is_there_and_back(alloc, &VENDOR_BLOCK2));
+    assert!(rt; is_there_and_back(alloc, &VENDOR_BLOCK4));
+    assert!(rt; is_there_and_back(alloc, &all));
     Ok(())
 }
 
 // The bytes of a unit in the 64-bit format with an offset of 2^32.
 fn large(alloc: Global) -> Result<Vec<u8>, Fail> {
-    let mut large = parts(alloc, &PLAIN, Order::Little, plain(alloc)?)?;
-    let pair = Pair {
-        content: 1,
-        form: Form::LineStrp,
-    };
-    large.header.format = Format::D64;
-    large.header.directory_format = Items::new(Vec::from_slice(alloc, &[pair])?);
-    large.header.directories = entries(alloc, FormValue::LineStrp(1 << 32))?;
-    match Unit::new(large) {
-        Ok(unit) => Ok(encode_unit(alloc, &unit)?),
-        Err(_refused) => Ok(Vec::new(alloc)),
+    match large_unit(alloc, Format::D64)? {
+        Some(unit) => Ok(encode_unit(alloc, &unit)?),
+        None => Ok(Vec::new(alloc)),
+    }
+}
+
+// The offset of the section's first unit that is too large for the 32-bit format.
+fn too_large(alloc: Global, bytes: &[u8]) -> Option<u64> {
+    match convert_section(alloc, bytes, Order::Little, Format::D32, Order::Little) {
+        Err(ConvertFault::TooLarge(offset)) => Some(offset),
+        _ => None,
+    }
+}
+
+// Whether the section is no shorter in the 64-bit format.
+fn is_no_shorter(alloc: Global, bytes: &[u8]) -> bool {
+    match convert_section(alloc, bytes, Order::Little, Format::D64, Order::Little) {
+        Ok(converted) => converted.len() >= bytes.len(),
+        Err(_) => false,
     }
 }
 
@@ -92,31 +85,31 @@ fn large(alloc: Global) -> Result<Vec<u8>, Fail> {
 fn offsets_of_large_units(rt: HostRuntime) -> Result<(), Fail> {
     let alloc = rt.alloc();
     let large = large(alloc)?;
-    let mut behind = Vec::from_slice(alloc, &PLAIN)?;
-    behind.extend_from_slice(&large)?;
-    behind.extend_from_slice(&large)?;
-    for (bytes, offset) in [(&large, 0), (&behind, 71)] {
-        let refused = convert_section(alloc, bytes, Order::Little, Format::D32, Order::Little);
-        assert_eq!(rt; refused.err(), Some(ConvertFault::TooLarge(offset)));
-        match convert_section(alloc, bytes, Order::Little, Format::D64, Order::Little) {
-            Ok(converted) => assert!(rt; converted.len() >= bytes.len()),
-            Err(fault) => assert!(rt; false, "{fault:?}"),
-        }
-    }
+    let behind = joined(alloc, &[&PLAIN, &large, &large])?;
+    assert!(rt; too_large(alloc, &large) == Some(0));
+    assert!(rt; too_large(alloc, &behind) == Some(71));
+    assert!(rt; is_no_shorter(alloc, &large));
+    assert!(rt; is_no_shorter(alloc, &behind));
     Ok(())
+}
+
+// Why no units spell the section.
+fn malformed(alloc: Global, bytes: &[u8]) -> Option<Fault> {
+    match convert_section(alloc, bytes, Order::Little, Format::D64, Order::Little) {
+        Err(ConvertFault::Malformed(fault)) => Some(fault),
+        _ => None,
+    }
 }
 
 #[test]
 fn sections_that_are_none(rt: HostRuntime) -> Result<(), Fail> {
     let alloc = rt.alloc();
-    let mut cut = Vec::from_slice(alloc, &PLAIN)?;
-    cut.extend_from_slice(&PLAIN[..70])?;
-    let refused = convert_section(alloc, &cut, Order::Little, Format::D64, Order::Little);
+    let cut = joined(alloc, &[&PLAIN, &PLAIN[..70]])?;
     let fault = Fault {
         place: 71,
         reason: Reason::Truncated,
     };
-    assert_eq!(rt; refused.err(), Some(ConvertFault::Malformed(fault)));
+    assert!(rt; malformed(alloc, &cut) == Some(fault));
     Ok(())
 }
 
@@ -127,35 +120,55 @@ fn in_other_format(alloc: Global, bytes: &[u8]) -> Result<Option<Unit>, Fail> {
     Ok(unit.map(|(_, unit)| unit.with_format(Format::D64, Order::Big)))
 }
 
+// Whether the unit is that of `PLAIN`, big-endian and in the 64-bit format.
+fn is_plain_widened(alloc: Global, unit: &Unit) -> bool {
+    unit.header().format() == Format::D64
+        && unit.header().order() == Order::Big
+        && unit.ops() == plain().as_slice()
+        && is_encoded(alloc, unit, &BIG_ENDIAN_64)
+}
+
 #[test]
 fn what_is_kept(rt: HostRuntime) -> Result<(), Fail> {
     let alloc = rt.alloc();
-    let Some(unit) = in_other_format(alloc, &PLAIN)? else {
-        assert!(rt; false, "no unit");
-        return Ok(());
+    let is_kept = match in_other_format(alloc, &PLAIN)? {
+        Some(unit) => is_plain_widened(alloc, &unit),
+        None => false,
     };
-    assert_eq!(rt; unit.header().format(), Format::D64);
-    assert_eq!(rt; unit.header().order(), Order::Big);
-    assert_eq!(rt; unit.ops(), plain(alloc)?.as_slice());
-    assert_eq!(rt;
-        encode_unit(alloc, &unit)?.as_slice(),
-        BIG_ENDIAN_64.as_slice()
-    );
+    assert!(rt; is_kept);
     Ok(())
+}
+
+// The header of the first unit of the bytes.
+fn header_of(alloc: Global, bytes: &[u8]) -> Result<Header, Fault> {
+    let frame = take_frame(&mut Cursor::new(bytes, 0, Order::Little))?;
+    let (header, _) = decode_header(alloc, &frame, Order::Little)?;
+    Ok(header)
+}
+
+// Whether the header without a program is written as so many bytes.
+fn has_length(alloc: Global, header: &Header, length: usize) -> bool {
+    match encode_header(alloc, header, &[]) {
+        Ok(written) => written.len() == length,
+        Err(_) => false,
+    }
+}
+
+// Whether the header without a program is written as these bytes.
+fn is_encoded_header(alloc: Global, header: &Header, bytes: &[u8]) -> bool {
+    match encode_header(alloc, header, &[]) {
+        Ok(written) => written.as_slice() == bytes,
+        Err(_) => false,
+    }
 }
 
 #[test]
 fn a_header_in_the_other_format(rt: HostRuntime) -> Result<(), Fail> {
     let alloc = rt.alloc();
-    let frame = take_frame(&mut Cursor::new(&MD5_WITHOUT_PROGRAM, 0, Order::Little))?;
-    let (header, _) = decode_header(alloc, &frame, Order::Little)?;
+    let header = header_of(alloc, &MD5_WITHOUT_PROGRAM)?;
     let there = header.with_format(Format::D64, Order::Big);
-    assert_eq!(rt; there.format(), Format::D64);
-    assert_eq!(rt; encode_header(alloc, &there, &[])?.len(), 78);
+    assert!(rt; there.format() == Format::D64 && has_length(alloc, &there, 78));
     let back = there.with_format(Format::D32, Order::Little);
-    assert_eq!(rt;
-        encode_header(alloc, &back, &[])?.as_slice(),
-        MD5_WITHOUT_PROGRAM.as_slice()
-    );
+    assert!(rt; is_encoded_header(alloc, &back, &MD5_WITHOUT_PROGRAM));
     Ok(())
 }

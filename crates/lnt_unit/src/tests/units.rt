@@ -1,3 +1,4 @@
+use super::walked::with_length;
 use super::worked::{
     ADDRESS_WRAPS, BIG_ENDIAN_64, CONST_ADD_PC, EMPTY_SEQUENCE, FILE_ZERO, FIXED_ADVANCE_PC,
     LINE_BELOW_ZERO, LINE_STRP_DIRECTORY, MARKS_AND_DISCRIMINATOR, MD5_WITHOUT_PROGRAM,
@@ -5,13 +6,14 @@ use super::worked::{
     THREE_OPERATIONS_PER_INSTRUCTION, TOUCHING_SEQUENCES, TWO_ROWS_AT_ONE_ADDRESS, TWO_SEQUENCES,
     VENDOR_BLOCK1, VENDOR_BLOCK2, VENDOR_BLOCK4,
 };
+use super::written::with_unknown;
 use crate::{Op, Unit, decode_section, decode_unit};
-use lnt_wire::{Cursor, Fault, Format, Items, Order, Reason};
+use lnt_wire::{Cursor, Fault, Format, Order, Reason};
 use std::alloc::{AllocError, Global};
 use std::test::Fail;
 
 // The operations of `PLAIN`.
-fn plain() -> [Op; 5] {
+pub(super) fn plain() -> [Op; 5] {
     [
         Op::SetAddress(0x1000),
         Op::Special(20),
@@ -29,42 +31,46 @@ fn ops_of(units: &[(u64, Unit)]) -> Option<&[Op]> {
     if *offset == 0 { Some(unit.ops()) } else { None }
 }
 
-#[test]
-fn units_with_one_program(rt: HostRuntime) -> Result<(), Fail> {
-    let alloc = rt.alloc();
-    for bytes in [
-        PLAIN.as_slice(),
-        &LINE_STRP_DIRECTORY,
-        &ONE_FILE_FROM_ZERO,
-        &PADDED_OPERAND,
-        &VENDOR_BLOCK1,
-        &VENDOR_BLOCK2,
-        &VENDOR_BLOCK4,
-    ] {
-        let units = decode_section(alloc, bytes, Order::Little)?;
-        assert_eq!(rt; ops_of(&units), Some(plain().as_slice()));
-    }
-    let units = decode_section(alloc, &BIG_ENDIAN_64, Order::Big)?;
-    assert_eq!(rt; ops_of(&units), Some(plain().as_slice()));
-    Ok(())
-}
-
 // Whether the section is one unit of these operations.
-fn has_ops(alloc: Global, bytes: &[u8], ops: &[Op]) -> Result<bool, Fault> {
-    let units = decode_section(alloc, bytes, Order::Little)?;
-    Ok(ops_of(&units) == Some(ops))
+fn has_ops(alloc: Global, bytes: &[u8], order: Order, ops: &[Op]) -> bool {
+    match decode_section(alloc, bytes, order) {
+        Ok(units) => ops_of(&units) == Some(ops),
+        Err(_) => false,
+    }
+}
+
+// Whether the section is one unit with the operations of `PLAIN`.
+fn is_plain(alloc: Global, bytes: &[u8], order: Order) -> bool {
+    has_ops(alloc, bytes, order, &plain())
 }
 
 #[test]
-fn units_that_advance_otherwise(rt: HostRuntime) -> Result<(), Fail> {
+fn units_with_one_program(rt: HostRuntime) {
     let alloc = rt.alloc();
-    let wraps = [
+    assert!(rt; is_plain(alloc, &PLAIN, Order::Little));
+    assert!(rt; is_plain(alloc, &LINE_STRP_DIRECTORY, Order::Little));
+    assert!(rt; is_plain(alloc, &ONE_FILE_FROM_ZERO, Order::Little));
+    assert!(rt; is_plain(alloc, &PADDED_OPERAND, Order::Little));
+    assert!(rt; is_plain(alloc, &VENDOR_BLOCK1, Order::Little));
+    assert!(rt; is_plain(alloc, &VENDOR_BLOCK2, Order::Little));
+    assert!(rt; is_plain(alloc, &VENDOR_BLOCK4, Order::Little));
+    assert!(rt; is_plain(alloc, &BIG_ENDIAN_64, Order::Big));
+}
+
+#[test]
+fn an_address_that_wraps(rt: HostRuntime) {
+    let ops = [
         Op::SetAddress(0xffff_ffff_ffff_fff0),
         Op::Special(20),
         Op::AdvancePc(16),
         Op::EndSequence,
     ];
-    let added = [
+    assert!(rt; has_ops(rt.alloc(), &ADDRESS_WRAPS, Order::Little, &ops));
+}
+
+#[test]
+fn an_advance_of_opcode_255(rt: HostRuntime) {
+    let ops = [
         Op::SetAddress(0x1000),
         Op::Special(20),
         Op::ConstAddPc,
@@ -72,7 +78,12 @@ fn units_that_advance_otherwise(rt: HostRuntime) -> Result<(), Fail> {
         Op::AdvancePc(1),
         Op::EndSequence,
     ];
-    let fixed = [
+    assert!(rt; has_ops(rt.alloc(), &CONST_ADD_PC, Order::Little, &ops));
+}
+
+#[test]
+fn a_fixed_advance(rt: HostRuntime) {
+    let ops = [
         Op::SetAddress(0x1000),
         Op::Special(20),
         Op::AdvancePc(1),
@@ -81,16 +92,12 @@ fn units_that_advance_otherwise(rt: HostRuntime) -> Result<(), Fail> {
         Op::AdvancePc(2),
         Op::EndSequence,
     ];
-    assert!(rt; has_ops(alloc, &ADDRESS_WRAPS, &wraps)?);
-    assert!(rt; has_ops(alloc, &CONST_ADD_PC, &added)?);
-    assert!(rt; has_ops(alloc, &FIXED_ADVANCE_PC, &fixed)?);
-    Ok(())
+    assert!(rt; has_ops(rt.alloc(), &FIXED_ADVANCE_PC, Order::Little, &ops));
 }
 
 #[test]
-fn units_of_other_files_and_lines(rt: HostRuntime) -> Result<(), Fail> {
-    let alloc = rt.alloc();
-    let file = [
+fn rows_of_file_0(rt: HostRuntime) {
+    let ops = [
         Op::SetAddress(0x1000),
         Op::SetFile(0),
         Op::Special(20),
@@ -98,30 +105,36 @@ fn units_of_other_files_and_lines(rt: HostRuntime) -> Result<(), Fail> {
         Op::AdvancePc(2),
         Op::EndSequence,
     ];
-    let below = [
+    assert!(rt; has_ops(rt.alloc(), &FILE_ZERO, Order::Little, &ops));
+}
+
+#[test]
+fn a_line_below_zero(rt: HostRuntime) {
+    let ops = [
         Op::SetAddress(0x1000),
         Op::AdvanceLine(-2),
         Op::Copy,
         Op::AdvancePc(2),
         Op::EndSequence,
     ];
-    let low_base = [
+    assert!(rt; has_ops(rt.alloc(), &LINE_BELOW_ZERO, Order::Little, &ops));
+}
+
+#[test]
+fn opcodes_from_10_on(rt: HostRuntime) {
+    let ops = [
         Op::SetAddress(0x1000),
         Op::AdvanceLine(9),
         Op::Special(10),
         Op::AdvancePc(2),
         Op::EndSequence,
     ];
-    assert!(rt; has_ops(alloc, &FILE_ZERO, &file)?);
-    assert!(rt; has_ops(alloc, &LINE_BELOW_ZERO, &below)?);
-    assert!(rt; has_ops(alloc, &OPCODE_BASE_10, &low_base)?);
-    Ok(())
+    assert!(rt; has_ops(rt.alloc(), &OPCODE_BASE_10, Order::Little, &ops));
 }
 
 #[test]
-fn units_with_marks_or_nothing(rt: HostRuntime) -> Result<(), Fail> {
-    let alloc = rt.alloc();
-    let marks = [
+fn marks_and_a_discriminator(rt: HostRuntime) {
+    let ops = [
         Op::SetAddress(0x1000),
         Op::SetDiscriminator(7),
         Op::SetPrologueEnd,
@@ -131,49 +144,47 @@ fn units_with_marks_or_nothing(rt: HostRuntime) -> Result<(), Fail> {
         Op::AdvancePc(2),
         Op::EndSequence,
     ];
-    assert!(rt; has_ops(alloc, &MARKS_AND_DISCRIMINATOR, &marks)?);
-    assert!(rt; has_ops(alloc, &MD5_WITHOUT_PROGRAM, &[])?);
-    Ok(())
+    assert!(rt; has_ops(rt.alloc(), &MARKS_AND_DISCRIMINATOR, Order::Little, &ops));
 }
 
 #[test]
-fn units_with_several_sequences(rt: HostRuntime) -> Result<(), Fail> {
-    let alloc = rt.alloc();
-    for (bytes, count, ends) in [
-        (EMPTY_SEQUENCE.as_slice(), 7, [4, 6]),
-        (&PARTED_SEQUENCES, 8, [3, 7]),
-        (&TOUCHING_SEQUENCES, 8, [3, 7]),
-        (&TWO_SEQUENCES, 9, [4, 8]),
-        (&THREE_OPERATIONS_PER_INSTRUCTION, 9, [8, 8]),
-        (&TWO_ROWS_AT_ONE_ADDRESS, 6, [5, 5]),
-    ] {
-        let units = decode_section(alloc, bytes, Order::Little)?;
-        let ops = ops_of(&units).unwrap_or(&[]);
-        assert_eq!(rt; ops.len(), count);
-        for end in ends {
-            assert_eq!(rt; ops.get(end), Some(&Op::EndSequence));
+fn no_operations(rt: HostRuntime) {
+    assert!(rt; has_ops(rt.alloc(), &MD5_WITHOUT_PROGRAM, Order::Little, &[]));
+}
+
+// Whether the section is one unit of so many operations, of which these two end a sequence.
+fn has_ends(alloc: Global, bytes: &[u8], count: usize, first: usize, last: usize) -> bool {
+    match decode_section(alloc, bytes, Order::Little) {
+        Ok(units) => {
+            let ops = ops_of(&units).unwrap_or(&[]);
+            ops.len() == count
+                && ops.get(first) == Some(&Op::EndSequence)
+                && ops.get(last) == Some(&Op::EndSequence)
         }
+        Err(_) => false,
     }
-    Ok(())
+}
+
+#[test]
+fn units_with_several_sequences(rt: HostRuntime) {
+    let alloc = rt.alloc();
+    assert!(rt; has_ends(alloc, &EMPTY_SEQUENCE, 7, 4, 6));
+    assert!(rt; has_ends(alloc, &PARTED_SEQUENCES, 8, 3, 7));
+    assert!(rt; has_ends(alloc, &TOUCHING_SEQUENCES, 8, 3, 7));
+    assert!(rt; has_ends(alloc, &TWO_SEQUENCES, 9, 4, 8));
+    assert!(rt; has_ends(alloc, &THREE_OPERATIONS_PER_INSTRUCTION, 9, 8, 8));
+    assert!(rt; has_ends(alloc, &TWO_ROWS_AT_ONE_ADDRESS, 6, 5, 5));
 }
 
 #[test]
 fn unknown_operations_are_kept(rt: HostRuntime) -> Result<(), Fail> {
     let alloc = rt.alloc();
-    let ops = [
-        Op::SetAddress(0x1000),
-        Op::UnknownStandard(13, Items::new(Vec::from_slice(alloc, &[128, 5])?)),
-        Op::UnknownStandard(14, Items::new(Vec::new(alloc))),
-        Op::Special(22),
-        Op::AdvancePc(2),
-        Op::EndSequence,
-    ];
-    let units = decode_section(alloc, &OPCODE_BASE_15, Order::Little)?;
-    assert_eq!(rt; ops_of(&units), Some(ops.as_slice()));
+    let ops = with_unknown(alloc)?;
+    assert!(rt; has_ops(alloc, &OPCODE_BASE_15, Order::Little, &ops));
     Ok(())
 }
 
-fn joined(alloc: Global, pieces: &[&[u8]]) -> Result<Vec<u8>, AllocError> {
+pub(super) fn joined(alloc: Global, pieces: &[&[u8]]) -> Result<Vec<u8>, AllocError> {
     let mut bytes = Vec::new(alloc);
     for piece in pieces {
         bytes.extend_from_slice(piece)?;
@@ -181,18 +192,33 @@ fn joined(alloc: Global, pieces: &[&[u8]]) -> Result<Vec<u8>, AllocError> {
     Ok(bytes)
 }
 
+// Whether the units are three at these offsets, with the header of `OPCODE_BASE_15` in the middle and the operations of
+// `PLAIN` last.
+fn are_the_three(units: &[(u64, Unit)]) -> bool {
+    match units {
+        [(first, _), (second, middle), (third, last)] => {
+            (*first, *second, *third) == (0, 71, 148)
+                && middle.header().opcode_base() == 15
+                && middle.header().format() == Format::D32
+                && last.ops() == plain().as_slice()
+        }
+        _ => false,
+    }
+}
+
 #[test]
 fn offsets_of_units(rt: HostRuntime) -> Result<(), Fail> {
     let alloc = rt.alloc();
-    let none = decode_section(alloc, &[], Order::Little)?;
-    assert!(rt; none.is_empty());
     let bytes = joined(alloc, &[&PLAIN, &OPCODE_BASE_15, &PLAIN])?;
     let units = decode_section(alloc, &bytes, Order::Little)?;
-    assert_eq!(rt; units.len(), 3);
-    assert_eq!(rt; (units[0].0, units[1].0, units[2].0), (0, 71, 148));
-    assert_eq!(rt; units[2].1.ops(), plain().as_slice());
-    assert_eq!(rt; units[1].1.header().opcode_base(), 15);
-    assert_eq!(rt; units[1].1.header().format(), Format::D32);
+    assert!(rt; are_the_three(&units));
+    Ok(())
+}
+
+#[test]
+fn no_units(rt: HostRuntime) -> Result<(), Fail> {
+    let units = decode_section(rt.alloc(), &[], Order::Little)?;
+    assert!(rt; units.is_empty());
     Ok(())
 }
 
@@ -203,34 +229,62 @@ fn fault_of(alloc: Global, bytes: &[u8]) -> Option<(u64, Reason)> {
     }
 }
 
+// Whether the section has this fault.
+fn has_fault(alloc: Global, bytes: &[u8], place: u64, reason: Reason) -> bool {
+    fault_of(alloc, bytes) == Some((place, reason))
+}
+
 #[test]
-fn faults_of_operations(rt: HostRuntime) -> Result<(), Fail> {
+fn faults_of_operations(rt: HostRuntime) {
     let alloc = rt.alloc();
-    let (start, end) = PLAIN.split_at(69);
-    let no_length = joined(alloc, &[start, &[0], &end[1..]])?;
-    let long = joined(alloc, &[start, &[2], &end[1..]])?;
-    let second = joined(alloc, &[&PLAIN, &no_length])?;
-    let first = joined(alloc, &[&no_length, &PLAIN])?;
-    for (bytes, place, reason) in [
-        (&no_length, 69, Reason::ExtendedLength),
-        (&long, 70, Reason::Truncated),
-        (&second, 140, Reason::ExtendedLength),
-        (&first, 69, Reason::ExtendedLength),
-    ] {
-        assert_eq!(rt; fault_of(alloc, bytes), Some((place, reason)));
-    }
+    assert!(rt; has_fault(alloc, &with_length(0), 69, Reason::ExtendedLength));
+    assert!(rt; has_fault(alloc, &with_length(2), 70, Reason::Truncated));
+}
+
+#[test]
+fn faults_of_two_units(rt: HostRuntime) -> Result<(), Fail> {
+    let alloc = rt.alloc();
+    let second = joined(alloc, &[&PLAIN, &with_length(0)])?;
+    let first = joined(alloc, &[&with_length(0), &PLAIN])?;
+    assert!(rt; has_fault(alloc, &second, 140, Reason::ExtendedLength));
+    assert!(rt; has_fault(alloc, &first, 69, Reason::ExtendedLength));
     Ok(())
 }
 
 #[test]
-fn cut_sections(rt: HostRuntime) -> Result<(), Fail> {
+fn cut_units(rt: HostRuntime) {
     let alloc = rt.alloc();
     for k in 1..PLAIN.len() {
-        assert_eq!(rt; fault_of(alloc, &PLAIN[..k]), Some((0, Reason::Truncated)));
+        assert!(rt; has_fault(alloc, &PLAIN[..k], 0, Reason::Truncated));
     }
+}
+
+#[test]
+fn a_byte_behind_a_unit(rt: HostRuntime) -> Result<(), Fail> {
+    let alloc = rt.alloc();
     let more = joined(alloc, &[&PLAIN, &[0]])?;
-    assert_eq!(rt; fault_of(alloc, &more), Some((71, Reason::Truncated)));
+    assert!(rt; has_fault(alloc, &more, 71, Reason::Truncated));
     Ok(())
+}
+
+// Whether the cursor is at this place, with so many bytes left.
+fn stands_at(cursor: &Cursor<'_>, place: u64, left: usize) -> bool {
+    cursor.place() == place && cursor.rest().len() == left
+}
+
+// Whether the unit at the cursor has the operations of `PLAIN`.
+fn takes_plain(alloc: Global, cursor: &mut Cursor<'_>) -> bool {
+    let order = cursor.order();
+    match decode_unit(alloc, cursor, order) {
+        Ok(unit) => unit.ops() == plain().as_slice(),
+        Err(_) => false,
+    }
+}
+
+// Why there is no unit at the cursor.
+fn refused_at(alloc: Global, cursor: &mut Cursor<'_>) -> Option<Fault> {
+    let order = cursor.order();
+    decode_unit(alloc, cursor, order).err()
 }
 
 #[test]
@@ -238,17 +292,13 @@ fn a_refusal_leaves_the_cursor(rt: HostRuntime) -> Result<(), Fail> {
     let alloc = rt.alloc();
     let bytes = joined(alloc, &[&PLAIN, &PLAIN[..70]])?;
     let mut cursor = Cursor::new(&bytes, 0x100, Order::Little);
-    let unit = decode_unit(alloc, &mut cursor, Order::Little)?;
-    assert_eq!(rt; unit.ops(), plain().as_slice());
-    assert_eq!(rt; (cursor.place(), cursor.rest().len()), (0x147, 70));
-    let fault = decode_unit(alloc, &mut cursor, Order::Little).err();
-    assert_eq!(rt;
-        fault,
-        Some(Fault {
-            place: 0x147,
-            reason: Reason::Truncated
-        })
-    );
-    assert_eq!(rt; (cursor.place(), cursor.rest().len()), (0x147, 70));
+    assert!(rt; takes_plain(alloc, &mut cursor));
+    assert!(rt; stands_at(&cursor, 0x147, 70));
+    let fault = Fault {
+        place: 0x147,
+        reason: Reason::Truncated,
+    };
+    assert!(rt; refused_at(alloc, &mut cursor) == Some(fault));
+    assert!(rt; stands_at(&cursor, 0x147, 70));
     Ok(())
 }

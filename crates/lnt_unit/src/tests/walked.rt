@@ -1,3 +1,4 @@
+use super::units::joined;
 use super::worked::{
     ADDRESS_WRAPS, BIG_ENDIAN_64, CONST_ADD_PC, EMPTY_SEQUENCE, FILE_ZERO, FIXED_ADVANCE_PC,
     LINE_BELOW_ZERO, LINE_STRP_DIRECTORY, MARKS_AND_DISCRIMINATOR, MD5_WITHOUT_PROGRAM,
@@ -45,100 +46,102 @@ fn same_operands(operands: Operands<'_>, numbers: &[u64]) -> bool {
     cursor.rest().is_empty()
 }
 
-// Whether the operation, which lies in a buffer, is this one.
-fn same_op(alloc: Global, view: OpView<'_>, op: &Op) -> Result<bool, Fail> {
+// Whether the operation, which lies in a buffer, is this one, where memory suffices.
+fn same_op(alloc: Global, view: OpView<'_>, op: &Op) -> Option<bool> {
     match (view, op) {
         (OpView::UnknownStandard(opcode, operands), Op::UnknownStandard(same, numbers)) => {
-            Ok(opcode == *same && same_operands(operands, numbers.as_slice()))
+            Some(opcode == *same && same_operands(operands, numbers.as_slice()))
         }
         (view, op) => {
-            let read = format!(in alloc; "{view:?}")?;
-            Ok(read == format!(in alloc; "{:?}", op.view())?)
+            let read = format!(in alloc; "{view:?}").ok()?;
+            Some(read == format!(in alloc; "{:?}", op.view()).ok()?)
         }
     }
 }
 
-// Whether the operations, read where they lie, are these.
-fn same_ops(alloc: Global, view: &UnitView<'_>, ops: &[Op]) -> Result<bool, Fail> {
+// Whether the operations, read where they lie, are these, where each is there.
+fn same_ops(alloc: Global, view: &UnitView<'_>, ops: &[Op]) -> Option<bool> {
     let mut count = 0;
     for item in view.ops() {
         match ops.get(count) {
-            Some(op) if same_op(alloc, item?, op)? => count += 1,
-            _ => return Ok(false),
+            Some(op) if same_op(alloc, item.ok()?, op)? => count += 1,
+            _ => return Some(false),
         }
     }
-    Ok(count == ops.len() && view.operation_count()? == count as u64)
+    Some(count == ops.len() && view.operation_count().ok()? == count as u64)
 }
 
-// Whether the unit in the buffer is this one.
-fn same_unit(alloc: Global, buffer: &UnitBuffer, unit: &Unit) -> Result<bool, Fail> {
-    let view = UnitView::over(alloc, buffer)?;
-    let header = format!(in alloc; "{:?}", view.header())?;
-    Ok(header == format!(in alloc; "{:?}", unit.header())? && same_ops(alloc, &view, unit.ops())?)
+// Whether the unit in the buffer is this one, where it is a unit.
+fn same_unit(alloc: Global, buffer: &UnitBuffer, unit: &Unit) -> Option<bool> {
+    let view = UnitView::over(alloc, buffer).ok()?;
+    let header = format!(in alloc; "{:?}", view.header()).ok()?;
+    let same_header = header == format!(in alloc; "{:?}", unit.header()).ok()?;
+    Some(same_header && same_ops(alloc, &view, unit.ops())?)
 }
 
-// Whether the units of the section, read one byte at a time, are those of `decode_section`, and at the same offsets.
-fn is_walked(alloc: Global, bytes: &[u8], order: Order) -> Result<bool, Fail> {
-    let units = decode_section(alloc, bytes, order)?;
+// Whether the units of the section, read one byte at a time, are those of `decode_section`, and at the same offsets,
+// where it has units.
+fn same_units(alloc: Global, bytes: &[u8], order: Order) -> Option<bool> {
+    let units = decode_section(alloc, bytes, order).ok()?;
     let mut source = Counted::new(OneByOne { bytes }, AMPLE);
     let mut reader = SectionReader::new(&mut source, order);
     for (offset, unit) in &units {
-        match reader.next_unit(alloc)? {
+        match reader.next_unit(alloc).ok()? {
             Some(buffer) if buffer.offset() == *offset && same_unit(alloc, &buffer, unit)? => {}
-            _ => return Ok(false),
+            _ => return Some(false),
         }
     }
-    Ok(!units.is_empty() && reader.next_unit(alloc)?.is_none())
+    Some(!units.is_empty() && reader.next_unit(alloc).ok()?.is_none())
+}
+
+// Whether the section has units, and they are the same read one byte at a time.
+fn is_walked(alloc: Global, bytes: &[u8], order: Order) -> bool {
+    same_units(alloc, bytes, order) == Some(true)
 }
 
 #[test]
-fn units_with_one_sequence(rt: HostRuntime) -> Result<(), Fail> {
+fn units_with_one_sequence(rt: HostRuntime) {
     let alloc = rt.alloc();
-    assert!(rt; is_walked(alloc, &PLAIN, Order::Little)?);
-    assert!(rt; is_walked(alloc, &BIG_ENDIAN_64, Order::Big)?);
-    assert!(rt; is_walked(alloc, &ADDRESS_WRAPS, Order::Little)?);
-    assert!(rt; is_walked(alloc, &CONST_ADD_PC, Order::Little)?);
-    assert!(rt; is_walked(alloc, &FILE_ZERO, Order::Little)?);
-    assert!(rt; is_walked(alloc, &FIXED_ADVANCE_PC, Order::Little)?);
-    assert!(rt; is_walked(alloc, &LINE_BELOW_ZERO, Order::Little)?);
-    assert!(rt; is_walked(alloc, &MARKS_AND_DISCRIMINATOR, Order::Little)?);
-    assert!(rt; is_walked(alloc, &ONE_FILE_FROM_ZERO, Order::Little)?);
-    assert!(rt; is_walked(alloc, &OPCODE_BASE_10, Order::Little)?);
-    assert!(rt; is_walked(alloc, &PADDED_OPERAND, Order::Little)?);
-    assert!(rt; is_walked(alloc, &TWO_ROWS_AT_ONE_ADDRESS, Order::Little)?);
-    Ok(())
+    assert!(rt; is_walked(alloc, &PLAIN, Order::Little));
+    assert!(rt; is_walked(alloc, &BIG_ENDIAN_64, Order::Big));
+    assert!(rt; is_walked(alloc, &ADDRESS_WRAPS, Order::Little));
+    assert!(rt; is_walked(alloc, &CONST_ADD_PC, Order::Little));
+    assert!(rt; is_walked(alloc, &FILE_ZERO, Order::Little));
+    assert!(rt; is_walked(alloc, &FIXED_ADVANCE_PC, Order::Little));
+    assert!(rt; is_walked(alloc, &LINE_BELOW_ZERO, Order::Little));
+    assert!(rt; is_walked(alloc, &MARKS_AND_DISCRIMINATOR, Order::Little));
+    assert!(rt; is_walked(alloc, &ONE_FILE_FROM_ZERO, Order::Little));
+    assert!(rt; is_walked(alloc, &OPCODE_BASE_10, Order::Little));
+    assert!(rt; is_walked(alloc, &PADDED_OPERAND, Order::Little));
+    assert!(rt; is_walked(alloc, &TWO_ROWS_AT_ONE_ADDRESS, Order::Little));
 }
 
 #[test]
-fn units_with_none_or_several(rt: HostRuntime) -> Result<(), Fail> {
+fn units_with_none_or_several(rt: HostRuntime) {
     let alloc = rt.alloc();
-    assert!(rt; is_walked(alloc, &MD5_WITHOUT_PROGRAM, Order::Little)?);
-    assert!(rt; is_walked(alloc, &EMPTY_SEQUENCE, Order::Little)?);
-    assert!(rt; is_walked(alloc, &PARTED_SEQUENCES, Order::Little)?);
-    assert!(rt; is_walked(alloc, &THREE_OPERATIONS_PER_INSTRUCTION, Order::Little)?);
-    assert!(rt; is_walked(alloc, &TOUCHING_SEQUENCES, Order::Little)?);
-    assert!(rt; is_walked(alloc, &TWO_SEQUENCES, Order::Little)?);
-    Ok(())
+    assert!(rt; is_walked(alloc, &MD5_WITHOUT_PROGRAM, Order::Little));
+    assert!(rt; is_walked(alloc, &EMPTY_SEQUENCE, Order::Little));
+    assert!(rt; is_walked(alloc, &PARTED_SEQUENCES, Order::Little));
+    assert!(rt; is_walked(alloc, &THREE_OPERATIONS_PER_INSTRUCTION, Order::Little));
+    assert!(rt; is_walked(alloc, &TOUCHING_SEQUENCES, Order::Little));
+    assert!(rt; is_walked(alloc, &TWO_SEQUENCES, Order::Little));
 }
 
 #[test]
-fn units_with_forms_of_vendors(rt: HostRuntime) -> Result<(), Fail> {
+fn units_with_forms_of_vendors(rt: HostRuntime) {
     let alloc = rt.alloc();
-    assert!(rt; is_walked(alloc, &OPCODE_BASE_15, Order::Little)?);
-    assert!(rt; is_walked(alloc, &LINE_STRP_DIRECTORY, Order::Little)?);
-    assert!(rt; is_walked(alloc, &VENDOR_BLOCK1, Order::Little)?);
-    assert!(rt; is_walked(alloc, &VENDOR_BLOCK2, Order::Little)?);
-    assert!(rt; is_walked(alloc, &VENDOR_BLOCK4, Order::Little)?);
-    Ok(())
+    assert!(rt; is_walked(alloc, &OPCODE_BASE_15, Order::Little));
+    assert!(rt; is_walked(alloc, &LINE_STRP_DIRECTORY, Order::Little));
+    assert!(rt; is_walked(alloc, &VENDOR_BLOCK1, Order::Little));
+    assert!(rt; is_walked(alloc, &VENDOR_BLOCK2, Order::Little));
+    assert!(rt; is_walked(alloc, &VENDOR_BLOCK4, Order::Little));
 }
 
 #[test]
 fn units_one_behind_the_other(rt: HostRuntime) -> Result<(), Fail> {
     let alloc = rt.alloc();
-    let mut bytes = Vec::from_slice(alloc, &PLAIN)?;
-    bytes.extend_from_slice(&OPCODE_BASE_15)?;
-    bytes.extend_from_slice(&MD5_WITHOUT_PROGRAM)?;
-    assert!(rt; is_walked(alloc, &bytes, Order::Little)?);
+    let bytes = joined(alloc, &[&PLAIN, &OPCODE_BASE_15, &MD5_WITHOUT_PROGRAM])?;
+    assert!(rt; is_walked(alloc, &bytes, Order::Little));
     Ok(())
 }
 
@@ -177,31 +180,39 @@ fn is_faulty(alloc: Global, bytes: &[u8], place: u64, reason: Reason) -> bool {
 }
 
 // `PLAIN` with another byte where the length of its last operation stands.
-fn with_length(length: u8) -> [u8; 71] {
+pub(super) fn with_length(length: u8) -> [u8; 71] {
     let mut bytes = PLAIN;
     bytes[69] = length;
     bytes
 }
 
 #[test]
-fn faults_of_walked_operations(rt: HostRuntime) -> Result<(), Fail> {
+fn faults_of_walked_operations(rt: HostRuntime) {
     let alloc = rt.alloc();
     assert!(rt; is_faulty(alloc, &with_length(0), 69, Reason::ExtendedLength));
     assert!(rt; is_faulty(alloc, &with_length(2), 70, Reason::Truncated));
-    let mut second = Vec::from_slice(alloc, &PLAIN)?;
-    second.extend_from_slice(&with_length(0))?;
+}
+
+#[test]
+fn a_fault_of_the_second_walked_unit(rt: HostRuntime) -> Result<(), Fail> {
+    let alloc = rt.alloc();
+    let second = joined(alloc, &[&PLAIN, &with_length(0)])?;
     assert!(rt; is_faulty(alloc, &second, 140, Reason::ExtendedLength));
     Ok(())
 }
 
 #[test]
-fn faults_of_walked_frames(rt: HostRuntime) -> Result<(), Fail> {
+fn faults_of_walked_frames(rt: HostRuntime) {
     let alloc = rt.alloc();
     for k in 1..PLAIN.len() {
         assert!(rt; is_faulty(alloc, &PLAIN[..k], 0, Reason::Truncated));
     }
-    let mut more = Vec::from_slice(alloc, &PLAIN)?;
-    more.push(0)?;
+}
+
+#[test]
+fn a_byte_behind_a_walked_unit(rt: HostRuntime) -> Result<(), Fail> {
+    let alloc = rt.alloc();
+    let more = joined(alloc, &[&PLAIN, &[0]])?;
     assert!(rt; is_faulty(alloc, &more, 71, Reason::Truncated));
     Ok(())
 }
