@@ -112,229 +112,282 @@ fn words(alloc: Global, line: &str) -> Result<Vec<String>, AllocError> {
     Ok(words)
 }
 
+// What the command writes of the file of these bytes, and how it ends, where nothing stops it.
+fn printed(alloc: Global, bytes: &[u8], line: &str) -> Option<(Vec<u8>, Status)> {
+    let words = words(alloc, line).ok()?;
+    let mut out = Vec::new(alloc);
+    let status = run(alloc, words, &mut OneFile::of(bytes), &mut out).ok()?;
+    Some((out, status))
+}
+
+// Whether the command writes this text of the file of these bytes, and ends so.
+fn prints(alloc: Global, bytes: &[u8], line: &str, text: &str, status: Status) -> bool {
+    match printed(alloc, bytes, line) {
+        Some((out, ended)) => ended == status && out.as_slice() == text.as_bytes(),
+        None => false,
+    }
+}
+
+// What the command writes one byte at a time, and how it ends, where nothing stops it.
+fn printed_slowly(alloc: Global, bytes: &[u8], line: &str) -> Option<(Vec<u8>, Status)> {
+    let words = words(alloc, line).ok()?;
+    let mut narrow = Narrow::new(alloc, 1000);
+    let status = run(alloc, words, &mut OneFile::of(bytes), &mut narrow).ok()?;
+    Some((narrow.taken, status))
+}
+
+// Whether the command writes this text at once and one byte at a time, and ends so.
+fn prints_always(alloc: Global, bytes: &[u8], line: &str, text: &str, status: Status) -> bool {
+    match printed_slowly(alloc, bytes, line) {
+        Some((out, ended)) => {
+            ended == status
+                && out.as_slice() == text.as_bytes()
+                && prints(alloc, bytes, line, text, status)
+        }
+        None => false,
+    }
+}
+
 #[test]
 fn a_line_for_each_unit(rt: HostRuntime) -> Result<(), Fail> {
     let alloc = rt.alloc();
     let mut then_reserved = PLAIN.to_vec(alloc)?;
     then_reserved.extend_from_slice(&[0xf0, 0xff, 0xff, 0xff])?;
-    let mut version_4 = PLAIN;
-    version_4[4] = 4;
-    for (bytes, line, text, status) in [
-        (
-            PLAIN.as_slice(),
+    let text = "0x0 32 67\nno 25 malformed at 0x47: reserved length\n";
+    assert!(rt;
+        prints_always(
+            alloc,
+            &PLAIN,
             "linetab units F",
             "0x0 32 67\n",
-            Status::Done,
-        ),
-        (&[], "linetab units -", "", Status::Done),
-        (
-            then_reserved.as_slice(),
-            "linetab units -",
-            "0x0 32 67\nno 25 malformed at 0x47: reserved length\n",
-            Status::No,
-        ),
-        (&WIDE, "linetab units - --big", "0x0 64 71\n", Status::Done),
-        (&WIDE, "linetab units --big -", "0x0 64 71\n", Status::Done),
-        (
-            &[1, 0, 0, 0, 5],
-            "linetab units -",
-            "no 25 malformed at 0x4: truncated\n",
-            Status::No,
-        ),
-        (
-            &[0xf0, 0xff, 0xff, 0xff],
-            "linetab units -",
-            "no 25 malformed at 0x0: reserved length\n",
-            Status::No,
-        ),
-        (
-            &version_4,
-            "linetab units -",
-            "no 25 malformed at 0x4: version 4\n",
-            Status::No,
-        ),
-        (
-            &PLAIN,
-            "linetab units --big F",
-            "no 25 malformed at 0x0: truncated\n",
-            Status::No,
-        ),
-    ] {
-        let mut out = Vec::new(alloc);
-        let ended = run(
+            Status::Done
+        )
+    );
+    assert!(rt; prints_always(alloc, &[], "linetab units -", "", Status::Done));
+    assert!(rt; prints_always(alloc, &then_reserved, "linetab units -", text, Status::No));
+    assert!(rt;
+        prints_always(
             alloc,
-            words(alloc, line)?,
-            &mut OneFile::of(bytes),
-            &mut out,
-        )?;
-        assert_eq!(rt; ended, status, "for {line}");
-        assert_eq!(rt; out.as_slice(), text.as_bytes(), "for {line}");
-        let mut narrow = Narrow::new(alloc, 1000);
-        let ended = run(
+            &WIDE,
+            "linetab units - --big",
+            "0x0 64 71\n",
+            Status::Done
+        )
+    );
+    assert!(rt;
+        prints_always(
             alloc,
-            words(alloc, line)?,
-            &mut OneFile::of(bytes),
-            &mut narrow,
-        )?;
-        assert_eq!(rt; ended, status, "for {line}");
-        assert_eq!(rt; narrow.taken.as_slice(), text.as_bytes(), "for {line}");
-    }
-    Ok(())
-}
-
-#[test]
-fn a_unit_cut_anywhere(rt: HostRuntime) -> Result<(), Fail> {
-    let alloc = rt.alloc();
-    for (unit, line) in [
-        (PLAIN.as_slice(), "linetab units F"),
-        (&WIDE, "linetab units F --big"),
-    ] {
-        for k in 1..unit.len() {
-            let mut out = Vec::new(alloc);
-            let mut opener = OneFile::of(&unit[..k]);
-            let ended = run(alloc, words(alloc, line)?, &mut opener, &mut out)?;
-            assert_eq!(rt; ended, Status::No, "after {k} bytes");
-            let text = "no 25 malformed at 0x0: truncated\n";
-            assert_eq!(rt; out.as_slice(), text.as_bytes(), "after {k} bytes");
-        }
-    }
-    Ok(())
-}
-
-#[test]
-fn help_is_an_answer(rt: HostRuntime) -> Result<(), Fail> {
-    let alloc = rt.alloc();
-    for (line, part) in [
-        (
-            "linetab --help",
-            "  units    Prints the offset, the format and the length of each unit of a section\n",
-        ),
-        ("linetab -h", "Usage: linetab <COMMAND>\n"),
-        (
-            "linetab help units",
-            "Usage: linetab units [OPTIONS] <SECTION>\n",
-        ),
-        (
-            "linetab units --help",
-            "  --big   The section is big-endian; otherwise it is little-endian\n",
-        ),
-        (
-            "linetab dump --help",
-            "Usage: linetab dump [OPTIONS] <SECTION>\n",
-        ),
-        (
-            "linetab check --help",
-            "Usage: linetab check [OPTIONS] <SECTION> <TABLE>\n",
-        ),
-        (
-            "linetab lookup --help",
-            "Usage: linetab lookup [OPTIONS] <SECTION> <ADDRESS>\n",
-        ),
-        (
-            "linetab table --help",
-            "Usage: linetab table [OPTIONS] <SECTION>\n",
-        ),
-        (
-            "linetab convert --help",
-            "Usage: linetab convert [OPTIONS] --format <32|64> --order <little|big> <SECTION>\n",
-        ),
-        (
-            "linetab md5 --help",
-            "Usage: linetab md5 [OPTIONS] <SECTION>\n",
-        ),
-    ] {
-        let mut out = Vec::new(alloc);
-        let ended = run(alloc, words(alloc, line)?, &mut OneFile::of(&[]), &mut out)?;
-        assert_eq!(rt; ended, Status::Done, "for {line}");
-        let text = String::from_utf8(out)?;
-        assert!(rt; text.contains(part), "for {line}");
-    }
-    Ok(())
-}
-
-#[test]
-fn stops_and_their_texts(rt: HostRuntime) -> Result<(), Fail> {
-    let alloc = rt.alloc();
-    for (line, text) in [
-        ("linetab units G", "linetab: cannot read G"),
-        (
-            "linetab unit F",
-            "error: unrecognized subcommand 'unit'\n\n  tip: a similar subcommand exists: 'units'\n\nUsage: linetab <COMMAND>\n\nFor more information, try '--help'.\n",
-        ),
-        (
-            "linetab units",
-            "error: the following required arguments were not provided:\n  <SECTION>\n\nUsage: linetab units <SECTION>\n\nFor more information, try '--help'.\n",
-        ),
-        (
-            "linetab",
-            "error: 'linetab' requires a subcommand but one was not provided\n  [subcommands: units, dump, check, lookup, table, convert, md5, help]\n\nUsage: linetab <COMMAND>\n\nFor more information, try '--help'.\n",
-        ),
-    ] {
-        let mut out = Vec::new(alloc);
-        match run(
-            alloc,
-            words(alloc, line)?,
-            &mut OneFile::of(&PLAIN),
-            &mut out,
-        ) {
-            Ok(_) => assert!(rt; false, "for {line}"),
-            Err(stop) => assert_eq!(rt; stop.to_string(alloc)?.as_str(), text),
-        }
-        assert!(rt; out.is_empty());
-    }
-    let name = String::from_str(alloc, "F")?;
-    let text = CliStop::TooLong(name).to_string(alloc)?;
-    assert_eq!(rt; text.as_str(), "linetab: F is too long");
-    assert_eq!(rt;
-        CliStop::Memory.to_string(alloc)?.as_str(),
-        "linetab: out of memory"
+            &WIDE,
+            "linetab units --big -",
+            "0x0 64 71\n",
+            Status::Done
+        )
     );
     Ok(())
 }
 
-#[test]
-fn failing_reads(rt: HostRuntime) -> Result<(), Fail> {
-    let alloc = rt.alloc();
-    let mut two = PLAIN.to_vec(alloc)?;
-    two.extend_from_slice(&PLAIN)?;
-    for (piece, reads_until_fault, text) in [
-        (1, 0, ""),
-        (40, 0, ""),
-        (40, 1, ""),
-        (71, 1, "0x0 32 67\n"),
-        (1, 141, "0x0 32 67\n"),
-        (100, 1, "0x0 32 67\n"),
-        (1, 142, "0x0 32 67\n0x47 32 67\n"),
-        (142, 1, "0x0 32 67\n0x47 32 67\n"),
-    ] {
-        let mut opener = OneFile {
-            bytes: two.as_slice(),
-            piece,
-            reads_until_fault,
-        };
-        let mut out = Vec::new(alloc);
-        let line = words(alloc, "linetab units F")?;
-        match run(alloc, line, &mut opener, &mut out) {
-            Ok(_) => assert!(rt; false, "a read failed"),
-            Err(stop) => assert_eq!(rt; stop.to_string(alloc)?.as_str(), "linetab: cannot read F"),
-        }
-        assert_eq!(rt; out.as_slice(), text.as_bytes());
-    }
-    Ok(())
+// Whether the units of the section end with this line alone.
+fn ends_at_once(alloc: Global, bytes: &[u8], line: &str, text: &str) -> bool {
+    prints_always(alloc, bytes, line, text, Status::No)
 }
 
 #[test]
-fn failing_writes(rt: HostRuntime) -> Result<(), Fail> {
+fn faults_of_first_units(rt: HostRuntime) {
+    let alloc = rt.alloc();
+    let mut version_4 = PLAIN;
+    version_4[4] = 4;
+    let units = "linetab units -";
+    let truncated = "no 25 malformed at 0x4: truncated\n";
+    assert!(rt; ends_at_once(alloc, &[1, 0, 0, 0, 5], units, truncated));
+    let reserved = "no 25 malformed at 0x0: reserved length\n";
+    assert!(rt; ends_at_once(alloc, &[0xf0, 0xff, 0xff, 0xff], units, reserved));
+    let version = "no 25 malformed at 0x4: version 4\n";
+    assert!(rt; ends_at_once(alloc, &version_4, units, version));
+    let truncated = "no 25 malformed at 0x0: truncated\n";
+    assert!(rt; ends_at_once(alloc, &PLAIN, "linetab units --big F", truncated));
+}
+
+// Whether the section is told to be cut at its first unit.
+fn is_cut(alloc: Global, bytes: &[u8], line: &str) -> bool {
+    prints(
+        alloc,
+        bytes,
+        line,
+        "no 25 malformed at 0x0: truncated\n",
+        Status::No,
+    )
+}
+
+#[test]
+fn a_unit_cut_anywhere(rt: HostRuntime) {
+    let alloc = rt.alloc();
+    for k in 1..PLAIN.len() {
+        assert!(rt;
+            is_cut(alloc, &PLAIN[..k], "linetab units F"),
+            "after {k} bytes"
+        );
+    }
+}
+
+#[test]
+fn a_wide_unit_cut_anywhere(rt: HostRuntime) {
+    let alloc = rt.alloc();
+    for k in 1..WIDE.len() {
+        assert!(rt;
+            is_cut(alloc, &WIDE[..k], "linetab units F --big"),
+            "after {k} bytes"
+        );
+    }
+}
+
+// Whether the command answers with a text that has this part.
+fn helps(alloc: Global, line: &str, part: &str) -> bool {
+    let Some((out, Status::Done)) = printed(alloc, &[], line) else {
+        return false;
+    };
+    match String::from_utf8(out) {
+        Ok(text) => text.contains(part),
+        Err(_) => false,
+    }
+}
+
+#[test]
+fn help_is_an_answer(rt: HostRuntime) {
+    let alloc = rt.alloc();
+    let units =
+        "  units    Prints the offset, the format and the length of each unit of a section\n";
+    assert!(rt; helps(alloc, "linetab --help", units));
+    assert!(rt; helps(alloc, "linetab -h", "Usage: linetab <COMMAND>\n"));
+    let big = "  --big   The section is big-endian; otherwise it is little-endian\n";
+    assert!(rt; helps(alloc, "linetab units --help", big));
+}
+
+#[test]
+fn help_on_each_command(rt: HostRuntime) {
+    let alloc = rt.alloc();
+    let units = "Usage: linetab units [OPTIONS] <SECTION>\n";
+    assert!(rt; helps(alloc, "linetab help units", units));
+    let dump = "Usage: linetab dump [OPTIONS] <SECTION>\n";
+    assert!(rt; helps(alloc, "linetab dump --help", dump));
+    let check = "Usage: linetab check [OPTIONS] <SECTION> <TABLE>\n";
+    assert!(rt; helps(alloc, "linetab check --help", check));
+    let lookup = "Usage: linetab lookup [OPTIONS] <SECTION> <ADDRESS>\n";
+    assert!(rt; helps(alloc, "linetab lookup --help", lookup));
+    let table = "Usage: linetab table [OPTIONS] <SECTION>\n";
+    assert!(rt; helps(alloc, "linetab table --help", table));
+    let convert =
+        "Usage: linetab convert [OPTIONS] --format <32|64> --order <little|big> <SECTION>\n";
+    assert!(rt; helps(alloc, "linetab convert --help", convert));
+    let md5 = "Usage: linetab md5 [OPTIONS] <SECTION>\n";
+    assert!(rt; helps(alloc, "linetab md5 --help", md5));
+}
+
+// Whether the stop's text is this one.
+fn says(alloc: Global, stop: &CliStop, text: &str) -> bool {
+    match stop.to_string(alloc) {
+        Ok(told) => told.as_str() == text,
+        Err(_) => false,
+    }
+}
+
+// Whether the command is stopped with this text, once it has written these bytes.
+fn stops<O: Opener>(alloc: Global, opener: &mut O, line: &str, text: &str, written: &[u8]) -> bool {
+    let Ok(words) = words(alloc, line) else {
+        return false;
+    };
+    let mut out = Vec::new(alloc);
+    match run(alloc, words, opener, &mut out) {
+        Ok(_) => false,
+        Err(stop) => says(alloc, &stop, text) && out.as_slice() == written,
+    }
+}
+
+// Whether the command is stopped with this text before it writes.
+fn is_refused(alloc: Global, line: &str, text: &str) -> bool {
+    stops(alloc, &mut OneFile::of(&PLAIN), line, text, &[])
+}
+
+#[test]
+fn stops_and_their_texts(rt: HostRuntime) {
+    let alloc = rt.alloc();
+    assert!(rt; is_refused(alloc, "linetab units G", "linetab: cannot read G"));
+    let text =
+        "error: unrecognized subcommand 'unit'\n\n  tip: a similar subcommand exists: 'units'\n\nUsage: linetab <COMMAND>\n\nFor more information, try '--help'.\n";
+    assert!(rt; is_refused(alloc, "linetab unit F", text));
+    let text =
+        "error: the following required arguments were not provided:\n  <SECTION>\n\nUsage: linetab units <SECTION>\n\nFor more information, try '--help'.\n";
+    assert!(rt; is_refused(alloc, "linetab units", text));
+    let text =
+        "error: 'linetab' requires a subcommand but one was not provided\n  [subcommands: units, dump, check, lookup, table, convert, md5, help]\n\nUsage: linetab <COMMAND>\n\nFor more information, try '--help'.\n";
+    assert!(rt; is_refused(alloc, "linetab", text));
+}
+
+#[test]
+fn texts_of_other_stops(rt: HostRuntime) -> Result<(), Fail> {
+    let alloc = rt.alloc();
+    let long = CliStop::TooLong(String::from_str(alloc, "F")?);
+    assert!(rt; says(alloc, &long, "linetab: F is too long"));
+    assert!(rt; says(alloc, &CliStop::Memory, "linetab: out of memory"));
+    Ok(())
+}
+
+// Whether a failing read of the two units, in pieces of this length, stops the command once it has written this text.
+fn stops_reading(alloc: Global, piece: usize, reads_until_fault: u64, text: &str) -> bool {
+    let Ok(mut bytes) = PLAIN.to_vec(alloc) else {
+        return false;
+    };
+    if bytes.extend_from_slice(&PLAIN).is_err() {
+        return false;
+    }
+    let mut opener = OneFile {
+        bytes: bytes.as_slice(),
+        piece,
+        reads_until_fault,
+    };
+    stops(
+        alloc,
+        &mut opener,
+        "linetab units F",
+        "linetab: cannot read F",
+        text.as_bytes(),
+    )
+}
+
+#[test]
+fn failing_reads(rt: HostRuntime) {
+    let alloc = rt.alloc();
+    assert!(rt; stops_reading(alloc, 1, 0, ""));
+    assert!(rt; stops_reading(alloc, 40, 0, ""));
+    assert!(rt; stops_reading(alloc, 40, 1, ""));
+    assert!(rt; stops_reading(alloc, 71, 1, "0x0 32 67\n"));
+    assert!(rt; stops_reading(alloc, 1, 141, "0x0 32 67\n"));
+    assert!(rt; stops_reading(alloc, 100, 1, "0x0 32 67\n"));
+    assert!(rt; stops_reading(alloc, 1, 142, "0x0 32 67\n0x47 32 67\n"));
+    assert!(rt; stops_reading(alloc, 142, 1, "0x0 32 67\n0x47 32 67\n"));
+}
+
+// Whether a writer with room for so many bytes stops the command, and has taken these.
+fn stops_writing(alloc: Global, room: usize, taken: &[u8]) -> bool {
+    let Ok(words) = words(alloc, "linetab units F") else {
+        return false;
+    };
+    let mut narrow = Narrow::new(alloc, room);
+    match run(alloc, words, &mut OneFile::of(&PLAIN), &mut narrow) {
+        Ok(_) => false,
+        Err(stop) => {
+            says(alloc, &stop, "linetab: cannot write") && narrow.taken.as_slice() == taken
+        }
+    }
+}
+
+#[test]
+fn failing_writes(rt: HostRuntime) {
     let alloc = rt.alloc();
     let text = "0x0 32 67\n";
     for room in 0..text.len() {
-        let mut narrow = Narrow::new(alloc, room);
-        let line = words(alloc, "linetab units F")?;
-        match run(alloc, line, &mut OneFile::of(&PLAIN), &mut narrow) {
-            Ok(_) => assert!(rt; false, "a write failed"),
-            Err(stop) => assert_eq!(rt; stop.to_string(alloc)?.as_str(), "linetab: cannot write"),
-        }
-        assert_eq!(rt; narrow.taken.as_slice(), &text.as_bytes()[..room]);
+        assert!(rt;
+            stops_writing(alloc, room, &text.as_bytes()[..room]),
+            "after {room} bytes"
+        );
     }
-    Ok(())
 }
