@@ -1,3 +1,4 @@
 pub mod Sizes
+pub mod Steps
 pub mod Stops
 pub mod Units

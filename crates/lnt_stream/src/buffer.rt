@@ -67,6 +67,15 @@ impl UnitBuffer {
         self.bytes.as_slice()
     }
 
+    /// The bytes of the unit, with their memory, for a caller that is done with it: `next_unit_in` reads the next unit
+    /// into the same memory.
+    pub fn into_bytes(self) -> Vec<u8>
+        ensures { result.items ≡ self.bytes }
+    {
+        let UnitBuffer { bytes, .. } = self;
+        bytes
+    }
+
     /// The order in which the unit's numbers are spelled.
     pub fn order(&self) -> Order
         ensures { result ≡ self.now.order }

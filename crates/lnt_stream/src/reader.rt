@@ -37,6 +37,8 @@ pub struct SectionReader<'s, R: Source> {
 }
 
 impl<'s, R: Source> SectionReader<'s, R> {
+    ghost use Rattle.lnt_stream.specs.Steps.{IsStep};
+
     /// A reader before the first unit of the section that the source has to give, with numbers in this order. It
     /// takes nothing of the source yet. The caller sees to it that the number of the source's failures is below
     /// `u64::MAX`.
@@ -89,6 +91,17 @@ impl<'s, R: Source> SectionReader<'s, R> {
         ensures order { self.new.order ≡ self.old.order }
         ensures same_reference { self.new.source.ghost_name ≡ self.old.source.ghost_name }
     {
+        self.next_unit_in(Vec::new(alloc))
+    }
+
+    /// The next unit of the section, as `next_unit` gives it, with its bytes read into this memory, which grows where
+    /// the unit needs more. What it held before is dropped.
+    ///
+    /// A caller that is done with a unit gets its memory back by `UnitBuffer::into_bytes`, and so reads a whole section
+    /// in the memory of the largest unit.
+    pub fn next_unit_in(&mut self, room: Vec<u8>) -> Result<Option<UnitBuffer>, SectionStop>
+        ensures { IsStep self.old self.new result }
+    {
         match self.progress {
             Progress::Reading => {}
             Progress::Ended => return Ok(None),
@@ -96,7 +109,7 @@ impl<'s, R: Source> SectionReader<'s, R> {
         }
         // It has failed, unless all goes well.
         self.progress = Progress::Failed;
-        let Some(unit) = take_unit(alloc, self.source, self.offset, self.order)? else {
+        let Some(unit) = take_unit(self.source, room, self.offset, self.order)? else {
             self.progress = Progress::Ended;
             return Ok(None);
         };
@@ -106,12 +119,12 @@ impl<'s, R: Source> SectionReader<'s, R> {
     }
 }
 
-// The unit that comes next from the source and stands at the offset, or none where the source has ended. After a
-// stop nothing is said of how far the source was read.
+// The unit that comes next from the source and stands at the offset, or none where the source has ended. Its bytes
+// take the place of those given. After a stop nothing is said of how far the source was read.
 #[tactic(auto, using(crate::proofs::ReaderLemmas::section_ends, crate::proofs::ReaderLemmas::ended_short, crate::proofs::ReaderLemmas::section_refused))]
 fn take_unit<R: Source>(
-    alloc: Global,
     source: &mut R,
+    mut bytes: Vec<u8>,
     offset: u64,
     order: Order,
 ) -> Result<Option<UnitBuffer>, SectionStop>
@@ -128,7 +141,7 @@ fn take_unit<R: Source>(
     ensures more { IsErrOf result SectionStop.TooLong → HasMoreThan (R.remaining source.old) (R.left source.old) }
     ensures not_failed { IsErrOf result SectionStop.Failed → ⊥ }
 {
-    let mut bytes = Vec::new(alloc);
+    bytes.clear();
     take_unit_bytes(source, order, &mut bytes)?;
     if bytes.is_empty() {
         return Ok(None);

@@ -179,6 +179,29 @@ fn no_byte_is_asked_for_early(rt: HostRuntime) -> Result<(), Fail> {
     Ok(())
 }
 
+#[test]
+fn memory_is_used_again(rt: HostRuntime) -> Result<(), Fail> {
+    let alloc = rt.alloc();
+    let mut bytes = PLAIN.to_vec(alloc)?;
+    bytes.extend_from_slice(&SHORT)?;
+    bytes.extend_from_slice(&PLAIN)?;
+    let mut source = Counted::new(Reader::new(alloc, bytes.as_slice(), 100), AMPLE);
+    let mut reader = SectionReader::new(&mut source, Order::Little);
+    let mut room = vec![in alloc; 9; 100]?;
+    let capacity = room.capacity();
+    for (offset, want) in [(0, PLAIN.as_slice()), (71, &SHORT), (79, &PLAIN)] {
+        let unit = reader.next_unit_in(room)?;
+        assert!(rt; is_unit(&unit, offset, want, Order::Little));
+        let Some(unit) = unit else {
+            return Ok(());
+        };
+        room = unit.into_bytes();
+        assert_eq!(rt; (room.as_slice(), room.capacity()), (want, capacity));
+    }
+    assert!(rt; reader.next_unit_in(room)?.is_none());
+    Ok(())
+}
+
 // Whether the bytes, read unit by unit and so many at a time, give the frames of the section, so many, and then its
 // fault or its end.
 fn same_as_frames(
