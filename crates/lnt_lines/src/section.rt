@@ -98,8 +98,10 @@ fn judge_units<R: Source>(
     ensures same_reference { reader.new.source.ghost_name ≡ reader.old.source.ghost_name }
 {
     let mut draft = Draft::new(alloc);
-    while let Some(buffer) = reader.next_unit(alloc)? {
+    let mut room = Vec::new(alloc);
+    while let Some(buffer) = reader.next_unit_in(room)? {
         draft.add_unit(alloc, &buffer, strings, options.dead)?;
+        room = buffer.into_bytes();
     }
     Ok(draft)
 }
