@@ -32,8 +32,9 @@ pub(crate) fn print_dump<R: Source, W: Write>(
     requires { R.failures source.old < 2 ^ 64 - 1 }
 {
     let mut reader = SectionReader::new(source, order);
+    let mut room = Vec::new(alloc);
     loop {
-        let unit = match next_of(alloc, &mut reader)? {
+        let unit = match next_of(&mut reader, room)? {
             Next::Unit(unit) => unit,
             Next::Fault(fault) => return print_fault(fault, out),
             Next::End => return Ok(Status::Done),
@@ -41,6 +42,7 @@ pub(crate) fn print_dump<R: Source, W: Write>(
         if print_unit(alloc, &unit, shown, out)? == Status::No {
             return Ok(Status::No);
         }
+        room = unit.into_bytes();
     }
 }
 

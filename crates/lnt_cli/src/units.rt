@@ -21,9 +21,13 @@ pub(crate) fn print_units<R: Source, W: Write>(
     requires { R.failures source.old < 2 ^ 64 - 1 }
 {
     let mut reader = SectionReader::new(source, order);
+    let mut room = Vec::new(alloc);
     loop {
-        match next_of(alloc, &mut reader)? {
-            Next::Unit(unit) => print_frame(&unit, out)?,
+        match next_of(&mut reader, room)? {
+            Next::Unit(unit) => {
+                print_frame(&unit, out)?;
+                room = unit.into_bytes();
+            }
             Next::Fault(fault) => return print_fault(fault, out),
             Next::End => return Ok(Status::Done),
         }
@@ -39,15 +43,15 @@ pub(crate) enum Next {
     End,
 }
 
-// What comes next from a reader that wasn't stopped.
+// What comes next from a reader that wasn't stopped. A unit is read into the room.
 pub(crate) fn next_of<R: Source>(
-    alloc: Global,
     reader: &mut SectionReader<'_, R>,
+    room: Vec<u8>,
 ) -> Result<Next, Halt>
     requires { reader.old.progress ≡ Reading }
     ensures { IfOk result (λ next. IsUnit next → (reader.new.progress ≡ Reading) × (R.left reader.new.source.now < R.left reader.old.source.now)) }
 {
-    match reader.next_unit(alloc) {
+    match reader.next_unit_in(room) {
         Ok(Some(unit)) => Ok(Next::Unit(unit)),
         Ok(None) => Ok(Next::End),
         Err(SectionStop::Fault(fault)) => Ok(Next::Fault(fault)),
