@@ -4,7 +4,7 @@ ghost use Rattle.lnt_stream.specs.declared.reader.Progress.TheVariants.{Reading}
 
 use anyhow::{Result, anyhow};
 use lnt_machine::Machine;
-use lnt_unit::{OpView, SectionReader, UnitView, decode_section};
+use lnt_unit::{OpView, SectionReader, UnitBuffer, UnitView, decode_section};
 use lnt_wire::{Counted, Cursor, Order};
 use std::alloc::Global;
 
@@ -51,21 +51,26 @@ pub(crate) enum Walk {
 pub(crate) fn sum_of_section(alloc: Global, bytes: &[u8], walk: Walk) -> Result<u64> {
     let mut source = Counted::new(bytes, u64::MAX);
     let mut reader = SectionReader::new(&mut source, Order::Little);
+    let mut room = Vec::new(alloc);
     let mut sum = 0u64;
     for _ in 0..bytes.len() {
-        let Ok(Some(buffer)) = reader.next_unit(alloc) else {
+        let Ok(Some(buffer)) = reader.next_unit_in(room) else {
             break;
         };
-        let Ok(unit) = UnitView::over(alloc, &buffer) else {
-            return Err(anyhow!("a unit is malformed"));
-        };
-        let of_unit = match walk {
-            Walk::Ops => sum_of_ops(&unit),
-            Walk::Rows => sum_of_rows(&unit),
-        };
-        sum = sum.wrapping_add(of_unit);
+        sum = sum.wrapping_add(sum_of_unit(alloc, &buffer, walk)?);
+        room = buffer.into_bytes();
     }
     Ok(sum)
+}
+
+fn sum_of_unit(alloc: Global, buffer: &UnitBuffer, walk: Walk) -> Result<u64> {
+    let Ok(unit) = UnitView::over(alloc, buffer) else {
+        return Err(anyhow!("a unit is malformed"));
+    };
+    Ok(match walk {
+        Walk::Ops => sum_of_ops(&unit),
+        Walk::Rows => sum_of_rows(&unit),
+    })
 }
 
 fn sum_of_ops(unit: &UnitView<'_>) -> u64 {
