@@ -4,6 +4,7 @@ pub mod EncodeLemmas
 pub mod HeaderFrames
 pub mod HeaderReaders
 pub mod Places
+pub mod ShortLemmas
 pub mod StartReaders
 pub mod TableReaders
 pub mod TestLemmas

@@ -10,6 +10,7 @@ pub mod HeaderFaults
 pub mod FieldsBytes
 pub mod FirstFaults
 pub mod Joins
+pub mod Layouts
 pub mod Laws
 pub mod OpRules
 pub mod OpViews

@@ -32,6 +32,36 @@ impl<T> Model for ShortList<T> {
 }
 
 impl<T> ShortList<T> {
+    // One value.
+    #[inline(always)]
+    pub(crate) fn one(value: T) -> ShortList<T>
+        ensures { result ≡ value ∷ [] }
+    {
+        ShortList {
+            kept: Kept::One([value]),
+        }
+    }
+
+    // Two values.
+    #[inline(always)]
+    pub(crate) fn two(first: T, second: T) -> ShortList<T>
+        ensures { result ≡ first ∷ second ∷ [] }
+    {
+        ShortList {
+            kept: Kept::Two([first, second]),
+        }
+    }
+
+    // Three values.
+    #[inline(always)]
+    pub(crate) fn three(first: T, second: T, third: T) -> ShortList<T>
+        ensures { result ≡ first ∷ second ∷ third ∷ [] }
+    {
+        ShortList {
+            kept: Kept::Three([first, second, third]),
+        }
+    }
+
     /// The values.
     pub fn as_slice(&self) -> &[T]
         ensures { result.now ≡ self.now }

@@ -1,7 +1,8 @@
 //! The two tables of a header.
-ghost use Rattle.std.specs.Prelude.{◌≡◌, length, IfOk, IfErr};
+ghost use Rattle.std.specs.Prelude.{◌≡◌, ◌∷◌, ◌++◌, [], length, IfOk, IfErr};
 ghost use Rattle.lnt_header.specs.Joins.{Several};
 ghost use Rattle.lnt_wire.specs.Reading.{Reads, Refuses, RefusesOr};
+ghost use Rattle.lnt_header.specs.Layouts.{IsLayout, ReadsNext, entry_of};
 ghost use Rattle.lnt_header.specs.TableBytes.{PairBytes, ValuesBytes, EntryBytes, TableOf};
 ghost use Rattle.lnt_header.specs.TableFaults.{IsPairFault, IsPairsFault, IsEntryFault, IsEntriesFault, IsTableFault};
 
@@ -47,6 +48,7 @@ fn read_pairs(alloc: Global, cursor: &mut Cursor<'_>, count: u8) -> Result<Vec<P
 }
 
 // One value for each pair.
+#[inline(never)]
 #[tactic(auto, using(crate::proofs::TableReaders::values_none, crate::proofs::TableReaders::values_next, crate::proofs::TableReaders::refuses_values_at))]
 fn read_values(
     alloc: Global,
@@ -68,7 +70,7 @@ fn read_values(
 }
 
 // As many entries as the count says.
-#[tactic(auto, using(crate::proofs::TableReaders::entries_none, crate::proofs::TableReaders::entries_more, crate::proofs::TableReaders::refuses_entries))]
+#[tactic(auto, using(crate::proofs::TableReaders::entries_none, crate::proofs::TableReaders::refuses_entries))]
 fn read_entries(
     alloc: Global,
     cursor: &mut Cursor<'_>,
@@ -79,14 +81,182 @@ fn read_entries(
     ensures ok { IfOk result (λ entries. Reads (Several count (EntryBytes format cursor.old.order pairs.now)) entries.items cursor.old cursor.new) }
     ensures err { IfErr result (λ fault. RefusesOr (IsEntriesFault format cursor.old.order pairs.now count) (Several count (EntryBytes format cursor.old.order pairs.now)) cursor.old fault) }
 {
-    let mut entries = Vec::new(alloc);
+    let Ok(mut entries) = Vec::with_capacity(alloc, first_room(cursor, count)) else {
+        return Err(no_memory(cursor));
+    };
+    let layout = layout_of(pairs);
     for _ in 0..count {
-        let values = read_values(alloc, cursor, format, pairs)?;
-        if entries.push(Entry { values }).is_err() {
-            return Err(no_memory(cursor));
-        }
+        read_entry(alloc, cursor, format, pairs, layout, &mut entries)?;
     }
     Ok(entries)
+}
+
+// How many of so many entries get room before they are read: no more than there are bytes left.
+fn first_room(cursor: &Cursor<'_>, count: u64) -> usize {
+    cursor.rest().len().min(count.min(32) as usize)
+}
+
+// What the values of an entry are. Those that compilers write are read on ways of their own, which make the entry
+// where it stays.
+#[derive(Clone, Copy)]
+enum Layout {
+    // A path in `.debug_line_str`.
+    Path,
+    // The same, and the index of a directory.
+    IndexedPath,
+    // The same, and an MD5 sum.
+    SummedPath,
+    Other,
+}
+
+// The layout of a table's entries.
+fn layout_of(pairs: &[Pair]) -> Layout
+    ensures { IsLayout result pairs.now }
+{
+    match pairs {
+        [
+            Pair {
+                form: Form::LineStrp,
+                ..
+            },
+        ] => Layout::Path,
+        [
+            Pair {
+                form: Form::LineStrp,
+                ..
+            },
+            Pair {
+                form: Form::Udata,
+                ..
+            },
+        ] => Layout::IndexedPath,
+        [
+            Pair {
+                form: Form::LineStrp,
+                ..
+            },
+            Pair {
+                form: Form::Udata,
+                ..
+            },
+            Pair {
+                form: Form::Data16,
+                ..
+            },
+        ] => Layout::SummedPath,
+        _ => Layout::Other,
+    }
+}
+
+// The next entry, which is put behind those before it.
+#[inline(always)]
+fn read_entry(
+    alloc: Global,
+    cursor: &mut Cursor<'_>,
+    format: Format,
+    pairs: &[Pair],
+    layout: Layout,
+    entries: &mut Vec<Entry>,
+) -> Result<(), Fault>
+    requires { IsLayout layout pairs.now }
+    ensures ok { IfOk result (λ _. ReadsNext (EntryBytes format cursor.old.order pairs.now) entries.old.items entries.new.items cursor.old cursor.new) }
+    ensures err { IfErr result (λ fault. RefusesOr (IsEntryFault format cursor.old.order pairs.now) (EntryBytes format cursor.old.order pairs.now) cursor.old fault) }
+{
+    match layout {
+        Layout::Path => read_path(alloc, cursor, format, pairs, entries),
+        Layout::IndexedPath => read_indexed_path(alloc, cursor, format, pairs, entries),
+        Layout::SummedPath => read_summed_path(alloc, cursor, format, pairs, entries),
+        Layout::Other => read_other_entry(alloc, cursor, format, pairs, entries),
+    }
+}
+
+// The next path, which is put behind those before it.
+#[inline(always)]
+#[tactic(auto, using(crate::proofs::ShortLemmas::path_entry, crate::proofs::ShortLemmas::first_refused))]
+fn read_path(
+    alloc: Global,
+    cursor: &mut Cursor<'_>,
+    format: Format,
+    pairs: &[Pair],
+    entries: &mut Vec<Entry>,
+) -> Result<(), Fault>
+    requires { IsLayout Layout.Path pairs.now }
+    ensures ok { IfOk result (λ _. ReadsNext (EntryBytes format cursor.old.order pairs.now) entries.old.items entries.new.items cursor.old cursor.new) }
+    ensures err { IfErr result (λ fault. RefusesOr (IsEntryFault format cursor.old.order pairs.now) (EntryBytes format cursor.old.order pairs.now) cursor.old fault) }
+{
+    let path = cursor.form(alloc, Form::LineStrp, format)?;
+    push_entry(cursor, entries, ShortList::one(path))
+}
+
+// The next path and the index of its directory, which are put behind those before them.
+#[inline(always)]
+#[tactic(auto, using(crate::proofs::ShortLemmas::indexed_path_entry, crate::proofs::ShortLemmas::first_refused, crate::proofs::ShortLemmas::second_refused))]
+fn read_indexed_path(
+    alloc: Global,
+    cursor: &mut Cursor<'_>,
+    format: Format,
+    pairs: &[Pair],
+    entries: &mut Vec<Entry>,
+) -> Result<(), Fault>
+    requires { IsLayout Layout.IndexedPath pairs.now }
+    ensures ok { IfOk result (λ _. ReadsNext (EntryBytes format cursor.old.order pairs.now) entries.old.items entries.new.items cursor.old cursor.new) }
+    ensures err { IfErr result (λ fault. RefusesOr (IsEntryFault format cursor.old.order pairs.now) (EntryBytes format cursor.old.order pairs.now) cursor.old fault) }
+{
+    let path = cursor.form(alloc, Form::LineStrp, format)?;
+    let directory = cursor.form(alloc, Form::Udata, format)?;
+    push_entry(cursor, entries, ShortList::two(path, directory))
+}
+
+// The next path, the index of its directory and its MD5 sum, which are put behind those before them.
+#[inline(always)]
+#[tactic(auto, using(crate::proofs::ShortLemmas::summed_path_entry, crate::proofs::ShortLemmas::first_refused, crate::proofs::ShortLemmas::second_refused, crate::proofs::ShortLemmas::third_refused))]
+fn read_summed_path(
+    alloc: Global,
+    cursor: &mut Cursor<'_>,
+    format: Format,
+    pairs: &[Pair],
+    entries: &mut Vec<Entry>,
+) -> Result<(), Fault>
+    requires { IsLayout Layout.SummedPath pairs.now }
+    ensures ok { IfOk result (λ _. ReadsNext (EntryBytes format cursor.old.order pairs.now) entries.old.items entries.new.items cursor.old cursor.new) }
+    ensures err { IfErr result (λ fault. RefusesOr (IsEntryFault format cursor.old.order pairs.now) (EntryBytes format cursor.old.order pairs.now) cursor.old fault) }
+{
+    let path = cursor.form(alloc, Form::LineStrp, format)?;
+    let directory = cursor.form(alloc, Form::Udata, format)?;
+    let sum = cursor.form(alloc, Form::Data16, format)?;
+    push_entry(cursor, entries, ShortList::three(path, directory, sum))
+}
+
+// The next entry, whatever its forms, which is put behind those before it.
+#[inline(never)]
+fn read_other_entry(
+    alloc: Global,
+    cursor: &mut Cursor<'_>,
+    format: Format,
+    pairs: &[Pair],
+    entries: &mut Vec<Entry>,
+) -> Result<(), Fault>
+    ensures ok { IfOk result (λ _. ReadsNext (EntryBytes format cursor.old.order pairs.now) entries.old.items entries.new.items cursor.old cursor.new) }
+    ensures err { IfErr result (λ fault. RefusesOr (IsEntryFault format cursor.old.order pairs.now) (EntryBytes format cursor.old.order pairs.now) cursor.old fault) }
+{
+    let values = read_values(alloc, cursor, format, pairs)?;
+    push_entry(cursor, entries, values)
+}
+
+// Puts an entry of the values behind those before it.
+#[inline(always)]
+fn push_entry(
+    cursor: &Cursor<'_>,
+    entries: &mut Vec<Entry>,
+    values: ShortList<FormValue>,
+) -> Result<(), Fault>
+    ensures ok { IfOk result (λ _. entries.new.items ≡ entries.old.items ++ entry_of values ∷ []) }
+    ensures err { IfErr result (λ fault. fault.reason ≡ Reason.Memory) }
+{
+    if entries.push(Entry { values }).is_err() {
+        return Err(no_memory(cursor));
+    }
+    Ok(())
 }
 
 // That memory ran out where the cursor stands.

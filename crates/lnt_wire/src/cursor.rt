@@ -89,6 +89,7 @@ impl<'a> Cursor<'a> {
     }
 
     /// The next `n` bytes. It refuses with `Truncated` where fewer are left.
+    #[inline(always)]
     #[tactic(auto, using(crate::proofs::ReadLemmas::refuses_short, crate::proofs::ReadLemmas::reads_taken))]
     pub fn take(&mut self, n: usize) -> Result<&'a [u8], Fault>
         ensures ok { IfOk result (λ taken. Reads (TakenBytes n) taken.now self.old self.new) }

@@ -10,6 +10,7 @@ use byteorder::{BigEndian, ByteOrder, LittleEndian};
 
 impl<'a> Cursor<'a> {
     /// The next byte. It refuses with `Truncated` where none is left.
+    #[inline(always)]
     #[tactic(auto, using(crate::proofs::ReadLemmas::reads_number, crate::proofs::ReadLemmas::refuses_number, crate::proofs::NumberLemmas::one_byte))]
     pub fn u8(&mut self) -> Result<u8, Fault>
         ensures ok { IfOk result (λ v. Reads (NumberBytes self.old.order 1) v self.old self.new) }
@@ -21,6 +22,7 @@ impl<'a> Cursor<'a> {
     }
 
     /// The number of the next 2 bytes. It refuses with `Truncated` where fewer are left.
+    #[inline(always)]
     #[tactic(auto, using(crate::proofs::ReadLemmas::reads_number, crate::proofs::ReadLemmas::refuses_number))]
     pub fn u16(&mut self) -> Result<u16, Fault>
         ensures ok { IfOk result (λ v. Reads (NumberBytes self.old.order 2) v self.old self.new) }
@@ -33,6 +35,7 @@ impl<'a> Cursor<'a> {
     }
 
     /// The number of the next 4 bytes. It refuses with `Truncated` where fewer are left.
+    #[inline(always)]
     #[tactic(auto, using(crate::proofs::ReadLemmas::reads_number, crate::proofs::ReadLemmas::refuses_number))]
     pub fn u32(&mut self) -> Result<u32, Fault>
         ensures ok { IfOk result (λ v. Reads (NumberBytes self.old.order 4) v self.old self.new) }
@@ -45,6 +48,7 @@ impl<'a> Cursor<'a> {
     }
 
     /// The number of the next 8 bytes. It refuses with `Truncated` where fewer are left.
+    #[inline(always)]
     #[tactic(auto, using(crate::proofs::ReadLemmas::reads_number, crate::proofs::ReadLemmas::refuses_number))]
     pub fn u64(&mut self) -> Result<u64, Fault>
         ensures ok { IfOk result (λ v. Reads (NumberBytes self.old.order 8) v self.old self.new) }
@@ -58,6 +62,7 @@ impl<'a> Cursor<'a> {
 
     /// The next offset, of 4 bytes in the 32-bit format and of 8 in the 64-bit one (DWARF 5, section 7.4). It
     /// refuses with `Truncated` where fewer are left.
+    #[inline(always)]
     pub fn offset(&mut self, format: Format) -> Result<u64, Fault>
         ensures ok { IfOk result (λ v. Reads (OffsetBytes format self.old.order) v self.old self.new) }
         ensures err { IfErr result (λ fault. RefusesField (IsCutShort (offset_size format)) (OffsetBytes format self.old.order) self.old fault) }

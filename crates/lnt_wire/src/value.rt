@@ -19,6 +19,7 @@ impl<'a> Cursor<'a> {
     ///
     /// It refuses with `Memory`, and else only where no value in the form stands here: with `Truncated` where the
     /// bytes up to the limit don't hold it whole, and with `LebTooLarge` where a LEB128 in it is out of range.
+    #[inline(always)]
     #[tactic(auto, using(crate::proofs::RefusedForms::value_refusals))]
     pub fn form(&mut self, alloc: Global, form: Form, format: Format) -> Result<FormValue, Fault>
         ensures ok { IfOk result (λ v. Reads (ValueBytes format self.old.order form) v self.old self.new) }
@@ -43,6 +44,7 @@ impl<'a> Cursor<'a> {
     }
 
     // The next 16 bytes.
+    #[inline(always)]
     fn data16(&mut self) -> Result<[u8; 16], Fault>
         ensures ok { IfOk result (λ v. Reads (TakenBytes 16) v self.old self.new) }
         ensures err { IfErr result (λ fault. RefusesField (IsCutShort 16) (TakenBytes 16) self.old fault) }
@@ -54,6 +56,7 @@ impl<'a> Cursor<'a> {
     }
 
     // The next bytes up to a zero byte.
+    #[inline(never)]
     #[tactic(auto, using(crate::proofs::ValueLemmas::refuses_text, crate::proofs::ValueLemmas::reads_text))]
     fn text(&mut self, alloc: Global) -> Result<Items<u8>, Fault>
         ensures ok { IfOk result (λ v. Reads TextBytes v self.old self.new) }
@@ -75,6 +78,7 @@ impl<'a> Cursor<'a> {
     }
 
     // The next length of the kind, and as many bytes.
+    #[inline(never)]
     #[tactic(auto, using(crate::proofs::ValueLemmas::refuses_no_length, crate::proofs::ValueLemmas::refuses_cut_block, crate::proofs::ValueLemmas::reads_block))]
     fn block(&mut self, alloc: Global, prefix: Prefix) -> Result<Items<u8>, Fault>
         ensures ok { IfOk result (λ v. Reads (BlockBytes (LengthBytes self.old.order prefix)) v self.old self.new) }
