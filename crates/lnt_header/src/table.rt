@@ -48,7 +48,6 @@ fn read_pairs(alloc: Global, cursor: &mut Cursor<'_>, count: u8) -> Result<Vec<P
 }
 
 // One value for each pair.
-#[inline(never)]
 #[tactic(auto, using(crate::proofs::TableReaders::values_none, crate::proofs::TableReaders::values_next, crate::proofs::TableReaders::refuses_values_at))]
 fn read_values(
     alloc: Global,
@@ -91,13 +90,13 @@ fn read_entries(
     Ok(entries)
 }
 
-// How many of so many entries get room before they are read: no more than there are bytes left.
+// How many of so many entries get room before they are read: a few, and no more than there are bytes left.
 fn first_room(cursor: &Cursor<'_>, count: u64) -> usize {
     cursor.rest().len().min(count.min(32) as usize)
 }
 
-// What the values of an entry are. Those that compilers write are read on ways of their own, which make the entry
-// where it stays.
+// What the values of an entry are. For those that compilers write there are functions that make the entry where it
+// stays.
 #[derive(Clone, Copy)]
 enum Layout {
     // A path in `.debug_line_str`.
