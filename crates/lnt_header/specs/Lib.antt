@@ -17,4 +17,3 @@ pub mod OpViews
 pub mod StartBytes
 pub mod TableBytes
 pub mod TableFaults
-pub mod ShortLists

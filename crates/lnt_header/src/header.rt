@@ -2,8 +2,8 @@
 ghost use Rattle.std.specs.Prelude.{◌≡◌, ◌<◌, IfOk, IfErr};
 
 use crate::fault::UnitFault;
-use crate::short_list::ShortList;
 use crate::tested::parts_fault;
+use lnt_lists::ShortList;
 use lnt_wire::{Form, FormValue, Format, Items, Order};
 use std::marker::Model;
 

@@ -10,7 +10,6 @@ mod header;
 pub mod laws;
 mod numbers;
 mod op;
-mod short_list;
 mod start;
 mod table;
 mod tested;
@@ -20,8 +19,8 @@ pub use decode::decode_header;
 pub use encode::encode_header;
 pub use fault::UnitFault;
 pub use header::{Entry, Header, HeaderParts, Pair, Which};
+pub use lnt_lists::ShortList;
 pub use op::Op;
-pub use short_list::ShortList;
 pub use view::{OpView, Operands};
 
 #[cfg(test)]

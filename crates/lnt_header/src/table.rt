@@ -7,7 +7,7 @@ ghost use Rattle.lnt_header.specs.TableBytes.{PairBytes, ValuesBytes, EntryBytes
 ghost use Rattle.lnt_header.specs.TableFaults.{IsPairFault, IsPairsFault, IsEntryFault, IsEntriesFault, IsTableFault};
 
 use crate::header::{Entry, Pair};
-use crate::short_list::ShortList;
+use lnt_lists::ShortList;
 use lnt_wire::{Cursor, Fault, Form, FormValue, Format, Reason};
 use std::alloc::Global;
 

@@ -1,7 +1,7 @@
 -- Lists that are mostly short, as they are kept.
 use Rattle.std.specs.Prelude.{List, []}
-use Rattle.lnt_header.specs.declared.short_list.Kept.{Kept}
-use Rattle.lnt_header.specs.declared.short_list.Kept.TheVariants.{Zero, One, Two, Three, More}
+use Rattle.lnt_lists.specs.declared.short_list.Kept.{Kept}
+use Rattle.lnt_lists.specs.declared.short_list.Kept.TheVariants.{Zero, One, Two, Three, More}
 
 -- the list of them
 abbrev pub listed : {T : Type 0} → Kept T → List T

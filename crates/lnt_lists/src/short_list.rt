@@ -1,6 +1,6 @@
 //! Lists that are mostly short.
 ghost use Rattle.std.specs.Prelude.{◌≡◌, ◌∷◌, ◌++◌, [], IfOk};
-ghost use Rattle.lnt_header.specs.ShortLists.{listed};
+ghost use Rattle.lnt_lists.specs.ShortLists.{listed};
 
 use std::alloc::{AllocError, Global};
 use std::marker::Model;
@@ -24,7 +24,7 @@ pub struct ShortList<T> {
 
 impl<T> Model for ShortList<T> {
     ghost use Rattle.std.specs.Prelude.{List};
-    ghost use Rattle.lnt_header.specs.ShortLists.{listed};
+    ghost use Rattle.lnt_lists.specs.ShortLists.{listed};
 
     ghost Value = { List T };
 
@@ -32,9 +32,9 @@ impl<T> Model for ShortList<T> {
 }
 
 impl<T> ShortList<T> {
-    // One value.
+    /// One value. It takes no memory.
     #[inline(always)]
-    pub(crate) fn one(value: T) -> ShortList<T>
+    pub fn one(value: T) -> ShortList<T>
         ensures { result ≡ value ∷ [] }
     {
         ShortList {
@@ -42,9 +42,9 @@ impl<T> ShortList<T> {
         }
     }
 
-    // Two values.
+    /// Two values. It takes no memory.
     #[inline(always)]
-    pub(crate) fn two(first: T, second: T) -> ShortList<T>
+    pub fn two(first: T, second: T) -> ShortList<T>
         ensures { result ≡ first ∷ second ∷ [] }
     {
         ShortList {
@@ -52,9 +52,9 @@ impl<T> ShortList<T> {
         }
     }
 
-    // Three values.
+    /// Three values. It takes no memory.
     #[inline(always)]
-    pub(crate) fn three(first: T, second: T, third: T) -> ShortList<T>
+    pub fn three(first: T, second: T, third: T) -> ShortList<T>
         ensures { result ≡ first ∷ second ∷ third ∷ [] }
     {
         ShortList {
