@@ -35,22 +35,6 @@ pub base_at_most : (radix : Radix) → base radix ≤ 16
 base_at_most Ten = omega arith
 base_at_most Sixteen = omega arith
 
--- ---- what is a digit
-
-pub digit_below : (radix : Radix) (c d : ℕ) → IsHexadecimalDigit c → d ≡ digit_value c → d < base radix → IsDigit radix c
-digit_below Ten c d (inl h) e lt = h
-digit_below Ten c d (inr (inl h)) e lt = grind (arith, nat_tests)
-digit_below Ten c d (inr (inr h)) e lt = grind (arith, nat_tests)
-digit_below Sixteen c d h e lt = h
-
-pub digit_above : (radix : Radix) (c d : ℕ) → d ≡ digit_value c → d < 16 → base radix ≤ d → IsDigit radix c → ⊥
-digit_above Ten c d e lt le h = grind (arith, nat_tests)
-digit_above Sixteen c d e lt le h = omega (arith, lt, le)
-
-pub digit_no : (radix : Radix) (c : ℕ) → (IsHexadecimalDigit c → ⊥) → IsDigit radix c → ⊥
-digit_no Ten c none h = none (inl h)
-digit_no Sixteen c none h = none h
-
 -- ---- the digit that is worth so much
 
 code_low : (d : ℕ) → d < 10 → digit_code d ≡ 48 + d

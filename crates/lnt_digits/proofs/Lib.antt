@@ -1,4 +1,5 @@
 pub mod DigitLemmas
+pub mod FrontLemmas
 pub mod OneTextLemmas
 pub mod PutLemmas
 pub mod ReadLemmas

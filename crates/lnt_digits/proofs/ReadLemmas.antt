@@ -6,7 +6,7 @@ use Rattle.lnt_digits.specs.declared.radix.Radix.{Radix}
 use Rattle.lnt_digits.specs.Digits.{IsDigit, IsNumber, base, digit_value, digits_value, most_digits}
 use Rattle.lnt_digits.proofs.DigitLemmas.{base_some, value_grows}
 
-all_push : (P : ℕ → Type 0) (front : List ℕ) (b : ℕ) → AllByRecursion P front → P b → AllByRecursion P (front ++ b ∷ [])
+pub all_push : (P : ℕ → Type 0) (front : List ℕ) (b : ℕ) → AllByRecursion P front → P b → AllByRecursion P (front ++ b ∷ [])
 all_push P [] b h k = (k, tt)
 all_push P (a ∷ front) b h k = (h.0, all_push P front b h.1 k)
 

@@ -1,6 +1,7 @@
 //! Digits, and what they are worth.
-ghost use Rattle.std.specs.Prelude.{◌≡◌, ◌<◌, ◌≤◌, MatchOption};
-ghost use Rattle.lnt_digits.specs.Digits.{IsDigit, IsHexadecimalDigit, base, digit_code, digit_value, most_digits};
+ghost use Rattle.std.specs.Prelude.{◌≡◌, ◌+◌, ◌<◌, ◌≤◌, MatchOption};
+ghost use Rattle.std.specs.Bool.{MatchBool};
+ghost use Rattle.lnt_digits.specs.Digits.{IsDecimalDigit, IsDigit, IsHexadecimalDigit, base, digit_code, digit_value, most_digits};
 
 /// Which digits a number has.
 #[derive(Clone, Copy)]
@@ -37,16 +38,24 @@ impl Radix {
 
     // What a digit is worth. None for what is no digit.
     #[inline(always)]
-    #[tactic(auto, using(crate::proofs::DigitLemmas::digit_below, crate::proofs::DigitLemmas::digit_above, crate::proofs::DigitLemmas::digit_no))]
     pub(crate) fn value_of(self, byte: u8) -> Option<u64>
         ensures { MatchOption result (IsDigit self byte → ⊥) (λ d. IsDigit self byte × (d ≡ digit_value byte) × (d < base self)) }
     {
-        let digit = hexadecimal_value(byte)?;
-        if digit < self.base() {
-            Some(digit)
-        } else {
-            None
+        match self {
+            Radix::Ten => decimal_value(byte),
+            Radix::Sixteen => hexadecimal_value(byte),
         }
+    }
+}
+
+// What a decimal digit is worth. None for what is no such digit.
+#[inline(always)]
+pub(crate) fn decimal_value(byte: u8) -> Option<u64>
+    ensures { MatchOption result (IsDecimalDigit byte → ⊥) (λ d. IsDecimalDigit byte × (d ≡ digit_value byte) × (d < 10)) }
+{
+    match byte {
+        b'0'..=b'9' => Some((byte - b'0') as u64),
+        _ => None,
     }
 }
 
@@ -55,12 +64,37 @@ impl Radix {
 fn hexadecimal_value(byte: u8) -> Option<u64>
     ensures { MatchOption result (IsHexadecimalDigit byte → ⊥) (λ d. IsHexadecimalDigit byte × (d ≡ digit_value byte) × (d < 16)) }
 {
-    match byte {
-        b'0'..=b'9' => Some((byte - b'0') as u64),
-        b'A'..=b'F' => Some((byte - b'A') as u64 + 10),
-        b'a'..=b'f' => Some((byte - b'a') as u64 + 10),
-        _ => None,
+    if is_hexadecimal(byte) {
+        Some(letter_or_digit_value(byte))
+    } else {
+        None
     }
+}
+
+// Whether a byte is a hexadecimal digit of either case.
+#[inline(always)]
+pub(crate) fn is_hexadecimal(byte: u8) -> bool
+    ensures { MatchBool result (IsHexadecimalDigit byte) (IsHexadecimalDigit byte → ⊥) }
+{
+    is_between(byte, b'0', b'9') | is_between(byte, b'A', b'F') | is_between(byte, b'a', b'f')
+}
+
+// What a hexadecimal digit of either case is worth: its low half, and 9 more where it is a letter. Which of them it is
+// can't be foretold, so nothing branches on that.
+#[inline(always)]
+pub(crate) fn letter_or_digit_value(byte: u8) -> u64
+    ensures value { IsHexadecimalDigit byte → (result ≡ digit_value byte) × (result < 16) }
+    ensures range { result < 64 }
+{
+    (byte % 16 + byte / 64 * 9) as u64
+}
+
+// Whether a byte is one of those from `first` to `last`.
+#[inline(always)]
+fn is_between(byte: u8, first: u8, last: u8) -> bool
+    ensures { MatchBool result ((first ≤ byte) × (byte < last + 1)) ((first ≤ byte) × (byte < last + 1) → ⊥) }
+{
+    (first <= byte) & (byte <= last)
 }
 
 // The digit that is worth so much, a letter in lower case.

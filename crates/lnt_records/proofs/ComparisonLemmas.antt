@@ -22,7 +22,7 @@ zip_push R [] (b ∷ ys) x y z h = absurd z
 zip_push R (a ∷ xs) [] x y z h = absurd z
 zip_push R (a ∷ xs) (b ∷ ys) x y z h = (z.0, zip_push R xs ys x y z.1 h)
 
-table_push : (version : Version) (records : List Fields) (table : List Span) (fields : Fields) (span : Span) → IsTable version records table → IsSpanRecord version fields span
+pub table_push : (version : Version) (records : List Fields) (table : List Span) (fields : Fields) (span : Span) → IsTable version records table → IsSpanRecord version fields span
     → AreInOrder (table ++ span ∷ []) → IsTable version (records ++ fields ∷ []) (table ++ span ∷ [])
 table_push version [] table fields span t s o = absurd t
 table_push version (first ∷ records) table fields span t s o =

@@ -2,6 +2,7 @@ pub mod ColumnLemmas
 pub mod ComparisonLemmas
 pub mod HeaderLemmas
 pub mod LawLemmas
+pub mod LineLemmas
 pub mod ReadingLemmas
 pub mod RecordLemmas
 pub mod SaidLemmas

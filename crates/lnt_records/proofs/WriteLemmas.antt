@@ -117,7 +117,7 @@ span_put span s0 s1 s2 s3 s4 s5 low comma high answer feed version is =
 
 -- ---- plain fields need no quotes
 
-abbrev IsQuiet : List ℕ → Type 0
+abbrev pub IsQuiet : List ℕ → Type 0
 IsQuiet field = list_any (needs_byte default_writer) field ≡ false
 
 quiet_byte : (c : ℕ) → 48 ≤ c → needs_byte default_writer c ≡ false
@@ -128,7 +128,7 @@ quiet_byte c h =
     let feed = ne_eqb c 10 (λ e. omega (arith, h, e)) in
     rw (comma, quote, return, feed) refl
 
-quiet_bytes : (text : List ℕ) → AllByRecursion FromZero text → IsQuiet text
+pub quiet_bytes : (text : List ℕ) → AllByRecursion FromZero text → IsQuiet text
 quiet_bytes [] h = refl
 quiet_bytes (c ∷ text) h = rw (quiet_byte c h.0, quiet_bytes text h.1) refl
 
@@ -138,11 +138,11 @@ quiet_number text n h = quiet_bytes text (decimal_from_zero text n h.number)
 quiet_address : (text : List ℕ) (n : ℕ) → IsPlainAddress text n → IsQuiet text
 quiet_address text n h = quiet_bytes text (address_from_zero text n (plain_address text n h))
 
-quiet_flag : (text : List ℕ) (on : Bool) → IsFlag text on → IsQuiet text
+pub quiet_flag : (text : List ℕ) (on : Bool) → IsFlag text on → IsQuiet text
 quiet_flag text true e = rw e refl
 quiet_flag text false e = rw e refl
 
-all_from_each : (P : List ℕ → Type 0) (fields : Fields) → ((i : ℕ) → i < length fields → P (get_or fields i [])) → AllByRecursion P fields
+pub all_from_each : (P : List ℕ → Type 0) (fields : Fields) → ((i : ℕ) → i < length fields → P (get_or fields i [])) → AllByRecursion P fields
 all_from_each P [] h = tt
 all_from_each P (x ∷ fields) h = (h 0 (omega arith), all_from_each P fields (λ i lt. h (suc i) (omega (arith, lt))))
 
@@ -163,7 +163,7 @@ unfolding fields_text
 quiet_following [] q = refl
 quiet_following (field ∷ fields) q = rw (quiet_text field q.0, quiet_following fields q.1) refl
 
-quiet_line : (fields : Fields) → 2 ≤ length fields → AllByRecursion IsQuiet fields → row_text default_writer fields ≡ line_text fields
+pub quiet_line : (fields : Fields) → 2 ≤ length fields → AllByRecursion IsQuiet fields → row_text default_writer fields ≡ line_text fields
 unfolding is_blank
 quiet_line [] h q = absurd (omega (arith, h))
 quiet_line (a ∷ []) h q = absurd (omega (arith, h))
@@ -172,15 +172,15 @@ quiet_line (a ∷ b ∷ fields) h q =
     let first = quiet_text a q.0 in
     rw (first, rest) refl
 
-count_some : (version : Version) → 2 ≤ column_count version
+pub count_some : (version : Version) → 2 ≤ column_count version
 count_some One = omega arith
 count_some Two = omega arith
 
-quiet_names : (version : Version) → AllByRecursion IsQuiet (column_names version)
+pub quiet_names : (version : Version) → AllByRecursion IsQuiet (column_names version)
 quiet_names One = (refl, (refl, (refl, (refl, (refl, (refl, (refl, (refl, (refl, tt)))))))))
 quiet_names Two = (refl, (refl, (refl, (refl, (refl, (refl, (refl, (refl, (refl, (refl, (refl, tt)))))))))))
 
-names_count : (version : Version) → length (column_names version) ≡ column_count version
+pub names_count : (version : Version) → length (column_names version) ≡ column_count version
 names_count One = refl
 names_count Two = refl
 
@@ -195,7 +195,7 @@ unfolding rows_text
 quiet_lines [] q = refl
 quiet_lines (fields ∷ records) q = rw (quiet_line fields q.0.0 q.0.1, quiet_lines records q.1) refl
 
-same_back : (fields : Fields) → 2 ≤ length fields → fields ≡ read_back fields
+pub same_back : (fields : Fields) → 2 ≤ length fields → fields ≡ read_back fields
 same_back [] h = absurd (omega (arith, h))
 same_back (x ∷ fields) h = refl
 
@@ -205,7 +205,7 @@ lines_read [] q = (refl, refl)
 lines_read (fields ∷ records) q =
     ((read_back fields, st.StartRecord, rows_text records), read-write fields (rows_text records), same_back fields q.0.0, lines_read records q.1)
 
-none_left : next_record default_config st.StartRecord [] [] [] ≡ None
+pub none_left : next_record default_config st.StartRecord [] [] [] ≡ None
 unfolding next_record
 none_left = refl
 

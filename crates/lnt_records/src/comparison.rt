@@ -8,6 +8,7 @@ ghost use Rattle.lnt_records.specs.Progress.{Judges};
 ghost use Rattle.lnt_records.specs.Table.{Fields, IsTable, column_names};
 
 use crate::fault::{TableFault, TableStop};
+use crate::lines::compare_lines;
 use crate::reading::{read_header, read_next, reader_of};
 use crate::record::{RecordFault, span_of};
 use csv::ByteRecord;
@@ -27,13 +28,25 @@ pub enum Compared {
 
 /// Compares the table in some bytes with the spans of a section.
 ///
-/// The records are read one by one, and none is kept. `Same`: the bytes are a table that answers at every position as
+/// The records are read one by one, and none is kept: line by line where each is a sound one on a line of its own, and
+/// nothing is in quotes; and else as `csv` reads them. `Same`: the bytes are a table that answers at every position as
 /// the spans do, as far as the table's version tells: in version 1 the spans' instruction sets and discriminators don't
 /// count. `Fault`: they are no table. The first faulty record is told, whatever was different before it. `Differs`: all
 /// records are well formed, and at no lower position do the answers differ; both are told in the table's version.
 ///
 /// The caller sees to it that the spans are in order and none is empty. The one error is that memory ran out.
 pub fn compare(alloc: Global, table: &[u8], spans: &[Span]) -> Result<Compared, TableStop>
+    requires { AreInOrder spans.now }
+    ensures { IfOk result (λ compared. IsComparison table.now spans.now compared) }
+{
+    if let Some(compared) = compare_lines(table, spans) {
+        return Ok(compared);
+    }
+    compare_records(alloc, table, spans)
+}
+
+// The same of any bytes, by the records that `csv` reads.
+fn compare_records(alloc: Global, table: &[u8], spans: &[Span]) -> Result<Compared, TableStop>
     requires { AreInOrder spans.now }
     ensures { IfOk result (λ compared. IsComparison table.now spans.now compared) }
 {

@@ -6,6 +6,7 @@ ghost use Rattle.lnt_spans.specs.declared.answer.Version.{Version};
 ghost use Rattle.lnt_spans.specs.declared.answer.Version.TheVariants as version;
 ghost use Rattle.lnt_records.specs.Progress.{AreNamed};
 ghost use Rattle.lnt_records.specs.Table.{column_count, column_names, common_names};
+ghost use Rattle.lnt_records.specs.Written.{line_text};
 
 use crate::column::is_field;
 use csv::ByteRecord;
@@ -19,6 +20,17 @@ pub(crate) fn columns(version: Version) -> usize
     match version {
         Version::One => 9,
         Version::Two => 11,
+    }
+}
+
+// The line with the names of the columns.
+pub(crate) fn header_line(version: Version) -> &'static [u8]
+    ensures { result.now ≡ line_text (column_names version) }
+{
+    match version {
+        Version::One => b"low,low_op,high,high_op,unit,file,line,column,is_stmt\n".as_slice(),
+        Version::Two =>
+            b"low,low_op,high,high_op,unit,file,line,column,is_stmt,isa,discriminator\n".as_slice(),
     }
 }
 

@@ -12,6 +12,7 @@ mod comparison;
 mod fault;
 mod header;
 pub mod laws;
+mod lines;
 mod reading;
 mod record;
 mod write;

@@ -8,6 +8,7 @@ ghost use Rattle.lnt_records.specs.Table.{IsFlag, column_names};
 ghost use Rattle.lnt_records.specs.Written.{AddsAnswer, AddsFlag, AddsMore, AddsNumber, AddsPosition, AddsRecord, IsOfVersion, IsWrittenTable, line_text};
 
 use crate::fault::WriteStop;
+use crate::header::header_line;
 use lnt_digits::{put_address, put_decimal};
 use lnt_spans::{Answer, More, Position, Span, Version};
 use std::alloc::{AllocError, Global};
@@ -70,11 +71,7 @@ fn send<W: Write>(block: &mut Vec<u8>, out: &mut W) -> Result<(), WriteStop>
 fn put_header(block: &mut Vec<u8>, version: Version) -> Result<(), AllocError>
     ensures { OnOk result (block.new.items ≡ block.old.items ++ line_text (column_names version)) }
 {
-    block.extend_from_slice(match version {
-        Version::One => b"low,low_op,high,high_op,unit,file,line,column,is_stmt\n".as_slice(),
-        Version::Two =>
-            b"low,low_op,high,high_op,unit,file,line,column,is_stmt,isa,discriminator\n".as_slice(),
-    })
+    block.extend_from_slice(header_line(version))
 }
 
 // Adds the line of a span.

@@ -1,5 +1,5 @@
 use Rattle.lnt_records.proofs.ComparisonLemmas.{difference_told, fault_told, same_told}
-use Rattle.lnt_records.proofs.comparison.compare.Goals as goal
+use Rattle.lnt_records.proofs.comparison.compare_records.Goals as goal
 
 pub returns-in_default : goal.returns-in_default
 returns-in_default c = rw c.in_default.is at c.in_ok-version.ensures c.args.table.now c.reader_of-reader.ensures

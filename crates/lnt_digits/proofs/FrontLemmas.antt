@@ -1,0 +1,135 @@
+-- A number in front of a byte.
+use Rattle.std.proofs.Common.{◌≡◌, ◌∙◌, ℕ, ◌+◌, ◌*◌, ◌^◌, ◌%◌, ◌<◌, ◌≤◌, Bool, true, false, List, [], ◌∷◌, ◌++◌, length, length-append, get_or, drop, append_assoc, refl, sym, ap, arith}
+use Rattle.std.proofs.Math.Nat.{pow-le-pow_right}
+use Rattle.std.proofs.lemmas.Grind.{pow_more}
+use Rattle.std.proofs.lemmas.List.{drop_more}
+use Rattle.std.specs.Bool.{MatchBool}
+use Rattle.std.specs.List.{AllByRecursion}
+use Rattle.std.specs.Prelude.{◌&&◌}
+use Rattle.lnt_digits.specs.declared.radix.Radix.{Radix}
+use Rattle.lnt_digits.specs.declared.radix.Radix.TheVariants.{Ten, Sixteen}
+use Rattle.lnt_digits.specs.Digits.{Begins, IsAddress, IsDigit, IsHexadecimalDigit, IsNumber, base, digit_value, digits_value, most_digits}
+use Rattle.lnt_digits.proofs.DigitLemmas.{base_some}
+use Rattle.lnt_digits.proofs.ReadLemmas.{all_push}
+
+value_push : (radix value c : ℕ) (text : List ℕ) → digits_value radix value (text ++ c ∷ []) ≡ digits_value radix value text * radix + digit_value c
+value_push radix value c [] = refl
+value_push radix value c (b ∷ text) = value_push radix (value * radix + digit_value b) c text
+
+-- From a place up to another the text has digits of this number.
+pub record HasDigits (radix : Radix) (text : List ℕ) (at i value : ℕ) : Type 0 where
+  pub front : List ℕ
+  pub joined : drop at text ≡ front ++ drop i text
+  pub count : at + length front ≡ i
+  pub digits : AllByRecursion (IsDigit radix) front
+  pub value_is : value ≡ digits_value (base radix) 0 front
+  pub bound : value < base radix ^ length front
+
+pub no_digits : (radix : Radix) (text : List ℕ) (at : ℕ) → HasDigits radix text at at 0
+no_digits Ten text at = record { front = []; joined = refl; count = omega arith; digits = tt; value_is = refl; bound = omega arith }
+no_digits Sixteen text at = record { front = []; joined = refl; count = omega arith; digits = tt; value_is = refl; bound = omega arith }
+
+bound_more : (radix : Radix) (value d k : ℕ) → value < base radix ^ k → d < base radix → value * base radix + d < base radix ^ (k + 1)
+bound_more Ten value d k h lt = omega (arith, h, lt, pow_more 10 k)
+bound_more Sixteen value d k h lt = omega (arith, h, lt, pow_more 16 k)
+
+pub digits_more : (radix : Radix) (text : List ℕ) (at i value d more : ℕ) → i < length text → HasDigits radix text at i value → IsDigit radix (get_or text i 0)
+    → d ≡ digit_value (get_or text i 0) → d < base radix → more ≡ value * base radix + d → HasDigits radix text at (i + 1) more
+digits_more radix text at i value d more lt h is e small m =
+    let c : ℕ = get_or text i 0 in
+    let long : length (h.front ++ c ∷ []) ≡ length h.front + 1 = length-append h.front (c ∷ []) in
+    let before = h.value_is in
+    let pushed = value_push (base radix) 0 c h.front in
+    record {
+      front = h.front ++ c ∷ [];
+      joined = h.joined ∙ ap (λ (t : List ℕ). h.front ++ t) (drop_more text i 0 lt) ∙ sym (append_assoc h.front (c ∷ []) (drop (i + 1) text));
+      count = omega (arith, h.count, long);
+      digits = all_push (IsDigit radix) h.front c h.digits is;
+      value_is = rw pushed (rw (sym before) (rw (sym e) m));
+      bound = rw (long, m) (bound_more radix value d (length h.front) h.bound small);
+    }
+
+-- digits in any number that may be read without a test of their number
+abbrev pub safe_digits : Radix → ℕ
+safe_digits Ten = 18
+safe_digits Sixteen = 16
+
+safe_bound : (radix : Radix) → base radix ^ safe_digits radix ≤ 2 ^ 64
+safe_bound Ten = omega arith
+safe_bound Sixteen = omega arith
+
+safe_few : (radix : Radix) → safe_digits radix ≤ most_digits radix
+safe_few Ten = omega arith
+safe_few Sixteen = omega arith
+
+pub digits_fit : (radix : Radix) (text : List ℕ) (at i value : ℕ) → HasDigits radix text at i value → i ≤ at + safe_digits radix → value < 2 ^ 64
+digits_fit radix text at i value h few =
+    let count : length h.front ≤ safe_digits radix = omega (arith, few, h.count) in
+    let most : base radix ^ length h.front ≤ base radix ^ safe_digits radix = pow-le-pow_right (base_some radix) count in
+    omega (arith, h.bound, most, safe_bound radix)
+
+pub digits_end : (radix : Radix) (text : List ℕ) (at i value end : ℕ) → i < length text → HasDigits radix text at i value → at < i → i ≤ at + safe_digits radix
+    → get_or text i 0 ≡ end → Begins (IsNumber radix) (drop at text) value end (drop (i + 1) text)
+digits_end radix text at i value end lt h some few e =
+    let behind : drop i text ≡ end ∷ drop (i + 1) text = drop_more text i 0 lt ∙ ap (λ (c : ℕ). c ∷ drop (i + 1) text) e in
+    record {
+      front = h.front;
+      joined = h.joined ∙ ap (λ (t : List ℕ). h.front ++ t) behind;
+      spells = record {
+        digits = h.digits;
+        some = omega (arith, some, h.count);
+        few = omega (arith, few, h.count, safe_few radix);
+        value = h.value_is;
+        fits = digits_fit radix text at i value h few;
+      };
+    }
+
+-- the number before one more decimal digit
+pub room_for_digit : (text : List ℕ) (at i value : ℕ) → HasDigits Ten text at i value → i < at + 19 → value < 10 ^ 18
+room_for_digit text at i value h few =
+    let count : length h.front ≤ 18 = omega (arith, few, h.count) in
+    let some : 0 < 10 = omega arith in
+    let most : 10 ^ length h.front ≤ 10 ^ 18 = pow-le-pow_right some count in
+    omega (arith, h.bound, most)
+
+-- one more hexadecimal digit, where all so far were such
+pub hexadecimal_more : (text : List ℕ) (at i value worth : ℕ) (before is : Bool) → i < length text
+    → (before ≡ true → i ≤ at + 16 → HasDigits Sixteen text at i value) → MatchBool is (IsHexadecimalDigit (get_or text i 0)) (IsHexadecimalDigit (get_or text i 0) → ⊥)
+    → (IsHexadecimalDigit (get_or text i 0) → (worth ≡ digit_value (get_or text i 0)) × (worth < 16)) → (before && is) ≡ true → i + 1 ≤ at + 16
+    → HasDigits Sixteen text at (i + 1) ((value * 16 % 2 ^ 64 + worth) % 2 ^ 64)
+hexadecimal_more text at i value worth true true lt h is says e few =
+    let d = h refl (omega (arith, few)) in
+    let w = says is in
+    let count : length d.front ≤ 15 = omega (arith, few, d.count) in
+    let some : 0 < 16 = omega arith in
+    let most : 16 ^ length d.front ≤ 16 ^ 15 = pow-le-pow_right some count in
+    let whole : (value * 16 % 2 ^ 64 + worth) % 2 ^ 64 ≡ value * 16 + worth = omega (arith, d.bound, most, w.1) in
+    digits_more Sixteen text at i value worth ((value * 16 % 2 ^ 64 + worth) % 2 ^ 64) lt d is w.0 w.1 whole
+hexadecimal_more text at i value worth true false lt h is says e few = absurd (cc e)
+hexadecimal_more text at i value worth false is lt h m says e few = absurd (cc e)
+
+-- behind 0x
+pub address_begins : (s0 s1 s2 rest : List ℕ) (n end : ℕ) → s0 ≡ 48 ∷ s1 → s1 ≡ 120 ∷ s2 → Begins (IsNumber Sixteen) s2 n end rest → Begins IsAddress s0 n end rest
+address_begins s0 s1 s2 rest n end e f b = record {
+  front = 48 ∷ 120 ∷ b.front;
+  joined = e ∙ ap (λ (t : List ℕ). 48 ∷ t) f ∙ ap (λ (t : List ℕ). 48 ∷ 120 ∷ t) b.joined;
+  spells = record { digits = b.front; written = refl; number = b.spells };
+}
+
+no_zero : (n : ℕ) → n ≡ 0 + n
+no_zero n = omega arith
+
+-- a lone digit
+pub digit_begins : (text rest : List ℕ) (at d end : ℕ) → at < length text → IsDigit Ten (get_or text at 0) → d ≡ digit_value (get_or text at 0) → d < 10
+    → drop (at + 1) text ≡ end ∷ rest → Begins (IsNumber Ten) (drop at text) d end rest
+digit_begins text rest at d end lt is e small f = record {
+  front = get_or text at 0 ∷ [];
+  joined = drop_more text at 0 lt ∙ ap (λ (t : List ℕ). get_or text at 0 ∷ t) f;
+  spells = record {
+    digits = (is, tt);
+    some = omega arith;
+    few = omega arith;
+    value = e ∙ no_zero (digit_value (get_or text at 0));
+    fits = omega (arith, small);
+  };
+}

@@ -1,0 +1,244 @@
+-- Lines that are read, and that they are the records that `csv` reads.
+use Rattle.std.proofs.Common.{◌≡◌, ◌∙◌, ℕ, ◌+◌, ◌<◌, ◌≤◌, Bool, List, [], ◌∷◌, ◌++◌, Option, Some, None, length, length-append, length-drop, drop, ◌-◌, refl, sym, ap, subst, append_assoc, arith}
+use Rattle.std.proofs.Math.Seq.{drop-append_seam}
+use Rattle.std.proofs.lemmas.List.{append-nil, drop_all}
+use Rattle.std.specs.List.{AllByRecursion}
+use Rattle.csv.specs.Machine.{next_record}
+use Rattle.csv.specs.Reading.{Reached, default_config, strip_bom}
+use Rattle.csv.specs.declared.parser.State.TheVariants as st
+use Rattle.csv.proofs.ReadFacts.{reached-more}
+use Rattle.csv.proofs.RoundTrip.{read-write}
+use Rattle.lnt_digits.specs.Digits.{Begins, IsAddress, IsDecimal}
+use Rattle.lnt_digits.specs.Laws.Texts.{address_from_zero, decimal_from_zero}
+use Rattle.lnt_spans.specs.declared.answer.Answer.{Answer}
+use Rattle.lnt_spans.specs.declared.answer.More.{More}
+use Rattle.lnt_spans.specs.declared.answer.Version.{Version}
+use Rattle.lnt_spans.specs.declared.answer.Version.TheVariants.{One, Two}
+use Rattle.lnt_spans.specs.declared.difference.Difference.{Difference}
+use Rattle.lnt_spans.specs.declared.position.Position.{Position}
+use Rattle.lnt_spans.specs.declared.span.Span.{Span}
+use Rattle.lnt_spans.specs.Comparing.{Compares, State}
+use Rattle.lnt_spans.specs.Differences.{Agree, IsLeastDifference}
+use Rattle.lnt_spans.specs.Spans.{AreInOrder, span_answer, version_answer}
+use Rattle.lnt_records.specs.Faults.{AnswersAs, DiffersSo}
+use Rattle.lnt_records.specs.Lines.{AreMoreFields, IsAnswer, IsFlagBefore, IsLine, IsMore, IsPosition, JudgesLines}
+use Rattle.lnt_records.specs.Table.{AreMore, Fields, IsFlag, IsSpanRecord, Kind, RecordsOf, column_count, column_names}
+use Rattle.lnt_records.specs.Written.{following, line_text}
+use Rattle.lnt_records.proofs.ComparisonLemmas.{table_push}
+use Rattle.lnt_records.proofs.SaidLemmas.{each_holds}
+use Rattle.lnt_records.proofs.WriteLemmas.{IsQuiet, all_from_each, count_some, names_count, none_left, quiet_bytes, quiet_flag, quiet_line, quiet_names, same_back}
+
+-- ---- parts of a line
+
+-- one more field before others
+behind : (field bytes next tail : List ℕ) (fields : Fields) → bytes ≡ field ++ 44 ∷ next → 44 ∷ next ≡ following fields ++ tail → 44 ∷ bytes ≡ following (field ∷ fields) ++ tail
+behind field bytes next tail fields e f =
+    ap (λ (t : List ℕ). 44 ∷ t) e ∙ ap (λ (t : List ℕ). 44 ∷ field ++ t) f ∙ sym (append_assoc (44 ∷ field) (following fields) tail)
+
+pub position_taken : (position : Position) (bytes next rest : List ℕ) → Begins IsAddress bytes position.address 44 next → Begins IsDecimal next position.op 44 rest
+    → IsPosition position bytes rest
+position_taken position bytes next rest a b = record {
+  address = a.front;
+  op = b.front;
+  joined = a.joined ∙ ap (λ (t : List ℕ). a.front ++ 44 ∷ t) b.joined;
+  address_is = a.spells;
+  op_is = b.spells;
+}
+
+pub no_more_taken : (bytes rest : List ℕ) → bytes ≡ 10 ∷ rest → IsMore One None bytes rest
+no_more_taken bytes rest e = record { fields = []; joined = e; fields_are = (refl, refl) }
+
+pub more_taken : (more : More) (bytes s1 s2 rest : List ℕ) → bytes ≡ 44 ∷ s1 → Begins IsDecimal s1 more.isa 44 s2 → Begins IsDecimal s2 more.discriminator 10 rest
+    → IsMore Two (Some more) bytes rest
+more_taken more bytes s1 s2 rest e a b =
+    let last : 44 ∷ s2 ≡ following (b.front ∷ []) ++ 10 ∷ rest =
+    ap (λ (t : List ℕ). 44 ∷ t) b.joined ∙ ap (λ (t : List ℕ). 44 ∷ t ++ 10 ∷ rest) (sym (append-nil b.front)) in
+    record {
+      fields = a.front ∷ b.front ∷ [];
+      joined = e ∙ behind a.front s1 s2 (10 ∷ rest) (b.front ∷ []) a.joined last;
+      fields_are = (a.front, b.front, refl, a.spells, b.spells);
+    }
+
+pub answer_taken : (version : Version) (answer : Answer) (s0 s1 s2 s3 s4 s5 s6 : List ℕ) → Begins IsDecimal s0 answer.unit 44 s1 → Begins IsDecimal s1 answer.file 44 s2
+    → Begins IsDecimal s2 answer.line 44 s3 → Begins IsDecimal s3 answer.column 44 s4 → IsFlagBefore answer.is_stmt s4 s5 → IsMore version answer.more s5 s6
+    → IsAnswer version answer s0 s6
+answer_taken version answer s0 s1 s2 s3 s4 s5 s6 unit file line column is_stmt more =
+    let flag : 44 ∷ s4 ≡ following (is_stmt.text ∷ more.fields) ++ 10 ∷ s6 =
+    ap (λ (t : List ℕ). 44 ∷ t) is_stmt.joined ∙ ap (λ (t : List ℕ). 44 ∷ is_stmt.text ++ t) more.joined
+    ∙ sym (append_assoc (44 ∷ is_stmt.text) (following more.fields) (10 ∷ s6)) in
+    record {
+      unit = unit.front;
+      file = file.front;
+      line = line.front;
+      column = column.front;
+      is_stmt = is_stmt.text;
+      more = more.fields;
+      joined =
+          behind unit.front s0 s1 (10 ∷ s6) (file.front ∷ line.front ∷ column.front ∷ is_stmt.text ∷ more.fields) unit.joined
+          (behind file.front s1 s2 (10 ∷ s6) (line.front ∷ column.front ∷ is_stmt.text ∷ more.fields) file.joined
+          (behind line.front s2 s3 (10 ∷ s6) (column.front ∷ is_stmt.text ∷ more.fields) line.joined
+          (behind column.front s3 s4 (10 ∷ s6) (is_stmt.text ∷ more.fields) column.joined flag)));
+      unit_is = unit.spells;
+      file_is = file.spells;
+      line_is = line.spells;
+      column_is = column.spells;
+      is_stmt_is = is_stmt.text_is;
+      more_are = more.fields_are;
+    }
+
+-- ---- a line
+
+more_said : (version : Version) (answer : Answer) (m : Fields) (a b c d e f g h i : List ℕ) → AreMoreFields version m answer.more
+    → (length (a ∷ b ∷ c ∷ d ∷ e ∷ f ∷ g ∷ h ∷ i ∷ m) ≡ column_count version) × AreMore IsDecimal version (a ∷ b ∷ c ∷ d ∷ e ∷ f ∷ g ∷ h ∷ i ∷ m) answer.more
+more_said version answer m a b c d e f g h i p = by version answer.more p
+  where
+    by : (v : Version) (more : Option More) → AreMoreFields v m more
+        → (length (a ∷ b ∷ c ∷ d ∷ e ∷ f ∷ g ∷ h ∷ i ∷ m) ≡ column_count v) × AreMore IsDecimal v (a ∷ b ∷ c ∷ d ∷ e ∷ f ∷ g ∷ h ∷ i ∷ m) more
+    by One more p = rw p.0 (refl, p.1)
+    by Two None p = absurd p
+    by Two (Some more) p = rw p.2 (refl, (p.3, p.4))
+
+pub line_taken : (version : Version) (span : Span) (s0 s1 s2 s3 : List ℕ) → IsPosition span.low s0 s1 → IsPosition span.high s1 s2 → IsAnswer version span.answer s2 s3
+    → IsLine version span s0 s3
+line_taken version span s0 s1 s2 s3 low high answer =
+    let rest : Fields = answer.unit ∷ answer.file ∷ answer.line ∷ answer.column ∷ answer.is_stmt ∷ answer.more in
+    let more = more_said version span.answer answer.more low.address low.op high.address high.op answer.unit answer.file answer.line answer.column answer.is_stmt answer.more_are in
+    let op : 44 ∷ (high.op ++ 44 ∷ s2) ≡ following (high.op ∷ rest) ++ 10 ∷ s3 = behind high.op (high.op ++ 44 ∷ s2) s2 (10 ∷ s3) rest refl answer.joined in
+    let address : 44 ∷ s1 ≡ following (high.address ∷ high.op ∷ rest) ++ 10 ∷ s3 = behind high.address s1 (high.op ++ 44 ∷ s2) (10 ∷ s3) (high.op ∷ rest) high.joined op in
+    let all : 44 ∷ (low.op ++ 44 ∷ s1) ≡ following (low.op ∷ high.address ∷ high.op ∷ rest) ++ 10 ∷ s3 =
+    behind low.op (low.op ++ 44 ∷ s1) s1 (10 ∷ s3) (high.address ∷ high.op ∷ rest) refl address in
+    let fields : Fields = low.op ∷ high.address ∷ high.op ∷ rest in
+    record {
+      fields = low.address ∷ fields;
+      joined =
+          low.joined ∙ ap (λ (t : List ℕ). low.address ++ t) all ∙ sym (append_assoc low.address (following fields) (10 ∷ s3))
+          ∙ sym (append_assoc (low.address ++ following fields) (10 ∷ []) s3);
+      says = record {
+        count = more.0;
+        low = low.address_is;
+        low_op = low.op_is;
+        high = high.address_is;
+        high_op = high.op_is;
+        unit = answer.unit_is;
+        file = answer.file_is;
+        line = answer.line_is;
+        column = answer.column_is;
+        is_stmt = answer.is_stmt_is;
+        more = more.1;
+      };
+    }
+
+-- ---- `csv` reads a line as its fields
+
+line_read : (fields : Fields) (rest : List ℕ) → 2 ≤ length fields → AllByRecursion IsQuiet fields
+    → next_record default_config st.StartRecord [] [] (line_text fields ++ rest) ≡ Some (fields, st.StartRecord, rest)
+line_read fields rest some quiet =
+    ap (λ (t : List ℕ). next_record default_config st.StartRecord [] [] (t ++ rest)) (sym (quiet_line fields some quiet)) ∙ read-write fields rest
+    ∙ ap (λ (r : Fields). Some (r, st.StartRecord, rest)) (sym (same_back fields some))
+
+quiet_said : (version : Version) (fields : Fields) (span : Span) → IsSpanRecord version fields span → AllByRecursion IsQuiet fields
+quiet_said version fields span s =
+    all_from_each IsQuiet fields
+    (λ i lt.
+    each_holds IsAddress IsDecimal (λ (k : Kind) (text : List ℕ). IsQuiet text) version fields span
+    (record { of_address = λ text n h. quiet_bytes text (address_from_zero text n h); of_number = λ text n h. quiet_bytes text (decimal_from_zero text n h); of_flag = quiet_flag })
+    s i (rw s.count at lt))
+
+span_read : (version : Version) (fields : Fields) (span : Span) (rest : List ℕ) → IsSpanRecord version fields span
+    → next_record default_config st.StartRecord [] [] (line_text fields ++ rest) ≡ Some (fields, st.StartRecord, rest)
+span_read version fields span rest s =
+    let some : 2 ≤ length fields = subst (λ (n : ℕ). 2 ≤ n) (sym s.count) (count_some version) in
+    line_read fields rest some (quiet_said version fields span s)
+
+names_read : (version : Version) (rest : List ℕ)
+    → next_record default_config st.StartRecord [] [] (line_text (column_names version) ++ rest) ≡ Some (column_names version, st.StartRecord, rest)
+names_read version rest =
+    let some : 2 ≤ length (column_names version) = subst (λ (n : ℕ). 2 ≤ n) (sym (names_count version)) (count_some version) in
+    line_read (column_names version) rest some (quiet_names version)
+
+-- a header is no byte order mark
+no_mark : (version : Version) (rest : List ℕ) → strip_bom (line_text (column_names version) ++ rest) ≡ line_text (column_names version) ++ rest
+unfolding strip_bom
+no_mark One rest = refl
+no_mark Two rest = refl
+
+header_reached : (version : Version) (rest : List ℕ)
+    → Reached default_config st.StartRecord (strip_bom (line_text (column_names version) ++ rest)) (column_names version ∷ []) st.StartRecord rest
+unfolding Reached
+header_reached version rest = rw (no_mark version rest) ((column_names version, st.StartRecord, rest), names_read version rest, refl, (refl, refl))
+
+-- ---- all lines
+
+pub header_behind : (bytes line names rest : List ℕ) → line ≡ names → bytes ≡ line ++ rest → bytes ≡ names ++ drop (length bytes - length rest) bytes
+header_behind bytes line names rest e f =
+    let long : length bytes ≡ length line + length rest = ap length f ∙ length-append line rest in
+    let place : length bytes - length rest ≡ length line = omega (arith, long) in
+    let behind : drop (length bytes - length rest) bytes ≡ rest = ap (λ (k : ℕ). drop k bytes) place ∙ ap (λ (t : List ℕ). drop (length line) t) f ∙ drop-append_seam line rest in
+    f ∙ ap (λ (t : List ℕ). t ++ rest) e ∙ ap (λ (t : List ℕ). names ++ t) (sym behind)
+
+pub flag_behind : (on : Bool) (c : ℕ) (bytes rest : List ℕ) → IsFlag (c ∷ []) on → bytes ≡ c ∷ rest → IsFlagBefore on bytes rest
+flag_behind on c bytes rest is e = record { text = c ∷ []; joined = e; text_is = is }
+
+pub header_judged : (merge : State) (version : Version) (section : List Span) (bytes rest : List ℕ) → bytes ≡ line_text (column_names version) ++ rest → merge.version ≡ version
+    → Compares merge section [] → JudgesLines merge version section bytes rest
+header_judged merge version section bytes rest e same c = record {
+  records = column_names version ∷ [];
+  table = [];
+  is_table = (refl, record { each = tt; in_order = tt });
+  version_is = same;
+  compares = c;
+  reached = subst (λ (b : List ℕ). Reached default_config st.StartRecord (strip_bom b) (column_names version ∷ []) st.StartRecord rest) (sym e) (header_reached version rest);
+}
+
+pub line_judged : (old new : State) (version : Version) (section : List Span) (bytes before rest : List ℕ) (span : Span) → (j : JudgesLines old version section bytes before)
+    → IsLine version span before rest → AreInOrder (j.table ++ span ∷ []) → new.version ≡ old.version
+    → ((spans table : List Span) → Compares old spans table → Compares new spans (table ++ span ∷ [])) → JudgesLines new version section bytes rest
+line_judged old new version section bytes before rest span j line order same step =
+    let read = ap (λ (t : List ℕ). next_record default_config st.StartRecord [] [] t) line.joined ∙ span_read version line.fields span rest line.says in
+    record {
+      records = j.records ++ line.fields ∷ [];
+      table = j.table ++ span ∷ [];
+      is_table = table_push version j.records j.table line.fields span j.is_table line.says order;
+      version_is = same ∙ j.version_is;
+      compares = step section j.table j.compares;
+      reached = reached-more default_config st.StartRecord st.StartRecord (strip_bom bytes) before j.records (line.fields, st.StartRecord, rest) j.reached read;
+    }
+
+some_end : (field fields : List ℕ) → 0 < length (field ++ fields ++ 10 ∷ [])
+some_end field fields = omega (arith, length-append (field ++ fields) (10 ∷ []))
+
+line_some : (fields : Fields) → 0 < length (line_text fields)
+line_some [] = omega arith
+line_some (field ∷ fields) = some_end field (following fields)
+
+pub line_shorter : (version : Version) (span : Span) (bytes : List ℕ) (at next : ℕ) → IsLine version span (drop at bytes) (drop next bytes) → length bytes - next < length bytes - at
+line_shorter version span bytes at next line =
+    let long : length (drop at bytes) ≡ length (line_text line.fields) + length (drop next bytes) = ap length line.joined ∙ length-append (line_text line.fields) (drop next bytes) in
+    omega (arith, long, line_some line.fields, length-drop at bytes, length-drop next bytes)
+
+-- ---- what is told
+
+pub none_behind : (bytes : List ℕ) (at : ℕ) → length bytes ≤ at → drop at bytes ≡ []
+none_behind bytes at le = drop_all at bytes le
+
+all_records : (merge : State) (version : Version) (section : List Span) (bytes rest : List ℕ) → (j : JudgesLines merge version section bytes rest) → rest ≡ [] → RecordsOf bytes j.records
+all_records merge version section bytes rest j e =
+    (st.StartRecord, [], subst (λ (r : List ℕ). Reached default_config st.StartRecord (strip_bom bytes) j.records st.StartRecord r) e j.reached, none_left)
+
+pub same_told : (merge : State) (version : Version) (section : List Span) (bytes rest : List ℕ) → (j : JudgesLines merge version section bytes rest) → rest ≡ []
+    → Agree (version_answer merge.version section) (span_answer j.table) → AnswersAs bytes section
+same_told merge version section bytes rest j e agree = record {
+  version = version;
+  table = j.table;
+  is_table = (j.records, all_records merge version section bytes rest j e, j.is_table);
+  agree = rw j.version_is at agree;
+}
+
+pub difference_told : (merge : State) (version : Version) (section : List Span) (bytes rest : List ℕ) (difference : Difference) → (j : JudgesLines merge version section bytes rest) → rest ≡ []
+    → IsLeastDifference (version_answer merge.version section) (span_answer j.table) difference → DiffersSo bytes section difference
+difference_told merge version section bytes rest difference j e least = record {
+  version = version;
+  table = j.table;
+  is_table = (j.records, all_records merge version section bytes rest j e, j.is_table);
+  least = rw j.version_is at least;
+}

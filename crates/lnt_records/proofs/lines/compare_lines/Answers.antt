@@ -1,0 +1,23 @@
+use Rattle.lnt_records.proofs.LineLemmas.{difference_told, header_judged, line_judged, line_shorter, none_behind, same_told}
+use Rattle.lnt_records.proofs.lines.compare_lines.Goals as goal
+
+pub loop-at-init : goal.loop-at-init
+loop-at-init c = header_judged _ c.in_ok-version.version _ _ _ c.in_ok-version.ensures c.new-merge.ensures.version c.new-merge.ensures.compares
+
+pub loop-at-preserved : goal.loop-at-preserved
+loop-at-preserved c =
+    let j = c.loop-at.invariant in
+    line_judged c.loop-at.merge c.push.new.self _ _ _ _ _ c.in-Some.span j c.in-Some.ensures (c.if-not-takes.ensures _ j.table j.compares) c.push.ensures.version c.push.ensures.compares
+
+pub returns-in-Some-finish : goal.returns-in-Some-finish
+returns-in-Some-finish c =
+    let j = c.loop-at.invariant in
+    difference_told _ _ _ _ _ _ j (none_behind c.args.table.now c.loop-at.at c.loop-at-test.false) (c.in-Some-finish.ensures _ j.table j.compares)
+
+pub returns-in-None : goal.returns-in-None
+returns-in-None c =
+    let j = c.loop-at.invariant in
+    same_told _ _ _ _ _ j (none_behind c.args.table.now c.loop-at.at c.loop-at-test.false) (c.in-None.ensures _ j.table j.compares)
+
+pub loop-at-smaller : goal.loop-at-smaller
+loop-at-smaller c = line_shorter _ _ c.args.table.now c.loop-at.at c.in-Some.next c.in-Some.ensures

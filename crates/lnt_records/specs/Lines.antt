@@ -1,0 +1,76 @@
+-- A table that is read line by line. The bodies of this crate use it among themselves.
+use Rattle.std.specs.Prelude.{◌≡◌, ℕ, Bool, List, [], ◌∷◌, ◌++◌, Option, Some, None}
+use Rattle.csv.specs.Reading.{Reached, default_config, strip_bom}
+use Rattle.csv.specs.declared.parser.State.TheVariants as state
+use Rattle.lnt_digits.specs.Digits.{IsAddress, IsDecimal}
+use Rattle.lnt_spans.specs.declared.answer.Answer.{Answer}
+use Rattle.lnt_spans.specs.declared.answer.More.{More}
+use Rattle.lnt_spans.specs.declared.answer.Version.{Version}
+use Rattle.lnt_spans.specs.declared.answer.Version.TheVariants.{One, Two}
+use Rattle.lnt_spans.specs.declared.position.Position.{Position}
+use Rattle.lnt_spans.specs.declared.span.Span.{Span}
+use Rattle.lnt_spans.specs.Comparing.{Compares, State}
+use Rattle.lnt_records.specs.Table.{Fields, IsFlag, IsSpanRecord, IsTable}
+use Rattle.lnt_records.specs.Written.{following, line_text}
+
+-- ---- what the bytes begin with, and what is behind it
+
+-- two fields that say a position, each with a comma behind it
+pub record IsPosition (position : Position) (bytes rest : List ℕ) : Type 0 where
+  pub address : List ℕ
+  pub op : List ℕ
+  pub joined : bytes ≡ address ++ 44 ∷ (op ++ 44 ∷ rest)
+  pub address_is : IsAddress address position.address
+  pub op_is : IsDecimal op position.op
+
+-- 0 or 1
+pub record IsFlagBefore (on : Bool) (bytes rest : List ℕ) : Type 0 where
+  pub text : List ℕ
+  pub joined : bytes ≡ text ++ rest
+  pub text_is : IsFlag text on
+
+-- the fields that say what a version has more
+abbrev pub AreMoreFields : Version → Fields → Option More → Type 0
+AreMoreFields One fields more = (fields ≡ []) × (more ≡ None)
+AreMoreFields Two fields None = ⊥
+AreMoreFields Two fields (Some more) =
+    (isa : List ℕ) × (discriminator : List ℕ) × (fields ≡ isa ∷ discriminator ∷ []) × IsDecimal isa more.isa × IsDecimal discriminator more.discriminator
+
+-- those fields, each with a comma before it, and the end of the line
+pub record IsMore (version : Version) (more : Option More) (bytes rest : List ℕ) : Type 0 where
+  pub fields : Fields
+  pub joined : bytes ≡ following fields ++ 10 ∷ rest
+  pub fields_are : AreMoreFields version fields more
+
+-- the fields that say an answer, with a comma between them, and the end of the line
+pub record IsAnswer (version : Version) (answer : Answer) (bytes rest : List ℕ) : Type 0 where
+  pub unit : List ℕ
+  pub file : List ℕ
+  pub line : List ℕ
+  pub column : List ℕ
+  pub is_stmt : List ℕ
+  pub more : Fields
+  pub joined : 44 ∷ bytes ≡ following (unit ∷ file ∷ line ∷ column ∷ is_stmt ∷ more) ++ 10 ∷ rest
+  pub unit_is : IsDecimal unit answer.unit
+  pub file_is : IsDecimal file answer.file
+  pub line_is : IsDecimal line answer.line
+  pub column_is : IsDecimal column answer.column
+  pub is_stmt_is : IsFlag is_stmt answer.is_stmt
+  pub more_are : AreMoreFields version more answer.more
+
+-- a line that says a span
+pub record IsLine (version : Version) (span : Span) (bytes rest : List ℕ) : Type 0 where
+  pub fields : Fields
+  pub joined : bytes ≡ line_text fields ++ rest
+  pub says : IsSpanRecord version fields span
+
+-- ---- all lines
+
+-- The lines before the rest are a table so far, which is compared with the spans of a section.
+pub record JudgesLines (merge : State) (version : Version) (section : List Span) (bytes rest : List ℕ) : Type 0 where
+  pub records : List Fields
+  pub table : List Span
+  pub is_table : IsTable version records table
+  pub version_is : merge.version ≡ version
+  pub compares : Compares merge section table
+  pub reached : Reached default_config state.StartRecord (strip_bom bytes) records state.StartRecord rest
