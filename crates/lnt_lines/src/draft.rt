@@ -66,7 +66,7 @@ impl Draft {
         Ok(())
     }
 
-    /// The lines, behind the last unit, or the first overlap. It takes no memory.
+    /// The lines, behind the last unit, or the first overlap.
     pub(crate) fn finish(self) -> Result<Lines, Overlap>
         requires sequences { (sequences : List Placed) × Collects self.collected sequences × AreOrdered sequences × AreDistinct sequences }
         requires rising { AreRising self.units.items }

@@ -43,8 +43,9 @@ impl Collected {
     /// by two, the first two that hold it by their first positions and then by their places in the section. A sequence
     /// that holds nothing overlaps none.
     ///
-    /// The caller sees to it that positions never fall in any of the sequences, and that no two have the same id. It
-    /// takes no memory. Sequences that come in order cost one pass over the spans.
+    /// The caller sees to it that positions never fall in any of the sequences, and that no two have the same id.
+    /// Sequences that come in order cost few passes over the spans, and so do those that lie among their neighbours,
+    /// with memory for the spans of these; where there is none, it takes longer.
     pub fn settled(self) -> Result<Vec<Span>, Overlap>
         requires { (sequences : List Placed) × Collects self sequences × AreOrdered sequences × AreDistinct sequences }
         ensures in_order { IfOk result (λ spans. AreInOrder spans.items) }
@@ -60,7 +61,8 @@ impl Collected {
         if let Some(overlap) = first_overlap(&mut extents) {
             return Err(overlap);
         }
-        put_in_order(&mut spans);
+        let alloc = *spans.allocator();
+        put_in_order(alloc, &mut spans);
         Ok(spans)
     }
 

@@ -13,6 +13,7 @@ pub mod laws;
 mod merge;
 mod order;
 mod position;
+mod runs;
 mod scan;
 mod search;
 mod span;

@@ -6,20 +6,24 @@ ghost use Rattle.lnt_spans.specs.declared.position.Position.{Position};
 ghost use Rattle.lnt_spans.specs.Positions.{IsBelow};
 ghost use Rattle.lnt_spans.specs.Spans.{AreDisjoint, AreInOrder, AreSortedByLow, span_answer};
 
+use crate::runs::put_runs_in_order;
 use crate::span::Span;
+use std::alloc::Global;
 
 /// Puts spans in order, where they lie. They answer as before.
 ///
 /// The caller sees to it that none is empty, and that no position is held by two. Spans in order already cost one pass.
-/// It takes no memory.
+/// Runs of spans that lie in order but for their neighbours cost few passes, with memory for the neighbours; where there
+/// is none, spans are sorted one by one.
 #[tactic(auto, using(crate::proofs::SortLemmas::sorted_answers))]
-pub fn put_in_order(spans: &mut [Span])
+pub fn put_in_order(alloc: Global, spans: &mut [Span])
     requires some { All (λ span. IsBelow span.low span.high) spans.old }
     requires apart { AllPairs AreDisjoint spans.old }
     ensures permutation { IsPermutation spans.old spans.new }
     ensures in_order { AreInOrder spans.new }
     ensures same { (p : Position) → span_answer spans.new p ≡ span_answer spans.old p }
 {
+    let _ = put_runs_in_order(alloc, spans);
     sort_by_low(spans);
 }
 
