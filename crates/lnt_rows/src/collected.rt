@@ -23,6 +23,8 @@ use std::alloc::{AllocError, Global};
 pub struct Collected {
     spans: Vec<Span>,
     extents: Vec<Extent>,
+    // for each extent, the number of spans up to its end, by which they are put in order fast
+    ends: Vec<usize>,
 }
 
 impl Collected {
@@ -33,6 +35,7 @@ impl Collected {
         Collected {
             spans: Vec::new(alloc),
             extents: Vec::new(alloc),
+            ends: Vec::new(alloc),
         }
     }
 
@@ -57,12 +60,13 @@ impl Collected {
         let Collected {
             mut spans,
             mut extents,
+            ends,
         } = self;
         if let Some(overlap) = first_overlap(&mut extents) {
             return Err(overlap);
         }
         let alloc = *spans.allocator();
-        put_in_order(alloc, &mut spans);
+        put_in_order(alloc, &mut spans, &ends);
         Ok(spans)
     }
 
@@ -97,6 +101,7 @@ impl Collected {
                 high: last,
                 id,
             })?;
+            self.ends.push(self.spans.len())?;
         }
         Ok(())
     }

@@ -13,17 +13,19 @@ use std::alloc::Global;
 /// Puts spans in order, where they lie. They answer as before.
 ///
 /// The caller sees to it that none is empty, and that no position is held by two. Spans in order already cost one pass.
-/// Runs of spans that lie in order but for their neighbours cost few passes, with memory for the neighbours; where there
-/// is none, spans are sorted one by one.
+///
+/// `ends` tells where runs of spans end that are in order, each as the number of spans up to there. Runs that lie among
+/// their neighbours alone cost few passes, with memory for the spans of these. Whatever it tells, and where there is no
+/// memory, spans are put in order all the same.
 #[tactic(auto, using(crate::proofs::SortLemmas::sorted_answers))]
-pub fn put_in_order(alloc: Global, spans: &mut [Span])
+pub fn put_in_order(alloc: Global, spans: &mut [Span], ends: &[usize])
     requires some { All (λ span. IsBelow span.low span.high) spans.old }
     requires apart { AllPairs AreDisjoint spans.old }
     ensures permutation { IsPermutation spans.old spans.new }
     ensures in_order { AreInOrder spans.new }
     ensures same { (p : Position) → span_answer spans.new p ≡ span_answer spans.old p }
 {
-    let _ = put_runs_in_order(alloc, spans);
+    let _ = put_runs_in_order(alloc, spans, ends);
     sort_by_low(spans);
 }
 

@@ -1,7 +1,7 @@
 //! Runs of spans put in order, each as a whole.
 //!
-//! The spans of a sequence are a run: each begins where the one before it ends. So a list of spans is put in order by few
-//! copies of many spans, where a sort moves each span on its own.
+//! The spans of a sequence are a run, in order already. So a list of spans is put in order by few copies of many spans,
+//! where a sort moves each span on its own.
 ghost use Rattle.std.specs.Prelude.{◌≡◌, ◌<◌, ◌≤◌, [], length, IfOk, OnOk};
 ghost use Rattle.std.specs.List.{flat_map};
 ghost use Rattle.std.specs.List.Sorted.{IsPermutation};
@@ -13,11 +13,13 @@ use std::alloc::{AllocError, Global};
 // A longer group stays as it is, so that the copy of a group takes little memory.
 const MAX_GROUP_LEN: usize = 1 << 18;
 
-// Runs that lie one behind another in the list. No other group begins before its end and ends behind its beginning.
+// Runs that lie one behind another in the list. Where spans share no position, those of no other group lie among theirs.
 #[derive(Clone, Copy, Debug)]
 struct Group {
     // the index of its first span
     start: usize,
+    // how many runs stand before it
+    before: usize,
     low: Position,
     high: Position,
     // whether it has more than one run
@@ -29,6 +31,7 @@ impl Group {
     fn join(self, other: Group) -> Group {
         Group {
             start: self.start,
+            before: self.before,
             low: if other.low.is_below(self.low) {
                 other.low
             } else {
@@ -44,17 +47,22 @@ impl Group {
     }
 }
 
-// Puts the runs of each short group in order. Whether it ends well or not, the list has the same spans.
-pub(crate) fn put_runs_in_order(alloc: Global, spans: &mut [Span]) -> Result<(), AllocError>
+// Puts the runs of each short group in order, of which `ends` tells the ends. Whatever it tells, and whether memory runs
+// out or not, the list has the same spans.
+pub(crate) fn put_runs_in_order(
+    alloc: Global,
+    spans: &mut [Span],
+    ends: &[usize],
+) -> Result<(), AllocError>
     ensures { IsPermutation spans.old spans.new }
 {
-    let mut groups = groups_of(alloc, spans)?;
+    let mut groups = groups_of(alloc, spans, ends)?;
     let mut spare = Vec::new(alloc);
     let mut end = spans.len();
     while let Some(group) = groups.pop() {
         let start = group.start.min(end);
         if group.mixed && end - start <= MAX_GROUP_LEN {
-            gather(alloc, &mut spans[start..end], &mut spare)?;
+            gather(alloc, &mut spans[start..end], &group, ends, &mut spare)?;
         }
         end = start;
     }
@@ -62,19 +70,22 @@ pub(crate) fn put_runs_in_order(alloc: Global, spans: &mut [Span]) -> Result<(),
 }
 
 // The groups of the spans, in order.
-fn groups_of(alloc: Global, spans: &[Span]) -> Result<Vec<Group>, AllocError> {
+fn groups_of(alloc: Global, spans: &[Span], ends: &[usize]) -> Result<Vec<Group>, AllocError> {
     let mut groups = Vec::new(alloc);
     let mut start = 0;
-    while start < spans.len() {
-        let end = start + run_len(&spans[start..]);
-        let run = Group {
-            start,
-            low: spans[start].low,
-            high: spans[end - 1].high,
-            mixed: false,
-        };
-        push_run(&mut groups, run)?;
-        start = end;
+    for (before, end) in ends.iter().enumerate() {
+        let end = (*end).min(spans.len());
+        if start < end {
+            let run = Group {
+                start,
+                before,
+                low: spans[start].low,
+                high: spans[end - 1].high,
+                mixed: false,
+            };
+            push_run(&mut groups, run)?;
+            start = end;
+        }
     }
     Ok(groups)
 }
@@ -93,50 +104,61 @@ fn push_run(groups: &mut Vec<Group>, run: Group) -> Result<(), AllocError> {
     Ok(())
 }
 
-// How many spans the first run has.
-fn run_len(spans: &[Span]) -> usize
-    requires { 0 < length spans.now }
-    ensures { (0 < result) × (result ≤ length spans.now) }
-{
-    let mut len = 1;
-    while len < spans.len() && spans[len].low == spans[len - 1].high {
-        len += 1;
-    }
-    len
-}
-
-// Puts the runs of spans in order, by way of a copy.
-fn gather(alloc: Global, spans: &mut [Span], spare: &mut Vec<Span>) -> Result<(), AllocError>
+// Puts the runs of a group in order, by way of a copy.
+fn gather(
+    alloc: Global,
+    spans: &mut [Span],
+    group: &Group,
+    ends: &[usize],
+    spare: &mut Vec<Span>,
+) -> Result<(), AllocError>
     ensures { IsPermutation spans.old spans.new }
 {
     spare.clear();
-    copy_in_order(alloc, spans, spare)?;
+    copy_in_order(alloc, spans, group, ends, spare)?;
     spans.copy_from_slice(spare);
     Ok(())
 }
 
-// Copies the runs of spans in order.
-fn copy_in_order(alloc: Global, spans: &[Span], spare: &mut Vec<Span>) -> Result<(), AllocError>
+// Copies the runs of a group in order.
+fn copy_in_order(
+    alloc: Global,
+    spans: &[Span],
+    group: &Group,
+    ends: &[usize],
+    spare: &mut Vec<Span>,
+) -> Result<(), AllocError>
     requires { spare.old.items ≡ [] }
     ensures { OnOk result (IsPermutation spans.now spare.new.items) }
 {
-    let mut runs = runs_of(alloc, spans)?;
+    let mut runs = runs_of(alloc, spans, group, ends)?;
     sort(&mut runs);
     copy_runs(&runs, spare)?;
     Ok(())
 }
 
-// The runs of spans, one behind another.
-fn runs_of(alloc: Global, spans: &[Span]) -> Result<Vec<&[Span]>, AllocError>
+// The runs of a group, one behind another.
+fn runs_of<'s>(
+    alloc: Global,
+    spans: &'s [Span],
+    group: &Group,
+    ends: &[usize],
+) -> Result<Vec<&'s [Span]>, AllocError>
     ensures { IfOk result (λ runs. flat_map (λ run. run.now) runs.items ≡ spans.now) }
 {
     let mut runs = Vec::new(alloc);
     let mut rest = spans;
-    while !rest.is_empty() {
-        let (run, behind) = rest.split_at(run_len(rest));
+    let mut start = group.start;
+    for end in ends.iter().skip(group.before) {
+        if rest.is_empty() {
+            break;
+        }
+        let (run, behind) = rest.split_at(end.saturating_sub(start).min(rest.len()));
         runs.push(run)?;
         rest = behind;
+        start = *end;
     }
+    runs.push(rest)?;
     Ok(runs)
 }
 

@@ -137,19 +137,21 @@ fn spans_put_in_order(rt: HostRuntime) {
     let first = span(at(0x2000, 0), at(0x2010, 1), line(3));
     let second = span(at(0x2010, 1), at(0x2020, 0), line(4));
     let mut spans = [second, first];
-    put_in_order(rt.alloc(), &mut spans);
+    put_in_order(rt.alloc(), &mut spans, &[]);
     assert_eq!(rt; spans, [first, second]);
 }
 
-// Two runs, the second of which begins and ends below the first.
+// Two runs, the second of which begins and ends below the first. Their ends may be told wrong.
 #[test]
 fn runs_put_in_order(rt: HostRuntime) {
     let first = span(at(0x1000, 0), at(0x1004, 0), line(1));
     let second = span(at(0x1004, 0), at(0x1008, 0), line(2));
     let last = span(at(0x2000, 0), at(0x2004, 0), line(3));
-    let mut spans = [last, first, second];
-    put_in_order(rt.alloc(), &mut spans);
-    assert_eq!(rt; spans, [first, second, last]);
+    for ends in [[1, 3], [3, 1], [2, 9]] {
+        let mut spans = [last, first, second];
+        put_in_order(rt.alloc(), &mut spans, &ends);
+        assert_eq!(rt; spans, [first, second, last]);
+    }
 }
 
 // Where a section and a table of these records differ first. A record that isn't in order is left out.
