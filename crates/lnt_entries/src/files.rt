@@ -13,6 +13,9 @@ use lnt_wire::Strings;
 use std::alloc::{AllocError, Global};
 use std::marker::Model;
 
+// Room for the paths of most headers, so that it seldom grows while they are added.
+const ROOM: usize = 1024;
+
 // Where the file's path ends, and the MD5 sum that is listed of it.
 #[derive(Clone, Copy, Debug)]
 pub(crate) struct Kept {
@@ -50,7 +53,7 @@ impl Files {
         requires { AreUsableTables strings.now.line.now strings.now.general.now header.now }
         ensures { IfOk result (λ files. AreFilesOf strings.now.line.now strings.now.general.now header.now files) }
     {
-        let mut paths = Vec::new(alloc);
+        let mut paths = Vec::with_capacity(alloc, ROOM)?;
         let mut kept = Vec::with_capacity(alloc, header.files().len())?;
         for file in header.files() {
             add_path(&mut paths, header, strings, file)?;
@@ -59,6 +62,7 @@ impl Files {
                 listed: sum_of(header.file_format(), file),
             })?;
         }
+        paths.shrink_to_fit();
         Ok(Files { paths, kept })
     }
 

@@ -10,8 +10,8 @@ use crate::position::Position;
 use crate::span::Span;
 use std::alloc::{AllocError, Global};
 
-// A longer group stays as it is, so that the copy of a group takes little memory.
-const MAX_GROUP_LEN: usize = 1 << 18;
+// So many spans are copied whatever the list's length.
+const FEW: usize = 1 << 18;
 
 // Runs that lie one behind another in the list. Where spans share no position, those of no other group lie among theirs.
 #[derive(Clone, Copy, Debug)]
@@ -47,8 +47,10 @@ impl Group {
     }
 }
 
-// Puts the runs of each short group in order, of which `ends` tells the ends. Whatever it tells, and whether memory runs
-// out or not, the list has the same spans.
+// Puts the runs of each group in order, of which `ends` tells the ends. A group of many spans stays as it is where it is
+// more than a quarter of the list, since its copy takes memory.
+//
+// Whatever `ends` tells, and whether memory runs out or not, the list has the same spans.
 pub(crate) fn put_runs_in_order(
     alloc: Global,
     spans: &mut [Span],
@@ -58,10 +60,11 @@ pub(crate) fn put_runs_in_order(
 {
     let mut groups = groups_of(alloc, spans, ends)?;
     let mut spare = Vec::new(alloc);
+    let longest = FEW.max(spans.len() / 4);
     let mut end = spans.len();
     while let Some(group) = groups.pop() {
         let start = group.start.min(end);
-        if group.mixed && end - start <= MAX_GROUP_LEN {
+        if group.mixed && end - start <= longest {
             gather(alloc, &mut spans[start..end], &group, ends, &mut spare)?;
         }
         end = start;
