@@ -25,6 +25,7 @@ pub fn put_in_order(alloc: Global, spans: &mut [Span], ends: &[usize])
     ensures in_order { AreInOrder spans.new }
     ensures same { (p : Position) → span_answer spans.new p ≡ span_answer spans.old p }
 {
+    // Where memory runs out, more is left to the sort.
     let _ = put_runs_in_order(alloc, spans, ends);
     sort_by_low(spans);
 }
