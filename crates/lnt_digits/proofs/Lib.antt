@@ -1,5 +1,4 @@
 pub mod DigitLemmas
-pub mod FrontLemmas
 pub mod OneTextLemmas
 pub mod PutLemmas
 pub mod ReadLemmas

@@ -89,9 +89,3 @@ pub record Puts (Spells : List ℕ → ℕ → Type 0) (n : ℕ) (old new : List
   pub text : List ℕ
   pub joined : new ≡ old ++ text
   pub spells : Spells text n
-
--- The text begins with one that spells n, up to a byte, and this is what is behind that byte.
-pub record Begins (Spells : List ℕ → ℕ → Type 0) (text : List ℕ) (n end : ℕ) (rest : List ℕ) : Type 0 where
-  pub front : List ℕ
-  pub joined : text ≡ front ++ end ∷ rest
-  pub spells : Spells front n

@@ -5,14 +5,13 @@
 //! text.
 #![tactic(auto)]
 
-mod front;
 pub mod laws;
 mod put;
 mod radix;
 mod read;
 
-pub use front::{address_before, behind, decimal_before};
 pub use put::{put_address, put_decimal};
+pub use radix::{decimal_value, is_hexadecimal, letter_or_digit_value};
 pub use read::{address, decimal};
 
 #[cfg(test)]

@@ -48,9 +48,9 @@ impl Radix {
     }
 }
 
-// What a decimal digit is worth. None for what is no such digit.
+/// What a decimal digit is worth. None for what is no such digit.
 #[inline(always)]
-pub(crate) fn decimal_value(byte: u8) -> Option<u64>
+pub fn decimal_value(byte: u8) -> Option<u64>
     ensures { MatchOption result (IsDecimalDigit byte → ⊥) (λ d. IsDecimalDigit byte × (d ≡ digit_value byte) × (d < 10)) }
 {
     match byte {
@@ -71,18 +71,18 @@ fn hexadecimal_value(byte: u8) -> Option<u64>
     }
 }
 
-// Whether a byte is a hexadecimal digit of either case.
+/// Whether a byte is a hexadecimal digit of either case.
 #[inline(always)]
-pub(crate) fn is_hexadecimal(byte: u8) -> bool
+pub fn is_hexadecimal(byte: u8) -> bool
     ensures { MatchBool result (IsHexadecimalDigit byte) (IsHexadecimalDigit byte → ⊥) }
 {
     is_between(byte, b'0', b'9') | is_between(byte, b'A', b'F') | is_between(byte, b'a', b'f')
 }
 
-// What a hexadecimal digit of either case is worth: its low half, and 9 more where it is a letter. Which of them it is
-// can't be foretold, so nothing branches on that.
+/// What a hexadecimal digit of either case is worth: its low half, and 9 more where it is a letter. Which of them it is
+/// can't be foretold, so nothing branches on that. Of a byte that is no such digit it says nothing but a number below 64.
 #[inline(always)]
-pub(crate) fn letter_or_digit_value(byte: u8) -> u64
+pub fn letter_or_digit_value(byte: u8) -> u64
     ensures value { IsHexadecimalDigit byte → (result ≡ digit_value byte) × (result < 16) }
     ensures range { result < 64 }
 {

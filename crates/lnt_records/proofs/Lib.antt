@@ -1,5 +1,6 @@
 pub mod ColumnLemmas
 pub mod ComparisonLemmas
+pub mod FrontLemmas
 pub mod HeaderLemmas
 pub mod LawLemmas
 pub mod LineLemmas

@@ -15,6 +15,12 @@ use Rattle.lnt_records.specs.Written.{following, line_text}
 
 -- ---- what the bytes begin with, and what is behind it
 
+-- The text begins with one that spells n, up to a byte, and this is what is behind that byte.
+pub record Begins (Spells : List ℕ → ℕ → Type 0) (text : List ℕ) (n end : ℕ) (rest : List ℕ) : Type 0 where
+  pub front : List ℕ
+  pub joined : text ≡ front ++ end ∷ rest
+  pub spells : Spells front n
+
 -- two fields that say a position, each with a comma behind it
 pub record IsPosition (position : Position) (bytes rest : List ℕ) : Type 0 where
   pub address : List ℕ

@@ -10,6 +10,7 @@
 mod column;
 mod comparison;
 mod fault;
+mod front;
 mod header;
 pub mod laws;
 mod lines;

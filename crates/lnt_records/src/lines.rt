@@ -8,8 +8,8 @@ ghost use Rattle.lnt_records.specs.Table.{column_names};
 ghost use Rattle.lnt_records.specs.Written.{line_text};
 
 use crate::comparison::Compared;
+use crate::front::{address_before, behind, decimal_before};
 use crate::header::header_line;
-use lnt_digits::{address_before, behind, decimal_before};
 use lnt_spans::{Answer, Merge, More, Position, Span, Version};
 
 // Compares the table in some bytes with the spans of a section, if each record is a sound one on a line of its own, in

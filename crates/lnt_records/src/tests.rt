@@ -5,6 +5,7 @@ ghost use Rattle.lnt_spans.specs.Positions.{IsBelow};
 ghost use Rattle.lnt_spans.specs.Spans.{AreInOrder};
 ghost use Rattle.lnt_records.specs.Written.{IsOfVersion};
 
+use crate::front::{address_before, behind, decimal_before};
 use crate::{Compared, TableFault, WriteStop, compare, laws, write_spans};
 use lnt_spans::{Answer, Difference, More, Position, Span, Version};
 use std::alloc::Global;
@@ -325,4 +326,50 @@ fn refused_writes(rt: HostRuntime) {
         write_spans(rt.alloc(), &[], Version::One, &mut Full),
         Err(WriteStop::Write)
     );
+}
+
+#[test]
+fn decimal_numbers_before_a_byte(rt: HostRuntime) {
+    for (text, at, found) in [
+        (b"7,".as_slice(), 0, Some((7, 2))),
+        (b"a,4096,b".as_slice(), 2, Some((4096, 7))),
+        (
+            b"999999999999999999,".as_slice(),
+            0,
+            Some((999_999_999_999_999_999, 19)),
+        ),
+        (b"1000000000000000000,".as_slice(), 0, None),
+        (b",".as_slice(), 0, None),
+        (b"1".as_slice(), 0, None),
+        (b"12".as_slice(), 0, None),
+        (b"1a,".as_slice(), 0, None),
+        (b"1,".as_slice(), 2, None),
+        (b"1,".as_slice(), usize::MAX, None),
+    ] {
+        assert_eq!(rt; decimal_before(text, at, b','), found);
+    }
+}
+
+#[test]
+fn addresses_before_a_byte(rt: HostRuntime) {
+    for (text, at, found) in [
+        (b"0x1000,".as_slice(), 0, Some((0x1000, 7))),
+        (b"7,0xAbCdEf09,".as_slice(), 2, Some((0xabcd_ef09, 13))),
+        (b"0xffffffffffffffff,".as_slice(), 0, Some((u64::MAX, 19))),
+        (b"0x0ffffffffffffffff,".as_slice(), 0, None),
+        (b"0x,".as_slice(), 0, None),
+        (b"0x1".as_slice(), 0, None),
+        (b"0x1g,".as_slice(), 0, None),
+        (b"0x1G,".as_slice(), 0, None),
+        (b"0x1:,".as_slice(), 0, None),
+        (b"0x1@,".as_slice(), 0, None),
+        (b"0x1`,".as_slice(), 0, None),
+        (b"0X1,".as_slice(), 0, None),
+        (b"1,".as_slice(), 0, None),
+    ] {
+        assert_eq!(rt; address_before(text, at, b','), found);
+    }
+    assert_eq!(rt; behind(b"a,", 1, b','), Some(2));
+    assert_eq!(rt; behind(b"a,", 0, b','), None);
+    assert_eq!(rt; behind(b"a,", 2, b','), None);
 }

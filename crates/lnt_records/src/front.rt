@@ -1,19 +1,20 @@
 //! Numbers read from a place of a text on, up to a byte behind them.
 ghost use Rattle.std.specs.Prelude.{◌≡◌, ◌∷◌, drop, IfSome};
-ghost use Rattle.lnt_digits.specs.Digits.{Begins, IsAddress, IsDecimal, IsNumber};
+ghost use Rattle.lnt_digits.specs.Digits.{IsAddress, IsDecimal, IsNumber};
+ghost use Rattle.lnt_records.specs.Lines.{Begins};
 ghost use Rattle.lnt_digits.specs.declared.radix.Radix.TheVariants.{Sixteen};
 
-use crate::radix::{decimal_value, is_hexadecimal, letter_or_digit_value};
+use lnt_digits::{decimal_value, is_hexadecimal, letter_or_digit_value};
 
 // So many decimal digits are of a number below 2^64 in any case.
 const DECIMAL_DIGITS: usize = 18;
 
 const HEXADECIMAL_DIGITS: usize = 16;
 
-/// The number that 1 to 18 decimal digits from a place of the text on say, where a byte is behind them, and the place
-/// behind that byte. Longer numbers are left to `decimal`.
+// The number that 1 to 18 decimal digits from a place of the text on say, where a byte is behind them, and the place
+// behind that byte. Longer numbers are left to `decimal`.
 #[inline(always)]
-pub fn decimal_before(text: &[u8], at: usize, end: u8) -> Option<(u64, usize)>
+pub(crate) fn decimal_before(text: &[u8], at: usize, end: u8) -> Option<(u64, usize)>
     ensures { IfSome result (λ found. Begins IsDecimal (drop at text.now) found.0 end (drop found.1 text.now)) }
 {
     if let Some(found) = digit_before(text, at, end) {
@@ -54,9 +55,9 @@ fn digits_before(text: &[u8], at: usize, end: u8) -> Option<(u64, usize)>
     None
 }
 
-/// The same of `0x` and 1 to 16 hexadecimal digits of either case.
+// The same of `0x` and 1 to 16 hexadecimal digits of either case.
 #[inline(always)]
-pub fn address_before(text: &[u8], at: usize, end: u8) -> Option<(u64, usize)>
+pub(crate) fn address_before(text: &[u8], at: usize, end: u8) -> Option<(u64, usize)>
     ensures { IfSome result (λ found. Begins IsAddress (drop at text.now) found.0 end (drop found.1 text.now)) }
 {
     let at = behind(text, at, b'0')?;
@@ -65,9 +66,9 @@ pub fn address_before(text: &[u8], at: usize, end: u8) -> Option<(u64, usize)>
     Some((number, next))
 }
 
-/// The place behind a byte, where that stands at a place of the text.
+// The place behind a byte, where that stands at a place of the text.
 #[inline(always)]
-pub fn behind(text: &[u8], at: usize, byte: u8) -> Option<usize>
+pub(crate) fn behind(text: &[u8], at: usize, byte: u8) -> Option<usize>
     ensures { IfSome result (λ next. drop at text.now ≡ byte ∷ drop next text.now) }
 {
     if at < text.len() && text[at] == byte {

@@ -8,9 +8,16 @@ use Rattle.std.specs.List.{AllByRecursion}
 use Rattle.std.specs.Prelude.{◌&&◌}
 use Rattle.lnt_digits.specs.declared.radix.Radix.{Radix}
 use Rattle.lnt_digits.specs.declared.radix.Radix.TheVariants.{Ten, Sixteen}
-use Rattle.lnt_digits.specs.Digits.{Begins, IsAddress, IsDigit, IsHexadecimalDigit, IsNumber, base, digit_value, digits_value, most_digits}
-use Rattle.lnt_digits.proofs.DigitLemmas.{base_some}
-use Rattle.lnt_digits.proofs.ReadLemmas.{all_push}
+use Rattle.lnt_digits.specs.Digits.{IsAddress, IsDigit, IsHexadecimalDigit, IsNumber, base, digit_value, digits_value, most_digits}
+use Rattle.lnt_records.specs.Lines.{Begins}
+
+base_some : (radix : Radix) → 0 < base radix
+base_some Ten = omega arith
+base_some Sixteen = omega arith
+
+all_push : (P : ℕ → Type 0) (front : List ℕ) (b : ℕ) → AllByRecursion P front → P b → AllByRecursion P (front ++ b ∷ [])
+all_push P [] b h k = (k, tt)
+all_push P (a ∷ front) b h k = (h.0, all_push P front b h.1 k)
 
 value_push : (radix value c : ℕ) (text : List ℕ) → digits_value radix value (text ++ c ∷ []) ≡ digits_value radix value text * radix + digit_value c
 value_push radix value c [] = refl
