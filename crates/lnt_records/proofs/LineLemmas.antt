@@ -1,5 +1,5 @@
 -- Lines that are read, and that they are the records that `csv` reads.
-use Rattle.std.proofs.Common.{◌≡◌, ◌∙◌, ℕ, ◌+◌, ◌<◌, ◌≤◌, Bool, List, [], ◌∷◌, ◌++◌, Option, Some, None, length, length-append, length-drop, drop, ◌-◌, refl, sym, ap, subst, append_assoc, arith}
+use Rattle.std.proofs.Common.{◌≡◌, ◌∙◌, ℕ, ◌+◌, ◌<◌, ◌≤◌, List, [], ◌∷◌, ◌++◌, Option, Some, None, length, length-append, length-drop, drop, ◌-◌, refl, sym, ap, subst, append_assoc, arith}
 use Rattle.std.proofs.Math.Seq.{drop-append_seam}
 use Rattle.std.proofs.lemmas.List.{append-nil, drop_all}
 use Rattle.std.specs.List.{AllByRecursion}
@@ -22,7 +22,7 @@ use Rattle.lnt_spans.specs.Differences.{Agree, IsLeastDifference}
 use Rattle.lnt_spans.specs.Spans.{AreInOrder, span_answer, version_answer}
 use Rattle.lnt_records.specs.Faults.{AnswersAs, DiffersSo}
 use Rattle.lnt_records.specs.Lines.{AreMoreFields, IsAnswer, IsFlagBefore, IsLine, IsMore, IsPosition, JudgesLines}
-use Rattle.lnt_records.specs.Table.{AreMore, Fields, IsFlag, IsSpanRecord, Kind, RecordsOf, column_count, column_names}
+use Rattle.lnt_records.specs.Table.{AreMore, Fields, IsSpanRecord, Kind, RecordsOf, column_count, column_names}
 use Rattle.lnt_records.specs.Written.{following, line_text}
 use Rattle.lnt_records.proofs.ComparisonLemmas.{table_push}
 use Rattle.lnt_records.proofs.SaidLemmas.{each_holds}
@@ -175,9 +175,6 @@ header_behind bytes line names rest e f =
     let place : length bytes - length rest ≡ length line = omega (arith, long) in
     let behind : drop (length bytes - length rest) bytes ≡ rest = ap (λ (k : ℕ). drop k bytes) place ∙ ap (λ (t : List ℕ). drop (length line) t) f ∙ drop-append_seam line rest in
     f ∙ ap (λ (t : List ℕ). t ++ rest) e ∙ ap (λ (t : List ℕ). names ++ t) (sym behind)
-
-pub flag_behind : (on : Bool) (c : ℕ) (bytes rest : List ℕ) → IsFlag (c ∷ []) on → bytes ≡ c ∷ rest → IsFlagBefore on bytes rest
-flag_behind on c bytes rest is e = record { text = c ∷ []; joined = e; text_is = is }
 
 pub header_judged : (merge : State) (version : Version) (section : List Span) (bytes rest : List ℕ) → bytes ≡ line_text (column_names version) ++ rest → merge.version ≡ version
     → Compares merge section [] → JudgesLines merge version section bytes rest
