@@ -11,7 +11,7 @@ mod radix;
 mod read;
 
 pub use put::{put_address, put_decimal};
-pub use radix::{decimal_value, is_hexadecimal, letter_or_digit_value};
+pub use radix::{Radix, decimal_value, is_hexadecimal, letter_or_digit_value};
 pub use read::{address, decimal};
 
 #[cfg(test)]

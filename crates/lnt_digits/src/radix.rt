@@ -5,7 +5,7 @@ ghost use Rattle.lnt_digits.specs.Digits.{IsDecimalDigit, IsDigit, IsHexadecimal
 
 /// Which digits a number has.
 #[derive(Clone, Copy)]
-pub(crate) enum Radix {
+pub enum Radix {
     /// Decimal ones.
     Ten,
     /// Hexadecimal ones.

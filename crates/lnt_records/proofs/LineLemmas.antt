@@ -8,7 +8,7 @@ use Rattle.csv.specs.Reading.{Reached, default_config, strip_bom}
 use Rattle.csv.specs.declared.parser.State.TheVariants as st
 use Rattle.csv.proofs.ReadFacts.{reached-more}
 use Rattle.csv.proofs.RoundTrip.{read-write}
-use Rattle.lnt_digits.specs.Digits.{Begins, IsAddress, IsDecimal}
+use Rattle.lnt_digits.specs.Digits.{IsAddress, IsDecimal}
 use Rattle.lnt_digits.specs.Laws.Texts.{address_from_zero, decimal_from_zero}
 use Rattle.lnt_spans.specs.declared.answer.Answer.{Answer}
 use Rattle.lnt_spans.specs.declared.answer.More.{More}
@@ -21,7 +21,7 @@ use Rattle.lnt_spans.specs.Comparing.{Compares, State}
 use Rattle.lnt_spans.specs.Differences.{Agree, IsLeastDifference}
 use Rattle.lnt_spans.specs.Spans.{AreInOrder, span_answer, version_answer}
 use Rattle.lnt_records.specs.Faults.{AnswersAs, DiffersSo}
-use Rattle.lnt_records.specs.Lines.{AreMoreFields, IsAnswer, IsFlagBefore, IsLine, IsMore, IsPosition, JudgesLines}
+use Rattle.lnt_records.specs.Lines.{Begins, AreMoreFields, IsAnswer, IsFlagBefore, IsLine, IsMore, IsPosition, JudgesLines}
 use Rattle.lnt_records.specs.Table.{AreMore, Fields, IsSpanRecord, Kind, RecordsOf, column_count, column_names}
 use Rattle.lnt_records.specs.Written.{following, line_text}
 use Rattle.lnt_records.proofs.ComparisonLemmas.{table_push}
