@@ -8,11 +8,12 @@ use Rattle.lnt_spans.specs.declared.difference.Difference.{Difference}
 use Rattle.lnt_spans.specs.declared.position.Position.{Position}
 use Rattle.lnt_spans.specs.declared.span.Span.{Span}
 use Rattle.lnt_spans.specs.Answers.{in_version}
-use Rattle.lnt_spans.specs.Comparing.{AgreeBefore, Compares, IsCompared, IsComparedBy, IsSound, State, end_of}
+use Rattle.lnt_spans.specs.Comparing.{AgreeBefore, Compares, IsCompared, IsComparedBy, IsNext, IsSound, State, end_of}
 use Rattle.lnt_spans.specs.Differences.{IsLeastDifference}
 use Rattle.lnt_spans.specs.Positions.{IsBelow, IsAtMost}
 use Rattle.lnt_spans.specs.Scanning.{DiffersFirst, Says}
-use Rattle.lnt_spans.specs.Spans.{AreInOrder, span_answer, version_answer}
+use Rattle.lnt_spans.specs.Spans.{AreInOrder, span_answer, span_in_version, version_answer}
+use Rattle.lnt_spans.proofs.ScanLemmas.{first_says, gap_says}
 use Rattle.lnt_spans.specs.Laws.Answering.{answer_before, answer_behind, answer_in, answer_same, first_holds, none_before}
 use Rattle.lnt_spans.specs.Laws.Positions.{at_most_itself, at_most_trans, below_at_most, below_is_at_most, not_both, order_cases}
 
@@ -154,6 +155,26 @@ advance_found old rest to answer (Some difference) e le h spans by_table c says 
     ];
   };
 }
+
+-- ---- a record that is the next span
+
+next_compares : (old : State) (span : Span) (more : List Span) → old.rest ≡ span ∷ more → old.first ≡ None → AreInOrder (span ∷ more) → Comes old (span_in_version old.version span)
+    → (spans records : List Span) → Compares old spans records → Compares (record { version = old.version; rest = more; at = span.high; first = None }) spans (records ++ span_in_version old.version span ∷ [])
+next_compares old span more rest none order h =
+    let said = span_in_version old.version span in
+    let middle : State = record { version = old.version; rest = span ∷ more; at = span.low; first = None } in
+    let before : Found old span.low None (span ∷ more) None = subst (λ (xs : List Span). Says old.version xs old.at span.low None (span ∷ more)) (sym rest) (gap_says old.version span more old.at span.low order (at_most_itself span.low)) in
+    push_compares old middle (record { version = old.version; rest = more; at = span.high; first = None }) said h refl refl
+    (advance_found old (span ∷ more) span.low None None none h.behind before)
+    (advance_found middle more span.high (Some said.answer) None refl (below_is_at_most h.holds) (first_says old.version span more order))
+
+pub next_pushed : (old : State) (said : Span) (more : List Span) → IsNext old said more → AreInOrder old.rest → Comes old said
+    → (spans records : List Span) → Compares old spans records → Compares (record { version = old.version; rest = more; at = said.high; first = old.first }) spans (records ++ said ∷ [])
+next_pushed old said more n order h =
+    let pushed = next_compares old n.span more n.rest n.none (subst AreInOrder n.rest order) (subst (Comes old) n.told h) in
+    let said_pushed : (spans records : List Span) → Compares old spans records → Compares (record { version = old.version; rest = more; at = said.high; first = None }) spans (records ++ said ∷ []) =
+    subst (λ (s : Span). (spans records : List Span) → Compares old spans records → Compares (record { version = old.version; rest = more; at = s.high; first = None }) spans (records ++ s ∷ [])) (sym n.told) pushed in
+    subst (λ (first : Option Difference). (spans records : List Span) → Compares old spans records → Compares (record { version = old.version; rest = more; at = said.high; first = first }) spans (records ++ said ∷ [])) (sym n.none) said_pushed
 
 -- ---- the end of the table
 

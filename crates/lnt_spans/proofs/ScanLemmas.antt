@@ -36,7 +36,7 @@ stretch_empty version spans at to e lt = rw e (record {
 })
 
 -- before the first span, up to `end`
-gap_says : (version : Version) (span : Span) (more : List Span) (at end : Position) → AreInOrder (span ∷ more) → IsAtMost end span.low
+pub gap_says : (version : Version) (span : Span) (more : List Span) (at end : Position) → AreInOrder (span ∷ more) → IsAtMost end span.low
     → Says version (span ∷ more) at end None (span ∷ more)
 gap_says version span more at end o le = record {
   order = o;
@@ -89,6 +89,15 @@ stretch_inside version spans span more at to e o lt le k = rw e (record {
 next_behind : (span : Span) (more : List Span) → AreInOrder (span ∷ more) → EndsBehind span.high more
 next_behind span [] o = tt
 next_behind span (next ∷ more) o = at_most_below o.1 (first_holds next more o.2)
+
+-- all of the first span
+pub first_says : (version : Version) (span : Span) (more : List Span) → AreInOrder (span ∷ more) → Says version (span ∷ more) span.low span.high (Some (in_version version span.answer)) more
+first_says version span more o = record {
+  order = rest_in_order span more o;
+  behind = next_behind span more o;
+  same = λ p h. sym (answer_behind span more p h);
+  says = λ p h l. told version (answer_in span more p h l);
+}
 
 -- in the first span, up to its end
 pub stretch_whole : (version : Version) (spans : List Span) (span : Span) (more : List Span) (at to : Position) → spans ≡ span ∷ more → AreInOrder spans → EndsBehind at spans

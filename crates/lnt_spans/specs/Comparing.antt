@@ -8,7 +8,7 @@ use Rattle.lnt_spans.specs.declared.span.Span.{Span}
 use Rattle.lnt_spans.specs.Differences.{IsLeastDifference}
 use Rattle.lnt_spans.specs.Positions.{IsBelow, IsAtMost}
 use Rattle.lnt_spans.specs.Scanning.{EndsBehind}
-use Rattle.lnt_spans.specs.Spans.{AreInOrder, span_answer, version_answer}
+use Rattle.lnt_spans.specs.Spans.{AreInOrder, span_answer, span_in_version, version_answer}
 
 -- what contracts see of a merge: the version of the table, the spans that may matter from `at` on, the end of the
 -- records so far, and the first difference below it
@@ -53,3 +53,10 @@ pub record Compares (state : State) (spans records : List Span) : Type 0 where
   pub at : state.at ≡ end_of records
   pub ended : (p : Position) → IsAtMost state.at p → span_answer records p ≡ None
   pub compared : IsCompared state spans (span_answer records)
+
+-- Nothing was different so far, and the record is the first span that is left, as the table's version tells it.
+pub record IsNext (state : State) (record_is : Span) (more : List Span) : Type 0 where
+  pub span : Span
+  pub rest : state.rest ≡ span ∷ more
+  pub told : record_is ≡ span_in_version state.version span
+  pub none : state.first ≡ None

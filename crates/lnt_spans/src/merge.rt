@@ -1,10 +1,10 @@
 //! Where a section and a table answer differently first, found in one pass over both.
-ghost use Rattle.std.specs.Prelude.{◌≡◌, List, [], ◌∷◌, ◌++◌, Option, MatchOption};
+ghost use Rattle.std.specs.Prelude.{◌≡◌, ◌≢◌, List, [], ◌∷◌, ◌++◌, Option, MatchOption, IfSome};
 ghost use Rattle.std.specs.Bool.{MatchBool};
 ghost use Rattle.lnt_spans.specs.declared.answer.Answer.{Answer};
 ghost use Rattle.lnt_spans.specs.declared.position.Position.{Position};
 ghost use Rattle.lnt_spans.specs.declared.span.Span.{Span};
-ghost use Rattle.lnt_spans.specs.Comparing.{Compares, IsCompared};
+ghost use Rattle.lnt_spans.specs.Comparing.{Compares, IsCompared, IsNext};
 ghost use Rattle.lnt_spans.specs.Differences.{Agree, IsLeastDifference};
 ghost use Rattle.lnt_spans.specs.Positions.{IsBelow, IsAtMost};
 ghost use Rattle.lnt_spans.specs.Spans.{AreInOrder, span_answer, version_answer};
@@ -77,6 +77,11 @@ impl<'a> Merge<'a> {
         ensures version { self.new.version ≡ self.old.version }
         ensures compares { (spans records : List Span) → Compares self.old spans records → Compares self.new spans (records ++ span.now ∷ []) }
     {
+        if let Some(rest) = self.rest_behind(span) {
+            self.rest = rest;
+            self.at = span.high;
+            return;
+        }
         self.advance(span.low, None);
         self.advance(span.high, Some(span.answer));
     }
@@ -99,7 +104,24 @@ impl<'a> Merge<'a> {
         })
     }
 
+    // The spans behind the first one, where nothing was different so far, and the record is that one as the table tells it.
+    #[inline(always)]
+    fn rest_behind(&self, span: &Span) -> Option<&'a [Span]>
+        ensures { IfSome result (λ more. IsNext self.now span.now more.now) }
+    {
+        if self.first.is_some() {
+            return None;
+        }
+        let (next, more) = self.rest.split_first()?;
+        if is_same(*span, next.in_version(self.version)) {
+            Some(more)
+        } else {
+            None
+        }
+    }
+
     // Goes on to `to`, up to which the table answers `answer`.
+    #[inline(always)]
     fn advance(&mut self, to: Position, answer: Option<Answer>)
         requires { IsAtMost self.old.at to }
         ensures version { self.new.version ≡ self.old.version }
@@ -116,4 +138,12 @@ impl<'a> Merge<'a> {
         self.at = to;
         self.first = first;
     }
+}
+
+// Whether two spans are the same.
+#[inline(always)]
+fn is_same(one: Span, other: Span) -> bool
+    ensures { MatchBool result (one ≡ other) (one ≢ other) }
+{
+    one == other
 }

@@ -59,6 +59,7 @@ fn stretch_at<'a>(version: Version, spans: &'a [Span], at: Position, to: Positio
 
 // Where a section differs first from a table that answers `answer` from `from` up to `to`, if it does; and the spans that
 // are left from `to` on, if it doesn't.
+#[inline(always)]
 pub(crate) fn scan<'a>(
     version: Version,
     spans: &'a [Span],
