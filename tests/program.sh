@@ -26,6 +26,9 @@ expect 'a reserved length' 1 $'no 25 malformed at 0x0: reserved length\n' '' ./l
 stop 'no such file' 3 $'linetab: cannot read no such file\n' ./linetab units 'no such file'
 stop 'a folder' 3 $'linetab: cannot read tests\n' ./linetab units tests
 stop 'closed standard input' 3 $'linetab: cannot read -\n' bash -c './linetab units - <&-'
+stop 'closed standard input and a table' 3 $'linetab: cannot read -\n' bash -c './linetab check - examples/hello.csv --line-str examples/hello.debug_line_str <&-'
+stop 'closed standard input and strings' 3 $'linetab: cannot read -\n' bash -c './linetab lookup - 0x1137 --line-str examples/hello.debug_line_str <&-'
+stop 'closed standard streams' 3 '' bash -c './linetab check - examples/hello.csv --line-str examples/hello.debug_line_str <&- >&- 2>&-'
 stop 'a full device' 3 $'linetab: cannot write\n' bash -c './linetab units examples/hello.debug_line >/dev/full'
 stop 'a closed standard output' 3 $'linetab: cannot write\n' bash -c './linetab units examples/hello.debug_line >&-'
 stop 'a closed pipe' 3 $'linetab: cannot write\n' bash -c '{ sleep 0.2; ./linetab units examples/hello.debug_line; echo $? >"$0/status"; } | true; exit "$(cat "$0/status")"' "$work"
