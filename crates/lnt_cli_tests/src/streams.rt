@@ -44,11 +44,15 @@ impl Read for Bytes<'_> {
             return Err(io::Error::from(io::ErrorKind::Interrupted));
         }
         self.reads_until_fault -= 1;
-        let count = buf.len().min(self.bytes.len()).min(1);
-        let (front, rest) = self.bytes.split_at(count);
-        buf[..count].copy_from_slice(front);
+        let Some((first, rest)) = self.bytes.split_first() else {
+            return Ok(0);
+        };
+        let Some(place) = buf.first_mut() else {
+            return Ok(0);
+        };
+        *place = *first;
         self.bytes = rest;
-        Ok(count)
+        Ok(1)
     }
 }
 

@@ -1,7 +1,7 @@
 //! Readers and writers at fault.
 use std::io::{self, Read, Write};
 
-// Gives the bytes a few at a time. It fails behind them, or it ends.
+// Gives one byte at a time. It fails behind them, or it ends.
 #[derive(Drop)]
 pub(crate) struct Reader<'a> {
     bytes: &'a [u8],
@@ -13,11 +13,15 @@ impl Read for Reader<'_> {
         if self.bytes.is_empty() && self.fails {
             return Err(io::Error::from(io::ErrorKind::Interrupted));
         }
-        let count = buf.len().min(self.bytes.len()).min(40);
-        let (front, rest) = self.bytes.split_at(count);
-        buf[..count].copy_from_slice(front);
+        let Some((first, rest)) = self.bytes.split_first() else {
+            return Ok(0);
+        };
+        let Some(place) = buf.first_mut() else {
+            return Ok(0);
+        };
+        *place = *first;
         self.bytes = rest;
-        Ok(count)
+        Ok(1)
     }
 }
 
