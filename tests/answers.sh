@@ -335,7 +335,8 @@ is_at_fault 'an address in letters of either case' '40 differs at 0xabcdef09,0 t
 
 is_bad 'a cut unit' 'no 25 malformed at 0x0: truncated' "$(cut_at "$plain" 70)"
 differs 'a cut unit, and no table' 'no 25 malformed at 0x0: truncated' "$(cut_at "$plain" 70)" "$first"
-is_bad 'a big-endian unit taken as a little-endian one' 'no 25 malformed at 0x0: reserved length' f0ffffff00
+is_bad 'a reserved length' 'no 25 malformed at 0x0: reserved length' f0ffffff00
+is_bad 'a big-endian unit taken as a little-endian one' 'no 25 malformed at 0x0: truncated' "$wide"
 is_bad 'a line below 0' 'no 26 run unit 0x0: line out of range at operation 1' "$line_below_zero"
 is_bad 'a line below 0, and a byte that begins no unit' 'no 26 run unit 0x0: line out of range at operation 1' "${line_below_zero}00"
 is_bad 'a line below 0, and an extended operation of no byte behind it' 'no 25 malformed at 0x46: extended length' "$(with "$line_below_zero" 70 00)"
