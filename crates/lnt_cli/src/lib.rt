@@ -24,6 +24,3 @@ mod words;
 pub use opener::Opener;
 pub use program::run;
 pub use stop::{CliStop, Status};
-
-#[cfg(test)]
-mod tests;

@@ -10,6 +10,3 @@ mod tables;
 pub use files::Files;
 pub use paths::{file_count, listed, path_of};
 pub use tables::{TableFault, tables_fault};
-
-#[cfg(test)]
-mod tests;

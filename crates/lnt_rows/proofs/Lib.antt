@@ -3,5 +3,4 @@ pub mod ExtentLemmas
 pub mod OverlapLemmas
 pub mod RowLemmas
 pub mod SpanLemmas
-pub mod TestLemmas
 pub mod WatchLemmas

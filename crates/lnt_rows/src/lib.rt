@@ -17,6 +17,3 @@ pub use collected::Collected;
 pub use extent::Overlap;
 pub use sequence::SeqId;
 pub use watch::{MissingFile, Watch};
-
-#[cfg(test)]
-mod tests;

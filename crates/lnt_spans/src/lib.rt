@@ -26,6 +26,3 @@ pub use order::put_in_order;
 pub use position::Position;
 pub use search::{Probes, lookup};
 pub use span::Span;
-
-#[cfg(test)]
-mod tests;
