@@ -86,11 +86,16 @@ faulty() {
   prints "$1" 1 "$2" "no 25 malformed at $3: $4"$'\n' dump "${@:5}"
 }
 
+# Converts a file, whose result is a mere status where that isn't 0.
+convert() { # FROM TO WORD..
+  "$program" convert "$1" "${@:3}" >"$2" || echo "status $?" >"$2"
+}
+
 # converts NAME UNIT WANTED FORMAT ORDER [--big]
 converts() {
   bytes "$2" >"$work/unit"
   bytes "$3" >"$work/wanted"
-  "$program" convert "${@:6}" "$work/unit" --format "$4" --order "$5" >"$work/converted"
+  convert "$work/unit" "$work/converted" --format "$4" --order "$5" "${@:6}"
   expect "$1" 0 '' '' cmp "$work/converted" "$work/wanted"
 }
 
@@ -98,8 +103,8 @@ converts() {
 # 64-bit format and the other order.
 comes_back() {
   converts "$1, written" "$2" "$2" 32 little
-  "$program" convert "$work/unit" --format 64 --order big >"$work/there"
-  "$program" convert --big "$work/there" --format 32 --order little >"$work/back"
+  convert "$work/unit" "$work/there" --format 64 --order big
+  convert "$work/there" "$work/back" --big --format 32 --order little
   expect "$1, there and back" 0 '' '' cmp "$work/back" "$work/unit"
 }
 
@@ -253,13 +258,13 @@ sections() {
   converts 'a large offset in its format' "$large" "$large" 64 little
   expect 'a large offset in the other format' 1 $'no 20 too large unit 0x0\n' '' "$program" convert "$work/large" --format 32 --order little
   cat "$work/plain" "$work/plain" >"$work/two"
-  "$program" convert "$work/two" --format 64 --order little >"$work/units"
+  convert "$work/two" "$work/units" --format 64 --order little
   cat "$work/large" "$work/large" >>"$work/units"
   expect 'a large offset behind two units' 1 $'no 20 too large unit 0xa6\n' '' "$program" convert "$work/units" --format 32 --order little
   cat "$work/plain" "$work/large" "$work/large" >"$work/units"
   expect 'a large offset behind a unit of 32 bits' 1 $'no 20 too large unit 0x47\n' '' "$program" convert "$work/units" --format 32 --order little
-  expect 'the same in 64 bits' 0 '' '' bash -c "'$program' convert '$work/units' --format 64 --order little >'$work/converted'"
-  expect 'and its lengths' 0 $'0x0 64 71\n0x53 64 44\n0x8b 64 44\n' '' "$program" units "$work/converted"
+  convert "$work/units" "$work/converted" --format 64 --order little
+  expect 'the same in 64 bits' 0 $'0x0 64 71\n0x53 64 44\n0x8b 64 44\n' '' "$program" units "$work/converted"
 }
 
 # frames NAME BYTES TEXT [--big]: with status 1.

@@ -4,8 +4,6 @@
 #![tactic(auto)]
 
 #[cfg(test)]
-mod headers;
-#[cfg(test)]
 mod lists;
 #[cfg(test)]
 mod matrices;

@@ -1,5 +1,6 @@
 use crate::worked::{BELOW_ZERO, OPEN, PLAIN, unit_of};
 use lnt_machine::{Row, RunFault, Sequence, matrix};
+use lnt_unit::Unit;
 use std::alloc::Global;
 
 fn is_row(row: &Row, address: u64, line: u64, end_sequence: bool) -> bool {
@@ -21,10 +22,19 @@ fn are_plain(sequences: &[Sequence]) -> bool {
     }
 }
 
-fn has_plain_matrix(alloc: Global, bytes: &[u8]) -> Option<bool> {
-    let unit = unit_of(alloc, bytes)?;
-    let sequences = matrix(alloc, &unit).ok()?;
-    Some(are_plain(&sequences))
+// Whether the unit's rows are those of `PLAIN`.
+fn has_plain_matrix(alloc: Global, unit: &Unit) -> bool {
+    match matrix(alloc, unit) {
+        Ok(sequences) => are_plain(&sequences),
+        Err(_) => false,
+    }
+}
+
+fn is_run(alloc: Global, bytes: &[u8]) -> bool {
+    match unit_of(alloc, bytes) {
+        Some(unit) => has_plain_matrix(alloc, &unit),
+        None => false,
+    }
 }
 
 // Why the unit's program doesn't run.
@@ -36,7 +46,7 @@ fn fault_of(alloc: Global, bytes: &[u8]) -> Option<RunFault> {
 #[test]
 fn matrices_and_faults(rt: HostRuntime) {
     let alloc = rt.alloc();
-    assert!(rt; has_plain_matrix(alloc, &PLAIN) == Some(true));
+    assert!(rt; is_run(alloc, &PLAIN));
     assert!(rt; fault_of(alloc, &OPEN) == Some(RunFault::OpenSequence));
     assert!(rt; fault_of(alloc, &BELOW_ZERO) == Some(RunFault::LineOutOfRange(1)));
 }

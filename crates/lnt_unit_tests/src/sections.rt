@@ -45,7 +45,7 @@ fn is_unit(got: &Option<UnitBuffer>, offset: u64, bytes: &[u8]) -> bool {
 
 // Whether the section is these two units, read in pieces of this size.
 fn are_units(alloc: Global, first: &[u8], second: &[u8], piece: usize) -> Option<bool> {
-    let bytes = joined(alloc, first, second).ok()?;
+    let bytes = joined(alloc, first, second)?;
     let mut source = Counted::new(Reader::new(alloc, bytes.as_slice(), piece, u64::MAX), AMPLE);
     let mut reader = SectionReader::new(&mut source, Order::Little);
     let unit = reader.next_unit(alloc).ok()?;
@@ -95,7 +95,7 @@ fn stops_of_the_first_unit(rt: HostRuntime) {
 
 // Why no unit comes behind `PLAIN`, of a section that goes on with a reserved length.
 fn stop_behind(alloc: Global, sound: u64, limit: u64) -> Option<SectionStop> {
-    let bytes = joined(alloc, &PLAIN, &[0xf0, 0xff, 0xff, 0xff]).ok()?;
+    let bytes = joined(alloc, &PLAIN, &[0xf0, 0xff, 0xff, 0xff])?;
     let mut source = Counted::new(Reader::new(alloc, bytes.as_slice(), 100, sound), limit);
     let mut reader = SectionReader::new(&mut source, Order::Little);
     let unit = reader.next_unit(alloc).ok()?;
@@ -169,7 +169,7 @@ fn read_into(
 
 // Whether two units are read into one and the same memory.
 fn share_room(alloc: Global, first: &[u8], second: &[u8]) -> Option<bool> {
-    let bytes = joined(alloc, first, second).ok()?;
+    let bytes = joined(alloc, first, second)?;
     let mut source = Counted::new(Reader::new(alloc, bytes.as_slice(), 100, u64::MAX), AMPLE);
     let mut reader = SectionReader::new(&mut source, Order::Little);
     let room = Vec::with_capacity(alloc, 100).ok()?;

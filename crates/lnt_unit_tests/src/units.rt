@@ -1,32 +1,45 @@
 use crate::readers::Reader;
-use crate::worked::{PLAIN, WIDE, are_plain, joined, unit_of};
+use crate::worked::{PLAIN, WIDE, joined, unit_of};
 use lnt_stream::{SectionReader, UnitBuffer};
 use lnt_unit::{Unit, UnitView, convert_section, decode_section, encode_unit};
 use lnt_wire::{Counted, Format, Order};
 use std::alloc::Global;
 
-// Whether the units are two, at these offsets, with the operations of `PLAIN`.
+// Whether the units are two of five operations, the second at offset 71.
 fn are_two(units: &[(u64, Unit)]) -> bool {
     match units {
         [(first, unit), (second, other)] => {
-            (*first, *second) == (0, 71) && are_plain(unit.ops()) && are_plain(other.ops())
+            (*first, *second) == (0, 71) && unit.ops().len() == 5 && other.ops().len() == 5
         }
         _ => false,
     }
 }
 
 // Whether the bytes twice are two units.
-fn are_units(alloc: Global, bytes: &[u8]) -> Option<bool> {
-    let twice = joined(alloc, bytes, bytes).ok()?;
-    let units = decode_section(alloc, &twice, Order::Little).ok()?;
-    Some(are_two(&units))
+fn are_units(alloc: Global, bytes: &[u8]) -> bool {
+    let Some(twice) = joined(alloc, bytes, bytes) else {
+        return false;
+    };
+    match decode_section(alloc, &twice, Order::Little) {
+        Ok(units) => are_two(&units),
+        Err(_) => false,
+    }
+}
+
+// Whether the unit is written as these bytes.
+fn is_encoded(alloc: Global, unit: &Unit, bytes: &[u8]) -> bool {
+    match encode_unit(alloc, unit) {
+        Ok(written) => written.as_slice() == bytes,
+        Err(_) => false,
+    }
 }
 
 // Whether the unit that the bytes are is written as they are.
-fn is_encoded(alloc: Global, bytes: &[u8]) -> Option<bool> {
-    let unit = unit_of(alloc, bytes)?;
-    let written = encode_unit(alloc, &unit).ok()?;
-    Some(written.as_slice() == bytes)
+fn is_kept(alloc: Global, bytes: &[u8]) -> bool {
+    match unit_of(alloc, bytes) {
+        Some(unit) => is_encoded(alloc, &unit, bytes),
+        None => false,
+    }
 }
 
 // Whether the big-endian section is converted to these bytes.
@@ -55,8 +68,8 @@ fn is_viewed(alloc: Global, bytes: &[u8]) -> bool {
 #[test]
 fn units_and_sections(rt: HostRuntime) {
     let alloc = rt.alloc();
-    assert!(rt; are_units(alloc, &PLAIN) == Some(true));
-    assert!(rt; is_encoded(alloc, &PLAIN) == Some(true));
+    assert!(rt; are_units(alloc, &PLAIN));
+    assert!(rt; is_kept(alloc, &PLAIN));
     assert!(rt; is_converted(alloc, &WIDE, &PLAIN));
     assert!(rt; is_viewed(alloc, &PLAIN));
 }

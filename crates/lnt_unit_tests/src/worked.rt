@@ -1,8 +1,7 @@
 //! Units as bytes.
-use lnt_header::Op;
 use lnt_unit::{Unit, decode_unit};
 use lnt_wire::{Cursor, Order};
-use std::alloc::{AllocError, Global};
+use std::alloc::Global;
 
 // Two rows and an end, one directory, two files; little-endian, in the 32-bit format. The program begins at byte 53.
 #[rattlefmt::skip]
@@ -43,29 +42,15 @@ pub(crate) const BELOW_ZERO: [u8; 24] = [
     0x14, 0, 0, 0, 5, 0, 8, 0, 0x0a, 0, 0, 0, 1, 1, 1, 0xfb, 0x0e, 1, 0, 0, 0, 0, 7, 1,
 ];
 
-// Whether the operations are those of `PLAIN`.
-pub(crate) fn are_plain(ops: &[Op]) -> bool {
-    matches!(
-        ops,
-        [
-            Op::SetAddress(0x1000),
-            Op::Special(20),
-            Op::Special(75),
-            Op::AdvancePc(2),
-            Op::EndSequence
-        ]
-    )
-}
-
 // The little-endian unit that begins the bytes.
 pub(crate) fn unit_of(alloc: Global, bytes: &[u8]) -> Option<Unit> {
     let mut cursor = Cursor::new(bytes, 0, Order::Little);
     decode_unit(alloc, &mut cursor, Order::Little).ok()
 }
 
-// The bytes of the one, and behind them those of the other.
-pub(crate) fn joined(alloc: Global, front: &[u8], back: &[u8]) -> Result<Vec<u8>, AllocError> {
-    let mut bytes = Vec::from_slice(alloc, front)?;
-    bytes.extend_from_slice(back)?;
-    Ok(bytes)
+// The bytes of the one, and behind them those of the other, where memory suffices.
+pub(crate) fn joined(alloc: Global, front: &[u8], back: &[u8]) -> Option<Vec<u8>> {
+    let mut bytes = Vec::from_slice(alloc, front).ok()?;
+    bytes.extend_from_slice(back).ok()?;
+    Some(bytes)
 }
