@@ -229,17 +229,18 @@ worked_units() {
 }
 
 sections() {
-  local base second
+  local base asked
   base=$(unit "$unknown" "$at 0d800105 0e 16 0202 $end")
   text=$'unit 0x0 32 67\n'$fields$tables$'unit 0x47 32 73\nheader 8 1 1 1 -5 14 15\n'$tables$'unit 0x94 32 67\n'$fields$tables
   prints 'three units' 0 "$plain$base$plain" "$text" dump
   comes_back 'three units' "$plain$base$plain"
-  for second in '' --ops --rows; do
-    prints "no units $second" 0 '' '' dump $second
+  for asked in --ops --rows; do
+    prints "no units, $asked" 0 '' '' dump "$asked"
   done
+  prints 'no units' 0 '' '' dump
   prints 'no frames' 0 '' '' units
-  converts 'no units' '' '' 64 big
-  converts 'a unit and a wide one' "$wide$wide" "$plain$plain" 32 little --big
+  converts 'no units, converted' '' '' 64 big
+  converts 'two wide units, narrowed' "$wide$wide" "$plain$plain" 32 little --big
   prints 'a byte behind a unit' 1 "${plain}00" $'0x0 32 67\nno 25 malformed at 0x47: truncated\n' units
   prints 'a byte behind a header' 1 "${plain}00" "unit 0x0 32 67"$'\n'"$fields$tables"$'no 25 malformed at 0x47: truncated\n' dump
   bytes "$plain$(front "$plain" 70)" >"$work/unit"
@@ -365,8 +366,7 @@ forms() {
     "$(unit "${numbers}${lengths}03 0108 0209 030a 01 00 00 ff$(repeated 07 255) 0000" '')"
 }
 
-# leb NAME BYTES UNSIGNED SIGNED: what they are as each kind of number, or the reason for which they are none. Numbers
-# that are spelled as short as can be are written so again.
+# leb NAME BYTES UNSIGNED SIGNED: what they are as each kind of number, or the reason for which they are none.
 leb() {
   local kind name code
   for kind in advance_pc advance_line; do
@@ -409,6 +409,7 @@ numbers_of_any_length() {
   leb 'ten bytes and no last one' "${ones}ff" truncated truncated
   leb 'beyond both' "${ones}02" 'number too large' 'number too large'
   leb 'below both' "${ones}7e" 'number too large' 'number too large'
+  # Each is spelled as short as can be, and is written so.
   comes_back 'the shortest unsigned numbers' "$(unit "$header" "0202 027f 028001 02b964 02${zeros}01 02${ones}01")"
   comes_back 'the shortest signed numbers' \
     "$(unit "$header" "0302 037e 03ff00 03817f 038001 03807f 038101 03ff7e 03${ones}00 03${zeros}7f")"
@@ -442,14 +443,14 @@ operations() {
   written 'no operation' '' ''
 
   # Addresses of 2 and 4 bytes, in both orders.
-  local narrow two four
+  local sized two four
   two=$(unit "$header" '0003020010 093412' 02)
   four=$(unit "$header" '00050200100000 093412' 04)
-  for narrow in "2 $two" "4 $four"; do
-    text="unit 0x0 32 $((${#narrow} / 2 - 5))"$'\n'"header ${narrow% *} 1 1 1 -5 14 13"$'\n'"$tables"
+  for sized in "2 $two" "4 $four"; do
+    text="unit 0x0 32 $((${#sized} / 2 - 5))"$'\n'"header ${sized% *} 1 1 1 -5 14 13"$'\n'"$tables"
     listed op 'set_address 0x1000;fixed_advance_pc 4660'
-    prints "an address of ${narrow% *} bytes" 0 "${narrow#* }" "$text" dump --ops
-    comes_back "an address of ${narrow% *} bytes" "${narrow#* }"
+    prints "an address of ${sized% *} bytes" 0 "${sized#* }" "$text" dump --ops
+    comes_back "an address of ${sized% *} bytes" "${sized#* }"
   done
   converts 'an address of 2 bytes, big-endian' "$two" "000000390005020000000029${header}0003021000091234" 32 big
   converts 'an address of 4 bytes, big-endian' "$four" "0000003b0005040000000029${header}00050200001000091234" 32 big
@@ -554,12 +555,14 @@ texts() {
   text_of 'a block' "$(in_directory 09 036f776e)" 1 "$other"
 }
 
-# Nothing is reserved by a length or a count alone: 64 MiB of memory are enough for what claims to be far longer.
+# claim NAME BYTES TEXT COMMAND..: what is printed of the bytes in 64 MiB of memory, with status 1.
+claim() {
+  bytes "$2" >"$work/unit"
+  expect "$1" 1 "$3"$'\n' '' bash -c 'ulimit -v 65536; exec "$@"' - "$program" "${@:4}" "$work/unit"
+}
+
+# Nothing is reserved by a length or a count alone.
 claims() {
-  claim() { # NAME BYTES TEXT COMMAND..
-    bytes "$2" >"$work/unit"
-    expect "$1" 1 "$3"$'\n' '' bash -c 'ulimit -v 65536; exec "$@"' - "$program" "${@:4}" "$work/unit"
-  }
   claim 'a unit of 2^31 bytes' 0000008005000800 'no 25 malformed at 0x0: truncated' units
   claim 'a unit of 2^62 bytes' ffffffff00000000000000400500 'no 25 malformed at 0x0: truncated' units
   claim '2^30 directories' "$(unit "${numbers}${lengths}010108 8080808004 00" '')" 'no 25 malformed at 0x27: truncated' dump
