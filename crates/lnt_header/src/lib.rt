@@ -22,8 +22,3 @@ pub use header::{Entry, Header, HeaderParts, Pair, Which};
 pub use lnt_lists::ShortList;
 pub use op::Op;
 pub use view::{OpView, Operands};
-
-#[cfg(test)]
-mod admits_tests;
-#[cfg(test)]
-mod tests;

@@ -15,6 +15,3 @@ pub use fault::RunFault;
 pub use machine::Machine;
 pub use row::{Row, Sequence};
 pub use sequences::matrix;
-
-#[cfg(test)]
-mod tests;

@@ -30,6 +30,3 @@ pub use items::Items;
 pub use put::{EncodeFault, put_form, put_offset, put_sleb, put_u16, put_u32, put_u64, put_uleb};
 pub use source::{ReadFault, Source, SourceStop, read_all};
 pub use strings::Strings;
-
-#[cfg(test)]
-mod tests;
