@@ -1,0 +1,17 @@
+-- Why the work on a file was stopped.
+use Rattle.lnt_wire.specs.declared.source.SourceStop.{SourceStop}
+use Rattle.lnt_wire.specs.declared.source.SourceStop.TheVariants.{Memory as SourceMemory, Read as SourceRead, TooLong as SourceTooLong}
+use Rattle.lnt_files.specs.declared.halt.Halt.{Halt}
+use Rattle.lnt_files.specs.declared.halt.Halt.TheVariants.{Memory, Read, TooLong}
+
+-- the same of a source's stop
+abbrev pub halt_of_source : SourceStop → Halt
+halt_of_source SourceMemory = Memory
+halt_of_source SourceRead = Read
+halt_of_source SourceTooLong = TooLong
+
+-- opening can end so
+abbrev pub IsOpening : Halt → Type 0
+IsOpening Read = Unit {0}
+IsOpening Memory = Unit {0}
+IsOpening _ = ⊥
