@@ -1,8 +1,8 @@
 -- What is printed of a section's lines.
-use Rattle.std.specs.Prelude.{◌≡◌, ℕ, List, ◌++◌, Option, codes}
+use Rattle.std.specs.Prelude.{ℕ, List, ◌++◌, Option, codes}
 use Rattle.std.specs.Io.KnownBytes.{Appends}
 use Rattle.lnt_files.specs.declared.halt.Halt.{Halt}
-use Rattle.lnt_files.specs.declared.halt.Halt.TheVariants.{Memory, Read, TooLong, Write}
+use Rattle.lnt_files.specs.declared.halt.Halt.TheVariants.{Memory, Read, TooLong}
 use Rattle.lnt_spans.specs.declared.position.Position.{Position}
 use Rattle.lnt_lines.specs.declared.stop.Stop.{Stop}
 use Rattle.lnt_lines.specs.declared.stop.Stop.TheVariants as stop
@@ -21,12 +21,6 @@ same_halt stop.TooLong = TooLong
 -- a writer that held these bytes has gained the line of what is wrong with the section
 abbrev pub IsToldNo : List ℕ → List ℕ → Options → List ℕ → Option (List ℕ) → Option (List ℕ) → Type 0
 IsToldNo line general options section old new = (no : No) × IsTrueNo line general options section no × Appends old new (no_text no ++ codes "\n")
-
--- printing can end so
-abbrev pub IsPrinting : Halt → Type 0
-IsPrinting Write = Unit {0}
-IsPrinting Memory = Unit {0}
-IsPrinting _ = ⊥
 
 -- the line of a position without an answer
 abbrev pub none_text : Position → List ℕ

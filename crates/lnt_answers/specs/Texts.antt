@@ -3,7 +3,6 @@ use Rattle.std.specs.Prelude.{ℕ, List, ◌++◌, codes, decimal}
 use Rattle.lnt_header.specs.declared.header.Which.{Which}
 use Rattle.lnt_header.specs.declared.header.Which.TheVariants.{Directories, Files}
 use Rattle.lnt_rows.specs.declared.sequence.SeqId.{SeqId}
-use Rattle.lnt_spans.specs.declared.position.Position.{Position}
 use Rattle.lnt_lines.specs.declared.no.No.{No}
 use Rattle.lnt_lines.specs.declared.no.No.TheVariants.{Malformed, Run, EntryFormat, StringOutside, DirectoryNumber, FileNumber, Falls, Overlap}
 use Rattle.lnt_text.specs.Texts.{hexadecimal, malformed_text, position_text, run_text}

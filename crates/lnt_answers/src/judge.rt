@@ -1,8 +1,7 @@
 //! A section that is judged.
-ghost use Rattle.std.specs.Prelude.{◌≡◌, ◌++◌, ◌-◌, ◌^◌, ◌<◌, IfOk, IfSome, IsNone, codes};
-ghost use Rattle.std.specs.Io.KnownBytes.{Appends};
+ghost use Rattle.std.specs.Prelude.{◌≡◌, ◌+◌, ◌-◌, ◌^◌, ◌<◌, IfOk, IfSome, IsErrOf, IsNone, IsTrue};
 ghost use Rattle.lnt_lines.specs.Drafts.{IsJudged};
-ghost use Rattle.lnt_lines.specs.declared.section.Judged.TheVariants.{Bad, Good};
+ghost use Rattle.lnt_lines.specs.declared.section.Judged.TheVariants.{Good};
 ghost use Rattle.lnt_answers.specs.Lines.{IsToldNo, same_halt};
 
 use crate::no::NoLine;
@@ -26,8 +25,8 @@ pub fn halt_of(stop: Stop) -> Halt
 /// The lines of the section that the source has to give, if it is good. Of another one its line is printed.
 ///
 /// The section is good where lines are given, and they are its lines (`IsJudged`); the writer is then as before. Where
-/// none are given, it isn't good, and the writer has gained the line that says why, and nothing else. It stops by
-/// `Read` where the source failed, by `TooLong` where it has more bytes than it may give, by `Write` where the writer
+/// none are given, it isn't good, and the writer has gained the line that says why, and nothing else. It stops by `Read`
+/// only where the source failed, by `TooLong` only where it has more bytes than it may give, by `Write` where the writer
 /// failed, and by `Memory`. The caller sees to it that the number of the source's failures is below `u64::MAX`.
 pub fn judge_section<R: Source, W: Write>(
     alloc: Global,
@@ -42,6 +41,8 @@ pub fn judge_section<R: Source, W: Write>(
     ensures silent { IfOk result (λ given. IfSome given (λ _. out.new ≡ out.old)) }
     ensures bad { IfOk result (λ given. IsNone given → IfSome (R.remaining section.old) (λ bytes.
         IsToldNo strings.now.line.now strings.now.general.now options.now bytes (W.contents out.old) (W.contents out.new))) }
+    ensures read { IsErrOf result Halt.Read → R.failures section.new ≡ R.failures section.old + 1 }
+    ensures too_long { IsErrOf result Halt.TooLong → IsTrue (R.too_long section.new) }
 {
     match verify(alloc, section, strings, options) {
         Ok(Judged::Good(lines)) => Ok(Some(lines)),

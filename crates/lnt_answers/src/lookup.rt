@@ -4,7 +4,8 @@ ghost use Rattle.std.specs.Io.KnownBytes.{Appends};
 ghost use Rattle.lnt_files.specs.declared.halt.Halt.TheVariants.{Write};
 ghost use Rattle.lnt_files.specs.declared.status.Status.TheVariants.{Done};
 ghost use Rattle.lnt_spans.specs.Spans.{span_answer};
-ghost use Rattle.lnt_answers.specs.Lines.{IsPrinting, none_text};
+ghost use Rattle.lnt_files.specs.Halts.{IsPrinting};
+ghost use Rattle.lnt_answers.specs.Lines.{none_text};
 
 use crate::judge::halt_of;
 use lnt_files::{Halt, Status};

@@ -2,7 +2,7 @@
 ghost use Rattle.std.specs.Prelude.{◌≡◌, IfErr, None, Ok};
 ghost use Rattle.lnt_files.specs.declared.status.Status.TheVariants.{Done};
 ghost use Rattle.lnt_lines.specs.Contents.{sum_in};
-ghost use Rattle.lnt_answers.specs.Lines.{IsPrinting};
+ghost use Rattle.lnt_files.specs.Halts.{IsPrinting};
 
 use lnt_files::{Halt, LIMIT, Opener, Status};
 use lnt_lines::{Lines, Stop};

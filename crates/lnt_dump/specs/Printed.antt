@@ -1,5 +1,5 @@
 -- What is printed.
-use Rattle.std.specs.Prelude.{ℕ, List, [], ◌++◌, Option, codes, decimal}
+use Rattle.std.specs.Prelude.{ℕ, List, [], ◌++◌, Option, codes}
 use Rattle.std.specs.Io.KnownBytes.{Appends}
 use Rattle.lnt_wire.specs.declared.format.Format.{Format}
 use Rattle.lnt_wire.specs.declared.format.Order.{Order}
@@ -11,6 +11,10 @@ use Rattle.lnt_text.specs.Texts.{hexadecimal, malformed_text}
 -- a writer that held these bytes has gained such a text, and nothing else
 abbrev pub IsPrintedIn : (List ℕ → Type 0) → Option (List ℕ) → Option (List ℕ) → Type 0
 IsPrintedIn Is old new = (text : List ℕ) × Is text × Appends old new text
+
+-- a writer that held these bytes still holds them, and behind them what it has gained
+abbrev pub Gains : Option (List ℕ) → Option (List ℕ) → Type 0
+Gains old new = (text : List ℕ) × Appends old new text
 
 -- the line of a unit that is too large
 abbrev pub too_large_text : ℕ → List ℕ

@@ -1,6 +1,7 @@
 //! The subcommand `convert`.
-ghost use Rattle.std.specs.Prelude.{◌≡◌, ◌-◌, ◌^◌, ◌<◌, IfOk, IfSome, OnOk};
+ghost use Rattle.std.specs.Prelude.{◌≡◌, ◌+◌, ◌-◌, ◌^◌, ◌<◌, IfErr, IfOk, IfSome, IsErrOf, IsTrue, OnOk};
 ghost use Rattle.std.specs.Io.KnownBytes.{Appends};
+ghost use Rattle.lnt_files.specs.Halts.{IsPrinting};
 ghost use Rattle.lnt_files.specs.declared.status.Status.TheVariants.{Done, No};
 ghost use Rattle.lnt_unit.specs.Converting.{IsConverted};
 ghost use Rattle.lnt_dump.specs.Printed.{IsPrintedIn, IsRefusalTold, refusal_text};
@@ -16,9 +17,9 @@ use std::io::Write;
 ///
 /// Where it answers `Done`, the writer has gained the converted section, and nothing else. Where it answers `No`, the
 /// section is malformed, or a unit of it is too large for the format, and the writer has gained the line that says so
-/// alone. It stops by `Read` where the source failed, by `TooLong` where it has more bytes than it may give, by `Write`
-/// where the writer failed, and by `Memory`. The caller sees to it that the number of the source's failures is below
-/// `u64::MAX`.
+/// alone. It stops by `Read` only where the source failed, by `TooLong` only where it has more bytes than it may give,
+/// by `Write` where the writer failed, and by `Memory`. The caller sees to it that the number of the source's failures
+/// is below `u64::MAX`.
 pub fn print_converted<R: Source, W: Write>(
     alloc: Global,
     source: &mut R,
@@ -32,6 +33,8 @@ pub fn print_converted<R: Source, W: Write>(
         IsPrintedIn (IsConverted order bytes format to) (W.contents out.old) (W.contents out.new))) }
     ensures no { IfOk result (λ status. status ≡ No → IfSome (R.remaining source.old) (λ bytes.
         IsRefusalTold order bytes format to (W.contents out.old) (W.contents out.new))) }
+    ensures read { IsErrOf result Halt.Read → R.failures source.new ≡ R.failures source.old + 1 }
+    ensures too_long { IsErrOf result Halt.TooLong → IsTrue (R.too_long source.new) }
 {
     let bytes = read_all(alloc, source)?;
     match convert_section(alloc, &bytes, order, format, to) {
@@ -46,6 +49,7 @@ pub fn print_converted<R: Source, W: Write>(
 // Prints the line that says why a section isn't converted.
 fn print_refusal<W: Write>(fault: ConvertFault, out: &mut W) -> Result<Status, Halt>
     ensures no { IfOk result (λ status. status ≡ No) }
+    ensures err { IfErr result IsPrinting }
     ensures line { OnOk result (Appends (W.contents out.old) (W.contents out.new) (refusal_text fault)) }
 {
     match fault {

@@ -1,6 +1,7 @@
 //! How faults end the printing.
-ghost use Rattle.std.specs.Prelude.{◌≡◌, ◌++◌, IfOk, IsErrOf, codes};
+ghost use Rattle.std.specs.Prelude.{◌≡◌, ◌++◌, IfErr, IfOk, OnOk, codes};
 ghost use Rattle.std.specs.Io.KnownBytes.{Appends};
+ghost use Rattle.lnt_files.specs.Halts.{IsPrinting};
 ghost use Rattle.lnt_files.specs.declared.status.Status.TheVariants.{No};
 ghost use Rattle.lnt_text.specs.Texts.{malformed_text, run_text};
 
@@ -13,7 +14,8 @@ use std::io::Write;
 // Prints the line that says which bytes are refused, and why.
 pub(crate) fn print_fault<W: Write>(fault: Fault, out: &mut W) -> Result<Status, Halt>
     ensures no { IfOk result (λ status. status ≡ No) }
-    ensures line { IfOk result (λ _. Appends (W.contents out.old) (W.contents out.new) (malformed_text fault ++ codes "\n")) }
+    ensures err { IfErr result IsPrinting }
+    ensures line { OnOk result (Appends (W.contents out.old) (W.contents out.new) (malformed_text fault ++ codes "\n")) }
 {
     if fault.reason == Reason::Memory {
         return Err(Halt::Memory);
@@ -29,7 +31,8 @@ pub(crate) fn print_run_fault<W: Write>(
     out: &mut W,
 ) -> Result<Status, Halt>
     ensures no { IfOk result (λ status. status ≡ No) }
-    ensures line { IfOk result (λ _. Appends (W.contents out.old) (W.contents out.new) (run_text offset fault ++ codes "\n")) }
+    ensures err { IfErr result IsPrinting }
+    ensures line { OnOk result (Appends (W.contents out.old) (W.contents out.new) (run_text offset fault ++ codes "\n")) }
 {
     if fault == RunFault::Memory {
         return Err(Halt::Memory);

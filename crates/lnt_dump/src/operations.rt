@@ -76,12 +76,20 @@ fn print_operands<W: Write>(operands: &Operands<'_>, out: &mut W) -> Result<(), 
 }
 
 // Prints the numbers that the bytes spell, each behind a space.
-#[tactic(auto, using(crate::proofs::Walks::number_passed))]
 fn print_spelled<W: Write>(bytes: &[u8], out: &mut W) -> Result<(), Halt> {
     // The order of bytes is of no concern to these numbers.
     let mut cursor = Cursor::new(bytes, 0, Order::Little);
-    while let Ok(number) = cursor.uleb() {
+    // Each number has a byte.
+    for _ in 0..bytes.len() {
+        let Some(number) = next_number(&mut cursor) else {
+            break;
+        };
         write!(out, " {number}")?;
     }
     Ok(())
+}
+
+// The next number, where there is one.
+fn next_number(cursor: &mut Cursor<'_>) -> Option<u64> {
+    cursor.uleb().ok()
 }

@@ -1,7 +1,8 @@
 //! The subcommand `units`.
-ghost use Rattle.std.specs.Prelude.{◌≡◌, ◌-◌, ◌^◌, ◌<◌, IfOk};
+ghost use Rattle.std.specs.Prelude.{◌≡◌, ◌-◌, ◌^◌, ◌<◌, IfOk, OnOk};
 ghost use Rattle.lnt_stream.specs.declared.reader.Progress.TheVariants.{Reading};
 ghost use Rattle.lnt_dump.specs.Nexts.{IsUnit};
+ghost use Rattle.lnt_dump.specs.Printed.{Gains};
 
 use crate::faults::print_fault;
 use crate::width::width_of;
@@ -14,9 +15,11 @@ use std::io::Write;
 /// Prints a line for each unit that the source has to give: its offset, the width of its format, and its length.
 ///
 /// It answers `Done` where all of them were printed. Where no unit begins what is left, it prints the line of the
-/// fault, and answers `No`. It stops by `Read` where the source failed, by `TooLong` where it has more bytes than it
-/// may give, by `Write` where the writer failed, and by `Memory`; what was printed before stays. The caller sees to it
-/// that the number of the source's failures is below `u64::MAX`.
+/// fault, and answers `No`. In both cases the writer holds what it held, and behind it what was printed. It stops by
+/// `Read` where the source failed, by `TooLong` where it has more bytes than it may give, by `Write` where the writer
+/// failed, and by `Memory`; what was printed before stays. The caller sees to it that the number of the source's
+/// failures is below `u64::MAX`.
+#[tactic(auto, using(crate::proofs::Gained::gained_nothing))]
 pub fn print_units<R: Source, W: Write>(
     alloc: Global,
     source: &mut R,
@@ -24,6 +27,7 @@ pub fn print_units<R: Source, W: Write>(
     out: &mut W,
 ) -> Result<Status, Halt>
     requires { R.failures source.old < 2 ^ 64 - 1 }
+    ensures { OnOk result (Gains (W.contents out.old) (W.contents out.new)) }
 {
     let mut reader = SectionReader::new(source, order);
     let mut room = Vec::new(alloc);
@@ -67,7 +71,10 @@ pub(crate) fn next_of<R: Source>(
     }
 }
 
-fn print_frame<W: Write>(unit: &UnitBuffer, out: &mut W) -> Result<(), Halt> {
+// Prints the line of a unit.
+fn print_frame<W: Write>(unit: &UnitBuffer, out: &mut W) -> Result<(), Halt>
+    ensures { OnOk result (Gains (W.contents out.old) (W.contents out.new)) }
+{
     let frame = unit.frame();
     let (offset, width, length) = (frame.offset, width_of(frame.format), frame.length);
     writeln!(out, "0x{offset:x} {width} {length}")?;
