@@ -50,11 +50,7 @@ pub fn open_file<O: Opener>(
 ///
 /// It answers `Read` where the file can't be opened or read, `TooLong` where it has more bytes than are read of a file,
 /// and `Memory`; never `Write`.
-pub fn bytes_of_file<O: Opener>(
-    alloc: Global,
-    opener: &mut O,
-    name: &str,
-) -> Result<Vec<u8>, Halt>
+pub fn bytes_of_file<O: Opener>(alloc: Global, opener: &mut O, name: &str) -> Result<Vec<u8>, Halt>
     ensures { IfErr result (λ halt. halt ≢ Write) }
 {
     let mut source = open_file(alloc, opener, name)?;
