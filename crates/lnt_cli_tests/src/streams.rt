@@ -44,10 +44,7 @@ impl Read for Bytes<'_> {
             return Err(io::Error::from(io::ErrorKind::Interrupted));
         }
         self.reads_until_fault -= 1;
-        let Some((first, rest)) = self.bytes.split_first() else {
-            return Ok(0);
-        };
-        let Some(place) = buf.first_mut() else {
+        let (Some((first, rest)), Some(place)) = (self.bytes.split_first(), buf.first_mut()) else {
             return Ok(0);
         };
         *place = *first;
