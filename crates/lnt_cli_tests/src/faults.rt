@@ -5,9 +5,9 @@ use lnt_cli::{CliStop, Status};
 use std::alloc::Global;
 use std::test::Fail;
 
-// Whether the command is stopped by this file of the plain unit, which fails at a certain read, before it writes.
-fn stops_reading(alloc: Global, line: &str, faulty: &str, reads_until_fault: u64) -> bool {
-    let files = Files::failing(&PLAIN, faulty, reads_until_fault);
+// Whether the command on the plain unit is stopped by this file, which fails behind so many bytes, before it writes.
+fn stops_reading(alloc: Global, line: &str, faulty: &str, good: usize) -> bool {
+    let files = Files::failing(&PLAIN, faulty, good);
     let (ended, written) = ran(alloc, files, line, 1000);
     match &ended {
         Err(CliStop::Read(name)) => written.is_empty() && name.as_str() == faulty,

@@ -4,13 +4,13 @@ use lnt_cli::{CliStop, Opener, Status, run};
 use std::alloc::{AllocError, Global};
 use std::io::{self, Read, Write};
 
-// Files by their names: a section F, its table T, and a source file, which holds `abc`. One of them fails at a certain
-// read.
+// Files by their names: a section F, its table T, and a source file, which holds `abc`. One of them fails behind so many
+// bytes.
 #[derive(Clone, Copy)]
 pub(crate) struct Files<'a> {
     section: &'a [u8],
     faulty: &'a str,
-    reads_until_fault: u64,
+    good: usize,
 }
 
 impl<'a> Files<'a> {
@@ -18,36 +18,32 @@ impl<'a> Files<'a> {
         Files {
             section,
             faulty: "",
-            reads_until_fault: 0,
+            good: 0,
         }
     }
 
-    pub(crate) fn failing(section: &'a [u8], faulty: &'a str, reads_until_fault: u64) -> Files<'a> {
+    pub(crate) fn failing(section: &'a [u8], faulty: &'a str, good: usize) -> Files<'a> {
         Files {
             section,
             faulty,
-            reads_until_fault,
+            good,
         }
     }
 }
 
-// The bytes of a file that are left.
+// The bytes of a file that are left, given one at a time. It fails behind them, or it ends.
 #[derive(Clone, Copy)]
 pub(crate) struct Bytes<'a> {
     bytes: &'a [u8],
-    reads_until_fault: u64,
+    fails: bool,
 }
 
 impl Read for Bytes<'_> {
     fn read(&mut self, buf: &mut [u8]) -> io::Result<usize> {
-        if self.reads_until_fault == 0 {
+        if self.bytes.is_empty() && self.fails {
             return Err(io::Error::from(io::ErrorKind::Interrupted));
         }
-        self.reads_until_fault -= 1;
-        let Some((first, rest)) = self.bytes.split_first() else {
-            return Ok(0);
-        };
-        let Some(place) = buf.first_mut() else {
+        let (Some((first, rest)), Some(place)) = (self.bytes.split_first(), buf.first_mut()) else {
             return Ok(0);
         };
         *place = *first;
@@ -66,15 +62,14 @@ impl<'a> Opener for Files<'a> {
             "/s/a.c" => b"abc",
             _ => return None,
         };
-        let reads_until_fault = if name == self.faulty {
-            self.reads_until_fault
-        } else {
-            u64::MAX
-        };
-        Some(Bytes {
-            bytes,
-            reads_until_fault,
-        })
+        if name != self.faulty {
+            return Some(Bytes {
+                bytes,
+                fails: false,
+            });
+        }
+        let (bytes, _) = bytes.split_at(self.good.min(bytes.len()));
+        Some(Bytes { bytes, fails: true })
     }
 }
 

@@ -13,10 +13,7 @@ impl Read for Reader<'_> {
         if self.bytes.is_empty() && self.fails {
             return Err(io::Error::from(io::ErrorKind::Interrupted));
         }
-        let Some((first, rest)) = self.bytes.split_first() else {
-            return Ok(0);
-        };
-        let Some(place) = buf.first_mut() else {
+        let (Some((first, rest)), Some(place)) = (self.bytes.split_first(), buf.first_mut()) else {
             return Ok(0);
         };
         *place = *first;

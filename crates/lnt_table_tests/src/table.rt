@@ -48,7 +48,7 @@ fn sections_checked(rt: HostRuntime) {
 #[test]
 fn sources_at_fault(rt: HostRuntime) {
     let alloc = rt.alloc();
-    assert!(rt; stops(alloc, failing(&PLAIN), whole(TABLE), Stop::Read));
+    assert!(rt; stops(alloc, failing(&PLAIN[..1]), whole(TABLE), Stop::Read));
     assert!(rt; stops(alloc, whole(&PLAIN), failing(TABLE), Stop::Read));
     // What is wrong with a table isn't told before the whole of it is read.
     assert!(rt; stops(alloc, whole(&PLAIN), failing(b"low\n"), Stop::Read));
