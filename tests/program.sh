@@ -24,6 +24,9 @@ expect 'a cut second unit' 1 $'0x0 32 156\nno 25 malformed at 0xa0: truncated\n'
 expect 'a reserved length' 1 $'no 25 malformed at 0x0: reserved length\n' '' ./linetab units "$work/reserved"
 
 stop 'no such file' 3 $'linetab: cannot read no such file\n' ./linetab units 'no such file'
+stop 'a name with an escape' 3 $'linetab: cannot read "no\\x1b[31m"\n' ./linetab units $'no\e[31m'
+stop 'a bad word with an escape' 2 $'linetab: bad word "0x\\x1b[31m"\n' ./linetab lookup examples/hello.debug_line $'0x\e[31m'
+stop 'an unknown option with an escape' 2 $'error: unexpected argument \'--\\x1b[31m\' found\n\n  tip: to pass \'--\\x1b[31m\' as a value, use \'-- --\\x1b[31m\'\n'"$usage" ./linetab units $'--\e[31m' x
 stop 'a folder' 3 $'linetab: cannot read tests\n' ./linetab units tests
 stop 'closed standard input' 3 $'linetab: cannot read -\n' bash -c './linetab units - <&-'
 stop 'closed standard input and a table' 3 $'linetab: cannot read -\n' bash -c './linetab check - examples/hello.csv --line-str examples/hello.debug_line_str <&-'
