@@ -36,7 +36,8 @@ stop 'a full device' 3 $'linetab: cannot write\n' bash -c './linetab units examp
 stop 'a closed standard output' 3 $'linetab: cannot write\n' bash -c './linetab units examples/hello.debug_line >&-'
 stop 'a closed pipe' 3 $'linetab: cannot write\n' bash -c '{ sleep 0.2; ./linetab units examples/hello.debug_line; echo $? >"$0/status"; } | true; exit "$(cat "$0/status")"' "$work"
 expect 'a stack of 100 kB' 0 $'yes\n' '' bash -c 'ulimit -s 100; exec crates/linetab/out/linetab check examples/hello.debug_line examples/hello.csv --line-str examples/hello.debug_line_str'
-stop 'a file size of no bytes' 3 $'linetab: cannot write\n' bash -c 'trap "" XFSZ; ulimit -f 0; crates/linetab/out/linetab units examples/hello.debug_line >"$0/none"' "$work"
+# The limit holds for the file that standard error goes to as well.
+stop 'a file size of no bytes' 3 '' bash -c 'trap "" XFSZ; ulimit -f 0; crates/linetab/out/linetab units examples/hello.debug_line >"$0/none"' "$work"
 stop 'an option twice' 2 $'error: the argument \'--big\' cannot be used multiple times\n'"$usage" ./linetab units - --big --big
 stop 'an unknown option' 2 $'error: unexpected argument \'--bog\' found\n\n  tip: a similar argument exists: \'--big\'\n\nUsage: linetab units --big <SECTION>\n\nFor more information, try \'--help\'.\n' ./linetab units --bog x
 stop 'a second section' 2 $'error: unexpected argument \'y\' found\n'"$usage" ./linetab units x y
