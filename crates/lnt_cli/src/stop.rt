@@ -4,6 +4,7 @@ ghost use Rattle.lnt_cli.specs.Stops.{IsUsage};
 ghost use Rattle.lnt_cli.specs.declared.stop.CliStop.TheVariants.{Memory, Write};
 
 use lnt_files::Halt;
+use lnt_text::Shown;
 use lnt_words::WordsStop;
 use std::alloc::{AllocError, Global};
 use std::io;
@@ -15,11 +16,11 @@ pub enum CliStop {
     /// The words ask for nothing that the command does. The text says how it is used, and ends in a line feed.
     #[error("{0}")]
     Usage(String),
-    /// The file of this name can't be opened or read.
-    #[error("linetab: cannot read {0}")]
+    /// The file of this name can't be opened or read. A name with control characters is shown between quotes.
+    #[error("linetab: cannot read {}", Shown(.0))]
     Read(String),
     /// The file of this name has more bytes than are read of a file, 2^40.
-    #[error("linetab: {0} is too long")]
+    #[error("linetab: {} is too long", Shown(.0))]
     TooLong(String),
     /// The writer failed.
     #[error("linetab: cannot write")]

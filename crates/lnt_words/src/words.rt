@@ -6,8 +6,9 @@ use clap::ArgMatches;
 use clap::error::ErrorKind;
 use lnt_digits::{address, decimal};
 use lnt_spans::{Position, Version};
+use lnt_text::Shown;
 use lnt_wire::{Format, Order};
-use std::alloc::Global;
+use std::alloc::{AllocError, Global};
 
 /// What the words ask for, of which the first is the program's own name.
 ///
@@ -23,9 +24,30 @@ pub fn request_of<'a>(alloc: Global, words: &'a [String]) -> Result<Request<'a>,
     }
     let text = error.to_string(alloc)?;
     if error.use_stderr() {
-        return Err(WordsStop::Usage(text));
+        return Err(WordsStop::Usage(harmless(alloc, text)?));
     }
     Ok(Request::Help(text))
+}
+
+// The text with the digits of each control character in its place, since a terminal would obey it. Lines stay.
+fn harmless(alloc: Global, text: String) -> Result<String, AllocError> {
+    if !text.chars().any(is_obeyed) {
+        return Ok(text);
+    }
+    let mut shown = String::new(alloc);
+    for character in text.chars() {
+        if is_obeyed(character) {
+            let digits = format!(in alloc; "\\x{:02x}", u32::from(character))?;
+            shown.push_str(&digits)?;
+        } else {
+            shown.push(character)?;
+        }
+    }
+    Ok(shown)
+}
+
+fn is_obeyed(character: char) -> bool {
+    character.is_control() && character != '\n'
 }
 
 fn request_in<'a>(alloc: Global, matches: &ArgMatches<'a>) -> Result<Request<'a>, WordsStop> {
@@ -143,7 +165,7 @@ fn number_of(alloc: Global, word: &str) -> Result<u64, WordsStop> {
 
 // A word that isn't what it has to be.
 fn bad_word(alloc: Global, word: &str) -> WordsStop {
-    match format!(in alloc; "linetab: bad word {word}\n") {
+    match format!(in alloc; "linetab: bad word {}\n", Shown(word)) {
         Ok(text) => WordsStop::Usage(text),
         Err(_) => WordsStop::Memory,
     }
