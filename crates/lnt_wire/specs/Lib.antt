@@ -1,4 +1,5 @@
 pub mod At
+pub mod Borrowed
 pub mod Bytes
 pub mod FormBytes
 pub mod FormFaults
@@ -12,4 +13,5 @@ pub mod Numbers
 pub mod Prefixes
 pub mod Pulling
 pub mod Reading
+pub mod TextEnds
 pub mod Texts
