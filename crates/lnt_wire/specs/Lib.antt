@@ -1,6 +1,7 @@
 pub mod At
 pub mod Borrowed
 pub mod Bytes
+pub mod FirstValues
 pub mod FormBytes
 pub mod FormFaults
 pub mod FrameBytes
