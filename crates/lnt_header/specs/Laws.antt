@@ -1,3 +1,4 @@
+pub mod Borrowed
 pub mod Conversions
 pub mod Firsts
 pub mod Headers
