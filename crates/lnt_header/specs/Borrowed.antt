@@ -13,7 +13,7 @@ use Rattle.lnt_header.specs.declared.header.Pair.{Pair}
 use Rattle.lnt_header.specs.HeaderRules.{IsHeader}
 use Rattle.lnt_header.specs.Joins.{Each}
 use Rattle.lnt_header.specs.Layouts.{entry_of}
-use Rattle.lnt_header.specs.TableBytes.{EntryBytes}
+use Rattle.lnt_header.specs.TableBytes.{EntryBytes, TableOf}
 
 -- ---- entries
 
@@ -87,3 +87,9 @@ pub record PassesAll {X : Type 0} (count : ℕ) (Spells : X → List ℕ → Typ
   pub count_is : length values ≡ count
   pub read : Reads (Each Spells) values old new
   pub bytes_are : bytes ≡ read.spelling
+
+-- The read gave a table in this format and the order of the bytes that are read, and moved past the bytes that spell it.
+pub record IsTableRead (format : Format) (table : BorrowedTable) (old new : At) : Type 0 where
+  pub format_is : table.format ≡ format
+  pub order_is : table.order ≡ old.order
+  pub read : Reads (TableOf format old.order) (table.pairs, table.entries) old new

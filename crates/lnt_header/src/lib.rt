@@ -10,8 +10,10 @@ mod header;
 pub mod laws;
 mod numbers;
 mod op;
+mod pass;
 mod start;
 mod table;
+mod table_view;
 mod tested;
 mod view;
 
@@ -21,6 +23,7 @@ pub use fault::UnitFault;
 pub use header::{Entry, Header, HeaderParts, Pair, Which};
 pub use lnt_lists::ShortList;
 pub use op::Op;
+pub use table_view::TableView;
 pub use view::{OpView, Operands};
 
 #[cfg(test)]
