@@ -10,6 +10,9 @@ use Rattle.lnt_wire.specs.Reading.{Reads}
 use Rattle.lnt_header.specs.declared.header.Entry.{Entry}
 use Rattle.lnt_header.specs.declared.header.HeaderParts.{HeaderParts}
 use Rattle.lnt_header.specs.declared.header.Pair.{Pair}
+use Rattle.lnt_header.specs.declared.numbers.Singles.{Singles}
+use Rattle.lnt_header.specs.FieldsBytes.{FieldsBytes}
+use Rattle.lnt_header.specs.HeaderReading.{AreFields}
 use Rattle.lnt_header.specs.HeaderRules.{IsHeader}
 use Rattle.lnt_header.specs.Joins.{Each}
 use Rattle.lnt_header.specs.Layouts.{entry_of}
@@ -62,10 +65,14 @@ abbrev pub borrowed_header : HeaderParts → BorrowedTable → BorrowedTable →
 borrowed_header numbers directories files extra =
     record numbers { directory_format = directories.pairs; directories = directories.entries; file_format = files.pairs; files = files.entries; extra = extra }
 
+-- a table in this format and order
+pub record IsInForm (format : Format) (order : Order) (table : BorrowedTable) : Type 0 where
+  pub format_is : table.format ≡ format
+  pub order_is : table.order ≡ order
+
 -- a table in the format and the order of a header
-pub record IsTableIn (h : HeaderParts) (table : BorrowedTable) : Type 0 where
-  pub format_is : table.format ≡ h.format
-  pub order_is : table.order ≡ h.order
+abbrev pub IsTableIn : HeaderParts → BorrowedTable → Type 0
+IsTableIn h table = IsInForm h.format h.order table
 
 -- A header in parts: its numbers alone, and its two tables.
 pub record IsBorrowedHeader (numbers : HeaderParts) (directories files : BorrowedTable) (extra : List ℕ) : Type 0 where
@@ -90,6 +97,18 @@ pub record PassesAll {X : Type 0} (count : ℕ) (Spells : X → List ℕ → Typ
 
 -- The read gave a table in this format and the order of the bytes that are read, and moved past the bytes that spell it.
 pub record IsTableRead (format : Format) (table : BorrowedTable) (old new : At) : Type 0 where
-  pub format_is : table.format ≡ format
-  pub order_is : table.order ≡ old.order
+  pub in_form : IsInForm format old.order table
   pub read : Reads (TableOf format old.order) (table.pairs, table.entries) old new
+
+-- The read gave the fields of a header up to its file table, and moved past the bytes that spell them.
+pub record AreFieldsRead (format : Format) (singles : Singles) (lengths : List ℕ) (directories files : BorrowedTable) (old new : At) : Type 0 where
+  pub directories_in : IsInForm format old.order directories
+  pub files_in : IsInForm format old.order files
+  pub read : Reads (FieldsBytes format old.order) (singles, (lengths, ((directories.pairs, directories.entries), (files.pairs, files.entries)))) old new
+
+-- The numbers of a header that was read, and nothing else of it.
+pub record ArePlain (format : Format) (order : Order) (address_size : ℕ) (singles : Singles) (lengths : List ℕ) (h : HeaderParts) : Type 0 where
+  pub format_is : h.format ≡ format
+  pub order_is : h.order ≡ order
+  pub size_is : h.address_size ≡ address_size
+  pub fields : AreFields singles lengths ([], []) ([], []) [] h
