@@ -20,7 +20,8 @@ use Rattle.lnt_header.specs.Layouts.{IsLayout, entry_of}
 use Rattle.lnt_header.specs.TableBytes.{ValuesBytes, EntryBytes}
 use Rattle.lnt_header.specs.TableFaults.{IsEntryFault, IsEntriesFault}
 use Rattle.lnt_header.proofs.ShortLemmas.{path_values, indexed_values, summed_values, entry_refused}
-use Rattle.lnt_header.proofs.TableReaders.{values_none, values_next, refuses_values_at, entries_none, entries_more, refuses_entries}
+use Rattle.lnt_header.specs.Laws.Values.{values_none, values_next}
+use Rattle.lnt_header.proofs.TableReaders.{refuses_values_at, entries_none, entries_more, refuses_entries}
 
 -- ---- one entry
 

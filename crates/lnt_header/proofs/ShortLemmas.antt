@@ -18,7 +18,8 @@ use Rattle.lnt_header.specs.Laws.Readers.{refuses_map, reads_map}
 use Rattle.lnt_header.specs.Layouts.{forms_of, IsLayout, ReadsNext, entry_of}
 use Rattle.lnt_header.specs.TableBytes.{ValuesBytes, EntryBytes}
 use Rattle.lnt_header.specs.TableFaults.{IsEntryFault}
-use Rattle.lnt_header.proofs.TableReaders.{values_none, values_more, refuses_values, entries_more}
+use Rattle.lnt_header.specs.Laws.Values.{values_none, values_more}
+use Rattle.lnt_header.proofs.TableReaders.{refuses_values, entries_more}
 
 same_head : {X : Type 0} (x y : X) (xs ys : List X) → x ∷ xs ≡ y ∷ ys → x ≡ y
 same_head x y xs ys e = cc
