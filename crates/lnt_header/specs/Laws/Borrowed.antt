@@ -6,11 +6,13 @@ use Rattle.lnt_wire.specs.declared.format.Order.{Order}
 use Rattle.lnt_wire.specs.declared.format.Format.{Format}
 use Rattle.lnt_wire.specs.declared.form.FormValue.{FormValue}
 use Rattle.lnt_wire.specs.FirstValues.{first_value, first_size}
+use Rattle.lnt_wire.specs.Laws.Lengths.{same_rest}
 use Rattle.lnt_wire.specs.Laws.FirstValues.{IsFound, value_found}
 use Rattle.lnt_header.specs.Borrowed.{first_values, first_values_size, first_entries, borrowed_table, BorrowedTable, AreEntryBytes}
 use Rattle.lnt_header.specs.declared.header.Entry.{Entry}
 use Rattle.lnt_header.specs.declared.header.Pair.{Pair}
 use Rattle.lnt_header.specs.Joins.{Each}
+use Rattle.lnt_header.specs.Laws.Tables.{entry_code}
 use Rattle.lnt_header.specs.Layouts.{entry_of}
 use Rattle.lnt_header.specs.TableBytes.{ValuesBytes, EntryBytes}
 
@@ -50,6 +52,25 @@ entries_found format order pairs (entry ∷ entries) x more p =
     let others : first_entries format order pairs (length entries) (drop (first_values_size format order pairs (x ++ more)) (x ++ more)) ≡ entries =
     ap (first_entries format order pairs (length entries)) behind ∙ entries_found format order pairs entries p.back more p.second in
     ap (λ (vs : List FormValue). entry_of vs ∷ first_entries format order pairs (length entries) (drop (first_values_size format order pairs (x ++ more)) (x ++ more))) values ∙ ap (λ (es : List Entry). entry ∷ es) others
+
+-- the first of several, by the bytes that spell it
+pub first_found : (format : Format) (order : Order) (pairs : List Pair) (count : ℕ) (entry : Entry) (x rest bytes : List ℕ) → EntryBytes format order pairs entry x → bytes ≡ x ++ rest
+    → first_entries format order pairs (suc count) bytes ≡ entry ∷ first_entries format order pairs count rest
+first_found format order pairs count entry x rest bytes p whole =
+    let one : AreFound format order pairs entry.values x rest = values_found format order pairs entry.values x rest p in
+    let size : first_values_size format order pairs bytes ≡ length x = ap (first_values_size format order pairs) whole ∙ one.size_is in
+    let values : first_values format order pairs bytes ≡ entry.values = ap (first_values format order pairs) whole ∙ one.values_are in
+    let behind : drop (first_values_size format order pairs bytes) bytes ≡ rest = ap (λ (n : ℕ). drop n bytes) size ∙ ap (drop (length x)) whole ∙ drop-append_seam x rest in
+    ap (λ (vs : List FormValue). entry_of vs ∷ first_entries format order pairs count (drop (first_values_size format order pairs bytes) bytes)) values
+    ∙ ap (λ (z : List ℕ). entry ∷ first_entries format order pairs count z) behind
+
+-- the others, behind it
+pub others_spelled : (format : Format) (order : Order) (pairs : List Pair) (entry : Entry) (entries : List Entry) (x rest bytes : List ℕ) → Each (EntryBytes format order pairs) (entry ∷ entries) bytes
+    → EntryBytes format order pairs entry x → bytes ≡ x ++ rest → Each (EntryBytes format order pairs) entries rest
+others_spelled format order pairs entry entries x rest bytes each p whole =
+    let e : each.front ++ each.back ≡ x ++ rest = sym each.joined ∙ whole in
+    let same = (entry_code format order pairs).one entry entry each.front x each.back rest each.first p e in
+    subst (Each (EntryBytes format order pairs) entries) (same_rest each.front x each.back rest same.1 e) each.second
 
 -- all of the bytes
 pub all_found : (format : Format) (order : Order) (pairs : List Pair) (count : ℕ) (entries : List Entry) (x : List ℕ) → length entries ≡ count → Each (EntryBytes format order pairs) entries x
