@@ -2,14 +2,17 @@
 //! files.
 #![tactic(auto)]
 
+mod components;
 mod contents;
 mod files;
 mod paths;
 mod tables;
+mod walk;
 
 pub use files::Files;
 pub use paths::{file_count, listed, path_of};
 pub use tables::{TableFault, tables_fault};
+pub use walk::{Entries, EntryView};
 
 #[cfg(test)]
 mod tests;
