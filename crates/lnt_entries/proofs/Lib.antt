@@ -3,3 +3,5 @@ pub mod PathLemmas
 pub mod TableLemmas
 pub mod EntryLemmas
 pub mod WalkLemmas
+pub mod JudgedLemmas
+pub mod SaidLemmas

@@ -5,3 +5,4 @@ pub mod Paths
 pub mod Pieces
 pub mod Tables
 pub mod Walks
+pub mod Seen

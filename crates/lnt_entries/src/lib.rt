@@ -5,7 +5,9 @@
 mod components;
 mod contents;
 mod files;
+pub mod in_place;
 mod paths;
+mod said;
 mod tables;
 mod walk;
 
