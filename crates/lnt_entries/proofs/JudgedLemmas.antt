@@ -42,7 +42,7 @@ seen_all seen table walk count s le =
     let none : walk.entries ≡ [] = empty walk.entries (omega (arith, ap length s.joined, length-append seen walk.entries, s.count_is, le)) in
     sym (append-nil seen) ∙ ap (λ (es : List Entry). seen ++ es) (sym none) ∙ sym s.joined
 
-some_left : (seen : List Entry) (table old new : BorrowedTable) (count : ℕ) → HasSeen seen table old count → count < length table.entries → EntryStep old None new → ⊥
+pub some_left : (seen : List Entry) (table old new : BorrowedTable) (count : ℕ) → HasSeen seen table old count → count < length table.entries → EntryStep old None new → ⊥
 some_left seen table old new count s lt ends = omega (arith, ap length s.joined, length-append seen old.entries, s.count_is, lt, ap length ends.0)
 
 -- ---- all that were seen

@@ -5,3 +5,4 @@ pub mod EntryLemmas
 pub mod WalkLemmas
 pub mod JudgedLemmas
 pub mod SaidLemmas
+pub mod AtLemmas

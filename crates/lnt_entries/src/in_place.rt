@@ -5,4 +5,4 @@ mod judged;
 mod paths;
 
 pub use judged::tables_fault;
-pub use paths::file_count;
+pub use paths::{file_count, listed, path_of};
