@@ -1,5 +1,5 @@
 -- Tables and headers whose entries stay where they lie.
-use Rattle.std.proofs.Common.{◌≡◌, ℕ, ◌<◌, List, [], ◌∷◌, ◌++◌, length, refl, sym, ap, subst, get_or, ◌∙◌, lit<}
+use Rattle.std.proofs.Common.{◌≡◌, ℕ, ◌<◌, List, [], ◌∷◌, ◌++◌, length, refl, sym, ap, subst, get_or, ◌∙◌}
 use Rattle.lnt_wire.specs.At.{At}
 use Rattle.lnt_wire.specs.Leb128.{UnsignedLeb}
 use Rattle.lnt_wire.specs.Numbers.{NumberBytes}
@@ -13,9 +13,9 @@ use Rattle.lnt_header.specs.declared.header.HeaderParts.{HeaderParts}
 use Rattle.lnt_header.specs.declared.numbers.Singles.{Singles}
 use Rattle.lnt_header.specs.HeaderFaults.{SinglesBytes, LengthsBytes}
 use Rattle.lnt_header.specs.HeaderReading.{HasFields, AreFields}
-use Rattle.lnt_header.specs.HeaderRules.{IsAddressSize, HasHeaderNumbers, IsTable, IsHeader}
+use Rattle.lnt_header.specs.HeaderRules.{IsAddressSize, IsHeader}
 use Rattle.lnt_header.specs.Joins.{Each, Several}
-use Rattle.lnt_header.specs.Laws.Borrowed.{all_found}
+use Rattle.lnt_header.specs.Laws.Borrowed.{all_found, header_without_tables}
 use Rattle.lnt_header.specs.Laws.Readers.{reads_map}
 use Rattle.lnt_header.specs.TableBytes.{PairBytes, EntryBytes, TableOf}
 use Rattle.lnt_header.proofs.Allowed.{found_header}
@@ -61,15 +61,6 @@ fields_read format s ls directories files old m1 m2 m3 new r t d f =
       files_in = record { format_is = f.in_form.format_is; order_is = f.in_form.order_is ∙ second };
       read = reads_fields format s ls (directories.pairs, directories.entries) (files.pairs, files.entries) old m1 m2 m3 new r t d.read f.read;
     }
-
-no_entries : IsTable [] []
-no_entries = record { few_pairs = lit< tt; none_without_pairs = λ e. refl; of_format = tt }
-
-same_numbers : (h : HeaderParts) → HasHeaderNumbers h → HasHeaderNumbers (without_tables h)
-same_numbers h n = record { address_size = n.address_size; line_base = n.line_base; bytes = n.bytes; max_ops = n.max_ops; line_range = n.line_range; opcode_base = n.opcode_base; lengths = n.lengths }
-
-pub header_without_tables : (h : HeaderParts) → IsHeader h → IsHeader (without_tables h)
-header_without_tables h is = record { numbers = same_numbers h is.numbers; directories = no_entries; files = no_entries }
 
 with_tables : HeaderParts → List Pair → List Entry → List Pair → List Entry → List ℕ → HeaderParts
 with_tables h directory_format directories file_format files extra =
