@@ -1,3 +1,8 @@
 pub mod KeptLemmas
 pub mod PathLemmas
 pub mod TableLemmas
+pub mod EntryLemmas
+pub mod WalkLemmas
+pub mod JudgedLemmas
+pub mod SaidLemmas
+pub mod AtLemmas

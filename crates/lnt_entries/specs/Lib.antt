@@ -4,3 +4,5 @@ pub mod Kept
 pub mod Paths
 pub mod Pieces
 pub mod Tables
+pub mod Walks
+pub mod Seen

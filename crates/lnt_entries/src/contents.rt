@@ -15,8 +15,8 @@ pub(crate) const DIRECTORY_INDEX: u64 = 2;
 /// The content type of MD5 sums.
 pub(crate) const MD5: u64 = 5;
 
-// The first place of the content type in a format.
-fn place_of(content: u64, pairs: &[Pair]) -> Option<usize>
+/// The first place of the content type in a format.
+pub(crate) fn place_of(content: u64, pairs: &[Pair]) -> Option<usize>
     ensures { result ≡ place_of content pairs.now }
 {
     pairs.iter().position(|pair| pair.content == content)

@@ -2,11 +2,16 @@
 //! files.
 #![tactic(auto)]
 
+mod components;
 mod contents;
 mod files;
+pub mod in_place;
 mod paths;
+mod said;
 mod tables;
+mod walk;
 
 pub use files::Files;
 pub use paths::{file_count, listed, path_of};
 pub use tables::{TableFault, tables_fault};
+pub use walk::{Entries, EntryView};

@@ -56,13 +56,13 @@ fn file_at(header: &Header, file: u64) -> Option<&Entry>
     header.files().get(file as usize)
 }
 
-// What a path is joined from: directory 0, the file's directory and the file's name. The first two are empty where the
-// path does without them.
+/// What a path is joined from: directory 0, the file's directory and the file's name. The first two are empty where the
+/// path does without them.
 #[derive(Clone, Copy)]
-struct Pieces<'s> {
-    first: &'s [u8],
-    directory: &'s [u8],
-    name: &'s [u8],
+pub(crate) struct Pieces<'s> {
+    pub(crate) first: &'s [u8],
+    pub(crate) directory: &'s [u8],
+    pub(crate) name: &'s [u8],
 }
 
 // The pieces of the file's path. None where a text isn't there.
@@ -113,7 +113,8 @@ fn directory_text<'s>(header: &'s Header, strings: &'s Strings<'_>, number: u64)
     path_text(strings, header.directory_format(), directory)
 }
 
-fn begins_with_slash(path: &[u8]) -> bool
+/// Whether the path begins with `/`.
+pub(crate) fn begins_with_slash(path: &[u8]) -> bool
     ensures { result ≡ begins_with_slash path.now }
 {
     matches!(path.first(), Some(b'/'))
@@ -141,8 +142,8 @@ pub(crate) fn add_path(
     add_pieces(out, &pieces)
 }
 
-// Adds the path of these pieces at the end.
-fn add_pieces(out: &mut Vec<u8>, pieces: &Pieces<'_>) -> Result<(), AllocError>
+/// Adds the path of these pieces at the end.
+pub(crate) fn add_pieces(out: &mut Vec<u8>, pieces: &Pieces<'_>) -> Result<(), AllocError>
     ensures { OnOk result (out.new.items ≡ out.old.items ++ whole_path pieces.now) }
 {
     let start = out.len();

@@ -62,7 +62,8 @@ fn has_usable_format(pairs: &[Pair], entries: &[Entry]) -> bool
     entries.is_empty() || is_usable_format(pairs)
 }
 
-fn is_usable_format(pairs: &[Pair]) -> bool
+/// Whether the format is usable.
+pub(crate) fn is_usable_format(pairs: &[Pair]) -> bool
     ensures { IsTrue result ↔ IsUsableFormat pairs.now }
 {
     has_path_form(pairs) && has_number_form(pairs) && has_sum_form(pairs)

@@ -11,7 +11,7 @@ use Rattle.lnt_wire.specs.declared.format.Order.{Order}
 use Rattle.lnt_header.specs.declared.header.HeaderParts.{HeaderParts}
 use Rattle.lnt_header.specs.declared.numbers.Singles.{Singles}
 use Rattle.lnt_header.specs.FieldsBytes.{Table, FieldsBytes}
-use Rattle.lnt_header.specs.HeaderReading.{HasFields}
+use Rattle.lnt_header.specs.HeaderReading.{HasFields, AreFields}
 use Rattle.lnt_header.specs.HeaderRules.{IsAddressSize, HasHeaderNumbers, single_bytes}
 use Rattle.lnt_header.specs.TableBytes.{TableBytes}
 
@@ -29,21 +29,6 @@ fits_byte : (n : ℕ) → n < 256 → FitsSigned w8 (cast_signed w8 n)
 fits_byte n small = omega (arith, ints)
 
 -- ---- the fields that header_length counts
-
--- the parts of a header are the fields that were read
-pub record AreFields (s : Singles) (lengths : List ℕ) (directories files : Table) (extra : List ℕ) (h : HeaderParts) : Type 0 where
-  pub minimum : h.minimum_instruction_length ≡ s.minimum_instruction_length
-  pub max_ops : h.max_ops ≡ s.max_ops
-  pub default_is_stmt : h.default_is_stmt ≡ s.default_is_stmt
-  pub line_base : h.line_base ≡ cast_signed w8 (cast_unsigned w8 (cast_signed w8 s.line_base))
-  pub line_range : h.line_range ≡ s.line_range
-  pub opcode_base : h.opcode_base ≡ s.opcode_base
-  pub lengths_are : h.standard_lengths ≡ lengths
-  pub directory_format : h.directory_format ≡ directories.0
-  pub directories_are : h.directories ≡ directories.1
-  pub file_format : h.file_format ≡ files.0
-  pub files_are : h.files ≡ files.1
-  pub extra_is : h.extra ≡ extra
 
 regroup : (a b c d e : List ℕ) → (a ++ (b ++ (c ++ d))) ++ e ≡ (a ++ b) ++ c ++ d ++ e
 regroup a b c d e = simp append_assoc

@@ -3,9 +3,11 @@ pub mod DecodeLemmas
 pub mod EncodeLemmas
 pub mod HeaderFrames
 pub mod HeaderReaders
+pub mod PassLemmas
 pub mod Places
 pub mod ShortLemmas
 pub mod StartReaders
 pub mod TableReaders
 pub mod TestLemmas
+pub mod ViewLemmas
 pub mod WrongTables

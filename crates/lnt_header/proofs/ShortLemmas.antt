@@ -18,7 +18,8 @@ use Rattle.lnt_header.specs.Laws.Readers.{refuses_map, reads_map}
 use Rattle.lnt_header.specs.Layouts.{forms_of, IsLayout, ReadsNext, entry_of}
 use Rattle.lnt_header.specs.TableBytes.{ValuesBytes, EntryBytes}
 use Rattle.lnt_header.specs.TableFaults.{IsEntryFault}
-use Rattle.lnt_header.proofs.TableReaders.{values_none, values_more, refuses_values, entries_more}
+use Rattle.lnt_header.specs.Laws.Values.{values_none, values_more}
+use Rattle.lnt_header.proofs.TableReaders.{refuses_values, entries_more}
 
 same_head : {X : Type 0} (x y : X) (xs ys : List X) → x ∷ xs ≡ y ∷ ys → x ≡ y
 same_head x y xs ys e = cc
@@ -37,7 +38,7 @@ entry_next : (format : Format) (pairs : List Pair) (values : List FormValue) (be
 entry_next format pairs values before after old new r e =
     record { value = entry_of values; added = e; read = reads_map (ValuesBytes format old.order pairs) (EntryBytes format old.order pairs) values (entry_of values) old new (λ x p. p) r }
 
-path_values : (format : Format) (pairs : List Pair) (u : FormValue) (old new : At) → forms_of pairs ≡ LineStrp ∷ [] → Reads (ValueBytes format old.order LineStrp) u old new
+pub path_values : (format : Format) (pairs : List Pair) (u : FormValue) (old new : At) → forms_of pairs ≡ LineStrp ∷ [] → Reads (ValueBytes format old.order LineStrp) u old new
     → Reads (ValuesBytes format old.order pairs) (u ∷ []) old new
 path_values format [] u old new e r = absurd cc
 path_values format (a ∷ []) u old new e r = next_value format [] a LineStrp [] u old old new (same_head a.form LineStrp [] [] e) (values_none format old) r
@@ -47,7 +48,7 @@ pub path_entry : (format : Format) (pairs : List Pair) (u : FormValue) (before a
     → after ≡ before ++ entry_of (u ∷ []) ∷ [] → ReadsNext (EntryBytes format old.order pairs) before after old new
 path_entry format pairs u before after old new e r added = entry_next format pairs (u ∷ []) before after old new (path_values format pairs u old new e r) added
 
-indexed_values : (format : Format) (pairs : List Pair) (u v : FormValue) (old middle new : At) → forms_of pairs ≡ LineStrp ∷ Udata ∷ [] → Reads (ValueBytes format old.order LineStrp) u old middle
+pub indexed_values : (format : Format) (pairs : List Pair) (u v : FormValue) (old middle new : At) → forms_of pairs ≡ LineStrp ∷ Udata ∷ [] → Reads (ValueBytes format old.order LineStrp) u old middle
     → Reads (ValueBytes format middle.order Udata) v middle new → Reads (ValuesBytes format old.order pairs) (u ∷ v ∷ []) old new
 indexed_values format [] u v old middle new e r s = absurd cc
 indexed_values format (a ∷ []) u v old middle new e r s = absurd cc
@@ -63,7 +64,7 @@ pub indexed_path_entry : (format : Format) (pairs : List Pair) (u v : FormValue)
 indexed_path_entry format pairs u v before after old middle new e r s added =
     entry_next format pairs (u ∷ v ∷ []) before after old new (indexed_values format pairs u v old middle new e r s) added
 
-summed_values : (format : Format) (pairs : List Pair) (u v w : FormValue) (old m1 m2 new : At) → forms_of pairs ≡ LineStrp ∷ Udata ∷ Data16 ∷ [] → Reads (ValueBytes format old.order LineStrp) u old m1
+pub summed_values : (format : Format) (pairs : List Pair) (u v w : FormValue) (old m1 m2 new : At) → forms_of pairs ≡ LineStrp ∷ Udata ∷ Data16 ∷ [] → Reads (ValueBytes format old.order LineStrp) u old m1
     → Reads (ValueBytes format m1.order Udata) v m1 m2 → Reads (ValueBytes format m2.order Data16) w m2 new → Reads (ValuesBytes format old.order pairs) (u ∷ v ∷ w ∷ []) old new
 summed_values format [] u v w old m1 m2 new e r s t = absurd cc
 summed_values format (a ∷ []) u v w old m1 m2 new e r s t = absurd cc

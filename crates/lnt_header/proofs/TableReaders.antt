@@ -29,6 +29,7 @@ use Rattle.lnt_header.specs.TableFaults.IsCodeFault.{no_code}
 use Rattle.lnt_header.specs.TableFaults.IsEntryFault.{no_value}
 use Rattle.lnt_header.specs.TableFaults.IsSizeFault.{no_size}
 use Rattle.lnt_header.specs.Laws.Tables.{one_digit, pair_code, entry_code}
+use Rattle.lnt_header.specs.Laws.Values.{none_values}
 
 -- numbers that are refused
 refuses_leb : (old : At) (fault : Fault) → RefusesField (IsLebFault IsLargeUnsigned) UnsignedLeb old fault → Refuses IsNumberFault UnsignedLeb old fault
@@ -96,47 +97,6 @@ refuses_entries format pairs n entries old middle fault r lt s = several_refused
 
 -- ---- values
 
-values_push : (format : Format) (order : Order) (pairs : List Pair) (pair : Pair) (values : List FormValue) (value : FormValue) (x y : List ℕ) → ValuesBytes format order pairs values x → ValueBytes format order pair.form value y
-    → ValuesBytes format order (pairs ++ pair ∷ []) (values ++ value ∷ []) (x ++ y)
-values_push format order [] pair [] value x y p q = (q.form_is, record { front = y; back = []; first = q.spelled; second = refl; joined = ap (λ (z : List ℕ). z ++ y) p ∙ sym (append-nil y) })
-values_push format order [] pair (v ∷ values) value x y p q = absurd p
-values_push format order (a ∷ pairs) pair [] value x y p q = absurd p
-values_push format order (a ∷ pairs) pair (v ∷ values) value x y p q = (
-  p.0,
-  record {
-    front = p.1.front;
-    back = p.1.back ++ y;
-    first = p.1.first;
-    second = values_push format order pairs pair values value p.1.back y p.1.second q;
-    joined = ap (λ (z : List ℕ). z ++ y) p.1.joined ∙ append_assoc p.1.front p.1.back y;
-  },
-)
-
-pub values_more : (format : Format) (pairs : List Pair) (pair : Pair) (values : List FormValue) (value : FormValue) (old middle new : At) → Reads (ValuesBytes format old.order pairs) values old middle
-    → Reads (ValueBytes format middle.order pair.form) value middle new → Reads (ValuesBytes format old.order (pairs ++ pair ∷ [])) (values ++ value ∷ []) old new
-values_more format pairs pair values value old middle new r s =
-    let one : ValueBytes format old.order pair.form value s.spelling = subst (λ (o : Order). ValueBytes format o pair.form value s.spelling) r.order s.spelled in
-    record {
-      spelling = r.spelling ++ s.spelling;
-      spelled = values_push format old.order pairs pair values value r.spelling s.spelling r.spelled one;
-      whole = r.whole ∙ ap (λ (z : List ℕ). r.spelling ++ z) s.whole ∙ sym (append_assoc r.spelling s.spelling new.rest);
-      place = omega (arith, s.place, r.place, length-append r.spelling s.spelling);
-      order = s.order ∙ r.order;
-    }
-
-none_values : (format : Format) (order : Order) (pairs : List Pair) (pair : Pair) (behind : List Pair) (us : List FormValue) (x rest bytes : List ℕ) → ValuesBytes format order pairs us x → bytes ≡ x ++ rest
-    → NoneSpelled (ValueBytes format order pair.form) rest → NoneSpelled (ValuesBytes format order (pairs ++ pair ∷ behind)) bytes
-none_values format order [] pair behind [] x rest bytes p whole none [] y more q e = q
-none_values format order [] pair behind [] x rest bytes p whole none (v ∷ vs) y more q e =
-    none v q.1.front (q.1.back ++ more) (record { form_is = q.0; spelled = q.1.first })
-    (sym (append_assoc q.1.front q.1.back more) ∙ ap (λ (z : List ℕ). z ++ more) (sym q.1.joined) ∙ e ∙ whole ∙ ap (λ (z : List ℕ). z ++ rest) p)
-none_values format order [] pair behind (u ∷ us) x rest bytes p whole none vs y more q e = p
-none_values format order (a ∷ pairs) pair behind [] x rest bytes p whole none vs y more q e = p
-none_values format order (a ∷ pairs) pair behind (u ∷ us) x rest bytes p whole none [] y more q e = q
-none_values format order (a ∷ pairs) pair behind (u ∷ us) x rest bytes p whole none (v ∷ vs) y more q e =
-    let one = peel_by v u y x more rest (λ c d s t. same_value format order v u c d s t (q.0 ∙ sym p.0)) q.1 p.1 (e ∙ whole) in
-    none_values format order pairs pair behind us p.1.back rest (p.1.back ++ rest) p.1.second refl none vs q.1.back more q.1.second one.behind
-
 pub refuses_values : (format : Format) (pairs : List Pair) (pair : Pair) (behind : List Pair) (values : List FormValue) (old middle : At) (fault : Fault) → Reads (ValuesBytes format old.order pairs) values old middle
     → RefusesField (IsValueFault format middle.order pair.form) (ValueBytes format middle.order pair.form) middle fault → Refuses (IsEntryFault format old.order (pairs ++ pair ∷ behind)) (ValuesBytes format old.order (pairs ++ pair ∷ behind)) old fault
 refuses_values format pairs pair behind values old middle fault r s =
@@ -144,17 +104,6 @@ refuses_values format pairs pair behind values old middle fault r s =
     let so : IsValueFault format old.order pair.form fault.reason middle.rest = subst (λ (o : Order). IsValueFault format o pair.form fault.reason middle.rest) r.order s.reason in
     moved_field (ValuesBytes format old.order (pairs ++ pair ∷ behind)) values old middle fault r s.place (no_value pairs pair behind values refl r.spelled so)
     (none_values format old.order pairs pair behind values r.spelling middle.rest old.rest r.spelled r.whole none)
-
-pub values_none : (format : Format) (at : At) → Reads (ValuesBytes format at.order []) [] at at
-values_none format at = record { spelling = []; spelled = refl; whole = refl; place = sym (add-zero at.place); order = refl }
-
--- the same by the place in the list
-pub values_next : (format : Format) (pairs : List Pair) (i : ℕ) (d : Pair) (values : List FormValue) (value : FormValue) (old middle new : At) → i < length pairs
-    → Reads (ValuesBytes format old.order (take i pairs)) values old middle → Reads (ValueBytes format middle.order (get_or pairs i d).form) value middle new
-    → Reads (ValuesBytes format old.order (take (i + 1) pairs)) (values ++ value ∷ []) old new
-values_next format pairs i d values value old middle new lt r s =
-    subst (λ (ps : List Pair). Reads (ValuesBytes format old.order ps) (values ++ value ∷ []) old new) (sym (take_more pairs i d lt))
-    (values_more format (take i pairs) (get_or pairs i d) values value old middle new r s)
 
 pub refuses_values_at : (format : Format) (pairs : List Pair) (i : ℕ) (d : Pair) (values : List FormValue) (old middle : At) (fault : Fault) → i < length pairs
     → Reads (ValuesBytes format old.order (take i pairs)) values old middle → RefusesField (IsValueFault format middle.order (get_or pairs i d).form) (ValueBytes format middle.order (get_or pairs i d).form) middle fault

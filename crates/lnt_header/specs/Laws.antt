@@ -1,3 +1,4 @@
+pub mod Borrowed
 pub mod Conversions
 pub mod Firsts
 pub mod Headers
@@ -6,6 +7,7 @@ pub mod Programs
 pub mod Puts
 pub mod Readers
 pub mod Tables
+pub mod Values
 -- What is spelled is read again, whatever follows: no spelling begins another, and each spells one value.
 use Rattle.lnt_wire.specs.declared.format.Order.{Order}
 use Rattle.lnt_wire.specs.Bytes.{IsCode}

@@ -1,3 +1,4 @@
+pub mod Borrowed
 pub mod Broken
 pub mod Conversion
 pub mod Encoding

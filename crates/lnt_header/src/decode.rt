@@ -43,8 +43,8 @@ pub fn decode_header<'a>(
     Ok((Header::of(parts), cursor.rest()))
 }
 
-// A cursor behind the version.
-fn behind_version<'a>(frame: &Frame<'a>, order: Order) -> Cursor<'a>
+/// A cursor behind the version.
+pub(crate) fn behind_version<'a>(frame: &Frame<'a>, order: Order) -> Cursor<'a>
     requires { IsPlacedFrame order frame.now }
     ensures { IsBehindVersion order frame.now.format frame.now.offset frame.now.body.now result }
 {
@@ -94,8 +94,8 @@ fn read_parts(
     })
 }
 
-// A copy of the bytes.
-fn copied(alloc: Global, bytes: &[u8], place: u64) -> Result<Items<u8>, Fault>
+/// A copy of the bytes.
+pub(crate) fn copied(alloc: Global, bytes: &[u8], place: u64) -> Result<Items<u8>, Fault>
     ensures ok { IfOk result (λ items. items ≡ bytes.now) }
     ensures err { IfErr result (λ fault. fault.reason ≡ Reason.Memory) }
 {

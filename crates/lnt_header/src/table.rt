@@ -29,9 +29,13 @@ fn read_pair(cursor: &mut Cursor<'_>) -> Result<Pair, Fault>
     }
 }
 
-// As many pairs as the count says.
+/// As many pairs as the count says.
 #[tactic(auto, using(crate::proofs::TableReaders::pairs_none, crate::proofs::TableReaders::pairs_more, crate::proofs::TableReaders::refuses_pairs))]
-fn read_pairs(alloc: Global, cursor: &mut Cursor<'_>, count: u8) -> Result<Vec<Pair>, Fault>
+pub(crate) fn read_pairs(
+    alloc: Global,
+    cursor: &mut Cursor<'_>,
+    count: u8,
+) -> Result<Vec<Pair>, Fault>
     ensures ok { IfOk result (λ pairs. Reads (Several count PairBytes) pairs.items cursor.old cursor.new) }
     ensures err { IfErr result (λ fault. RefusesOr (IsPairsFault count) (Several count PairBytes) cursor.old fault) }
 {
@@ -48,7 +52,7 @@ fn read_pairs(alloc: Global, cursor: &mut Cursor<'_>, count: u8) -> Result<Vec<P
 }
 
 // One value for each pair.
-#[tactic(auto, using(crate::proofs::TableReaders::values_none, crate::proofs::TableReaders::values_next, crate::proofs::TableReaders::refuses_values_at))]
+#[tactic(auto, using(crate::specs::Laws::Values::values_none, crate::specs::Laws::Values::values_next, crate::proofs::TableReaders::refuses_values_at))]
 fn read_values(
     alloc: Global,
     cursor: &mut Cursor<'_>,
@@ -98,7 +102,7 @@ fn first_room(cursor: &Cursor<'_>, count: u64) -> usize {
 // What the values of an entry are. For those that compilers write there are functions that make the entry where it
 // stays.
 #[derive(Clone, Copy)]
-enum Layout {
+pub(crate) enum Layout {
     // A path in `.debug_line_str`.
     Path,
     // The same, and the index of a directory.
@@ -109,7 +113,7 @@ enum Layout {
 }
 
 // The layout of a table's entries.
-fn layout_of(pairs: &[Pair]) -> Layout
+pub(crate) fn layout_of(pairs: &[Pair]) -> Layout
     ensures { IsLayout result pairs.now }
 {
     match pairs {

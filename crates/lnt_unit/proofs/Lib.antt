@@ -1,3 +1,4 @@
+pub mod InPlaceLemmas
 pub mod ConvertLemmas
 pub mod SectionLemmas
 pub mod UnitLemmas

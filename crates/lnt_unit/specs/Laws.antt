@@ -1,5 +1,6 @@
 pub mod Broken
 pub mod Frames
+pub mod Numbers
 pub mod Units
 pub mod Views
 -- What is spelled is read again, whatever follows: no spelling begins another, and each spells one value.

@@ -4,6 +4,7 @@
 mod convert;
 mod decode;
 mod encode;
+mod in_place;
 pub mod laws;
 mod unit;
 mod view;
@@ -11,6 +12,7 @@ mod view;
 pub use convert::{ConvertFault, convert_section};
 pub use decode::{decode_section, decode_unit};
 pub use encode::encode_unit;
+pub use in_place::UnitInPlace;
 pub use lnt_header::{
     Entry, Header, HeaderParts, Op, OpView, Operands, Pair, ShortList, UnitFault, Which,
     decode_header, encode_header,

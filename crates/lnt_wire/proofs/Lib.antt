@@ -1,3 +1,4 @@
+pub mod EndLemmas
 pub mod FrameLemmas
 pub mod FrameListLemmas
 pub mod LebLemmas

@@ -1,4 +1,5 @@
 pub mod Codes
+pub mod FirstValues
 pub mod Frames
 pub mod Lengths
 pub mod Pulls

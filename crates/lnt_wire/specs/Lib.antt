@@ -1,5 +1,7 @@
 pub mod At
+pub mod Borrowed
 pub mod Bytes
+pub mod FirstValues
 pub mod FormBytes
 pub mod FormFaults
 pub mod FrameBytes
@@ -12,4 +14,5 @@ pub mod Numbers
 pub mod Prefixes
 pub mod Pulling
 pub mod Reading
+pub mod TextEnds
 pub mod Texts

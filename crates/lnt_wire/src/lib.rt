@@ -6,6 +6,7 @@
 
 mod counted;
 mod cursor;
+mod ends;
 mod fault;
 mod form;
 mod format;
@@ -19,9 +20,11 @@ mod put;
 mod source;
 mod strings;
 mod value;
+mod view;
 
 pub use counted::Counted;
 pub use cursor::Cursor;
+pub use ends::StringEnds;
 pub use fault::{Fault, Reason};
 pub use form::{Form, FormValue};
 pub use format::{Format, Order};
@@ -30,3 +33,4 @@ pub use items::Items;
 pub use put::{EncodeFault, put_form, put_offset, put_sleb, put_u16, put_u32, put_u64, put_uleb};
 pub use source::{ReadFault, Source, SourceStop, read_all};
 pub use strings::Strings;
+pub use view::ValueView;

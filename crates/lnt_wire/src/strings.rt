@@ -1,10 +1,12 @@
 //! The texts of strings (DWARF 5, sections 7.5.5 and 7.26).
 ghost use Rattle.std.specs.Prelude.{◌≡◌, ◌<◌, length, take, drop, get_or, MatchOption};
 ghost use Rattle.std.specs.Option.{option_map};
+ghost use Rattle.lnt_wire.specs.Borrowed.{value_of};
 ghost use Rattle.lnt_wire.specs.FormBytes.{HasNoZero};
 ghost use Rattle.lnt_wire.specs.Texts.{text_of, up_to_zero};
 
 use crate::form::FormValue;
+use crate::view::ValueView;
 
 /// The string sections that offsets lead into.
 #[derive(Clone, Copy)]
@@ -28,6 +30,18 @@ impl<'a> Strings<'a> {
             FormValue::Text(text) => Some(text.as_slice()),
             FormValue::LineStrp(offset) => text_at(self.line, *offset),
             FormValue::Strp(offset) => text_at(self.general, *offset),
+            _ => None,
+        }
+    }
+
+    /// The text of a borrowed value, in the same way.
+    pub fn view_text(self, value: ValueView<'a>) -> Option<&'a [u8]>
+        ensures { option_map (λ text. text.now) result ≡ text_of self.entry.line.now self.entry.general.now (value_of value.entry) }
+    {
+        match value {
+            ValueView::Text(text) => Some(text),
+            ValueView::LineStrp(offset) => text_at(self.line, offset),
+            ValueView::Strp(offset) => text_at(self.general, offset),
             _ => None,
         }
     }

@@ -1,5 +1,6 @@
 //! Values in the forms of a table (DWARF 5, section 7.5.6).
 ghost use Rattle.std.specs.Prelude.{◌≡◌, IfOk, IfErr, OnErr};
+ghost use Rattle.lnt_wire.specs.Borrowed.{value_of};
 ghost use Rattle.lnt_wire.specs.Bytes.{TakenBytes};
 ghost use Rattle.lnt_wire.specs.FormBytes.{TextBytes, BlockBytes, ValueBytes};
 ghost use Rattle.lnt_wire.specs.FormFaults.{IsCutText, IsValueFault};
@@ -10,37 +11,54 @@ use crate::cursor::Cursor;
 use crate::fault::{Fault, Reason};
 use crate::form::{Form, FormValue, Prefix};
 use crate::format::Format;
-use crate::items::Items;
 use crate::strings::text_size;
+use crate::view::{ValueView, owned};
 use std::alloc::Global;
 
 impl<'a> Cursor<'a> {
-    /// The next value in the form. Its bytes are copied.
+    /// The next value in the form, whose bytes are borrowed. It takes no memory.
     ///
-    /// It refuses with `Memory`, and else only where no value in the form stands here: with `Truncated` where the
-    /// bytes up to the limit don't hold it whole, and with `LebTooLarge` where a LEB128 in it is out of range.
+    /// It refuses only where no value in the form stands here: with `Truncated` where the bytes up to the limit don't
+    /// hold it whole, and with `LebTooLarge` where a LEB128 in it is out of range.
     #[inline(always)]
     #[tactic(auto, using(crate::proofs::RefusedForms::value_refusals))]
+    pub fn value(&mut self, form: Form, format: Format) -> Result<ValueView<'a>, Fault>
+        ensures ok { IfOk result (λ v. Reads (ValueBytes format self.old.order form) (value_of v) self.old self.new) }
+        ensures err { IfErr result (λ fault. RefusesField (IsValueFault format self.old.order form) (ValueBytes format self.old.order form) self.old fault) }
+        ensures unchanged { OnErr result (self.new ≡ self.old) }
+    {
+        match form {
+            Form::Data1 => Ok(ValueView::Data1(self.u8()?)),
+            Form::Data2 => Ok(ValueView::Data2(self.u16()?)),
+            Form::Data4 => Ok(ValueView::Data4(self.u32()?)),
+            Form::Data8 => Ok(ValueView::Data8(self.u64()?)),
+            Form::Data16 => Ok(ValueView::Data16(self.data16()?)),
+            Form::Text => Ok(ValueView::Text(self.text()?)),
+            Form::Block => Ok(ValueView::Block(self.block(Prefix::Leb)?)),
+            Form::Block1 => Ok(ValueView::Block1(self.block(Prefix::One)?)),
+            Form::Block2 => Ok(ValueView::Block2(self.block(Prefix::Two)?)),
+            Form::Block4 => Ok(ValueView::Block4(self.block(Prefix::Four)?)),
+            Form::Strp => Ok(ValueView::Strp(self.offset(format)?)),
+            Form::LineStrp => Ok(ValueView::LineStrp(self.offset(format)?)),
+            Form::Udata => Ok(ValueView::Udata(self.uleb()?)),
+        }
+    }
+
+    /// The next value in the form. Its bytes are copied.
+    ///
+    /// It refuses with `Memory`, and else as `value` does.
+    #[inline(always)]
     pub fn form(&mut self, alloc: Global, form: Form, format: Format) -> Result<FormValue, Fault>
         ensures ok { IfOk result (λ v. Reads (ValueBytes format self.old.order form) v self.old self.new) }
         ensures err { IfErr result (λ fault. RefusesFieldOr (IsValueFault format self.old.order form) (ValueBytes format self.old.order form) self.old fault) }
         ensures unchanged { OnErr result (self.new ≡ self.old) }
     {
-        match form {
-            Form::Data1 => Ok(FormValue::Data1(self.u8()?)),
-            Form::Data2 => Ok(FormValue::Data2(self.u16()?)),
-            Form::Data4 => Ok(FormValue::Data4(self.u32()?)),
-            Form::Data8 => Ok(FormValue::Data8(self.u64()?)),
-            Form::Data16 => Ok(FormValue::Data16(self.data16()?)),
-            Form::Text => Ok(FormValue::Text(self.text(alloc)?)),
-            Form::Block => Ok(FormValue::Block(self.block(alloc, Prefix::Leb)?)),
-            Form::Block1 => Ok(FormValue::Block1(self.block(alloc, Prefix::One)?)),
-            Form::Block2 => Ok(FormValue::Block2(self.block(alloc, Prefix::Two)?)),
-            Form::Block4 => Ok(FormValue::Block4(self.block(alloc, Prefix::Four)?)),
-            Form::Strp => Ok(FormValue::Strp(self.offset(format)?)),
-            Form::LineStrp => Ok(FormValue::LineStrp(self.offset(format)?)),
-            Form::Udata => Ok(FormValue::Udata(self.uleb()?)),
-        }
+        let place = self.place();
+        let mut ahead = self.fork();
+        let view = ahead.value(form, format)?;
+        let value = owned(alloc, view, place)?;
+        *self = ahead;
+        Ok(value)
     }
 
     // The next 16 bytes.
@@ -58,9 +76,9 @@ impl<'a> Cursor<'a> {
     // The next bytes up to a zero byte.
     #[inline(never)]
     #[tactic(auto, using(crate::proofs::ValueLemmas::refuses_text, crate::proofs::ValueLemmas::reads_text))]
-    fn text(&mut self, alloc: Global) -> Result<Items<u8>, Fault>
-        ensures ok { IfOk result (λ v. Reads TextBytes v self.old self.new) }
-        ensures err { IfErr result (λ fault. RefusesFieldOr IsCutText TextBytes self.old fault) }
+    fn text(&mut self) -> Result<&'a [u8], Fault>
+        ensures ok { IfOk result (λ v. Reads TextBytes v.now self.old self.new) }
+        ensures err { IfErr result (λ fault. RefusesField IsCutText TextBytes self.old fault) }
         ensures unchanged { OnErr result (self.new ≡ self.old) }
     {
         let place = self.place();
@@ -72,7 +90,6 @@ impl<'a> Cursor<'a> {
             });
         };
         let (text, _) = bytes.split_at(size);
-        let text = copied(alloc, text, place)?;
         self.skip(size + 1);
         Ok(text)
     }
@@ -80,9 +97,9 @@ impl<'a> Cursor<'a> {
     // The next length of the kind, and as many bytes.
     #[inline(never)]
     #[tactic(auto, using(crate::proofs::ValueLemmas::refuses_no_length, crate::proofs::ValueLemmas::refuses_cut_block, crate::proofs::ValueLemmas::reads_block))]
-    fn block(&mut self, alloc: Global, prefix: Prefix) -> Result<Items<u8>, Fault>
-        ensures ok { IfOk result (λ v. Reads (BlockBytes (LengthBytes self.old.order prefix)) v self.old self.new) }
-        ensures err { IfErr result (λ fault. RefusesFieldOr (IsPrefixedFault self.old.order prefix) (BlockBytes (LengthBytes self.old.order prefix)) self.old fault) }
+    fn block(&mut self, prefix: Prefix) -> Result<&'a [u8], Fault>
+        ensures ok { IfOk result (λ v. Reads (BlockBytes (LengthBytes self.old.order prefix)) v.now self.old self.new) }
+        ensures err { IfErr result (λ fault. RefusesField (IsPrefixedFault self.old.order prefix) (BlockBytes (LengthBytes self.old.order prefix)) self.old fault) }
         ensures unchanged { OnErr result (self.new ≡ self.old) }
     {
         let place = self.place();
@@ -96,7 +113,6 @@ impl<'a> Cursor<'a> {
             });
         }
         let (block, _) = bytes.split_at(size as usize);
-        let block = copied(alloc, block, place)?;
         ahead.skip(size as usize);
         *self = ahead;
         Ok(block)
@@ -114,19 +130,5 @@ impl<'a> Cursor<'a> {
             Prefix::Two => Ok(u64::from(self.u16()?)),
             Prefix::Four => Ok(u64::from(self.u32()?)),
         }
-    }
-}
-
-// A copy of the bytes.
-fn copied(alloc: Global, bytes: &[u8], place: u64) -> Result<Items<u8>, Fault>
-    ensures ok { IfOk result (λ items. items ≡ bytes.now) }
-    ensures err { IfErr result (λ fault. fault.reason ≡ Reason.Memory) }
-{
-    match Vec::from_slice(alloc, bytes) {
-        Ok(values) => Ok(Items::new(values)),
-        Err(_) => Err(Fault {
-            place,
-            reason: Reason::Memory,
-        }),
     }
 }

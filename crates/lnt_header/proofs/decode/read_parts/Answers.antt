@@ -1,5 +1,6 @@
 use Rattle.std.proofs.Common.{refl, ◌∙◌, ap}
-use Rattle.lnt_header.proofs.DecodeLemmas.{AreFields, fields_found}
+use Rattle.lnt_header.specs.HeaderReading.{AreFields}
+use Rattle.lnt_header.proofs.DecodeLemmas.{fields_found}
 use Rattle.std.specs.Prelude.{ℤ}
 use Rattle.std.specs.Int.{w8, cast_unsigned, cast_signed}
 use Rattle.lnt_header.specs.declared.numbers.Singles.{Singles}

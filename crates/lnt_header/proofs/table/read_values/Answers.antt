@@ -4,7 +4,8 @@ use Rattle.std.proofs.lemmas.Result.{err_from_is_err_and}
 use Rattle.lnt_wire.specs.Reading.{RefusesOr}
 use Rattle.lnt_header.specs.TableBytes.{ValuesBytes}
 use Rattle.lnt_header.specs.TableFaults.{IsEntryFault}
-use Rattle.lnt_header.proofs.TableReaders.{values_next, refuses_values_at}
+use Rattle.lnt_header.proofs.TableReaders.{refuses_values_at}
+use Rattle.lnt_header.specs.Laws.Values.{values_next}
 use Rattle.lnt_header.proofs.table.read_values.Goals as goal
 
 pub returns-in_err-value-clause-err : goal.returns-in_err-value-clause-err

@@ -1,0 +1,160 @@
+-- What a header's numbers tell of operations is what the header tells. These are proofs: nothing here is to be believed.
+use Rattle.std.proofs.Common.{ℕ, List, [], ◌∷◌}
+use Rattle.lnt_wire.specs.declared.fault.Fault.{Fault}
+use Rattle.lnt_wire.specs.declared.fault.Reason.{Reason}
+use Rattle.lnt_header.specs.Borrowed.{without_tables}
+use Rattle.lnt_header.specs.declared.header.HeaderParts.{HeaderParts}
+use Rattle.lnt_header.specs.declared.op.Op.{Op}
+use Rattle.lnt_header.specs.declared.op.Op.TheVariants.{Special, Copy, AdvancePc, AdvanceLine, SetFile, SetColumn, NegateStmt, SetBasicBlock, ConstAddPc, FixedAdvancePc, SetPrologueEnd, SetEpilogueBegin, SetIsa, UnknownStandard, EndSequence, SetAddress, SetDiscriminator, UnknownExtended}
+use Rattle.lnt_header.specs.HeaderRules.{IsHeader}
+use Rattle.lnt_header.specs.Joins.{Each}
+use Rattle.lnt_header.specs.Laws.Borrowed.{header_without_tables}
+use Rattle.lnt_header.specs.OpRules.{Admits}
+use Rattle.lnt_ops.specs.Laws.Programs.{walk_done, walk_broken}
+use Rattle.lnt_ops.specs.OpBytes.{OpBytes}
+use Rattle.lnt_ops.specs.OpFaults.{IsFirstFault}
+use Rattle.lnt_ops.specs.OpFaults.IsFirstFault.{no_opcode, unsigned_operand, signed_operand, fixed_operand, unknown_operand, no_length, cut_counted, wrong_counted, large_counted}
+use Rattle.lnt_ops.specs.Programs.{BrokenProgram}
+use Rattle.lnt_ops.specs.Walks.{Walk, Ends, Fails}
+use Rattle.lnt_unit.specs.BrokenUnits.{BrokenUnit}
+use Rattle.lnt_unit.specs.Laws.Broken.{ops_broken}
+use Rattle.lnt_unit.specs.Laws.Units.{unit_found}
+use Rattle.lnt_unit.specs.UnitBytes.{UnitBytesIn}
+use Rattle.lnt_unit.specs.Views.{View, IsView, HasGiven, with_ops, by_numbers}
+
+-- ---- operations
+
+pub op_by_numbers : (h : HeaderParts) (op : Op) (x : List ℕ) → OpBytes (without_tables h) op x → OpBytes h op x
+op_by_numbers h (Special c) x p = p
+op_by_numbers h Copy x p = p
+op_by_numbers h (AdvancePc n) x p = p
+op_by_numbers h (AdvanceLine z) x p = p
+op_by_numbers h (SetFile n) x p = p
+op_by_numbers h (SetColumn n) x p = p
+op_by_numbers h NegateStmt x p = p
+op_by_numbers h SetBasicBlock x p = p
+op_by_numbers h ConstAddPc x p = p
+op_by_numbers h (FixedAdvancePc n) x p = p
+op_by_numbers h SetPrologueEnd x p = p
+op_by_numbers h SetEpilogueBegin x p = p
+op_by_numbers h (SetIsa n) x p = p
+op_by_numbers h (UnknownStandard k operands) x p = p
+op_by_numbers h EndSequence x p = p
+op_by_numbers h (SetAddress address) x p = p
+op_by_numbers h (SetDiscriminator n) x p = p
+op_by_numbers h (UnknownExtended code operand) x p = p
+
+pub numbers_of_op : (h : HeaderParts) (op : Op) (x : List ℕ) → OpBytes h op x → OpBytes (without_tables h) op x
+numbers_of_op h (Special c) x p = p
+numbers_of_op h Copy x p = p
+numbers_of_op h (AdvancePc n) x p = p
+numbers_of_op h (AdvanceLine z) x p = p
+numbers_of_op h (SetFile n) x p = p
+numbers_of_op h (SetColumn n) x p = p
+numbers_of_op h NegateStmt x p = p
+numbers_of_op h SetBasicBlock x p = p
+numbers_of_op h ConstAddPc x p = p
+numbers_of_op h (FixedAdvancePc n) x p = p
+numbers_of_op h SetPrologueEnd x p = p
+numbers_of_op h SetEpilogueBegin x p = p
+numbers_of_op h (SetIsa n) x p = p
+numbers_of_op h (UnknownStandard k operands) x p = p
+numbers_of_op h EndSequence x p = p
+numbers_of_op h (SetAddress address) x p = p
+numbers_of_op h (SetDiscriminator n) x p = p
+numbers_of_op h (UnknownExtended code operand) x p = p
+
+pub admitted_by_numbers : (h : HeaderParts) (op : Op) → Admits (without_tables h) op → Admits h op
+admitted_by_numbers h (Special c) p = p
+admitted_by_numbers h Copy p = p
+admitted_by_numbers h (AdvancePc n) p = p
+admitted_by_numbers h (AdvanceLine z) p = p
+admitted_by_numbers h (SetFile n) p = p
+admitted_by_numbers h (SetColumn n) p = p
+admitted_by_numbers h NegateStmt p = p
+admitted_by_numbers h SetBasicBlock p = p
+admitted_by_numbers h ConstAddPc p = p
+admitted_by_numbers h (FixedAdvancePc n) p = p
+admitted_by_numbers h SetPrologueEnd p = p
+admitted_by_numbers h SetEpilogueBegin p = p
+admitted_by_numbers h (SetIsa n) p = p
+admitted_by_numbers h (UnknownStandard k operands) p = p
+admitted_by_numbers h EndSequence p = p
+admitted_by_numbers h (SetAddress address) p = p
+admitted_by_numbers h (SetDiscriminator n) p = p
+admitted_by_numbers h (UnknownExtended code operand) p = p
+
+pub numbers_admit : (h : HeaderParts) (op : Op) → Admits h op → Admits (without_tables h) op
+numbers_admit h (Special c) p = p
+numbers_admit h Copy p = p
+numbers_admit h (AdvancePc n) p = p
+numbers_admit h (AdvanceLine z) p = p
+numbers_admit h (SetFile n) p = p
+numbers_admit h (SetColumn n) p = p
+numbers_admit h NegateStmt p = p
+numbers_admit h SetBasicBlock p = p
+numbers_admit h ConstAddPc p = p
+numbers_admit h (FixedAdvancePc n) p = p
+numbers_admit h SetPrologueEnd p = p
+numbers_admit h SetEpilogueBegin p = p
+numbers_admit h (SetIsa n) p = p
+numbers_admit h (UnknownStandard k operands) p = p
+numbers_admit h EndSequence p = p
+numbers_admit h (SetAddress address) p = p
+numbers_admit h (SetDiscriminator n) p = p
+numbers_admit h (UnknownExtended code operand) p = p
+
+pub ops_by_numbers : (h : HeaderParts) (ops : List Op) (x : List ℕ) → Each (OpBytes (without_tables h)) ops x → Each (OpBytes h) ops x
+ops_by_numbers h [] x p = p
+ops_by_numbers h (op ∷ ops) x p = record { front = p.front; back = p.back; first = op_by_numbers h op p.front p.first; second = ops_by_numbers h ops p.back p.second; joined = p.joined }
+
+pub numbers_of_ops : (h : HeaderParts) (ops : List Op) (x : List ℕ) → Each (OpBytes h) ops x → Each (OpBytes (without_tables h)) ops x
+numbers_of_ops h [] x p = p
+numbers_of_ops h (op ∷ ops) x p = record { front = p.front; back = p.back; first = numbers_of_op h op p.front p.first; second = numbers_of_ops h ops p.back p.second; joined = p.joined }
+
+-- ---- faults
+
+first_by_numbers : (h : HeaderParts) (reason : Reason) (before left : List ℕ) → IsFirstFault (without_tables h) reason before left → IsFirstFault h reason before left
+first_by_numbers h reason before left (no_opcode a b c) = no_opcode a b c
+first_by_numbers h reason before left (unsigned_operand k a b c d) = unsigned_operand k a b c d
+first_by_numbers h reason before left (signed_operand a b c) = signed_operand a b c
+first_by_numbers h reason before left (fixed_operand a b c d) = fixed_operand a b c d
+first_by_numbers h reason before left (unknown_operand k operands spelling a b c d e f) = unknown_operand k operands spelling a b c d e f
+first_by_numbers h reason before left (no_length a b) = no_length a b
+first_by_numbers h reason before left (cut_counted n spelling a b c d) = cut_counted n spelling a b c d
+first_by_numbers h reason before left (wrong_counted a b c) = wrong_counted a b c
+first_by_numbers h reason before left (large_counted spelling operand rest a b c d e f) = large_counted spelling operand rest a b c d e f
+
+pub broken_by_numbers : (h : HeaderParts) (place : ℕ) (program : List ℕ) (fault : Fault) → BrokenProgram (without_tables h) place program fault → BrokenProgram h place program fault
+broken_by_numbers h place program fault b = record {
+  before = b.before;
+  left = b.left;
+  split = b.split;
+  place_is = b.place_is;
+  reason = b.reason;
+  first = record {
+    ops = b.first.ops;
+    front = b.first.front;
+    fields = b.first.fields;
+    sound = ops_by_numbers h b.first.ops b.first.front b.first.sound;
+    joined = b.first.joined;
+    fault = first_by_numbers h fault.reason b.first.fields b.left b.first.fault;
+  };
+  none = λ ops p. b.none ops (numbers_of_ops h ops program p);
+}
+
+-- ---- units
+
+-- all were given: the bytes are those of the unit of these operations
+pub given_all_by_numbers : (view : View) (ops : List Op) (old new : Walk) → IsView view → HasGiven (by_numbers view) ops old → Ends old new → UnitBytesIn view.unit.order (with_ops view ops) view.unit.bytes
+given_all_by_numbers view ops old new is given ends =
+    unit_found view.unit.order (with_ops view ops) view.program view.unit.bytes is.spelled
+    (ops_by_numbers view.header ops view.program (walk_done (without_tables view.header) view.place view.program ops old new given.going given.so ends))
+
+-- one was refused: the bytes are those of no unit
+pub given_broken_by_numbers : (view : View) (ops : List Op) (fault : Fault) (old new : Walk) → IsHeader view.header → IsView view → HasGiven (by_numbers view) ops old → Fails fault old new
+    → BrokenUnit view.unit.order fault view.unit.offset view.unit.bytes
+given_broken_by_numbers view ops fault old new header is given fails =
+    ops_broken view.unit.order view.header view.program view.unit.bytes fault view.unit.offset view.place is.spelled is.end
+    (broken_by_numbers view.header view.place view.program fault
+    (walk_broken (without_tables view.header) view.place view.program ops fault old new (header_without_tables view.header header) given.header_is given.so fails))

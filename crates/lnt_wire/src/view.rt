@@ -1,0 +1,70 @@
+//! Values in the forms of a table, borrowed from the bytes that spell them (DWARF 5, section 7.5.6).
+ghost use Rattle.std.specs.Prelude.{◌≡◌, IfOk, IfErr};
+ghost use Rattle.lnt_wire.specs.Borrowed.{value_of};
+
+use crate::fault::{Fault, Reason};
+use crate::form::FormValue;
+use crate::items::Items;
+use std::alloc::Global;
+
+/// A value in one of the forms, whose bytes are borrowed.
+#[derive(Clone, Copy, Debug)]
+pub enum ValueView<'a> {
+    /// The bytes before the zero byte.
+    Text(&'a [u8]),
+    /// An offset into the section `.debug_line_str`.
+    LineStrp(u64),
+    /// An offset into the section `.debug_str`.
+    Strp(u64),
+    Udata(u64),
+    Data1(u8),
+    Data2(u16),
+    Data4(u32),
+    Data8(u64),
+    /// The bytes as they stand.
+    Data16([u8; 16]),
+    /// The bytes behind the length, here and below.
+    Block(&'a [u8]),
+    Block1(&'a [u8]),
+    Block2(&'a [u8]),
+    Block4(&'a [u8]),
+}
+
+/// The value that the view stands for. Its bytes are copied, of a value that was read at the place. The only error is
+/// `Memory`.
+#[inline(always)]
+pub(crate) fn owned(alloc: Global, view: ValueView<'_>, place: u64) -> Result<FormValue, Fault>
+    ensures ok { IfOk result (λ value. value ≡ value_of view.entry) }
+    ensures err { IfErr result (λ fault. fault.reason ≡ Reason.Memory) }
+{
+    match view {
+        ValueView::Text(text) => Ok(FormValue::Text(copied(alloc, text, place)?)),
+        ValueView::LineStrp(offset) => Ok(FormValue::LineStrp(offset)),
+        ValueView::Strp(offset) => Ok(FormValue::Strp(offset)),
+        ValueView::Udata(n) => Ok(FormValue::Udata(n)),
+        ValueView::Data1(n) => Ok(FormValue::Data1(n)),
+        ValueView::Data2(n) => Ok(FormValue::Data2(n)),
+        ValueView::Data4(n) => Ok(FormValue::Data4(n)),
+        ValueView::Data8(n) => Ok(FormValue::Data8(n)),
+        ValueView::Data16(bytes) => Ok(FormValue::Data16(bytes)),
+        ValueView::Block(block) => Ok(FormValue::Block(copied(alloc, block, place)?)),
+        ValueView::Block1(block) => Ok(FormValue::Block1(copied(alloc, block, place)?)),
+        ValueView::Block2(block) => Ok(FormValue::Block2(copied(alloc, block, place)?)),
+        ValueView::Block4(block) => Ok(FormValue::Block4(copied(alloc, block, place)?)),
+    }
+}
+
+// A copy of the bytes.
+#[inline(never)]
+fn copied(alloc: Global, bytes: &[u8], place: u64) -> Result<Items<u8>, Fault>
+    ensures ok { IfOk result (λ items. items ≡ bytes.now) }
+    ensures err { IfErr result (λ fault. fault.reason ≡ Reason.Memory) }
+{
+    match Vec::from_slice(alloc, bytes) {
+        Ok(values) => Ok(Items::new(values)),
+        Err(_) => Err(Fault {
+            place,
+            reason: Reason::Memory,
+        }),
+    }
+}
