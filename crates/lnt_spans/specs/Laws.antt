@@ -1,5 +1,6 @@
 pub mod Answering
 pub mod Between
+pub mod Bisection
 pub mod EachTwo
 pub mod Positions
 -- What the laws of spans say.

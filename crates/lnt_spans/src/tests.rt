@@ -4,8 +4,8 @@ ghost use Rattle.lnt_spans.specs.Positions.{IsBelow};
 ghost use Rattle.lnt_spans.specs.Spans.{AreDisjoint, AreInOrder};
 
 use crate::{
-    Answer, Difference, Merge, More, Position, Probes, Span, Version, canonical, laws, lookup,
-    put_in_order,
+    Answer, Difference, Merge, More, Position, Probes, Span, SpanSlice, Version, canonical, laws,
+    lookup, put_in_order,
 };
 use std::test::Fail;
 
@@ -158,7 +158,7 @@ fn runs_put_in_order(rt: HostRuntime) {
 fn compared(section: &[Span], version: Version, table: &[Span]) -> Option<Difference>
     requires { AreInOrder section.now }
 {
-    let mut merge = Merge::new(section, version);
+    let mut merge = Merge::new(SpanSlice::of(section), version);
     for span in table {
         if merge.takes(span) {
             merge.push(span);
