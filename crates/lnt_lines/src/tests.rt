@@ -1,10 +1,10 @@
 mod worked;
 
-use crate::{Judged, Lines, No, Options, Stop, verify};
+use crate::{Index, Judged, JudgedIndex, Lines, No, Options, Stop, index_section, verify};
 use lnt_header::Which;
 use lnt_machine::RunFault;
 use lnt_rows::SeqId;
-use lnt_spans::{Answer, More, Position, Probes, Version};
+use lnt_spans::{Answer, More, Position, Probes, Version, collect};
 use lnt_wire::{Counted, Fault, Order, Reason, Strings};
 use std::alloc::{AllocError, Global};
 use std::io::{self, Read};
@@ -299,5 +299,72 @@ fn no_unit(rt: HostRuntime) -> Result<(), Fail> {
         return Err(Fail::from(AllocError));
     };
     assert!(rt; lines.units().is_empty() && lines.spans().is_empty());
+    Ok(())
+}
+
+// The index of a section without strings, in little-endian order. None where it isn't good.
+fn indexed(alloc: Global, bytes: &[u8]) -> Option<Index<'static>> {
+    let reader = Reader {
+        bytes,
+        fails: false,
+    };
+    let strings = Strings {
+        line: &[],
+        general: &[],
+    };
+    let options = Options {
+        order: Order::Little,
+        dead: None,
+    };
+    match index_section(
+        alloc,
+        &mut Counted::new(reader, 1 << 30),
+        &strings,
+        &options,
+    ) {
+        Ok(JudgedIndex::Good(index)) => Some(index),
+        _ => None,
+    }
+}
+
+// Whether the index answers as the lines at some positions, and has their spans, units and paths.
+fn is_index_of(alloc: Global, index: &Index<'_>, lines: &Lines) -> bool {
+    for address in 0xff0..0x2040 {
+        let position = Position { address, op: 1 };
+        let answer = index.lookup(position, &mut Probes::new());
+        if lines.lookup(position, &mut Probes::new()) != answer {
+            return false;
+        }
+    }
+    let Ok(spans) = collect(alloc, index.spans()) else {
+        return false;
+    };
+    for unit in lines.units() {
+        if index.file_count(*unit) != lines.file_count(*unit) {
+            return false;
+        }
+        match (
+            index.path_of(alloc, *unit, 1),
+            lines.path_of(alloc, *unit, 1),
+        ) {
+            (Ok(Some(one)), Ok(Some(other))) if one.as_slice() == other.as_slice() => {}
+            _ => return false,
+        }
+    }
+    spans.as_slice() == lines.spans() && index.units() == lines.units()
+}
+
+#[test]
+fn an_index_says_what_the_lines_say(rt: HostRuntime) -> Result<(), Fail> {
+    let alloc = rt.alloc();
+    let two = joined(alloc, &[&THREE_OPERATIONS_PER_INSTRUCTION, &PLAIN])?;
+    let lines = lines_of(judged(alloc, &two, None));
+    let index = indexed(alloc, &two);
+    assert!(rt;
+        match (&index, &lines) {
+            (Some(index), Some(lines)) => is_index_of(alloc, index, lines),
+            _ => false,
+        }
+    );
     Ok(())
 }

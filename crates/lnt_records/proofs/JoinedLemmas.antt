@@ -1,5 +1,5 @@
 -- Spans that come one by one, joined and written.
-use Rattle.std.proofs.Common.{◌≡◌, ◌∙◌, ℕ, List, [], ◌∷◌, ◌++◌, Option, Some, None, refl, sym, ap, subst, append_assoc}
+use Rattle.std.proofs.Common.{◌≡◌, ◌∙◌, ℕ, List, [], ◌∷◌, ◌++◌, Option, Some, None, sym, ap, subst}
 use Rattle.std.specs.Prelude.{IfSome}
 use Rattle.std.specs.List.{All, AllByRecursion, cons_option}
 use Rattle.std.specs.Io.KnownBytes.{Appends}
@@ -8,37 +8,13 @@ use Rattle.std.proofs.lemmas.List.Elements.{All-cons, All-head, All-nil, All-tai
 use Rattle.lnt_spans.specs.declared.answer.Version.{Version}
 use Rattle.lnt_spans.specs.declared.position.Position.{Position}
 use Rattle.lnt_spans.specs.declared.span.Span.{Span}
-use Rattle.lnt_spans.specs.Coming.{GivesFirst}
 use Rattle.lnt_spans.specs.Joined.{HasJoined}
 use Rattle.lnt_spans.specs.Laws.Answering.{front_in_order}
+use Rattle.lnt_spans.specs.Laws.Coming.{HasGiven}
 use Rattle.lnt_spans.specs.Spans.{AreInOrder, IsCanonical, span_answer, version_answer}
 use Rattle.lnt_records.specs.Laws.Versions.{answers_of_version}
 use Rattle.lnt_records.specs.Written.{IsCanonicalTable, IsOfVersion, TellsAll}
 use Rattle.lnt_records.proofs.WriteLemmas.{Lines, lines_done}
-
--- Of what is to come, these spans were pushed, and the rest is still to come.
-pub record HasPushed (list pushed : List Span) (AreLeft : List Span → Type 0) : Type 0 where
-  pub rest : List Span
-  pub list_is : list ≡ pushed ++ rest
-  pub left : AreLeft rest
-
-pub none_pushed : (list : List Span) (AreLeft : List Span → Type 0) → AreLeft list → HasPushed list [] AreLeft
-none_pushed list AreLeft left = record { rest = list; list_is = refl; left = left }
-
-pub one_pushed : (list pushed : List Span) (span : Span) (AreLeft AreLeft' : List Span → Type 0) → HasPushed list pushed AreLeft → ((spans : List Span) → AreLeft spans → GivesFirst AreLeft' spans (Some span))
-    → HasPushed list (pushed ++ span ∷ []) AreLeft'
-one_pushed list pushed span AreLeft AreLeft' h gives = by_rest h.rest h.list_is (gives h.rest h.left)
-  where
-    by_rest : (rest : List Span) → list ≡ pushed ++ rest → GivesFirst AreLeft' rest (Some span) → HasPushed list (pushed ++ span ∷ []) AreLeft'
-    by_rest [] e g = absurd g
-    by_rest (first ∷ rest) e g = record { rest = rest; list_is = e ∙ ap (λ (s : Span). pushed ++ s ∷ rest) (sym g.0) ∙ sym (append_assoc pushed (span ∷ []) rest); left = g.1 }
-
-pub all_pushed : (list pushed : List Span) (AreLeft AreLeft' : List Span → Type 0) → HasPushed list pushed AreLeft → ((spans : List Span) → AreLeft spans → GivesFirst AreLeft' spans None) → list ≡ pushed
-all_pushed list pushed AreLeft AreLeft' h gives = by_rest h.rest h.list_is (gives h.rest h.left)
-  where
-    by_rest : (rest : List Span) → list ≡ pushed ++ rest → GivesFirst AreLeft' rest None → list ≡ pushed
-    by_rest [] e g = e ∙ append-nil pushed
-    by_rest (first ∷ rest) e g = absurd g
 
 -- ---- answers of the version
 
@@ -82,14 +58,14 @@ pub record AreTold (list : List Span) : Type 0 where
   pub order : AreInOrder list
   pub tells : AllByRecursion TellsAll list
 
-front_told : (list pushed : List Span) (AreLeft : List Span → Type 0) → AreTold list → HasPushed list pushed AreLeft → AreTold pushed
+front_told : (list pushed : List Span) (AreLeft : List Span → Type 0) → AreTold list → HasGiven list pushed AreLeft → AreTold pushed
 front_told list pushed AreLeft told h = record {
   order = front_in_order pushed h.rest (subst AreInOrder h.list_is told.order);
   tells = all_left TellsAll pushed h.rest (subst (AllByRecursion TellsAll) h.list_is told.tells);
 }
 
 -- the one that a push gives
-pub given_of_version : (version : Version) (list pushed given : List Span) (one last : Option Span) (AreLeft : List Span → Type 0) → AreTold list → HasPushed list pushed AreLeft
+pub given_of_version : (version : Version) (list pushed given : List Span) (one last : Option Span) (AreLeft : List Span → Type 0) → AreTold list → HasGiven list pushed AreLeft
     → HasJoined version pushed (given ++ cons_option one []) last → IfSome one (HasVersion version)
 given_of_version version list pushed given one last AreLeft told h joined =
     let front = front_told list pushed AreLeft told h in
@@ -97,7 +73,7 @@ given_of_version version list pushed given one last AreLeft told h joined =
     (all_left (HasVersion version) (given ++ cons_option one []) (cons_option last []) (joined_of_version version pushed (given ++ cons_option one []) last joined front.order front.tells))
 
 -- the last one
-pub rest_of_version : (version : Version) (list pushed given : List Span) (last : Option Span) (AreLeft : List Span → Type 0) → AreTold list → HasPushed list pushed AreLeft
+pub rest_of_version : (version : Version) (list pushed given : List Span) (last : Option Span) (AreLeft : List Span → Type 0) → AreTold list → HasGiven list pushed AreLeft
     → AreGiven version pushed (given ++ cons_option last []) → IfSome last (HasVersion version)
 rest_of_version version list pushed given last AreLeft told h all =
     let front = front_told list pushed AreLeft told h in

@@ -1,16 +1,15 @@
 -- The extent that holds a position, found by bisection, and what its sequence answers.
 use Rattle.std.proofs.Common.{◌≡◌, ◌≢◌, ℕ, ◌+◌, ◌-◌, ◌<◌, ◌≤◌, Bool, true, false, List, [], ◌∷◌, ◌++◌, Option, Some, None, refl, sym, ap, ◌∙◌, subst, arith, length, get_or, ⊎_elim}
-use Rattle.std.specs.Prelude.{reverse, cond}
-use Rattle.std.specs.List.{All, AllPairs, Contains, find}
+use Rattle.std.specs.Prelude.{cond}
+use Rattle.std.specs.List.{All, find}
 use Rattle.std.specs.List.Sorted.{IsPermutation}
 use Rattle.std.specs.Option.{option_and_then, option_map}
-use Rattle.std.proofs.lemmas.Bool.{cases_eq, cases_lt, true≢false}
+use Rattle.std.proofs.lemmas.Bool.{cases_eq, cases_lt}
 use Rattle.std.proofs.lemmas.List.{append-nil, append_assoc, get_or_default, reverse-append}
 use Rattle.std.proofs.lemmas.List.Elements.{Contains-get_or}
 use Rattle.std.proofs.lemmas.List.Sorted.{All-permutation, Contains-permutation, IsPermutation-sym}
 use Rattle.lnt_machine.specs.declared.row.Row.{Row}
 use Rattle.lnt_machine.specs.Walking.{GivesFirst, GivesRow, SequenceWalk, WillGive}
-use Rattle.lnt_spans.specs.declared.answer.Answer.{Answer}
 use Rattle.lnt_spans.specs.declared.position.Position.{Position}
 use Rattle.lnt_spans.specs.Positions.{IsBelow, IsAtMost, is_at_most}
 use Rattle.lnt_spans.specs.Laws.EachTwo.{each_two_from_pairs, find_none, find_only}
@@ -82,7 +81,7 @@ found_nowhere extents p low high b h = λ k d l i.
 
 -- ---- the sequence that holds a position
 
-held_once : (sequences : List Placed) (p : Position) → AreApart sequences
+pub held_once : (sequences : List Placed) (p : Position) → AreApart sequences
     → (i j : ℕ) (d : Placed) → i ≢ j → i < length sequences → j < length sequences → holds p (get_or sequences i d).rows ≡ true → holds p (get_or sequences j d).rows ≡ true → ⊥
 held_once sequences p apart =
     each_two_from_pairs (λ (a b : Placed). holds p a.rows ≡ true → holds p b.rows ≡ true → ⊥) (λ a b n x y. n y x) sequences
@@ -95,7 +94,7 @@ not_held_by_test rows p h = by_test (holds p rows) refl
     by_test true e = absurd (h (holds_from_test rows p e))
     by_test false e = e
 
-answer_none : (sequences : List Placed) (extents : List Extent) (p : Position) → IsPermutation (extents_of sequences) extents → NoneHolds extents p → answer_in sequences p ≡ None
+pub answer_none : (sequences : List Placed) (extents : List Extent) (p : Position) → IsPermutation (extents_of sequences) extents → NoneHolds extents p → answer_in sequences p ≡ None
 answer_none sequences extents p permuted none =
     let before : NoneHolds (extents_of sequences) p = All-permutation (λ (e : Extent). IsIn p e → ⊥) extents (extents_of sequences) (IsPermutation-sym (extents_of sequences) extents permuted) none in
     let each = all_back (λ (e : Extent). IsIn p e → ⊥) sequences before in

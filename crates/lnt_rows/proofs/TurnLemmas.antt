@@ -1,6 +1,5 @@
 -- The spans of sequences one after another.
-use Rattle.std.proofs.Common.{◌≡◌, ℕ, List, [], ◌∷◌, ap, subst, sym}
-use Rattle.lnt_machine.specs.declared.row.Row.{Row}
+use Rattle.std.proofs.Common.{List, [], ◌∷◌, ap, subst, sym}
 use Rattle.lnt_spans.specs.declared.position.Position.{Position}
 use Rattle.lnt_spans.specs.declared.span.Span.{Span}
 use Rattle.lnt_spans.specs.Laws.Between.{AreBetween, between_append, between_from, order_from_between}

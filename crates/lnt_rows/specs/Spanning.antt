@@ -1,5 +1,5 @@
 -- The spans of a sequence, one after another as its rows come.
-use Rattle.std.specs.Prelude.{◌≡◌, ℕ, List, [], ◌∷◌, Option, Some, None}
+use Rattle.std.specs.Prelude.{◌≡◌, ℕ, cond, List, [], ◌∷◌, length, Option, Some, None}
 use Rattle.lnt_machine.specs.declared.row.Row.{Row}
 use Rattle.lnt_machine.specs.Walking.{SequenceWalk, WillGive}
 use Rattle.lnt_spans.specs.declared.span.Span.{Span}
@@ -9,6 +9,10 @@ use Rattle.lnt_rows.specs.RowSpans.{row_spans, spans_behind}
 abbrev pub spans_left : ℕ → Option Row → List Row → List Span
 spans_left unit None rows = row_spans unit rows
 spans_left unit (Some row) rows = spans_behind unit row rows
+
+-- at most so many rows are
+abbrev pub rows_left : SequenceWalk → ℕ
+rows_left walk = cond walk.ended 0 (length walk.walk.at.rest)
 
 -- these spans are still to come
 pub record HasSpans (unit : ℕ) (spans : List Span) (walk : SequenceWalk) (last : Option Row) : Type 0 where

@@ -1,6 +1,6 @@
 //! Laws of what rows say of positions, each the contract of a function without parameters that does nothing.
 ghost use Rattle.lnt_rows.specs.Extents.{HolderAnswers};
-ghost use Rattle.lnt_rows.specs.InTurn.{SpansInTurn};
+ghost use Rattle.lnt_rows.specs.InTurn.{EntriesInTurn, SpansInTurn};
 ghost use Rattle.lnt_rows.specs.Laws.{CollectedUnit, DistinctSequences, FallIsNotOrdered, MissingFileIsNotThere, OverlapIsNotApart, SequenceSpans, SpansAnswer};
 
 /// The spans of sequences whose positions never fall answer at every position as their rows do.
@@ -52,4 +52,10 @@ pub fn holder_answers()
 #[tactic(auto, using(crate::proofs::TurnLemmas::spans_in_turn))]
 pub fn spans_in_turn()
     ensures { SpansInTurn }
+{}
+
+/// The sequences of settled extents, in the order of these, have spans in order, which answer as all sequences do.
+#[tactic(auto, using(crate::proofs::EntryLemmas::entries_in_turn))]
+pub fn entries_in_turn()
+    ensures { EntriesInTurn }
 {}

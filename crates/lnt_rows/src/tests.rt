@@ -2,9 +2,9 @@ ghost use Rattle.std.specs.Prelude.{◌≡◌, ℕ, true, [], List, Option, IfSo
 ghost use Rattle.lnt_rows.specs.Sequences.{Placed, last_row};
 ghost use Rattle.lnt_rows.specs.Watching.{CollectsRows, HasSeen};
 
-use crate::{Collected, MissingFile, Overlap, SeqId, Watch, laws};
+use crate::{Collected, Extent, MissingFile, Overlap, SeqId, Watch, laws};
 use lnt_machine::Row;
-use lnt_spans::{Answer, More, Position, Span};
+use lnt_spans::Position;
 use std::alloc::{AllocError, Global};
 use std::test::Fail;
 
@@ -39,24 +39,14 @@ fn at(address: u64, op: u64) -> Position {
     Position { address, op }
 }
 
-// The span of a row of the unit at 0x95.
-fn span(low: Position, high: Position, line: u64) -> Span {
-    let answer = Answer {
-        unit: 0x95,
-        file: 1,
-        line,
-        column: 0,
-        is_stmt: true,
-        more: Some(More {
-            isa: 0,
-            discriminator: 0,
-        }),
-    };
-    Span { low, high, answer }
-}
-
 fn id(index: u64) -> SeqId {
     SeqId { unit: 0x95, index }
+}
+
+// What a sequence of the unit at 0x95 holds.
+fn extent(low: Position, high: Position, index: u64) -> Extent {
+    let id = id(index);
+    Extent { low, high, id }
 }
 
 // What is found of a unit's rows.
@@ -65,7 +55,7 @@ enum Judged {
     MissingFile(MissingFile),
     Falls(u64),
     Overlap(Overlap),
-    Good(Vec<Span>),
+    Good(Vec<Extent>),
 }
 
 // Sees rows of a unit, of which no row was seen.
@@ -94,52 +84,37 @@ fn judge(alloc: Global, dead: Option<u64>, rows: &[Row]) -> Result<Judged, Alloc
     if let Some(row) = watch.falls() {
         return Ok(Judged::Falls(row));
     }
-    match collected.settled() {
-        Ok(spans) => Ok(Judged::Good(spans)),
+    match collected.entries() {
+        Ok(extents) => Ok(Judged::Good(extents)),
         Err(overlap) => Ok(Judged::Overlap(overlap)),
     }
 }
 
-// Whether they were judged good, with these spans.
-fn is_good(judged: &Judged, expected: &[Span]) -> bool {
+// Whether they were judged good, with these extents.
+fn is_good(judged: &Judged, expected: &[Extent]) -> bool {
     match judged {
-        Judged::Good(spans) => spans.as_slice() == expected,
+        Judged::Good(extents) => extents.as_slice() == expected,
         _ => false,
     }
 }
 
 #[test]
-fn spans_of_rows(rt: HostRuntime) -> Result<(), Fail> {
+fn extents_of_rows(rt: HostRuntime) -> Result<(), Fail> {
     let alloc = rt.alloc();
     let plain = [row(0x1000, 0, 3), row(0x1004, 0, 4), end(0x1006)];
-    let expected = [
-        span(at(0x1000, 0), at(0x1004, 0), 3),
-        span(at(0x1004, 0), at(0x1006, 0), 4),
-    ];
+    let expected = [extent(at(0x1000, 0), at(0x1006, 0), 0)];
     assert!(rt; is_good(&judge(alloc, None, &plain)?, &expected));
     assert!(rt; is_good(&judge(alloc, Some(0x1004), &plain)?, &expected));
     assert!(rt; is_good(&judge(alloc, Some(0x1000), &plain)?, &[]));
-    let last_counts = [row(0x1000, 0, 3), row(0x1000, 0, 9), end(0x1004)];
-    let expected = [span(at(0x1000, 0), at(0x1004, 0), 9)];
-    assert!(rt; is_good(&judge(alloc, None, &last_counts)?, &expected));
-    let three_operations = [
-        row(0x2000, 0, 3),
-        row(0x2000, 2, 3),
-        row(0x2010, 1, 4),
-        end(0x2020),
-    ];
-    let expected = [
-        span(at(0x2000, 0), at(0x2000, 2), 3),
-        span(at(0x2000, 2), at(0x2010, 1), 3),
-        span(at(0x2010, 1), at(0x2020, 0), 4),
-    ];
+    let three_operations = [row(0x2000, 2, 3), row(0x2010, 1, 4), end(0x2020)];
+    let expected = [extent(at(0x2000, 2), at(0x2020, 0), 0)];
     assert!(rt; is_good(&judge(alloc, None, &three_operations)?, &expected));
     assert!(rt; is_good(&judge(alloc, None, &[])?, &[]));
     Ok(())
 }
 
 #[test]
-fn spans_of_sequences(rt: HostRuntime) -> Result<(), Fail> {
+fn extents_of_sequences(rt: HostRuntime) -> Result<(), Fail> {
     let alloc = rt.alloc();
     let falling = [
         row(0x2000, 0, 5),
@@ -150,9 +125,9 @@ fn spans_of_sequences(rt: HostRuntime) -> Result<(), Fail> {
         end(0x1001),
     ];
     let expected = [
-        span(at(0x1000, 0), at(0x1001, 0), 3),
-        span(at(0x1001, 0), at(0x1002, 0), 4),
-        span(at(0x2000, 0), at(0x2001, 0), 5),
+        extent(at(0x1000, 0), at(0x1001, 0), 2),
+        extent(at(0x1001, 0), at(0x1002, 0), 1),
+        extent(at(0x2000, 0), at(0x2001, 0), 0),
     ];
     assert!(rt; is_good(&judge(alloc, None, &falling)?, &expected));
     let empty = [
@@ -163,10 +138,7 @@ fn spans_of_sequences(rt: HostRuntime) -> Result<(), Fail> {
         row(0x1002, 0, 7),
         end(0x1002),
     ];
-    let expected = [
-        span(at(0x1000, 0), at(0x1004, 0), 3),
-        span(at(0x1004, 0), at(0x1006, 0), 4),
-    ];
+    let expected = [extent(at(0x1000, 0), at(0x1006, 0), 0)];
     assert!(rt; is_good(&judge(alloc, None, &empty)?, &expected));
     Ok(())
 }
@@ -210,7 +182,7 @@ fn overlaps(rt: HostRuntime) -> Result<(), Fail> {
     assert!(rt;
         is_good(
             &judge(alloc, Some(0), &same)?,
-            &[span(at(8, 0), at(12, 0), 3)]
+            &[extent(at(8, 0), at(12, 0), 2)]
         )
     );
     Ok(())
@@ -269,4 +241,7 @@ fn laws_are_functions() {
     laws::missing_file_is_not_there();
     laws::collected_unit();
     laws::distinct_sequences();
+    laws::entries_in_turn();
+    laws::holder_answers();
+    laws::spans_in_turn();
 }

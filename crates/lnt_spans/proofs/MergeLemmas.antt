@@ -12,7 +12,7 @@ use Rattle.lnt_spans.specs.declared.span.Span.{Span}
 use Rattle.lnt_spans.specs.Answers.{in_version}
 use Rattle.lnt_spans.specs.declared.ahead.Ahead.{Ahead}
 use Rattle.lnt_spans.specs.Ahead.{IsAhead}
-use Rattle.lnt_spans.specs.Comparing.{Advances, AgreeBefore, Compares, DifferBefore, end_of, GoesOn, HasCompared, IsCompared, IsComparedBy, IsNext, IsSound, Merging, State, state_of}
+use Rattle.lnt_spans.specs.Comparing.{Advances, AgreeBefore, Compares, DifferBefore, end_of, GoesOn, HasCompared, IsCompared, IsComparedBy, IsNext, Merging, State, state_of}
 use Rattle.lnt_spans.specs.Differences.{Agree, IsLeastDifference}
 use Rattle.lnt_spans.specs.Positions.{IsBelow, IsAtMost}
 use Rattle.lnt_spans.specs.Scanning.{DiffersFirst, EndsBehind, IsScanned, Says}

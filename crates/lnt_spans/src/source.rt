@@ -1,9 +1,10 @@
 //! Spans that come one after another.
-ghost use Rattle.std.specs.Prelude.{◌≡◌, ℕ, ◌<◌, List, length, IfSome};
+ghost use Rattle.std.specs.Prelude.{◌≡◌, ℕ, ◌<◌, List, length, IfOk, IfSome};
 ghost use Rattle.lnt_spans.specs.declared.span.Span as spec;
 ghost use Rattle.lnt_spans.specs.Coming.{GivesFirst};
 
 use crate::span::Span;
+use std::alloc::{AllocError, Global};
 use std::marker::Model;
 
 /// Gives spans one after another, from wherever they are held or made.
@@ -19,6 +20,18 @@ pub trait SpanSource {
     fn next_span(&mut self) -> Option<Span>
         ensures gives { (spans : List spec.Span) → to_come self.old spans → GivesFirst (to_come self.new) spans result }
         ensures fewer { IfSome result (λ _. left self.new < left self.old) };
+}
+
+/// All spans of a source. The one error is that memory ran out.
+pub fn collect<S: SpanSource + Drop>(alloc: Global, spans: S) -> Result<Vec<Span>, AllocError>
+    ensures { IfOk result (λ all. (list : List spec.Span) → S.to_come spans list → all.items ≡ list) }
+{
+    let mut spans = spans;
+    let mut all = Vec::new(alloc);
+    while let Some(span) = spans.next_span() {
+        all.push(span)?;
+    }
+    Ok(all)
 }
 
 /// Spans that lie one after another in memory, as a source of them.

@@ -1,11 +1,10 @@
-ghost use Rattle.std.specs.Prelude.{◌≡◌, List};
-ghost use Rattle.std.specs.List.{All, AllPairs};
+ghost use Rattle.std.specs.Prelude.{◌≡◌};
 ghost use Rattle.lnt_spans.specs.Positions.{IsBelow};
-ghost use Rattle.lnt_spans.specs.Spans.{AreDisjoint, AreInOrder};
+ghost use Rattle.lnt_spans.specs.Spans.{AreInOrder};
 
 use crate::{
     Answer, Difference, Merge, More, Position, Probes, Span, SpanSlice, Version, canonical, laws,
-    lookup, put_in_order,
+    lookup,
 };
 use std::test::Fail;
 
@@ -130,28 +129,6 @@ fn canonical_spans(rt: HostRuntime) -> Result<(), Fail> {
     laws::borders();
     laws::one_canonical();
     Ok(())
-}
-
-#[test]
-fn spans_put_in_order(rt: HostRuntime) {
-    let first = span(at(0x2000, 0), at(0x2010, 1), line(3));
-    let second = span(at(0x2010, 1), at(0x2020, 0), line(4));
-    let mut spans = [second, first];
-    put_in_order(rt.alloc(), &mut spans, &[]);
-    assert_eq!(rt; spans, [first, second]);
-}
-
-// Two runs, the second of which begins and ends below the first. Their ends may be told wrong.
-#[test]
-fn runs_put_in_order(rt: HostRuntime) {
-    let first = span(at(0x1000, 0), at(0x1004, 0), line(1));
-    let second = span(at(0x1004, 0), at(0x1008, 0), line(2));
-    let last = span(at(0x2000, 0), at(0x2004, 0), line(3));
-    for ends in [[1, 3], [3, 1], [2, 9]] {
-        let mut spans = [last, first, second];
-        put_in_order(rt.alloc(), &mut spans, &ends);
-        assert_eq!(rt; spans, [first, second, last]);
-    }
 }
 
 // Where a section and a table of these records differ first. A record that isn't in order is left out.

@@ -1,4 +1,4 @@
-use Rattle.std.proofs.Common.{subst, sym}
+use Rattle.std.proofs.Common.{subst}
 use Rattle.lnt_spans.specs.declared.position.Position.{Position}
 use Rattle.lnt_spans.specs.Positions.{IsAtMost, IsBelow}
 use Rattle.lnt_rows.proofs.HolderLemmas.{looked_all, looked_above, looked_here, looked_none}
