@@ -7,9 +7,9 @@ use crate::halt::Halt;
 use crate::opener::{Opener, open_file};
 use crate::stop::{CliStop, Status};
 use crate::text::Quoted;
-use lnt_lines::{Judged, Lines, Options, Stop, verify};
+use lnt_lines::{Index, JudgedIndex, Options, Stop, index_section};
 use lnt_spans::{Position, Probes, Version};
-use lnt_table::{Verdict, WriteStop, check, write_table};
+use lnt_table::{Verdict, WriteStop, check, write_index};
 use lnt_wire::{Source, SourceStop, Strings, read_all};
 use std::alloc::Global;
 use std::io::Write;
@@ -51,25 +51,49 @@ fn halt_of(stop: Stop) -> Halt {
     }
 }
 
-// The lines of a good section. Of another one its line is printed.
-pub(crate) fn lines_of<O: Opener, W: Write>(
+// The bytes of both string sections.
+#[derive(Drop)]
+pub(crate) struct StringSections {
+    line: Vec<u8>,
+    general: Vec<u8>,
+}
+
+impl StringSections {
+    // All bytes of both files; none where no file is named.
+    pub(crate) fn read<O: Opener>(
+        alloc: Global,
+        from: &Judging<'_>,
+        opener: &mut O,
+    ) -> Result<StringSections, CliStop>
+        ensures { IfErr result (λ stop. IsUsage stop → ⊥) }
+    {
+        let line = read_strings(alloc, opener, from.line_strings)?;
+        let general = read_strings(alloc, opener, from.strings)?;
+        Ok(StringSections { line, general })
+    }
+
+    pub(crate) fn strings(&self) -> Strings<'_> {
+        Strings {
+            line: &self.line,
+            general: &self.general,
+        }
+    }
+}
+
+// The index of a good section. Of another one its line is printed.
+pub(crate) fn index_of<'s, O: Opener, W: Write>(
     alloc: Global,
     from: &Judging<'_>,
+    strings: &Strings<'s>,
     opener: &mut O,
     out: &mut W,
-) -> Result<Option<Lines>, CliStop>
+) -> Result<Option<Index<'s>>, CliStop>
     ensures { IfErr result (λ stop. IsUsage stop → ⊥) }
 {
-    let line = read_strings(alloc, opener, from.line_strings)?;
-    let general = read_strings(alloc, opener, from.strings)?;
     let mut source = open_file(alloc, opener, from.section)?;
-    let strings = Strings {
-        line: &line,
-        general: &general,
-    };
-    match verify(alloc, &mut source, &strings, &from.options) {
-        Ok(Judged::Good(lines)) => Ok(Some(lines)),
-        Ok(Judged::Bad(no)) => {
+    match index_section(alloc, &mut source, strings, &from.options) {
+        Ok(JudgedIndex::Good(index)) => Ok(Some(index)),
+        Ok(JudgedIndex::Bad(no)) => {
             writeln!(out, "{}", NoLine(no))?;
             Ok(None)
         }
@@ -80,12 +104,12 @@ pub(crate) fn lines_of<O: Opener, W: Write>(
 // Prints what is answered at the position.
 pub(crate) fn print_lookup<W: Write>(
     alloc: Global,
-    lines: &Lines,
+    index: &Index<'_>,
     position: Position,
     out: &mut W,
 ) -> Result<Status, Halt> {
     write!(out, "{} ", PositionText(position))?;
-    let Some(answer) = lines.lookup(position, &mut Probes::new()) else {
+    let Some(answer) = index.lookup(position, &mut Probes::new()) else {
         writeln!(out, "none")?;
         return Ok(Status::Done);
     };
@@ -95,7 +119,7 @@ pub(crate) fn print_lookup<W: Write>(
         out,
         "unit {unit} file {file} line {line} column {column} stmt {stmt}"
     )?;
-    match lines.path_of(alloc, unit, file) {
+    match index.path_of(alloc, unit, file) {
         Ok(Some(path)) => writeln!(out, " path {}", Quoted(&path))?,
         Ok(None) => writeln!(out)?,
         Err(stop) => return Err(halt_of(stop)),
@@ -106,11 +130,11 @@ pub(crate) fn print_lookup<W: Write>(
 // Prints the address table of a good section.
 pub(crate) fn print_table<W: Write>(
     alloc: Global,
-    lines: &Lines,
+    index: &Index<'_>,
     version: Version,
     out: &mut W,
 ) -> Result<Status, Halt> {
-    match write_table(alloc, lines, version, out) {
+    match write_index(alloc, index, version, out) {
         Ok(()) => Ok(Status::Done),
         Err(WriteStop::Memory) => Err(Halt::Memory),
         Err(WriteStop::Write) => Err(Halt::Write),
@@ -127,14 +151,10 @@ pub(crate) fn print_check<O: Opener, W: Write>(
 ) -> Result<Status, CliStop>
     ensures { IfErr result (λ stop. IsUsage stop → ⊥) }
 {
-    let line = read_strings(alloc, opener, from.line_strings)?;
-    let general = read_strings(alloc, opener, from.strings)?;
+    let sections = StringSections::read(alloc, from, opener)?;
+    let strings = sections.strings();
     let mut section = open_file(alloc, opener, from.section)?;
     let mut records = open_file(alloc, opener, table)?;
-    let strings = Strings {
-        line: &line,
-        general: &general,
-    };
     match check(alloc, &mut section, &strings, &mut records, &from.options) {
         Ok(Verdict::Yes) => {
             writeln!(out, "yes")?;

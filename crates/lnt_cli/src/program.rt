@@ -6,7 +6,7 @@ ghost use Rattle.lnt_cli.specs.Stops.{IsUsage};
 use crate::convert::print_converted;
 use crate::dump::print_dump;
 use crate::halt::Halt;
-use crate::judged::{Judging, lines_of, print_check, print_lookup, print_table};
+use crate::judged::{Judging, StringSections, index_of, print_check, print_lookup, print_table};
 use crate::opener::{Opener, open_file};
 use crate::stop::{CliStop, Status};
 use crate::sums::print_sums;
@@ -76,13 +76,14 @@ fn answer<O: Opener, W: Write>(
 ) -> Result<Status, CliStop>
     ensures { IfErr result (λ stop. IsUsage stop → ⊥) }
 {
-    let Some(lines) = lines_of(alloc, from, opener, out)? else {
+    let sections = StringSections::read(alloc, from, opener)?;
+    let Some(index) = index_of(alloc, from, &sections.strings(), opener, out)? else {
         return Ok(Status::No);
     };
     let ended = match question {
-        Question::Lookup(position) => print_lookup(alloc, &lines, position, out),
-        Question::Table(version) => print_table(alloc, &lines, version, out),
-        Question::Md5 => print_sums(alloc, &lines, opener, out),
+        Question::Lookup(position) => print_lookup(alloc, &index, position, out),
+        Question::Table(version) => print_table(alloc, &index, version, out),
+        Question::Md5 => print_sums(alloc, &index, opener, out),
     };
     of_file(alloc, from.section, ended)
 }

@@ -3,7 +3,7 @@ use crate::halt::Halt;
 use crate::opener::{LIMIT, Opener};
 use crate::stop::Status;
 use crate::text::Quoted;
-use lnt_lines::{Lines, Stop};
+use lnt_lines::{Index, Stop};
 use lnt_sums::{Agreement, md5_agrees};
 use lnt_wire::Counted;
 use std::alloc::Global;
@@ -13,14 +13,14 @@ use std::str;
 // Prints a line for each file with a listed sum, unit by unit: whether the file has it.
 pub(crate) fn print_sums<O: Opener, W: Write>(
     alloc: Global,
-    lines: &Lines,
+    index: &Index<'_>,
     opener: &mut O,
     out: &mut W,
 ) -> Result<Status, Halt> {
     let mut status = Status::Done;
-    for unit in lines.units() {
-        for file in 0..lines.file_count(*unit) {
-            if print_sum(alloc, lines, *unit, file, opener, out)? == Status::No {
+    for unit in index.units() {
+        for file in 0..index.file_count(*unit) {
+            if print_sum(alloc, index, *unit, file, opener, out)? == Status::No {
                 status = Status::No;
             }
         }
@@ -31,16 +31,16 @@ pub(crate) fn print_sums<O: Opener, W: Write>(
 // Prints the line of a file, where a sum is listed for it.
 fn print_sum<O: Opener, W: Write>(
     alloc: Global,
-    lines: &Lines,
+    index: &Index<'_>,
     unit: u64,
     file: u64,
     opener: &mut O,
     out: &mut W,
 ) -> Result<Status, Halt> {
-    let Some(listed) = lines.listed(unit, file) else {
+    let Some(listed) = index.listed(unit, file) else {
         return Ok(Status::Done);
     };
-    let path = match lines.path_of(alloc, unit, file) {
+    let path = match index.path_of(alloc, unit, file) {
         Ok(Some(path)) => path,
         Ok(None) | Err(Stop::Read | Stop::TooLong) => return Ok(Status::Done),
         Err(Stop::Memory) => return Err(Halt::Memory),
