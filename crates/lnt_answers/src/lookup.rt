@@ -1,15 +1,17 @@
 //! What is answered at a position.
-ghost use Rattle.std.specs.Prelude.{◌≡◌, IfErr, IfOk, None, OnOk};
+ghost use Rattle.std.specs.Prelude.{◌≡◌, ℕ, List, Option, IfErr, IfOk, None, OnOk};
 ghost use Rattle.std.specs.Io.KnownBytes.{Appends};
 ghost use Rattle.lnt_files.specs.declared.halt.Halt.TheVariants.{Write};
 ghost use Rattle.lnt_files.specs.declared.status.Status.TheVariants.{Done};
-ghost use Rattle.lnt_spans.specs.Spans.{span_answer};
+ghost use Rattle.lnt_unit.specs.declared.unit.Parts.{Parts};
+ghost use Rattle.lnt_rows.specs.Sequences.{line_answer};
+ghost use Rattle.lnt_lines.specs.Indexed.{IsIndexOf};
 ghost use Rattle.lnt_files.specs.Halts.{IsPrinting};
 ghost use Rattle.lnt_answers.specs.Lines.{none_text};
 
 use crate::judge::halt_of;
 use lnt_files::{Halt, Status};
-use lnt_lines::Lines;
+use lnt_lines::Index;
 use lnt_spans::{Answer, Position, Probes};
 use lnt_text::{PositionText, Quoted};
 use std::alloc::Global;
@@ -20,20 +22,20 @@ use std::io::Write;
 /// It answers `Done`. It stops by `Write` where the writer failed, and by `Memory`.
 pub fn print_lookup<W: Write>(
     alloc: Global,
-    lines: &Lines,
+    index: &Index<'_>,
     position: Position,
     out: &mut W,
 ) -> Result<Status, Halt>
     ensures done { IfOk result (λ status. status ≡ Done) }
     ensures err { IfErr result (λ halt. IsPrinting halt) }
-    ensures none { span_answer lines.now.spans position ≡ None → OnOk result (Appends (W.contents out.old) (W.contents out.new) (none_text position)) }
+    ensures none { (dead : Option ℕ) (units : List (ℕ × Parts)) → IsIndexOf dead units index.now → line_answer dead units position ≡ None → OnOk result (Appends (W.contents out.old) (W.contents out.new) (none_text position)) }
 {
-    let Some(answer) = lines.lookup(position, &mut Probes::new()) else {
+    let Some(answer) = index.lookup(position, &mut Probes::new()) else {
         writeln!(out, "{} none", PositionText(position))?;
         return Ok(Status::Done);
     };
     print_answer(position, &answer, out)?;
-    match lines.path_of(alloc, answer.unit, answer.file) {
+    match index.path_of(alloc, answer.unit, answer.file) {
         Ok(Some(path)) => writeln!(out, " path {}", Quoted(&path))?,
         Ok(None) => writeln!(out)?,
         Err(stop) => return Err(halt_of(stop)),

@@ -1,11 +1,11 @@
 //! Whether files have the sums that are listed.
 ghost use Rattle.std.specs.Prelude.{◌≡◌, IfErr, None, Ok};
 ghost use Rattle.lnt_files.specs.declared.status.Status.TheVariants.{Done};
-ghost use Rattle.lnt_lines.specs.Contents.{sum_in};
+ghost use Rattle.lnt_lines.specs.Indexed.{file_sum_in};
 ghost use Rattle.lnt_files.specs.Halts.{IsPrinting};
 
 use lnt_files::{Halt, LIMIT, Opener, Status};
-use lnt_lines::{Lines, Stop};
+use lnt_lines::{Index, Stop};
 use lnt_sums::{Agreement, md5_agrees};
 use lnt_text::Quoted;
 use lnt_wire::Counted;
@@ -20,16 +20,16 @@ use std::str;
 /// nothing.
 pub fn print_sums<O: Opener, W: Write>(
     alloc: Global,
-    lines: &Lines,
+    index: &Index<'_>,
     opener: &mut O,
     out: &mut W,
 ) -> Result<Status, Halt>
     ensures err { IfErr result IsPrinting }
 {
     let mut status = Status::Done;
-    for unit in lines.units() {
-        for file in 0..lines.file_count(*unit) {
-            if print_sum(alloc, lines, *unit, file, opener, out)? == Status::No {
+    for unit in index.units() {
+        for file in 0..index.file_count(*unit) {
+            if print_sum(alloc, index, *unit, file, opener, out)? == Status::No {
                 status = Status::No;
             }
         }
@@ -40,19 +40,19 @@ pub fn print_sums<O: Opener, W: Write>(
 // Prints the line of a file, where a sum is listed for it.
 fn print_sum<O: Opener, W: Write>(
     alloc: Global,
-    lines: &Lines,
+    index: &Index<'_>,
     unit: u64,
     file: u64,
     opener: &mut O,
     out: &mut W,
 ) -> Result<Status, Halt>
     ensures err { IfErr result IsPrinting }
-    ensures unlisted { sum_in lines.now unit file ≡ None → (out.new ≡ out.old) × (opener.new ≡ opener.old) × (result ≡ Ok Done) }
+    ensures unlisted { file_sum_in index.now unit file ≡ None → (out.new ≡ out.old) × (opener.new ≡ opener.old) × (result ≡ Ok Done) }
 {
-    let Some(listed) = lines.listed(unit, file) else {
+    let Some(listed) = index.listed(unit, file) else {
         return Ok(Status::Done);
     };
-    let path = match lines.path_of(alloc, unit, file) {
+    let path = match index.path_of(alloc, unit, file) {
         Ok(Some(path)) => path,
         Ok(None) | Err(Stop::Read | Stop::TooLong) => return Ok(Status::Done),
         Err(Stop::Memory) => return Err(Halt::Memory),

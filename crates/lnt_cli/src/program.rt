@@ -144,13 +144,13 @@ fn answer_in<O: Opener, W: Write>(
 ) -> Result<Status, Halt> {
     let mut section = open_file(alloc, opener, from.section)?;
     let judged = judge_section(alloc, &mut section, strings, &options_of(from), out)?;
-    let Some(lines) = judged else {
+    let Some(index) = judged else {
         return Ok(Status::No);
     };
     match question {
-        Question::Lookup(position) => print_lookup(alloc, &lines, position, out),
-        Question::Table(version) => print_table(alloc, &lines, version, out),
-        Question::Md5 => print_sums(alloc, &lines, opener, out),
+        Question::Lookup(position) => print_lookup(alloc, &index, position, out),
+        Question::Table(version) => print_table(alloc, &index, version, out),
+        Question::Md5 => print_sums(alloc, &index, opener, out),
     }
 }
 

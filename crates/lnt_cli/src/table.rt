@@ -1,19 +1,21 @@
 //! The subcommands that read and write address tables: `table` and `check`.
-ghost use Rattle.std.specs.Prelude.{◌≡◌, ◌++◌, ◌-◌, ◌^◌, ◌<◌, ℕ, List, IfOk, IfSome, OnOk, codes};
+ghost use Rattle.std.specs.Prelude.{◌≡◌, ◌++◌, ◌-◌, ◌^◌, ◌<◌, ℕ, List, Option, IfOk, IfSome, OnOk, codes};
 ghost use Rattle.std.specs.Io.KnownBytes.{Appends};
 ghost use Rattle.lnt_files.specs.declared.status.Status.TheVariants.{Done, No as StatusNo};
 ghost use Rattle.lnt_files.specs.declared.status.Status.TheVariants as status;
 ghost use Rattle.lnt_table.specs.Headline.{IsTrueVerdict};
-ghost use Rattle.lnt_table.specs.Written.{IsTableOfLines};
+ghost use Rattle.lnt_unit.specs.declared.unit.Parts.{Parts};
+ghost use Rattle.lnt_lines.specs.Indexed.{IsIndexOf};
+ghost use Rattle.lnt_table.specs.Written.{IsTableOfUnits};
 ghost use Rattle.lnt_table.specs.declared.verdict.TableNo.{TableNo as Reason};
 ghost use Rattle.lnt_table.specs.declared.verdict.Verdict.TheVariants.{No, Yes};
 
 use crate::verdict::TableNoLine;
 use lnt_answers::halt_of;
 use lnt_files::{Halt, Status};
-use lnt_lines::{Lines, Options};
+use lnt_lines::{Index, Options};
 use lnt_spans::Version;
-use lnt_table::{Verdict, WriteStop, check, write_table};
+use lnt_table::{Verdict, WriteStop, check, write_index};
 use lnt_wire::{Source, Strings};
 use std::alloc::Global;
 use std::io::Write;
@@ -21,14 +23,15 @@ use std::io::Write;
 // Prints the address table of a good section.
 pub(crate) fn print_table<W: Write>(
     alloc: Global,
-    lines: &Lines,
+    index: &Index<'_>,
     version: Version,
     out: &mut W,
 ) -> Result<Status, Halt>
     ensures done { IfOk result (λ status. status ≡ Done) }
-    ensures table { OnOk result ((bytes : List ℕ) × Appends (W.contents out.old) (W.contents out.new) bytes × IsTableOfLines version lines.now.spans bytes) }
+    ensures table { OnOk result ((bytes : List ℕ) × Appends (W.contents out.old) (W.contents out.new) bytes
+        × ((dead : Option ℕ) (units : List (ℕ × Parts)) → IsIndexOf dead units index.now → IsTableOfUnits version dead units bytes)) }
 {
-    match write_table(alloc, lines, version, out) {
+    match write_index(alloc, index, version, out) {
         Ok(()) => Ok(Status::Done),
         Err(WriteStop::Memory) => Err(Halt::Memory),
         Err(WriteStop::Write) => Err(Halt::Write),

@@ -8,15 +8,20 @@ use Rattle.lnt_stream.specs.Units.{UnitBytes}
 use Rattle.lnt_unit.specs.declared.unit.Parts.{Parts}
 use Rattle.lnt_unit.specs.Laws.Units.{unit_is_some}
 use Rattle.lnt_unit.specs.UnitBytes.{UnitsFrom}
-use Rattle.lnt_entries.specs.Files.{AreFilesOf, KeptFile}
+use Rattle.lnt_machine.specs.Walking.{Kept, Keeps}
+use Rattle.lnt_entries.specs.Tables.{AreUsableTables}
 use Rattle.lnt_rows.specs.Laws.Units.{distinct_sequences, offsets_differ, ordered-append}
-use Rattle.lnt_rows.specs.Rules.{AreDistinct, AreOrdered}
+use Rattle.std.specs.List.Sorted.{IsPermutation}
+use Rattle.lnt_rows.specs.declared.extent.Extent.{Extent}
+use Rattle.lnt_rows.specs.Extents.{AreSettled, extents_of}
+use Rattle.lnt_rows.specs.Rules.{AreApart, AreDistinct, AreOrdered}
 use Rattle.lnt_rows.specs.Sequences.{live_in, live_sequences}
 use Rattle.lnt_spans.specs.Laws.EachTwo.{pairs_cons, pairs_nil}
 use Rattle.lnt_lines.specs.declared.draft.Draft.{Draft}
 use Rattle.lnt_lines.specs.Contents.{AreRising}
 use Rattle.lnt_lines.specs.Drafts.{HasAdded, IsDraftOf}
 use Rattle.lnt_lines.specs.Good.{IsSound}
+use Rattle.lnt_lines.specs.Indexed.{IsIndexOf}
 use Rattle.lnt_lines.specs.Judging.{IsJudgedSound}
 
 -- ---- one unit more
@@ -25,7 +30,7 @@ all_push : {X : Type 0} (P : X → Type 0) (xs : List X) (x : X) → AllByRecurs
 all_push P [] x all here = (here, tt)
 all_push P (y ∷ xs) x all here = (all.0, all_push P xs x all.1 here)
 
-zip_push : {X Y : Type 0} (R : X → Y → Type 0) (xs : List X) (ys : List Y) (x : X) (y : Y) → AllZip R xs ys → R x y → AllZip R (xs ++ x ∷ []) (ys ++ y ∷ [])
+pub zip_push : {X Y : Type 0} (R : X → Y → Type 0) (xs : List X) (ys : List Y) (x : X) (y : Y) → AllZip R xs ys → R x y → AllZip R (xs ++ x ∷ []) (ys ++ y ∷ [])
 zip_push R [] [] x y all here = (here, tt)
 zip_push R [] (v ∷ ys) x y all here = absurd all
 zip_push R (u ∷ xs) [] x y all here = absurd all
@@ -35,9 +40,9 @@ offsets_push : (units : List (ℕ × Parts)) (unit : ℕ × Parts) → map (λ (
 offsets_push [] unit = refl
 offsets_push (first ∷ units) unit = ap (λ (rest : List ℕ). first.0 ∷ rest) (offsets_push units unit)
 
-pub added : (text general : List ℕ) (dead : Option ℕ) (buffer : UnitBytes) (old new : Draft) (offset : ℕ) (files : List KeptFile) → IsJudgedSound text general dead buffer old.collected new.collected files
-    → offset ≡ buffer.offset → new.units.items ≡ old.units.items ++ offset ∷ [] → new.files.items ≡ old.files.items ++ files ∷ [] → HasAdded text general dead buffer old new
-added text general dead buffer old new offset files judged at offsets all = record {
+pub added : (text general : List ℕ) (dead : Option ℕ) (buffer : UnitBytes) (old new : Draft) (offset : ℕ) (kept : Kept) → IsJudgedSound text general dead buffer old.collected new.collected kept
+    → offset ≡ buffer.offset → new.units.items ≡ old.units.items ++ offset ∷ [] → new.programs.items ≡ old.programs.items ++ kept ∷ [] → HasAdded text general dead buffer old new
+added text general dead buffer old new offset kept judged at offsets programs = record {
   unit = judged.unit;
   spelled = judged.spelled;
   drafts = λ units draft. record {
@@ -45,23 +50,12 @@ added text general dead buffer old new offset files judged at offsets all = reco
     collects = judged.collects units draft.collects;
     offsets = offsets ∙ ap (λ (n : ℕ). old.units.items ++ n ∷ []) at ∙ ap (λ (list : List ℕ). list ++ buffer.offset ∷ []) draft.offsets
         ∙ sym (offsets_push units (buffer.offset, judged.unit));
-    files = subst (AllZip (λ (unit : ℕ × Parts) (f : List KeptFile). AreFilesOf text general unit.1.header f) (units ++ (buffer.offset, judged.unit) ∷ [])) (sym all)
-        (zip_push (λ (unit : ℕ × Parts) (f : List KeptFile). AreFilesOf text general unit.1.header f) units old.files.items (buffer.offset, judged.unit) files draft.files judged.files_are);
+    programs = subst (AllZip (λ (unit : ℕ × Parts) (k : Kept). Keeps k unit.1) (units ++ (buffer.offset, judged.unit) ∷ [])) (sym programs)
+        (zip_push (λ (unit : ℕ × Parts) (k : Kept). Keeps k unit.1) units old.programs.items (buffer.offset, judged.unit) kept draft.programs judged.keeps);
   };
 }
 
 -- ---- all units
-
--- as many files as units
-zip_length : {X Y : Type 0} (R : X → Y → Type 0) (f : X → ℕ) (xs : List X) (ys : List Y) → AllZip R xs ys → length (map f xs) ≡ length ys
-zip_length R f [] [] all = refl
-zip_length R f [] (y ∷ ys) all = absurd all
-zip_length R f (x ∷ xs) [] all = absurd all
-zip_length R f (x ∷ xs) (y ∷ ys) all = let more = zip_length R f xs ys all.1 in omega (arith, more)
-
-pub same_number : (text general : List ℕ) (dead : Option ℕ) (units : List (ℕ × Parts)) (draft : Draft) → IsDraftOf text general dead units draft → length draft.units.items ≡ length draft.files.items
-same_number text general dead units draft d =
-    ap length d.offsets ∙ zip_length (λ (unit : ℕ × Parts) (f : List KeptFile). AreFilesOf text general unit.1.header f) (λ (u : ℕ × Parts). u.0) units draft.files.items d.files
 
 offsets_at_least : (order : Order) (k : ℕ) (units : List (ℕ × Parts)) (bytes : List ℕ) → UnitsFrom order k units bytes → All (λ (n : ℕ). k ≤ n) (map (λ (u : ℕ × Parts). u.0) units)
 offsets_at_least order k [] bytes u = All-nil (λ (n : ℕ). k ≤ n)
@@ -87,3 +81,23 @@ distinct order dead units bytes u = distinct_sequences dead units (offsets_diffe
 pub all_ordered : (text general : List ℕ) (dead : Option ℕ) (units : List (ℕ × Parts)) → AllByRecursion (IsSound text general dead) units → AreOrdered (live_sequences dead units)
 all_ordered text general dead [] all = tt
 all_ordered text general dead (unit ∷ units) all = ordered-append (live_in dead unit) (live_sequences dead units) all.0.ordered (all_ordered text general dead units all.1)
+
+-- ---- the index
+
+usable_tables : (text general : List ℕ) (dead : Option ℕ) (units : List (ℕ × Parts)) → AllByRecursion (IsSound text general dead) units → AllByRecursion (λ (unit : ℕ × Parts). AreUsableTables text general unit.1.header) units
+usable_tables text general dead [] all = tt
+usable_tables text general dead (unit ∷ units) all = (all.0.well_formed.tables, usable_tables text general dead units all.1)
+
+pub index_of_draft : (text general : List ℕ) (dead : Option ℕ) (units : List (ℕ × Parts)) (draft : Draft) (entries : List Extent) → IsDraftOf text general dead units draft → AreRising draft.units.items
+    → AreSettled entries → IsPermutation (extents_of (live_sequences dead units)) entries → AreApart (live_sequences dead units)
+    → IsIndexOf dead units (record { line = text; general = general; entries = entries; units = draft.units.items; programs = draft.programs.items })
+index_of_draft text general dead units draft entries d rising settled permuted apart = record {
+  settled = settled;
+  entries = permuted;
+  apart = apart;
+  ordered = all_ordered text general dead units d.sound;
+  rising = rising;
+  offsets = d.offsets;
+  programs = d.programs;
+  tables = usable_tables text general dead units d.sound;
+}

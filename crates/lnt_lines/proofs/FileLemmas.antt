@@ -2,14 +2,17 @@
 use Rattle.std.proofs.Common.{◌≡◌, ◌≢◌, ℕ, zero, suc, ◌==◌, ◌<◌, false, List, [], ◌∷◌, map, length, get_or, refl, sym, ap, subst, ◌∙◌, arith}
 use Rattle.std.specs.Prelude.{None, Option, Some}
 use Rattle.std.specs.List.{All, AllZip, Contains, position, position_or_len, slice_get}
-use Rattle.std.specs.Option.{option_and_then, option_map_or}
+use Rattle.std.specs.Option.{option_and_then, option_map, option_map_or}
 use Rattle.std.proofs.lemmas.List.Sums.{position_or_len_is}
 use Rattle.lnt_wire.specs.declared.format.Order.{Order}
+use Rattle.lnt_header.specs.declared.header.HeaderParts.{HeaderParts}
 use Rattle.lnt_unit.specs.declared.unit.Parts.{Parts}
+use Rattle.lnt_machine.specs.Walking.{Keeps, Kept}
 use Rattle.lnt_unit.specs.UnitBytes.{SectionBytes}
 use Rattle.lnt_entries.specs.Files.{AreFilesOf, KeptFile, kept_path, kept_sum}
-use Rattle.lnt_lines.specs.Contents.{Contents, files_at, files_of, TellsOf}
-use Rattle.lnt_lines.specs.Laws.{FilesOfUnits, ListsFilesOf}
+use Rattle.lnt_lines.specs.Contents.{AreRising, Contents, files_at, files_of, TellsOf}
+use Rattle.lnt_lines.specs.Indexed.{header_in, Indexed, IsIndexOf}
+use Rattle.lnt_lines.specs.Laws.{FilesOfUnits, HeadersOfUnits, ListsFilesOf}
 use Rattle.lnt_lines.proofs.DraftLemmas.{rising_from}
 use Rattle.lnt_lines.proofs.PlaceLemmas.{other_is, outside_is, place_found}
 
@@ -85,4 +88,29 @@ files_of_units = record {
   none = λ text general dead units contents offset tells all.
       ap (λ (list : List ℕ). files_at list contents.files offset) tells.units_are
       ∙ ap (λ (o : Option ℕ). option_and_then (slice_get contents.files) o) (no_place units offset all);
+}
+
+-- ---- the headers of an index
+
+abbrev say_header : Option Kept → Option HeaderParts
+say_header found = option_map (λ (kept : Kept). kept.header) found
+
+header_found : (dead : Option ℕ) (units : List (ℕ × Parts)) (index : Indexed) (unit : ℕ × Parts) → IsIndexOf dead units index → Contains units unit → header_in index unit.0 ≡ Some unit.1.header
+header_found dead units index unit is (k, lt, same) =
+    let offsets : List ℕ = map (λ (u : ℕ × Parts). u.0) units in
+    let at = zip_at (λ (u : ℕ × Parts) (kept : Kept). Keeps kept u.1) units index.programs k unit is.programs lt in
+    let few : k < length offsets = omega (arith, lt, as_many units) in
+    let place : Some k ≡ position (λ offset. offset == unit.0) offsets =
+    place_found offsets unit.0 k (subst AreRising is.offsets is.rising) few (offset_at units k unit lt ∙ ap (λ (u : ℕ × Parts). u.0) same) in
+    ap (λ (list : List ℕ). say_header (option_and_then (slice_get index.programs) (position (λ offset. offset == unit.0) list))) is.offsets
+    ∙ ap (λ (o : Option ℕ). say_header (option_and_then (slice_get index.programs) o)) (sym place)
+    ∙ ap say_header at.there
+    ∙ ap Some (at.related.header_is ∙ ap (λ (u : ℕ × Parts). u.1.header) same)
+
+pub headers_of_units : HeadersOfUnits
+headers_of_units = record {
+  found = header_found;
+  none = λ dead units index offset is all.
+      ap (λ (list : List ℕ). say_header (option_and_then (slice_get index.programs) (position (λ (n : ℕ). n == offset) list))) is.offsets
+      ∙ ap (λ (o : Option ℕ). say_header (option_and_then (slice_get index.programs) o)) (no_place units offset all);
 }

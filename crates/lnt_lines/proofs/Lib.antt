@@ -7,3 +7,5 @@ mod RefusalLemmas
 mod RunLemmas
 mod SectionLemmas
 mod WholeLemmas
+pub mod IndexLemmas
+mod CursorLemmas

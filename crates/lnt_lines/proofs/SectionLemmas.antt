@@ -20,23 +20,22 @@ use Rattle.lnt_unit.specs.Laws.Broken.{frame_broken}
 use Rattle.lnt_unit.specs.Laws.Frames.{broken_more}
 use Rattle.lnt_unit.specs.Laws.Units.{no_section, units_push}
 use Rattle.lnt_unit.specs.UnitBytes.{SectionBytes, UnitBytesIn}
-use Rattle.lnt_rows.specs.Rules.{AreApart, AreDistinct, AreOrdered}
-use Rattle.lnt_rows.specs.Sequences.{answer_in, live_sequences, Placed}
+use Rattle.lnt_rows.specs.Rules.{AreApart}
+use Rattle.lnt_rows.specs.Sequences.{live_sequences, Placed}
 use Rattle.lnt_rows.specs.Watching.{Collects}
-use Rattle.lnt_spans.specs.declared.position.Position.{Position}
-use Rattle.lnt_spans.specs.Spans.{AreInOrder, span_answer}
 use Rattle.lnt_lines.specs.declared.draft.Draft.{Draft}
 use Rattle.lnt_lines.specs.declared.no.No.{No}
 use Rattle.lnt_lines.specs.declared.no.No.TheVariants as bad
 use Rattle.lnt_lines.specs.declared.options.Options.{Options}
 use Rattle.lnt_lines.specs.declared.refusal.Refusal.{Refusal}
 use Rattle.lnt_lines.specs.declared.refusal.Refusal.TheVariants as refusal
-use Rattle.lnt_lines.specs.Contents.{AreRising, Contents}
-use Rattle.lnt_lines.specs.Drafts.{AreLinesOf, HasAdded, IsDraftOf, IsDraftOfSection, IsRefusal}
+use Rattle.lnt_lines.specs.Contents.{AreRising}
+use Rattle.lnt_lines.specs.Drafts.{HasAdded, IsDraftOf, IsDraftOfSection, IsIndexOfSection, IsRefusal, IsWholeDraft}
+use Rattle.lnt_lines.specs.Indexed.{Indexed, IsIndexOf}
 use Rattle.lnt_lines.specs.Judging.{HasFlaw, IsUnitNo, IsUnitRefusal}
 use Rattle.lnt_lines.specs.Nos.{IsFirstFlaw, IsMalformed, IsTrueNo}
 use Rattle.lnt_lines.specs.Refusals.{stop_refusal}
-use Rattle.lnt_lines.proofs.DraftLemmas.{all_ordered, distinct, rising_from, same_number}
+use Rattle.lnt_lines.proofs.DraftLemmas.{distinct, rising_from}
 
 -- ---- units judged one after another
 
@@ -180,37 +179,26 @@ weaker None P Q f p = tt
 weaker (Some bytes) P Q f p = f bytes p
 
 -- what the end of the draft needs
-pub may_finish : (text general : List ℕ) (options : Options) (section : Option (List ℕ)) (draft : Draft) → IsDraftOfSection text general options section draft
-    → (sequences : List Placed) × Collects draft.collected sequences × AreOrdered sequences × AreDistinct sequences
-may_finish text general options section draft all = (
-  live_sequences options.dead all.units,
-  all.draft_is.collects,
-  all_ordered text general options.dead all.units all.draft_is.sound,
-  distinct options.order options.dead all.units all.bytes all.spelled,
-)
+pub whole_draft : (text general : List ℕ) (options : Options) (section : Option (List ℕ)) (draft : Draft) → IsDraftOfSection text general options section draft → IsWholeDraft text general draft
+whole_draft text general options section draft all = record {
+  dead = options.dead;
+  units = all.units;
+  draft_is = all.draft_is;
+  distinct = distinct options.order options.dead all.units all.bytes all.spelled;
+  rising = subst AreRising (sym all.draft_is.offsets) (rising_from options.order 0 all.units all.bytes all.spelled);
+}
 
-pub units_rise : (text general : List ℕ) (options : Options) (section : Option (List ℕ)) (draft : Draft) → IsDraftOfSection text general options section draft → AreRising draft.units.items
-units_rise text general options section draft all = subst AreRising (sym all.draft_is.offsets) (rising_from options.order 0 all.units all.bytes all.spelled)
-
-pub each_has_files : (text general : List ℕ) (options : Options) (section : Option (List ℕ)) (draft : Draft) → IsDraftOfSection text general options section draft
-    → length draft.units.items ≡ length draft.files.items
-each_has_files text general options section draft all = same_number text general options.dead all.units draft all.draft_is
-
-pub finished : (text general : List ℕ) (options : Options) (section : Option (List ℕ)) (draft : Draft) (lines : Contents) → IsDraftOfSection text general options section draft
-    → lines.units ≡ draft.units.items → lines.files ≡ draft.files.items → AreInOrder lines.spans
+pub indexed : (text general : List ℕ) (options : Options) (section : Option (List ℕ)) (draft : Draft) (index : Indexed) → IsDraftOfSection text general options section draft
     → ((sequences : List Placed) → Collects draft.collected sequences → AreApart sequences)
-    → ((sequences : List Placed) → Collects draft.collected sequences → AreOrdered sequences → (p : Position) → span_answer lines.spans p ≡ answer_in sequences p)
-    → IfSome section (λ bytes. AreLinesOf text general options bytes lines)
-finished text general options section draft lines all units files in_order apart answers =
-    weaker section (λ bytes. all.bytes ≡ bytes) (λ bytes. AreLinesOf text general options bytes lines)
+    → ((dead : Option ℕ) (units : List (ℕ × Parts)) → IsDraftOf text general dead units draft → IsIndexOf dead units index) → index.line ≡ text → index.general ≡ general
+    → IfSome section (λ bytes. IsIndexOfSection text general options bytes index)
+indexed text general options section draft index all apart is line_is general_is =
+    weaker section (λ bytes. all.bytes ≡ bytes) (λ bytes. IsIndexOfSection text general options bytes index)
     (λ bytes whole. record {
       units = all.units;
       good = record { spelled = subst (SectionBytes options.order all.units) whole all.spelled; sound = all.draft_is.sound; apart = apart (live_sequences options.dead all.units) all.draft_is.collects };
-      tells = record {
-        in_order = in_order;
-        answers = answers (live_sequences options.dead all.units) all.draft_is.collects (all_ordered text general options.dead all.units all.draft_is.sound);
-        units_are = units ∙ all.draft_is.offsets;
-        files_are = rw files all.draft_is.files;
-      };
+      index_is = is options.dead all.units all.draft_is;
+      line_is = line_is;
+      general_is = general_is;
     })
     all.whole

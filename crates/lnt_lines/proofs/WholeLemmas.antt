@@ -11,10 +11,8 @@ use Rattle.lnt_spans.specs.Laws.Answering.{answer_behind, answer_in, first_holds
 use Rattle.lnt_spans.specs.Laws.Positions.{at_most_itself, at_most_trans, below_is_at_most}
 use Rattle.lnt_spans.specs.Positions.{IsAtMost}
 use Rattle.lnt_spans.specs.Spans.{AreInOrder, span_answer}
-use Rattle.lnt_rows.specs.declared.collected.Collected.{Collected}
-use Rattle.lnt_rows.specs.Rules.{AreDistinct, AreOrdered}
-use Rattle.lnt_rows.specs.Sequences.{Placed, answer_of, holds, row_at, answer_in as rows_answer}
-use Rattle.lnt_rows.specs.Watching.{Collects}
+use Rattle.lnt_unit.specs.declared.unit.Parts.{Parts}
+use Rattle.lnt_rows.specs.Sequences.{answer_of, holds, line_answer, live_sequences, Placed, row_at}
 use Rattle.lnt_lines.specs.Contents.{AreWhole}
 
 abbrev IsWhole : Answer → Type 0
@@ -59,11 +57,7 @@ all_are_whole : (spans : List Span) (answers : Position → Option Answer) → A
 all_are_whole [] answers o h same = tt
 all_are_whole (span ∷ spans) answers o h same = each_is_whole span spans answers o h (λ p k. same p)
 
-pub whole_spans : (collected : Collected) (spans : List Span) → AreInOrder spans
-    → ((sequences : List Placed) × Collects collected sequences × AreOrdered sequences × AreDistinct sequences)
-    → ((sequences : List Placed) → Collects collected sequences → AreOrdered sequences → (p : Position) → span_answer spans p ≡ rows_answer sequences p)
-    → AreWhole spans
-whole_spans collected spans o known answers =
-    all_are_whole spans (rows_answer known.0) o
-    (λ p. found_is_whole p (find (λ (placed : Placed). holds p placed.rows) known.0))
-    (answers known.0 known.1 known.2)
+pub whole_spans : (dead : Option ℕ) (units : List (ℕ × Parts)) (spans : List Span) → AreInOrder spans → ((p : Position) → span_answer spans p ≡ line_answer dead units p) → AreWhole spans
+whole_spans dead units spans o answers =
+    all_are_whole spans (line_answer dead units) o
+    (λ p. found_is_whole p (find (λ (placed : Placed). holds p placed.rows) (live_sequences dead units))) answers

@@ -1,5 +1,5 @@
 -- What is held of a good section, and what it answers.
-use Rattle.std.specs.Prelude.{◌≡◌, ◌<◌, ℕ, ◌==◌, List, [], ◌∷◌, map, length, Option, Some, None}
+use Rattle.std.specs.Prelude.{◌≡◌, ◌<◌, ℕ, ◌==◌, List, map, length, Option, Some}
 use Rattle.std.specs.List.{AllByRecursion, AllPairs, AllZip, position, slice_get}
 use Rattle.std.specs.Option.{option_and_then, option_map_or}
 use Rattle.lnt_unit.specs.declared.unit.Parts.{Parts}

@@ -10,7 +10,7 @@ use Rattle.lnt_unit.specs.UnitBytes.{UnitBytesIn}
 use Rattle.lnt_unit.specs.Views.{HasCount, View}
 use Rattle.lnt_machine.specs.declared.fault.RunFault.{RunFault}
 use Rattle.lnt_machine.specs.Matrix.{rows, Runs}
-use Rattle.lnt_entries.specs.Files.{AreFilesOf, KeptFile}
+use Rattle.lnt_machine.specs.Walking.{Keeps, Kept}
 use Rattle.lnt_rows.specs.declared.collected.Collected.{Collected}
 use Rattle.lnt_rows.specs.declared.watch.Watch.{Watch}
 use Rattle.lnt_rows.specs.Sequences.{live_sequences, Placed}
@@ -46,19 +46,20 @@ pub data IsTold (view : View) (unit : ℕ) (fault : RunFault) (told : Refusal) :
   of_unit : (count : ℕ) → HasCount view count → told ≡ refusal.No (no.Run unit fault) → IsTold view unit fault told
   broken : (first : Fault) → BrokenUnit view.unit.order first view.unit.offset view.unit.bytes → told ≡ refusal.No (no.Malformed first) → IsTold view unit fault told
 
--- The program of the unit ran to its end, and all of its rows were seen.
-pub record HasRun (dead : Option ℕ) (view : View) (old new : Collected) (watch : Watch) : Type 0 where
+-- The program of the unit ran to its end, all of its rows were seen, and these are the places of its sequences.
+pub record HasRun (dead : Option ℕ) (view : View) (places : List ℕ) (old new : Collected) (watch : Watch) : Type 0 where
   pub unit : Parts
   pub header_is : unit.header ≡ view.header
   pub spelled : UnitBytesIn view.unit.order unit view.unit.bytes
   pub runs : Runs unit
   pub seen : HasSeenAll dead view.unit.offset (length unit.header.files) watch (rows unit)
   pub collects : (sequences : List Placed) → Collects old sequences → CollectsRows dead view.unit.offset new sequences (rows unit)
+  pub kept : Keeps (record { header = view.header; program = view.program; places = places }) unit
 
--- The bytes of the buffer are those of a sound unit, with these files. What its live sequences hold was collected.
-pub record IsJudgedSound (line general : List ℕ) (dead : Option ℕ) (buffer : UnitBytes) (old new : Collected) (files : List KeptFile) : Type 0 where
+-- The bytes of the buffer are those of a sound unit, whose program is kept. What its live sequences hold was collected.
+pub record IsJudgedSound (line general : List ℕ) (dead : Option ℕ) (buffer : UnitBytes) (old new : Collected) (kept : Kept) : Type 0 where
   pub unit : Parts
   pub spelled : UnitBytesIn buffer.order unit buffer.bytes
   pub sound : IsSound line general dead (buffer.offset, unit)
-  pub files_are : AreFilesOf line general unit.header files
+  pub keeps : Keeps kept unit
   pub collects : (units : List (ℕ × Parts)) → Collects old (live_sequences dead units) → Collects new (live_sequences dead (units ++ (buffer.offset, unit) ∷ []))

@@ -1,7 +1,7 @@
 -- What the laws of judged sections say.
 --     line, general   the bytes of .debug_line_str and of .debug_str
 --     dead            the address at which sequences of dead code begin, where one is given
-use Rattle.std.specs.Prelude.{◌≡◌, ◌≢◌, ℕ, List, length, None, Option}
+use Rattle.std.specs.Prelude.{◌≡◌, ◌≢◌, ℕ, List, length, None, Option, Some}
 use Rattle.std.specs.List.{All, Contains}
 use Rattle.lnt_wire.specs.declared.format.Order.{Order}
 use Rattle.lnt_unit.specs.declared.unit.Parts.{Parts}
@@ -11,6 +11,7 @@ use Rattle.lnt_lines.specs.declared.no.No.{No}
 use Rattle.lnt_lines.specs.declared.options.Options.{Options}
 use Rattle.lnt_lines.specs.Contents.{Contents, count_in, files_of, path_in, sum_in, TellsOf}
 use Rattle.lnt_lines.specs.Good.{IsGood}
+use Rattle.lnt_lines.specs.Indexed.{header_in, Indexed, IsIndexOf}
 use Rattle.lnt_lines.specs.Nos.{IsTrueNo}
 
 -- Of a good section no reason is true.
@@ -30,3 +31,8 @@ pub record FilesOfUnits : Type 0 where
       → SectionBytes order units section → TellsOf line general dead units contents → Contains units unit → ListsFilesOf line general unit contents
   pub none : (line general : List ℕ) (dead : Option ℕ) (units : List (ℕ × Parts)) (contents : Contents) (offset : ℕ)
       → TellsOf line general dead units contents → All (λ unit. unit.0 ≢ offset) units → files_of contents offset ≡ None
+
+-- The header that an index finds at the offset of a unit is that of the unit, and it finds none where no unit stands.
+pub record HeadersOfUnits : Type 0 where
+  pub found : (dead : Option ℕ) (units : List (ℕ × Parts)) (index : Indexed) (unit : ℕ × Parts) → IsIndexOf dead units index → Contains units unit → header_in index unit.0 ≡ Some unit.1.header
+  pub none : (dead : Option ℕ) (units : List (ℕ × Parts)) (index : Indexed) (offset : ℕ) → IsIndexOf dead units index → All (λ unit. unit.0 ≢ offset) units → header_in index offset ≡ None

@@ -1,6 +1,8 @@
 pub mod Contents
+pub mod Cursors
 pub mod Drafts
 pub mod Good
+pub mod Indexed
 pub mod Judging
 pub mod Laws
 pub mod Nos

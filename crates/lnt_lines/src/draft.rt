@@ -1,32 +1,31 @@
 //! What is known of a section as far as its units were judged.
-ghost use Rattle.std.specs.Prelude.{◌≡◌, List, [], length, IfOk, OnOk, IfErr};
-ghost use Rattle.lnt_spans.specs.declared.position.Position.{Position};
-ghost use Rattle.lnt_spans.specs.Spans.{AreInOrder, span_answer};
+ghost use Rattle.std.specs.Prelude.{◌≡◌, ℕ, List, [], Option, IfOk, OnOk, IfErr};
+ghost use Rattle.lnt_unit.specs.declared.unit.Parts.{Parts};
 ghost use Rattle.lnt_rows.specs.Extents.{IsFirstOverlap};
-ghost use Rattle.lnt_rows.specs.Rules.{AreApart, AreDistinct, AreOrdered};
-ghost use Rattle.lnt_rows.specs.Sequences.{Placed, answer_in};
+ghost use Rattle.lnt_rows.specs.Rules.{AreApart};
+ghost use Rattle.lnt_rows.specs.Sequences.{Placed};
 ghost use Rattle.lnt_rows.specs.Watching.{Collects};
-ghost use Rattle.lnt_lines.specs.Contents.{AreRising};
-ghost use Rattle.lnt_lines.specs.Drafts.{HasAdded, IsDraftOf};
+ghost use Rattle.lnt_lines.specs.Drafts.{HasAdded, IsDraftOf, IsWholeDraft};
+ghost use Rattle.lnt_lines.specs.Indexed.{IsIndexOf};
 ghost use Rattle.lnt_lines.specs.Judging.{IsUnitRefusal};
 
+use crate::index::Index;
 use crate::judge::judge_unit;
-use crate::lines::Lines;
 use crate::refusal::Refusal;
 use crate::stop::Stop;
-use lnt_entries::Files;
+use lnt_machine::Program;
 use lnt_rows::{Collected, Overlap};
 use lnt_stream::UnitBuffer;
 use lnt_wire::Strings;
 use std::alloc::Global;
 
 /// What is known of the units judged so far, all of which are sound.
-#[derive(Debug, Drop)]
+#[derive(Drop)]
 pub(crate) struct Draft {
     collected: Collected,
-    // their offsets, and the files of each
+    // their offsets, and the program of each
     units: Vec<u64>,
-    files: Vec<Files>,
+    programs: Vec<Program>,
 }
 
 impl Draft {
@@ -34,12 +33,12 @@ impl Draft {
     pub(crate) fn new(alloc: Global) -> Draft
         ensures collected { Collects result.collected [] }
         ensures units { result.units.items ≡ [] }
-        ensures files { result.files.items ≡ [] }
+        ensures programs { result.programs.items ≡ [] }
     {
         Draft {
             collected: Collected::new(alloc),
             units: Vec::new(alloc),
-            files: Vec::new(alloc),
+            programs: Vec::new(alloc),
         }
     }
 
@@ -56,35 +55,31 @@ impl Draft {
         ensures ok { OnOk result (HasAdded strings.now.line.now strings.now.general.now dead buffer.now self.old self.new) }
         ensures err { IfErr result (IsUnitRefusal strings.now.line.now strings.now.general.now dead buffer.now) }
     {
-        let files = judge_unit(alloc, buffer, strings, dead, &mut self.collected)?;
+        let program = judge_unit(alloc, buffer, strings, dead, &mut self.collected)?;
         if self.units.push(buffer.offset()).is_err() {
             return Err(Refusal::Stop(Stop::Memory));
         }
-        if self.files.push(files).is_err() {
+        if self.programs.push(program).is_err() {
             return Err(Refusal::Stop(Stop::Memory));
         }
         Ok(())
     }
 
-    /// The lines, behind the last unit, or the first overlap.
-    pub(crate) fn finish(self) -> Result<Lines, Overlap>
-        requires sequences { (sequences : List Placed) × Collects self.collected sequences × AreOrdered sequences × AreDistinct sequences }
-        requires rising { AreRising self.units.items }
-        requires each { length self.units.items ≡ length self.files.items }
-        ensures units { IfOk result (λ lines. lines.units ≡ self.units.items) }
-        ensures files { IfOk result (λ lines. lines.files ≡ self.files.items) }
-        ensures in_order { IfOk result (λ lines. AreInOrder lines.spans) }
+    /// The index, after the last unit, or the first overlap. The strings are those that the units were judged by.
+    pub(crate) fn index<'a>(self, strings: &Strings<'a>) -> Result<Index<'a>, Overlap>
+        requires { IsWholeDraft strings.now.line.now strings.now.general.now self }
+        ensures index { IfOk result (λ index. (dead : Option ℕ) (units : List (ℕ × Parts)) → IsDraftOf strings.now.line.now strings.now.general.now dead units self → IsIndexOf dead units index) }
+        ensures line { IfOk result (λ index. index.line ≡ strings.now.line.now) }
+        ensures general { IfOk result (λ index. index.general ≡ strings.now.general.now) }
         ensures apart { OnOk result ((sequences : List Placed) → Collects self.collected sequences → AreApart sequences) }
-        ensures answers { IfOk result (λ lines. (sequences : List Placed) → Collects self.collected sequences → AreOrdered sequences
-            → (p : Position) → span_answer lines.spans p ≡ answer_in sequences p) }
         ensures overlap { IfErr result (λ overlap. (sequences : List Placed) → Collects self.collected sequences → IsFirstOverlap sequences overlap) }
     {
         let Draft {
             collected,
             units,
-            files,
+            programs,
         } = self;
-        let spans = collected.settled()?;
-        Ok(Lines::of(spans, units, files))
+        let entries = collected.entries()?;
+        Ok(Index::of(strings, entries, units, programs))
     }
 }

@@ -7,14 +7,16 @@ ghost use Rattle.lnt_lines.specs.Refusals.{table_no};
 use crate::no::No;
 use crate::refusal::Refusal;
 use crate::run::run_unit;
-use lnt_entries::{Files, TableFault, tables_fault};
-use lnt_rows::{Collected, Watch};
+use crate::stop::Stop;
+use lnt_entries::{TableFault, tables_fault};
+use lnt_machine::Program;
+use lnt_rows::Collected;
 use lnt_stream::UnitBuffer;
 use lnt_unit::UnitView;
 use lnt_wire::Strings;
 use std::alloc::Global;
 
-/// Judges the unit in the buffer. Of a sound one it gives the files, and adds what its live sequences hold to what is
+/// Judges the unit in the buffer. Of a sound one it gives the program, and adds what its live sequences hold to what is
 /// collected.
 ///
 /// It refuses with the first thing that is wrong, in the order of the numbers of `No`, and else with `Memory`. After a
@@ -25,13 +27,14 @@ pub(crate) fn judge_unit(
     strings: &Strings<'_>,
     dead: Option<u64>,
     collected: &mut Collected,
-) -> Result<Files, Refusal>
+) -> Result<Program, Refusal>
     ensures sound { IfOk result (IsJudgedSound strings.now.line.now strings.now.general.now dead buffer.now collected.old collected.new) }
     ensures err { IfErr result (IsUnitRefusal strings.now.line.now strings.now.general.now dead buffer.now) }
 {
     let unit = buffer.offset();
     let view = UnitView::over(alloc, buffer)?;
-    let watch = run_unit(&view, unit, dead, collected)?;
+    let mut places = Vec::new(alloc);
+    let watch = run_unit(&view, unit, dead, collected, &mut places)?;
     let header = view.header();
     if let Some(fault) = tables_fault(header, strings) {
         return Err(Refusal::No(table_no(unit, fault)));
@@ -46,7 +49,11 @@ pub(crate) fn judge_unit(
     if let Some(row) = watch.falls() {
         return Err(Refusal::No(No::Falls { unit, row }));
     }
-    Ok(Files::of(alloc, header, strings)?)
+    let (header, program) = view.into_parts();
+    let Ok(bytes) = Vec::from_slice(alloc, program) else {
+        return Err(Refusal::Stop(Stop::Memory));
+    };
+    Ok(Program::of(header, bytes, places))
 }
 
 // What is wrong with the tables of the unit at an offset.

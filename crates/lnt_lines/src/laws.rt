@@ -1,5 +1,5 @@
 //! Laws of judged sections, each the contract of a function without parameters that does nothing.
-ghost use Rattle.lnt_lines.specs.Laws.{FilesOfUnits, GoodHasNoFlaw};
+ghost use Rattle.lnt_lines.specs.Laws.{FilesOfUnits, GoodHasNoFlaw, HeadersOfUnits};
 
 /// A good section has no flaw: nothing that a `No` tells is true of it. So where `verify` doesn't stop, it answers
 /// `Good` exactly where the section is good.
@@ -17,4 +17,11 @@ pub fn good_has_no_flaw()
 #[tactic(auto, using(crate::proofs::FileLemmas::files_of_units))]
 pub fn files_of_units()
     ensures { FilesOfUnits }
+{}
+
+/// What an index says of the files of each unit is what its header lists, and it says nothing of files where no unit
+/// stands.
+#[tactic(auto, using(crate::proofs::FileLemmas::headers_of_units))]
+pub fn headers_of_units()
+    ensures { HeadersOfUnits }
 {}

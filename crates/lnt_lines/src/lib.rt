@@ -5,6 +5,8 @@
 #![tactic(auto)]
 
 mod draft;
+mod gather;
+mod index;
 mod judge;
 pub mod laws;
 mod lines;
@@ -13,10 +15,13 @@ mod options;
 mod refusal;
 mod run;
 mod section;
+mod spans;
 mod stop;
 
+pub use index::Index;
 pub use lines::Lines;
 pub use no::No;
 pub use options::Options;
-pub use section::{Judged, verify};
+pub use section::{Judged, JudgedIndex, index_section, verify};
+pub use spans::Spans;
 pub use stop::Stop;

@@ -1,10 +1,12 @@
 //! A whole section, judged.
 ghost use Rattle.std.specs.Prelude.{◌≡◌, ◌≢◌, ◌+◌, ◌-◌, ◌^◌, ◌<◌, IfOk, IfErr, IfSome, IsErrOf, IsTrue};
 ghost use Rattle.lnt_wire.specs.Pulling.{HasMoreThan};
-ghost use Rattle.lnt_lines.specs.Drafts.{AreLinesOf, IsDraftOfSection, IsJudged, IsRefusal};
+ghost use Rattle.lnt_lines.specs.Drafts.{IsDraftOfSection, IsIndexOfSection, IsJudged, IsJudgedIndex, IsRefusal};
 ghost use Rattle.lnt_stream.specs.declared.reader.Progress.TheVariants.{Reading};
 
 use crate::draft::Draft;
+use crate::gather::lines_of;
+use crate::index::Index;
 use crate::lines::Lines;
 use crate::no::No;
 use crate::options::Options;
@@ -19,6 +21,15 @@ use std::alloc::Global;
 pub enum Judged {
     /// It is good, and these are its lines.
     Good(Lines),
+    /// It isn't good, and this is the first reason.
+    Bad(No),
+}
+
+/// What a section was judged to be, with the index of a good one.
+#[derive(Drop)]
+pub enum JudgedIndex<'a> {
+    /// It is good, and this is its index.
+    Good(Index<'a>),
     /// It isn't good, and this is the first reason.
     Bad(No),
 }
@@ -49,23 +60,45 @@ pub fn verify<R: Source>(
     ensures too_long { IsErrOf result Stop.TooLong → IsTrue (R.too_long section.new) }
     ensures more { IsErrOf result Stop.TooLong → HasMoreThan (R.remaining section.old) (R.left section.old) }
 {
+    match index_section(alloc, section, strings, options)? {
+        JudgedIndex::Good(index) => Ok(Judged::Good(lines_of(alloc, &index)?)),
+        JudgedIndex::Bad(no) => Ok(Judged::Bad(no)),
+    }
+}
+
+/// Judges the section as `verify` does, and gives the index of a good one in place of its lines: no list of rows, of
+/// spans or of paths is made. Its stops are those of `verify`.
+pub fn index_section<'a, R: Source>(
+    alloc: Global,
+    section: &mut R,
+    strings: &Strings<'a>,
+    options: &Options,
+) -> Result<JudgedIndex<'a>, Stop>
+    requires { R.failures section.old < 2 ^ 64 - 1 }
+    ensures judged { IfOk result (λ judged. IfSome (R.remaining section.old) (λ bytes.
+        IsJudgedIndex strings.now.line.now strings.now.general.now options.now bytes judged)) }
+    ensures read { IsErrOf result Stop.Read → R.failures section.new ≡ R.failures section.old + 1 }
+    ensures no_failure { result ≢ Err Stop.Read → R.failures section.new ≡ R.failures section.old }
+    ensures too_long { IsErrOf result Stop.TooLong → IsTrue (R.too_long section.new) }
+    ensures more { IsErrOf result Stop.TooLong → HasMoreThan (R.remaining section.old) (R.left section.old) }
+{
     match judge_section(alloc, section, strings, options) {
-        Ok(lines) => Ok(Judged::Good(lines)),
-        Err(Refusal::No(no)) => Ok(Judged::Bad(no)),
+        Ok(index) => Ok(JudgedIndex::Good(index)),
+        Err(Refusal::No(no)) => Ok(JudgedIndex::Bad(no)),
         Err(Refusal::Stop(stop)) => Err(stop),
     }
 }
 
-// The lines of the section, or why there are none.
-fn judge_section<R: Source>(
+// The index of the section, or why there is none.
+fn judge_section<'a, R: Source>(
     alloc: Global,
     section: &mut R,
-    strings: &Strings<'_>,
+    strings: &Strings<'a>,
     options: &Options,
-) -> Result<Lines, Refusal>
+) -> Result<Index<'a>, Refusal>
     requires { R.failures section.old < 2 ^ 64 - 1 }
-    ensures good { IfOk result (λ lines. IfSome (R.remaining section.old) (λ bytes.
-        AreLinesOf strings.now.line.now strings.now.general.now options.now bytes lines)) }
+    ensures good { IfOk result (λ index. IfSome (R.remaining section.old) (λ bytes.
+        IsIndexOfSection strings.now.line.now strings.now.general.now options.now bytes index)) }
     ensures bad { IfErr result (λ refusal. IfSome (R.remaining section.old) (λ bytes.
         IsRefusal strings.now.line.now strings.now.general.now options.now bytes refusal)) }
     ensures read { IsErrOf result (Refusal.Stop Stop.Read) → R.failures section.new ≡ R.failures section.old + 1 }
@@ -75,7 +108,7 @@ fn judge_section<R: Source>(
 {
     let mut reader = SectionReader::new(section, options.order);
     let draft = judge_units(alloc, &mut reader, strings, options)?;
-    Ok(draft.finish()?)
+    Ok(draft.index(strings)?)
 }
 
 // Judges the units that the reader has to give, up to the end of the section, or to the first that isn't sound.

@@ -1,5 +1,5 @@
 //! The operations of a program one by one.
-ghost use Rattle.std.specs.Prelude.{◌≡◌, ◌+◌, ◌^◌, ◌<◌, length, false, if◌then◌else◌};
+ghost use Rattle.std.specs.Prelude.{◌≡◌, ◌+◌, ◌^◌, ◌<◌, ◌≤◌, drop, length, false, if◌then◌else◌};
 ghost use Rattle.std.specs.Iterator.{at_most};
 ghost use Rattle.lnt_ops.specs.Walks.{WalkStep};
 
@@ -49,6 +49,29 @@ impl<'a> Ops<'a> {
             cursor: Cursor::new(program, place, header.order()),
             failed: false,
         }
+    }
+
+    /// The operations of a program from a byte of it on: that after so many.
+    pub fn after(header: &'a Header, program: &'a [u8], place: u64, skipped: usize) -> Ops<'a>
+        requires room { place + length program.now < 2 ^ 64 }
+        requires within { skipped ≤ length program.now }
+        ensures header { result.header ≡ header.entry.now }
+        ensures place { result.at.place ≡ place + skipped }
+        ensures rest { result.at.rest ≡ drop skipped program.entry.now }
+        ensures order { result.at.order ≡ header.entry.now.order }
+        ensures going { result.failed ≡ false }
+        ensures is_header { IsHeader header.entry.now }
+    {
+        let (_, rest) = program.split_at(skipped);
+        Ops::new(header, rest, place + skipped as u64)
+    }
+
+    /// How many bytes are left.
+    #[inline(always)]
+    pub fn left(&self) -> usize
+        ensures { result ≡ length self.now.at.rest }
+    {
+        self.cursor.rest().len()
     }
 }
 

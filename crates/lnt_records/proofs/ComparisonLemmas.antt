@@ -29,9 +29,9 @@ table_push version (first ∷ records) table fields span t s o =
     (t.0, record { each = zip_push (IsSpanRecord version) records table fields span t.1.each s; in_order = o })
 
 -- the header alone
-pub judges_header : (comparison : Comparison) (section : List Span) → comparison.count ≡ 1 → comparison.merge.version ≡ comparison.version → Compares comparison.merge section []
-    → Judges comparison section (column_names comparison.version ∷ [])
-judges_header comparison section count version c = record {
+pub judges_header : {S : Type 0} (to_come : S → List Span → Type 0) (comparison : Comparison S) (section : List Span) → comparison.count ≡ 1 → comparison.merge.version ≡ comparison.version → Compares to_come comparison.merge section []
+    → Judges to_come comparison section (column_names comparison.version ∷ [])
+judges_header to_come comparison section count version c = record {
   table = [];
   is_table = (refl, record { each = tt; in_order = tt });
   count = count;
@@ -39,10 +39,10 @@ judges_header comparison section count version c = record {
   compares = c;
 }
 
-pub record_taken : (old new : Comparison) (section : List Span) (records : List Fields) (fields : Fields) (span : Span) → (j : Judges old section records)
+pub record_taken : {S : Type 0} (to_come : S → List Span → Type 0) (old new : Comparison S) (section : List Span) (records : List Fields) (fields : Fields) (span : Span) → (j : Judges to_come old section records)
     → IsSpanRecord old.version fields span → AreInOrder (j.table ++ span ∷ []) → new.version ≡ old.version → new.count ≡ old.count + 1 → new.merge.version ≡ old.merge.version
-    → ((spans table : List Span) → Compares old.merge spans table → Compares new.merge spans (table ++ span ∷ [])) → Judges new section (records ++ fields ∷ [])
-record_taken old new section records fields span j s o same count version step = record {
+    → ((spans table : List Span) → Compares to_come old.merge spans table → Compares to_come new.merge spans (table ++ span ∷ [])) → Judges to_come new section (records ++ fields ∷ [])
+record_taken to_come old new section records fields span j s o same count version step = record {
   table = j.table ++ span ∷ [];
   is_table = rw same (table_push old.version records j.table fields span j.is_table s o);
   count = omega (arith, j.count, count, length-append records (fields ∷ []));
@@ -50,7 +50,7 @@ record_taken old new section records fields span j s o same count version step =
   compares = step section j.table j.compares;
 }
 
--- a record that is faulty behind a table
+-- a record that is faulty after a table
 pub record Stops (version : Version) (records : List Fields) (fields : Fields) (told : TableFault) : Type 0 where
   pub table : List Span
   pub is_table : IsTable version records table
@@ -68,18 +68,18 @@ fault_told bytes version records fields table (fault.Number k i) reader h t f =
 fault_told bytes version records fields table (fault.Order k) reader h t f =
     record { version = version; records = records; spans = table; fields = fields; begins = (_, h.rest, h.reached); table = t; faulty = f }
 
-pub same_told : (bytes : List ℕ) (comparison : Comparison) (section : List Span) (records : List Fields) → (j : Judges comparison section records) → RecordsOf bytes records
+pub same_told : {S : Type 0} (to_come : S → List Span → Type 0) (bytes : List ℕ) (comparison : Comparison S) (section : List Span) (records : List Fields) → (j : Judges to_come comparison section records) → RecordsOf bytes records
     → Agree (version_answer comparison.merge.version section) (span_answer j.table) → AnswersAs bytes section
-same_told bytes comparison section records j all agree = record {
+same_told to_come bytes comparison section records j all agree = record {
   version = comparison.version;
   table = j.table;
   is_table = (records, all, j.is_table);
   agree = rw j.version at agree;
 }
 
-pub difference_told : (bytes : List ℕ) (comparison : Comparison) (section : List Span) (records : List Fields) (difference : Difference) → (j : Judges comparison section records)
+pub difference_told : {S : Type 0} (to_come : S → List Span → Type 0) (bytes : List ℕ) (comparison : Comparison S) (section : List Span) (records : List Fields) (difference : Difference) → (j : Judges to_come comparison section records)
     → RecordsOf bytes records → IsLeastDifference (version_answer comparison.merge.version section) (span_answer j.table) difference → DiffersSo bytes section difference
-difference_told bytes comparison section records difference j all least = record {
+difference_told to_come bytes comparison section records difference j all least = record {
   version = comparison.version;
   table = j.table;
   is_table = (records, all, j.is_table);

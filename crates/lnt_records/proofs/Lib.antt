@@ -8,3 +8,4 @@ pub mod ReadingLemmas
 pub mod RecordLemmas
 pub mod SaidLemmas
 pub mod WriteLemmas
+pub mod JoinedLemmas

@@ -17,7 +17,7 @@ use Rattle.lnt_spans.specs.declared.answer.Version.TheVariants.{One, Two}
 use Rattle.lnt_spans.specs.declared.difference.Difference.{Difference}
 use Rattle.lnt_spans.specs.declared.position.Position.{Position}
 use Rattle.lnt_spans.specs.declared.span.Span.{Span}
-use Rattle.lnt_spans.specs.Comparing.{Compares, State}
+use Rattle.lnt_spans.specs.Comparing.{Compares, Merging}
 use Rattle.lnt_spans.specs.Differences.{Agree, IsLeastDifference}
 use Rattle.lnt_spans.specs.Spans.{AreInOrder, span_answer, version_answer}
 use Rattle.lnt_records.specs.Faults.{AnswersAs, DiffersSo}
@@ -176,9 +176,9 @@ header_behind bytes line names rest e f =
     let behind : drop (length bytes - length rest) bytes ≡ rest = ap (λ (k : ℕ). drop k bytes) place ∙ ap (λ (t : List ℕ). drop (length line) t) f ∙ drop-append_seam line rest in
     f ∙ ap (λ (t : List ℕ). t ++ rest) e ∙ ap (λ (t : List ℕ). names ++ t) (sym behind)
 
-pub header_judged : (merge : State) (version : Version) (section : List Span) (bytes rest : List ℕ) → bytes ≡ line_text (column_names version) ++ rest → merge.version ≡ version
-    → Compares merge section [] → JudgesLines merge version section bytes rest
-header_judged merge version section bytes rest e same c = record {
+pub header_judged : {S : Type 0} (to_come : S → List Span → Type 0) (merge : Merging S) (version : Version) (section : List Span) (bytes rest : List ℕ) → bytes ≡ line_text (column_names version) ++ rest → merge.version ≡ version
+    → Compares to_come merge section [] → JudgesLines to_come merge version section bytes rest
+header_judged to_come merge version section bytes rest e same c = record {
   records = column_names version ∷ [];
   table = [];
   is_table = (refl, record { each = tt; in_order = tt });
@@ -187,10 +187,10 @@ header_judged merge version section bytes rest e same c = record {
   reached = subst (λ (b : List ℕ). Reached default_config st.StartRecord (strip_bom b) (column_names version ∷ []) st.StartRecord rest) (sym e) (header_reached version rest);
 }
 
-pub line_judged : (old new : State) (version : Version) (section : List Span) (bytes before rest : List ℕ) (span : Span) → (j : JudgesLines old version section bytes before)
+pub line_judged : {S : Type 0} (to_come : S → List Span → Type 0) (old new : Merging S) (version : Version) (section : List Span) (bytes before rest : List ℕ) (span : Span) → (j : JudgesLines to_come old version section bytes before)
     → IsLine version span before rest → AreInOrder (j.table ++ span ∷ []) → new.version ≡ old.version
-    → ((spans table : List Span) → Compares old spans table → Compares new spans (table ++ span ∷ [])) → JudgesLines new version section bytes rest
-line_judged old new version section bytes before rest span j line order same step =
+    → ((spans table : List Span) → Compares to_come old spans table → Compares to_come new spans (table ++ span ∷ [])) → JudgesLines to_come new version section bytes rest
+line_judged to_come old new version section bytes before rest span j line order same step =
     let read = ap (λ (t : List ℕ). next_record default_config st.StartRecord [] [] t) line.joined ∙ span_read version line.fields span rest line.says in
     record {
       records = j.records ++ line.fields ∷ [];
@@ -218,24 +218,24 @@ line_shorter version span bytes at next line =
 pub none_behind : (bytes : List ℕ) (at : ℕ) → length bytes ≤ at → drop at bytes ≡ []
 none_behind bytes at le = drop_all at bytes le
 
-all_records : (merge : State) (version : Version) (section : List Span) (bytes rest : List ℕ) → (j : JudgesLines merge version section bytes rest) → rest ≡ [] → RecordsOf bytes j.records
-all_records merge version section bytes rest j e =
+all_records : {S : Type 0} (to_come : S → List Span → Type 0) (merge : Merging S) (version : Version) (section : List Span) (bytes rest : List ℕ) → (j : JudgesLines to_come merge version section bytes rest) → rest ≡ [] → RecordsOf bytes j.records
+all_records to_come merge version section bytes rest j e =
     (st.StartRecord, [], subst (λ (r : List ℕ). Reached default_config st.StartRecord (strip_bom bytes) j.records st.StartRecord r) e j.reached, none_left)
 
-pub same_told : (merge : State) (version : Version) (section : List Span) (bytes rest : List ℕ) → (j : JudgesLines merge version section bytes rest) → rest ≡ []
+pub same_told : {S : Type 0} (to_come : S → List Span → Type 0) (merge : Merging S) (version : Version) (section : List Span) (bytes rest : List ℕ) → (j : JudgesLines to_come merge version section bytes rest) → rest ≡ []
     → Agree (version_answer merge.version section) (span_answer j.table) → AnswersAs bytes section
-same_told merge version section bytes rest j e agree = record {
+same_told to_come merge version section bytes rest j e agree = record {
   version = version;
   table = j.table;
-  is_table = (j.records, all_records merge version section bytes rest j e, j.is_table);
+  is_table = (j.records, all_records to_come merge version section bytes rest j e, j.is_table);
   agree = rw j.version_is at agree;
 }
 
-pub difference_told : (merge : State) (version : Version) (section : List Span) (bytes rest : List ℕ) (difference : Difference) → (j : JudgesLines merge version section bytes rest) → rest ≡ []
+pub difference_told : {S : Type 0} (to_come : S → List Span → Type 0) (merge : Merging S) (version : Version) (section : List Span) (bytes rest : List ℕ) (difference : Difference) → (j : JudgesLines to_come merge version section bytes rest) → rest ≡ []
     → IsLeastDifference (version_answer merge.version section) (span_answer j.table) difference → DiffersSo bytes section difference
-difference_told merge version section bytes rest difference j e least = record {
+difference_told to_come merge version section bytes rest difference j e least = record {
   version = version;
   table = j.table;
-  is_table = (j.records, all_records merge version section bytes rest j e, j.is_table);
+  is_table = (j.records, all_records to_come merge version section bytes rest j e, j.is_table);
   least = rw j.version_is at least;
 }

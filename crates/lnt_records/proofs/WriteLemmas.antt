@@ -4,7 +4,7 @@ use Rattle.std.proofs.KnownBytes.{Appends-nil, Appends-trans}
 use Rattle.std.proofs.lemmas.Bool.{ne_eqb}
 use Rattle.std.proofs.lemmas.List.{append-nil, take_more, take_all}
 use Rattle.std.specs.Io.KnownBytes.{Appends}
-use Rattle.std.specs.List.{AllByRecursion, AllZip, list_any}
+use Rattle.std.specs.List.{AllByRecursion, AllZip, cons_option, list_any}
 use Rattle.csv.specs.Machine.{next_record}
 use Rattle.csv.specs.Reading.{Reached, default_config, strip_bom}
 use Rattle.csv.specs.Writing.{default_writer, field_text, fields_text, is_blank, needs_byte, read_back, row_text}
@@ -19,8 +19,7 @@ use Rattle.lnt_spans.specs.declared.answer.Version.TheVariants.{One, Two}
 use Rattle.lnt_spans.specs.declared.span.Span.{Span}
 use Rattle.lnt_spans.specs.Spans.{AreInOrder}
 use Rattle.lnt_records.specs.Table.{AreMore, Fields, IsFlag, Kind, RecordsOf, column_count, column_names}
-use Rattle.lnt_records.specs.Written.{AddsAnswer, AddsFlag, AddsMore, AddsNumber, AddsPosition, AddsRecord, ArePlain, IsOfVersion, IsPlainRecord, IsWrittenTable, following, line_text, lines_text}
-use Rattle.lnt_records.proofs.ComparisonLemmas.{zip_push}
+use Rattle.lnt_records.specs.Written.{AddsAnswer, AddsFlag, AddsMore, AddsNumber, AddsPosition, AddsRecord, AddsRecords, ArePlain, IsOfVersion, IsPlainRecord, IsWrittenTable, following, line_text, lines_text}
 use Rattle.lnt_records.proofs.SaidLemmas.{each_holds, records_plain}
 
 -- ---- fields behind each other
@@ -248,16 +247,16 @@ lines_append : (xs ys : List Fields) → lines_text (xs ++ ys) ≡ lines_text xs
 lines_append [] ys = refl
 lines_append (x ∷ xs) ys = ap (λ (t : List ℕ). line_text x ++ t) (lines_append xs ys) ∙ sym (append_assoc (line_text x) (lines_text xs) (lines_text ys))
 
--- These bytes are the lines of the first spans. A front of them was handed on.
-pub record Lines (version : Version) (old now : Option (List ℕ)) (block : List ℕ) (spans : List Span) (i : ℕ) : Type 0 where
+-- These bytes are the lines of the spans. A front of them was handed on.
+pub record Lines (version : Version) (old now : Option (List ℕ)) (block : List ℕ) (spans : List Span) : Type 0 where
   pub sent : List ℕ
   pub handed : Appends old now sent
   pub records : List Fields
   pub lines : sent ++ block ≡ lines_text (column_names version ∷ records)
-  pub each : AllZip (IsPlainRecord version) records (take i spans)
+  pub each : AllZip (IsPlainRecord version) records spans
 
-pub no_lines : (version : Version) (old : Option (List ℕ)) (block : List ℕ) (spans : List Span) → block ≡ line_text (column_names version) → Lines version old old block spans 0
-no_lines version old block spans e = record {
+pub no_lines : (version : Version) (old : Option (List ℕ)) (block : List ℕ) → block ≡ line_text (column_names version) → Lines version old old block []
+no_lines version old block e = record {
   sent = [];
   handed = Appends-nil old;
   records = [];
@@ -272,25 +271,61 @@ no_span = record {
   answer = record { unit = 0; file = 0; line = 0; column = 0; is_stmt = false; more = None };
 }
 
-pub line_more : (version : Version) (old now new : Option (List ℕ)) (block grown left sent : List ℕ) (spans : List Span) (i : ℕ) (d : Span) → i < length spans
-    → Lines version old now block spans i → AddsRecord version (get_or spans i d) block grown → Appends now new sent → grown ≡ sent ++ left → Lines version old new left spans (i + 1)
-line_more version old now new block grown left sent spans i d lt l r more e = record {
-  sent = l.sent ++ sent;
-  handed = Appends-trans old now new l.sent sent l.handed more;
-  records = l.records ++ r.fields ∷ [];
-  lines =
-      append_assoc l.sent sent left ∙ ap (λ (t : List ℕ). l.sent ++ t) (sym e ∙ r.joined) ∙ sym (append_assoc l.sent block (line_text r.fields))
-      ∙ ap (λ (t : List ℕ). t ++ line_text r.fields) l.lines
-      ∙ ap (λ (t : List ℕ). lines_text (column_names version ∷ l.records) ++ t) (sym (append-nil (line_text r.fields)))
-      ∙ sym (lines_append (column_names version ∷ l.records) (r.fields ∷ []));
-  each = subst (λ (xs : List Span). AllZip (IsPlainRecord version) (l.records ++ r.fields ∷ []) xs) (sym (take_more spans i d lt))
-      (zip_push (IsPlainRecord version) l.records (take i spans) r.fields (get_or spans i d) l.each r.plain);
+zip_join : {A B : Type 0} (R : A → B → Type 0) (xs more : List A) (ys others : List B) → AllZip R xs ys → AllZip R more others → AllZip R (xs ++ more) (ys ++ others)
+zip_join R [] more [] others z h = h
+zip_join R [] more (y ∷ ys) others z h = absurd z
+zip_join R (x ∷ xs) more [] others z h = absurd z
+zip_join R (x ∷ xs) more (y ∷ ys) others z h = (z.0, zip_join R xs more ys others z.1 h)
+
+one_record : (version : Version) (span : Span) (old new : List ℕ) → AddsRecord version span old new → AddsRecords version (span ∷ []) old new
+one_record version span old new r = record {
+  records = r.fields ∷ [];
+  joined = r.joined ∙ ap (λ (t : List ℕ). old ++ t) (sym (append-nil (line_text r.fields)));
+  each = (r.plain, tt);
 }
 
+pub some_put : (version : Version) (span : Option Span) (one : Span) (old new : List ℕ) → span ≡ Some one → AddsRecord version one old new → AddsRecords version (cons_option span []) old new
+some_put version span one old new e r = rw e (one_record version one old new r)
+
+pub none_put : (version : Version) (span : Option Span) (old : List ℕ) → span ≡ None → AddsRecords version (cons_option span []) old old
+none_put version span old e = rw e (record { records = []; joined = sym (append-nil old); each = tt })
+
+-- some more were put into the block
+pub lines_put : (version : Version) (old now : Option (List ℕ)) (block grown : List ℕ) (spans more : List Span) → Lines version old now block spans → AddsRecords version more block grown
+    → Lines version old now grown (spans ++ more)
+lines_put version old now block grown spans more l r = record {
+  sent = l.sent;
+  handed = l.handed;
+  records = l.records ++ r.records;
+  lines =
+      ap (λ (t : List ℕ). l.sent ++ t) r.joined ∙ sym (append_assoc l.sent block (lines_text r.records)) ∙ ap (λ (t : List ℕ). t ++ lines_text r.records) l.lines
+      ∙ sym (lines_append (column_names version ∷ l.records) r.records);
+  each = zip_join (IsPlainRecord version) l.records r.records spans more l.each r.each;
+}
+
+-- a front of the block was handed on
+pub lines_sent : (version : Version) (old now new : Option (List ℕ)) (block left sent : List ℕ) (spans : List Span) → Lines version old now block spans → Appends now new sent → block ≡ sent ++ left
+    → Lines version old new left spans
+lines_sent version old now new block left sent spans l more e = record {
+  sent = l.sent ++ sent;
+  handed = Appends-trans old now new l.sent sent l.handed more;
+  records = l.records;
+  lines = append_assoc l.sent sent left ∙ ap (λ (t : List ℕ). l.sent ++ t) (sym e) ∙ l.lines;
+  each = l.each;
+}
+
+pub line_more : (version : Version) (old now new : Option (List ℕ)) (block grown left sent : List ℕ) (spans : List Span) (i : ℕ) (d : Span) → i < length spans
+    → Lines version old now block (take i spans) → AddsRecord version (get_or spans i d) block grown → Appends now new sent → grown ≡ sent ++ left → Lines version old new left (take (i + 1) spans)
+line_more version old now new block grown left sent spans i d lt l r more e =
+    subst (λ (xs : List Span). Lines version old new left xs) (sym (take_more spans i d lt))
+    (lines_sent version old now new grown left sent (take i spans ++ get_or spans i d ∷ []) (lines_put version old now block grown (take i spans) (get_or spans i d ∷ []) l (one_record version (get_or spans i d) block grown r)) more e)
+
+pub lines_done : (version : Version) (old now new : Option (List ℕ)) (block : List ℕ) (spans : List Span) → AreInOrder spans
+    → Lines version old now block spans → Appends now new block → (bytes : List ℕ) × Appends old new bytes × IsWrittenTable version bytes spans
+lines_done version old now new block spans o l more =
+    (l.sent ++ block, Appends-trans old now new l.sent block l.handed more, written_table version (l.sent ++ block) l.records spans l.each o l.lines)
+
 pub all_lines : (version : Version) (old now new : Option (List ℕ)) (block : List ℕ) (spans : List Span) (i : ℕ) → length spans ≤ i → AreInOrder spans
-    → Lines version old now block spans i → Appends now new block → (bytes : List ℕ) × Appends old new bytes × IsWrittenTable version bytes spans
-all_lines version old now new block spans i le o l more = (
-  l.sent ++ block,
-  Appends-trans old now new l.sent block l.handed more,
-  written_table version (l.sent ++ block) l.records spans (subst (λ (xs : List Span). AllZip (IsPlainRecord version) l.records xs) (take_all i spans le) l.each) o l.lines,
-)
+    → Lines version old now block (take i spans) → Appends now new block → (bytes : List ℕ) × Appends old new bytes × IsWrittenTable version bytes spans
+all_lines version old now new block spans i le o l more =
+    lines_done version old now new block spans o (subst (λ (xs : List Span). Lines version old now block xs) (take_all i spans le) l) more

@@ -9,7 +9,7 @@ use Rattle.lnt_spans.specs.declared.answer.Version.{Version}
 use Rattle.lnt_spans.specs.declared.answer.Version.TheVariants.{One, Two}
 use Rattle.lnt_spans.specs.declared.position.Position.{Position}
 use Rattle.lnt_spans.specs.declared.span.Span.{Span}
-use Rattle.lnt_spans.specs.Comparing.{Compares, State}
+use Rattle.lnt_spans.specs.Comparing.{Compares, Merging}
 use Rattle.lnt_records.specs.Table.{Fields, IsFlag, IsSpanRecord, IsTable}
 use Rattle.lnt_records.specs.Written.{following, line_text}
 
@@ -73,10 +73,10 @@ pub record IsLine (version : Version) (span : Span) (bytes rest : List ℕ) : Ty
 -- ---- all lines
 
 -- The lines before the rest are a table so far, which is compared with the spans of a section.
-pub record JudgesLines (merge : State) (version : Version) (section : List Span) (bytes rest : List ℕ) : Type 0 where
+pub record JudgesLines {S : Type 0} (to_come : S → List Span → Type 0) (merge : Merging S) (version : Version) (section : List Span) (bytes rest : List ℕ) : Type 0 where
   pub records : List Fields
   pub table : List Span
   pub is_table : IsTable version records table
   pub version_is : merge.version ≡ version
-  pub compares : Compares merge section table
+  pub compares : Compares to_come merge section table
   pub reached : Reached default_config state.StartRecord (strip_bom bytes) records state.StartRecord rest

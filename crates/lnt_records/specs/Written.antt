@@ -8,6 +8,7 @@ use Rattle.lnt_spans.specs.declared.answer.Version.{Version}
 use Rattle.lnt_spans.specs.declared.answer.Version.TheVariants.{One, Two}
 use Rattle.lnt_spans.specs.declared.position.Position.{Position}
 use Rattle.lnt_spans.specs.declared.span.Span.{Span}
+use Rattle.lnt_spans.specs.Spans.{IsCanonical, span_answer, version_answer}
 use Rattle.lnt_records.specs.Table.{Fields, IsFlag, IsTableOf, SaysSpan, column_names}
 
 -- The answer tells what the version tells, and no more.
@@ -43,6 +44,17 @@ pub record IsPlainTable (version : Version) (bytes : List ℕ) (spans : List Spa
 pub record IsWrittenTable (version : Version) (bytes : List ℕ) (spans : List Span) : Type 0 where
   pub table : IsTableOf version bytes spans
   pub plain : IsPlainTable version bytes spans
+
+-- The answer tells an instruction set and a discriminator too.
+abbrev pub TellsAll : Span → Type 0
+TellsAll span = IsOfVersion Two span.answer
+
+-- The bytes are a table, on plain lines, of the canonical spans that answer as these do, as the version tells answers.
+pub record IsCanonicalTable (version : Version) (given : List Span) (bytes : List ℕ) : Type 0 where
+  pub spans : List Span
+  pub canonical : IsCanonical spans
+  pub same : (p : Position) → span_answer spans p ≡ version_answer version given p
+  pub written : IsWrittenTable version bytes spans
 
 -- ---- parts of a line. The bodies of this crate use them among themselves.
 
@@ -98,3 +110,9 @@ pub record AddsRecord (version : Version) (span : Span) (old new : List ℕ) : T
   pub fields : Fields
   pub joined : new ≡ old ++ line_text fields
   pub plain : IsPlainRecord version fields span
+
+-- a line for each span
+pub record AddsRecords (version : Version) (spans : List Span) (old new : List ℕ) : Type 0 where
+  pub records : List Fields
+  pub joined : new ≡ old ++ lines_text records
+  pub each : AllZip (IsPlainRecord version) records spans

@@ -12,7 +12,7 @@ use crate::lines::compare_lines;
 use crate::reading::{read_header, read_next, reader_of};
 use crate::record::{RecordFault, span_of};
 use csv::ByteRecord;
-use lnt_spans::{Difference, Merge, Span, Version};
+use lnt_spans::{Difference, Merge, Span, SpanSlice, SpanSource, Version};
 use std::alloc::Global;
 
 /// What a comparison found.
@@ -39,16 +39,20 @@ pub fn compare(alloc: Global, table: &[u8], spans: &[Span]) -> Result<Compared, 
     requires { AreInOrder spans.now }
     ensures { IfOk result (λ compared. IsComparison table.now spans.now compared) }
 {
-    if let Some(compared) = compare_lines(table, spans) {
+    if let Some(compared) = compare_lines(table, SpanSlice::of(spans)) {
         return Ok(compared);
     }
-    compare_records(alloc, table, spans)
+    compare_records(alloc, table, SpanSlice::of(spans))
 }
 
-// The same of any bytes, by the records that `csv` reads.
-fn compare_records(alloc: Global, table: &[u8], spans: &[Span]) -> Result<Compared, TableStop>
-    requires { AreInOrder spans.now }
-    ensures { IfOk result (λ compared. IsComparison table.now spans.now compared) }
+/// The same of any bytes, by the records that `csv` reads, with spans that come from a source.
+pub fn compare_records<S: SpanSource + Drop>(
+    alloc: Global,
+    table: &[u8],
+    spans: S,
+) -> Result<Compared, TableStop>
+    requires { (list : List Span) × S.to_come spans list × AreInOrder list }
+    ensures { IfOk result (λ compared. (list : List Span) → S.to_come spans list → AreInOrder list → IsComparison table.now list compared) }
 {
     let mut reader = reader_of(alloc, table);
     let mut row = ByteRecord::new(alloc);
@@ -69,18 +73,17 @@ fn compare_records(alloc: Global, table: &[u8], spans: &[Span]) -> Result<Compar
 
 // The spans of a section, compared with the records of a table so far.
 #[derive(Drop)]
-struct Comparison<'a> {
-    merge: Merge<'a>,
+struct Comparison<S> {
+    merge: Merge<S>,
     version: Version,
     // how many records there were, with the header
     count: u64,
 }
 
-impl<'a> Comparison<'a> {
+impl<S: SpanSource + Drop> Comparison<S> {
     // Spans compared with a table that has only its header so far.
-    fn new(spans: &'a [Span], version: Version) -> Comparison<'a>
-        requires { AreInOrder spans.now }
-        ensures { Judges result spans.entry.now (column_names version ∷ []) }
+    fn new(spans: S, version: Version) -> Comparison<S>
+        ensures { (list : List Span) → S.to_come spans list → AreInOrder list → Judges S.to_come result list (column_names version ∷ []) }
     {
         Comparison {
             merge: Merge::new(spans, version),
@@ -91,10 +94,10 @@ impl<'a> Comparison<'a> {
 
     // Takes the next record, if it isn't faulty.
     fn take_record(&mut self, row: &ByteRecord) -> Option<TableFault>
-        requires { (section : List Span) × (records : List Fields) × Judges self.old section records × (length records + 1 < 2 ^ 64) }
+        requires { (section : List Span) × (records : List Fields) × Judges S.to_come self.old section records × (length records + 1 < 2 ^ 64) }
         ensures version { self.new.version ≡ self.old.version }
-        ensures judged { (section : List Span) (records : List Fields) → Judges self.old section records
-            → MatchOption result (Judges self.new section (records ++ fields_of row.now ∷ []))
+        ensures judged { (section : List Span) (records : List Fields) → Judges S.to_come self.old section records
+            → MatchOption result (Judges S.to_come self.new section (records ++ fields_of row.now ∷ []))
             (λ fault. (table : List Span) × IsTable self.old.version records table × IsFaulty self.old.version table (length records) (fields_of row.now) fault) }
     {
         let span = match span_of(row, self.version) {

@@ -7,6 +7,7 @@
 //! so the first span is record 1, and columns too.
 #![tactic(auto)]
 
+mod canonical;
 mod column;
 mod comparison;
 mod fault;
@@ -18,6 +19,8 @@ mod reading;
 mod record;
 mod write;
 
-pub use comparison::{Compared, compare};
+pub use canonical::write_canonical;
+pub use comparison::{Compared, compare, compare_records};
 pub use fault::{TableFault, TableStop, WriteStop};
+pub use lines::compare_lines;
 pub use write::write_spans;

@@ -1,6 +1,7 @@
 //! Tables read line by line: each record on a line of its own that ends in a line feed, and nothing in quotes, as
 //! `write_spans` writes them. Each record is read in one pass over its bytes.
-ghost use Rattle.std.specs.Prelude.{◌≡◌, ◌++◌, drop, IfSome};
+ghost use Rattle.std.specs.Prelude.{◌≡◌, ◌++◌, drop, IfSome, List};
+ghost use Rattle.lnt_spans.specs.declared.span.Span as spec;
 ghost use Rattle.lnt_spans.specs.Spans.{AreInOrder};
 ghost use Rattle.lnt_records.specs.Faults.{IsComparison};
 ghost use Rattle.lnt_records.specs.Lines.{IsAnswer, IsFlagBefore, IsLine, IsMore, IsPosition};
@@ -10,13 +11,14 @@ ghost use Rattle.lnt_records.specs.Written.{line_text};
 use crate::comparison::Compared;
 use crate::front::{address_before, behind, decimal_before};
 use crate::header::header_line;
-use lnt_spans::{Answer, Merge, More, Position, Span, Version};
+use lnt_spans::{Answer, Merge, More, Position, Span, SpanSource, Version};
 
-// Compares the table in some bytes with the spans of a section, if each record is a sound one on a line of its own, in
-// order, with nothing in quotes, and no number has more than 18 digits. None where that isn't so.
-pub(crate) fn compare_lines(table: &[u8], spans: &[Span]) -> Option<Compared>
-    requires { AreInOrder spans.now }
-    ensures { IfSome result (λ compared. IsComparison table.now spans.now compared) }
+/// Compares the table in some bytes with the spans of a section that come from a source, if each record is a sound one
+/// on a line of its own, in order, with nothing in quotes, and no number has more than 18 digits. None where that isn't
+/// so. It takes no memory.
+pub fn compare_lines<S: SpanSource + Drop>(table: &[u8], spans: S) -> Option<Compared>
+    requires { (list : List spec.Span) × S.to_come spans list × AreInOrder list }
+    ensures { IfSome result (λ compared. (list : List spec.Span) → S.to_come spans list → AreInOrder list → IsComparison table.now list compared) }
 {
     let (version, mut at) = header_in(table)?;
     let mut merge = Merge::new(spans, version);

@@ -46,7 +46,7 @@ pub fn write_spans<W: Write>(
 }
 
 // Hands a block to the writer, if it is full.
-fn send_full<W: Write>(block: &mut Vec<u8>, out: &mut W) -> Result<(), WriteStop>
+pub(crate) fn send_full<W: Write>(block: &mut Vec<u8>, out: &mut W) -> Result<(), WriteStop>
     ensures { OnOk result ((sent : List ℕ) × Appends (W.contents out.old) (W.contents out.new) sent × (block.old.items ≡ sent ++ block.new.items)) }
 {
     if block.len() < BLOCK {
@@ -56,7 +56,7 @@ fn send_full<W: Write>(block: &mut Vec<u8>, out: &mut W) -> Result<(), WriteStop
 }
 
 // Hands a block to the writer, and begins the next one.
-fn send<W: Write>(block: &mut Vec<u8>, out: &mut W) -> Result<(), WriteStop>
+pub(crate) fn send<W: Write>(block: &mut Vec<u8>, out: &mut W) -> Result<(), WriteStop>
     ensures handed { OnOk result (Appends (W.contents out.old) (W.contents out.new) block.old.items) }
     ensures empty { OnOk result (block.new.items ≡ []) }
 {
@@ -68,7 +68,7 @@ fn send<W: Write>(block: &mut Vec<u8>, out: &mut W) -> Result<(), WriteStop>
 }
 
 // Adds the line with the names of the columns.
-fn put_header(block: &mut Vec<u8>, version: Version) -> Result<(), AllocError>
+pub(crate) fn put_header(block: &mut Vec<u8>, version: Version) -> Result<(), AllocError>
     ensures { OnOk result (block.new.items ≡ block.old.items ++ line_text (column_names version)) }
 {
     block.extend_from_slice(header_line(version))
@@ -76,7 +76,7 @@ fn put_header(block: &mut Vec<u8>, version: Version) -> Result<(), AllocError>
 
 // Adds the line of a span.
 #[tactic(auto, using(crate::proofs::WriteLemmas::span_put))]
-fn put_span(block: &mut Vec<u8>, span: &Span) -> Result<(), AllocError>
+pub(crate) fn put_span(block: &mut Vec<u8>, span: &Span) -> Result<(), AllocError>
     ensures { (version : Version) → IsOfVersion version span.now.answer → OnOk result (AddsRecord version span.now block.old.items block.new.items) }
 {
     put_position(block, span.low)?;

@@ -3,16 +3,14 @@ use Rattle.std.proofs.Common.{◌≡◌, ℕ, ◌+◌, ◌^◌, ◌<◌, ◌≤�
 use Rattle.std.specs.Option.{option_or}
 use Rattle.std.proofs.lemmas.List.{length-append}
 use Rattle.lnt_machine.specs.declared.row.Row.{Row}
-use Rattle.lnt_spans.specs.declared.span.Span.{Span}
 use Rattle.lnt_rows.specs.declared.collected.Collected.{Collected}
 use Rattle.lnt_rows.specs.declared.extent.Extent.{Extent}
 use Rattle.lnt_rows.specs.declared.watch.Current.{Current}
 use Rattle.lnt_rows.specs.declared.watch.MissingFile.{MissingFile}
 use Rattle.lnt_rows.specs.declared.watch.Watch.{Watch}
 use Rattle.lnt_rows.specs.Extents.{extents_of}
-use Rattle.lnt_rows.specs.RowSpans.{spans_of}
 use Rattle.lnt_rows.specs.Sequences.{Placed}
-use Rattle.lnt_rows.specs.Watching.{closed, CollectsRows, counted, current_of, extent_from, extent_shown, fall_shown, falls_behind, file_shown, gone_on, grown, HasSeen, longer, names_no_file, next, noted, shown, span_from, span_shown, start, Walk, walked}
+use Rattle.lnt_rows.specs.Watching.{closed, CollectsRows, counted, current_of, extent_from, extent_shown, fall_shown, falls_behind, file_shown, gone_on, grown, HasSeen, longer, names_no_file, next, noted, shown, start, Walk, walked}
 use Rattle.lnt_rows.specs.Laws.Walks.{first_shown-push, last_behind-push, shown-push, walked-append, walked-rows}
 
 -- ---- where the rows have come to
@@ -116,33 +114,19 @@ seen_more dead unit files rows old new row current is e seen few =
 
 -- ---- what is collected
 
-abbrev spans_next : Option ℕ → ℕ → Option Current → Row → List Span
-spans_next dead unit current row = cond (grown dead current row).live (span_from unit current row) []
-
 abbrev extents_next : Option ℕ → ℕ → ℕ → Option Current → Row → List Extent
 extents_next dead unit ended current row = cond (grown dead current row).live (extent_from unit ended current row) []
 
 pub collects_more : (dead : Option ℕ) (unit files : ℕ) (rows : List Row) (ss : List Placed) (watch : Watch) (old new : Collected) (row : Row) (current : Current)
     → current ≡ grown watch.dead watch.current row
-    → new.spans.items ≡ old.spans.items ++ cond current.live (span_from watch.unit watch.current row) []
     → new.extents.items ≡ old.extents.items ++ cond current.live (extent_from watch.unit watch.ended watch.current row) []
     → HasSeen dead unit files watch rows → CollectsRows dead unit old ss rows → CollectsRows dead unit new ss (rows ++ row ∷ [])
-collects_more dead unit files rows ss watch old new row current is spans extents seen collects few =
+collects_more dead unit files rows ss watch old new row current is extents seen collects few =
     let more : length rows + 1 < 2 ^ 64 = omega (arith, length-append rows (row ∷ [])) in
     let r = seen (omega arith) in
     let c = collects (omega arith) in
     let walk = walked start rows in
     record {
-      spans =
-          spans
-          ∙ ap (λ (g : Current). old.spans.items ++ cond g.live (span_from watch.unit watch.current row) []) is
-          ∙ ap (λ (all : List Span). all ++ spans_next watch.dead watch.unit watch.current row) c.spans
-          ∙ append_assoc (spans_of ss) (shown (span_shown dead unit) start rows) (spans_next watch.dead watch.unit watch.current row)
-          ∙ ap (λ (all : List Span). spans_of ss ++ all)
-          (ap (λ (d : Option ℕ). shown (span_shown dead unit) start rows ++ spans_next d watch.unit watch.current row) r.dead_is
-          ∙ ap (λ (u : ℕ). shown (span_shown dead unit) start rows ++ spans_next dead u watch.current row) r.unit_is
-          ∙ ap (λ (o : Option Current). shown (span_shown dead unit) start rows ++ spans_next dead unit o row) r.current_is
-          ∙ sym (shown-push (span_shown dead unit) start rows row));
       extents =
           extents
           ∙ ap (λ (g : Current). old.extents.items ++ cond g.live (extent_from watch.unit watch.ended watch.current row) []) is

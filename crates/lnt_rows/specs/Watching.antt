@@ -6,7 +6,6 @@ use Rattle.std.specs.Prelude.{◌≡◌, ℕ, ◌+◌, ◌-◌, ◌^◌, ◌<◌
 use Rattle.std.specs.Option.{option_or}
 use Rattle.lnt_machine.specs.declared.row.Row.{Row}
 use Rattle.lnt_machine.specs.Matrix.{joined_rows, sequences_of}
-use Rattle.lnt_spans.specs.declared.span.Span.{Span}
 use Rattle.lnt_spans.specs.Positions.{is_below}
 use Rattle.lnt_rows.specs.declared.collected.Collected.{Collected}
 use Rattle.lnt_rows.specs.declared.extent.Extent.{Extent}
@@ -14,13 +13,11 @@ use Rattle.lnt_rows.specs.declared.watch.Current.{Current}
 use Rattle.lnt_rows.specs.declared.watch.MissingFile.{MissingFile}
 use Rattle.lnt_rows.specs.declared.watch.Watch.{Watch}
 use Rattle.lnt_rows.specs.Extents.{extent_between, extents_of}
-use Rattle.lnt_rows.specs.RowSpans.{span_between, spans_of}
 use Rattle.lnt_rows.specs.Sequences as sequence
 use Rattle.lnt_rows.specs.Sequences.{position_of, Placed}
 
--- It is collected of these sequences: their spans, and the extents of those that hold anything.
+-- It is collected of these sequences: the extents of those that hold anything.
 pub record Collects (collected : Collected) (sequences : List Placed) : Type 0 where
-  pub spans : collected.spans.items ≡ spans_of sequences
   pub extents : collected.extents.items ≡ extents_of sequences
 
 -- ---- one more row
@@ -30,13 +27,8 @@ begins_live dead row = sequence.begins_live dead row
 
 -- the sequence that hasn't ended, with one more row
 abbrev pub grown : Option ℕ → Option Current → Row → Current
-grown dead None row = record { live = begins_live dead row; low = position_of row; last = row }
-grown dead (Some current) row = record current { last = row }
-
--- the span that ends at a row
-abbrev pub span_from : ℕ → Option Current → Row → List Span
-span_from unit None row = []
-span_from unit (Some current) row = span_between unit current.last row
+grown dead None row = record { live = begins_live dead row; low = position_of row; last = position_of row }
+grown dead (Some current) row = record current { last = position_of row }
 
 -- the extent that ends at a row
 abbrev pub extent_from : ℕ → ℕ → Option Current → Row → List Extent
@@ -46,7 +38,7 @@ extent_from unit index (Some current) row = cond row.end_sequence (extent_betwee
 -- whether a row's position is below that of the row before it in its sequence
 abbrev pub falls_behind : Option Current → Row → Bool
 falls_behind None row = false
-falls_behind (Some current) row = is_below (position_of row) (position_of current.last)
+falls_behind (Some current) row = is_below (position_of row) current.last
 
 -- whether a row that is no end row names a file that isn't among so many
 abbrev pub names_no_file : ℕ → Row → Bool
@@ -117,14 +109,11 @@ last_behind row (next ∷ rows) = last_behind next rows
 -- the sequence that hasn't ended, by its rows so far
 abbrev pub current_of : Option ℕ → List Row → Option Current
 current_of dead [] = None
-current_of dead (row ∷ rows) = Some (record { live = begins_live dead row; low = position_of row; last = last_behind row rows })
+current_of dead (row ∷ rows) = Some (record { live = begins_live dead row; low = position_of row; last = position_of (last_behind row rows) })
 
 -- whether a row's sequence is live
 abbrev pub is_in_live : Option ℕ → Walk → Row → Bool
 is_in_live dead walk row = (grown dead (current_of dead walk.begun) row).live
-
-abbrev pub span_shown : Option ℕ → ℕ → Walk → Row → List Span
-span_shown dead unit walk row = cond (is_in_live dead walk row) (span_from unit (current_of dead walk.begun) row) []
 
 abbrev pub extent_shown : Option ℕ → ℕ → Walk → Row → List Extent
 extent_shown dead unit walk row = cond (is_in_live dead walk row) (extent_from unit walk.ended (current_of dead walk.begun) row) []
@@ -163,7 +152,6 @@ pub record HasSeenAll (dead : Option ℕ) (unit files : ℕ) (watch : Watch) (ro
 
 -- what is collected of sequences, and of rows of the unit at an offset
 pub record CollectsBoth (dead : Option ℕ) (unit : ℕ) (collected : Collected) (sequences : List Placed) (rows : List Row) : Type 0 where
-  pub spans : collected.spans.items ≡ spans_of sequences ++ shown (span_shown dead unit) start rows
   pub extents : collected.extents.items ≡ extents_of sequences ++ shown (extent_shown dead unit) start rows
 
 -- It is collected of these sequences, and of these rows of the unit at an offset, as far as they are live. There are

@@ -1,4 +1,6 @@
 //! Laws of what rows say of positions, each the contract of a function without parameters that does nothing.
+ghost use Rattle.lnt_rows.specs.Extents.{HolderAnswers};
+ghost use Rattle.lnt_rows.specs.InTurn.{EntriesInTurn, SpansInTurn};
 ghost use Rattle.lnt_rows.specs.Laws.{CollectedUnit, DistinctSequences, FallIsNotOrdered, MissingFileIsNotThere, OverlapIsNotApart, SequenceSpans, SpansAnswer};
 
 /// The spans of sequences whose positions never fall answer at every position as their rows do.
@@ -37,4 +39,23 @@ pub fn collected_unit()
 /// The live sequences of units at different offsets have different ids.
 pub fn distinct_sequences()
     ensures { DistinctSequences }
+{}
+
+/// Where no position is held by two sequences, what they answer is what the rows of the sequence say whose extent holds the
+/// position, and nothing where no extent does.
+#[tactic(auto, using(crate::proofs::HolderLemmas::holder_answers))]
+pub fn holder_answers()
+    ensures { HolderAnswers }
+{}
+
+/// Sequences one after another, whose positions never fall, have spans in order.
+#[tactic(auto, using(crate::proofs::TurnLemmas::spans_in_turn))]
+pub fn spans_in_turn()
+    ensures { SpansInTurn }
+{}
+
+/// The sequences of settled extents, in the order of these, have spans in order, which answer as all sequences do.
+#[tactic(auto, using(crate::proofs::EntryLemmas::entries_in_turn))]
+pub fn entries_in_turn()
+    ensures { EntriesInTurn }
 {}

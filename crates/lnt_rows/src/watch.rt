@@ -28,11 +28,11 @@ struct Current {
     live: bool,
     // the position of its first row
     low: Position,
-    // its last row so far
-    last: Row,
+    // that of its last row so far
+    last: Position,
 }
 
-/// What is remembered of the rows of one unit. No row is kept but the last one.
+/// What is remembered of the rows of one unit. No row is kept.
 ///
 /// Contracts say which rows it has seen (`HasSeen`), in which order they came.
 #[derive(Debug, Drop)]
@@ -68,8 +68,8 @@ impl Watch {
         }
     }
 
-    /// Sees the unit's next row, and adds to what is collected of the section what the row makes known of a live
-    /// sequence: the span that ends at it, and where it is an end row, the positions that the sequence holds.
+    /// Sees the unit's next row. Where it is the end row of a live sequence, it adds the positions that the sequence
+    /// holds to what is collected of the section.
     ///
     /// The one error is that memory ran out. Nothing is said then of the watch, nor of what is collected.
     #[inline(always)]
@@ -114,26 +114,20 @@ impl Watch {
     // Adds what the next row makes known of the positions that its sequence holds, if that is live.
     #[inline(always)]
     fn collect(&self, row: &Row, live: bool, collected: &mut Collected) -> Result<(), AllocError>
-        ensures spans { IfOk result (λ _. collected.new.spans.items ≡ collected.old.spans.items
-            ++ (if live then (spec.span_from self.now.unit self.now.current row.now) else [])) }
-        ensures extents { IfOk result (λ _. collected.new.extents.items ≡ collected.old.extents.items
+        ensures { IfOk result (λ _. collected.new.extents.items ≡ collected.old.extents.items
             ++ (if live then (spec.extent_from self.now.unit self.now.ended self.now.current row.now) else [])) }
     {
         let Some(current) = &self.current else {
             return Ok(());
         };
-        if !live {
+        if !live || !row.end_sequence {
             return Ok(());
         }
-        collected.push_span(self.unit, &current.last, row)?;
-        if row.end_sequence {
-            let id = SeqId {
-                unit: self.unit,
-                index: self.ended,
-            };
-            collected.push_extent(id, current.low, position_of(row))?;
-        }
-        Ok(())
+        let id = SeqId {
+            unit: self.unit,
+            index: self.ended,
+        };
+        collected.push_extent(id, current.low, position_of(row))
     }
 
     // Remembers the next row if its sequence is live, and it is the first that falls, or the first whose file isn't there.
@@ -175,13 +169,13 @@ fn grown(dead: Option<u64>, current: Option<Current>, row: &Row) -> Current
 {
     match current {
         Some(current) => Current {
-            last: *row,
+            last: position_of(row),
             ..current
         },
         None => Current {
             live: begins_live(dead, row),
             low: position_of(row),
-            last: *row,
+            last: position_of(row),
         },
     }
 }
@@ -203,7 +197,7 @@ fn falls_behind(current: &Option<Current>, row: &Row) -> bool
     ensures { result ≡ spec.falls_behind current.now row.now }
 {
     match current {
-        Some(current) => position_of(row).is_below(position_of(&current.last)),
+        Some(current) => position_of(row).is_below(current.last),
         None => false,
     }
 }

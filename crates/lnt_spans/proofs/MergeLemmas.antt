@@ -3,19 +3,23 @@ use Rattle.std.proofs.Common.{◌≡◌, ◌∙◌, Bool, true, false, List, [],
 use Rattle.std.specs.Prelude.{MatchOption}
 use Rattle.std.specs.Bool.{MatchBool}
 use Rattle.std.specs.Option.{is_some, option_map}
+use Rattle.std.proofs.lemmas.Bool.{true≢false}
 use Rattle.lnt_spans.specs.declared.answer.Answer.{Answer}
+use Rattle.lnt_spans.specs.declared.answer.Version.{Version}
 use Rattle.lnt_spans.specs.declared.difference.Difference.{Difference}
 use Rattle.lnt_spans.specs.declared.position.Position.{Position}
 use Rattle.lnt_spans.specs.declared.span.Span.{Span}
 use Rattle.lnt_spans.specs.Answers.{in_version}
-use Rattle.lnt_spans.specs.Comparing.{AgreeBefore, Compares, IsCompared, IsComparedBy, IsNext, IsSound, State, end_of}
-use Rattle.lnt_spans.specs.Differences.{IsLeastDifference}
+use Rattle.lnt_spans.specs.declared.ahead.Ahead.{Ahead}
+use Rattle.lnt_spans.specs.Ahead.{IsAhead}
+use Rattle.lnt_spans.specs.Comparing.{Advances, AgreeBefore, Compares, DifferBefore, end_of, GoesOn, HasCompared, IsCompared, IsComparedBy, IsNext, Merging, State, state_of}
+use Rattle.lnt_spans.specs.Differences.{Agree, IsLeastDifference}
 use Rattle.lnt_spans.specs.Positions.{IsBelow, IsAtMost}
-use Rattle.lnt_spans.specs.Scanning.{DiffersFirst, Says}
+use Rattle.lnt_spans.specs.Scanning.{DiffersFirst, EndsBehind, IsScanned, Says}
 use Rattle.lnt_spans.specs.Spans.{AreInOrder, span_answer, span_in_version, version_answer}
-use Rattle.lnt_spans.proofs.ScanLemmas.{first_says, gap_says}
-use Rattle.lnt_spans.specs.Laws.Answering.{answer_before, answer_behind, answer_in, answer_same, first_holds, none_before}
-use Rattle.lnt_spans.specs.Laws.Positions.{at_most_itself, at_most_trans, below_at_most, below_is_at_most, not_both, order_cases}
+use Rattle.lnt_spans.proofs.ScanLemmas.{begins_with, first_is, first_says, gap_says, next_behind, no_first}
+use Rattle.lnt_spans.specs.Laws.Answering.{answer_before, answer_behind, answer_in, answer_same, first_holds, none_before, rest_in_order}
+use Rattle.lnt_spans.specs.Laws.Positions.{at_most_below, at_most_itself, at_most_trans, below_at_most, below_is_at_most, not_both, order_cases}
 
 -- ---- one more record, and the order
 
@@ -41,24 +45,25 @@ end_pushed [] span = refl
 end_pushed (r ∷ []) span = refl
 end_pushed (r ∷ next ∷ records) span = end_pushed (next ∷ records) span
 
-pub takes_none : (state : State) (spans records : List Span) (span : Span) → IsBelow span.low state.at → Compares state spans records
+pub takes_none : (state : State) (spans records : List Span) (span : Span) → IsBelow span.low state.at → HasCompared state spans records
     → AreInOrder (records ++ span ∷ []) → ⊥
 takes_none state spans records span lt c o = not_both lt (subst (λ (p : Position). IsAtMost p span.low) (sym c.at) (order_pushed records span o).behind)
 
 pub takes_one : (state : State) (spans records : List Span) (span : Span) (holds : Bool) → IsAtMost state.at span.low → MatchBool holds (IsBelow span.low span.high) (IsAtMost span.high span.low)
-    → Compares state spans records → MatchBool holds (AreInOrder (records ++ span ∷ [])) (AreInOrder (records ++ span ∷ []) → ⊥)
+    → HasCompared state spans records → MatchBool holds (AreInOrder (records ++ span ∷ [])) (AreInOrder (records ++ span ∷ []) → ⊥)
 takes_one state spans records span true le h c = order_push records span c.order (record { behind = subst (λ (p : Position). IsAtMost p span.low) c.at le; holds = h })
 takes_one state spans records span false le h c = λ o. not_both (order_pushed records span o).holds h
 
 -- what `push` asks for, in positions
-pub record Comes (state : State) (span : Span) : Type 0 where
-  pub behind : IsAtMost state.at span.low
+pub record Comes (at : Position) (span : Span) : Type 0 where
+  pub behind : IsAtMost at span.low
   pub holds : IsBelow span.low span.high
 
-pub comes : (state : State) (span : Span) → (spans : List Span) × (records : List Span) × Compares state spans records × AreInOrder (records ++ span ∷ []) → Comes state span
-comes state span h =
+pub comes : {S : Type 0} (to_come : S → List Span → Type 0) (merge : Merging S) (span : Span) → (spans : List Span) × (records : List Span) × Compares to_come merge spans records × AreInOrder (records ++ span ∷ [])
+    → Comes merge.at span
+comes to_come merge span h =
     let f = order_pushed h.1 span h.3 in
-    let c = h.2 in
+    let c = h.2.compared in
     record { behind = subst (λ (p : Position). IsAtMost p span.low) (sym c.at) f.behind; holds = f.holds }
 
 -- ---- one more record, and what the table answers
@@ -93,15 +98,9 @@ compared_same (Some d) state spans f g e c = record {
   };
 }
 
--- what going on to `to` does, whatever the table says
-abbrev pub Advances : State → State → Position → Option Answer → Type 0
-Advances old new to answer =
-    (spans : List Span) (by_table : Position → Option Answer) → IsCompared old spans by_table
-    → ((p : Position) → IsAtMost old.at p → IsBelow p to → by_table p ≡ answer) → IsCompared new spans by_table
-
-pub push_compares : (old middle new : State) (span : Span) → Comes old span → middle.at ≡ span.low → new.at ≡ span.high
+push_compares : (old middle new : State) (span : Span) → Comes old.at span → middle.at ≡ span.low → new.at ≡ span.high
     → Advances old middle span.low None → Advances middle new span.high (Some span.answer)
-    → (spans records : List Span) → Compares old spans records → Compares new spans (records ++ span ∷ [])
+    → (spans records : List Span) → HasCompared old spans records → HasCompared new spans (records ++ span ∷ [])
 push_compares old middle new span h low high gap over spans records c =
     let by_table : Position → Option Answer = span_answer (records ++ span ∷ []) in
     let start = compared_same old.first old spans (span_answer records) by_table (λ p k. sym (answer_push_before records span p (below_at_most k h.behind))) c.compared in
@@ -134,7 +133,7 @@ abbrev pub Found : State → Position → Option Answer → List Span → Option
 Found old to answer rest first =
     MatchOption first (Says old.version old.rest old.at to answer rest) (λ difference. DiffersFirst old.version old.rest old.at to answer difference)
 
-pub advance_found : (old : State) (rest : List Span) (to : Position) (answer : Option Answer) (first : Option Difference) → old.first ≡ None → IsAtMost old.at to
+advance_found : (old : State) (rest : List Span) (to : Position) (answer : Option Answer) (first : Option Difference) → old.first ≡ None → IsAtMost old.at to
     → Found old to answer rest first → Advances old (record { version = old.version; rest = rest; at = to; first = first }) to answer
 advance_found old rest to answer None e le h spans by_table c says = let a = agree_before old spans by_table e c in record {
   rest_same = λ p k. h.same p k ∙ a.rest_same p (at_most_trans le k);
@@ -156,10 +155,59 @@ advance_found old rest to answer (Some difference) e le h spans by_table c says 
   };
 }
 
+pub pushed : {S : Type 0} (to_come : S → List Span → Type 0) (old middle new : Merging S) (span : Span) → Comes old.at span → middle.at ≡ span.low → new.at ≡ span.high
+    → ((rest : List Span) → GoesOn to_come old middle rest span.low None) → ((rest : List Span) → GoesOn to_come middle new rest span.high (Some span.answer))
+    → (spans records : List Span) → Compares to_come old spans records → Compares to_come new spans (records ++ span ∷ [])
+pushed to_come old middle new span h low high gap over spans records c =
+    let one = gap c.rest c.ahead c.sound in
+    let two = over one.rest one.ahead one.sound in
+    record {
+      rest = two.rest;
+      ahead = two.ahead;
+      sound = two.sound;
+      compared = push_compares (state_of old c.rest) (state_of middle one.rest) (state_of new two.rest) span h low high one.advances two.advances spans records c.compared;
+    }
+
+-- the spans were scanned
+pub scanned_on : {S : Type 0} (to_come : S → List Span → Type 0) (old : Merging S) (spans : Ahead S) (to : Position) (answer : Option Answer) (first : Option Difference) → old.first ≡ None → IsAtMost old.at to
+    → ((list : List Span) → IsAhead to_come old.spans list → AreInOrder list → EndsBehind old.at list → IsScanned old.version list old.at to answer first (IsAhead to_come spans))
+    → (rest : List Span) → GoesOn to_come old (record { version = old.version; spans = spans; at = to; first = first }) rest to answer
+scanned_on to_come old spans to answer first none le scan rest ahead sound =
+    let s = scan rest ahead sound.order (sound.behind none) in
+    record {
+      rest = s.rest;
+      ahead = s.left;
+      sound = record { order = s.order; behind = λ e. ends_above rest s.rest first e s.cases };
+      advances = advance_found (state_of old rest) s.rest to answer first none le s.cases;
+    }
+  where
+    ends_above : (all more : List Span) (f : Option Difference) → f ≡ None → MatchOption f (Says old.version all old.at to answer more) (λ difference. DiffersFirst old.version all old.at to answer difference) → EndsBehind to more
+    ends_above all more None e says = says.behind
+    ends_above all more (Some difference) e says = absurd cc
+
+-- there was a difference before
+pub differed_on : {S : Type 0} (to_come : S → List Span → Type 0) (old : Merging S) (to : Position) (answer : Option Answer) → true ≡ is_some old.first → IsAtMost old.at to
+    → (rest : List Span) → GoesOn to_come old (record { version = old.version; spans = old.spans; at = to; first = old.first }) rest to answer
+differed_on to_come old to answer some le rest ahead sound = record {
+  rest = rest;
+  ahead = ahead;
+  sound = record { order = sound.order; behind = λ e. absurd (none_not old.first e some) };
+  advances = λ spans by_table c says. by_first spans by_table old.first some c;
+}
+  where
+    none_not : (f : Option Difference) → f ≡ None → true ≡ is_some f → ⊥
+    none_not None e h = true≢false h
+    none_not (Some difference) e h = cc e
+
+    by_first : (spans : List Span) (by_table : Position → Option Answer) (f : Option Difference) → true ≡ is_some f → IsComparedBy f (state_of old rest) spans by_table
+        → IsComparedBy f (record { version = old.version; rest = rest; at = to; first = old.first }) spans by_table
+    by_first spans by_table None h c = absurd (true≢false h)
+    by_first spans by_table (Some difference) h c = record { below = below_at_most c.below le; least = c.least }
+
 -- ---- a record that is the next span
 
-next_compares : (old : State) (span : Span) (more : List Span) → old.rest ≡ span ∷ more → old.first ≡ None → AreInOrder (span ∷ more) → Comes old (span_in_version old.version span)
-    → (spans records : List Span) → Compares old spans records → Compares (record { version = old.version; rest = more; at = span.high; first = None }) spans (records ++ span_in_version old.version span ∷ [])
+next_compares : (old : State) (span : Span) (more : List Span) → old.rest ≡ span ∷ more → old.first ≡ None → AreInOrder (span ∷ more) → Comes old.at (span_in_version old.version span)
+    → (spans records : List Span) → HasCompared old spans records → HasCompared (record { version = old.version; rest = more; at = span.high; first = None }) spans (records ++ span_in_version old.version span ∷ [])
 next_compares old span more rest none order h =
     let said = span_in_version old.version span in
     let middle : State = record { version = old.version; rest = span ∷ more; at = span.low; first = None } in
@@ -168,13 +216,29 @@ next_compares old span more rest none order h =
     (advance_found old (span ∷ more) span.low None None none h.behind before)
     (advance_found middle more span.high (Some said.answer) None refl (below_is_at_most h.holds) (first_says old.version span more order))
 
-pub next_pushed : (old : State) (said : Span) (more : List Span) → IsNext old said more → AreInOrder old.rest → Comes old said
-    → (spans records : List Span) → Compares old spans records → Compares (record { version = old.version; rest = more; at = said.high; first = old.first }) spans (records ++ said ∷ [])
-next_pushed old said more n order h =
-    let pushed = next_compares old n.span more n.rest n.none (subst AreInOrder n.rest order) (subst (Comes old) n.told h) in
-    let said_pushed : (spans records : List Span) → Compares old spans records → Compares (record { version = old.version; rest = more; at = said.high; first = None }) spans (records ++ said ∷ []) =
-    subst (λ (s : Span). (spans records : List Span) → Compares old spans records → Compares (record { version = old.version; rest = more; at = s.high; first = None }) spans (records ++ s ∷ [])) (sym n.told) pushed in
-    subst (λ (first : Option Difference). (spans records : List Span) → Compares old spans records → Compares (record { version = old.version; rest = more; at = said.high; first = first }) spans (records ++ said ∷ [])) (sym n.none) said_pushed
+passed_one : {S : Type 0} (to_come : S → List Span → Type 0) (version : Version) (spans spans' : Ahead S) (at : Position) (span : Span) (more given records : List Span)
+    → IsAhead to_come spans (span ∷ more) → AreInOrder (span ∷ more) → HasCompared (record { version = version; rest = span ∷ more; at = at; first = None }) given records
+    → Comes at (span_in_version version span)
+    → ((span : Span) (more : List Span) → IsAhead to_come spans (span ∷ more) → IsAhead to_come spans' more)
+    → Compares to_come (record { version = version; spans = spans'; at = span.high; first = None }) given (records ++ span_in_version version span ∷ [])
+passed_one to_come version spans spans' at span more given records ahead order c h passed = record {
+  rest = more;
+  ahead = passed span more ahead;
+  sound = record { order = rest_in_order span more order; behind = λ e. next_behind span more order };
+  compared = next_compares (record { version = version; rest = span ∷ more; at = at; first = None }) span more refl refl order h given records c;
+}
+
+pub next_pushed : {S : Type 0} (to_come : S → List Span → Type 0) (old : Merging S) (spans : Ahead S) (said : Span) → IsNext old said → Comes old.at said
+    → ((span : Span) (more : List Span) → IsAhead to_come old.spans (span ∷ more) → IsAhead to_come spans more)
+    → (given records : List Span) → Compares to_come old given records → Compares to_come (record { version = old.version; spans = spans; at = said.high; first = old.first }) given (records ++ said ∷ [])
+next_pushed {S} to_come old spans said n h passed given records c =
+    let first = first_is old.spans.next n.span c.rest n.next (begins_with to_come old.spans c.rest c.ahead) in
+    let was : HasCompared (record { version = old.version; rest = n.span ∷ first.0; at = old.at; first = None }) given records =
+    subst (λ (f : Option Difference). HasCompared (record { version = old.version; rest = n.span ∷ first.0; at = old.at; first = f }) given records) n.none
+    (subst (λ (list : List Span). HasCompared (record { version = old.version; rest = list; at = old.at; first = old.first }) given records) first.1 c.compared) in
+    let one = passed_one to_come old.version old.spans spans old.at n.span first.0 given records (subst (IsAhead to_come old.spans) first.1 c.ahead) (subst AreInOrder first.1 c.sound.order) was (subst (Comes old.at) n.told h) passed in
+    subst (λ (f : Option Difference). Compares to_come (record { version = old.version; spans = spans; at = said.high; first = f }) given (records ++ said ∷ [])) (sym n.none)
+    (subst (λ (s : Span). Compares to_come (record { version = old.version; spans = spans; at = s.high; first = None }) given (records ++ s ∷ [])) (sym n.told) one)
 
 -- ---- the end of the table
 
@@ -206,13 +270,49 @@ first_differs state spans records more span start o s same agree ended = record 
 }
 
 -- a section that still answers
-pub finish_first : (state : State) (spans records more : List Span) (span : Span) (start : Position) → state.rest ≡ span ∷ more → state.first ≡ None
-    → IsSound state.rest state.at state.first → (IsBelow state.at span.low × (start ≡ span.low)) ⊎ (IsAtMost span.low state.at × (start ≡ state.at))
-    → Compares state spans records
-    → IsLeastDifference (version_answer state.version spans) (span_answer records)
-    (record { position = start; by_table = None; by_section = Some (in_version state.version span.answer) })
-finish_first state spans records more span start e none sound h c =
-    let order : AreInOrder (span ∷ more) = rw e at sound.order in
-    let ends : IsBelow state.at span.high = rw e at (sound.behind none) in
-    let agree = agree_before state spans (span_answer records) none c.compared in
-    first_differs state spans records more span start order (start_is state.at span start (first_holds span more order) ends h) (rw e at agree.rest_same) agree c.ended
+pub finish_first : {S : Type 0} (to_come : S → List Span → Type 0) (merge : Merging S) (spans records : List Span) (span : Span) (start : Position) → merge.spans.next ≡ Some span → merge.first ≡ None
+    → (IsBelow merge.at span.low × (start ≡ span.low)) ⊎ (IsAtMost span.low merge.at × (start ≡ merge.at))
+    → Compares to_come merge spans records
+    → IsLeastDifference (version_answer merge.version spans) (span_answer records)
+    (record { position = start; by_table = None; by_section = Some (in_version merge.version span.answer) })
+finish_first to_come merge spans records span start next none h c =
+    let first = first_is merge.spans.next span c.rest next (begins_with to_come merge.spans c.rest c.ahead) in
+    let order : AreInOrder (span ∷ first.0) = subst AreInOrder first.1 c.sound.order in
+    let ends : IsBelow merge.at span.high = subst (EndsBehind merge.at) first.1 (c.sound.behind none) in
+    let agree = agree_before (state_of merge c.rest) spans (span_answer records) none c.compared.compared in
+    first_differs (state_of merge c.rest) spans records first.0 span start order (start_is merge.at span start (first_holds span first.0 order) ends h)
+    (subst (λ (list : List Span). (p : Position) → IsAtMost merge.at p → span_answer list p ≡ span_answer spans p) first.1 agree.rest_same) agree c.compared.ended
+
+-- one that doesn't
+pub finish_none : {S : Type 0} (to_come : S → List Span → Type 0) (merge : Merging S) (spans records : List Span) → merge.spans.next ≡ None → merge.first ≡ None → Compares to_come merge spans records
+    → Agree (version_answer merge.version spans) (span_answer records)
+finish_none to_come merge spans records next none c p =
+    let empty = no_first merge.spans.next c.rest next (begins_with to_come merge.spans c.rest c.ahead) in
+    let agree = agree_before (state_of merge c.rest) spans (span_answer records) none c.compared.compared in
+    elim (order_cases p merge.at) [
+      | inl early ↦ agree.agree p early
+      | inr late ↦
+          ap (option_map (in_version merge.version)) (sym (agree.rest_same p late) ∙ ap (λ (list : List Span). span_answer list p) empty) ∙ sym (c.compared.ended p late)
+    ]
+
+-- a difference that was found
+pub finish_found : {S : Type 0} (to_come : S → List Span → Type 0) (merge : Merging S) (spans records : List Span) (difference : Difference) → merge.first ≡ Some difference → Compares to_come merge spans records
+    → IsLeastDifference (version_answer merge.version spans) (span_answer records) difference
+finish_found to_come merge spans records difference e c =
+    let found : DifferBefore (state_of merge c.rest) spans (span_answer records) difference = subst (λ (f : Option Difference). IsComparedBy f (state_of merge c.rest) spans (span_answer records)) e c.compared.compared in
+    found.least
+
+-- ---- no record came
+
+pub compares_none : {S : Type 0} (to_come : S → List Span → Type 0) (version : Version) (ahead : Ahead S) (list : List Span) → IsAhead to_come ahead list → AreInOrder list
+    → Compares to_come (record { version = version; spans = ahead; at = record { address = 0; op = 0 }; first = None }) list []
+compares_none to_come version ahead list is order = record {
+  rest = list;
+  ahead = is;
+  sound = record { order = order; behind = λ e. some_end list order };
+  compared = record { order = tt; at = refl; ended = λ p h. refl; compared = record { rest_same = λ p h. refl; agree = λ p h. absurd (not_both h (origin_first p)) } };
+}
+  where
+    some_end : (spans : List Span) → AreInOrder spans → EndsBehind (record { address = 0; op = 0 }) spans
+    some_end [] o = tt
+    some_end (span ∷ spans) o = at_most_below (origin_first span.low) (first_holds span spans o)

@@ -1,10 +1,12 @@
 -- A section's spans compared with the records of a table, as far as these have come.
 use Rattle.std.specs.Prelude.{◌≡◌, List, [], ◌∷◌, Option, Some, None}
+use Rattle.lnt_spans.specs.declared.ahead.Ahead.{Ahead}
 use Rattle.lnt_spans.specs.declared.answer.Answer.{Answer}
 use Rattle.lnt_spans.specs.declared.answer.Version.{Version}
 use Rattle.lnt_spans.specs.declared.difference.Difference.{Difference}
 use Rattle.lnt_spans.specs.declared.position.Position.{Position}
 use Rattle.lnt_spans.specs.declared.span.Span.{Span}
+use Rattle.lnt_spans.specs.Ahead.{IsAhead}
 use Rattle.lnt_spans.specs.Differences.{IsLeastDifference}
 use Rattle.lnt_spans.specs.Positions.{IsBelow, IsAtMost}
 use Rattle.lnt_spans.specs.Scanning.{EndsBehind}
@@ -12,11 +14,21 @@ use Rattle.lnt_spans.specs.Spans.{AreInOrder, span_answer, span_in_version, vers
 
 -- what contracts see of a merge: the version of the table, the spans that may matter from `at` on, the end of the
 -- records so far, and the first difference below it
+pub record Merging (S : Type 0) : Type 0 where
+  pub version : Version
+  pub spans : Ahead S
+  pub at : Position
+  pub first : Option Difference
+
+-- the same with the list of the spans that are to come
 pub record State : Type 0 where
   pub version : Version
   pub rest : List Span
   pub at : Position
   pub first : Option Difference
+
+abbrev pub state_of : {S : Type 0} → Merging S → List Span → State
+state_of merge rest = record { version = merge.version; rest = rest; at = merge.at; first = merge.first }
 
 -- While there is no difference, the first span that is left ends behind `at`.
 pub record IsSound (rest : List Span) (at : Position) (first : Option Difference) : Type 0 where
@@ -47,16 +59,41 @@ end_of [] = record { address = 0; op = 0 }
 end_of (first ∷ []) = first.high
 end_of (first ∷ next ∷ records) = end_of (next ∷ records)
 
--- The merge has compared the spans with these records, which are in order.
-pub record Compares (state : State) (spans records : List Span) : Type 0 where
+-- A merge that stands so has compared the spans with these records, which are in order.
+pub record HasCompared (state : State) (spans records : List Span) : Type 0 where
   pub order : AreInOrder records
   pub at : state.at ≡ end_of records
   pub ended : (p : Position) → IsAtMost state.at p → span_answer records p ≡ None
   pub compared : IsCompared state spans (span_answer records)
 
+-- The merge has compared the spans with these records, which are in order. Its source has the rest of the spans to come.
+pub record Compares {S : Type 0} (to_come : S → List Span → Type 0) (merge : Merging S) (spans records : List Span) : Type 0 where
+  pub rest : List Span
+  pub ahead : IsAhead to_come merge.spans rest
+  pub sound : IsSound rest merge.at merge.first
+  pub compared : HasCompared (state_of merge rest) spans records
+
+-- ---- a step of a merge
+
 -- Nothing was different so far, and the record is the first span that is left, as the table's version tells it.
-pub record IsNext (state : State) (record_is : Span) (more : List Span) : Type 0 where
+pub record IsNext {S : Type 0} (merge : Merging S) (said : Span) : Type 0 where
   pub span : Span
-  pub rest : state.rest ≡ span ∷ more
-  pub told : record_is ≡ span_in_version state.version span
-  pub none : state.first ≡ None
+  pub next : merge.spans.next ≡ Some span
+  pub told : said ≡ span_in_version merge.version span
+  pub none : merge.first ≡ None
+
+-- what going on to `to` does, whatever the table says, where it answers `answer` up to there
+abbrev pub Advances : State → State → Position → Option Answer → Type 0
+Advances old new to answer =
+    (spans : List Span) (by_table : Position → Option Answer) → IsCompared old spans by_table
+    → ((p : Position) → IsAtMost old.at p → IsBelow p to → by_table p ≡ answer) → IsCompared new spans by_table
+
+-- it goes on so, with these spans to come
+pub record HasGoneOn {S : Type 0} (to_come : S → List Span → Type 0) (old : State) (new : Merging S) (to : Position) (answer : Option Answer) : Type 0 where
+  pub rest : List Span
+  pub ahead : IsAhead to_come new.spans rest
+  pub sound : IsSound rest new.at new.first
+  pub advances : Advances old (state_of new rest) to answer
+
+abbrev pub GoesOn : {S : Type 0} → (S → List Span → Type 0) → Merging S → Merging S → List Span → Position → Option Answer → Type 0
+GoesOn to_come old new rest to answer = IsAhead to_come old.spans rest → IsSound rest old.at old.first → HasGoneOn to_come (state_of old rest) new to answer

@@ -1,5 +1,7 @@
 pub mod Answering
 pub mod Between
+pub mod Bisection
+pub mod Coming
 pub mod EachTwo
 pub mod Positions
 -- What the laws of spans say.

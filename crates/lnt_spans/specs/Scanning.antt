@@ -1,11 +1,11 @@
 -- What is found where spans are looked through from a position on. The bodies of this crate use it among themselves.
-use Rattle.std.specs.Prelude.{◌≡◌, ◌≢◌, ℕ, ◌+◌, ◌<◌, cond, List, [], ◌∷◌, Option, length}
+use Rattle.std.specs.Prelude.{◌≡◌, ◌≢◌, List, [], ◌∷◌, Option, MatchOption}
 use Rattle.lnt_spans.specs.declared.answer.Answer.{Answer}
 use Rattle.lnt_spans.specs.declared.answer.Version.{Version}
 use Rattle.lnt_spans.specs.declared.difference.Difference.{Difference}
 use Rattle.lnt_spans.specs.declared.position.Position.{Position}
 use Rattle.lnt_spans.specs.declared.span.Span.{Span}
-use Rattle.lnt_spans.specs.Positions.{IsBelow, IsAtMost, is_below}
+use Rattle.lnt_spans.specs.Positions.{IsBelow, IsAtMost}
 use Rattle.lnt_spans.specs.Spans.{AreInOrder, span_answer, version_answer}
 
 -- The first span, if there is one, ends behind p.
@@ -29,17 +29,15 @@ pub record DiffersFirst (version : Version) (spans : List Span) (from to : Posit
   pub differ : difference.by_table ≢ difference.by_section
   pub before : (p : Position) → IsAtMost from p → IsBelow p difference.position → version_answer version spans p ≡ answer
 
--- at most so many stretches are left up to `to`
-abbrev pub gaps : Position → List Span → ℕ
-gaps at [] = 0
-gaps at (span ∷ spans) = cond (is_below at span.low) 1 0
-
-abbrev pub stretches : List Span → Position → Position → ℕ
-stretches spans at to = length spans + length spans + gaps at spans + cond (is_below at to) 1 0
-
--- From `at` up to `end`, which isn't beyond `to`, the spans answer `answer`, and fewer stretches are left.
+-- From `at` up to `end`, which isn't beyond `to`, the spans answer `answer`.
 pub record IsStretch (version : Version) (spans : List Span) (at to : Position) (answer : Option Answer) (end : Position) (rest : List Span) : Type 0 where
   pub from : IsBelow at end
   pub within : IsAtMost end to
   pub says : Says version spans at end answer rest
-  pub fewer : stretches rest end to < stretches spans at to
+
+-- The spans answer `answer` up to `to`, and those are left that are to come from there on; or this is where they differ first.
+pub record IsScanned (version : Version) (spans : List Span) (from to : Position) (answer : Option Answer) (found : Option Difference) (AreLeft : List Span → Type 0) : Type 0 where
+  pub rest : List Span
+  pub left : AreLeft rest
+  pub order : AreInOrder rest
+  pub cases : MatchOption found (Says version spans from to answer rest) (λ difference. DiffersFirst version spans from to answer difference)

@@ -1,5 +1,5 @@
 -- Lists of spans: what they answer, and the one list for each way to answer.
-use Rattle.std.specs.Prelude.{◌≡◌, ◌≢◌, ℕ, ◌+◌, ◌<◌, Bool, true, ◌&&◌, List, [], ◌∷◌, Option, length, slice_index_or}
+use Rattle.std.specs.Prelude.{◌≡◌, ◌≢◌, Bool, ◌&&◌, List, [], ◌∷◌, Option}
 use Rattle.std.specs.List.{find}
 use Rattle.std.specs.Option.{option_map}
 use Rattle.lnt_spans.specs.declared.answer.Answer.{Answer}
@@ -34,14 +34,6 @@ abbrev pub AreInOrder : List Span → Type 0
 AreInOrder [] = Unit {0}
 AreInOrder (span ∷ []) = IsBelow span.low span.high
 AreInOrder (span ∷ next ∷ spans) = IsBelow span.low span.high × IsAtMost span.high next.low × AreInOrder (next ∷ spans)
-
--- No position is in both.
-abbrev pub AreDisjoint : Span → Span → Type 0
-AreDisjoint one other = (p : Position) → is_in_span p one ≡ true → is_in_span p other ≡ true → ⊥
-
--- No span begins below the beginning of the one before it.
-abbrev pub AreSortedByLow : List Span → Type 0
-AreSortedByLow spans = (k : ℕ) (d : Span) → k + 1 < length spans → IsAtMost (slice_index_or spans k d).low (slice_index_or spans (k + 1) d).low
 
 -- ---- canonical spans
 

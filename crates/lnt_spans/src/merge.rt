@@ -1,67 +1,67 @@
 //! Where a section and a table answer differently first, found in one pass over both.
-ghost use Rattle.std.specs.Prelude.{◌≡◌, ◌≢◌, List, [], ◌∷◌, ◌++◌, Option, MatchOption, IfSome};
+ghost use Rattle.std.specs.Prelude.{◌≡◌, ◌≢◌, List, [], ◌∷◌, ◌++◌, true, Option, MatchOption};
 ghost use Rattle.std.specs.Bool.{MatchBool};
 ghost use Rattle.lnt_spans.specs.declared.answer.Answer.{Answer};
 ghost use Rattle.lnt_spans.specs.declared.position.Position.{Position};
 ghost use Rattle.lnt_spans.specs.declared.span.Span.{Span};
-ghost use Rattle.lnt_spans.specs.Comparing.{Compares, IsCompared, IsNext};
+ghost use Rattle.lnt_spans.specs.Comparing.{Compares, GoesOn, IsNext};
 ghost use Rattle.lnt_spans.specs.Differences.{Agree, IsLeastDifference};
-ghost use Rattle.lnt_spans.specs.Positions.{IsBelow, IsAtMost};
+ghost use Rattle.lnt_spans.specs.Positions.{IsAtMost};
 ghost use Rattle.lnt_spans.specs.Spans.{AreInOrder, span_answer, version_answer};
 
+use crate::ahead::Ahead;
 use crate::answer::{Answer, Version};
 use crate::difference::Difference;
 use crate::position::Position;
 use crate::scan::{later, scan};
+use crate::source::SpanSource;
 use crate::span::Span;
 use std::marker::Model;
 
-/// The spans of a section, compared with the records of an address table, which come one by one and are spans too.
+/// The spans of a section, which come one by one from a source, compared with the records of an address table, which
+/// come one by one and are spans too.
 ///
-/// Contracts see what it has come to (`State`), and say which spans and records it has compared (`Compares`): those of
+/// Contracts see what it has come to (`Merging`), and say which spans and records it has compared (`Compares`): those of
 /// the section, with those that were pushed. What the section answers is narrowed where the table has version 1; the
-/// records of such a table answer with `more` None. A merge keeps no record, only the first difference, and takes no
-/// memory.
+/// records of such a table answer with `more` None. A merge keeps no record and only one span, and the first difference.
+/// It takes no memory.
 #[derive(Drop)]
-pub struct Merge<'a> {
+pub struct Merge<S> {
     version: Version,
     // the spans that may matter from `at` on
-    rest: &'a [Span],
+    spans: Ahead<S>,
     // the end of the last record
     at: Position,
     // the first difference below it
     first: Option<Difference>,
 }
 
-impl<'a> Model for Merge<'a> {
-    ghost use Rattle.lnt_spans.specs.Comparing.{IsSound, State};
+impl<S> Model for Merge<S> {
+    ghost use Rattle.lnt_spans.specs.Comparing.{Merging};
 
-    ghost Value = { State };
+    ghost Value = { Merging S };
 
-    ghost view = { λ m. record { version = m.version; rest = m.rest.now; at = m.at; first = m.first } };
-
-    ghost invariant = { λ m. IsSound m.rest.now m.at m.first };
+    ghost view = { λ m. record { version = m.version; spans = m.spans; at = m.at; first = m.first } };
 }
 
-impl<'a> Merge<'a> {
+impl<S: SpanSource + Drop> Merge<S> {
     /// The spans of a section, compared with no record of a table of this version. The caller sees to it that the spans
     /// are in order and none is empty.
-    pub fn new(spans: &'a [Span], version: Version) -> Merge<'a>
-        requires { AreInOrder spans.now }
+    pub fn new(spans: S, version: Version) -> Merge<S>
         ensures version { result.version ≡ version }
-        ensures compares { Compares result spans.entry.now [] }
+        ensures compares { (list : List Span) → S.to_come spans list → AreInOrder list → Compares S.to_come result list [] }
     {
         Merge {
             version,
-            rest: spans,
+            spans: Ahead::of(spans),
             at: Position { address: 0, op: 0 },
             first: None,
         }
     }
 
-    /// Whether the records are in order, none empty, with this one behind them.
+    /// Whether the records are in order, none empty, with this one after them.
     pub fn takes(&self, span: &Span) -> bool
-        ensures { (spans records : List Span) → Compares self.now spans records
+        ensures { (spans records : List Span) → Compares S.to_come self.now spans records
             → MatchBool result (AreInOrder (records ++ span.now ∷ [])) (AreInOrder (records ++ span.now ∷ []) → ⊥) }
     {
         if span.low.is_below(self.at) {
@@ -70,15 +70,15 @@ impl<'a> Merge<'a> {
         span.low.is_below(span.high)
     }
 
-    /// Compares one more record. The caller sees to it that the records are in order with this one behind them, as
+    /// Compares one more record. The caller sees to it that the records are in order with this one after them, as
     /// `takes` tells.
     pub fn push(&mut self, span: &Span)
-        requires { (spans records : List Span) × Compares self.old spans records × AreInOrder (records ++ span.now ∷ []) }
+        requires { (spans records : List Span) × Compares S.to_come self.old spans records × AreInOrder (records ++ span.now ∷ []) }
         ensures version { self.new.version ≡ self.old.version }
-        ensures compares { (spans records : List Span) → Compares self.old spans records → Compares self.new spans (records ++ span.now ∷ []) }
+        ensures compares { (spans records : List Span) → Compares S.to_come self.old spans records → Compares S.to_come self.new spans (records ++ span.now ∷ []) }
     {
-        if let Some(rest) = self.rest_behind(span) {
-            self.rest = rest;
+        if self.is_next(span) {
+            self.spans.pass();
             self.at = span.high;
             return;
         }
@@ -89,14 +89,14 @@ impl<'a> Merge<'a> {
     /// The least position at which the section and the table answer differently, with both answers there, where no
     /// record follows. None where they answer alike at every position.
     pub fn finish(self) -> Option<Difference>
-        ensures { (spans records : List Span) → Compares self.entry spans records
-            → MatchOption result (Agree (version_answer self.entry.version spans) (span_answer records))
-            (λ difference. IsLeastDifference (version_answer self.entry.version spans) (span_answer records) difference) }
+        ensures { (spans records : List Span) → Compares S.to_come self spans records
+            → MatchOption result (Agree (version_answer self.version spans) (span_answer records))
+            (λ difference. IsLeastDifference (version_answer self.version spans) (span_answer records) difference) }
     {
         if self.first.is_some() {
             return self.first;
         }
-        let (span, _) = self.rest.split_first()?;
+        let span = self.spans.next?;
         Some(Difference {
             position: later(self.at, span.low),
             by_table: None,
@@ -104,20 +104,18 @@ impl<'a> Merge<'a> {
         })
     }
 
-    // The spans behind the first one, where nothing was different so far, and the record is that one as the table tells it.
+    // Whether nothing was different so far, and the record is the next span as the table tells it.
     #[inline(always)]
-    fn rest_behind(&self, span: &Span) -> Option<&'a [Span]>
-        ensures { IfSome result (λ more. IsNext self.now span.now more.now) }
+    fn is_next(&self, span: &Span) -> bool
+        ensures { result ≡ true → IsNext self.now span.now }
     {
         if self.first.is_some() {
-            return None;
+            return false;
         }
-        let (next, more) = self.rest.split_first()?;
-        if is_same(*span, next.in_version(self.version)) {
-            Some(more)
-        } else {
-            None
-        }
+        let Some(next) = self.spans.next else {
+            return false;
+        };
+        is_same(*span, next.in_version(self.version))
     }
 
     // Goes on to `to`, up to which the table answers `answer`.
@@ -126,15 +124,13 @@ impl<'a> Merge<'a> {
         requires { IsAtMost self.old.at to }
         ensures version { self.new.version ≡ self.old.version }
         ensures at { self.new.at ≡ to }
-        ensures compared { (spans : List Span) (by_table : Position → Option Answer) → IsCompared self.old spans by_table
-            → ((p : Position) → IsAtMost self.old.at p → IsBelow p to → by_table p ≡ answer) → IsCompared self.new spans by_table }
+        ensures goes_on { (rest : List Span) → GoesOn S.to_come self.old self.new rest to answer }
     {
         if self.first.is_some() {
             self.at = to;
             return;
         }
-        let (rest, first) = scan(self.version, self.rest, self.at, to, answer);
-        self.rest = rest;
+        let first = scan(self.version, &mut self.spans, self.at, to, answer);
         self.at = to;
         self.first = first;
     }

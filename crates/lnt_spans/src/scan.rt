@@ -1,44 +1,49 @@
 //! What spans answer from a position on, a stretch at a time.
-ghost use Rattle.std.specs.Prelude.{◌≡◌, ◌≢◌, ◌⊎◌, MatchOption};
+ghost use Rattle.std.specs.Prelude.{◌≡◌, ◌≢◌, ◌⊎◌, ◌<◌, true, false, List, IsSome};
 ghost use Rattle.std.specs.Bool.{MatchBool};
+ghost use Rattle.lnt_spans.specs.declared.span.Span as spec;
+ghost use Rattle.lnt_spans.specs.Ahead.{BeginsWith, IsAhead, rest_of, steps_left};
 ghost use Rattle.lnt_spans.specs.Positions.{IsBelow, IsAtMost};
-ghost use Rattle.lnt_spans.specs.Scanning.{DiffersFirst, EndsBehind, IsStretch, Says};
+ghost use Rattle.lnt_spans.specs.Scanning.{EndsBehind, IsScanned, IsStretch};
 ghost use Rattle.lnt_spans.specs.Spans.{AreInOrder};
 
+use crate::ahead::Ahead;
 use crate::answer::{Answer, Version};
 use crate::difference::Difference;
 use crate::position::Position;
+use crate::source::SpanSource;
 use crate::span::Span;
 
-// Positions up to `end` that are answered alike, and the spans that are left from there on.
+// Positions up to `end` that are answered alike, and whether the span at hand ends there.
 #[derive(Clone, Copy)]
-struct Stretch<'a> {
+struct Stretch {
     answer: Option<Answer>,
     end: Position,
-    rest: &'a [Span],
+    is_passed: bool,
 }
 
-// The stretch from `at` up to where a span begins or ends next, or to `to` if that comes first.
+// The stretch from `at` up to where the next span begins or ends, or to `to` if that comes first.
 #[inline(always)]
 #[tactic(auto, using(crate::proofs::ScanLemmas::stretch_empty, crate::proofs::ScanLemmas::stretch_inside))]
-fn stretch_at<'a>(version: Version, spans: &'a [Span], at: Position, to: Position) -> Stretch<'a>
-    requires order { AreInOrder spans.now }
-    requires behind { EndsBehind at spans.now }
-    requires range { IsBelow at to }
-    ensures { IsStretch version spans.entry.now at to result.answer result.end result.rest.now }
+fn stretch_at(version: Version, next: Option<Span>, at: Position, to: Position) -> Stretch
+    requires { IsBelow at to }
+    ensures stretch { (spans : List spec.Span) → BeginsWith next spans → AreInOrder spans → EndsBehind at spans
+        → IsStretch version spans at to result.answer result.end (rest_of result.is_passed spans) }
+    ensures passed { result.is_passed ≡ true → IsSome next }
+    ensures fewer { result.is_passed ≡ false → steps_left next result.end to < steps_left next at to }
 {
-    let Some((span, more)) = spans.split_first() else {
+    let Some(span) = next else {
         return Stretch {
             answer: None,
             end: to,
-            rest: spans,
+            is_passed: false,
         };
     };
     if at.is_below(span.low) {
         return Stretch {
             answer: None,
             end: earlier(span.low, to),
-            rest: spans,
+            is_passed: false,
         };
     }
     let answer = Some(span.answer.in_version(version));
@@ -46,50 +51,47 @@ fn stretch_at<'a>(version: Version, spans: &'a [Span], at: Position, to: Positio
         Stretch {
             answer,
             end: to,
-            rest: spans,
+            is_passed: false,
         }
     } else {
         Stretch {
             answer,
             end: span.high,
-            rest: more,
+            is_passed: true,
         }
     }
 }
 
-// Where a section differs first from a table that answers `answer` from `from` up to `to`, if it does; and the spans that
-// are left from `to` on, if it doesn't.
+// Where a section differs first from a table that answers `answer` from `from` up to `to`, if it does. If it doesn't,
+// the spans go on with those that are left from `to` on.
 #[inline(always)]
-pub(crate) fn scan<'a>(
+pub(crate) fn scan<S: SpanSource>(
     version: Version,
-    spans: &'a [Span],
+    spans: &mut Ahead<S>,
     from: Position,
     to: Position,
     answer: Option<Answer>,
-) -> (&'a [Span], Option<Difference>)
-    requires order { AreInOrder spans.now }
-    requires behind { EndsBehind from spans.now }
-    requires range { IsAtMost from to }
-    ensures order { AreInOrder result.0.now }
-    ensures found { MatchOption result.1 (Says version spans.entry.now from to answer result.0.now)
-        (λ difference. DiffersFirst version spans.entry.now from to answer difference) }
+) -> Option<Difference>
+    requires { IsAtMost from to }
+    ensures { (list : List spec.Span) → IsAhead S.to_come spans.old list → AreInOrder list → EndsBehind from list
+        → IsScanned version list from to answer result (IsAhead S.to_come spans.new) }
 {
-    let mut rest = spans;
     let mut at = from;
     while at.is_below(to) {
-        let stretch = stretch_at(version, rest, at, to);
+        let stretch = stretch_at(version, spans.next, at, to);
         if !is_same(answer, stretch.answer) {
-            let difference = Difference {
+            return Some(Difference {
                 position: at,
                 by_table: answer,
                 by_section: stretch.answer,
-            };
-            return (rest, Some(difference));
+            });
         }
         at = stretch.end;
-        rest = stretch.rest;
+        if stretch.is_passed {
+            spans.pass();
+        }
     }
-    (rest, None)
+    None
 }
 
 // Whether two answers are the same.

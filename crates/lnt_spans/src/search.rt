@@ -8,7 +8,7 @@ use crate::position::Position;
 use crate::span::Span;
 use std::marker::Model;
 
-/// How many times positions were compared with spans. A contract sees the count.
+/// How many times a position was compared with spans, or with others that hold positions. A contract sees the count.
 #[derive(Debug, Drop)]
 pub struct Probes {
     count: u64,
@@ -38,24 +38,28 @@ impl Probes {
     }
 }
 
-// Where a position lies beside a span.
-enum Side {
+/// Where a position lies beside the positions from one up to another.
+#[derive(Clone, Copy, Debug, PartialEq, Eq)]
+pub enum Side {
+    /// Below the first of them.
     Below,
+    /// Among them.
     Inside,
+    /// Above all of them.
     Above,
 }
 
-// Compares a position with a span, and counts that. Nothing else compares the two.
+/// Compares a position with those from `low` up to `high`, and counts that. Nothing else compares them in a search.
 #[inline(always)]
-fn probe(span: &Span, position: Position, probes: &mut Probes) -> Side
+pub fn probe(low: Position, high: Position, position: Position, probes: &mut Probes) -> Side
     requires { probes.old + 1 < 2 ^ 64 }
-    ensures side { IsSide result span.now position }
+    ensures side { IsSide result low high position }
     ensures counted { probes.new ≡ probes.old + 1 }
 {
     probes.count += 1;
-    if position.is_below(span.low) {
+    if position.is_below(low) {
         Side::Below
-    } else if position.is_below(span.high) {
+    } else if position.is_below(high) {
         Side::Inside
     } else {
         Side::Above
@@ -81,7 +85,7 @@ pub fn lookup(spans: &[Span], position: Position, probes: &mut Probes) -> Option
     while low < high {
         let middle = low + (high - low) / 2;
         let span = &spans[middle];
-        match probe(span, position, probes) {
+        match probe(span.low, span.high, position, probes) {
             Side::Below => high = middle,
             Side::Inside => return Some(span.answer),
             Side::Above => low = middle + 1,

@@ -16,10 +16,10 @@ use Rattle.lnt_records.specs.declared.fault.TableFault.{TableFault}
 use Rattle.lnt_records.specs.declared.fault.TableFault.TheVariants as fault
 use Rattle.lnt_records.specs.Faults.{IsComparison, IsFault}
 use Rattle.lnt_lines.specs.declared.options.Options.{Options}
-use Rattle.lnt_lines.specs.Contents.{Contents}
-use Rattle.lnt_lines.specs.Drafts.{AreLinesOf}
+use Rattle.lnt_lines.specs.Drafts.{IsIndexOfSection}
+use Rattle.lnt_lines.specs.Indexed.{Indexed, IsIndexOf}
 use Rattle.lnt_table.specs.Headline.{IsFaultyTable, IsTrueOfSection, IsTrueVerdict, told_answer}
-use Rattle.lnt_table.specs.Verdicts.{verdict_of}
+use Rattle.lnt_table.specs.Verdicts.{IsComparedWith, verdict_of}
 
 -- Lines tell what the rows answer in each version.
 pub told_so : (version : Version) (dead : Option ℕ) (units : List (ℕ × Parts)) (spans : List Span) → ((p : Position) → span_answer spans p ≡ line_answer dead units p)
@@ -36,62 +36,66 @@ least_told version dead units spans table difference same d = record {
   least = λ p below. sym (told_so version dead units spans same p) ∙ d.least p below;
 }
 
-faulty_told : (line general : List ℕ) (options : Options) (section table : List ℕ) (lines : Contents) (told : TableFault) → AreLinesOf line general options section lines
+faulty_told : (line general : List ℕ) (options : Options) (section table : List ℕ) (index : Indexed) (told : TableFault) → IsIndexOfSection line general options section index
     → IsFault table told → IsFaultyTable line general options section table told
-faulty_told line general options section table lines told l f = record { units = l.units; good = l.good; faulty = f }
+faulty_told line general options section table index told i f = record { units = i.units; good = i.good; faulty = f }
 
-pub compared_told : (line general : List ℕ) (options : Options) (section table : List ℕ) (lines : Contents) (compared : Compared)
-    → AreLinesOf line general options section lines → IsComparison table lines.spans compared → IsTrueVerdict line general options section table (verdict_of compared)
-compared_told line general options section table lines Same l h = record {
-  units = l.units;
-  good = l.good;
+pub compared_told : (line general : List ℕ) (options : Options) (section table : List ℕ) (index : Indexed) (spans : List Span) (compared : Compared) → (i : IsIndexOfSection line general options section index)
+    → ((p : Position) → span_answer spans p ≡ line_answer options.dead i.units p) → IsComparison table spans compared → IsTrueVerdict line general options section table (verdict_of compared)
+compared_told line general options section table index spans Same i answers h = record {
+  units = i.units;
+  good = i.good;
   version = h.version;
   spans = h.table;
   is_table = h.is_table;
-  answers = λ p. sym (h.agree p) ∙ told_so h.version options.dead l.units lines.spans l.tells.answers p;
+  answers = λ p. sym (h.agree p) ∙ told_so h.version options.dead i.units spans answers p;
 }
-compared_told line general options section table lines (Fault fault.Header) l h = faulty_told line general options section table lines fault.Header l h
-compared_told line general options section table lines (Fault (fault.Fields k)) l h = faulty_told line general options section table lines (fault.Fields k) l h
-compared_told line general options section table lines (Fault (fault.Number k i)) l h = faulty_told line general options section table lines (fault.Number k i) l h
-compared_told line general options section table lines (Fault (fault.Order k)) l h = faulty_told line general options section table lines (fault.Order k) l h
-compared_told line general options section table lines (Differs difference) l h = record {
-  units = l.units;
-  good = l.good;
+compared_told line general options section table index spans (Fault fault.Header) i answers h = faulty_told line general options section table index fault.Header i h
+compared_told line general options section table index spans (Fault (fault.Fields k)) i answers h = faulty_told line general options section table index (fault.Fields k) i h
+compared_told line general options section table index spans (Fault (fault.Number k n)) i answers h = faulty_told line general options section table index (fault.Number k n) i h
+compared_told line general options section table index spans (Fault (fault.Order k)) i answers h = faulty_told line general options section table index (fault.Order k) i h
+compared_told line general options section table index spans (Differs difference) i answers h = record {
+  units = i.units;
+  good = i.good;
   version = h.version;
   spans = h.table;
   is_table = h.is_table;
-  least = least_told h.version options.dead l.units lines.spans h.table difference l.tells.answers h.least;
+  least = least_told h.version options.dead i.units spans h.table difference answers h.least;
 }
 
-pub section_told : (line general : List ℕ) (options : Options) (section : List ℕ) (lines : Contents) (compared : Compared)
-    → AreLinesOf line general options section lines → IsTrueOfSection line general options section (verdict_of compared)
-section_told line general options section lines Same l = (l.units, l.good)
-section_told line general options section lines (Fault fault.Header) l = (l.units, l.good)
-section_told line general options section lines (Fault (fault.Fields k)) l = (l.units, l.good)
-section_told line general options section lines (Fault (fault.Number k i)) l = (l.units, l.good)
-section_told line general options section lines (Fault (fault.Order k)) l = (l.units, l.good)
-section_told line general options section lines (Differs difference) l = (l.units, l.good)
+pub section_told : (line general : List ℕ) (options : Options) (section : List ℕ) (index : Indexed) (compared : Compared)
+    → IsIndexOfSection line general options section index → IsTrueOfSection line general options section (verdict_of compared)
+section_told line general options section index Same i = (i.units, i.good)
+section_told line general options section index (Fault fault.Header) i = (i.units, i.good)
+section_told line general options section index (Fault (fault.Fields k)) i = (i.units, i.good)
+section_told line general options section index (Fault (fault.Number k n)) i = (i.units, i.good)
+section_told line general options section index (Fault (fault.Order k)) i = (i.units, i.good)
+section_told line general options section index (Differs difference) i = (i.units, i.good)
 
 -- ---- the same where sources tell their bytes
 
-table_told : (line general : List ℕ) (options : Options) (section text : List ℕ) (remaining : Option (List ℕ)) (lines : Contents) (compared : Compared)
-    → AreLinesOf line general options section lines → IfSome remaining (λ bytes. text ≡ bytes) → IsComparison text lines.spans compared
+abbrev Compares : List ℕ → Indexed → Compared → Type 0
+Compares text index compared = (dead : Option ℕ) (units : List (ℕ × Parts)) → IsIndexOf dead units index → IsComparedWith dead units text compared
+
+table_told : (line general : List ℕ) (options : Options) (section text : List ℕ) (remaining : Option (List ℕ)) (index : Indexed) (compared : Compared)
+    → IsIndexOfSection line general options section index → IfSome remaining (λ bytes. text ≡ bytes) → Compares text index compared
     → IfSome remaining (λ table. IsTrueVerdict line general options section table (verdict_of compared))
-table_told line general options section text None lines compared l same h = tt
-table_told line general options section text (Some table) lines compared l same h =
-    compared_told line general options section table lines compared l (subst (λ (t : List ℕ). IsComparison t lines.spans compared) same h)
+table_told line general options section text None index compared i same h = tt
+table_told line general options section text (Some table) index compared i same h =
+    let found = h options.dead i.units i.index_is in
+    compared_told line general options section table index found.spans compared i found.answers (subst (λ (t : List ℕ). IsComparison t found.spans compared) same found.comparison)
 
-pub verdict_told : (line general : List ℕ) (options : Options) (section table : Option (List ℕ)) (text : List ℕ) (lines : Contents) (compared : Compared)
-    → IfSome section (λ bytes. AreLinesOf line general options bytes lines) → IfSome table (λ bytes. text ≡ bytes) → IsComparison text lines.spans compared
+pub verdict_told : (line general : List ℕ) (options : Options) (section table : Option (List ℕ)) (text : List ℕ) (index : Indexed) (compared : Compared)
+    → IfSome section (λ bytes. IsIndexOfSection line general options bytes index) → IfSome table (λ bytes. text ≡ bytes) → Compares text index compared
     → IfSome section (λ bytes. IfSome table (λ text. IsTrueVerdict line general options bytes text (verdict_of compared)))
-verdict_told line general options None table text lines compared l same h = tt
-verdict_told line general options (Some section) table text lines compared l same h = table_told line general options section text table lines compared l same h
+verdict_told line general options None table text index compared i same h = tt
+verdict_told line general options (Some section) table text index compared i same h = table_told line general options section text table index compared i same h
 
-pub good_told : (line general : List ℕ) (options : Options) (section : Option (List ℕ)) (lines : Contents) (compared : Compared)
-    → IfSome section (λ bytes. AreLinesOf line general options bytes lines)
+pub good_told : (line general : List ℕ) (options : Options) (section : Option (List ℕ)) (index : Indexed) (compared : Compared)
+    → IfSome section (λ bytes. IsIndexOfSection line general options bytes index)
     → IfSome section (λ bytes. IsTrueOfSection line general options bytes (verdict_of compared))
-good_told line general options None lines compared l = tt
-good_told line general options (Some section) lines compared l = section_told line general options section lines compared l
+good_told line general options None index compared i = tt
+good_told line general options (Some section) index compared i = section_told line general options section index compared i
 
 -- what is told of the section alone is so whatever the table is
 pub bad_told : (P : List ℕ → Type 0) (section table : Option (List ℕ)) → IfSome section P → IfSome section (λ bytes. IfSome table (λ text. P bytes))

@@ -14,7 +14,7 @@ use Rattle.lnt_lines.specs.Laws.{GoodHasNoFlaw}
 use Rattle.lnt_table.specs.declared.verdict.TableNo.TheVariants as no
 use Rattle.lnt_table.specs.declared.verdict.Verdict.TheVariants.{Yes, No}
 use Rattle.lnt_table.specs.Headline.{AnswersOtherwise, AnswersRight, told_answer}
-use Rattle.lnt_table.specs.Laws.{OnlyYes, OwnTable}
+use Rattle.lnt_table.specs.Laws.{OnlyYes, OwnTable, OwnTableOfUnits}
 use Rattle.lnt_table.proofs.CheckLemmas.{told_so}
 
 difference_none : (line general : List ℕ) (options : Options) (bytes table : List ℕ) (difference : Difference) → OneTable → AnswersRight line general options bytes table
@@ -38,15 +38,11 @@ only_yes flawless one none line general options bytes table (No (no.Order k)) h 
 only_yes flawless one none line general options bytes table (No (no.Differs position by_table by_section)) h v =
     absurd (difference_none line general options bytes table (record { position = position; by_table = by_table; by_section = by_section }) one h v)
 
-pub own_table : OnlyYes → OwnTable
-own_table only line general options bytes table lines version verdict l w v =
-    only line general options bytes table verdict
-    (record {
-      units = l.units;
-      good = l.good;
-      version = version;
-      spans = w.spans;
-      is_table = w.written.table;
-      answers = λ p. w.same p ∙ told_so version options.dead l.units lines.spans l.tells.answers p;
-    })
-    v
+pub own_table_of_units : OnlyYes → OwnTableOfUnits
+own_table_of_units only line general options bytes table units version verdict good w v =
+    only line general options bytes table verdict (record { units = units; good = good; version = version; spans = w.spans; is_table = w.written.table; answers = w.same }) v
+
+pub own_table : OwnTableOfUnits → OwnTable
+own_table own line general options bytes table lines version verdict l w v =
+    own line general options bytes table l.units version verdict l.good
+    (record { spans = w.spans; canonical = w.canonical; same = λ p. w.same p ∙ told_so version options.dead l.units lines.spans l.tells.answers p; written = w.written }) v

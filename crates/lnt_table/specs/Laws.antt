@@ -1,13 +1,15 @@
 -- What the laws of verdicts say.
 use Rattle.std.specs.Prelude.{◌≡◌, ℕ, List}
+use Rattle.lnt_unit.specs.declared.unit.Parts.{Parts}
 use Rattle.lnt_spans.specs.declared.answer.Version.{Version}
 use Rattle.lnt_lines.specs.declared.options.Options.{Options}
 use Rattle.lnt_lines.specs.Contents.{Contents}
 use Rattle.lnt_lines.specs.Drafts.{AreLinesOf}
+use Rattle.lnt_lines.specs.Good.{IsGood}
 use Rattle.lnt_table.specs.declared.verdict.Verdict.{Verdict}
 use Rattle.lnt_table.specs.declared.verdict.Verdict.TheVariants.{Yes}
 use Rattle.lnt_table.specs.Headline.{AnswersRight, IsTrueVerdict}
-use Rattle.lnt_table.specs.Written.{IsTableOfLines}
+use Rattle.lnt_table.specs.Written.{IsTableOfLines, IsTableOfUnits}
 
 -- Of a good section, and a table that answers as it does, no verdict is true but Yes.
 abbrev pub OnlyYes : Type 0
@@ -18,3 +20,8 @@ OnlyYes = (line general : List ℕ) (options : Options) (section table : List �
 abbrev pub OwnTable : Type 0
 OwnTable = (line general : List ℕ) (options : Options) (section table : List ℕ) (lines : Contents) (version : Version) (verdict : Verdict)
     → AreLinesOf line general options section lines → IsTableOfLines version lines.spans table → IsTrueVerdict line general options section table verdict → verdict ≡ Yes
+
+-- The same of a table that was written of its index.
+abbrev pub OwnTableOfUnits : Type 0
+OwnTableOfUnits = (line general : List ℕ) (options : Options) (section table : List ℕ) (units : List (ℕ × Parts)) (version : Version) (verdict : Verdict)
+    → IsGood line general options section units → IsTableOfUnits version options.dead units table → IsTrueVerdict line general options section table verdict → verdict ≡ Yes

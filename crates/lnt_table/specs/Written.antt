@@ -1,10 +1,12 @@
 -- The table that is written of a section's lines.
-use Rattle.std.specs.Prelude.{◌≡◌, ℕ, List}
+use Rattle.std.specs.Prelude.{◌≡◌, ℕ, List, Option}
+use Rattle.lnt_unit.specs.declared.unit.Parts.{Parts}
 use Rattle.lnt_spans.specs.declared.answer.Version.{Version}
 use Rattle.lnt_spans.specs.declared.position.Position.{Position}
 use Rattle.lnt_spans.specs.declared.span.Span.{Span}
 use Rattle.lnt_spans.specs.Spans.{IsCanonical, span_answer, version_answer}
 use Rattle.lnt_records.specs.Written.{IsWrittenTable}
+use Rattle.lnt_table.specs.Headline.{told_answer}
 
 -- The bytes are a table of this version, on plain lines, of the canonical spans that answer as the section's spans do,
 -- as the version tells answers.
@@ -12,4 +14,11 @@ pub record IsTableOfLines (version : Version) (section : List Span) (bytes : Lis
   pub spans : List Span
   pub canonical : IsCanonical spans
   pub same : (p : Position) → span_answer spans p ≡ version_answer version section p
+  pub written : IsWrittenTable version bytes spans
+
+-- The same of the canonical spans that answer as the rows of some units do.
+pub record IsTableOfUnits (version : Version) (dead : Option ℕ) (units : List (ℕ × Parts)) (bytes : List ℕ) : Type 0 where
+  pub spans : List Span
+  pub canonical : IsCanonical spans
+  pub same : (p : Position) → span_answer spans p ≡ told_answer version dead units p
   pub written : IsWrittenTable version bytes spans

@@ -1,13 +1,15 @@
 //! A section checked against an address table.
-ghost use Rattle.std.specs.Prelude.{◌≡◌, ◌≢◌, ◌+◌, ◌-◌, ◌^◌, ◌<◌, ◌⊎◌, IfOk, IfErr, IfSome, IsErrOf};
+ghost use Rattle.std.specs.Prelude.{◌≡◌, ◌≢◌, ◌+◌, ◌-◌, ◌^◌, ◌<◌, ◌⊎◌, ℕ, List, Option, IfOk, IfErr, IfSome, IsErrOf};
 ghost use Rattle.lnt_lines.specs.declared.no.No.{No as SectionNo};
 ghost use Rattle.lnt_lines.specs.declared.stop.Stop.TheVariants.{Memory, Read, TooLong};
-ghost use Rattle.lnt_records.specs.Faults.{IsComparison};
+ghost use Rattle.lnt_unit.specs.declared.unit.Parts.{Parts};
+ghost use Rattle.lnt_lines.specs.Indexed.{IsIndexOf};
 ghost use Rattle.lnt_table.specs.Headline.{IsTooLong, IsTrueOfSection, IsTrueVerdict};
+ghost use Rattle.lnt_table.specs.Verdicts.{IsComparedWith};
 
 use crate::verdict::{TableNo, Verdict, verdict_of};
-use lnt_lines::{Judged, Lines, Options, Stop, verify};
-use lnt_records::{Compared, TableStop, compare};
+use lnt_lines::{Index, JudgedIndex, Options, Stop, index_section};
+use lnt_records::{Compared, TableStop, compare_lines, compare_records};
 use lnt_wire::{Source, SourceStop, Strings, read_all};
 use std::alloc::Global;
 
@@ -64,12 +66,12 @@ pub fn check<R: Source, T: Source>(
     ensures too_long { IsErrOf result Stop.TooLong → IsTooLong (R.too_long section.new) (R.remaining section.old) (R.left section.old)
         ⊎ IsTooLong (T.too_long table.new) (T.remaining table.old) (T.left table.old) }
 {
-    let lines = match verify(alloc, section, strings, options)? {
-        Judged::Good(lines) => lines,
-        Judged::Bad(no) => return Ok(Verdict::No(TableNo::Section(no))),
+    let index = match index_section(alloc, section, strings, options)? {
+        JudgedIndex::Good(index) => index,
+        JudgedIndex::Bad(no) => return Ok(Verdict::No(TableNo::Section(no))),
     };
     let text = read_table(alloc, table)?;
-    let compared = compare_lines(alloc, &text, &lines)?;
+    let compared = compare_index(alloc, &text, &index)?;
     Ok(verdict_of(compared))
 }
 
@@ -89,12 +91,16 @@ fn read_table<T: Source>(alloc: Global, table: &mut T) -> Result<Vec<u8>, Stop>
     }
 }
 
-// What a comparison of the table with the lines finds.
-fn compare_lines(alloc: Global, text: &[u8], lines: &Lines) -> Result<Compared, Stop>
-    ensures ok { IfOk result (IsComparison text.now lines.now.spans) }
+// What a comparison of the table with the spans of the index finds, as these come: line by line where the table is plain,
+// and else record by record.
+fn compare_index(alloc: Global, text: &[u8], index: &Index<'_>) -> Result<Compared, Stop>
+    ensures ok { IfOk result (λ compared. (dead : Option ℕ) (units : List (ℕ × Parts)) → IsIndexOf dead units index.now → IsComparedWith dead units text.now compared) }
     ensures err { IfErr result (λ stop. stop ≡ Memory) }
 {
-    match compare(alloc, text, lines.spans()) {
+    if let Some(compared) = compare_lines(text, index.spans()) {
+        return Ok(compared);
+    }
+    match compare_records(alloc, text, index.spans()) {
         Ok(compared) => Ok(compared),
         Err(TableStop::Memory) => Err(Stop::Memory),
     }

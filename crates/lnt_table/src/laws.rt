@@ -1,6 +1,6 @@
 //! Laws of answers and verdicts, each the contract of a function without parameters that does nothing.
 ghost use Rattle.lnt_spans.specs.Laws.{Borders};
-ghost use Rattle.lnt_table.specs.Laws.{OnlyYes, OwnTable};
+ghost use Rattle.lnt_table.specs.Laws.{OnlyYes, OwnTable, OwnTableOfUnits};
 
 /// Two lists of spans in order, none empty, that answer alike wherever a span of either begins or ends answer alike at
 /// every position. So the spans of a table and of a section need comparing at their borders alone.
@@ -22,9 +22,16 @@ pub fn only_yes()
 }
 
 /// Of a good section, and the table that `write_table` wrote of its lines in either version, no verdict is true but Yes.
-#[tactic(auto, using(crate::proofs::LawLemmas::own_table))]
 pub fn own_table()
     ensures { OwnTable }
+{
+    own_table_of_units();
+}
+
+/// Of a good section, and the table that `write_index` wrote of its index in either version, no verdict is true but Yes.
+#[tactic(auto, using(crate::proofs::LawLemmas::own_table_of_units))]
+pub fn own_table_of_units()
+    ensures { OwnTableOfUnits }
 {
     only_yes();
 }

@@ -1,10 +1,12 @@
 //! The table of a section's lines, written.
-ghost use Rattle.std.specs.Prelude.{ℕ, List, OnOk};
+ghost use Rattle.std.specs.Prelude.{ℕ, List, Option, OnOk};
 ghost use Rattle.std.specs.Io.KnownBytes.{Appends};
-ghost use Rattle.lnt_table.specs.Written.{IsTableOfLines};
+ghost use Rattle.lnt_unit.specs.declared.unit.Parts.{Parts};
+ghost use Rattle.lnt_lines.specs.Indexed.{IsIndexOf};
+ghost use Rattle.lnt_table.specs.Written.{IsTableOfLines, IsTableOfUnits};
 
-use lnt_lines::Lines;
-use lnt_records::{WriteStop, write_spans};
+use lnt_lines::{Index, Lines};
+use lnt_records::{WriteStop, write_canonical, write_spans};
 use lnt_spans::Version;
 use std::alloc::Global;
 use std::io::Write;
@@ -30,4 +32,22 @@ pub fn write_table<W: Write>(
         return Err(WriteStop::Memory);
     };
     write_spans(alloc, &spans, version, out)
+}
+
+/// Writes the table of the units that an index is of, in a version, block by block, as their spans come. No list of spans
+/// is made.
+///
+/// Where it answers Ok, the writer has gained bytes that are a table of exactly the canonical spans that answer as the
+/// rows of the units do, as far as the version tells: the one shortest table that does. It is what `write_table` writes of
+/// their lines, and it stops as that does.
+pub fn write_index<W: Write>(
+    alloc: Global,
+    index: &Index<'_>,
+    version: Version,
+    out: &mut W,
+) -> Result<(), WriteStop>
+    ensures { OnOk result ((bytes : List ℕ) × Appends (W.contents out.old) (W.contents out.new) bytes
+        × ((dead : Option ℕ) (units : List (ℕ × Parts)) → IsIndexOf dead units index.now → IsTableOfUnits version dead units bytes)) }
+{
+    write_canonical(alloc, index.spans(), version, out)
 }

@@ -15,16 +15,14 @@ use Rattle.lnt_unit.specs.UnitBytes.{UnitBytesIn, UnitsFrom}
 use Rattle.lnt_machine.specs.declared.row.Row.{Row}
 use Rattle.lnt_machine.specs.declared.row.Sequence.{Sequence}
 use Rattle.lnt_machine.specs.Matrix.{joined_rows, rows, Runs, sequences_of}
-use Rattle.lnt_spans.specs.declared.span.Span.{Span}
 use Rattle.lnt_spans.specs.Laws.EachTwo.{pairs_append, pairs_cons, pairs_head, pairs_nil, pairs_tail}
 use Rattle.lnt_rows.specs.declared.collected.Collected.{Collected}
 use Rattle.lnt_rows.specs.declared.extent.Extent.{Extent}
 use Rattle.lnt_rows.specs.Extents.{extent_of, extents_of}
-use Rattle.lnt_rows.specs.RowSpans.{row_spans, spans_of}
 use Rattle.lnt_rows.specs.Rules.{AreDistinct, AreOrdered}
 use Rattle.lnt_rows.specs.Sequences.{is_live, live_in, live_of, live_sequences, Placed, placed_in, placed_rows}
-use Rattle.lnt_rows.specs.Watching.{Collects, CollectsRows, extent_shown, shown, span_shown, start}
-use Rattle.lnt_rows.specs.Laws.Walks.{each_ended, extents_ended, placed_from, spans_ended, whole}
+use Rattle.lnt_rows.specs.Watching.{Collects, CollectsRows, extent_shown, shown, start}
+use Rattle.lnt_rows.specs.Laws.Walks.{each_ended, extents_ended, placed_from, whole}
 
 -- ---- the sequences
 
@@ -47,7 +45,6 @@ ordered_more dead units unit h k = subst AreOrdered (sym (live-append dead units
 -- of no row yet
 pub collects_none : (dead : Option ℕ) (unit : ℕ) (collected : Collected) (ss : List Placed) → Collects collected ss → CollectsRows dead unit collected ss []
 collects_none dead unit collected ss c few = record {
-  spans = c.spans ∙ sym (append-nil (spans_of ss));
   extents = c.extents ∙ sym (append-nil (extents_of ss));
 }
 
@@ -57,13 +54,6 @@ pub collects_all : (dead : Option ℕ) (unit : ℕ) (collected : Collected) (ss 
 collects_all dead unit collected ss all closed few c =
     let both = c few in
     record {
-      spans =
-          both.spans
-          ∙ ap (λ (more : List Span). spans_of ss ++ more)
-          (ap (shown (span_shown dead unit) start) (sym closed)
-          ∙ whole (span_shown dead unit) (λ (placed : Placed). row_spans placed.id.unit placed.rows) dead unit (λ walk s e none. spans_ended dead unit walk s e none) 0 (sequences_of all) start
-          (each_ended all) refl refl)
-          ∙ sym (flat_map-append (λ (placed : Placed). row_spans placed.id.unit placed.rows) ss (live_of dead (placed_rows unit all)));
       extents =
           both.extents
           ∙ ap (λ (more : List Extent). extents_of ss ++ more)
@@ -82,7 +72,6 @@ pub collects_more : (dead : Option ℕ) (units : List (ℕ × Parts)) (unit : �
 collects_more dead units unit collected runs few c =
     let more = collects_unit dead unit collected (live_sequences dead units) runs few c in
     record {
-      spans = more.spans ∙ ap spans_of (sym (live-append dead units unit));
       extents = more.extents ∙ ap extents_of (sym (live-append dead units unit));
     }
 

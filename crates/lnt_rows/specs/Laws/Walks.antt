@@ -8,14 +8,12 @@ use Rattle.lnt_machine.specs.declared.row.Row.{Row}
 use Rattle.lnt_machine.specs.declared.row.Sequence.{Sequence}
 use Rattle.lnt_machine.specs.Laws.Sequences.{AreOpen, IsEnded}
 use Rattle.lnt_machine.specs.Matrix.{joined_rows, onto_first, sequences_of}
-use Rattle.lnt_spans.specs.declared.span.Span.{Span}
 use Rattle.lnt_spans.specs.Laws.Positions.{at_most_itself, test_not_below}
 use Rattle.lnt_rows.specs.declared.extent.Extent.{Extent}
 use Rattle.lnt_rows.specs.declared.watch.Current.{Current}
 use Rattle.lnt_rows.specs.Extents.{extent_between, extent_of, extent_of_rows}
-use Rattle.lnt_rows.specs.RowSpans.{row_spans, span_between, spans_behind}
 use Rattle.lnt_rows.specs.Sequences.{are_live, begins_live, is_live, last_row, Placed, position_of}
-use Rattle.lnt_rows.specs.Watching.{closed, current_of, extent_from, extent_shown, first_shown, grown, is_in_live, last_behind, longer, next, shown, span_from, span_shown, Walk, walked}
+use Rattle.lnt_rows.specs.Watching.{closed, current_of, extent_from, extent_shown, first_shown, grown, is_in_live, last_behind, longer, next, shown, Walk, walked}
 
 -- ---- more rows
 
@@ -104,59 +102,6 @@ walked_ended walk s e =
   where
     same : (m n : ℕ) → m ≡ n → ◌≡◌ {A = Walk} (record { rows = m; ended = walk.ended + 1; begun = [] }) (record { rows = n; ended = walk.ended + 1; begun = [] })
     same m n e = rw e refl
-
--- ---- its spans
-
-behind-push : (unit : ℕ) (row : Row) (rows : List Row) (more : Row)
-    → spans_behind unit row (rows ++ more ∷ []) ≡ spans_behind unit row rows ++ span_between unit (last_behind row rows) more
-behind-push unit row [] more = append-nil (span_between unit row more)
-behind-push unit row (next ∷ rows) more =
-    ap (λ (spans : List Span). span_between unit row next ++ spans) (behind-push unit next rows more)
-    ∙ sym (append_assoc (span_between unit row next) (spans_behind unit next rows) (span_between unit (last_behind next rows) more))
-
--- the spans of rows, if they are live
-abbrev pub live_spans : Option ℕ → ℕ → List Row → List Span
-live_spans dead unit rows = cond (are_live dead rows) (row_spans unit rows) []
-
-spans-push : (dead : Option ℕ) (unit : ℕ) (begun : List Row) (row : Row)
-    → live_spans dead unit (begun ++ row ∷ [])
-    ≡ live_spans dead unit begun ++ cond (grown dead (current_of dead begun) row).live (span_from unit (current_of dead begun) row) []
-spans-push dead unit [] row = by_live (begins_live dead row)
-  where
-    by_live : (t : Bool) → cond {A = List Span} t [] [] ≡ cond {A = List Span} t [] []
-    by_live t = refl
-spans-push dead unit (first ∷ rest) row = by_live (begins_live dead first)
-  where
-    by_live : (t : Bool) → cond t (spans_behind unit first (rest ++ row ∷ [])) []
-        ≡ cond t (spans_behind unit first rest) [] ++ cond t (span_between unit (last_behind first rest) row) []
-    by_live true = behind-push unit first rest row
-    by_live false = refl
-
-spans_open : (dead : Option ℕ) (unit : ℕ) (walk : Walk) (rows : List Row) → AreOpen rows
-    → live_spans dead unit walk.begun ++ shown (span_shown dead unit) walk rows ≡ live_spans dead unit (walk.begun ++ rows)
-spans_open dead unit walk [] o = append-nil (live_spans dead unit walk.begun) ∙ ap (live_spans dead unit) (sym (append-nil walk.begun))
-spans_open dead unit walk (row ∷ rows) o =
-    sym (append_assoc (live_spans dead unit walk.begun) (span_shown dead unit walk row) (shown (span_shown dead unit) (next walk row) rows))
-    ∙ ap (λ (spans : List Span). spans ++ shown (span_shown dead unit) (next walk row) rows) (sym (spans-push dead unit walk.begun row))
-    ∙ ap (λ (t : Bool). live_spans dead unit (walk.begun ++ row ∷ []) ++ shown (span_shown dead unit) (cond t (closed walk) (longer walk row)) rows) o.0
-    ∙ spans_open dead unit (longer walk row) rows o.1
-    ∙ ap (live_spans dead unit) (append_assoc walk.begun (row ∷ []) rows)
-
-pub spans_ended : (dead : Option ℕ) (unit : ℕ) (walk : Walk) (s : Sequence) → IsEnded s → walk.begun ≡ []
-    → shown (span_shown dead unit) walk s.rows ≡ live_spans dead unit s.rows
-spans_ended dead unit walk s e none =
-    let behind = walked walk e.body in
-    let begun : behind.begun ≡ e.body = ap (λ (w : Walk). w.begun) (walked_open walk e.body e.body_open) ∙ ap (λ (rows : List Row). rows ++ e.body) none in
-    let body : shown (span_shown dead unit) walk e.body ≡ live_spans dead unit behind.begun =
-    ap (λ (rows : List Row). live_spans dead unit rows ++ shown (span_shown dead unit) walk e.body) (sym none)
-    ∙ spans_open dead unit walk e.body e.body_open
-    ∙ ap (λ (rows : List Row). live_spans dead unit (rows ++ e.body)) none ∙ ap (live_spans dead unit) (sym begun) in
-    ap (shown (span_shown dead unit) walk) e.rows_are
-    ∙ shown-push (span_shown dead unit) walk e.body e.last
-    ∙ ap (λ (spans : List Span). spans ++ span_shown dead unit behind e.last) body
-    ∙ sym (spans-push dead unit behind.begun e.last)
-    ∙ ap (λ (rows : List Row). live_spans dead unit (rows ++ e.last ∷ [])) begun
-    ∙ ap (live_spans dead unit) (sym e.rows_are)
 
 -- ---- its extent
 

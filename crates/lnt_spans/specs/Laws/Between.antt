@@ -5,10 +5,10 @@ use Rattle.std.proofs.lemmas.List.Elements.{All-cons, All-nil, All-weaker}
 use Rattle.lnt_spans.specs.declared.position.Position.{Position}
 use Rattle.lnt_spans.specs.declared.span.Span.{Span}
 use Rattle.lnt_spans.specs.Positions.{IsBelow, IsAtMost, is_below, is_at_most}
-use Rattle.lnt_spans.specs.Spans.{AreDisjoint, AreInOrder, is_in_span, span_answer}
+use Rattle.lnt_spans.specs.Spans.{AreInOrder, is_in_span, span_answer}
 use Rattle.lnt_spans.specs.Laws.Answering.{answer_before}
 use Rattle.lnt_spans.specs.Laws.EachTwo.{pairs_nil, pairs_cons}
-use Rattle.lnt_spans.specs.Laws.Positions.{at_most_from_test, at_most_itself, at_most_trans, below_at_most, below_from_test, below_is_at_most, not_both, test_at_most, test_below}
+use Rattle.lnt_spans.specs.Laws.Positions.{at_most_from_test, at_most_itself, at_most_trans, below_at_most, below_from_test, below_is_at_most, test_at_most, test_below}
 
 -- ---- one span
 
@@ -28,10 +28,6 @@ in_span p span h =
 
 pub test_in_span : (p : Position) (span : Span) → InSpan p span → is_in_span p span ≡ true
 test_in_span p span h = rw (test_at_most span.low p h.from, test_below p span.high h.below) refl
-
--- a span that ends before another begins
-pub disjoint_after : (one other : Span) → IsAtMost one.high other.low → AreDisjoint one other
-disjoint_after one other h = λ p x y. not_both (in_span p one x).below (at_most_trans h (in_span p other y).from)
 
 -- ---- spans from one position up to another
 
@@ -83,15 +79,6 @@ between_within a b (span ∷ spans) h =
     (record { from = h.0; some = h.1; upto = between_at_most span.high b spans h.2 })
     (All-weaker (Within span.high b) (Within a b) (λ s k. record { from = at_most_trans (at_most_trans h.0 (below_is_at_most h.1)) k.from; some = k.some; upto = k.upto }) spans
     (between_within span.high b spans h.2))
-
--- no two of them hold a position
-pub between_disjoint : (a b : Position) (spans : List Span) → AreBetween a spans b → AllPairs AreDisjoint spans
-between_disjoint a b [] h = pairs_nil AreDisjoint
-between_disjoint a b (span ∷ spans) h =
-    pairs_cons AreDisjoint span spans
-    (All-weaker (Within span.high b) (AreDisjoint span) (λ s k. disjoint_after span s k.from) spans
-    (between_within span.high b spans h.2))
-    (between_disjoint span.high b spans h.2)
 
 -- ---- spans in order, by their places
 

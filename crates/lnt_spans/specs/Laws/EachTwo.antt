@@ -4,7 +4,7 @@ use Rattle.std.proofs.Common.{◌≡◌, ◌≢◌, ℕ, zero, suc, ◌<◌, ◌
 use Rattle.std.specs.List.{find, AllPairs, All, Contains, swap}
 use Rattle.std.specs.List.Sorted.{IsPermutation}
 use Rattle.std.proofs.lemmas.List.Edits.{Swapped, swapped_from_swap, length-swap}
-use Rattle.std.proofs.lemmas.List.Sorted.{IsPermutation-keeps, Contains-permutation, All-permutation}
+use Rattle.std.proofs.lemmas.List.Sorted.{IsPermutation-keeps}
 use Rattle.std.proofs.lemmas.Bool.{cases_eq, cases_lt}
 use Rattle.std.proofs.lemmas.List.{get_or_default}
 use Rattle.std.proofs.lemmas.List.Elements.{All-cons, All-append, All-head, All-tail}
@@ -124,14 +124,3 @@ find_only {X} test xs x h k t = by_answer (find test xs) refl
         (λ (same : k.0 ≡ f.0.0). e ∙ ap Some (sym at ∙ sym (ap (λ i. get_or xs i x) same) ∙ k.2))
         (λ (ne : k.0 ≡ f.0.0 → ⊥). absurd (h k.0 f.0.0 x ne k.1 f.0.1 (ap test k.2 ∙ t) (ap test at ∙ f.1)))
         (cases_eq k.0 f.0.0)
-
--- Where at most one passes, the order doesn't matter.
-pub find_permuted : {X : Type 0} (test : X → Bool) (xs ys : List X) → EachTwo (λ a b. test a ≡ true → test b ≡ true → ⊥) xs → IsPermutation xs ys
-    → find test ys ≡ find test xs
-find_permuted {X} test xs ys h p = by_answer (find test xs) refl
-  where
-    by_answer : (o : Option X) → find test xs ≡ o → find test ys ≡ find test xs
-    by_answer None e = find_none test ys (All-permutation (λ (x : X). test x ≡ false) xs ys p (none_found test xs e)) ∙ sym e
-    by_answer (Some x) e =
-        let f = found test xs x e in
-        find_only test ys x (each_two_permutation (λ a b. test a ≡ true → test b ≡ true → ⊥) xs ys p h) (Contains-permutation xs ys x p f.0) f.1 ∙ sym e

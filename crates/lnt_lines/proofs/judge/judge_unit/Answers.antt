@@ -1,8 +1,10 @@
-use Rattle.std.proofs.Common.{length, subst}
+use Rattle.std.proofs.Common.{◌≡◌, arith, length, subst, sym}
+use Rattle.std.proofs.lemmas.Grind.{common_steps}
 use Rattle.std.proofs.lemmas.Result.{err_from_is_err_and}
 use Rattle.lnt_stream.specs.Units.{UnitBytes}
 use Rattle.lnt_machine.specs.Matrix.{rows}
-use Rattle.lnt_lines.specs.Judging.{IsUnitRefusal}
+use Rattle.lnt_machine.specs.Walking.{Kept}
+use Rattle.lnt_lines.specs.Judging.{IsJudgedSound, IsUnitRefusal}
 use Rattle.lnt_lines.proofs.JudgeLemmas.{falls_no, judged_sound, missing_no, tables_no}
 use Rattle.lnt_lines.proofs.judge.judge_unit.Goals as goal
 
@@ -20,7 +22,7 @@ returns-in-Some-clause-err c =
     let text = c.args.strings.now.line.now in
     let general = c.args.strings.now.general.now in
     rw c.table_no.ensures
-    (tables_no text general c.args.dead c.args.buffer.now c.in_ok-view.view c.header-header.result.now c.offset-unit.result c.args.collected.now c.run_unit.new.collected c.in_ok-watch.watch c.in-Some.fault
+    (tables_no text general c.args.dead c.args.buffer.now c.in_ok-view.view c.header-header.result.now c.offset-unit.result c.run_unit.new.places.items c.args.collected.now c.run_unit.new.collected c.in_ok-watch.watch c.in-Some.fault
     c.in_ok-view.ensures.ok c.in_ok-watch.ensures.runs c.offset-unit.ensures c.header-header.ensures c.in-Some.ensures)
 
 pub returns-in-Some-missing_file-clause-err : goal.returns-in-Some-missing_file-clause-err
@@ -28,7 +30,7 @@ returns-in-Some-missing_file-clause-err c =
     let text = c.args.strings.now.line.now in
     let general = c.args.strings.now.general.now in
     let run = c.in_ok-watch.ensures.runs in
-    missing_no text general c.args.dead c.args.buffer.now c.in_ok-view.view c.header-header.result.now c.offset-unit.result c.args.collected.now c.run_unit.new.collected c.in_ok-watch.watch c.in-Some-missing_file.missing
+    missing_no text general c.args.dead c.args.buffer.now c.in_ok-view.view c.header-header.result.now c.offset-unit.result c.run_unit.new.places.items c.args.collected.now c.run_unit.new.collected c.in_ok-watch.watch c.in-Some-missing_file.missing
     c.in_ok-view.ensures.ok run c.offset-unit.ensures c.header-header.ensures c.in_default.ensures
     (c.in-Some-missing_file.ensures c.args.dead c.in_ok-view.view.unit.offset (length run.unit.header.files) (rows run.unit) run.seen)
 
@@ -37,7 +39,7 @@ returns-in-Some-falls-clause-err c =
     let text = c.args.strings.now.line.now in
     let general = c.args.strings.now.general.now in
     let run = c.in_ok-watch.ensures.runs in
-    falls_no text general c.args.dead c.args.buffer.now c.in_ok-view.view c.header-header.result.now c.offset-unit.result c.args.collected.now c.run_unit.new.collected c.in_ok-watch.watch c.in-Some-falls.row
+    falls_no text general c.args.dead c.args.buffer.now c.in_ok-view.view c.header-header.result.now c.offset-unit.result c.run_unit.new.places.items c.args.collected.now c.run_unit.new.collected c.in_ok-watch.watch c.in-Some-falls.row
     c.in_ok-view.ensures.ok run c.offset-unit.ensures c.header-header.ensures c.in_default.ensures
     (c.in_default-missing_file.ensures c.args.dead c.in_ok-view.view.unit.offset (length run.unit.header.files) (rows run.unit) run.seen)
     (c.in-Some-falls.ensures c.args.dead c.in_ok-view.view.unit.offset (length run.unit.header.files) (rows run.unit) run.seen)
@@ -47,7 +49,10 @@ returns-clause-sound c =
     let text = c.args.strings.now.line.now in
     let general = c.args.strings.now.general.now in
     let run = c.in_ok-watch.ensures.runs in
-    judged_sound text general c.args.dead c.args.buffer.now c.in_ok-view.view c.header-header.result.now c.args.collected.now c.run_unit.new.collected c.in_ok-watch.watch c.in_ok-of.field-0
+    let kept : c.of.result ≡ record { header = c.in_ok-view.view.header; program = c.in_ok-view.view.program; places = c.run_unit.new.places.items } =
+    grind (arith, common_steps) in
+    subst (λ (k : Kept). IsJudgedSound text general c.args.dead c.args.buffer.now c.args.collected.now c.run_unit.new.collected k) (sym kept)
+    (judged_sound text general c.args.dead c.args.buffer.now c.in_ok-view.view c.header-header.result.now c.run_unit.new.places.items c.args.collected.now c.run_unit.new.collected c.in_ok-watch.watch
     c.in_ok-view.ensures.ok run c.header-header.ensures c.in_default.ensures
     (c.in_default-missing_file.ensures c.args.dead c.in_ok-view.view.unit.offset (length run.unit.header.files) (rows run.unit) run.seen)
-    (c.in_default-falls.ensures c.args.dead c.in_ok-view.view.unit.offset (length run.unit.header.files) (rows run.unit) run.seen) c.in_ok-of.ensures
+    (c.in_default-falls.ensures c.args.dead c.in_ok-view.view.unit.offset (length run.unit.header.files) (rows run.unit) run.seen))

@@ -1,13 +1,26 @@
-use Rattle.lnt_spans.specs.Laws.Positions.{at_most_trans, below_is_at_most}
-use Rattle.lnt_spans.proofs.ScanLemmas.{says_all, says_more}
+use Rattle.std.proofs.Common.{Bool, false, subst, true}
+use Rattle.lnt_spans.specs.Ahead.{IsAhead, rest_of}
+use Rattle.lnt_spans.specs.Scanning.{IsStretch}
+use Rattle.lnt_spans.proofs.ScanLemmas.{begins_with, passed_left, so_far_more}
 use Rattle.lnt_spans.proofs.scan.scan.Goals as goal
 
-pub loop-version-preserved : goal.loop-version-preserved
-loop-version-preserved c = record {
-  says = says_more _ _ _ _ _ _ _ _ _ _ c.loop-version.invariant.says c.stretch_at-stretch.ensures c.if-not-is_same.ensures;
-  behind = at_most_trans c.loop-version.invariant.behind (below_is_at_most c.stretch_at-stretch.ensures.from);
-  within = c.stretch_at-stretch.ensures.within;
-}
+pub loop-version-preserved-then-stretch : goal.loop-version-preserved-then-stretch
+loop-version-preserved-then-stretch g c list ahead order behind =
+    let to_come = g.S.SpanSource.to_come in
+    let so_far = c.loop-version.invariant list ahead order behind in
+    let stretch = c.stretch_at-stretch.ensures.stretch so_far.rest (begins_with to_come c.loop-version.spans so_far.rest so_far.left) so_far.says.order so_far.says.behind in
+    so_far_more c.args.version list c.args.from c.loop-version.at c.stretch_at-stretch.result.end c.args.to c.args.answer c.stretch_at-stretch.result.answer true
+    (IsAhead to_come c.loop-version.spans) (IsAhead to_come c.pass.new.self) so_far
+    (subst (λ (t : Bool). IsStretch c.args.version so_far.rest c.loop-version.at c.args.to c.stretch_at-stretch.result.answer c.stretch_at-stretch.result.end (rest_of t so_far.rest)) c.if-stretch.true stretch)
+    c.if-not-is_same.ensures
+    (passed_left to_come c.loop-version.spans c.pass.new.self so_far.rest (c.stretch_at-stretch.ensures.passed c.if-stretch.true) so_far.left c.pass.ensures.passed)
 
-pub returns-clause-found : goal.returns-clause-found
-returns-clause-found c = says_all _ _ _ _ _ _ _ c.loop-version.invariant.says c.loop-version.invariant.within c.loop-version-test.ensures
+pub loop-version-preserved : goal.loop-version-preserved
+loop-version-preserved g c list ahead order behind =
+    let to_come = g.S.SpanSource.to_come in
+    let so_far = c.loop-version.invariant list ahead order behind in
+    let stretch = c.stretch_at-stretch.ensures.stretch so_far.rest (begins_with to_come c.loop-version.spans so_far.rest so_far.left) so_far.says.order so_far.says.behind in
+    so_far_more c.args.version list c.args.from c.loop-version.at c.stretch_at-stretch.result.end c.args.to c.args.answer c.stretch_at-stretch.result.answer false
+    (IsAhead to_come c.loop-version.spans) (IsAhead to_come c.loop-version.spans) so_far
+    (subst (λ (t : Bool). IsStretch c.args.version so_far.rest c.loop-version.at c.args.to c.stretch_at-stretch.result.answer c.stretch_at-stretch.result.end (rest_of t so_far.rest)) c.if-stretch.false stretch)
+    c.if-not-is_same.ensures so_far.left

@@ -3,5 +3,8 @@ use Rattle.lnt_records.proofs.ComparisonLemmas.{record_taken}
 use Rattle.lnt_records.proofs.comparison.Comparison.take_record.Goals as goal
 
 pub returns-clause-judged : goal.returns-clause-judged
-returns-clause-judged c = λ section records j.
-    record_taken c.args.self.now _ section records _ c.in-Ok.span j c.in-Ok.ensures.ok (c.if-not-takes.ensures section j.table j.compares) refl refl c.push.ensures.version c.push.ensures.compares
+returns-clause-judged g c section records j =
+    record_taken g.S.SpanSource.to_come c.args.self.now _ section records _ c.in-Ok.span j c.in-Ok.ensures.ok (c.if-not-takes.ensures section j.table j.compares) refl refl c.push.ensures.version c.push.ensures.compares
+
+pub returns-then-not-takes-clause-judged : goal.returns-then-not-takes-clause-judged
+returns-then-not-takes-clause-judged g c section records j = (j.table, j.is_table, (j.count, c.in-Ok.span, c.in-Ok.ensures.ok, c.if-not-takes.ensures section j.table j.compares))

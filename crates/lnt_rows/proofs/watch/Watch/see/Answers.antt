@@ -12,4 +12,4 @@ returns-clause-seen c = λ dead unit files rows seen.
 pub returns-clause-collects : goal.returns-clause-collects
 returns-clause-collects c = λ dead unit files rows ss seen collects.
     collects_more dead unit files rows ss c.args.self.now c.args.collected.now c.collect.new.collected c.args.row.now c.grown-current.result
-    c.grown-current.ensures c.in_ok-collect.ensures.spans c.in_ok-collect.ensures.extents seen collects
+    c.grown-current.ensures c.in_ok-collect.ensures seen collects

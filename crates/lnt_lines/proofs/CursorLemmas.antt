@@ -1,0 +1,133 @@
+-- The spans of an index, one after another.
+use Rattle.std.proofs.Common.{◌≡◌, ◌∙◌, ℕ, ◌+◌, ◌<◌, List, [], ◌∷◌, ◌++◌, Option, Some, None, refl, sym, ap, subst, arith, length}
+use Rattle.std.specs.Prelude.{IfSome, IsSomeAnd}
+use Rattle.std.specs.List.{AllZip}
+use Rattle.lnt_unit.specs.declared.unit.Parts.{Parts}
+use Rattle.lnt_machine.specs.declared.row.Row.{Row}
+use Rattle.lnt_machine.specs.Walking.{Kept, SequenceWalk, WillGive}
+use Rattle.lnt_spans.specs.declared.span.Span.{Span}
+use Rattle.lnt_spans.specs.Coming.{GivesFirst}
+use Rattle.lnt_rows.specs.declared.extent.Extent.{Extent}
+use Rattle.lnt_rows.specs.declared.sequence.SeqId.{SeqId}
+use Rattle.lnt_rows.specs.InTurn.{EntriesInTurn, IsEntryOf}
+use Rattle.lnt_rows.specs.RowSpans.{row_spans, spans_of}
+use Rattle.lnt_rows.specs.Sequences.{live_sequences, Placed}
+use Rattle.lnt_rows.specs.Spanning.{GivesSpan, HasSpans, rows_left}
+use Rattle.lnt_lines.specs.Cursors.{AreToCome, ComeLater, Cursor, GivesAllOf, GivesHere, room_for, room_of, rows_here}
+use Rattle.lnt_lines.specs.Indexed.{Indexed, IsIndexOf, IsSequenceIn}
+use Rattle.lnt_lines.proofs.IndexLemmas.{sequence_in}
+use Rattle.lnt_lines.proofs.WholeLemmas.{whole_spans}
+
+-- ---- the sequence at hand
+
+given_by : (new : Cursor) (here later spans : List Span) (walk : SequenceWalk) (result : Option Span) → new.rows ≡ Some walk → ComeLater later new → spans ≡ here ++ later
+    → GivesSpan new.unit here result walk new.last → GivesHere new spans result
+given_by new [] later spans walk None is come_later are gives = record { sequences = come_later.sequences; each = come_later.each; spans_are = are ∙ come_later.spans_are }
+given_by new [] later spans walk (Some made) is come_later are gives = absurd gives
+given_by new (span ∷ here) later spans walk None is come_later are gives = absurd gives
+given_by new (span ∷ here) later spans walk (Some made) is come_later are gives =
+    let come : AreToCome new (here ++ later) = record {
+      here = here;
+      later = later;
+      come_here = rw is gives.1;
+      come_later = come_later;
+      spans_are = refl;
+    } in
+    subst (λ (list : List Span). GivesFirst (AreToCome new) list (Some made)) (sym are) (gives.0, come)
+
+pub given_here : (units : List ℕ) (programs : List Kept) (entries : List Extent) (unit : ℕ) (rows : Option SequenceWalk) (old new : SequenceWalk) (last last' : Option Row) (result : Option Span) (spans : List Span)
+    → rows ≡ Some old → ((here : List Span) → HasSpans unit here old last → GivesSpan unit here result new last')
+    → AreToCome (record { units = units; programs = programs; entries = entries; unit = unit; rows = rows; last = last }) spans
+    → GivesHere (record { units = units; programs = programs; entries = entries; unit = unit; rows = Some new; last = last' }) spans result
+given_here units programs entries unit rows old new last last' result spans is gives come =
+    let here : HasSpans unit come.here old last = rw is at come.come_here in
+    given_by (record { units = units; programs = programs; entries = entries; unit = unit; rows = Some new; last = last' }) come.here come.later spans new result refl
+    (record { sequences = come.come_later.sequences; each = come.come_later.each; spans_are = come.come_later.spans_are }) come.spans_are (gives come.here here)
+
+-- there is none
+pub none_here : (cursor : Cursor) (spans : List Span) → cursor.rows ≡ None → AreToCome cursor spans → ComeLater spans cursor
+none_here cursor spans none come =
+    let empty : come.here ≡ [] = rw none at come.come_here in
+    record {
+      sequences = come.come_later.sequences;
+      each = come.come_later.each;
+      spans_are = come.spans_are ∙ ap (λ (here : List Span). here ++ come.later) empty ∙ come.come_later.spans_are;
+    }
+
+-- ---- the next sequence
+
+abbrev IsEntry : List ℕ → List Kept → Extent → Placed → Type 0
+IsEntry units programs entry placed = (placed.id ≡ entry.id) × IsSequenceIn units programs entry.id placed.rows
+
+begun_by : (units : List ℕ) (programs : List Kept) (entry : Extent) (entries : List Extent) (placed : Placed) (sequences : List Placed) (found : Option SequenceWalk) (spans : List Span)
+    → AllZip (IsEntry units programs) entries sequences → placed.id ≡ entry.id → IsSomeAnd found (WillGive placed.rows) → spans ≡ spans_of (placed ∷ sequences)
+    → AreToCome (record { units = units; programs = programs; entries = entries; unit = entry.id.unit; rows = found; last = None }) spans
+begun_by units programs entry entries placed sequences None spans each same gives are = absurd gives
+begun_by units programs entry entries placed sequences (Some walk) spans each same gives are = record {
+  here = row_spans entry.id.unit placed.rows;
+  later = spans_of sequences;
+  come_here = record { rows = placed.rows; to_come = gives; spans_are = refl };
+  come_later = record { sequences = sequences; each = each; spans_are = refl };
+  spans_are = are ∙ ap (λ (id : SeqId). row_spans id.unit placed.rows ++ spans_of sequences) same;
+}
+
+begun_from : (units : List ℕ) (programs : List Kept) (entry : Extent) (entries : List Extent) (sequences : List Placed) (found : Option SequenceWalk) (spans : List Span)
+    → AllZip (IsEntry units programs) (entry ∷ entries) sequences → ((rows : List Row) → IsSequenceIn units programs entry.id rows → IsSomeAnd found (WillGive rows)) → spans ≡ spans_of sequences
+    → AreToCome (record { units = units; programs = programs; entries = entries; unit = entry.id.unit; rows = found; last = None }) spans
+begun_from units programs entry entries [] found spans each gives are = absurd each
+begun_from units programs entry entries (placed ∷ sequences) found spans each gives are =
+    begun_by units programs entry entries placed sequences found spans each.1 each.0.0 (gives placed.rows each.0.1) are
+
+pub begun : (cursor : Cursor) (entry : Extent) (entries : List Extent) (found : Option SequenceWalk) (spans : List Span) → cursor.entries ≡ entry ∷ entries
+    → ((rows : List Row) → IsSequenceIn cursor.units cursor.programs entry.id rows → IsSomeAnd found (WillGive rows)) → ComeLater spans cursor
+    → AreToCome (record { units = cursor.units; programs = cursor.programs; entries = entries; unit = entry.id.unit; rows = found; last = None }) spans
+begun cursor entry entries found spans is gives later =
+    begun_from cursor.units cursor.programs entry entries later.sequences found spans
+    (subst (λ (es : List Extent). AllZip (IsEntry cursor.units cursor.programs) es later.sequences) is later.each) gives later.spans_are
+
+-- none is left
+pub none_begun : (cursor : Cursor) (spans : List Span) → cursor.entries ≡ [] → ComeLater spans cursor → spans ≡ []
+none_begun cursor spans none later =
+    by_sequences later.sequences (subst (λ (es : List Extent). AllZip (IsEntry cursor.units cursor.programs) es later.sequences) none later.each) later.spans_are
+  where
+    by_sequences : (sequences : List Placed) → AllZip (IsEntry cursor.units cursor.programs) [] sequences → spans ≡ spans_of sequences → spans ≡ []
+    by_sequences [] each are = are
+    by_sequences (placed ∷ sequences) each are = absurd each
+
+room_some : (list : List Kept) → 0 < room_of list
+room_some [] = omega arith
+room_some (first ∷ list) = omega (arith, room_some list)
+
+pub begun_fewer : (programs : List Kept) (all entries : List Extent) (entry : Extent) (found : Option SequenceWalk) → all ≡ entry ∷ entries → IfSome found (λ walk. rows_left walk < room_of programs)
+    → rows_here found + room_for (room_of programs) entries < room_for (room_of programs) all
+begun_fewer programs all entries entry None is left = rw is (omega (arith, room_some programs))
+begun_fewer programs all entries entry (Some walk) is left = rw is (omega (arith, left))
+
+-- ---- all of them
+
+entries_found : (dead : Option ℕ) (units : List (ℕ × Parts)) (index : Indexed) (entries : List Extent) (in_turn : List Placed) → IsIndexOf dead units index
+    → AllZip (IsEntryOf (live_sequences dead units)) entries in_turn → AllZip (IsEntry index.units index.programs) entries in_turn
+entries_found dead units index [] [] is each = tt
+entries_found dead units index [] (placed ∷ in_turn) is each = absurd each
+entries_found dead units index (entry ∷ entries) [] is each = absurd each
+entries_found dead units index (entry ∷ entries) (placed ∷ in_turn) is each =
+    ((each.0.id_is, sequence_in dead units index entry.id placed is each.0.contained each.0.id_is), entries_found dead units index entries in_turn is each.1)
+
+pub gives_all : (dead : Option ℕ) (units : List (ℕ × Parts)) (index : Indexed) → EntriesInTurn → IsIndexOf dead units index
+    → GivesAllOf dead units (length index.entries) (record { units = index.units; programs = index.programs; entries = index.entries; unit = 0; rows = None; last = None })
+gives_all dead units index law is =
+    let all = law (live_sequences dead units) index.entries is.settled is.entries is.apart is.ordered in
+    record {
+      spans = spans_of all.in_turn;
+      to_come = record {
+        here = [];
+        later = spans_of all.in_turn;
+        come_here = refl;
+        come_later = record { sequences = all.in_turn; each = entries_found dead units index index.entries all.in_turn is all.each; spans_are = refl };
+        spans_are = refl;
+      };
+      in_order = all.in_order;
+      answers = all.answers;
+      whole = whole_spans dead units (spans_of all.in_turn) all.in_order all.answers;
+      enough = all.count;
+    }

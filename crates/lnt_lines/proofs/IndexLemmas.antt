@@ -1,0 +1,144 @@
+-- The sequence that holds a position, found again in the program of its unit.
+use Rattle.std.proofs.Common.{◌≡◌, ℕ, zero, suc, ◌==◌, ◌<◌, ◌≤◌, Bool, true, false, List, [], ◌∷◌, Option, Some, None, refl, sym, ap, ◌∙◌, subst, arith, length, get_or}
+use Rattle.std.specs.Prelude.{cond, IfNone, IfSome, IsSomeAnd, map}
+use Rattle.std.specs.List.{AllByRecursion, AllZip, Contains, position}
+use Rattle.std.specs.Option.{option_map}
+use Rattle.std.proofs.lemmas.Option.{same_Some}
+use Rattle.lnt_unit.specs.declared.unit.Parts.{Parts}
+use Rattle.lnt_machine.specs.declared.row.Sequence.{Sequence}
+use Rattle.lnt_machine.specs.Matrix.{sequences}
+use Rattle.lnt_machine.specs.declared.row.Row.{Row}
+use Rattle.lnt_machine.specs.Walking.{Keeps, Kept, SequenceWalk, WillGive}
+use Rattle.lnt_spans.specs.declared.position.Position as spans
+use Rattle.lnt_header.specs.declared.header.HeaderParts.{HeaderParts}
+use Rattle.lnt_entries.specs.Files.{AreFilesOf, KeptFile}
+use Rattle.lnt_entries.specs.Tables.{AreUsableTables}
+use Rattle.lnt_rows.specs.declared.extent.Extent.{Extent}
+use Rattle.lnt_rows.specs.declared.sequence.SeqId.{SeqId}
+use Rattle.lnt_rows.specs.Extents.{HolderAnswers, IsHolder, NoneHolds}
+use Rattle.lnt_rows.specs.Laws.Found.{live_placed}
+use Rattle.lnt_rows.specs.Sequences.{answer_of, line_answer, live_sequences, Placed, row_at}
+use Rattle.lnt_rows.specs.Spanning.{rows_left}
+use Rattle.lnt_lines.specs.Cursors.{room_of}
+use Rattle.lnt_lines.specs.Indexed.{Indexed, IsIndexOf, IsSequenceIn}
+use Rattle.lnt_lines.proofs.PlaceLemmas.{place_found}
+
+offset_at : (units : List (ℕ × Parts)) (k : ℕ) (d : ℕ × Parts) → k < length units → (get_or (map (λ (u : ℕ × Parts). u.0) units) k 0 ≡ (get_or units k d).0) × (k < length (map (λ (u : ℕ × Parts). u.0) units))
+offset_at [] k d few = absurd (omega arith)
+offset_at (unit ∷ units) zero d few = (refl, omega arith)
+offset_at (unit ∷ units) (suc k) d few = let more = offset_at units k d (omega arith) in (more.0, omega (arith, more.1))
+
+zip_at : {X Y : Type 0} (R : X → Y → Type 0) (xs : List X) (ys : List Y) (k : ℕ) (x : X) (y : Y) → AllZip R xs ys → k < length xs → R (get_or xs k x) (get_or ys k y) × (k < length ys)
+zip_at R [] ys k x y all few = absurd (omega arith)
+zip_at R (u ∷ xs) [] k x y all few = absurd all
+zip_at R (u ∷ xs) (v ∷ ys) zero x y all few = (all.0, omega arith)
+zip_at R (u ∷ xs) (v ∷ ys) (suc k) x y all few = let more = zip_at R xs ys k x y all.1 (omega arith) in (more.0, omega (arith, more.1))
+
+pub sequence_in : (dead : Option ℕ) (units : List (ℕ × Parts)) (index : Indexed) (id : SeqId) (placed : Placed) → IsIndexOf dead units index → Contains (live_sequences dead units) placed → placed.id ≡ id
+    → IsSequenceIn index.units index.programs id placed.rows
+sequence_in dead units index id placed is contained same =
+    let one = live_placed dead units placed contained in
+    let at = offset_at units one.place one.unit one.within in
+    let offset : get_or index.units one.place 0 ≡ id.unit =
+    ap (λ (list : List ℕ). get_or list one.place 0) is.offsets ∙ at.0 ∙ ap (λ (u : ℕ × Parts). u.0) (one.unit_at one.unit) ∙ sym one.unit_is ∙ ap (λ (i : SeqId). i.unit) same in
+    let kept : (d : Kept) → Keeps (get_or index.programs one.place d) one.unit.1 × (one.place < length index.programs) =
+    λ d. let z = zip_at (λ (u : ℕ × Parts) (k : Kept). Keeps k u.1) units index.programs one.place one.unit d is.programs one.within in
+    (subst (λ (u : ℕ × Parts). Keeps (get_or index.programs one.place d) u.1) (one.unit_at one.unit) z.0, z.1) in
+    record {
+      place = one.place;
+      unit = one.unit.1;
+      place_is = place_found index.units id.unit one.place is.rising (omega (arith, at.1, ap length is.offsets)) offset;
+      within = (kept (record { header = one.unit.1.header; program = []; places = [] })).1;
+      keeps = λ d. (kept d).0;
+      few = subst (λ (i : SeqId). i.index < length (sequences one.unit.1)) same one.few;
+      rows_are = λ d. one.rows_are d ∙ ap (λ (i : SeqId). (get_or (sequences one.unit.1) i.index d).rows) same;
+    }
+
+-- The sequence with this id has rows that answer.
+pub record Answers (dead : Option ℕ) (units : List (ℕ × Parts)) (index : Indexed) (p : spans.Position) (id : SeqId) : Type 0 where
+  pub rows : List Row
+  pub sequence_is : IsSequenceIn index.units index.programs id rows
+  pub answer_is : line_answer dead units p ≡ option_map (answer_of id.unit) (row_at p rows)
+
+pub found_answer : (dead : Option ℕ) (units : List (ℕ × Parts)) (index : Indexed) (p : spans.Position) (extent : Extent) → HolderAnswers → IsIndexOf dead units index
+    → IsHolder index.entries p extent → Answers dead units index p extent.id
+found_answer dead units index p extent law is holder =
+    let answers = law.some (live_sequences dead units) index.entries p extent is.entries is.apart holder in
+    record {
+      rows = answers.placed.rows;
+      sequence_is = sequence_in dead units index extent.id answers.placed is answers.contained answers.id_is;
+      answer_is = answers.answer_is ∙ ap (λ (i : SeqId). option_map (answer_of i.unit) (row_at p answers.placed.rows)) answers.id_is;
+    }
+
+pub found_none : (dead : Option ℕ) (units : List (ℕ × Parts)) (index : Indexed) (p : spans.Position) → HolderAnswers → IsIndexOf dead units index → NoneHolds index.entries p → None ≡ line_answer dead units p
+found_none dead units index p law is none = sym (law.none (live_sequences dead units) index.entries p is.entries none)
+
+-- ---- the rows of a sequence
+
+-- the place of the unit is that which was found
+pub same_place : (units : List ℕ) (unit place found : ℕ) → Some place ≡ position (λ offset. offset == unit) units → Some found ≡ position (λ offset. offset == unit) units → place ≡ found
+same_place units unit place found p q = same_Some place found (p ∙ sym q)
+
+-- they come where the unit's program keeps the sequence
+pub rows_come : (kept : Kept) (unit : Parts) (index : ℕ) (rows : List Row) (found : Option SequenceWalk) → Keeps kept unit → index < length (sequences unit)
+    → ((d : Sequence) → rows ≡ (get_or (sequences unit) index d).rows) → IfNone found (length kept.places ≤ index)
+    → IfSome found (λ walk. (unit : Parts) (d : Sequence) → Keeps kept unit → WillGive (get_or (sequences unit) index d).rows walk) → IsSomeAnd found (WillGive rows)
+rows_come kept unit index rows None keeps few are none some = absurd (omega (arith, none, keeps.count, few))
+rows_come kept unit index rows (Some walk) keeps few are none some =
+    let d : Sequence = record { rows = [] } in
+    subst (λ (list : List Row). WillGive list walk) (sym (are d)) (some unit d keeps)
+
+room_at : (programs : List Kept) (k : ℕ) (d : Kept) → k < length programs → length (get_or programs k d).program < room_of programs
+room_at [] k d few = absurd (omega arith)
+room_at (kept ∷ programs) zero d few = omega (arith, room_some programs)
+  where
+    room_some : (list : List Kept) → 0 < room_of list
+    room_some [] = omega arith
+    room_some (first ∷ list) = omega (arith, room_some list)
+room_at (kept ∷ programs) (suc k) d few = omega (arith, room_at programs k d (omega arith))
+
+left_at_most : (walk : SequenceWalk) → rows_left walk ≤ length walk.walk.at.rest
+left_at_most walk = by_end walk.ended
+  where
+    by_end : (t : Bool) → cond t 0 (length walk.walk.at.rest) ≤ length walk.walk.at.rest
+    by_end true = omega arith
+    by_end false = omega arith
+
+pub rows_few : (programs : List Kept) (place : ℕ) (kept : Kept) (found : Option SequenceWalk) → place < length programs → kept ≡ get_or programs place kept
+    → IfSome found (λ walk. length walk.walk.at.rest ≤ length kept.program) → IfSome found (λ walk. rows_left walk < room_of programs)
+rows_few programs place kept None few is left = tt
+rows_few programs place kept (Some walk) few is left =
+    omega (arith, left, left_at_most walk, room_at programs place kept few, ap (λ (k : Kept). length k.program) is)
+
+-- ---- tables and files
+
+pub usable_at : (line general : List ℕ) (units : List (ℕ × Parts)) (programs : List Kept) (k : ℕ) (d : Kept) → AllZip (λ (unit : ℕ × Parts) (kept : Kept). Keeps kept unit.1) units programs
+    → AllByRecursion (λ (unit : ℕ × Parts). AreUsableTables line general unit.1.header) units → k < length programs → AreUsableTables line general (get_or programs k d).header
+usable_at line general [] [] k d keeps usable few = absurd (omega arith)
+usable_at line general [] (kept ∷ programs) k d keeps usable few = absurd keeps
+usable_at line general (unit ∷ units) [] k d keeps usable few = absurd keeps
+usable_at line general (unit ∷ units) (kept ∷ programs) zero d keeps usable few = subst (AreUsableTables line general) (sym keeps.0.header_is) usable.0
+usable_at line general (unit ∷ units) (kept ∷ programs) (suc k) d keeps usable few = usable_at line general units programs k d keeps.1 usable.1 (omega arith)
+
+-- the files of programs are those of the units
+pub files_zip : (line general : List ℕ) (units : List (ℕ × Parts)) (programs : List Kept) (files : List (List KeptFile)) → AllZip (λ (unit : ℕ × Parts) (kept : Kept). Keeps kept unit.1) units programs
+    → AllZip (λ (kept : Kept) (some : List KeptFile). AreFilesOf line general kept.header some) programs files
+    → AllZip (λ (unit : ℕ × Parts) (some : List KeptFile). AreFilesOf line general unit.1.header some) units files
+files_zip line general [] [] [] keeps are = tt
+files_zip line general [] [] (some ∷ files) keeps are = absurd are
+files_zip line general [] (kept ∷ programs) files keeps are = absurd keeps
+files_zip line general (unit ∷ units) [] files keeps are = absurd keeps
+files_zip line general (unit ∷ units) (kept ∷ programs) [] keeps are = absurd are
+files_zip line general (unit ∷ units) (kept ∷ programs) (some ∷ files) keeps are =
+    (subst (λ (h : HeaderParts). AreFilesOf line general h some) keeps.0.header_is are.0, files_zip line general units programs files keeps.1 are.1)
+
+-- as many files as units
+zip_length : {X Y : Type 0} (R : X → Y → Type 0) (f : X → ℕ) (xs : List X) (ys : List Y) → AllZip R xs ys → length (map f xs) ≡ length ys
+zip_length R f [] [] all = refl
+zip_length R f [] (y ∷ ys) all = absurd all
+zip_length R f (x ∷ xs) [] all = absurd all
+zip_length R f (x ∷ xs) (y ∷ ys) all = let more = zip_length R f xs ys all.1 in omega (arith, more)
+
+pub same_number : (line general : List ℕ) (units : List (ℕ × Parts)) (files : List (List KeptFile)) → AllZip (λ (unit : ℕ × Parts) (some : List KeptFile). AreFilesOf line general unit.1.header some) units files
+    → length (map (λ (u : ℕ × Parts). u.0) units) ≡ length files
+same_number line general units files all = zip_length (λ (unit : ℕ × Parts) (some : List KeptFile). AreFilesOf line general unit.1.header some) (λ (u : ℕ × Parts). u.0) units files all

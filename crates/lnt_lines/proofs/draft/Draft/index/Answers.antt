@@ -1,0 +1,25 @@
+use Rattle.lnt_rows.specs.Sequences.{live_sequences}
+use Rattle.lnt_lines.proofs.DraftLemmas.{index_of_draft}
+use Rattle.lnt_lines.proofs.draft.Draft.index.Goals as goal
+
+pub entries-requires : goal.entries-requires
+entries-requires c = (live_sequences c.requires.dead c.requires.units, c.requires.draft_is.collects, c.requires.distinct)
+
+pub of-requires : goal.of-requires
+of-requires c =
+    let known = c.requires in
+    let sequences = live_sequences known.dead known.units in
+    let done = c.in_ok-entries.ensures in
+    record {
+      dead = known.dead;
+      units = known.units;
+      index_is = index_of_draft c.args.strings.now.line.now c.args.strings.now.general.now known.dead known.units c.args.self c.in_ok-entries.entries.items known.draft_is known.rising
+          done.settled (done.entries sequences known.draft_is.collects) (done.apart sequences known.draft_is.collects);
+    }
+
+pub returns-clause-index : goal.returns-clause-index
+returns-clause-index c dead units d =
+    let done = c.in_ok-entries.ensures in
+    rw c.of.ensures
+    (index_of_draft c.args.strings.now.line.now c.args.strings.now.general.now dead units c.args.self c.in_ok-entries.entries.items d c.requires.rising
+    done.settled (done.entries (live_sequences dead units) d.collects) (done.apart (live_sequences dead units) d.collects))

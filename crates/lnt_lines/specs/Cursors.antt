@@ -1,0 +1,80 @@
+-- All spans of an index, one after another: a sequence is decoded where its spans come next.
+use Rattle.std.specs.Prelude.{◌≡◌, ℕ, ◌+◌, ◌≤◌, List, [], ◌∷◌, ◌++◌, length, Option, Some, None}
+use Rattle.std.specs.List.{AllZip}
+use Rattle.lnt_unit.specs.declared.unit.Parts.{Parts}
+use Rattle.lnt_machine.specs.declared.row.Row.{Row}
+use Rattle.lnt_machine.specs.Walking.{Kept, SequenceWalk}
+use Rattle.lnt_spans.specs.declared.position.Position.{Position}
+use Rattle.lnt_spans.specs.declared.span.Span.{Span}
+use Rattle.lnt_spans.specs.Coming.{GivesFirst}
+use Rattle.lnt_spans.specs.Spans.{AreInOrder, span_answer}
+use Rattle.lnt_rows.specs.declared.extent.Extent.{Extent}
+use Rattle.lnt_rows.specs.RowSpans.{spans_of}
+use Rattle.lnt_rows.specs.Sequences.{line_answer, Placed}
+use Rattle.lnt_rows.specs.Spanning.{HasSpans, rows_left}
+use Rattle.lnt_lines.specs.Contents.{AreWhole}
+use Rattle.lnt_lines.specs.Indexed.{IsSequenceIn}
+
+-- the units and their programs, the entries of the sequences that weren't begun, and the rest of the one at hand, in the
+-- unit at an offset, with its last row so far
+pub record Cursor : Type 0 where
+  pub units : List ℕ
+  pub programs : List Kept
+  pub entries : List Extent
+  pub unit : ℕ
+  pub rows : Option SequenceWalk
+  pub last : Option Row
+
+-- The spans of the sequences that weren't begun are these.
+pub record ComeLater (spans : List Span) (cursor : Cursor) : Type 0 where
+  pub sequences : List Placed
+  pub each : AllZip (λ entry placed. (placed.id ≡ entry.id) × IsSequenceIn cursor.units cursor.programs entry.id placed.rows) cursor.entries sequences
+  pub spans_are : spans ≡ spans_of sequences
+
+-- Those of the sequence at hand that are still to come are these.
+abbrev pub ComeHere : List Span → Cursor → Type 0
+ComeHere spans cursor = elim cursor.rows [ None ↦ spans ≡ [] | Some rows ↦ HasSpans cursor.unit spans rows cursor.last ]
+
+-- These spans are still to come.
+pub record AreToCome (cursor : Cursor) (spans : List Span) : Type 0 where
+  pub here : List Span
+  pub later : List Span
+  pub come_here : ComeHere here cursor
+  pub come_later : ComeLater later cursor
+  pub spans_are : spans ≡ here ++ later
+
+-- The first of the spans was given, of the sequence at hand, and the others are to come; or all are those of the
+-- sequences that weren't begun.
+abbrev pub GivesHere : Cursor → List Span → Option Span → Type 0
+GivesHere new spans None = ComeLater spans new
+GivesHere new spans (Some given) = GivesFirst (AreToCome new) spans (Some given)
+
+-- What is to come are the spans of these units: they are in order, answer as the rows do at every position, tell
+-- everything, and are no fewer than so many.
+pub record GivesAllOf (dead : Option ℕ) (units : List (ℕ × Parts)) (count : ℕ) (cursor : Cursor) : Type 0 where
+  pub spans : List Span
+  pub to_come : AreToCome cursor spans
+  pub in_order : AreInOrder spans
+  pub answers : (p : Position) → span_answer spans p ≡ line_answer dead units p
+  pub whole : AreWhole spans
+  pub enough : count ≤ length spans
+
+-- ---- how many there are at most
+
+-- more than the bytes of any of the programs
+abbrev pub room_of : List Kept → ℕ
+room_of [] = 1
+room_of (kept ∷ programs) = length kept.program + room_of programs
+
+-- so much room for each of the sequences
+abbrev pub room_for : ℕ → List Extent → ℕ
+room_for room [] = 0
+room_for room (entry ∷ entries) = room + room_for room entries
+
+abbrev pub rows_here : Option SequenceWalk → ℕ
+rows_here None = 0
+rows_here (Some rows) = rows_left rows
+
+-- at most so many spans are to come
+abbrev pub most_left : Cursor → ℕ
+most_left cursor = rows_here cursor.rows + room_for (room_of cursor.programs) cursor.entries

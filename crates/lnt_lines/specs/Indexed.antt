@@ -1,0 +1,77 @@
+-- What is kept of a good section by its sequences: where each lies, the programs of the units that they are in, and the
+-- string sections.
+use Rattle.std.specs.Prelude.{◌≡◌, ◌<◌, ◌==◌, ℕ, List, length, map, get_or, Option, Some}
+use Rattle.std.specs.List.{AllByRecursion, AllZip, position, slice_get}
+use Rattle.std.specs.List.Sorted.{IsPermutation}
+use Rattle.std.specs.Option.{option_and_then, option_map, option_map_or}
+use Rattle.lnt_header.specs.declared.header.HeaderParts.{HeaderParts}
+use Rattle.lnt_unit.specs.declared.unit.Parts.{Parts}
+use Rattle.lnt_machine.specs.declared.row.Row.{Row}
+use Rattle.lnt_machine.specs.declared.row.Sequence.{Sequence}
+use Rattle.lnt_machine.specs.Matrix.{sequences}
+use Rattle.lnt_machine.specs.Walking.{Keeps, Kept}
+use Rattle.lnt_entries.specs.Paths.{listed_sum, path_bytes}
+use Rattle.lnt_entries.specs.Tables.{AreUsableTables}
+use Rattle.lnt_rows.specs.declared.extent.Extent.{Extent}
+use Rattle.lnt_rows.specs.declared.sequence.SeqId.{SeqId}
+use Rattle.lnt_rows.specs.Extents.{AreSettled, extents_of}
+use Rattle.lnt_rows.specs.Rules.{AreApart, AreOrdered}
+use Rattle.lnt_rows.specs.Sequences.{live_sequences}
+use Rattle.lnt_lines.specs.Contents.{AreRising}
+
+-- the bytes of .debug_line_str and of .debug_str, an entry for each sequence that holds something, and the offset and the
+-- program of each unit
+pub record Indexed : Type 0 where
+  pub line : List ℕ
+  pub general : List ℕ
+  pub entries : List Extent
+  pub units : List ℕ
+  pub programs : List Kept
+
+-- It is that of the live sequences of these units, whose positions never fall, and no two of which hold one position. The
+-- units stand in order, and the tables of each are usable.
+pub record IsIndexOf (dead : Option ℕ) (units : List (ℕ × Parts)) (index : Indexed) : Type 0 where
+  pub settled : AreSettled index.entries
+  pub entries : IsPermutation (extents_of (live_sequences dead units)) index.entries
+  pub apart : AreApart (live_sequences dead units)
+  pub ordered : AreOrdered (live_sequences dead units)
+  pub rising : AreRising index.units
+  pub offsets : index.units ≡ map (λ unit. unit.0) units
+  pub programs : AllZip (λ unit kept. Keeps kept unit.1) units index.programs
+  pub tables : AllByRecursion (λ unit. AreUsableTables index.line index.general unit.1.header) units
+
+-- it is that of some units
+pub record IsIndex (index : Indexed) : Type 0 where
+  pub dead : Option ℕ
+  pub units : List (ℕ × Parts)
+  pub index_is : IsIndexOf dead units index
+
+-- ---- the files of units
+
+-- the header of the unit at an offset, if one stands there
+abbrev pub header_in : Indexed → ℕ → Option HeaderParts
+header_in index unit = option_map (λ kept. kept.header) (option_and_then (slice_get index.programs) (position (λ offset. offset == unit) index.units))
+
+-- how many files it has; 0 where no unit stands there
+abbrev pub file_count_in : Indexed → ℕ → ℕ
+file_count_in index unit = option_map_or (λ header. length header.files) (header_in index unit) 0
+
+-- the path of one of its files, if that is there
+abbrev pub file_path_in : Indexed → ℕ → ℕ → Option (List ℕ)
+file_path_in index unit file = option_and_then (λ header. path_bytes index.line index.general header file) (header_in index unit)
+
+-- the MD5 sum that is listed of one of its files
+abbrev pub file_sum_in : Indexed → ℕ → ℕ → Option (List ℕ)
+file_sum_in index unit file = option_and_then (λ header. listed_sum header file) (header_in index unit)
+
+-- ---- one sequence. The bodies of this crate use it among themselves.
+
+-- The sequence with this id has these rows: of these units and their programs.
+pub record IsSequenceIn (units : List ℕ) (programs : List Kept) (id : SeqId) (rows : List Row) : Type 0 where
+  pub place : ℕ
+  pub unit : Parts
+  pub place_is : Some place ≡ position (λ offset. offset == id.unit) units
+  pub within : place < length programs
+  pub keeps : (d : Kept) → Keeps (get_or programs place d) unit
+  pub few : id.index < length (sequences unit)
+  pub rows_are : (d : Sequence) → rows ≡ (get_or (sequences unit) id.index d).rows

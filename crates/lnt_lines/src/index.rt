@@ -1,0 +1,193 @@
+//! What a good section answers, with its rows decoded again where they are asked for.
+ghost use Rattle.std.specs.Prelude.{◌≡◌, ◌+◌, ◌-◌, ◌^◌, ◌<◌, ◌≤◌, ℕ, List, length, Option, IfNone, IfOk, IfErr, IfSome, IsSomeAnd};
+ghost use Rattle.std.specs.List.{All, AllZip};
+ghost use Rattle.std.specs.Option.{option_copied, option_map};
+ghost use Rattle.lnt_unit.specs.declared.unit.Parts.{Parts};
+ghost use Rattle.lnt_machine.specs.declared.row.Row.{Row};
+ghost use Rattle.lnt_machine.specs.Walking.{WillGive};
+ghost use Rattle.lnt_entries.specs.Files.{AreFilesOf};
+ghost use Rattle.lnt_entries.specs.Tables.{AreUsableTables};
+ghost use Rattle.lnt_rows.specs.Sequences.{line_answer};
+ghost use Rattle.lnt_rows.specs.Spanning.{rows_left};
+ghost use Rattle.lnt_lines.specs.declared.stop.Stop.TheVariants.{Memory};
+ghost use Rattle.lnt_lines.specs.Contents.{AreRising, TellsOf};
+ghost use Rattle.lnt_lines.specs.Cursors.{GivesAllOf, room_of};
+ghost use Rattle.lnt_lines.specs.Indexed.{IsIndex, IsIndexOf, IsSequenceIn, file_count_in, file_path_in, file_sum_in, header_in};
+
+use crate::lines::place_of;
+use crate::spans::Spans;
+use crate::stop::Stop;
+use lnt_entries::{Files, file_count, listed, path_of};
+use lnt_machine::{Program, SequenceRows};
+use lnt_rows::laws::holder_answers;
+use lnt_rows::{Extent, SeqId, answer_at, holder};
+use lnt_spans::{Answer, Position, Probes};
+use lnt_unit::Header;
+use lnt_wire::Strings;
+use std::alloc::{AllocError, Global};
+use std::marker::Model;
+
+/// The sequences of a good section, in order, and the programs of its units, with the strings of its files. It keeps no
+/// row, no span and no path.
+///
+/// A unit is named by its offset in the section, and its files count from 0. Contracts say of which units it is
+/// (`IsIndexOf`).
+#[derive(Drop)]
+pub struct Index<'a> {
+    strings: Strings<'a>,
+    entries: Vec<Extent>,
+    units: Vec<u64>,
+    programs: Vec<Program>,
+}
+
+impl<'a> Model for Index<'a> {
+    ghost use Rattle.lnt_lines.specs.Indexed.{Indexed, IsIndex};
+
+    ghost Value = { Indexed };
+
+    ghost view = { λ i. record { line = i.strings.line.now; general = i.strings.general.now; entries = i.entries.items; units = i.units.items; programs = i.programs.items } };
+
+    ghost invariant = { λ i. IsIndex (record { line = i.strings.line.now; general = i.strings.general.now; entries = i.entries.items; units = i.units.items; programs = i.programs.items }) };
+}
+
+impl<'a> Index<'a> {
+    // The index of entries in order, and of units with their programs, whose strings are these.
+    pub(crate) fn of(
+        strings: &Strings<'a>,
+        entries: Vec<Extent>,
+        units: Vec<u64>,
+        programs: Vec<Program>,
+    ) -> Index<'a>
+        requires { IsIndex (record { line = strings.now.line.now; general = strings.now.general.now; entries = entries.items; units = units.items; programs = programs.items }) }
+        ensures { result ≡ record { line = strings.now.line.now; general = strings.now.general.now; entries = entries.items; units = units.items; programs = programs.items } }
+    {
+        Index {
+            strings: *strings,
+            entries,
+            units,
+            programs,
+        }
+    }
+
+    /// What is answered at the position: what the last row says that isn't above it, in the live sequence that holds it;
+    /// none where none does. The rows of that sequence are decoded, and no others. It takes no memory.
+    ///
+    /// It compares the position with at most as many sequences as the number of those that hold anything has binary
+    /// digits: `probes` rises by the comparisons. The caller sees to it that `probes` stands at 2^63 or below.
+    pub fn lookup(&self, position: Position, probes: &mut Probes) -> Option<Answer>
+        requires { probes.old ≤ 2 ^ 63 }
+        ensures answer { (dead : Option ℕ) (units : List (ℕ × Parts)) → IsIndexOf dead units self.now → result ≡ line_answer dead units position }
+        ensures rises { probes.old ≤ probes.new }
+        ensures counted { (digits : ℕ) → length self.now.entries < 2 ^ digits → probes.new ≤ probes.old + digits }
+    {
+        holder_answers();
+        let Some(extent) = holder(&self.entries, position, probes) else {
+            return None;
+        };
+        let Some(rows) = rows_of(&self.units, &self.programs, extent.id) else {
+            return None;
+        };
+        answer_at(extent.id.unit, rows, position)
+    }
+
+    /// All spans, one after another: one for each two rows of a live sequence that follow one another at different
+    /// positions. They are in order, none is empty, and each answer tells the instruction set and the discriminator too.
+    /// A sequence is decoded where its spans come next, and there are no fewer spans than sequences that hold anything. It
+    /// takes no memory.
+    pub fn spans(&self) -> Spans<'_>
+        ensures is_index { IsIndex self.now }
+        ensures gives { (dead : Option ℕ) (units : List (ℕ × Parts)) → IsIndexOf dead units self.now → GivesAllOf dead units (length self.now.entries) result }
+    {
+        lnt_rows::laws::entries_in_turn();
+        Spans::of(&self.units, &self.programs, &self.entries)
+    }
+
+    /// The offsets of the units, in order.
+    pub fn units(&self) -> &[u64]
+        ensures { result.now ≡ self.now.units }
+    {
+        self.units.as_slice()
+    }
+
+    /// How many files the unit at this offset has; 0 where no unit stands there. It takes no memory.
+    pub fn file_count(&self, unit: u64) -> u64
+        ensures { result ≡ file_count_in self.now unit }
+    {
+        match self.header_of(unit) {
+            Some(header) => file_count(header),
+            None => 0,
+        }
+    }
+
+    /// The MD5 sum that is listed of the file of the unit at this offset. None where it lists none, or the file or the
+    /// unit isn't there. It takes no memory.
+    pub fn listed(&self, unit: u64, file: u64) -> Option<[u8; 16]>
+        ensures { result ≡ file_sum_in self.now unit file }
+    {
+        listed(self.header_of(unit)?, file)
+    }
+
+    /// The whole path of the file of the unit at this offset, made of its texts. None exactly where the file or the unit
+    /// isn't there. It refuses only where memory runs out.
+    pub fn path_of(&self, alloc: Global, unit: u64, file: u64) -> Result<Option<Vec<u8>>, Stop>
+        ensures path { IfOk result (λ path. option_map (λ path. path.items) path ≡ file_path_in self.now unit file) }
+        ensures err { IfErr result (λ stop. stop ≡ Memory) }
+    {
+        let Some(header) = self.header_of(unit) else {
+            return Ok(None);
+        };
+        match path_of(alloc, header, &self.strings, file) {
+            Ok(path) => Ok(path),
+            Err(_) => Err(Stop::Memory),
+        }
+    }
+
+    // The files of each unit, with their whole paths.
+    pub(crate) fn files(&self, alloc: Global) -> Result<Vec<Files>, AllocError>
+        ensures { IfOk result (λ all. AllZip (λ kept files. AreFilesOf self.now.line self.now.general kept.header files) self.now.programs all.items) }
+    {
+        files_of(alloc, &self.programs, &self.strings)
+    }
+
+    // The header of the unit at an offset. Its tables are usable.
+    fn header_of(&self, unit: u64) -> Option<&Header>
+        ensures header { option_copied result ≡ header_in self.now unit }
+        ensures usable { IfSome result (λ header. AreUsableTables self.now.line self.now.general header.now) }
+    {
+        let place = place_of(&self.units, unit)?;
+        let program = self.programs.get(place)?;
+        Some(program.header())
+    }
+}
+
+// The files of the headers of programs.
+fn files_of(
+    alloc: Global,
+    programs: &[Program],
+    strings: &Strings<'_>,
+) -> Result<Vec<Files>, AllocError>
+    requires { All (λ kept. AreUsableTables strings.now.line.now strings.now.general.now kept.header) programs.now }
+    ensures { IfOk result (λ all. AllZip (λ kept files. AreFilesOf strings.now.line.now strings.now.general.now kept.header files) programs.now all.items) }
+{
+    let mut all = Vec::new(alloc);
+    for program in programs {
+        all.push(Files::of(alloc, program.header(), strings)?)?;
+    }
+    Ok(all)
+}
+
+// The rows of the sequence with an id.
+#[inline(always)]
+pub(crate) fn rows_of<'p>(
+    units: &[u64],
+    programs: &'p [Program],
+    id: SeqId,
+) -> Option<SequenceRows<'p>>
+    requires { AreRising units.now }
+    ensures left { IfSome result (λ walk. rows_left walk < room_of programs.now) }
+    ensures rows { (rows : List Row) → IsSequenceIn units.now programs.now id rows → IsSomeAnd result (WillGive rows) }
+{
+    let place = place_of(units, id.unit)?;
+    let program = programs.get(place)?;
+    program.sequence(id.index as usize)
+}

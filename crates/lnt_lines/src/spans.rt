@@ -1,0 +1,104 @@
+//! All spans of an index, one after another.
+ghost use Rattle.std.specs.Prelude.{◌≡◌, ◌<◌, ◌≤◌, ℕ, List, [], None, IfSome, MatchOption, true};
+ghost use Rattle.std.specs.Bool.{MatchBool};
+ghost use Rattle.lnt_spans.specs.declared.span.Span as spec;
+ghost use Rattle.lnt_spans.specs.Coming.{GivesFirst};
+ghost use Rattle.lnt_lines.specs.Contents.{AreRising};
+ghost use Rattle.lnt_lines.specs.Cursors.{AreToCome, ComeLater, GivesHere, most_left, room_for, room_of};
+
+use crate::index::rows_of;
+use lnt_machine::{Program, Row, SequenceRows};
+use lnt_rows::{Extent, next_span};
+use lnt_spans::{Span, SpanSource};
+use std::marker::Model;
+
+/// The spans of an index, in order. It holds one sequence at a time, which it decodes where its spans come next.
+///
+/// Contracts see how far it has come (`Cursor`), and say which spans are still to come (`AreToCome`).
+#[derive(Drop)]
+pub struct Spans<'a> {
+    units: &'a [u64],
+    programs: &'a [Program],
+    // those of the sequences that weren't begun
+    entries: &'a [Extent],
+    // the unit of the sequence at hand, its rows that are left, and the last one so far
+    unit: u64,
+    rows: Option<SequenceRows<'a>>,
+    last: Option<Row>,
+}
+
+impl<'a> Model for Spans<'a> {
+    ghost use Rattle.lnt_lines.specs.Contents.{AreRising};
+    ghost use Rattle.lnt_lines.specs.Cursors.{Cursor};
+
+    ghost Value = { Cursor };
+
+    ghost view = { λ s. record { units = s.units.now; programs = s.programs.now; entries = s.entries.now; unit = s.unit; rows = s.rows; last = s.last } };
+
+    ghost invariant = { λ s. AreRising s.units.now };
+}
+
+impl<'a> Spans<'a> {
+    // The spans of the sequences that these entries are of, in this order.
+    pub(crate) fn of(units: &'a [u64], programs: &'a [Program], entries: &'a [Extent]) -> Spans<'a>
+        requires { AreRising units.now }
+        ensures { result ≡ record { units = units.entry.now; programs = programs.entry.now; entries = entries.entry.now; unit = 0; rows = None; last = None } }
+    {
+        Spans {
+            units,
+            programs,
+            entries,
+            unit: 0,
+            rows: None,
+            last: None,
+        }
+    }
+
+    // The next span of the sequence at hand.
+    #[inline(always)]
+    fn next_here(&mut self) -> Option<Span>
+        ensures same { (self.new.units ≡ self.old.units) × (self.new.programs ≡ self.old.programs) × (self.new.entries ≡ self.old.entries) }
+        ensures fewer { IfSome result (λ _. most_left self.new < most_left self.old) }
+        ensures gives { (spans : List spec.Span) → AreToCome self.old spans → GivesHere self.new spans result }
+    {
+        let Some(rows) = &mut self.rows else {
+            return None;
+        };
+        next_span(self.unit, rows, &mut self.last)
+    }
+
+    // Begins the next sequence, if there is one.
+    fn begin(&mut self) -> bool
+        ensures same { (self.new.units ≡ self.old.units) × (self.new.programs ≡ self.old.programs) }
+        ensures fewer { result ≡ true → most_left self.new < room_for (room_of self.old.programs) self.old.entries }
+        ensures begins { (spans : List spec.Span) → ComeLater spans self.old → MatchBool result (AreToCome self.new spans) (spans ≡ []) }
+    {
+        let Some((entry, entries)) = self.entries.split_first() else {
+            return false;
+        };
+        self.entries = entries;
+        self.unit = entry.id.unit;
+        self.rows = rows_of(self.units, self.programs, entry.id);
+        self.last = None;
+        true
+    }
+}
+
+impl<'a> SpanSource for Spans<'a> {
+    ghost to_come = { AreToCome };
+
+    ghost left = { most_left };
+
+    #[inline(always)]
+    fn next_span(&mut self) -> Option<Span> {
+        if let Some(span) = self.next_here() {
+            return Some(span);
+        }
+        while self.begin() {
+            if let Some(span) = self.next_here() {
+                return Some(span);
+            }
+        }
+        None
+    }
+}

@@ -1,0 +1,34 @@
+-- Programs in parts, each of whole sequences (DWARF 5, section 6.2.5): what an operation does looks back no further than
+-- to the last EndSequence.
+use Rattle.std.specs.Prelude.{◌≡◌, cond, List, [], ◌∷◌, ◌++◌, reverse}
+use Rattle.lnt_header.specs.declared.header.HeaderParts.{HeaderParts}
+use Rattle.lnt_header.specs.declared.op.Op.{Op}
+use Rattle.lnt_header.specs.declared.op.Op.TheVariants.{EndSequence}
+use Rattle.lnt_machine.specs.declared.row.Row.{Row}
+use Rattle.lnt_machine.specs.Matrix.{rows_behind, sequences_of}
+
+-- After the operations of `back`, the newest first, a sequence begins: there are none, or the newest is an EndSequence.
+abbrev pub AtStart : List Op → Type 0
+AtStart [] = Unit {0}
+AtStart (EndSequence ∷ back) = Unit {0}
+AtStart (op ∷ back) = ⊥
+
+-- the operations of whole sequences: there are none, or the last is an EndSequence
+abbrev pub AreWhole : List Op → Type 0
+AreWhole ops = AtStart (reverse ops)
+
+-- the rows of operations, by this header
+abbrev pub rows_of_ops : HeaderParts → List Op → List Row
+rows_of_ops h ops = rows_behind h [] ops
+
+-- the rows of the first sequence of some rows: up to the first end row, and with it
+abbrev pub first_sequence : List Row → List Row
+first_sequence [] = []
+first_sequence (row ∷ rows) = row ∷ cond row.end_sequence [] (first_sequence rows)
+
+-- The rows of a program of which a front is of whole sequences are the rows of that front, and then those of the rest as
+-- of a program of its own. So are its sequences.
+pub record RowsOfParts : Type 0 where
+  pub rows : (h : HeaderParts) (front rest : List Op) → AreWhole front → rows_of_ops h (front ++ rest) ≡ rows_of_ops h front ++ rows_of_ops h rest
+  pub sequences : (h : HeaderParts) (front rest : List Op) → AreWhole front
+      → sequences_of (rows_of_ops h (front ++ rest)) ≡ sequences_of (rows_of_ops h front) ++ sequences_of (rows_of_ops h rest)

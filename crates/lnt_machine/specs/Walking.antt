@@ -1,0 +1,109 @@
+-- Rows that a machine makes of the operations which a walk has before it, and the rows of one sequence.
+use Rattle.std.specs.Prelude.{◌≡◌, ℕ, ◌<◌, Bool, true, false, List, [], ◌∷◌, ◌++◌, length, reverse, slice_index_or, Option, Some, None}
+use Rattle.lnt_header.specs.declared.header.HeaderParts.{HeaderParts}
+use Rattle.lnt_header.specs.declared.op.Op.{Op}
+use Rattle.lnt_header.specs.HeaderRules.{IsHeader}
+use Rattle.lnt_header.specs.Joins.{Each}
+use Rattle.lnt_ops.specs.Left.{IsLeft, IsPlace}
+use Rattle.lnt_ops.specs.OpBytes.{OpBytes}
+use Rattle.lnt_ops.specs.Walks.{Walk}
+use Rattle.lnt_unit.specs.declared.unit.Parts.{Parts}
+use Rattle.lnt_machine.specs.declared.row.Row.{Row}
+use Rattle.lnt_machine.specs.Matrix.{rows_behind, sequences, sequences_of}
+use Rattle.lnt_machine.specs.Parts.{AtStart, first_sequence, rows_of_ops}
+use Rattle.lnt_machine.specs.Registers.{IsLine, line}
+use Rattle.lnt_machine.specs.State.{StandsAfter, State}
+
+-- the line is in range after each of the operations that come after `back`
+abbrev pub LinesAfter : HeaderParts → List Op → List Op → Type 0
+LinesAfter h back [] = Unit {0}
+LinesAfter h back (op ∷ ops) = IsLine (line h (op ∷ back)) × LinesAfter h (op ∷ back) ops
+
+-- A machine and a walk stand between operations of a program, and these rows are still to come.
+pub record HasRows (h : HeaderParts) (rows : List Row) (machine : State) (walk : Walk) : Type 0 where
+  pub back : List Op
+  pub later : List Op
+  pub valid : IsHeader h
+  pub header_is : machine.header ≡ h
+  pub stands : StandsAfter machine back
+  pub left : IsLeft h later walk
+  pub lines : LinesAfter h back later
+  pub rows_are : rows ≡ rows_behind h back later
+
+-- The first of the rows was made, and the others are to come; or there is none.
+abbrev pub GivesNext : HeaderParts → List Row → Option Row → State → Walk → Type 0
+GivesNext h [] None machine walk = Unit {0}
+GivesNext h (row ∷ rows) (Some made) machine walk = (made ≡ row) × HasRows h rows machine walk
+GivesNext h _ _ machine walk = ⊥
+
+-- ---- the rows of one sequence
+
+-- a machine, a walk, and whether the sequence has ended
+pub record SequenceWalk : Type 0 where
+  pub machine : State
+  pub walk : Walk
+  pub ended : Bool
+
+-- These rows are still to come: those up to the next end row, and with it.
+pub data WillGive (rows : List Row) (walk : SequenceWalk) : Type 0 where
+  none : walk.ended ≡ true → rows ≡ [] → WillGive rows walk
+  some : (h : HeaderParts) (all : List Row) → walk.ended ≡ false → HasRows h all walk.machine walk.walk → rows ≡ first_sequence all → WillGive rows walk
+
+abbrev pub GivesFirst : List Row → Option Row → SequenceWalk → Type 0
+GivesFirst [] None new = WillGive [] new
+GivesFirst (row ∷ rows) (Some made) new = (made ≡ row) × WillGive rows new
+GivesFirst _ _ new = ⊥
+
+-- Whatever rows were to come, the first of them was given; none only where there were none.
+abbrev pub GivesRow : SequenceWalk → Option Row → SequenceWalk → Type 0
+GivesRow old result new = (rows : List Row) → WillGive rows old → GivesFirst rows result new
+
+-- A sequence begins at this place of the program, after the earlier operations, and the lines of the later ones are in range.
+pub record IsSequencePlace (h : HeaderParts) (program : List ℕ) (earlier later : List Op) (place : ℕ) : Type 0 where
+  pub place_is : IsPlace h program earlier later place
+  pub start : AtStart (reverse earlier)
+  pub lines : LinesAfter h (reverse earlier) later
+
+-- ---- the places of all sequences
+
+-- A front of the program, of so many whole sequences, ends at this place.
+pub record IsFront (h : HeaderParts) (program : List ℕ) (index place : ℕ) : Type 0 where
+  pub earlier : List Op
+  pub front : List ℕ
+  pub rest : List ℕ
+  pub split : program ≡ front ++ rest
+  pub place_is : place ≡ length front
+  pub spelled : Each (OpBytes h) earlier front
+  pub start : AtStart (reverse earlier)
+  pub index_is : index ≡ length (sequences_of (rows_of_ops h earlier))
+
+-- The sequence of the unit with this index begins at this place of the program.
+pub record IsPlaceOf (unit : Parts) (program : List ℕ) (index place : ℕ) : Type 0 where
+  pub earlier : List Op
+  pub later : List Op
+  pub ops_are : unit.ops ≡ earlier ++ later
+  pub place_is : IsSequencePlace unit.header program earlier later place
+  pub index_is : index ≡ length (sequences_of (rows_of_ops unit.header earlier))
+
+-- a header, the bytes of a program, and places in it
+pub record Kept : Type 0 where
+  pub header : HeaderParts
+  pub program : List ℕ
+  pub places : List ℕ
+
+-- The program is that of the unit, and the places are those of its sequences, in order.
+pub record Keeps (kept : Kept) (unit : Parts) : Type 0 where
+  pub header_is : kept.header ≡ unit.header
+  pub count : length kept.places ≡ length (sequences unit)
+  pub places : (k d : ℕ) → k < length kept.places → IsPlaceOf unit kept.program k (slice_index_or kept.places k d)
+
+-- it is kept of some unit
+pub record IsKept (kept : Kept) : Type 0 where
+  pub unit : Parts
+  pub keeps : Keeps kept unit
+
+-- So many sequences have ended; their places are known, and that where the next one begins.
+pub record HasPlaces (h : HeaderParts) (program : List ℕ) (count : ℕ) (places : List ℕ) (place : ℕ) : Type 0 where
+  pub count_is : length places ≡ count
+  pub each : (k d : ℕ) → k < length places → IsFront h program k (slice_index_or places k d)
+  pub next : IsFront h program count place

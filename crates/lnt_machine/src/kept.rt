@@ -1,0 +1,59 @@
+//! The program of a unit that runs, kept with the places of its sequences.
+ghost use Rattle.std.specs.Prelude.{◌≡◌, ◌<◌, ◌≤◌, length, slice_index_or, IfNone, IfSome};
+ghost use Rattle.lnt_unit.specs.declared.unit.Parts.{Parts};
+ghost use Rattle.lnt_machine.specs.declared.row.Sequence as spec;
+ghost use Rattle.lnt_machine.specs.Matrix.{sequences};
+ghost use Rattle.lnt_machine.specs.Walking.{IsKept, Keeps, WillGive};
+
+use crate::walk::SequenceRows;
+use lnt_unit::Header;
+use std::marker::Model;
+
+/// The program of a unit that runs, with the place of each of its sequences.
+#[derive(Drop)]
+pub struct Program {
+    header: Header,
+    bytes: Vec<u8>,
+    places: Vec<usize>,
+}
+
+impl Model for Program {
+    ghost use Rattle.lnt_machine.specs.Walking.{IsKept, Kept};
+
+    ghost Value = { Kept };
+
+    ghost view = { λ p. record { header = p.header; program = p.bytes.items; places = p.places.items } };
+
+    ghost invariant = { λ p. IsKept (record { header = p.header; program = p.bytes.items; places = p.places.items }) };
+}
+
+impl Program {
+    /// The program of a unit, by its bytes and the places of its sequences.
+    pub fn of(header: Header, bytes: Vec<u8>, places: Vec<usize>) -> Program
+        requires { IsKept (record { header = header; program = bytes.items; places = places.items }) }
+        ensures { result ≡ record { header = header; program = bytes.items; places = places.items } }
+    {
+        Program {
+            header,
+            bytes,
+            places,
+        }
+    }
+
+    /// The header.
+    pub fn header(&self) -> &Header
+        ensures { result.now ≡ self.now.header }
+    {
+        &self.header
+    }
+
+    /// The rows of the sequence with an index, decoded where they lie. None where there are not so many. It takes no memory.
+    pub fn sequence(&self, index: usize) -> Option<SequenceRows<'_>>
+        ensures none { IfNone result (length self.now.places ≤ index) }
+        ensures left { IfSome result (λ walk. length walk.walk.at.rest ≤ length self.now.program) }
+        ensures rows { IfSome result (λ walk. (unit : Parts) (d : spec.Sequence) → Keeps self.now unit → WillGive (slice_index_or (sequences unit) index d).rows walk) }
+    {
+        let place = *self.places.get(index)?;
+        Some(SequenceRows::at(&self.header, &self.bytes, place))
+    }
+}

@@ -1,0 +1,95 @@
+//! The rows of one sequence, from the place of its first operation on.
+ghost use Rattle.std.specs.Prelude.{◌≡◌, ◌<◌, ◌≤◌, ℕ, List, length, reverse, false, IfSome, if◌then◌else◌};
+ghost use Rattle.std.specs.Iterator.{at_most};
+ghost use Rattle.lnt_header.specs.declared.header.HeaderParts.{HeaderParts};
+ghost use Rattle.lnt_header.specs.declared.op.Op.{Op};
+ghost use Rattle.lnt_machine.specs.Matrix.{rows_behind};
+ghost use Rattle.lnt_machine.specs.Parts.{first_sequence};
+ghost use Rattle.lnt_machine.specs.Walking.{GivesNext, GivesRow, HasRows, IsSequencePlace, WillGive};
+ghost use Rattle.lnt_machine.specs.declared.row.Row as spec;
+
+use crate::machine::Machine;
+use crate::row::Row;
+use lnt_unit::{Header, Ops};
+use std::marker::Model;
+
+/// The rows of one sequence of a unit whose program runs, each made of its operations where they lie.
+#[derive(Drop)]
+pub struct SequenceRows<'a> {
+    machine: Machine<'a>,
+    ops: Ops<'a>,
+    ended: bool,
+}
+
+impl<'a> Model for SequenceRows<'a> {
+    ghost use Rattle.std.specs.Prelude.{◌≡◌};
+    ghost use Rattle.lnt_machine.specs.Walking.{SequenceWalk};
+
+    ghost Value = { SequenceWalk };
+
+    ghost view = { λ s. record { machine = s.machine; walk = s.ops; ended = s.ended } };
+
+    ghost invariant = { λ s. s.machine.header ≡ s.ops.header };
+}
+
+impl<'a> SequenceRows<'a> {
+    /// The rows of the sequence that begins at a place of the program, after so many bytes. It takes no memory.
+    ///
+    /// They are the rows of the operations from there on, up to the first end row and with it.
+    pub fn at(header: &'a Header, program: &'a [u8], place: usize) -> SequenceRows<'a>
+        requires within { place ≤ length program.now }
+        ensures left { length result.walk.at.rest ≤ length program.entry.now }
+        ensures rows { (earlier later : List Op) → IsSequencePlace header.entry.now program.entry.now earlier later place
+            → WillGive (first_sequence (rows_behind header.entry.now (reverse earlier) later)) result }
+    {
+        SequenceRows {
+            machine: Machine::new(header),
+            ops: Ops::after(header, program, 0, place),
+            ended: false,
+        }
+    }
+}
+
+impl<'a> Iterator for SequenceRows<'a> {
+    type Item = Row;
+
+    ghost next_gives = { GivesRow };
+
+    ghost remaining = { λ s. at_most (if s.ended then 0 else length s.walk.at.rest) };
+
+    #[inline(always)]
+    fn next(&mut self) -> Option<Row> {
+        if self.ended {
+            return None;
+        }
+        let row = next_row(&mut self.machine, &mut self.ops);
+        self.ended = match &row {
+            Some(row) => row.end_sequence,
+            None => true,
+        };
+        row
+    }
+}
+
+// The next row that the machine makes of the operations.
+#[tactic(auto, using(crate::proofs::WalkingLemmas::may_step))]
+#[inline(always)]
+fn next_row(machine: &mut Machine<'_>, ops: &mut Ops<'_>) -> Option<Row>
+    requires { machine.old.header ≡ ops.old.header }
+    ensures same { machine.new.header ≡ ops.new.header }
+    ensures shorter { IfSome result (λ row. length ops.new.at.rest < length ops.old.at.rest) }
+    ensures gives { (h : HeaderParts) (rows : List spec.Row) → HasRows h rows machine.old ops.old → GivesNext h rows result machine.new ops.new }
+{
+    while let Some(op) = ops.next() {
+        let Ok(op) = op else {
+            return None;
+        };
+        let Ok(made) = machine.step(&op) else {
+            return None;
+        };
+        if let Some(row) = made {
+            return Some(row);
+        }
+    }
+    None
+}

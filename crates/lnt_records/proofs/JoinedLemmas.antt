@@ -1,0 +1,91 @@
+-- Spans that come one by one, joined and written.
+use Rattle.std.proofs.Common.{◌≡◌, ◌∙◌, ℕ, List, [], ◌∷◌, ◌++◌, Option, Some, None, sym, ap, subst}
+use Rattle.std.specs.Prelude.{IfSome}
+use Rattle.std.specs.List.{All, AllByRecursion, cons_option}
+use Rattle.std.specs.Io.KnownBytes.{Appends}
+use Rattle.std.proofs.lemmas.List.{append-nil}
+use Rattle.std.proofs.lemmas.List.Elements.{All-cons, All-head, All-nil, All-tail}
+use Rattle.lnt_spans.specs.declared.answer.Version.{Version}
+use Rattle.lnt_spans.specs.declared.position.Position.{Position}
+use Rattle.lnt_spans.specs.declared.span.Span.{Span}
+use Rattle.lnt_spans.specs.Joined.{HasJoined}
+use Rattle.lnt_spans.specs.Laws.Answering.{front_in_order}
+use Rattle.lnt_spans.specs.Laws.Coming.{HasGiven}
+use Rattle.lnt_spans.specs.Spans.{AreInOrder, IsCanonical, span_answer, version_answer}
+use Rattle.lnt_records.specs.Laws.Versions.{answers_of_version}
+use Rattle.lnt_records.specs.Written.{IsCanonicalTable, IsOfVersion, TellsAll}
+use Rattle.lnt_records.proofs.WriteLemmas.{Lines, lines_done}
+
+-- ---- answers of the version
+
+of_all : {X : Type 0} (P : X → Type 0) (xs : List X) → All P xs → AllByRecursion P xs
+of_all P [] h = tt
+of_all P (x ∷ xs) h = (All-head P x xs h, of_all P xs (All-tail P x xs h))
+
+all_left : {X : Type 0} (P : X → Type 0) (xs ys : List X) → AllByRecursion P (xs ++ ys) → AllByRecursion P xs
+all_left P [] ys h = tt
+all_left P (x ∷ xs) ys h = (h.0, all_left P xs ys h.1)
+
+all_right : {X : Type 0} (P : X → Type 0) (xs ys : List X) → AllByRecursion P (xs ++ ys) → AllByRecursion P ys
+all_right P [] ys h = h
+all_right P (x ∷ xs) ys h = all_right P xs ys h.1
+
+abbrev pub HasVersion : Version → Span → Type 0
+HasVersion version span = IsOfVersion version span.answer
+
+to_all : {X : Type 0} (P : X → Type 0) (xs : List X) → AllByRecursion P xs → All P xs
+to_all P [] h = All-nil P
+to_all P (x ∷ xs) h = All-cons P x xs h.0 (to_all P xs h.1)
+
+joined_of_version : (version : Version) (pushed given : List Span) (last : Option Span) → HasJoined version pushed given last → AreInOrder pushed → AllByRecursion TellsAll pushed
+    → AllByRecursion (HasVersion version) (given ++ cons_option last [])
+joined_of_version version pushed given None joined order tells = rw joined.1 tt
+joined_of_version version pushed given (Some last) joined order tells =
+    let all : AreInOrder (pushed ++ []) = subst AreInOrder (sym (append-nil pushed)) order in
+    of_all (HasVersion version) (given ++ last ∷ [])
+    (answers_of_version version pushed (given ++ last ∷ []) (joined.order [] all) (λ p. joined.same [] all p ∙ ap (λ (list : List Span). version_answer version list p) (append-nil pushed)) (to_all TellsAll pushed tells))
+
+last_of_version : (version : Version) (given : List Span) (one : Option Span) → AllByRecursion (HasVersion version) (given ++ cons_option one []) → IfSome one (HasVersion version)
+last_of_version version given None h = tt
+last_of_version version given (Some one) h = (all_right (HasVersion version) given (one ∷ []) h).0
+
+-- what the end of a joiner says
+abbrev pub AreGiven : Version → List Span → List Span → Type 0
+AreGiven version pushed given = IsCanonical given × ((p : Position) → span_answer given p ≡ version_answer version pushed p)
+
+-- What is known of the spans to come, so that each that is joined may be written.
+pub record AreTold (list : List Span) : Type 0 where
+  pub order : AreInOrder list
+  pub tells : AllByRecursion TellsAll list
+
+front_told : (list pushed : List Span) (AreLeft : List Span → Type 0) → AreTold list → HasGiven list pushed AreLeft → AreTold pushed
+front_told list pushed AreLeft told h = record {
+  order = front_in_order pushed h.rest (subst AreInOrder h.list_is told.order);
+  tells = all_left TellsAll pushed h.rest (subst (AllByRecursion TellsAll) h.list_is told.tells);
+}
+
+-- the one that a push gives
+pub given_of_version : (version : Version) (list pushed given : List Span) (one last : Option Span) (AreLeft : List Span → Type 0) → AreTold list → HasGiven list pushed AreLeft
+    → HasJoined version pushed (given ++ cons_option one []) last → IfSome one (HasVersion version)
+given_of_version version list pushed given one last AreLeft told h joined =
+    let front = front_told list pushed AreLeft told h in
+    last_of_version version given one
+    (all_left (HasVersion version) (given ++ cons_option one []) (cons_option last []) (joined_of_version version pushed (given ++ cons_option one []) last joined front.order front.tells))
+
+-- the last one
+pub rest_of_version : (version : Version) (list pushed given : List Span) (last : Option Span) (AreLeft : List Span → Type 0) → AreTold list → HasGiven list pushed AreLeft
+    → AreGiven version pushed (given ++ cons_option last []) → IfSome last (HasVersion version)
+rest_of_version version list pushed given last AreLeft told h all =
+    let front = front_told list pushed AreLeft told h in
+    last_of_version version given last
+    (of_all (HasVersion version) (given ++ cons_option last []) (answers_of_version version pushed (given ++ cons_option last []) all.0.in_order all.1 (to_all TellsAll pushed front.tells)))
+
+-- ---- all of them
+
+pub canonical_written : (version : Version) (old now new : Option (List ℕ)) (block : List ℕ) (written : List Span) (known : List Span) (IsGiven : List Span → Type 0) → IsGiven known → AreInOrder known
+    → ((list : List Span) → IsGiven list → AreInOrder list → AreGiven version list written)
+    → Lines version old now block written → Appends now new block
+    → (bytes : List ℕ) × Appends old new bytes × ((list : List Span) → IsGiven list → AreInOrder list → IsCanonicalTable version list bytes)
+canonical_written version old now new block written known IsGiven given order canonical l more =
+    let all = lines_done version old now new block written (canonical known given order).0.in_order l more in
+    (all.0, all.1, λ list is o. record { spans = written; canonical = (canonical list is o).0; same = (canonical list is o).1; written = all.2 })

@@ -1,0 +1,57 @@
+//! The table of canonical spans, written as the spans come.
+ghost use Rattle.std.specs.Prelude.{ℕ, List, [], IfSome, OnOk};
+ghost use Rattle.std.specs.Io.KnownBytes.{Appends};
+ghost use Rattle.std.specs.List.{AllByRecursion, cons_option};
+ghost use Rattle.lnt_spans.specs.declared.answer.Version.{Version};
+ghost use Rattle.lnt_spans.specs.declared.span.Span as spec;
+ghost use Rattle.lnt_spans.specs.Spans.{AreInOrder};
+ghost use Rattle.lnt_records.specs.Written.{AddsRecords, IsCanonicalTable, IsOfVersion, TellsAll};
+
+use crate::fault::WriteStop;
+use crate::write::{put_header, put_span, send, send_full};
+use lnt_spans::{Joiner, Span, SpanSource, Version};
+use std::alloc::{AllocError, Global};
+use std::io::Write;
+
+/// Writes the table of spans that come from a source, block by block, as they come. Those that touch and answer the same,
+/// as the version tells answers, are joined first.
+///
+/// Where it answers Ok, the writer has gained bytes that are a table of exactly the canonical spans, which is the one
+/// shortest table that answers as the spans do, as far as the version tells. Each record is on a line of its own, as
+/// `write_spans` writes it. No span is kept but one.
+///
+/// The caller sees to it that the spans are in order, that none is empty, and that each answer tells an instruction set
+/// and a discriminator. It stops as `write_spans`.
+pub fn write_canonical<S: SpanSource + Drop, W: Write>(
+    alloc: Global,
+    spans: S,
+    version: Version,
+    out: &mut W,
+) -> Result<(), WriteStop>
+    requires { (list : List spec.Span) × S.to_come spans list × AreInOrder list × AllByRecursion TellsAll list }
+    ensures { OnOk result ((bytes : List ℕ) × Appends (W.contents out.old) (W.contents out.new) bytes
+        × ((list : List spec.Span) → S.to_come spans list → AreInOrder list → IsCanonicalTable version list bytes)) }
+{
+    let mut spans = spans;
+    let mut joiner = Joiner::new(version);
+    let mut block = Vec::new(alloc);
+    put_header(&mut block, version)?;
+    while let Some(span) = spans.next_span() {
+        let joined = joiner.push(&span);
+        put_some(&mut block, joined)?;
+        send_full(&mut block, out)?;
+    }
+    put_some(&mut block, joiner.finish())?;
+    send(&mut block, out)
+}
+
+// Adds the line of a span, if there is one.
+#[inline(always)]
+fn put_some(block: &mut Vec<u8>, span: Option<Span>) -> Result<(), AllocError>
+    ensures { (version : Version) → IfSome span (λ span. IsOfVersion version span.answer) → OnOk result (AddsRecords version (cons_option span []) block.old.items block.new.items) }
+{
+    match &span {
+        Some(span) => put_span(block, span),
+        None => Ok(()),
+    }
+}

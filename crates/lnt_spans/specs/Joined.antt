@@ -1,0 +1,17 @@
+-- Spans joined as they come, one after another.
+use Rattle.std.specs.Prelude.{◌≡◌, List, [], ◌∷◌, ◌++◌, map, Option, Some, None}
+use Rattle.lnt_spans.specs.declared.answer.Version.{Version}
+use Rattle.lnt_spans.specs.declared.position.Position.{Position}
+use Rattle.lnt_spans.specs.declared.span.Span.{Span}
+use Rattle.lnt_spans.specs.Spans.{AreInOrder, DifferWhereTheyTouch, span_answer, span_in_version, version_answer}
+
+-- What was given of the spans that were pushed, with the last one, which may still grow: whatever spans are pushed after
+-- them in order, these with those are in order, and answer as all of them do; and none that touch answer the same.
+pub record IsJoined (version : Version) (pushed given : List Span) (last : Span) : Type 0 where
+  pub differ : DifferWhereTheyTouch (given ++ last ∷ [])
+  pub order : (rest : List Span) → AreInOrder (pushed ++ rest) → AreInOrder (given ++ last ∷ map (span_in_version version) rest)
+  pub same : (rest : List Span) → AreInOrder (pushed ++ rest) → (p : Position) → span_answer (given ++ last ∷ map (span_in_version version) rest) p ≡ version_answer version (pushed ++ rest) p
+
+abbrev pub HasJoined : Version → List Span → List Span → Option Span → Type 0
+HasJoined version pushed given None = (pushed ≡ []) × (given ≡ [])
+HasJoined version pushed given (Some last) = IsJoined version pushed given last

@@ -1,0 +1,34 @@
+//! The next of the spans that a source gives, before it is taken.
+ghost use Rattle.std.specs.Prelude.{List, ◌∷◌, ◌<◌, IsSome};
+ghost use Rattle.lnt_spans.specs.declared.span.Span as spec;
+ghost use Rattle.lnt_spans.specs.Ahead.{IsAhead, count_ahead};
+
+use crate::source::SpanSource;
+use crate::span::Span;
+
+// Spans of a source, and the first of them at hand.
+#[derive(Drop)]
+pub(crate) struct Ahead<S> {
+    pub(crate) next: Option<Span>,
+    pub(crate) spans: S,
+}
+
+impl<S: SpanSource> Ahead<S> {
+    // All spans of the source.
+    pub(crate) fn of(mut spans: S) -> Ahead<S>
+        ensures { (list : List spec.Span) → S.to_come spans list → IsAhead S.to_come result list }
+    {
+        let next = spans.next_span();
+        Ahead { next, spans }
+    }
+
+    // Goes on past the first one.
+    #[inline(always)]
+    pub(crate) fn pass(&mut self)
+        requires { IsSome self.old.next }
+        ensures passed { (span : spec.Span) (more : List spec.Span) → IsAhead S.to_come self.old (span ∷ more) → IsAhead S.to_come self.new more }
+        ensures fewer { count_ahead self.new.next (S.left self.new.spans) < count_ahead self.old.next (S.left self.old.spans) }
+    {
+        self.next = self.spans.next_span();
+    }
+}

@@ -1,0 +1,28 @@
+use Rattle.std.proofs.Common.{◌∙◌}
+use Rattle.std.proofs.lemmas.Result.{on_ok_weaker}
+use Rattle.lnt_table.proofs.CheckLemmas.{told_so}
+use Rattle.lnt_table.proofs.write.write_index.Goals as goal
+
+pub write_canonical-requires : goal.write_canonical-requires
+write_canonical-requires g c =
+    let known = c.spans.ensures.is_index in
+    let all = c.spans.ensures.gives known.dead known.units known.index_is in
+    (all.spans, all.to_come, all.in_order, all.whole)
+
+pub returns : goal.returns
+returns g c =
+    on_ok_weaker c.write_canonical.result
+    (λ done. (
+      done.0,
+      done.1,
+      λ dead units is.
+          let all = c.spans.ensures.gives dead units is in
+          let table = done.2 all.spans all.to_come all.in_order in
+          record {
+            spans = table.spans;
+            canonical = table.canonical;
+            same = λ p. table.same p ∙ told_so c.args.version dead units all.spans all.answers p;
+            written = table.written;
+          },
+    ))
+    c.write_canonical.ensures
