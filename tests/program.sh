@@ -24,11 +24,20 @@ expect 'a cut second unit' 1 $'0x0 32 156\nno 25 malformed at 0xa0: truncated\n'
 expect 'a reserved length' 1 $'no 25 malformed at 0x0: reserved length\n' '' ./linetab units "$work/reserved"
 
 stop 'no such file' 3 $'linetab: cannot read no such file\n' ./linetab units 'no such file'
+stop 'a name with an escape' 3 $'linetab: cannot read "no\\x1b[31m"\n' ./linetab units $'no\e[31m'
+stop 'a bad word with an escape' 2 $'linetab: bad word "0x\\x1b[31m"\n' ./linetab lookup examples/hello.debug_line $'0x\e[31m'
+stop 'an unknown option with an escape' 2 $'error: unexpected argument \'--\\x1b[31m\' found\n\n  tip: to pass \'--\\x1b[31m\' as a value, use \'-- --\\x1b[31m\'\n'"$usage" ./linetab units $'--\e[31m' x
 stop 'a folder' 3 $'linetab: cannot read tests\n' ./linetab units tests
 stop 'closed standard input' 3 $'linetab: cannot read -\n' bash -c './linetab units - <&-'
+stop 'closed standard input and a table' 3 $'linetab: cannot read -\n' bash -c './linetab check - examples/hello.csv --line-str examples/hello.debug_line_str <&-'
+stop 'closed standard input and strings' 3 $'linetab: cannot read -\n' bash -c './linetab lookup - 0x1137 --line-str examples/hello.debug_line_str <&-'
+stop 'closed standard streams' 3 '' bash -c './linetab check - examples/hello.csv --line-str examples/hello.debug_line_str <&- >&- 2>&-'
 stop 'a full device' 3 $'linetab: cannot write\n' bash -c './linetab units examples/hello.debug_line >/dev/full'
 stop 'a closed standard output' 3 $'linetab: cannot write\n' bash -c './linetab units examples/hello.debug_line >&-'
 stop 'a closed pipe' 3 $'linetab: cannot write\n' bash -c '{ sleep 0.2; ./linetab units examples/hello.debug_line; echo $? >"$0/status"; } | true; exit "$(cat "$0/status")"' "$work"
+expect 'a stack of 100 kB' 0 $'yes\n' '' bash -c 'ulimit -s 100; exec crates/linetab/out/linetab check examples/hello.debug_line examples/hello.csv --line-str examples/hello.debug_line_str'
+# The limit holds for the file that standard error goes to as well.
+stop 'a file size of no bytes' 3 '' bash -c 'trap "" XFSZ; ulimit -f 0; crates/linetab/out/linetab units examples/hello.debug_line >"$0/none"' "$work"
 stop 'an option twice' 2 $'error: the argument \'--big\' cannot be used multiple times\n'"$usage" ./linetab units - --big --big
 stop 'an unknown option' 2 $'error: unexpected argument \'--bog\' found\n\n  tip: a similar argument exists: \'--big\'\n\nUsage: linetab units --big <SECTION>\n\nFor more information, try \'--help\'.\n' ./linetab units --bog x
 stop 'a second section' 2 $'error: unexpected argument \'y\' found\n'"$usage" ./linetab units x y

@@ -8,9 +8,10 @@ use std::alloc::Global;
 use std::env;
 use std::io::{self, BufWriter, ErrorKind, Write};
 use std::process::ExitCode;
-use system::System;
+use system::{System, hold_standard_places};
 
 fn main(rt: HostRuntime) -> ExitCode {
+    let _held = hold_standard_places(&rt);
     let stop = match run_words(&rt) {
         Ok(Status::Done) => return ExitCode::from(0),
         Ok(Status::No) => return ExitCode::from(1),

@@ -3,6 +3,18 @@ use lnt_cli::Opener;
 use std::fs::{self, File};
 use std::io::{self, Read, Stdin};
 
+// What holds the places of standard input and of both outputs, where the process was started without them.
+#[derive(Drop)]
+pub(crate) struct Held(Option<File>, Option<File>, Option<File>);
+
+/// Opens the root folder three times, before any other file. A file gets the first place that is free, so where the
+/// process was started without standard input, the first file that the words name would be read as standard input too.
+/// A folder in that place can neither be read nor written, so `-` is refused, and so is what would be printed.
+pub(crate) fn hold_standard_places(rt: &HostRuntime) -> Held {
+    let open = || fs::open(rt, "/").ok();
+    Held(open(), open(), open())
+}
+
 // What a name stands for.
 #[derive(Drop)]
 pub(crate) enum Input {

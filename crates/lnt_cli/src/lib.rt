@@ -4,26 +4,11 @@
 //! nothing of the system itself: a program hands it an [`Opener`] and a writer.
 #![tactic(auto)]
 
-mod command;
-mod convert;
-mod dump;
-mod evidence;
-mod halt;
-mod header;
-mod judged;
-mod opener;
-mod operations;
 mod program;
-mod rows;
 mod stop;
-mod sums;
-mod text;
-mod units;
-mod words;
+mod table;
+mod verdict;
 
-pub use opener::Opener;
+pub use lnt_files::{Opener, Status};
 pub use program::run;
-pub use stop::{CliStop, Status};
-
-#[cfg(test)]
-mod tests;
+pub use stop::CliStop;

@@ -5,7 +5,7 @@ use Rattle.std.proofs.lemmas.Bool.Decides.{nat_tests, leb_tells}
 use Rattle.std.proofs.lemmas.Grind.{pow_more}
 use Rattle.lnt_digits.specs.declared.radix.Radix.{Radix}
 use Rattle.lnt_digits.specs.declared.radix.Radix.TheVariants.{Ten, Sixteen}
-use Rattle.lnt_digits.specs.Digits.{IsDigit, IsHexadecimalDigit, IsLower, base, digit_code, digit_value, digits_value}
+use Rattle.lnt_digits.specs.Digits.{IsDigit, IsLower, base, digit_code, digit_value, digits_value}
 
 -- ---- the base
 

@@ -13,6 +13,3 @@ mod read;
 pub use put::{put_address, put_decimal};
 pub use radix::{Radix, decimal_value, is_hexadecimal, letter_or_digit_value};
 pub use read::{address, decimal};
-
-#[cfg(test)]
-mod tests;

@@ -15,6 +15,3 @@ pub use files::Files;
 pub use paths::{file_count, listed, path_of};
 pub use tables::{TableFault, tables_fault};
 pub use walk::{Entries, EntryView};
-
-#[cfg(test)]
-mod tests;

@@ -27,8 +27,3 @@ pub use lnt_lists::ShortList;
 pub use op::Op;
 pub use table_view::TableView;
 pub use view::{OpView, Operands};
-
-#[cfg(test)]
-mod admits_tests;
-#[cfg(test)]
-mod tests;

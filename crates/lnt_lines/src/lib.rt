@@ -20,6 +20,3 @@ pub use no::No;
 pub use options::Options;
 pub use section::{Judged, verify};
 pub use stop::Stop;
-
-#[cfg(test)]
-mod tests;

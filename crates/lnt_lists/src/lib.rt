@@ -4,6 +4,3 @@
 mod short_list;
 
 pub use short_list::ShortList;
-
-#[cfg(test)]
-mod tests;

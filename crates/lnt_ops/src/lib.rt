@@ -14,8 +14,3 @@ pub use iterator::Ops;
 pub use operation::read_op;
 pub use program::read_ops;
 pub use put::put_ops;
-
-#[cfg(test)]
-mod put_tests;
-#[cfg(test)]
-mod tests;

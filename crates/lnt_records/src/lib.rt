@@ -21,6 +21,3 @@ mod write;
 pub use comparison::{Compared, compare};
 pub use fault::{TableFault, TableStop, WriteStop};
 pub use write::write_spans;
-
-#[cfg(test)]
-mod tests;

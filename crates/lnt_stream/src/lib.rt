@@ -14,6 +14,3 @@ mod taking;
 pub use buffer::UnitBuffer;
 pub use reader::SectionReader;
 pub use stop::SectionStop;
-
-#[cfg(test)]
-mod tests;

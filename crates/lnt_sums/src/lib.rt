@@ -4,6 +4,3 @@
 mod sums;
 
 pub use sums::{Agreement, SumStop, md5_agrees, sum_of};
-
-#[cfg(test)]
-mod tests;

@@ -15,6 +15,3 @@ pub use lnt_lines::{No, Options, Stop};
 pub use lnt_records::WriteStop;
 pub use verdict::{TableNo, Verdict};
 pub use write::write_table;
-
-#[cfg(test)]
-mod tests;

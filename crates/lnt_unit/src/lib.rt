@@ -21,6 +21,3 @@ pub use lnt_ops::Ops;
 pub use lnt_stream::{SectionReader, SectionStop, UnitBuffer};
 pub use unit::{Parts, Unit};
 pub use view::UnitView;
-
-#[cfg(test)]
-mod tests;

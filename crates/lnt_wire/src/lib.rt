@@ -34,6 +34,3 @@ pub use put::{EncodeFault, put_form, put_offset, put_sleb, put_u16, put_u32, put
 pub use source::{ReadFault, Source, SourceStop, read_all};
 pub use strings::Strings;
 pub use view::ValueView;
-
-#[cfg(test)]
-mod tests;

@@ -3,7 +3,6 @@
 use Rattle.std.proofs.Common.{◌≡◌, ℕ, ◌+◌, Bool, true, false, cond, List, [], ◌∷◌, ◌++◌, map, Option, Some, None, refl, sym, ap, ◌∙◌, arith, append_assoc, length, add-zero}
 use Rattle.std.specs.List.{AllByRecursion, enumerate_from, filter, flat_map}
 use Rattle.std.specs.Option.{option_or}
-use Rattle.std.specs.Prelude.{IfSome}
 use Rattle.std.proofs.lemmas.List.{append-nil, length-append}
 use Rattle.lnt_machine.specs.declared.row.Row.{Row}
 use Rattle.lnt_machine.specs.declared.row.Sequence.{Sequence}
@@ -255,15 +254,3 @@ each_ended (row ∷ rows) = by_end row.end_sequence refl (each_ended rows)
         → AllByRecursion IsEnded (cond t (record { rows = row ∷ [] } ∷ sequences_of rows) (onto_first row (sequences_of rows)))
     by_end true e all = (record { body = []; last = row; rows_are = refl; body_open = tt; ends = e }, all)
     by_end false e all = onto_ended row (sequences_of rows) e all
-
--- rows of which the last is an end row all stand in sequences
-pub closed_by_end : (rows : List Row) → IfSome (last_row rows) (λ row. row.end_sequence ≡ true) → joined_rows (sequences_of rows) ≡ rows
-closed_by_end [] h = refl
-closed_by_end (row ∷ []) h = ap (λ (t : Bool). joined_rows (cond t (record { rows = row ∷ [] } ∷ []) [])) h
-closed_by_end (row ∷ next ∷ rows) h = by_end row.end_sequence (sequences_of (next ∷ rows)) (closed_by_end (next ∷ rows) h)
-  where
-    by_end : (t : Bool) (ss : List Sequence) → joined_rows ss ≡ next ∷ rows
-        → joined_rows (cond t (record { rows = row ∷ [] } ∷ ss) (onto_first row ss)) ≡ row ∷ next ∷ rows
-    by_end true ss e = ap (λ (more : List Row). row ∷ more) e
-    by_end false [] e = absurd cc
-    by_end false (s ∷ ss) e = ap (λ (more : List Row). row ∷ more) e

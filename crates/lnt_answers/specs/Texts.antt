@@ -1,0 +1,28 @@
+-- The texts that are printed.
+use Rattle.std.specs.Prelude.{ℕ, List, ◌++◌, codes, decimal}
+use Rattle.lnt_header.specs.declared.header.Which.{Which}
+use Rattle.lnt_header.specs.declared.header.Which.TheVariants.{Directories, Files}
+use Rattle.lnt_rows.specs.declared.sequence.SeqId.{SeqId}
+use Rattle.lnt_lines.specs.declared.no.No.{No}
+use Rattle.lnt_lines.specs.declared.no.No.TheVariants.{Malformed, Run, EntryFormat, StringOutside, DirectoryNumber, FileNumber, Falls, Overlap}
+use Rattle.lnt_text.specs.Texts.{hexadecimal, malformed_text, position_text, run_text}
+
+-- a sequence, by its unit and its index in it
+abbrev pub sequence_text : SeqId → List ℕ
+sequence_text sequence = hexadecimal sequence.unit ++ (codes ":" ++ decimal sequence.index)
+
+-- one of the two tables of a header
+abbrev pub table_text : Which → List ℕ
+table_text Directories = codes "directories"
+table_text Files = codes "files"
+
+-- why a section isn't good
+abbrev pub no_text : No → List ℕ
+no_text (Malformed fault) = malformed_text fault
+no_text (Run unit fault) = run_text unit fault
+no_text (EntryFormat unit which) = codes "no 27 entry format unit " ++ (hexadecimal unit ++ (codes " " ++ table_text which))
+no_text (StringOutside unit which entry) = codes "no 28 string outside unit " ++ (hexadecimal unit ++ (codes " " ++ (table_text which ++ (codes " entry " ++ decimal entry))))
+no_text (DirectoryNumber unit file) = codes "no 29 directory number unit " ++ (hexadecimal unit ++ (codes " file " ++ decimal file))
+no_text (FileNumber unit row file) = codes "no 30 file number unit " ++ (hexadecimal unit ++ (codes " row " ++ (decimal row ++ (codes " file " ++ decimal file))))
+no_text (Falls unit row) = codes "no 31 falls unit " ++ (hexadecimal unit ++ (codes " row " ++ decimal row))
+no_text (Overlap first second position) = codes "no 32 overlap " ++ (sequence_text first ++ (codes " " ++ (sequence_text second ++ (codes " at " ++ position_text position))))

@@ -1,0 +1,84 @@
+//! Whether files have the sums that are listed.
+ghost use Rattle.std.specs.Prelude.{◌≡◌, IfErr, None, Ok};
+ghost use Rattle.lnt_files.specs.declared.status.Status.TheVariants.{Done};
+ghost use Rattle.lnt_lines.specs.Contents.{sum_in};
+ghost use Rattle.lnt_files.specs.Halts.{IsPrinting};
+
+use lnt_files::{Halt, LIMIT, Opener, Status};
+use lnt_lines::{Lines, Stop};
+use lnt_sums::{Agreement, md5_agrees};
+use lnt_text::Quoted;
+use lnt_wire::Counted;
+use std::alloc::Global;
+use std::io::Write;
+use std::str;
+
+/// Prints a line for each file with a listed sum, unit by unit: whether the file has it.
+///
+/// It answers `Done` where all of them have their sums, and `No` where one has another sum or can't be read. It stops by
+/// `Write` where the writer failed, and by `Memory`; what was printed before stays. A file that can't be read stops
+/// nothing.
+pub fn print_sums<O: Opener, W: Write>(
+    alloc: Global,
+    lines: &Lines,
+    opener: &mut O,
+    out: &mut W,
+) -> Result<Status, Halt>
+    ensures err { IfErr result IsPrinting }
+{
+    let mut status = Status::Done;
+    for unit in lines.units() {
+        for file in 0..lines.file_count(*unit) {
+            if print_sum(alloc, lines, *unit, file, opener, out)? == Status::No {
+                status = Status::No;
+            }
+        }
+    }
+    Ok(status)
+}
+
+// Prints the line of a file, where a sum is listed for it.
+fn print_sum<O: Opener, W: Write>(
+    alloc: Global,
+    lines: &Lines,
+    unit: u64,
+    file: u64,
+    opener: &mut O,
+    out: &mut W,
+) -> Result<Status, Halt>
+    ensures err { IfErr result IsPrinting }
+    ensures unlisted { sum_in lines.now unit file ≡ None → (out.new ≡ out.old) × (opener.new ≡ opener.old) × (result ≡ Ok Done) }
+{
+    let Some(listed) = lines.listed(unit, file) else {
+        return Ok(Status::Done);
+    };
+    let path = match lines.path_of(alloc, unit, file) {
+        Ok(Some(path)) => path,
+        Ok(None) | Err(Stop::Read | Stop::TooLong) => return Ok(Status::Done),
+        Err(Stop::Memory) => return Err(Halt::Memory),
+    };
+    let agreement = agreement_of(&path, &listed, opener);
+    write!(out, "unit {unit} file {file} ")?;
+    match agreement {
+        Some(Agreement::Same) => write!(out, "same")?,
+        Some(Agreement::Differs(sum)) => {
+            write!(out, "differs {}", hex::encode(alloc, sum.as_slice())?)?;
+        }
+        None => write!(out, "unreadable")?,
+    }
+    writeln!(out, " {}", Quoted(&path))?;
+    Ok(match agreement {
+        Some(Agreement::Same) => Status::Done,
+        _ => Status::No,
+    })
+}
+
+// Whether the file at the path has the sum. None where it can't be read.
+fn agreement_of<O: Opener>(path: &[u8], listed: &[u8; 16], opener: &mut O) -> Option<Agreement> {
+    let name = str::from_utf8(path).ok()?;
+    if name == "-" {
+        return None;
+    }
+    let reader = opener.reader_of(name)?;
+    md5_agrees(&mut Counted::new(reader, LIMIT), listed).ok()
+}

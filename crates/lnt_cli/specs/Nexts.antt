@@ -1,8 +1,0 @@
--- What comes next in a section.
-use Rattle.lnt_cli.specs.declared.units.Next.{Next}
-use Rattle.lnt_cli.specs.declared.units.Next.TheVariants.{Unit as NextUnit}
-
--- a unit
-abbrev pub IsUnit : Next → Type 0
-IsUnit (NextUnit unit) = Unit {0}
-IsUnit _ = ⊥

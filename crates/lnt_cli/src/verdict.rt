@@ -1,0 +1,34 @@
+//! How the evidence against a table is printed.
+use lnt_answers::NoLine;
+use lnt_table::TableNo;
+use lnt_text::{AnswerText, PositionText};
+use std::fmt;
+
+// The line that says why a table isn't one, or doesn't answer as the section does, without its line feed.
+#[derive(Clone, Copy)]
+pub(crate) struct TableNoLine(pub(crate) TableNo);
+
+impl fmt::Display for TableNoLine {
+    fn fmt<W: fmt::Write>(&self, f: &mut fmt::Formatter<W>) -> fmt::Result {
+        match self.0 {
+            TableNo::Section(no) => write!(f, "{}", NoLine(no)),
+            TableNo::Header => write!(f, "no 36 table header"),
+            TableNo::Fields(record) => write!(f, "no 37 table fields record {record}"),
+            TableNo::Number { record, column } => {
+                write!(f, "no 38 table number record {record} column {column}")
+            }
+            TableNo::Order(record) => write!(f, "no 39 table order record {record}"),
+            TableNo::Differs {
+                position,
+                by_table,
+                by_section,
+            } => write!(
+                f,
+                "no 40 differs at {} table {} section {}",
+                PositionText(position),
+                AnswerText(by_table),
+                AnswerText(by_section)
+            ),
+        }
+    }
+}

@@ -1,0 +1,31 @@
+-- What is printed.
+use Rattle.std.specs.Prelude.{ℕ, List, [], ◌++◌, Option, codes}
+use Rattle.std.specs.Io.KnownBytes.{Appends}
+use Rattle.lnt_wire.specs.declared.format.Format.{Format}
+use Rattle.lnt_wire.specs.declared.format.Order.{Order}
+use Rattle.lnt_unit.specs.Converting.{IsConvertFault}
+use Rattle.lnt_unit.specs.declared.convert.ConvertFault.{ConvertFault}
+use Rattle.lnt_unit.specs.declared.convert.ConvertFault.TheVariants.{Malformed, TooLarge, Memory}
+use Rattle.lnt_text.specs.Texts.{hexadecimal, malformed_text}
+
+-- a writer that held these bytes has gained such a text, and nothing else
+abbrev pub IsPrintedIn : (List ℕ → Type 0) → Option (List ℕ) → Option (List ℕ) → Type 0
+IsPrintedIn Is old new = (text : List ℕ) × Is text × Appends old new text
+
+-- a writer that held these bytes still holds them, and behind them what it has gained
+abbrev pub Gains : Option (List ℕ) → Option (List ℕ) → Type 0
+Gains old new = (text : List ℕ) × Appends old new text
+
+-- the line of a unit that is too large
+abbrev pub too_large_text : ℕ → List ℕ
+too_large_text offset = codes "no 20 too large unit " ++ hexadecimal offset ++ codes "\n"
+
+-- why a section isn't converted; of want of memory nothing is printed
+abbrev pub refusal_text : ConvertFault → List ℕ
+refusal_text (Malformed fault) = malformed_text fault ++ codes "\n"
+refusal_text (TooLarge offset) = too_large_text offset
+refusal_text Memory = []
+
+-- a writer that held these bytes has gained the line that says why the section isn't converted, which is so
+abbrev pub IsRefusalTold : Order → List ℕ → Format → Order → Option (List ℕ) → Option (List ℕ) → Type 0
+IsRefusalTold order section format to old new = (fault : ConvertFault) × IsConvertFault order section format to fault × Appends old new (refusal_text fault)

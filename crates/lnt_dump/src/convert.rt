@@ -1,0 +1,63 @@
+//! The subcommand `convert`.
+ghost use Rattle.std.specs.Prelude.{◌≡◌, ◌+◌, ◌-◌, ◌^◌, ◌<◌, IfErr, IfOk, IfSome, IsErrOf, IsTrue, OnOk};
+ghost use Rattle.std.specs.Io.KnownBytes.{Appends};
+ghost use Rattle.lnt_files.specs.Halts.{IsPrinting};
+ghost use Rattle.lnt_files.specs.declared.status.Status.TheVariants.{Done, No};
+ghost use Rattle.lnt_unit.specs.Converting.{IsConverted};
+ghost use Rattle.lnt_dump.specs.Printed.{IsPrintedIn, IsRefusalTold, refusal_text};
+
+use crate::faults::print_fault;
+use lnt_files::{Halt, Status};
+use lnt_unit::{ConvertFault, convert_section};
+use lnt_wire::{Format, Order, Source, read_all};
+use std::alloc::Global;
+use std::io::Write;
+
+/// Prints the section that the source has to give in the format and in the byte order `to`, or why that can't be.
+///
+/// Where it answers `Done`, the writer has gained the converted section, and nothing else. Where it answers `No`, the
+/// section is malformed, or a unit of it is too large for the format, and the writer has gained the line that says so
+/// alone. It stops by `Read` only where the source failed, by `TooLong` only where it has more bytes than it may give,
+/// by `Write` where the writer failed, and by `Memory`. The caller sees to it that the number of the source's failures
+/// is below `u64::MAX`.
+pub fn print_converted<R: Source, W: Write>(
+    alloc: Global,
+    source: &mut R,
+    order: Order,
+    format: Format,
+    to: Order,
+    out: &mut W,
+) -> Result<Status, Halt>
+    requires { R.failures source.old < 2 ^ 64 - 1 }
+    ensures done { IfOk result (λ status. status ≡ Done → IfSome (R.remaining source.old) (λ bytes.
+        IsPrintedIn (IsConverted order bytes format to) (W.contents out.old) (W.contents out.new))) }
+    ensures no { IfOk result (λ status. status ≡ No → IfSome (R.remaining source.old) (λ bytes.
+        IsRefusalTold order bytes format to (W.contents out.old) (W.contents out.new))) }
+    ensures read { IsErrOf result Halt.Read → R.failures source.new ≡ R.failures source.old + 1 }
+    ensures too_long { IsErrOf result Halt.TooLong → IsTrue (R.too_long source.new) }
+{
+    let bytes = read_all(alloc, source)?;
+    match convert_section(alloc, &bytes, order, format, to) {
+        Ok(converted) => {
+            out.write_all(&converted)?;
+            Ok(Status::Done)
+        }
+        Err(fault) => print_refusal(fault, out),
+    }
+}
+
+// Prints the line that says why a section isn't converted.
+fn print_refusal<W: Write>(fault: ConvertFault, out: &mut W) -> Result<Status, Halt>
+    ensures no { IfOk result (λ status. status ≡ No) }
+    ensures err { IfErr result IsPrinting }
+    ensures line { OnOk result (Appends (W.contents out.old) (W.contents out.new) (refusal_text fault)) }
+{
+    match fault {
+        ConvertFault::Malformed(fault) => print_fault(fault, out),
+        ConvertFault::TooLarge(offset) => {
+            writeln!(out, "no 20 too large unit 0x{offset:x}")?;
+            Ok(Status::No)
+        }
+        ConvertFault::Memory => Err(Halt::Memory),
+    }
+}

@@ -1,0 +1,42 @@
+//! How faults end the printing.
+ghost use Rattle.std.specs.Prelude.{◌≡◌, ◌++◌, IfErr, IfOk, OnOk, codes};
+ghost use Rattle.std.specs.Io.KnownBytes.{Appends};
+ghost use Rattle.lnt_files.specs.Halts.{IsPrinting};
+ghost use Rattle.lnt_files.specs.declared.status.Status.TheVariants.{No};
+ghost use Rattle.lnt_text.specs.Texts.{malformed_text, run_text};
+
+use lnt_files::{Halt, Status};
+use lnt_machine::RunFault;
+use lnt_text::{MalformedLine, RunLine};
+use lnt_wire::{Fault, Reason};
+use std::io::Write;
+
+// Prints the line that says which bytes are refused, and why.
+pub(crate) fn print_fault<W: Write>(fault: Fault, out: &mut W) -> Result<Status, Halt>
+    ensures no { IfOk result (λ status. status ≡ No) }
+    ensures err { IfErr result IsPrinting }
+    ensures line { OnOk result (Appends (W.contents out.old) (W.contents out.new) (malformed_text fault ++ codes "\n")) }
+{
+    if fault.reason == Reason::Memory {
+        return Err(Halt::Memory);
+    }
+    writeln!(out, "{}", MalformedLine(fault))?;
+    Ok(Status::No)
+}
+
+// Prints the line that says why the program of the unit at the offset doesn't run.
+pub(crate) fn print_run_fault<W: Write>(
+    offset: u64,
+    fault: RunFault,
+    out: &mut W,
+) -> Result<Status, Halt>
+    ensures no { IfOk result (λ status. status ≡ No) }
+    ensures err { IfErr result IsPrinting }
+    ensures line { OnOk result (Appends (W.contents out.old) (W.contents out.new) (run_text offset fault ++ codes "\n")) }
+{
+    if fault == RunFault::Memory {
+        return Err(Halt::Memory);
+    }
+    writeln!(out, "{}", RunLine(offset, fault))?;
+    Ok(Status::No)
+}

@@ -1,0 +1,82 @@
+//! The subcommand `units`.
+ghost use Rattle.std.specs.Prelude.{◌≡◌, ◌-◌, ◌^◌, ◌<◌, IfOk, OnOk};
+ghost use Rattle.lnt_stream.specs.declared.reader.Progress.TheVariants.{Reading};
+ghost use Rattle.lnt_dump.specs.Nexts.{IsUnit};
+ghost use Rattle.lnt_dump.specs.Printed.{Gains};
+
+use crate::faults::print_fault;
+use crate::width::width_of;
+use lnt_files::{Halt, Status};
+use lnt_unit::{SectionReader, SectionStop, UnitBuffer};
+use lnt_wire::{Fault, Order, Source};
+use std::alloc::Global;
+use std::io::Write;
+
+/// Prints a line for each unit that the source has to give: its offset, the width of its format, and its length.
+///
+/// It answers `Done` where all of them were printed. Where no unit begins what is left, it prints the line of the
+/// fault, and answers `No`. In both cases the writer holds what it held, and behind it what was printed. It stops by
+/// `Read` where the source failed, by `TooLong` where it has more bytes than it may give, by `Write` where the writer
+/// failed, and by `Memory`; what was printed before stays. The caller sees to it that the number of the source's
+/// failures is below `u64::MAX`.
+#[tactic(auto, using(crate::proofs::Gained::gained_nothing))]
+pub fn print_units<R: Source, W: Write>(
+    alloc: Global,
+    source: &mut R,
+    order: Order,
+    out: &mut W,
+) -> Result<Status, Halt>
+    requires { R.failures source.old < 2 ^ 64 - 1 }
+    ensures { OnOk result (Gains (W.contents out.old) (W.contents out.new)) }
+{
+    let mut reader = SectionReader::new(source, order);
+    let mut room = Vec::new(alloc);
+    loop {
+        match next_of(&mut reader, room)? {
+            Next::Unit(unit) => {
+                print_frame(&unit, out)?;
+                room = unit.into_bytes();
+            }
+            Next::Fault(fault) => return print_fault(fault, out),
+            Next::End => return Ok(Status::Done),
+        }
+    }
+}
+
+// What comes next in a section.
+#[derive(Drop)]
+pub(crate) enum Next {
+    Unit(UnitBuffer),
+    // No unit, for this fault.
+    Fault(Fault),
+    End,
+}
+
+// What comes next from a reader that wasn't stopped. A unit is read into the room.
+pub(crate) fn next_of<R: Source>(
+    reader: &mut SectionReader<'_, R>,
+    room: Vec<u8>,
+) -> Result<Next, Halt>
+    requires { reader.old.progress ≡ Reading }
+    ensures { IfOk result (λ next. IsUnit next → (reader.new.progress ≡ Reading) × (R.left reader.new.source.now < R.left reader.old.source.now)) }
+{
+    match reader.next_unit_in(room) {
+        Ok(Some(unit)) => Ok(Next::Unit(unit)),
+        Ok(None) => Ok(Next::End),
+        Err(SectionStop::Fault(fault)) => Ok(Next::Fault(fault)),
+        Err(SectionStop::Read) => Err(Halt::Read),
+        Err(SectionStop::TooLong) => Err(Halt::TooLong),
+        Err(SectionStop::Memory) => Err(Halt::Memory),
+        Err(SectionStop::Failed) => unreachable!(),
+    }
+}
+
+// Prints the line of a unit.
+fn print_frame<W: Write>(unit: &UnitBuffer, out: &mut W) -> Result<(), Halt>
+    ensures { OnOk result (Gains (W.contents out.old) (W.contents out.new)) }
+{
+    let frame = unit.frame();
+    let (offset, width, length) = (frame.offset, width_of(frame.format), frame.length);
+    writeln!(out, "0x{offset:x} {width} {length}")?;
+    Ok(())
+}

@@ -1,0 +1,49 @@
+-- The texts that are printed.
+use Rattle.std.specs.Prelude.{ℕ, List, ◌++◌, codes, decimal, false}
+use Rattle.std.specs.Fmt.{digits}
+use Rattle.lnt_wire.specs.declared.fault.Fault.{Fault}
+use Rattle.lnt_wire.specs.declared.fault.Reason.{Reason}
+use Rattle.lnt_wire.specs.declared.fault.Reason.TheVariants.{Truncated, ReservedLength, VersionNotFive, AddressSize, SegmentSelector, HeaderLength, MaxOpsZero, LineRangeZero, OpcodeBaseZero, StandardLength, UnknownForm, EmptyFormat, LebTooLarge, ExtendedLength, Memory}
+use Rattle.lnt_machine.specs.declared.fault.RunFault.{RunFault}
+use Rattle.lnt_machine.specs.declared.fault.RunFault.TheVariants.{LineOutOfRange, OpenSequence, Memory as RunMemory}
+use Rattle.lnt_spans.specs.declared.position.Position.{Position}
+
+-- a number by its hexadecimal digits, in lower case and without leading zeros
+abbrev pub hexadecimal : ℕ → List ℕ
+hexadecimal n = codes "0x" ++ digits 16 false n
+
+-- a position
+abbrev pub position_text : Position → List ℕ
+position_text position = hexadecimal position.address ++ codes "," ++ decimal position.op
+
+-- why bytes are refused
+abbrev pub reason_text : Reason → List ℕ
+reason_text Truncated = codes "truncated"
+reason_text ReservedLength = codes "reserved length"
+reason_text (VersionNotFive version) = codes "version " ++ decimal version
+reason_text (AddressSize size) = codes "address size " ++ decimal size
+reason_text (SegmentSelector size) = codes "segment selector size " ++ decimal size
+reason_text HeaderLength = codes "header length"
+reason_text MaxOpsZero = codes "zero operations per instruction"
+reason_text LineRangeZero = codes "zero line range"
+reason_text OpcodeBaseZero = codes "zero opcode base"
+reason_text (StandardLength opcode size) = codes "length " ++ (decimal size ++ (codes " of standard opcode " ++ decimal opcode))
+reason_text (UnknownForm code) = codes "form " ++ hexadecimal code
+reason_text EmptyFormat = codes "entries without a format"
+reason_text LebTooLarge = codes "number too large"
+reason_text ExtendedLength = codes "extended length"
+reason_text Memory = codes "out of memory"
+
+-- which bytes are refused, and why
+abbrev pub malformed_text : Fault → List ℕ
+malformed_text fault = codes "no 25 malformed at " ++ hexadecimal fault.place ++ codes ": " ++ reason_text fault.reason
+
+-- why a program doesn't run
+abbrev pub run_fault_text : RunFault → List ℕ
+run_fault_text (LineOutOfRange index) = codes "line out of range at operation " ++ decimal index
+run_fault_text OpenSequence = codes "open sequence"
+run_fault_text RunMemory = codes "out of memory"
+
+-- the program of the unit at the offset doesn't run
+abbrev pub run_text : ℕ → RunFault → List ℕ
+run_text offset fault = codes "no 26 run unit " ++ hexadecimal offset ++ codes ": " ++ run_fault_text fault

@@ -1,0 +1,14 @@
+//! How values are printed: faults as the lines that tell them, positions, answers, quoted texts, names and words.
+#![tactic(auto)]
+
+mod answer;
+mod fault;
+mod position;
+mod quoted;
+mod shown;
+
+pub use answer::AnswerText;
+pub use fault::{MalformedLine, RunLine};
+pub use position::PositionText;
+pub use quoted::Quoted;
+pub use shown::Shown;

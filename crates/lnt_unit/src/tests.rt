@@ -1,5 +1,0 @@
-mod converted;
-mod units;
-mod walked;
-mod worked;
-mod written;

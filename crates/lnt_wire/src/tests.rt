@@ -1,4 +1,0 @@
-mod frames;
-mod numbers;
-mod sources;
-mod values;

@@ -1,0 +1,13 @@
+//! The words of the command `linetab`, and what they ask for.
+//!
+//! [`request_of`] reads the words, and gives a [`Request`] or says why there is none. It opens and prints nothing.
+#![tactic(auto)]
+
+mod command;
+mod request;
+mod stop;
+mod words;
+
+pub use request::{Judging, Question, Reading, Request};
+pub use stop::WordsStop;
+pub use words::request_of;

@@ -1,0 +1,80 @@
+//! What is asked for.
+use lnt_spans::{Position, Version};
+use lnt_wire::{Format, Order};
+
+/// What the words ask for. Files are named as the words name them.
+#[derive(Drop)]
+pub enum Request<'a> {
+    /// This help text.
+    Help(String),
+    /// What the units of a section are.
+    Read {
+        /// The file of the section.
+        section: &'a str,
+        /// The order of the bytes of its numbers.
+        order: Order,
+        /// How it is read.
+        reading: Reading,
+    },
+    /// What a good section says.
+    Judge {
+        /// The section.
+        from: Judging<'a>,
+        /// What is asked of it.
+        question: Question,
+    },
+    /// Whether a table answers as a section does.
+    Check {
+        /// The section.
+        from: Judging<'a>,
+        /// The file of the table.
+        table: &'a str,
+    },
+}
+
+/// A section that is judged: its file and those of its strings, and how it is to be read.
+#[derive(Clone, Copy)]
+pub struct Judging<'a> {
+    /// The file of the section.
+    pub section: &'a str,
+    /// The file of `.debug_line_str`, where one is named.
+    pub line_strings: Option<&'a str>,
+    /// The file of `.debug_str`, where one is named.
+    pub strings: Option<&'a str>,
+    /// The order of the bytes of its numbers.
+    pub order: Order,
+    /// The address at which sequences of dead code begin, where one is told.
+    pub dead: Option<u64>,
+}
+
+/// How a section is read whose lines aren't judged.
+#[derive(Clone, Copy)]
+pub enum Reading {
+    /// A line for each unit.
+    Units,
+    /// The units with their headers.
+    Dump {
+        /// And with their operations.
+        ops: bool,
+        /// And with their rows.
+        rows: bool,
+    },
+    /// The section in another format and byte order.
+    Convert {
+        /// That format.
+        format: Format,
+        /// That byte order.
+        to: Order,
+    },
+}
+
+/// What is asked of a good section.
+#[derive(Clone, Copy)]
+pub enum Question {
+    /// The answer at a position.
+    Lookup(Position),
+    /// Its address table, in this version.
+    Table(Version),
+    /// Whether files have the sums that are listed.
+    Md5,
+}
