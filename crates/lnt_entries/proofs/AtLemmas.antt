@@ -1,19 +1,19 @@
 -- Entries by their numbers.
-use Rattle.std.proofs.Common.{◌≡◌, ◌≢◌, ℕ, zero, suc, ◌+◌, ◌<◌, ◌≤◌, ◌↔◌, List, [], ◌∷◌, ◌++◌, length, Option, Some, None, refl, sym, ap, subst, ◌∙◌, arith}
+use Rattle.std.proofs.Common.{◌≡◌, ℕ, zero, suc, ◌+◌, ◌<◌, ◌≤◌, List, [], ◌∷◌, ◌++◌, length, Option, Some, None, refl, sym, ap, subst, ◌∙◌, arith}
 use Rattle.std.specs.Prelude.{IsSome}
 use Rattle.std.specs.List.{slice_get}
-use Rattle.std.specs.Option.{option_map, option_and_then}
+use Rattle.std.specs.Option.{option_and_then}
 use Rattle.std.proofs.lemmas.Option.{slice_get_past}
 use Rattle.lnt_header.specs.Borrowed.{BorrowedTable}
 use Rattle.lnt_header.specs.declared.header.Entry.{Entry}
 use Rattle.lnt_header.specs.declared.header.HeaderParts.{HeaderParts}
 use Rattle.lnt_header.specs.declared.header.Pair.{Pair}
 use Rattle.lnt_entries.specs.declared.walk.EntryView.{EntryView}
-use Rattle.lnt_entries.specs.Contents.{path_text, sum_of}
-use Rattle.lnt_entries.specs.Paths.{directory_text, file_path, listed_sum}
+use Rattle.lnt_entries.specs.Contents.{path_text}
+use Rattle.lnt_entries.specs.Paths.{directory_text, file_path}
 use Rattle.lnt_entries.specs.Seen.{EntryAt, HasSeen}
 use Rattle.lnt_entries.specs.Tables.{AreUsableTables}
-use Rattle.lnt_entries.specs.Walks.{Says, EntryStep, GivesEntry}
+use Rattle.lnt_entries.specs.Walks.{Says, EntryStep}
 use Rattle.lnt_entries.proofs.PathLemmas.{path_there, within}
 use Rattle.lnt_entries.proofs.JudgedLemmas.{seen_none, seen_more, says_in, some_left}
 
@@ -66,17 +66,6 @@ pub no_directory_text : (line general : List ℕ) (h : HeaderParts) (table : Bor
 no_directory_text line general h table number entries_are at =
     let none : slice_get h.directories number ≡ None = subst (λ (es : List Entry). slice_get es number ≡ None) entries_are at in
     sym (ap (option_and_then (path_text line general h.directory_format)) none)
-
-pub sum_at : (h : HeaderParts) (table : BorrowedTable) (number : ℕ) (view : EntryView) (sum : Option (List ℕ)) → table.pairs ≡ h.file_format → table.entries ≡ h.files
-    → EntryAt table number (Some view) → ((pairs : List Pair) (entry : Entry) → Says pairs entry view → sum ≡ sum_of pairs entry) → sum ≡ listed_sum h number
-sum_at h table number view sum pairs_are entries_are at told =
-    let there : slice_get h.files number ≡ Some at.0 = subst (λ (es : List Entry). slice_get es number ≡ Some at.0) entries_are at.1 in
-    of_entry (sum_of h.file_format) h.files number at.0 sum there (told h.file_format at.0 (subst (λ (ps : List Pair). Says ps at.0 view) pairs_are at.2))
-
-pub no_sum_at : (h : HeaderParts) (table : BorrowedTable) (number : ℕ) → table.entries ≡ h.files → EntryAt table number None → None ≡ listed_sum h number
-no_sum_at h table number entries_are at =
-    let none : slice_get h.files number ≡ None = subst (λ (es : List Entry). slice_get es number ≡ None) entries_are at in
-    sym (ap (option_and_then (sum_of h.file_format)) none)
 
 -- an entry of this number, by the header
 pub file_there : (h : HeaderParts) (table : BorrowedTable) (number : ℕ) (view : EntryView) → table.pairs ≡ h.file_format → table.entries ≡ h.files → EntryAt table number (Some view)

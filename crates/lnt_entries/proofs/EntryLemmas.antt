@@ -1,7 +1,7 @@
 -- What entries say that are read where they lie.
-use Rattle.std.proofs.Common.{◌≡◌, ◌≢◌, ℕ, zero, suc, ◌+◌, ◌<◌, ◌≤◌, List, [], ◌∷◌, ◌++◌, length, take, get_or, Option, Some, None, refl, sym, ap, subst, ◌∙◌, lit<, lit≤, arith}
+use Rattle.std.proofs.Common.{◌≡◌, ◌≢◌, ℕ, zero, suc, ◌+◌, ◌<◌, ◌≤◌, List, [], ◌∷◌, ◌++◌, length, get_or, Option, Some, None, refl, sym, ap, subst, ◌∙◌, lit≤, arith}
 use Rattle.std.specs.List.{slice_get}
-use Rattle.std.specs.Option.{option_map, option_and_then}
+use Rattle.std.specs.Option.{option_and_then}
 use Rattle.std.proofs.lemmas.List.{length-append}
 use Rattle.lnt_wire.specs.At.{At}
 use Rattle.lnt_wire.specs.Borrowed.{value_of}
@@ -16,9 +16,8 @@ use Rattle.lnt_wire.specs.declared.view.ValueView.{ValueView}
 use Rattle.lnt_header.specs.Layouts.{forms_of, entry_of}
 use Rattle.lnt_header.specs.Laws.Values.{AreReadTo, read_none, read_more, entry_read, no_entry}
 use Rattle.lnt_header.specs.TableBytes.{EntryBytes}
-use Rattle.lnt_header.specs.declared.header.Entry.{Entry}
 use Rattle.lnt_header.specs.declared.header.Pair.{Pair}
-use Rattle.lnt_entries.specs.Contents.{content_path, content_directory_index, content_md5, place_of}
+use Rattle.lnt_entries.specs.Contents.{content_path, content_directory_index, content_md5}
 use Rattle.lnt_entries.specs.declared.components.Places.{Places}
 use Rattle.lnt_entries.specs.declared.components.Usual.TheVariants.{Path, IndexedPath, SummedPath}
 use Rattle.lnt_entries.specs.declared.walk.EntryView.{EntryView}

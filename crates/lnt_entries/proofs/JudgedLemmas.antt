@@ -1,5 +1,5 @@
 -- Tables that are judged in one walk.
-use Rattle.std.proofs.Common.{◌≡◌, ◌≢◌, ℕ, zero, suc, ◌+◌, ◌<◌, ◌≤◌, ◌↔◌, List, [], ◌∷◌, ◌++◌, length, Option, Some, None, refl, sym, ap, subst, ◌∙◌, append_assoc, arith, ◌⊎◌, inl, inr}
+use Rattle.std.proofs.Common.{◌≡◌, ℕ, ◌+◌, ◌<◌, ◌≤◌, ◌↔◌, List, [], ◌∷◌, ◌++◌, length, Option, Some, None, refl, sym, ap, subst, ◌∙◌, append_assoc, arith}
 use Rattle.std.specs.Prelude.{Bool, true, false, IsTrue, MatchOption}
 use Rattle.std.specs.List.{AllByRecursion}
 use Rattle.std.proofs.lemmas.List.{length-append, append-nil}
@@ -9,12 +9,12 @@ use Rattle.lnt_header.specs.declared.header.Entry.{Entry}
 use Rattle.lnt_header.specs.declared.header.HeaderParts.{HeaderParts}
 use Rattle.lnt_header.specs.declared.header.Pair.{Pair}
 use Rattle.lnt_entries.specs.declared.tables.TableFault.{TableFault}
-use Rattle.lnt_entries.specs.declared.tables.TableFault.TheVariants.{EntryFormat, StringOutside, DirectoryNumber}
-use Rattle.lnt_header.specs.declared.header.Which.TheVariants.{Directories, Files}
+use Rattle.lnt_entries.specs.declared.tables.TableFault.TheVariants.{StringOutside, DirectoryNumber}
+use Rattle.lnt_header.specs.declared.header.Which.TheVariants.{Files}
 use Rattle.lnt_entries.specs.declared.walk.EntryView.{EntryView}
 use Rattle.lnt_entries.specs.Contents.{directory_number}
 use Rattle.lnt_entries.specs.Seen.{first_missing, IsBelow, HasAll, IsFilesFault, HasSeen}
-use Rattle.lnt_entries.specs.Tables.{HasUsableFormat, HaveUsableFormats, HasPath, HasDirectory, AreUsableTables, IsTablesFault}
+use Rattle.lnt_entries.specs.Tables.{HasUsableFormat, HasPath, HasDirectory, AreUsableTables, IsTablesFault}
 use Rattle.lnt_entries.specs.Walks.{Says, EntryStep, GivesEntry}
 
 -- ---- what was seen

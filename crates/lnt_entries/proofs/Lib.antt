@@ -6,3 +6,4 @@ pub mod WalkLemmas
 pub mod JudgedLemmas
 pub mod SaidLemmas
 pub mod AtLemmas
+pub mod EndLemmas

@@ -1,5 +1,5 @@
 -- What an entry says, by its components.
-use Rattle.std.proofs.Common.{◌≡◌, ◌↔◌, ℕ, List, Option, Some, None, refl, sym, ap, subst, ◌∙◌}
+use Rattle.std.proofs.Common.{◌≡◌, ◌↔◌, ℕ, List, Option, Some, None, sym, ap, subst, ◌∙◌}
 use Rattle.std.specs.Prelude.{Bool, false, IsTrue, IsSome}
 use Rattle.std.specs.Option.{option_map, option_and_then, option_map_or}
 use Rattle.lnt_wire.specs.Borrowed.{value_of}

@@ -1,11 +1,10 @@
 -- Walks over entries.
-use Rattle.std.proofs.Common.{◌≡◌, ◌≢◌, ℕ, suc, ◌+◌, ◌-◌, ◌<◌, List, [], ◌∷◌, ◌++◌, length, refl, sym, ap, subst, ◌∙◌, arith}
+use Rattle.std.proofs.Common.{◌≡◌, ◌≢◌, ℕ, suc, ◌-◌, List, [], ◌∷◌, length, refl, sym, ap, subst, ◌∙◌, arith}
 use Rattle.lnt_wire.specs.At.{At}
 use Rattle.lnt_wire.specs.Bytes.{NoneSpelled}
-use Rattle.lnt_wire.specs.Reading.{Reads}
 use Rattle.lnt_wire.specs.declared.format.Format.{Format}
 use Rattle.lnt_wire.specs.declared.format.Order.{Order}
-use Rattle.lnt_header.specs.Borrowed.{first_entries, BorrowedTable, borrowed_table, AreEntryBytes}
+use Rattle.lnt_header.specs.Borrowed.{first_entries, BorrowedTable, AreEntryBytes}
 use Rattle.lnt_header.specs.Joins.{Each}
 use Rattle.lnt_header.specs.Laws.Borrowed.{all_found, first_found, others_spelled}
 use Rattle.lnt_header.specs.TableBytes.{EntryBytes}

@@ -6,3 +6,4 @@ pub mod Pieces
 pub mod Tables
 pub mod Walks
 pub mod Seen
+pub mod TextEnds

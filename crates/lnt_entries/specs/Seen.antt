@@ -1,5 +1,5 @@
 -- Entries of a table that a walk has seen.
-use Rattle.std.specs.Prelude.{◌≡◌, ℕ, ◌<◌, Bool, true, false, List, [], ◌∷◌, ◌++◌, length, Option, Some, None}
+use Rattle.std.specs.Prelude.{◌≡◌, ℕ, ◌<◌, Bool, true, false, List, ◌++◌, length, Option, Some, None}
 use Rattle.std.specs.List.{AllByRecursion, slice_get}
 use Rattle.lnt_header.specs.Borrowed.{BorrowedTable}
 use Rattle.lnt_header.specs.HeaderTests.{IsFirstNot}

@@ -4,6 +4,7 @@
 
 mod components;
 mod contents;
+mod ends;
 mod files;
 pub mod in_place;
 mod paths;
@@ -11,6 +12,7 @@ mod said;
 mod tables;
 mod walk;
 
+pub use ends::StringEnds;
 pub use files::Files;
 pub use paths::{file_count, listed, path_of};
 pub use tables::{TableFault, tables_fault};

@@ -8,8 +8,9 @@ ghost use Rattle.lnt_entries.specs.Contents.{path_text, number_of, directory_num
 ghost use Rattle.lnt_entries.specs.Tables.{HasPath};
 ghost use Rattle.lnt_entries.specs.Walks.{Says};
 
+use crate::ends::StringEnds;
 use crate::walk::EntryView;
-use lnt_wire::{StringEnds, Strings, ValueView};
+use lnt_wire::{Strings, ValueView};
 
 impl<'a> EntryView<'a> {
     /// Whether the text of the entry's path is there. It takes the same time whatever the sections are.

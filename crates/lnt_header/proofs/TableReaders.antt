@@ -1,6 +1,6 @@
 -- Tables that are read, and refused.
-use Rattle.std.proofs.Common.{◌≡◌, ℕ, ◌+◌, ◌<◌, List, [], ◌∷◌, ◌++◌, length, take, drop, get_or, refl, sym, ap, subst, ◌∙◌, append_assoc, add-zero, arith}
-use Rattle.std.proofs.lemmas.List.{length-append, append-nil, take_more, drop_more, take-append-drop}
+use Rattle.std.proofs.Common.{◌≡◌, ℕ, ◌+◌, ◌<◌, List, [], ◌∷◌, ◌++◌, length, take, drop, get_or, refl, sym, ap, subst, ◌∙◌, append_assoc, arith}
+use Rattle.std.proofs.lemmas.List.{drop_more, take-append-drop}
 use Rattle.lnt_wire.specs.At.{At}
 use Rattle.lnt_wire.specs.Bytes.{NoneSpelled, IsCode}
 use Rattle.lnt_wire.specs.FormBytes.{form_code, IsUnknownForm, ValueBytes}
@@ -14,11 +14,10 @@ use Rattle.lnt_wire.specs.declared.format.Format.{Format}
 use Rattle.lnt_wire.specs.declared.format.Order.{Order}
 use Rattle.lnt_wire.specs.declared.fault.Fault.{Fault}
 use Rattle.lnt_wire.specs.declared.fault.Reason.TheVariants.{UnknownForm, EmptyFormat}
-use Rattle.lnt_wire.specs.Laws.Codes.{unsigned_code, number_code, peel_by}
+use Rattle.lnt_wire.specs.Laws.Codes.{unsigned_code, number_code}
 use Rattle.lnt_wire.specs.Laws.Lengths.{width_1}
 use Rattle.lnt_header.specs.Joins.{Both, Several, Each}
 use Rattle.lnt_header.specs.Laws.Lists.{several_code}
-use Rattle.lnt_wire.specs.Laws.Values.{same_value}
 use Rattle.lnt_header.specs.Laws.Readers.{refuses_here, moved_field, refuses_field, refuses_map, reads_map, reads_both, first_refused, second_refused, several_refused, reads_none, reads_more}
 use Rattle.lnt_header.specs.declared.header.Entry.{Entry}
 use Rattle.lnt_header.specs.declared.header.Pair.{Pair}

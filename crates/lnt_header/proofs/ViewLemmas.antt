@@ -1,5 +1,5 @@
 -- Tables and headers whose entries stay where they lie.
-use Rattle.std.proofs.Common.{◌≡◌, ℕ, ◌<◌, List, [], ◌∷◌, ◌++◌, length, refl, sym, ap, subst, get_or, ◌∙◌}
+use Rattle.std.proofs.Common.{◌≡◌, ℕ, ◌<◌, List, [], refl, sym, ap, subst, get_or, ◌∙◌}
 use Rattle.lnt_wire.specs.At.{At}
 use Rattle.lnt_wire.specs.Leb128.{UnsignedLeb}
 use Rattle.lnt_wire.specs.Numbers.{NumberBytes}
@@ -8,7 +8,7 @@ use Rattle.lnt_wire.specs.declared.format.Format.{Format}
 use Rattle.lnt_wire.specs.declared.format.Order.{Order}
 use Rattle.lnt_header.specs.declared.header.Entry.{Entry}
 use Rattle.lnt_header.specs.declared.header.Pair.{Pair}
-use Rattle.lnt_header.specs.Borrowed.{first_entries, BorrowedTable, borrowed_table, AreEntryBytes, without_tables, borrowed_header, IsInForm, IsBorrowedHeader, PassesAll, IsTableRead, AreFieldsRead, ArePlain}
+use Rattle.lnt_header.specs.Borrowed.{first_entries, BorrowedTable, borrowed_table, AreEntryBytes, without_tables, borrowed_header, IsBorrowedHeader, PassesAll, IsTableRead, AreFieldsRead, ArePlain}
 use Rattle.lnt_header.specs.declared.header.HeaderParts.{HeaderParts}
 use Rattle.lnt_header.specs.declared.numbers.Singles.{Singles}
 use Rattle.lnt_header.specs.HeaderFaults.{SinglesBytes, LengthsBytes}
@@ -16,7 +16,6 @@ use Rattle.lnt_header.specs.HeaderReading.{HasFields, AreFields}
 use Rattle.lnt_header.specs.HeaderRules.{IsAddressSize, IsHeader}
 use Rattle.lnt_header.specs.Joins.{Each, Several}
 use Rattle.lnt_header.specs.Laws.Borrowed.{all_found, header_without_tables}
-use Rattle.lnt_header.specs.Laws.Readers.{reads_map}
 use Rattle.lnt_header.specs.TableBytes.{PairBytes, EntryBytes, TableOf}
 use Rattle.lnt_header.proofs.Allowed.{found_header}
 use Rattle.lnt_header.proofs.DecodeLemmas.{fields_found}

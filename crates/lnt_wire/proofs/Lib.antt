@@ -1,4 +1,3 @@
-pub mod EndLemmas
 pub mod FrameLemmas
 pub mod FrameListLemmas
 pub mod LebLemmas

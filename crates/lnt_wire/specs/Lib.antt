@@ -14,5 +14,4 @@ pub mod Numbers
 pub mod Prefixes
 pub mod Pulling
 pub mod Reading
-pub mod TextEnds
 pub mod Texts

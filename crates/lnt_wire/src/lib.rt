@@ -6,7 +6,6 @@
 
 mod counted;
 mod cursor;
-mod ends;
 mod fault;
 mod form;
 mod format;
@@ -24,7 +23,6 @@ mod view;
 
 pub use counted::Counted;
 pub use cursor::Cursor;
-pub use ends::StringEnds;
 pub use fault::{Fault, Reason};
 pub use form::{Form, FormValue};
 pub use format::{Format, Order};

@@ -5,10 +5,10 @@ ghost use Rattle.lnt_header.specs.HeaderTests.{IsFirstNot};
 ghost use Rattle.lnt_entries.specs.Seen.{first_missing, HasAll, IsFilesFault, IsBelow};
 ghost use Rattle.lnt_entries.specs.Tables.{HasUsableFormat, HasPath, AreUsableTables, IsTablesFault};
 
+use crate::ends::StringEnds;
 use crate::tables::{TableFault, is_usable_format};
 use crate::walk::Entries;
 use lnt_header::{HeaderView, TableView, Which};
-use lnt_wire::StringEnds;
 
 /// What is wrong with the directories and files of the header, if its tables aren't usable (DWARF 5, section 6.2.4.1):
 /// the answer of the crate's `tables_fault`. It takes no memory, and walks over each table once.

@@ -10,7 +10,6 @@ use Rattle.lnt_wire.specs.declared.format.Format.{Format}
 use Rattle.lnt_wire.specs.declared.format.Order.{Order}
 use Rattle.lnt_wire.specs.Laws.Codes.{peel_by}
 use Rattle.lnt_wire.specs.Laws.Values.{same_value}
-use Rattle.lnt_header.specs.declared.header.Entry.{Entry}
 use Rattle.lnt_header.specs.declared.header.Pair.{Pair}
 use Rattle.lnt_header.specs.Laws.Readers.{reads_map}
 use Rattle.lnt_header.specs.Layouts.{entry_of}

@@ -9,7 +9,6 @@ use Rattle.lnt_header.specs.declared.op.Op.TheVariants.{Special, Copy, AdvancePc
 use Rattle.lnt_header.specs.HeaderRules.{IsHeader}
 use Rattle.lnt_header.specs.Joins.{Each}
 use Rattle.lnt_header.specs.Laws.Borrowed.{header_without_tables}
-use Rattle.lnt_header.specs.OpRules.{Admits}
 use Rattle.lnt_ops.specs.Laws.Programs.{walk_done, walk_broken}
 use Rattle.lnt_ops.specs.OpBytes.{OpBytes}
 use Rattle.lnt_ops.specs.OpFaults.{IsFirstFault}
@@ -63,46 +62,6 @@ numbers_of_op h EndSequence x p = p
 numbers_of_op h (SetAddress address) x p = p
 numbers_of_op h (SetDiscriminator n) x p = p
 numbers_of_op h (UnknownExtended code operand) x p = p
-
-pub admitted_by_numbers : (h : HeaderParts) (op : Op) → Admits (without_tables h) op → Admits h op
-admitted_by_numbers h (Special c) p = p
-admitted_by_numbers h Copy p = p
-admitted_by_numbers h (AdvancePc n) p = p
-admitted_by_numbers h (AdvanceLine z) p = p
-admitted_by_numbers h (SetFile n) p = p
-admitted_by_numbers h (SetColumn n) p = p
-admitted_by_numbers h NegateStmt p = p
-admitted_by_numbers h SetBasicBlock p = p
-admitted_by_numbers h ConstAddPc p = p
-admitted_by_numbers h (FixedAdvancePc n) p = p
-admitted_by_numbers h SetPrologueEnd p = p
-admitted_by_numbers h SetEpilogueBegin p = p
-admitted_by_numbers h (SetIsa n) p = p
-admitted_by_numbers h (UnknownStandard k operands) p = p
-admitted_by_numbers h EndSequence p = p
-admitted_by_numbers h (SetAddress address) p = p
-admitted_by_numbers h (SetDiscriminator n) p = p
-admitted_by_numbers h (UnknownExtended code operand) p = p
-
-pub numbers_admit : (h : HeaderParts) (op : Op) → Admits h op → Admits (without_tables h) op
-numbers_admit h (Special c) p = p
-numbers_admit h Copy p = p
-numbers_admit h (AdvancePc n) p = p
-numbers_admit h (AdvanceLine z) p = p
-numbers_admit h (SetFile n) p = p
-numbers_admit h (SetColumn n) p = p
-numbers_admit h NegateStmt p = p
-numbers_admit h SetBasicBlock p = p
-numbers_admit h ConstAddPc p = p
-numbers_admit h (FixedAdvancePc n) p = p
-numbers_admit h SetPrologueEnd p = p
-numbers_admit h SetEpilogueBegin p = p
-numbers_admit h (SetIsa n) p = p
-numbers_admit h (UnknownStandard k operands) p = p
-numbers_admit h EndSequence p = p
-numbers_admit h (SetAddress address) p = p
-numbers_admit h (SetDiscriminator n) p = p
-numbers_admit h (UnknownExtended code operand) p = p
 
 pub ops_by_numbers : (h : HeaderParts) (ops : List Op) (x : List ℕ) → Each (OpBytes (without_tables h)) ops x → Each (OpBytes h) ops x
 ops_by_numbers h [] x p = p

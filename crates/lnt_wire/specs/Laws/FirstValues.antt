@@ -1,5 +1,5 @@
 -- What is spelled is found, whatever follows. These are proofs: nothing here is to be believed.
-use Rattle.std.proofs.Common.{◌≡◌, ℕ, zero, suc, ◌+◌, ◌^◌, ◌<◌, ◌≤◌, cond, List, [], ◌∷◌, ◌++◌, length, take, drop, refl, sym, ap, subst, ◌∙◌, append_assoc, arith}
+use Rattle.std.proofs.Common.{◌≡◌, ℕ, zero, suc, ◌+◌, List, [], ◌∷◌, ◌++◌, length, take, refl, sym, ap, subst, ◌∙◌, append_assoc, arith}
 use Rattle.std.proofs.lemmas.Bool.Decides.{nat_tests}
 use Rattle.std.proofs.lemmas.List.{length-append}
 use Rattle.std.proofs.Math.Seq.{take-append_seam, drop-append_seam}
@@ -13,7 +13,7 @@ use Rattle.lnt_wire.specs.declared.form.FormValue.TheVariants.{Text, LineStrp, S
 use Rattle.lnt_wire.specs.FirstValues.{first_number, first_leb, first_text, behind_length, first_value, first_size}
 use Rattle.lnt_wire.specs.FormBytes.{form_of, HasNoZero, BlockBytes, FormBytes, ValueBytes}
 use Rattle.lnt_wire.specs.Leb128.{IsLeb, groups, UnsignedLeb}
-use Rattle.lnt_wire.specs.Numbers.{NumberBytes, number_bytes, offset_size}
+use Rattle.lnt_wire.specs.Numbers.{NumberBytes, offset_size}
 use Rattle.lnt_wire.specs.Laws.Lengths.{length-number_bytes}
 
 number_found : (order : Order) (size n : ℕ) (x more : List ℕ) → NumberBytes order size n x → first_number order size (x ++ more) ≡ n

@@ -1,11 +1,16 @@
 -- Where the texts of a section end.
-use Rattle.std.proofs.Common.{◌≡◌, ◌≢◌, ℕ, zero, suc, ◌+◌, ◌-◌, ◌<◌, ◌≤◌, ◌↔◌, List, [], ◌∷◌, length, get_or, drop, Option, Some, None, refl, sym, ap, subst, ◌∙◌, arith, ◌⊎◌, inl, inr, true, false}
+use Rattle.std.proofs.Common.{◌≡◌, ◌≢◌, ℕ, zero, suc, ◌-◌, ◌<◌, ◌≤◌, List, [], ◌∷◌, length, get_or, drop, Option, Some, None, refl, sym, ap, subst, arith, ◌⊎◌, inl, inr, false}
 use Rattle.std.specs.Prelude.{IsSome}
 use Rattle.std.specs.Option.{option_map, is_some}
 use Rattle.lnt_wire.specs.FormBytes.{HasNoZero}
 use Rattle.lnt_wire.specs.Texts.{up_to_zero}
-use Rattle.lnt_wire.specs.TextEnds.{TextsEndAt}
-use Rattle.lnt_wire.proofs.TextLemmas.{no_end}
+use Rattle.lnt_entries.specs.TextEnds.{TextsEndAt}
+
+-- no zero byte follows
+no_end : (bytes : List ℕ) → HasNoZero bytes → up_to_zero bytes ≡ None
+no_end [] h = refl
+no_end (zero ∷ bytes) h = absurd (omega (arith, h.0))
+no_end (suc b ∷ bytes) h = ap (λ (o : Option (List ℕ)). option_map (λ text. suc b ∷ text) o) (no_end bytes h.1)
 
 some_mapped : (f : List ℕ → List ℕ) (o : Option (List ℕ)) → IsSome o → IsSome (option_map f o)
 some_mapped f (Some x) h = refl

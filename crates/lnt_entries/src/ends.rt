@@ -2,10 +2,9 @@
 ghost use Rattle.std.specs.Prelude.{◌≡◌, ◌↔◌, IsTrue, IsSome};
 ghost use Rattle.lnt_wire.specs.Borrowed.{value_of};
 ghost use Rattle.lnt_wire.specs.Texts.{text_of, up_to_zero};
-ghost use Rattle.lnt_wire.specs.TextEnds.{Sections, TextsEndAt};
+ghost use Rattle.lnt_entries.specs.TextEnds.{Sections, TextsEndAt};
 
-use crate::strings::Strings;
-use crate::view::ValueView;
+use lnt_wire::{Strings, ValueView};
 use std::marker::Model;
 
 /// The string sections, and where the texts of each end: whether an offset has a text is told without a look at the
@@ -18,7 +17,7 @@ pub struct StringEnds<'a> {
 }
 
 impl<'a> Model for StringEnds<'a> {
-    ghost use Rattle.lnt_wire.specs.TextEnds.{Sections, TextsEndAt};
+    ghost use Rattle.lnt_entries.specs.TextEnds.{Sections, TextsEndAt};
 
     ghost Value = { Sections };
 
