@@ -1,7 +1,8 @@
 -- Numbers written from the last digit on.
-use Rattle.std.proofs.Common.{◌≡◌, ◌∙◌, ℕ, zero, suc, ◌+◌, ◌*◌, ◌/◌, ◌%◌, ◌^◌, ◌<◌, ◌≤◌, ◌-◌, add-one, List, [], ◌∷◌, length, drop, slice_set, length-drop, refl, sym, ap, subst, arith}
+use Rattle.std.proofs.Common.{◌≡◌, ◌∙◌, ℕ, zero, suc, ◌+◌, ◌*◌, ◌/◌, ◌%◌, ◌^◌, ◌<◌, ◌≤◌, ◌-◌, add-one, List, [], ◌∷◌, length, drop, take, slice_set, length-drop, refl, sym, ap, subst, arith}
 use Rattle.std.proofs.Math.ListN.{length-set}
-use Rattle.std.proofs.lemmas.List.{drop_all}
+use Rattle.std.proofs.Math.Seq.{take-set-lt}
+use Rattle.std.proofs.lemmas.List.{drop-set-lt, drop_all, length-take-le, take_all, take-set-le}
 use Rattle.std.specs.List.{AllByRecursion}
 use Rattle.lnt_digits.specs.declared.radix.Radix.{Radix}
 use Rattle.lnt_digits.specs.declared.radix.Radix.TheVariants.{Ten, Sixteen}
@@ -58,32 +59,39 @@ digit_first radix n = record {
   no_zero = λ e. tt;
 }
 
--- ---- the same at the end of a buffer
+-- ---- the same up to the end of a text
 
 -- what stands from a place on, where at most so many digits are left to write
-pub record Stands (radix : Radix) (n : ℕ) (digits : List ℕ) (start left : ℕ) : Type 0 where
-  pub long : length digits ≡ 20
-  pub within : start < 20
+pub record Stands (radix : Radix) (n end : ℕ) (digits : List ℕ) (start left : ℕ) : Type 0 where
+  pub long : length digits ≡ end
+  pub within : start < end
+  pub few : most_digits radix ≤ end
   pub room : ℕ
-  pub room_is : start + most_digits radix ≡ room + 20
+  pub room_is : start + most_digits radix ≡ room + end
   pub bound : left < base radix ^ room
   pub put : IsPut radix n (drop start digits) left
 
-first_bound : (radix : Radix) (n : ℕ) → n < 2 ^ 64 → (room : ℕ) × (19 + most_digits radix ≡ room + 20) × (n / base radix < base radix ^ room)
-first_bound Ten n fits = (19, omega arith, omega (arith, fits))
-first_bound Sixteen n fits = (15, omega arith, omega (arith, fits))
+first_bound : (radix : Radix) (n end : ℕ) → n < 2 ^ 64 → 0 < end → (room : ℕ) × (end - 1 + most_digits radix ≡ room + end) × (n / base radix < base radix ^ room)
+first_bound Ten n end fits some = (19, omega (arith, some), omega (arith, fits))
+first_bound Sixteen n end fits some = (15, omega (arith, some), omega (arith, fits))
 
-pub stands_first : (radix : Radix) (n : ℕ) (digits : List ℕ) → n < 2 ^ 64 → length digits ≡ 20
-    → Stands radix n (slice_set digits 19 (digit_code (n % base radix))) 19 (n / base radix)
-stands_first radix n digits fits long =
-    let lt : 19 < length digits = omega (arith, long) in
-    let none : drop (19 + 1) digits ≡ [] = drop_all 20 digits (omega (arith, long)) in
+most_some : (radix : Radix) → 0 < most_digits radix
+most_some Ten = omega arith
+most_some Sixteen = omega arith
+
+stands_first : (radix : Radix) (n end : ℕ) (digits : List ℕ) → n < 2 ^ 64 → length digits ≡ end → most_digits radix ≤ end
+    → Stands radix n end (slice_set digits (end - 1) (digit_code (n % base radix))) (end - 1) (n / base radix)
+stands_first radix n end digits fits long few =
+    let some : 0 < end = omega (arith, few, most_some radix) in
+    let lt : end - 1 < length digits = omega (arith, long, some) in
+    let none : drop (end - 1 + 1) digits ≡ [] = drop_all (end - 1 + 1) digits (omega (arith, long)) in
     let code : ℕ = digit_code (n % base radix) in
-    let e : drop 19 (slice_set digits 19 code) ≡ code ∷ [] = drop_put digits 19 code lt ∙ ap (λ (xs : List ℕ). code ∷ xs) none in
-    let b = first_bound radix n fits in
+    let e : drop (end - 1) (slice_set digits (end - 1) code) ≡ code ∷ [] = drop_put digits (end - 1) code lt ∙ ap (λ (xs : List ℕ). code ∷ xs) none in
+    let b = first_bound radix n end fits some in
     record {
-      long = length-set digits 19 code ∙ long;
-      within = omega arith;
+      long = length-set digits (end - 1) code ∙ long;
+      within = omega (arith, some);
+      few = few;
       room = b.0;
       room_is = b.1;
       bound = b.2;
@@ -99,23 +107,19 @@ some_room : (radix : Radix) (room left : ℕ) → left < base radix ^ room → 0
 some_room radix zero left h some = absurd (omega (arith, some, no_room radix left h))
 some_room radix (suc room) left h some = omega arith
 
-most_at_most : (radix : Radix) → most_digits radix ≤ 20
-most_at_most Ten = omega arith
-most_at_most Sixteen = omega arith
-
-pub start_some : (radix : Radix) (n : ℕ) (digits : List ℕ) (start left : ℕ) → Stands radix n digits start left → 0 < left → 0 < start
-start_some radix n digits start left s some = omega (arith, some_room radix s.room left s.bound some, s.room_is, most_at_most radix)
+start_some : (radix : Radix) (n end : ℕ) (digits : List ℕ) (start left : ℕ) → Stands radix n end digits start left → 0 < left → 0 < start
+start_some radix n end digits start left s some = omega (arith, some_room radix s.room left s.bound some, s.room_is, s.few)
 
 bound_less : (radix : Radix) (room left : ℕ) → left < base radix ^ room → 0 < room → left / base radix < base radix ^ (room - 1)
 bound_less radix room left h some =
     let back : room - 1 + 1 ≡ room = omega (arith, some) in
     fewer_digits radix left (room - 1) (subst (λ (k : ℕ). left < base radix ^ k) (sym back) h)
 
-pub stands_more : (radix : Radix) (n : ℕ) (digits : List ℕ) (start left : ℕ) → Stands radix n digits start left → 0 < left
-    → Stands radix n (slice_set digits (start - 1) (digit_code (left % base radix))) (start - 1) (left / base radix)
-stands_more radix n digits start left s some =
+stands_more : (radix : Radix) (n end : ℕ) (digits : List ℕ) (start left : ℕ) → Stands radix n end digits start left → 0 < left
+    → Stands radix n end (slice_set digits (start - 1) (digit_code (left % base radix))) (start - 1) (left / base radix)
+stands_more radix n end digits start left s some =
     let room = some_room radix s.room left s.bound some in
-    let before = start_some radix n digits start left s some in
+    let before = start_some radix n end digits start left s some in
     let code : ℕ = digit_code (left % base radix) in
     let lt : start - 1 < length digits = omega (arith, s.long, s.within) in
     let back : start - 1 + 1 ≡ start = omega (arith, before) in
@@ -124,15 +128,16 @@ stands_more radix n digits start left s some =
     record {
       long = length-set digits (start - 1) code ∙ s.long;
       within = omega (arith, s.within);
+      few = s.few;
       room = s.room - 1;
       room_is = omega (arith, room, before, s.room_is);
       bound = bound_less radix s.room left s.bound room;
       put = subst (λ (text : List ℕ). IsPut radix n text (left / base radix)) (sym e) (digit_put radix n (drop start digits) left s.put some);
     }
 
-pub stands_all : (radix : Radix) (n : ℕ) (digits : List ℕ) (start left : ℕ) → n < 2 ^ 64 → Stands radix n digits start left → left ≡ 0
+stands_all : (radix : Radix) (n end : ℕ) (digits : List ℕ) (start left : ℕ) → n < 2 ^ 64 → Stands radix n end digits start left → left ≡ 0
     → IsPlain radix (drop start digits) n
-stands_all radix n digits start left fits s e = record {
+stands_all radix n end digits start left fits s e = record {
   number = record {
     digits = s.put.digits;
     some = s.put.some;
@@ -144,12 +149,61 @@ stands_all radix n digits start left fits s e = record {
   lower = s.put.lower;
 }
 
--- ---- behind what a vector holds
+-- ---- within a text, of which the rest stays
 
--- 0x before the digits of an address
-pub address_put : (digits : List ℕ) (start n : ℕ) → length digits ≡ 20 → start ≤ 20 → 2 ≤ start → IsPlain Sixteen (drop start digits) n
+-- digits that end before a place of the text
+pub record Written (radix : Radix) (n end : ℕ) (old text : List ℕ) (start left : ℕ) : Type 0 where
+  pub long : end ≤ length text
+  pub stands : Stands radix n end (take end text) start left
+  pub before : (k : ℕ) → k ≤ start → take k text ≡ take k old
+  pub after : drop end text ≡ drop end old
+
+take_long : (end : ℕ) (text : List ℕ) → end ≤ length text → length (take end text) ≡ end
+take_long end text long = length-take-le end text long
+
+pub written_first : (radix : Radix) (n end : ℕ) (text : List ℕ) → n < 2 ^ 64 → most_digits radix ≤ end → end ≤ length text
+    → Written radix n end text (slice_set text (end - 1) (digit_code (n % base radix))) (end - 1) (n / base radix)
+written_first radix n end text fits few long =
+    let lt : end - 1 < end = omega (arith, few, most_some radix) in
+    let code : ℕ = digit_code (n % base radix) in
+    record {
+      long = omega (arith, long, length-set text (end - 1) code);
+      stands = subst (λ (z : List ℕ). Stands radix n end z (end - 1) (n / base radix)) (sym (take-set-lt end text (end - 1) code lt))
+          (stands_first radix n end (take end text) fits (take_long end text long) few);
+      before = λ k here. take-set-le k text (end - 1) code here;
+      after = drop-set-lt end text (end - 1) code lt;
+    }
+
+pub written_some : (radix : Radix) (n end : ℕ) (old text : List ℕ) (start left : ℕ) → Written radix n end old text start left → 0 < left → 0 < start
+written_some radix n end old text start left w some = start_some radix n end (take end text) start left w.stands some
+
+pub written_more : (radix : Radix) (n end : ℕ) (old text : List ℕ) (start left : ℕ) → Written radix n end old text start left → 0 < left
+    → Written radix n end old (slice_set text (start - 1) (digit_code (left % base radix))) (start - 1) (left / base radix)
+written_more radix n end old text start left w some =
+    let lt : start - 1 < end = omega (arith, w.stands.within) in
+    let code : ℕ = digit_code (left % base radix) in
+    record {
+      long = omega (arith, w.long, length-set text (start - 1) code);
+      stands = subst (λ (z : List ℕ). Stands radix n end z (start - 1) (left / base radix)) (sym (take-set-lt end text (start - 1) code lt))
+          (stands_more radix n end (take end text) start left w.stands some);
+      before = λ k here. take-set-le k text (start - 1) code here ∙ w.before k (omega (arith, here));
+      after = drop-set-lt end text (start - 1) code lt ∙ w.after;
+    }
+
+pub written_all : (radix : Radix) (n end : ℕ) (old text : List ℕ) (start left : ℕ) → n < 2 ^ 64 → Written radix n end old text start left → left ≡ 0
+    → IsPlain radix (drop start (take end text)) n
+written_all radix n end old text start left fits w e = stands_all radix n end (take end text) start left fits w.stands e
+
+-- where a text has that length
+pub whole_text : (radix : Radix) (n start : ℕ) (text : List ℕ) → length text ≡ 20 → IsPlain radix (drop start (take 20 text)) n → IsPlain radix (drop start text) n
+whole_text radix n start text long p =
+    subst (λ (z : List ℕ). IsPlain radix (drop start z) n) (take_all 20 text (omega (arith, long))) p
+
+-- ---- 0x before the digits of an address
+
+pub address_put : (digits : List ℕ) (start end n : ℕ) → length digits ≡ end → start ≤ end → 2 ≤ start → IsPlain Sixteen (drop start digits) n
     → IsPlainAddress (drop (start - 2) (slice_set (slice_set digits (start - 1) 120) (start - 2) 48)) n
-address_put digits start n long within room plain =
+address_put digits start end n long within room plain =
     let one : start - 1 < length digits = omega (arith, long, within, room) in
     let two : start - 2 < length (slice_set digits (start - 1) 120) = omega (arith, long, within, room, length-set digits (start - 1) 120) in
     let next : start - 2 + 1 ≡ start - 1 = omega (arith, room) in
@@ -163,3 +217,21 @@ address_put digits start n long within room plain =
           ∙ ap (λ (k : ℕ). 48 ∷ 120 ∷ drop k digits) last;
       plain = plain;
     }
+
+pub address_within : (text : List ℕ) (start end n : ℕ) → end ≤ length text → start < end → 2 ≤ start → IsPlain Sixteen (drop start (take end text)) n
+    → IsPlainAddress (drop (start - 2) (take end (slice_set (slice_set text (start - 1) 120) (start - 2) 48))) n
+address_within text start end n long within room plain =
+    let one = take-set-lt end text (start - 1) 120 (omega (arith, within, room)) in
+    let two = take-set-lt end (slice_set text (start - 1) 120) (start - 2) 48 (omega (arith, within, room)) in
+    let both : take end (slice_set (slice_set text (start - 1) 120) (start - 2) 48) ≡ slice_set (slice_set (take end text) (start - 1) 120) (start - 2) 48 =
+    two ∙ ap (λ (z : List ℕ). slice_set z (start - 2) 48) one in
+    subst (λ (z : List ℕ). IsPlainAddress (drop (start - 2) z) n) (sym both)
+    (address_put (take end text) start end n (take_long end text long) (omega (arith, within)) room plain)
+
+pub address_before : (text : List ℕ) (start : ℕ) → 2 ≤ start → take (start - 2) (slice_set (slice_set text (start - 1) 120) (start - 2) 48) ≡ take (start - 2) text
+address_before text start room =
+    take-set-le (start - 2) (slice_set text (start - 1) 120) (start - 2) 48 (omega arith) ∙ take-set-le (start - 2) text (start - 1) 120 (omega (arith, room))
+
+pub address_after : (text : List ℕ) (start end : ℕ) → start < end → 2 ≤ start → drop end (slice_set (slice_set text (start - 1) 120) (start - 2) 48) ≡ drop end text
+address_after text start end within room =
+    drop-set-lt end (slice_set text (start - 1) 120) (start - 2) 48 (omega (arith, within, room)) ∙ drop-set-lt end text (start - 1) 120 (omega (arith, within, room))

@@ -10,6 +10,6 @@ mod put;
 mod radix;
 mod read;
 
-pub use put::{put_address, put_decimal};
+pub use put::{address_before, decimal_before, put_address, put_decimal};
 pub use radix::{Radix, decimal_value, is_hexadecimal, letter_or_digit_value};
 pub use read::{address, decimal};

@@ -1,5 +1,5 @@
 //! Numbers written as text.
-ghost use Rattle.std.specs.Prelude.{◌≡◌, ℕ, ◌+◌, ◌++◌, ◌<◌, ◌≤◌, List, drop, OnOk, OnErr};
+ghost use Rattle.std.specs.Prelude.{◌≡◌, ℕ, ◌+◌, ◌++◌, ◌<◌, ◌≤◌, List, drop, length, take, OnOk, OnErr};
 ghost use Rattle.lnt_digits.specs.Digits.{IsPlain, IsPlainAddress, IsPlainDecimal, Puts, most_digits};
 
 use crate::radix::{Radix, digit_byte};
@@ -35,20 +35,63 @@ pub fn put_address(out: &mut Vec<u8>, n: u64) -> Result<(), AllocError>
     out.extend_from_slice(&digits[start - 2..])
 }
 
-// Writes the digits of a number behind each other, up to the end, and says where they begin.
+/// Writes the decimal digits of a number, with no leading zeros, into a text, so that they end before the place `end`,
+/// and says where they begin. What stands before and after them stays. The caller sees to it that 20 digits have room.
+#[inline(always)]
+pub fn decimal_before(text: &mut [u8], end: usize, n: u64) -> usize
+    requires { (20 ≤ end) × (end ≤ length text.old) }
+    ensures begins { (result < end) × (end ≤ result + 20) }
+    ensures written { IsPlainDecimal (drop result (take end text.new)) n }
+    ensures before { take result text.new ≡ take result text.old }
+    ensures after { drop end text.new ≡ drop end text.old }
+{
+    digits_before(text, end, n, Radix::Ten)
+}
+
+/// Writes `0x` and the hexadecimal digits of a number, in lower case and with no leading zeros, into a text, so that they
+/// end before the place `end`, and says where they begin. What stands before and after them stays. The caller sees to it
+/// that 18 characters have room.
+#[inline(always)]
+pub fn address_before(text: &mut [u8], end: usize, n: u64) -> usize
+    requires { (18 ≤ end) × (end ≤ length text.old) }
+    ensures begins { (result < end) × (end ≤ result + 18) }
+    ensures written { IsPlainAddress (drop result (take end text.new)) n }
+    ensures before { take result text.new ≡ take result text.old }
+    ensures after { drop end text.new ≡ drop end text.old }
+{
+    let start = digits_before(text, end, n, Radix::Sixteen);
+    text[start - 1] = b'x';
+    text[start - 2] = b'0';
+    start - 2
+}
+
+// Writes the digits of a number one after another, up to the end, and says where they begin.
 #[inline(always)]
 fn put_digits(n: u64, radix: Radix, digits: &mut [u8; MOST_DIGITS]) -> usize
     ensures within { result < 20 }
     ensures room { 20 ≤ result + most_digits radix }
     ensures written { IsPlain radix (drop result digits.new) n }
 {
+    digits_before(digits, MOST_DIGITS, n, radix)
+}
+
+// Writes the digits of a number one after another, up to the place `end` of a text, and says where they begin.
+#[inline(always)]
+fn digits_before(text: &mut [u8], end: usize, n: u64, radix: Radix) -> usize
+    requires { (most_digits radix ≤ end) × (end ≤ length text.old) }
+    ensures within { result < end }
+    ensures room { end ≤ result + most_digits radix }
+    ensures written { IsPlain radix (drop result (take end text.new)) n }
+    ensures before { (k : ℕ) → k ≤ result → take k text.new ≡ take k text.old }
+    ensures after { drop end text.new ≡ drop end text.old }
+{
     let base = radix.base();
-    let mut start = MOST_DIGITS - 1;
-    digits[start] = digit_byte(n % base);
+    let mut start = end - 1;
+    text[start] = digit_byte(n % base);
     let mut left = n / base;
     while left > 0 {
         start -= 1;
-        digits[start] = digit_byte(left % base);
+        text[start] = digit_byte(left % base);
         left /= base;
     }
     start

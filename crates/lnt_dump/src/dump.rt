@@ -2,15 +2,15 @@
 ghost use Rattle.std.specs.Prelude.{◌-◌, ◌^◌, ◌<◌};
 
 use crate::faults::{print_fault, print_run_fault};
-use crate::header::print_header;
 use crate::operations::print_ops;
+use crate::page::{Page, Sheet, hand_on, judge};
 use crate::rows::print_rows;
 use crate::units::{Next, next_of};
 use lnt_files::{Halt, Status};
-use lnt_machine::{Machine, RunFault};
+use lnt_machine::RunFault;
 use lnt_unit::{SectionReader, UnitBuffer, UnitView};
-use lnt_wire::{Order, Source};
-use std::alloc::Global;
+use lnt_wire::{Fault, Order, Source};
+use std::alloc::{AllocError, Global};
 use std::io::Write;
 
 /// What is printed of a unit behind its header.
@@ -20,6 +20,35 @@ pub struct Shown {
     pub ops: bool,
     /// Behind these a line for each row, and a line of refusal for a program that doesn't run.
     pub rows: bool,
+}
+
+// Why a unit isn't printed, or not whole.
+#[derive(Clone, Copy)]
+pub(crate) enum Stop {
+    // Its bytes are those of no unit.
+    Malformed(Fault),
+    // Its program doesn't run.
+    NotRun(RunFault),
+    // The printing was stopped.
+    Halt(Halt),
+}
+
+impl From<Fault> for Stop {
+    fn from(fault: Fault) -> Stop {
+        Stop::Malformed(fault)
+    }
+}
+
+impl From<Halt> for Stop {
+    fn from(halt: Halt) -> Stop {
+        Stop::Halt(halt)
+    }
+}
+
+impl From<AllocError> for Stop {
+    fn from(error: AllocError) -> Stop {
+        Stop::Halt(Halt::from(error))
+    }
 }
 
 /// Prints the units that the source has to give, each with its header, its tables, and what else is shown.
@@ -37,6 +66,7 @@ pub fn print_dump<R: Source, W: Write>(
 ) -> Result<Status, Halt>
     requires { R.failures source.old < 2 ^ 64 - 1 }
 {
+    let mut page = Page::new(alloc)?;
     let mut reader = SectionReader::new(source, order);
     let mut room = Vec::new(alloc);
     loop {
@@ -45,7 +75,7 @@ pub fn print_dump<R: Source, W: Write>(
             Next::Fault(fault) => return print_fault(fault, out),
             Next::End => return Ok(Status::Done),
         };
-        if print_unit(alloc, &unit, shown, out)? == Status::No {
+        if print_unit(alloc, &unit, shown, &mut page, out)? == Status::No {
             return Ok(Status::No);
         }
         room = unit.into_bytes();
@@ -57,46 +87,40 @@ fn print_unit<W: Write>(
     alloc: Global,
     buffer: &UnitBuffer,
     shown: Shown,
+    page: &mut Page,
     out: &mut W,
 ) -> Result<Status, Halt> {
     let unit = match UnitView::over(alloc, buffer) {
         Ok(unit) => unit,
         Err(fault) => return print_fault(fault, out),
     };
-    if let Err(fault) = unit.operation_count() {
-        return print_fault(fault, out);
+    let sheet = Sheet {
+        alloc,
+        buffer,
+        unit: &unit,
+        shown,
+    };
+    page.begin();
+    match print_sheet(&sheet, page, out) {
+        Ok(()) => Ok(Status::Done),
+        Err(Stop::Malformed(fault)) => print_fault(fault, out),
+        Err(Stop::NotRun(fault)) => print_run_fault(buffer.offset(), fault, out),
+        Err(Stop::Halt(halt)) => Err(halt),
     }
-    if shown.rows {
-        if let Err(fault) = run(&unit) {
-            return print_run_fault(buffer.offset(), fault, out);
-        }
-    }
-    print_header(alloc, &buffer.frame(), unit.header(), out)?;
-    if shown.ops {
-        print_ops(alloc, &unit, out)?;
-    }
-    if shown.rows {
-        print_rows(&unit, out)?;
-    }
-    Ok(Status::Done)
 }
 
-// Runs the program of the unit, which has no fault.
-#[tactic(auto, using(lnt_machine::specs::Laws::Walks::step_allowed))]
-fn run(unit: &UnitView<'_>) -> Result<(), RunFault> {
-    let mut machine = Machine::new(unit.header());
-    let mut open = false;
-    for op in unit.ops() {
-        let Ok(op) = op else {
-            break;
-        };
-        if let Some(row) = machine.step(&op)? {
-            open = !row.end_sequence;
-        }
+// Prints a unit, if it is sound, and else nothing of it. The first walk over its program judges it.
+fn print_sheet<W: Write>(sheet: &Sheet<'_>, page: &mut Page, out: &mut W) -> Result<(), Stop> {
+    let Shown { ops, rows } = sheet.shown;
+    if ops {
+        print_ops(sheet, page, out)?;
+        hand_on(sheet, page, out)?;
     }
-    if open {
-        Err(RunFault::OpenSequence)
-    } else {
-        Ok(())
+    if rows {
+        print_rows(sheet, page, out)?;
+    } else if !ops {
+        judge(sheet)?;
     }
+    hand_on(sheet, page, out)?;
+    Ok(())
 }

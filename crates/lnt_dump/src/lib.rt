@@ -8,8 +8,11 @@ mod convert;
 mod dump;
 mod faults;
 mod header;
+mod line;
 mod operations;
+mod page;
 mod rows;
+mod run;
 mod units;
 mod width;
 

@@ -1,82 +1,118 @@
 //! How operations are printed.
-use lnt_files::Halt;
-use lnt_unit::{OpView, Operands, UnitView};
+use crate::dump::Stop;
+use crate::page::{Page, Sheet, turn};
+use crate::run::{ended, not_run};
+use lnt_digits::{put_address, put_decimal};
+use lnt_machine::Machine;
+use lnt_unit::{OpView, Operands};
 use lnt_wire::{Cursor, Order};
-use std::alloc::Global;
+use std::alloc::AllocError;
 use std::io::Write;
 
-// Prints a line for each operation of a unit.
+// Prints a line for each operation of a unit, and judges its program as it goes; where rows are shown too, also whether
+// it runs.
+#[tactic(auto, using(lnt_machine::specs::Laws::Walks::step_allowed))]
 pub(crate) fn print_ops<W: Write>(
-    alloc: Global,
-    unit: &UnitView<'_>,
+    sheet: &Sheet<'_>,
+    page: &mut Page,
     out: &mut W,
-) -> Result<(), Halt> {
-    for (index, op) in unit.ops().enumerate() {
-        let Ok(op) = op else {
-            break;
-        };
-        print_op(alloc, index, &op, out)?;
+) -> Result<(), Stop> {
+    let (unit, runs) = (sheet.unit, sheet.shown.rows);
+    let mut machine = Machine::new(unit.header());
+    let (mut index, mut open) = (0, false);
+    for op in unit.ops() {
+        let op = op?;
+        if runs {
+            match machine.step(&op) {
+                Ok(Some(row)) => open = !row.end_sequence,
+                Ok(None) => {}
+                Err(fault) => return Err(not_run(unit, fault)),
+            }
+        }
+        put_start(&mut page.text, index)?;
+        index = index.saturating_add(1);
+        if let OpView::UnknownExtended(code, bytes) = &op {
+            print_extended(sheet, *code, bytes, page, out)?;
+        } else {
+            put_op(&mut page.text, &op)?;
+        }
+        put_one(&mut page.text, b'\n')?;
+        if page.is_full() {
+            turn(sheet, page, out)?;
+        }
     }
-    Ok(())
+    ended(open)
 }
 
-// Prints the line of an operation, the `index`th of its unit.
-fn print_op<W: Write>(
-    alloc: Global,
-    index: usize,
-    op: &OpView<'_>,
-    out: &mut W,
-) -> Result<(), Halt> {
-    write!(out, "op {index} ")?;
+// Adds what the line of the `index`th operation begins with.
+#[inline(always)]
+fn put_start(text: &mut Vec<u8>, index: u64) -> Result<(), AllocError> {
+    text.extend_from_slice(b"op ")?;
+    put_decimal(text, index)?;
+    put_one(text, b' ')
+}
+
+// Adds an operation.
+fn put_op(text: &mut Vec<u8>, op: &OpView<'_>) -> Result<(), AllocError> {
     match op {
-        OpView::Special(opcode) => write!(out, "special {opcode}")?,
-        OpView::Copy => write!(out, "copy")?,
-        OpView::AdvancePc(n) => write!(out, "advance_pc {n}")?,
-        OpView::AdvanceLine(z) => write!(out, "advance_line {z}")?,
-        OpView::SetFile(n) => write!(out, "set_file {n}")?,
-        OpView::SetColumn(n) => write!(out, "set_column {n}")?,
-        OpView::NegateStmt => write!(out, "negate_stmt")?,
-        OpView::SetBasicBlock => write!(out, "set_basic_block")?,
-        OpView::ConstAddPc => write!(out, "const_add_pc")?,
-        OpView::FixedAdvancePc(n) => write!(out, "fixed_advance_pc {n}")?,
-        OpView::SetPrologueEnd => write!(out, "set_prologue_end")?,
-        OpView::SetEpilogueBegin => write!(out, "set_epilogue_begin")?,
-        OpView::SetIsa(n) => write!(out, "set_isa {n}")?,
+        OpView::Special(opcode) => put_named(text, b"special ", u64::from(*opcode)),
+        OpView::Copy => text.extend_from_slice(b"copy"),
+        OpView::AdvancePc(n) => put_named(text, b"advance_pc ", *n),
+        OpView::AdvanceLine(z) => put_line(text, *z),
+        OpView::SetFile(n) => put_named(text, b"set_file ", *n),
+        OpView::SetColumn(n) => put_named(text, b"set_column ", *n),
+        OpView::NegateStmt => text.extend_from_slice(b"negate_stmt"),
+        OpView::SetBasicBlock => text.extend_from_slice(b"set_basic_block"),
+        OpView::ConstAddPc => text.extend_from_slice(b"const_add_pc"),
+        OpView::FixedAdvancePc(n) => put_named(text, b"fixed_advance_pc ", u64::from(*n)),
+        OpView::SetPrologueEnd => text.extend_from_slice(b"set_prologue_end"),
+        OpView::SetEpilogueBegin => text.extend_from_slice(b"set_epilogue_begin"),
+        OpView::SetIsa(n) => put_named(text, b"set_isa ", *n),
         OpView::UnknownStandard(opcode, operands) => {
-            write!(out, "unknown_standard {opcode}")?;
-            print_operands(operands, out)?;
+            put_named(text, b"unknown_standard ", u64::from(*opcode))?;
+            put_operands(text, operands)
         }
-        OpView::EndSequence => write!(out, "end_sequence")?,
-        OpView::SetAddress(address) => write!(out, "set_address 0x{address:x}")?,
-        OpView::SetDiscriminator(n) => write!(out, "set_discriminator {n}")?,
-        OpView::UnknownExtended(code, []) => write!(out, "unknown_extended {code}")?,
-        OpView::UnknownExtended(code, bytes) => {
-            write!(
-                out,
-                "unknown_extended {code} {}",
-                hex::encode(alloc, *bytes)?
-            )?;
+        OpView::EndSequence => text.extend_from_slice(b"end_sequence"),
+        OpView::SetAddress(address) => {
+            text.extend_from_slice(b"set_address ")?;
+            put_address(text, *address)
         }
+        OpView::SetDiscriminator(n) => put_named(text, b"set_discriminator ", *n),
+        OpView::UnknownExtended(code, _) => put_named(text, b"unknown_extended ", u64::from(*code)),
     }
-    writeln!(out)?;
-    Ok(())
 }
 
-// Prints numbers, each behind a space.
-fn print_operands<W: Write>(operands: &Operands<'_>, out: &mut W) -> Result<(), Halt> {
+// Adds a name and a number.
+#[inline(always)]
+fn put_named(text: &mut Vec<u8>, name: &[u8], n: u64) -> Result<(), AllocError> {
+    text.extend_from_slice(name)?;
+    put_decimal(text, n)
+}
+
+// Adds a change of the line, which may be negative.
+fn put_line(text: &mut Vec<u8>, change: i64) -> Result<(), AllocError> {
+    text.extend_from_slice(b"advance_line ")?;
+    if change < 0 {
+        put_one(text, b'-')?;
+    }
+    put_decimal(text, change.unsigned_abs())
+}
+
+// Adds numbers, each behind a space.
+fn put_operands(text: &mut Vec<u8>, operands: &Operands<'_>) -> Result<(), AllocError> {
     match operands {
         Operands::Listed(numbers) => {
             for number in *numbers {
-                write!(out, " {number}")?;
+                put_named(text, b" ", *number)?;
             }
+            Ok(())
         }
-        Operands::Spelled(bytes) => print_spelled(bytes, out)?,
+        Operands::Spelled(bytes) => put_spelled(text, bytes),
     }
-    Ok(())
 }
 
-// Prints the numbers that the bytes spell, each behind a space.
-fn print_spelled<W: Write>(bytes: &[u8], out: &mut W) -> Result<(), Halt> {
+// Adds the numbers that the bytes spell, each behind a space.
+fn put_spelled(text: &mut Vec<u8>, bytes: &[u8]) -> Result<(), AllocError> {
     // The order of bytes is of no concern to these numbers.
     let mut cursor = Cursor::new(bytes, 0, Order::Little);
     // Each number has a byte.
@@ -84,7 +120,7 @@ fn print_spelled<W: Write>(bytes: &[u8], out: &mut W) -> Result<(), Halt> {
         let Some(number) = next_number(&mut cursor) else {
             break;
         };
-        write!(out, " {number}")?;
+        put_named(text, b" ", number)?;
     }
     Ok(())
 }
@@ -92,4 +128,39 @@ fn print_spelled<W: Write>(bytes: &[u8], out: &mut W) -> Result<(), Halt> {
 // The next number, where there is one.
 fn next_number(cursor: &mut Cursor<'_>) -> Option<u64> {
     cursor.uleb().ok()
+}
+
+// Prints an unknown extended operation, with its bytes by their digits, if it has any.
+fn print_extended<W: Write>(
+    sheet: &Sheet<'_>,
+    code: u8,
+    bytes: &[u8],
+    page: &mut Page,
+    out: &mut W,
+) -> Result<(), Stop> {
+    put_named(&mut page.text, b"unknown_extended ", u64::from(code))?;
+    if !bytes.is_empty() {
+        put_one(&mut page.text, b' ')?;
+    }
+    for byte in bytes {
+        put_byte(&mut page.text, *byte)?;
+        if page.is_full() {
+            turn(sheet, page, out)?;
+        }
+    }
+    Ok(())
+}
+
+// Adds the two hexadecimal digits of a byte.
+fn put_byte(text: &mut Vec<u8>, byte: u8) -> Result<(), AllocError> {
+    let digits = b"0123456789abcdef";
+    put_one(text, digits[usize::from(byte / 16)])?;
+    put_one(text, digits[usize::from(byte % 16)])
+}
+
+// Adds a byte.
+#[inline(always)]
+fn put_one(text: &mut Vec<u8>, byte: u8) -> Result<(), AllocError> {
+    text.push(byte)?;
+    Ok(())
 }

@@ -1,64 +1,35 @@
 //! How rows are printed.
-use lnt_files::Halt;
-use lnt_machine::{Machine, Row};
-use lnt_unit::UnitView;
-use std::fmt;
+use crate::dump::Stop;
+use crate::line::{MOST, row_line};
+use crate::page::{Page, Sheet, turn};
+use crate::run::{ended, not_run};
+use lnt_machine::Machine;
 use std::io::Write;
 
-// Prints a line for each row of a unit whose program runs.
+// Prints a line for each row of a unit, and judges its program as it goes.
 #[tactic(auto, using(lnt_machine::specs::Laws::Walks::step_allowed))]
-pub(crate) fn print_rows<W: Write>(unit: &UnitView<'_>, out: &mut W) -> Result<(), Halt> {
+pub(crate) fn print_rows<W: Write>(
+    sheet: &Sheet<'_>,
+    page: &mut Page,
+    out: &mut W,
+) -> Result<(), Stop> {
+    let unit = sheet.unit;
     let mut machine = Machine::new(unit.header());
-    let mut index: u64 = 0;
+    let mut room = [0; MOST];
+    let (mut index, mut open) = (0, false);
     for op in unit.ops() {
-        let Ok(op) = op else {
-            break;
+        let row = match machine.step(&op?) {
+            Ok(Some(row)) => row,
+            Ok(None) => continue,
+            Err(fault) => return Err(not_run(unit, fault)),
         };
-        if let Ok(Some(row)) = machine.step(&op) {
-            print_row(index, &row, out)?;
-            index = index.saturating_add(1);
+        open = !row.end_sequence;
+        let start = row_line(&mut room, index, &row);
+        page.text.extend_from_slice(&room[start..])?;
+        index = index.saturating_add(1);
+        if page.is_full() {
+            turn(sheet, page, out)?;
         }
     }
-    Ok(())
-}
-
-// Prints the line of a row, the `index`th of its unit.
-fn print_row<W: Write>(index: u64, row: &Row, out: &mut W) -> Result<(), Halt> {
-    let (address, op, file, line, column) = (
-        row.address,
-        row.op_index,
-        row.file,
-        row.line,
-        row.column,
-    );
-    let (stmt, marks) = (u8::from(row.is_stmt), Marks(row));
-    let (isa, discriminator) = (row.isa, row.discriminator);
-    writeln!(
-        out,
-        "row {index} 0x{address:x} {op} {file} {line} {column} {stmt} {marks} {isa} {discriminator}"
-    )?;
-    Ok(())
-}
-
-// The marks that are set, a letter each.
-#[derive(Clone, Copy)]
-struct Marks<'a>(&'a Row);
-
-impl fmt::Display for Marks<'_> {
-    fn fmt<W: fmt::Write>(&self, f: &mut fmt::Formatter<W>) -> fmt::Result {
-        let row = self.0;
-        let mut none = true;
-        for (is_set, letter) in [
-            (row.basic_block, 'b'),
-            (row.end_sequence, 'e'),
-            (row.prologue_end, 'p'),
-            (row.epilogue_begin, 'g'),
-        ] {
-            if is_set {
-                f.write_char(letter)?;
-                none = false;
-            }
-        }
-        if none { f.write_char('-') } else { Ok(()) }
-    }
+    ended(open)
 }

@@ -1,0 +1,71 @@
+//! Lines of rows, written from their ends on, so that no digits have to be counted or moved.
+ghost use Rattle.std.specs.Prelude.{◌+◌, ◌<◌, ◌≤◌};
+
+use lnt_digits::{address_before, decimal_before};
+use lnt_machine::Row;
+
+// More bytes than the line of a row has.
+pub(crate) const MOST: usize = 192;
+
+// Writes the line of a row, the `index`th of its unit, so that it ends where the room does, and says where it begins.
+#[inline(always)]
+pub(crate) fn row_line(room: &mut [u8; MOST], index: u64, row: &Row) -> usize
+    ensures { result < 192 }
+{
+    let at = number_before(room, MOST, row.discriminator, b'\n');
+    let at = number_before(room, at, row.isa, b' ');
+    let at = marks_before(room, at, row);
+    let at = mark_before(room, at, true, b' ');
+    let at = mark_before(room, at, true, b'0' + u8::from(row.is_stmt));
+    let at = number_before(room, at, row.column, b' ');
+    let at = number_before(room, at, row.line, b' ');
+    let at = number_before(room, at, row.file, b' ');
+    let at = number_before(room, at, row.op_index, b' ');
+    let at = mark_before(room, at, true, b' ');
+    let at = address_before(room, at, row.address);
+    let at = number_before(room, at, index, b' ');
+    let at = mark_before(room, at, true, b' ');
+    let at = mark_before(room, at, true, b'w');
+    let at = mark_before(room, at, true, b'o');
+    mark_before(room, at, true, b'r')
+}
+
+// Writes a number and the byte after it, so that they end before `end`.
+#[inline(always)]
+fn number_before(room: &mut [u8; MOST], end: usize, n: u64, after: u8) -> usize
+    requires { (21 ≤ end) × (end ≤ 192) }
+    ensures { (result < end) × (end ≤ result + 21) }
+{
+    room[end - 1] = after;
+    decimal_before(room, end - 1, n)
+}
+
+// Writes the letters of the marks that are set, or a dash, and a space, so that they end before `end`.
+#[inline(always)]
+fn marks_before(room: &mut [u8; MOST], end: usize, row: &Row) -> usize
+    requires { (5 ≤ end) × (end ≤ 192) }
+    ensures { (result ≤ end) × (end ≤ result + 5) }
+{
+    let at = mark_before(room, end, true, b' ');
+    let some = row.basic_block | row.end_sequence | row.prologue_end | row.epilogue_begin;
+    if !some {
+        return mark_before(room, at, true, b'-');
+    }
+    let at = mark_before(room, at, row.epilogue_begin, b'g');
+    let at = mark_before(room, at, row.prologue_end, b'p');
+    let at = mark_before(room, at, row.end_sequence, b'e');
+    mark_before(room, at, row.basic_block, b'b')
+}
+
+// Writes a byte before `end`, if it is set.
+#[inline(always)]
+fn mark_before(room: &mut [u8; MOST], end: usize, is_set: bool, byte: u8) -> usize
+    requires { (1 ≤ end) × (end ≤ 192) }
+    ensures { (result ≤ end) × (end ≤ result + 1) }
+{
+    if !is_set {
+        return end;
+    }
+    room[end - 1] = byte;
+    end - 1
+}

@@ -1,0 +1,84 @@
+//! The text of a unit on its way to the writer.
+use crate::dump::{Shown, Stop};
+use crate::header::print_header;
+use crate::run::run;
+use lnt_files::Halt;
+use lnt_unit::{UnitBuffer, UnitView};
+use std::alloc::{AllocError, Global};
+use std::io::Write;
+
+// A page is handed to the writer once it has so many bytes.
+const PAGE: usize = 1 << 16;
+
+// A unit, and what is printed of it.
+#[derive(Drop)]
+pub(crate) struct Sheet<'a> {
+    pub(crate) alloc: Global,
+    pub(crate) buffer: &'a UnitBuffer,
+    pub(crate) unit: &'a UnitView<'a>,
+    pub(crate) shown: Shown,
+}
+
+// The text of a unit that isn't written yet. It is held back until the unit is known to be sound: then its header is
+// written, and behind that the text as it comes.
+#[derive(Drop)]
+pub(crate) struct Page {
+    pub(crate) text: Vec<u8>,
+    is_begun: bool,
+}
+
+impl Page {
+    // An empty page.
+    pub(crate) fn new(alloc: Global) -> Result<Page, AllocError> {
+        Ok(Page {
+            text: Vec::with_capacity(alloc, 2 * PAGE)?,
+            is_begun: false,
+        })
+    }
+
+    // Whether the text has to be handed on.
+    #[inline(always)]
+    pub(crate) fn is_full(&self) -> bool {
+        self.text.len() >= PAGE
+    }
+
+    // Begins the page of another unit.
+    pub(crate) fn begin(&mut self) {
+        self.text.clear();
+        self.is_begun = false;
+    }
+}
+
+// Hands a full page to the writer, once the unit is known to be sound.
+pub(crate) fn turn<W: Write>(sheet: &Sheet<'_>, page: &mut Page, out: &mut W) -> Result<(), Stop> {
+    if !page.is_begun {
+        judge(sheet)?;
+    }
+    hand_on(sheet, page, out)?;
+    Ok(())
+}
+
+// Judges the program of a unit without printing anything.
+pub(crate) fn judge(sheet: &Sheet<'_>) -> Result<(), Stop> {
+    if sheet.shown.rows {
+        run(sheet.unit)
+    } else {
+        sheet.unit.operation_count()?;
+        Ok(())
+    }
+}
+
+// Writes the text of a sound unit, and before it the header, if that wasn't written yet.
+pub(crate) fn hand_on<W: Write>(
+    sheet: &Sheet<'_>,
+    page: &mut Page,
+    out: &mut W,
+) -> Result<(), Halt> {
+    if !page.is_begun {
+        print_header(sheet.alloc, &sheet.buffer.frame(), sheet.unit.header(), out)?;
+        page.is_begun = true;
+    }
+    out.write_all(&page.text)?;
+    page.text.clear();
+    Ok(())
+}

@@ -1,0 +1,37 @@
+//! Whether the program of a unit runs.
+use crate::dump::Stop;
+use lnt_machine::{Machine, RunFault};
+use lnt_unit::UnitView;
+
+// Runs the program of a unit. It refuses with the fault of the first operation that isn't there, and else with that of
+// the run.
+#[tactic(auto, using(lnt_machine::specs::Laws::Walks::step_allowed))]
+pub(crate) fn run(unit: &UnitView<'_>) -> Result<(), Stop> {
+    let mut machine = Machine::new(unit.header());
+    let mut open = false;
+    for op in unit.ops() {
+        match machine.step(&op?) {
+            Ok(Some(row)) => open = !row.end_sequence,
+            Ok(None) => {}
+            Err(fault) => return Err(not_run(unit, fault)),
+        }
+    }
+    ended(open)
+}
+
+// Why a program stops that doesn't run: an operation that isn't there comes first, wherever it would stand.
+pub(crate) fn not_run(unit: &UnitView<'_>, fault: RunFault) -> Stop {
+    match unit.operation_count() {
+        Ok(_) => Stop::NotRun(fault),
+        Err(fault) => Stop::Malformed(fault),
+    }
+}
+
+// How a program ends that leaves a sequence open, or none.
+pub(crate) fn ended(open: bool) -> Result<(), Stop> {
+    if open {
+        Err(Stop::NotRun(RunFault::OpenSequence))
+    } else {
+        Ok(())
+    }
+}
