@@ -327,6 +327,14 @@ fn indexed(alloc: Global, bytes: &[u8]) -> Option<Index<'static>> {
     }
 }
 
+// The path, or nothing where there is none.
+fn path_in(path: &Result<Option<Vec<u8>>, Stop>) -> &[u8] {
+    match path {
+        Ok(Some(path)) => path.as_slice(),
+        _ => &[],
+    }
+}
+
 // Whether the index answers as the lines at some positions, and has their spans, units and paths.
 fn is_index_of(alloc: Global, index: &Index<'_>, lines: &Lines) -> bool {
     for address in 0xff0..0x2040 {
@@ -343,12 +351,10 @@ fn is_index_of(alloc: Global, index: &Index<'_>, lines: &Lines) -> bool {
         if index.file_count(*unit) != lines.file_count(*unit) {
             return false;
         }
-        match (
-            index.path_of(alloc, *unit, 1),
-            lines.path_of(alloc, *unit, 1),
-        ) {
-            (Ok(Some(one)), Ok(Some(other))) if one.as_slice() == other.as_slice() => {}
-            _ => return false,
+        let one = index.path_of(alloc, *unit, 1);
+        let other = lines.path_of(alloc, *unit, 1);
+        if path_in(&one) != path_in(&other) {
+            return false;
         }
     }
     spans.as_slice() == lines.spans() && index.units() == lines.units()
