@@ -13,12 +13,13 @@ for tool in bash sed find sort xargs sha256sum readlink dirname mktemp mkdir rm 
   ln -s "$(command -v "$tool")" "$work/without/$tool"
 done
 
-# A toolchain that proves two crates at once and copies the program, and keeps a line for each time that it is asked.
+# A toolchain that proves three crates at once and copies the program, and keeps a line for each time that it is asked.
 cat >"$work/bin/rt" <<END
 #!/usr/bin/env bash
 echo "\$1" >>"$work/asked"
 case \$1 in
-  all) sleep 1; printf '== %s\n' lnt_wire linetab summary; [ ! -e "$work/broken" ] ;;
+  lib) [ "\${PWD##*/}" != lnt_header ] || [ ! -e "$work/no_header" ] ;;
+  all) sleep 1; printf '== %s\n' lnt_wire lnt_header linetab summary; [ ! -e "$work/broken" ] ;;
   run) mkdir -p out && cp "$top/crates/linetab/out/linetab" out/linetab ;;
 esac
 END
@@ -37,13 +38,16 @@ section=$top/examples/hello.debug_line
 
 expect 'no program and no toolchain' 127 '' "linetab: the program isn't built: it would be WORK/tree/crates/linetab/out/linetab. To prove and build it, install the Rattle toolchain, so that its command rt is on the PATH"$'\n' \
   plainly without_rt "$tree/linetab" units "$section"
-touch "$work/broken"
-expect 'a crate that is not proved' 126 '' $'linetab: proving and building the program, which takes some minutes the first time\nlinetab: proved lnt_wire (1 of '"$all"$'), N s\nlinetab: proved linetab (2 of '"$all"$'), N s\n== lnt_wire\n== linetab\n== summary\nlinetab: the program isn\'t proved\n' \
+touch "$work/no_header"
+expect 'a crate that others wait for is not proved' 126 '' $'linetab: proving and building the program, which takes some minutes the first time\nlinetab: proved lnt_wire (1 of '"$all"$'), N s\n== lnt_wire\nlinetab: the program isn\'t proved\n' \
+  plainly with_rt "$tree/linetab" units "$section"
+mv "$work/no_header" "$work/broken"
+expect 'a crate that is not proved' 126 '' $'linetab: proving and building the program, which takes some minutes the first time\nlinetab: proved lnt_wire (1 of '"$all"$'), N s\nlinetab: proved lnt_header (2 of '"$all"$'), N s\nlinetab: proved linetab (3 of '"$all"$'), N s\n== lnt_wire\n== lnt_header\n== lnt_wire\n== lnt_header\n== linetab\n== summary\nlinetab: the program isn\'t proved\n' \
   plainly with_rt "$tree/linetab" units "$section"
 rm "$work/broken" "$work/asked"
-expect 'the first build' 0 $'0x0 32 156\n' $'linetab: proving and building the program, which takes some minutes the first time\nlinetab: proved lnt_wire (1 of '"$all"$'), N s\nlinetab: proved linetab (2 of '"$all"$'), N s\nlinetab: built in N s\n' \
+expect 'the first build' 0 $'0x0 32 156\n' $'linetab: proving and building the program, which takes some minutes the first time\nlinetab: proved lnt_wire (1 of '"$all"$'), N s\nlinetab: proved lnt_header (2 of '"$all"$'), N s\nlinetab: proved linetab (3 of '"$all"$'), N s\nlinetab: built in N s\n' \
   plainly with_rt "$tree/linetab" units "$section"
-expect 'once built, nothing is asked of the toolchain' 0 $'all\nrun\n' '' cat "$work/asked"
+expect 'once built, nothing is asked of the toolchain' 0 $'lib\nlib\nall\nrun\n' '' cat "$work/asked"
 expect 'it runs without one' 0 $'0x0 32 156\n' '' without_rt "$tree/linetab" units "$section"
 cp -r "$tree" "$work/copy"
 find "$work/copy" -name '*.rt' -exec touch {} +
@@ -53,5 +57,5 @@ touch -d 2000-01-01 "$tree/crates/lnt_wire/src/lib.rt"
 rm "$work/asked"
 expect 'a changed source, and two that ask at once' 0 $'0x0 64 172\n' '' \
   env PATH="$work/bin:$work/without" bash -c '"$0" convert "$1" --format 64 --order little 2>/dev/null | "$0" units - 2>/dev/null' "$tree/linetab" "$section"
-expect 'are one build' 0 $'all\nrun\n' '' cat "$work/asked"
+expect 'are one build' 0 $'lib\nlib\nall\nrun\n' '' cat "$work/asked"
 finish
