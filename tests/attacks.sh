@@ -1,0 +1,5 @@
+#!/usr/bin/env bash
+# Sections of shapes that cost a careless reader much, time by their square or memory by many times their bytes.
+cd "$(dirname "$0")/.." || exit 1
+./linetab --help >/dev/null || exit 1
+exec python3 tests/attacks.py
