@@ -4,3 +4,4 @@ pub mod SectionLemmas
 pub mod UnitLemmas
 pub mod UnitReaders
 pub mod ViewLemmas
+pub mod WholeWalks
