@@ -5,3 +5,4 @@ pub mod UnitLemmas
 pub mod UnitReaders
 pub mod ViewLemmas
 pub mod WholeWalks
+pub mod LargeUnits
