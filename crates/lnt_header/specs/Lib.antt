@@ -12,6 +12,7 @@ pub mod FieldsBytes
 pub mod FirstFaults
 pub mod Joins
 pub mod Layouts
+pub mod Large
 pub mod Laws
 pub mod OpRules
 pub mod OpViews

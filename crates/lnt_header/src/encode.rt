@@ -1,5 +1,5 @@
 //! Headers, written as the bytes of their units.
-ghost use Rattle.std.specs.Prelude.{◌≡◌, ◌+◌, ◌++◌, IfOk, IfErr, OnOk};
+ghost use Rattle.std.specs.Prelude.{◌≡◌, ◌⊎◌, ◌+◌, ◌++◌, IfOk, IfErr, OnOk};
 ghost use Rattle.std.specs.List.{AllByRecursion};
 ghost use Rattle.lnt_wire.specs.Bytes.{IsShortest, Appends};
 ghost use Rattle.lnt_wire.specs.FormBytes.{HasSpelling, FormBytes};
@@ -8,6 +8,7 @@ ghost use Rattle.lnt_wire.specs.Numbers.{offset_size};
 ghost use Rattle.lnt_header.specs.Encoding.{RefusedPut, EntryParts};
 ghost use Rattle.lnt_header.specs.HeaderBytes.{HeaderFieldsBytes, HeaderBytesIn};
 ghost use Rattle.lnt_header.specs.HeaderRules.{IsHeader, IsTable};
+ghost use Rattle.lnt_header.specs.Large.{HasLargeEntry, HasLargeOffset, HasLargeValue, IfTooLarge, IsTooLong};
 ghost use Rattle.lnt_header.specs.Joins.{Each};
 ghost use Rattle.lnt_header.specs.TableBytes.{PairBytes, TableOf};
 
@@ -20,19 +21,22 @@ use lnt_wire::{
 use std::alloc::Global;
 
 /// The bytes of a unit with this header and this program, each LEB128 in its shortest spelling (DWARF 5, section
-/// 6.2.4). `TooLarge` where nothing spells them in the header's format, and else `Memory`.
+/// 6.2.4). `TooLarge` where nothing spells them in the header's format: an offset of the tables is 2^32 or more in the
+/// 32-bit format, or the unit is longer than the format can say. And else `Memory`.
 pub fn encode_header(alloc: Global, header: &Header, program: &[u8]) -> Result<Vec<u8>, EncodeFault>
     ensures ok { IfOk result (λ bytes. IsShortest (HeaderBytesIn header.now.order) (header.now, program.now) bytes.items) }
     ensures err { IfErr result (λ fault. RefusedPut (HeaderBytesIn header.now.order) (header.now, program.now) fault) }
+    ensures large { IfErr result (IfTooLarge (HasLargeOffset header.now ⊎ IsTooLong header.now program.now)) }
 {
     encode_parts(alloc, header.parts(), program)
 }
 
-#[tactic(auto, using(crate::proofs::EncodeLemmas::header_put, crate::proofs::EncodeLemmas::header_refused, crate::proofs::EncodeLemmas::header_too_long, crate::specs::Laws::Puts::refused_memory))]
+#[tactic(auto, using(crate::proofs::EncodeLemmas::header_put, crate::proofs::EncodeLemmas::header_refused, crate::proofs::EncodeLemmas::header_too_long, crate::specs::Laws::Puts::refused_memory, crate::proofs::LargeLemmas::offset_large, crate::proofs::LargeLemmas::unit_too_long, crate::proofs::LargeLemmas::memory_not_large))]
 fn encode_parts(alloc: Global, parts: &HeaderParts, program: &[u8]) -> Result<Vec<u8>, EncodeFault>
     requires { IsHeader parts.now }
     ensures ok { IfOk result (λ bytes. IsShortest (HeaderBytesIn parts.now.order) (parts.now, program.now) bytes.items) }
     ensures err { IfErr result (λ fault. RefusedPut (HeaderBytesIn parts.now.order) (parts.now, program.now) fault) }
+    ensures large { IfErr result (IfTooLarge (HasLargeOffset parts.now ⊎ IsTooLong parts.now program.now)) }
 {
     let fields = counted_fields(alloc, parts)?;
     let length = unit_length(parts.format, fields.len(), program.len())?;
@@ -90,6 +94,7 @@ fn counted_fields(alloc: Global, parts: &HeaderParts) -> Result<Vec<u8>, EncodeF
     requires { IsHeader parts.now }
     ensures ok { IfOk result (λ bytes. IsShortest HeaderFieldsBytes parts.now bytes.items) }
     ensures err { IfErr result (λ fault. RefusedPut HeaderFieldsBytes parts.now fault) }
+    ensures large { IfErr result (IfTooLarge (HasLargeOffset parts.now)) }
 {
     let (format, order) = (parts.format, parts.order);
     let mut out = Vec::new(alloc);
@@ -114,7 +119,7 @@ fn counted_fields(alloc: Global, parts: &HeaderParts) -> Result<Vec<u8>, EncodeF
 }
 
 // Adds a table.
-#[tactic(auto, using(crate::proofs::EncodeLemmas::table_put, crate::proofs::EncodeLemmas::table_refused, crate::specs::Laws::Puts::refused_memory))]
+#[tactic(auto, using(crate::proofs::EncodeLemmas::table_put, crate::proofs::EncodeLemmas::table_refused, crate::specs::Laws::Puts::refused_memory, crate::proofs::LargeLemmas::memory_not_large))]
 fn add_table(
     out: &mut Vec<u8>,
     pairs: &[Pair],
@@ -125,6 +130,7 @@ fn add_table(
     requires { IsTable pairs.now entries.now }
     ensures ok { OnOk result (Appends (TableOf format order) (pairs.now, entries.now) out.old.items out.new.items) }
     ensures err { IfErr result (λ fault. RefusedPut (TableOf format order) (pairs.now, entries.now) fault) }
+    ensures large { IfErr result (IfTooLarge (HasLargeEntry format entries.now)) }
 {
     out.push(pairs.len() as u8)?;
     add_pairs(out, pairs)?;
@@ -155,7 +161,7 @@ fn add_pair(out: &mut Vec<u8>, pair: &Pair) -> Result<(), EncodeFault>
 }
 
 // Adds the entries of a table.
-#[tactic(auto, using(crate::proofs::EncodeLemmas::entries_begun, crate::proofs::EncodeLemmas::entries_more, crate::proofs::EncodeLemmas::entries_done, crate::proofs::EncodeLemmas::entries_refused, crate::specs::Laws::Puts::refused_memory))]
+#[tactic(auto, using(crate::proofs::EncodeLemmas::entries_begun, crate::proofs::EncodeLemmas::entries_more, crate::proofs::EncodeLemmas::entries_done, crate::proofs::EncodeLemmas::entries_refused, crate::specs::Laws::Puts::refused_memory, crate::proofs::LargeLemmas::entry_large, crate::proofs::LargeLemmas::memory_not_large))]
 fn add_entries(
     out: &mut Vec<u8>,
     entries: &[Entry],
@@ -165,6 +171,7 @@ fn add_entries(
     requires { AllByRecursion (λ entry. AllByRecursion HasSpelling entry.values) entries.now }
     ensures ok { OnOk result (Appends (Each (EntryParts format order)) entries.now out.old.items out.new.items) }
     ensures err { IfErr result (λ fault. RefusedPut (Each (EntryParts format order)) entries.now fault) }
+    ensures large { IfErr result (IfTooLarge (HasLargeEntry format entries.now)) }
 {
     for entry in entries {
         add_values(out, entry.values.as_slice(), format, order)?;
@@ -173,7 +180,7 @@ fn add_entries(
 }
 
 // Adds the values of an entry.
-#[tactic(auto, using(crate::proofs::EncodeLemmas::values_begun, crate::proofs::EncodeLemmas::values_more, crate::proofs::EncodeLemmas::values_done, crate::proofs::EncodeLemmas::values_refused, crate::specs::Laws::Puts::refused_memory))]
+#[tactic(auto, using(crate::proofs::EncodeLemmas::values_begun, crate::proofs::EncodeLemmas::values_more, crate::proofs::EncodeLemmas::values_done, crate::proofs::EncodeLemmas::values_refused, crate::specs::Laws::Puts::refused_memory, crate::proofs::LargeLemmas::value_large, crate::proofs::LargeLemmas::memory_not_large))]
 fn add_values(
     out: &mut Vec<u8>,
     values: &[FormValue],
@@ -183,6 +190,7 @@ fn add_values(
     requires { AllByRecursion HasSpelling values.now }
     ensures ok { OnOk result (Appends (Each (FormBytes format order)) values.now out.old.items out.new.items) }
     ensures err { IfErr result (λ fault. RefusedPut (Each (FormBytes format order)) values.now fault) }
+    ensures large { IfErr result (IfTooLarge (HasLargeValue format values.now)) }
 {
     for value in values {
         put_form(out, value, format, order)?;

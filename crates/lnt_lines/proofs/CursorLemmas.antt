@@ -126,6 +126,7 @@ gives_all dead units index law is =
         come_later = record { sequences = all.in_turn; each = entries_found dead units index index.entries all.in_turn is all.each; spans_are = refl };
         spans_are = refl;
       };
+      spans_are = all.permuted;
       in_order = all.in_order;
       answers = all.answers;
       whole = whole_spans dead units (spans_of all.in_turn) all.in_order all.answers;

@@ -9,3 +9,4 @@ mod SectionLemmas
 mod WholeLemmas
 pub mod IndexLemmas
 mod CursorLemmas
+pub mod GoodLemmas

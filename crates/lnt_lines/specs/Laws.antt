@@ -6,6 +6,10 @@ use Rattle.std.specs.List.{All, Contains}
 use Rattle.lnt_wire.specs.declared.format.Order.{Order}
 use Rattle.lnt_unit.specs.declared.unit.Parts.{Parts}
 use Rattle.lnt_unit.specs.UnitBytes.{SectionBytes}
+use Rattle.lnt_machine.specs.declared.row.Row.{Row}
+use Rattle.lnt_spans.specs.declared.position.Position.{Position}
+use Rattle.lnt_rows.specs.Laws.{IsLastAt}
+use Rattle.lnt_rows.specs.Sequences.{answer_of, Holds, line_answer, live_sequences, Placed}
 use Rattle.lnt_entries.specs.Paths.{listed_sum, path_bytes}
 use Rattle.lnt_lines.specs.declared.no.No.{No}
 use Rattle.lnt_lines.specs.declared.options.Options.{Options}
@@ -36,3 +40,14 @@ pub record FilesOfUnits : Type 0 where
 pub record HeadersOfUnits : Type 0 where
   pub found : (dead : Option ℕ) (units : List (ℕ × Parts)) (index : Indexed) (unit : ℕ × Parts) → IsIndexOf dead units index → Contains units unit → header_in index unit.0 ≡ Some unit.1.header
   pub none : (dead : Option ℕ) (units : List (ℕ × Parts)) (index : Indexed) (offset : ℕ) → IsIndexOf dead units index → All (λ unit. unit.0 ≢ offset) units → header_in index offset ≡ None
+
+-- Of the live sequences of a good section at most one holds p, and the section answers at p what its last row at or before p says.
+-- Where none holds p, it answers nothing.
+pub record AnswersAsHolder : Type 0 where
+  pub one_alone : (line general : List ℕ) (options : Options) (section : List ℕ) (units : List (ℕ × Parts)) (one other : Placed) (p : Position) → IsGood line general options section units
+      → Contains (live_sequences options.dead units) one → Contains (live_sequences options.dead units) other → Holds one.rows p → Holds other.rows p → one ≡ other
+  pub held : (line general : List ℕ) (options : Options) (section : List ℕ) (units : List (ℕ × Parts)) (placed : Placed) (p : Position) → IsGood line general options section units
+      → Contains (live_sequences options.dead units) placed → Holds placed.rows p
+      → (row : Row) × IsLastAt p placed.rows row × (line_answer options.dead units p ≡ Some (answer_of placed.id.unit row))
+  pub none : (dead : Option ℕ) (units : List (ℕ × Parts)) (p : Position)
+      → ((placed : Placed) → Contains (live_sequences dead units) placed → Holds placed.rows p → ⊥) → line_answer dead units p ≡ None

@@ -1,5 +1,5 @@
 //! Laws of judged sections, each the contract of a function without parameters that does nothing.
-ghost use Rattle.lnt_lines.specs.Laws.{FilesOfUnits, GoodHasNoFlaw, HeadersOfUnits};
+ghost use Rattle.lnt_lines.specs.Laws.{AnswersAsHolder, FilesOfUnits, GoodHasNoFlaw, HeadersOfUnits};
 
 /// A good section has no flaw: nothing that a `No` tells is true of it. So where `verify` doesn't stop, it answers
 /// `Good` exactly where the section is good.
@@ -25,3 +25,12 @@ pub fn files_of_units()
 pub fn headers_of_units()
     ensures { HeadersOfUnits }
 {}
+
+/// Of the live sequences of a good section at most one holds a position, and the section answers there what the last of
+/// its rows says, in their order, that stands at or before it. It answers nothing where none holds it.
+#[tactic(auto, using(crate::proofs::GoodLemmas::answers_as_holder))]
+pub fn answers_as_holder()
+    ensures { AnswersAsHolder }
+{
+    lnt_rows::laws::answers_as_holder();
+}

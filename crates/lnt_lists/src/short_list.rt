@@ -1,6 +1,7 @@
 //! Lists that are mostly short.
-ghost use Rattle.std.specs.Prelude.{◌≡◌, ◌∷◌, ◌++◌, [], IfOk};
-ghost use Rattle.lnt_lists.specs.ShortLists.{listed};
+ghost use Rattle.std.specs.Prelude.{◌≡◌, ◌<◌, ◌∷◌, ◌++◌, [], length, IfOk};
+ghost use Rattle.std.specs.Result.{IsOk};
+ghost use Rattle.lnt_lists.specs.ShortLists.{IsKept, listed};
 
 use std::alloc::{AllocError, Global};
 use std::marker::Model;
@@ -24,11 +25,13 @@ pub struct ShortList<T> {
 
 impl<T> Model for ShortList<T> {
     ghost use Rattle.std.specs.Prelude.{List};
-    ghost use Rattle.lnt_lists.specs.ShortLists.{listed};
+    ghost use Rattle.lnt_lists.specs.ShortLists.{IsKept, listed};
 
     ghost Value = { List T };
 
     ghost view = { λ list. listed list.kept };
+
+    ghost invariant = { λ list. IsKept list.kept };
 }
 
 impl<T> ShortList<T> {
@@ -84,9 +87,11 @@ impl<T: Drop> ShortList<T> {
         ShortList { kept: Kept::Zero }
     }
 
-    /// Adds a value behind the others. After the error, that memory ran out, nothing is said of the list.
+    /// Adds a value behind the others. Up to the third it takes no memory, and is never refused. After the error, that
+    /// memory ran out, nothing is said of the list.
     pub fn push(&mut self, alloc: Global, value: T) -> Result<(), AllocError>
-        ensures { IfOk result (λ _. self.new ≡ self.old ++ value ∷ []) }
+        ensures ok { IfOk result (λ _. self.new ≡ self.old ++ value ∷ []) }
+        ensures short { length self.old < 3 → IsOk result }
     {
         let ShortList { kept } = mem::replace(self, ShortList::new());
         *self = ShortList {
@@ -98,7 +103,10 @@ impl<T: Drop> ShortList<T> {
 
 // The values and one more.
 fn pushed<T: Drop>(alloc: Global, kept: Kept<T>, value: T) -> Result<Kept<T>, AllocError>
-    ensures { IfOk result (λ more. listed more ≡ listed kept ++ value ∷ []) }
+    requires { IsKept kept }
+    ensures ok { IfOk result (λ more. listed more ≡ listed kept ++ value ∷ []) }
+    ensures is_kept { IfOk result IsKept }
+    ensures short { length (listed kept) < 3 → IsOk result }
 {
     match kept {
         Kept::Zero => Ok(Kept::One([value])),

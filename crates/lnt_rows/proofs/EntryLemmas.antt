@@ -25,13 +25,13 @@ use Rattle.lnt_rows.specs.Watching.{last_behind}
 use Rattle.lnt_rows.proofs.ExtentLemmas.{Contains-behind, here_or_later, IsSketch, of_sequence, test_from_holds}
 use Rattle.lnt_rows.proofs.HolderLemmas.{answer_none, held_once}
 use Rattle.lnt_rows.proofs.RowLemmas.{spans_answer}
+use Rattle.lnt_rows.proofs.SpansOfLemmas.{IsTurnOf, turns_permuted}
 use Rattle.lnt_rows.proofs.TurnLemmas.{spans_in_turn}
 
 -- ---- the sequence of each entry
 
-record IsTurn (sequences : List Placed) (entry : Extent) (placed : Placed) : Type 0 where
-  contained : Contains sequences placed
-  sketch : IsSketch placed entry
+abbrev IsTurn : List Placed → Extent → Placed → Type 0
+IsTurn sequences entry placed = IsTurnOf sequences entry placed
 
 turns : (sequences : List Placed) (entries : List Extent) → ((e : Extent) → Contains entries e → Contains (extents_of sequences) e) → (in_turn : List Placed) × AllZip (IsTurn sequences) entries in_turn
 turns sequences [] h = ([], tt)
@@ -152,6 +152,7 @@ entries_in_turn sequences entries settled permuted apart ordered =
     record {
       in_turn = found.0;
       each = turn_entries sequences entries found.0 found.1;
+      permuted = turns_permuted sequences entries found.0 permuted apart ordered found.1;
       in_order = turns_in_order sequences entries found.0 settled.apart found.1 in_order;
       answers = λ p. spans_answer found.0 in_order p ∙ turns_answer sequences entries found.0 p permuted apart found.1;
       count = turns_some sequences entries found.0 found.1;

@@ -30,11 +30,12 @@ pub record IsEntryOf (sequences : List Placed) (extent : Extent) (placed : Place
   pub contained : Contains sequences placed
   pub id_is : placed.id ≡ extent.id
 
--- The sequences of the entries, in this order, have spans in order, which answer as all sequences do. There is a span for
--- each of them at least.
+-- The sequences of the entries, in this order, have spans in order. These are the spans of all sequences, and answer as all do.
+-- There is a span for each of the entries at least.
 pub record HaveSpansInOrder (sequences : List Placed) (entries : List Extent) : Type 0 where
   pub in_turn : List Placed
   pub each : AllZip (IsEntryOf sequences) entries in_turn
+  pub permuted : IsPermutation (spans_of sequences) (spans_of in_turn)
   pub in_order : AreInOrder (spans_of in_turn)
   pub answers : (p : Position) → span_answer (spans_of in_turn) p ≡ answer_in sequences p
   pub count : length entries ≤ length (spans_of in_turn)

@@ -1,7 +1,7 @@
 //! Laws of what rows say of positions, each the contract of a function without parameters that does nothing.
 ghost use Rattle.lnt_rows.specs.Extents.{HolderAnswers};
 ghost use Rattle.lnt_rows.specs.InTurn.{EntriesInTurn, SpansInTurn};
-ghost use Rattle.lnt_rows.specs.Laws.{CollectedUnit, DistinctSequences, FallIsNotOrdered, MissingFileIsNotThere, OverlapIsNotApart, SequenceSpans, SpansAnswer};
+ghost use Rattle.lnt_rows.specs.Laws.{AnswersAsHolder, CollectedUnit, DistinctSequences, FallIsNotOrdered, MissingFileIsNotThere, OverlapIsNotApart, SequenceSpans, SpansAnswer};
 
 /// The spans of sequences whose positions never fall answer at every position as their rows do.
 #[tactic(auto, using(crate::proofs::RowLemmas::spans_answer))]
@@ -46,6 +46,13 @@ pub fn distinct_sequences()
 #[tactic(auto, using(crate::proofs::HolderLemmas::holder_answers))]
 pub fn holder_answers()
     ensures { HolderAnswers }
+{}
+
+/// Of sequences that share no position at most one holds a position, and what they answer there is what the last of its
+/// rows says, in their order, that stands at or before it. They answer nothing where none holds it.
+#[tactic(auto, using(crate::proofs::LastRowLemmas::answers_as_holder))]
+pub fn answers_as_holder()
+    ensures { AnswersAsHolder }
 {}
 
 /// Sequences one after another, whose positions never fall, have spans in order.

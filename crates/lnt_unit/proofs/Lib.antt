@@ -4,3 +4,5 @@ pub mod SectionLemmas
 pub mod UnitLemmas
 pub mod UnitReaders
 pub mod ViewLemmas
+pub mod WholeWalks
+pub mod LargeUnits

@@ -3,14 +3,26 @@ pub mod Frames
 pub mod Numbers
 pub mod Units
 pub mod Views
--- What is spelled is read again, whatever follows: no spelling begins another, and each spells one value.
-use Rattle.std.specs.Prelude.{◌≡◌, ℕ, List}
+-- What is spelled is read again, whatever follows: no spelling begins another, and each spells one value. And what whole walks
+-- over a unit and over a section say.
+use Rattle.std.specs.Prelude.{◌≡◌, ◌⊎◌, ◌≤◌, ℕ, List, [], ◌∷◌, ◌++◌, length, false, Some}
+use Rattle.std.specs.List.{AllByRecursion, AllZip}
 use Rattle.lnt_wire.specs.declared.format.Order.{Order}
 use Rattle.lnt_wire.specs.declared.fault.Fault.{Fault}
 use Rattle.lnt_wire.specs.Bytes.{IsCode}
+use Rattle.lnt_wire.specs.Frames.{EndsBy}
+use Rattle.lnt_header.specs.Borrowed.{without_tables}
+use Rattle.lnt_header.specs.HeaderRules.{IsHeader}
+use Rattle.lnt_header.specs.OpRules.{Admits}
+use Rattle.lnt_header.specs.OpViews.{StandsFor}
+use Rattle.lnt_header.specs.declared.op.Op.{Op}
+use Rattle.lnt_header.specs.declared.view.OpView.{OpView}
+use Rattle.lnt_ops.specs.Walks.{Ends, Fails, Steps, Walk}
+use Rattle.lnt_stream.specs.Units as stream
 use Rattle.lnt_unit.specs.declared.unit.Parts.{Parts}
-use Rattle.lnt_unit.specs.BrokenUnits.{IsTrueFault}
+use Rattle.lnt_unit.specs.BrokenUnits.{BrokenSection, BrokenUnit, IsTrueFault}
 use Rattle.lnt_unit.specs.UnitBytes.{UnitBytesIn, SectionBytes}
+use Rattle.lnt_unit.specs.Views.{IsView, View, with_ops}
 
 -- units
 abbrev pub OneSpelling : Type 0
@@ -20,3 +32,43 @@ OneSpelling = (order : Order) → IsCode (UnitBytesIn order)
 pub record OneSection : Type 0 where
   pub units : (order : Order) (us vs : List (ℕ × Parts)) (bytes : List ℕ) → SectionBytes order us bytes → SectionBytes order vs bytes → us ≡ vs
   pub fault : (order : Order) (fault : Fault) (units : List (ℕ × Parts)) (bytes : List ℕ) → IsTrueFault order fault bytes → SectionBytes order units bytes → ⊥
+
+-- ---- whole walks
+
+-- A walk over the program of a view that has given nothing yet, as `ops` gives it. It reads by the header, or by its numbers alone.
+pub record BeginsOf (view : View) (walk : Walk) : Type 0 where
+  pub header_is : (walk.header ≡ view.header) ⊎ (walk.header ≡ without_tables view.header)
+  pub place_is : walk.at.place ≡ view.place
+  pub rest_is : walk.at.rest ≡ view.program
+  pub order_is : walk.at.order ≡ view.header.order
+  pub going : walk.failed ≡ false
+
+-- The walk gives these, one after another, and then stands as told.
+abbrev pub GivesEach : List OpView → Walk → Walk → Type 0
+GivesEach [] old new = new ≡ old
+GivesEach (item ∷ items) old new = (next : Walk) × Steps item old next × GivesEach items next new
+
+-- What was given stands for these operations, which the header admits. They are no more than the program has bytes.
+pub record AreGiven (view : View) (items : List OpView) (ops : List Op) : Type 0 where
+  pub stand : AllZip StandsFor items ops
+  pub admitted : AllByRecursion (Admits view.header) ops
+  pub few : length items ≤ length view.program
+
+-- A walk over a unit in a buffer, from first to last: what it gives are operations, in order. Where it ends behind them, the bytes
+-- are those of the unit of the header and these operations. Where it fails behind them, the bytes are those of no unit, and the
+-- fault says why.
+pub record WholeWalk : Type 0 where
+  pub given : (view : View) (start now : Walk) (items : List OpView) → BeginsOf view start → GivesEach items start now → (ops : List Op) × AreGiven view items ops
+  pub all : (view : View) (start now end : Walk) (items : List OpView) → IsView view → BeginsOf view start → GivesEach items start now → Ends now end
+      → (ops : List Op) × AreGiven view items ops × UnitBytesIn view.unit.order (with_ops view ops) view.unit.bytes
+  pub broken : (view : View) (start now end : Walk) (items : List OpView) (fault : Fault) → IsHeader view.header → IsView view → BeginsOf view start → GivesEach items start now → Fails fault now end
+      → BrokenUnit view.unit.order fault view.unit.offset view.unit.bytes
+
+-- What a fault of `next_unit` says, and one of the unit at hand, behind units that were given: no list of units spells the section,
+-- whatever follows, and the fault is true of it. Behind frames that spell no unit, the fault of `next_unit` is so of what is left.
+pub record FaultOfSection : Type 0 where
+  pub next : (order : Order) (units : List (ℕ × Parts)) (front rest : List ℕ) (fault : Fault) → SectionBytes order units front
+      → EndsBy (record { place = length front; rest = rest; order = order }) (Some fault) → BrokenSection order fault (front ++ rest)
+  pub here : (order : Order) (units : List (ℕ × Parts)) (front more : List ℕ) (unit : stream.UnitBytes) (fault : Fault) → SectionBytes order units front
+      → stream.IsWholeUnit unit → unit.offset ≡ length front → unit.order ≡ order → BrokenUnit order fault unit.offset unit.bytes → BrokenSection order fault (front ++ (unit.bytes ++ more))
+  pub alone : (order : Order) (offset : ℕ) (rest : List ℕ) (fault : Fault) → EndsBy (record { place = offset; rest = rest; order = order }) (Some fault) → BrokenUnit order fault offset rest

@@ -1,5 +1,5 @@
 //! Laws of the format, each the contract of a function without parameters that does nothing.
-ghost use Rattle.lnt_unit.specs.Laws.{OneSpelling, OneSection};
+ghost use Rattle.lnt_unit.specs.Laws.{FaultOfSection, OneSection, OneSpelling, WholeWalk};
 
 /// Under one byte order no unit begins another's bytes, and each spells one unit (DWARF 5, section 6.2.4). So
 /// decoding what was encoded gives it back, whatever follows.
@@ -12,4 +12,20 @@ pub fn one_spelling()
 #[tactic(auto, using(crate::specs::Laws::Units::one_section))]
 pub fn one_section()
     ensures { OneSection }
+{}
+
+/// What the operations of a unit in a buffer are, from first to last, as `UnitView::ops` and `UnitInPlace::ops` give them
+/// one by one (DWARF 5, section 6.2.5). They stand for operations that the header admits, no more than the program has
+/// bytes. Where the walk ends behind them, the bytes are those of the unit of the header and these operations; where it
+/// ends by a fault, the bytes are those of no unit, and the fault says why.
+#[tactic(auto, using(crate::proofs::WholeWalks::whole_walk))]
+pub fn whole_walk()
+    ensures { WholeWalk }
+{}
+
+/// What a fault says of the section, behind the units that stood before it: that of `SectionReader::next_unit`, and that of
+/// the unit which it gave last. No list of units spells the section, and the fault is true of it.
+#[tactic(auto, using(crate::proofs::WholeWalks::fault_of_section))]
+pub fn fault_of_section()
+    ensures { FaultOfSection }
 {}

@@ -2,7 +2,9 @@ use Rattle.std.proofs.Common.{◌≡◌, ◌∙◌, ap, length, List, subst, sym
 use Rattle.lnt_spans.specs.declared.span.Span.{Span}
 use Rattle.lnt_spans.specs.declared.position.Position.{Position}
 use Rattle.lnt_spans.specs.Spans.{AreInOrder, span_answer}
-use Rattle.lnt_rows.specs.Sequences.{line_answer}
+use Rattle.std.specs.List.Sorted.{IsPermutation}
+use Rattle.lnt_rows.specs.RowSpans.{spans_of}
+use Rattle.lnt_rows.specs.Sequences.{line_answer, live_sequences}
 use Rattle.lnt_lines.specs.Contents.{AreRising, AreWhole}
 use Rattle.lnt_lines.proofs.IndexLemmas.{files_zip, same_number}
 use Rattle.lnt_lines.proofs.gather.lines_of.Goals as goal
@@ -33,6 +35,7 @@ returns-clause-lines c dead units is =
     let all = c.spans.ensures.gives dead units is in
     let spans = c.in-Ok.ensures all.spans all.to_come in
     rw c.of.ensures (record {
+      spans_are = subst (IsPermutation (spans_of (live_sequences dead units))) (sym spans) all.spans_are;
       in_order = subst AreInOrder (sym spans) all.in_order;
       answers = subst (λ (list : List Span). (p : Position) → span_answer list p ≡ line_answer dead units p) (sym spans) all.answers;
       units_are = c.in-Ok-from_slice.ensures.items ∙ c.units.ensures ∙ is.offsets;

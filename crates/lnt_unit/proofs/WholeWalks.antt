@@ -1,0 +1,127 @@
+-- Whole walks, over the operations of a unit and over the units of a section.
+use Rattle.std.proofs.Common.{◌≡◌, ◌⊎◌, ℕ, ◌+◌, ◌<◌, ◌≤◌, List, [], ◌∷◌, ◌++◌, length, refl, sym, ap, subst, append_assoc, append-nil, arith, inl, inr}
+use Rattle.std.specs.List.{AllZip}
+use Rattle.std.proofs.lemmas.List.{length-append}
+use Rattle.lnt_wire.specs.declared.fault.Fault.{Fault}
+use Rattle.lnt_wire.specs.declared.format.Order.{Order}
+use Rattle.lnt_wire.specs.FrameBytes.{FrameBytes}
+use Rattle.lnt_wire.specs.InitialLength.{initial_length}
+use Rattle.lnt_wire.specs.Laws.Lengths.{length-initial}
+use Rattle.lnt_header.specs.Borrowed.{without_tables}
+use Rattle.lnt_header.specs.OpViews.{StandsFor}
+use Rattle.lnt_header.specs.declared.op.Op.{Op}
+use Rattle.lnt_header.specs.declared.view.OpView.{OpView}
+use Rattle.lnt_ops.specs.Walks.{Steps, Walk}
+use Rattle.lnt_stream.specs.Units as stream
+use Rattle.lnt_unit.specs.declared.unit.Parts.{Parts}
+use Rattle.lnt_unit.specs.BrokenUnits.{BrokenSection, BrokenUnit, IsTrueFault}
+use Rattle.lnt_unit.specs.Laws.{AreGiven, BeginsOf, FaultOfSection, GivesEach, WholeWalk}
+use Rattle.lnt_unit.specs.Laws.Broken.{frame_broken}
+use Rattle.lnt_unit.specs.Laws.Frames.{broken_more}
+use Rattle.lnt_unit.specs.Laws.Numbers.{given_all_by_numbers, given_broken_by_numbers}
+use Rattle.lnt_unit.specs.Laws.Units.{no_section}
+use Rattle.lnt_unit.specs.Laws.Views.{given_all, given_broken, given_more, given_none}
+use Rattle.lnt_unit.specs.UnitBytes.{SectionBytes}
+use Rattle.lnt_unit.specs.Views.{HasGiven, View, by_numbers}
+
+-- ---- operations
+
+zip_push : {X Y : Type 0} (R : X → Y → Type 0) (xs : List X) (ys : List Y) (x : X) (y : Y) → AllZip R xs ys → R x y → AllZip R (xs ++ x ∷ []) (ys ++ y ∷ [])
+zip_push R [] [] x y z r = (r, tt)
+zip_push R [] (b ∷ ys) x y z r = absurd z
+zip_push R (a ∷ xs) [] x y z r = absurd z
+zip_push R (a ∷ xs) (b ∷ ys) x y z r = (z.0, zip_push R xs ys x y z.1 r)
+
+-- so many were given, each of a byte or more
+record HasWalked (view : View) (items : List OpView) (walk : Walk) : Type 0 where
+  ops : List Op
+  given : HasGiven view ops walk
+  stand : AllZip StandsFor items ops
+  few : length items + length walk.at.rest ≤ length view.program
+
+walked_none : (view : View) (walk : Walk) → walk.header ≡ view.header → BeginsOf view walk → HasWalked view [] walk
+walked_none view walk same b = record {
+  ops = [];
+  given = given_none view walk same b.going b.place_is b.rest_is b.order_is;
+  stand = tt;
+  few = omega (arith, ap length b.rest_is);
+}
+
+walked_more : (view : View) (items : List OpView) (item : OpView) (old new : Walk) → HasWalked view items old → Steps item old new → HasWalked view (items ++ item ∷ []) new
+walked_more view items item old new so step =
+    let op = step.gives.op in
+    record {
+      ops = so.ops ++ op ∷ [];
+      given = given_more view so.ops op item old new so.given step step.gives.stands;
+      stand = zip_push StandsFor items so.ops item op so.stand step.gives.stands;
+      few = omega (arith, so.few, step.shorter, length-append items (item ∷ []));
+    }
+
+walked : (view : View) (before items : List OpView) (old new : Walk) → HasWalked view before old → GivesEach items old new → HasWalked view (before ++ items) new
+walked view before [] old new so same =
+    subst (λ (list : List OpView). HasWalked view list new) (sym (append-nil before)) (subst (HasWalked view before) (sym same) so)
+walked view before (item ∷ items) old new so (next, step, more) =
+    subst (λ (list : List OpView). HasWalked view list new) (append_assoc before (item ∷ []) items)
+    (walked view (before ++ item ∷ []) items next new (walked_more view before item old next so step) more)
+
+are_given : (view : View) (items : List OpView) (walk : Walk) → (so : HasWalked view items walk) → AreGiven view items so.ops
+are_given view items walk so = record { stand = so.stand; admitted = so.given.so.admitted; few = omega (arith, so.few) }
+
+by_numbers_given : (view : View) (items : List OpView) (ops : List Op) → AreGiven (by_numbers view) items ops → AreGiven view items ops
+by_numbers_given view items ops so = record { stand = so.stand; admitted = so.admitted; few = so.few }
+
+begins_by_numbers : (view : View) (walk : Walk) → walk.header ≡ without_tables view.header → BeginsOf view walk → BeginsOf (by_numbers view) walk
+begins_by_numbers view walk same b = record { header_is = inl same; place_is = b.place_is; rest_is = b.rest_is; order_is = b.order_is; going = b.going }
+
+-- by the header, or by its numbers
+from_start : (view : View) (start now : Walk) (items : List OpView) → BeginsOf view start → GivesEach items start now → HasWalked view items now ⊎ HasWalked (by_numbers view) items now
+from_start view start now items b gives = by_header b.header_is
+  where
+    by_header : (start.header ≡ view.header) ⊎ (start.header ≡ without_tables view.header) → HasWalked view items now ⊎ HasWalked (by_numbers view) items now
+    by_header (inl same) = inl (walked view [] items start now (walked_none view start same b) gives)
+    by_header (inr same) =
+        inr (walked (by_numbers view) [] items start now (walked_none (by_numbers view) start same (begins_by_numbers view start same b)) gives)
+
+pub whole_walk : WholeWalk
+whole_walk = record {
+  given = λ view start now items b gives.
+      elim (from_start view start now items b gives) [
+        | inl so ↦ (so.ops, are_given view items now so)
+        | inr so ↦ (so.ops, by_numbers_given view items so.ops (are_given (by_numbers view) items now so))
+      ];
+  all = λ view start now end items is b gives ends.
+      elim (from_start view start now items b gives) [
+        | inl so ↦ (so.ops, are_given view items now so, given_all view so.ops now end is so.given ends)
+        | inr so ↦ (so.ops, by_numbers_given view items so.ops (are_given (by_numbers view) items now so), given_all_by_numbers view so.ops now end is so.given ends)
+      ];
+  broken = λ view start now end items fault header is b gives fails.
+      elim (from_start view start now items b gives) [
+        | inl so ↦ given_broken view so.ops fault now end header is so.given fails
+        | inr so ↦ given_broken_by_numbers view so.ops fault now end header is so.given fails
+      ];
+}
+
+-- ---- units
+
+broken_behind : (order : Order) (units : List (ℕ × Parts)) (front rest : List ℕ) (fault : Fault) → SectionBytes order units front → 0 < length rest → BrokenUnit order fault (length front) rest
+    → BrokenSection order fault (front ++ rest)
+broken_behind order units front rest fault spelled some b =
+    let t : IsTrueFault order fault (front ++ rest) = record { units = units; front = front; rest = rest; sound = spelled; some = some; split = refl; broken = b } in
+    record { none = no_section order fault (front ++ rest) t; true_fault = t }
+
+-- a whole unit has some byte
+frame_some : (unit : stream.UnitBytes) → (is : stream.IsWholeUnit unit) → 0 < length unit.bytes
+frame_some unit is =
+    omega (arith, ap length is.spelled.joined, length-append (initial_length is.format unit.order (length is.body)) is.body, length-initial is.format unit.order (length is.body))
+
+pub fault_of_section : FaultOfSection
+fault_of_section = record {
+  next = λ order units front rest fault spelled ends.
+      broken_behind order units front rest fault spelled ends.0 (frame_broken order (record { place = length front; rest = rest; order = order }) fault ends.1);
+  here = λ order units front more unit fault spelled is at same b.
+      let all : BrokenUnit order fault unit.offset (unit.bytes ++ more) =
+      broken_more order fault unit.offset (is.format, is.body) unit.bytes more (subst (λ (o : Order). FrameBytes o (is.format, is.body) unit.bytes) same is.spelled) b in
+      broken_behind order units front (unit.bytes ++ more) fault spelled (omega (arith, length-append unit.bytes more, frame_some unit is))
+      (subst (λ (n : ℕ). BrokenUnit order fault n (unit.bytes ++ more)) at all);
+  alone = λ order offset rest fault ends. frame_broken order (record { place = offset; rest = rest; order = order }) fault ends.1;
+}

@@ -1,0 +1,13 @@
+-- Units that are longer than their format can say (DWARF 5, section 7.4).
+use Rattle.std.specs.Prelude.{ℕ, List}
+use Rattle.lnt_wire.specs.Bytes.{IsShortest}
+use Rattle.lnt_header.specs.Joins.{Each}
+use Rattle.lnt_header.specs.Large.{IsTooLong}
+use Rattle.lnt_ops.specs.OpBytes.{OpBytes}
+use Rattle.lnt_unit.specs.declared.unit.Parts.{Parts}
+
+-- Even with the shortest header and the shortest program, the unit's length is more than its format can say.
+pub record IsTooLongUnit (unit : Parts) : Type 0 where
+  pub program : List ℕ
+  pub shortest : IsShortest (Each (OpBytes unit.header)) unit.ops program
+  pub too_long : IsTooLong unit.header program
