@@ -1,3 +1,4 @@
+pub mod ConvertedLemmas
 pub mod ExtendedReaders
 pub mod LebSizes
 pub mod OpPutLemmas

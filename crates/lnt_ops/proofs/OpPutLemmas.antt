@@ -1,22 +1,36 @@
 -- What is written of operations.
-use Rattle.std.proofs.Common.{◌≡◌, ℕ, suc, ◌+◌, ◌-◌, ◌<◌, ◌≤◌, List, [], ◌∷◌, ◌++◌, length, take, get_or, refl, sym, ap, subst, ◌∙◌, append_assoc, append-nil, arith}
+use Rattle.std.proofs.Common.{Bor, ◌≡◌, ℕ, suc, ◌+◌, ◌-◌, ◌^◌, ◌<◌, ◌≤◌, List, [], ◌∷◌, ◌++◌, length, take, get_or, refl, sym, ap, subst, ◌∙◌, append_assoc, append-nil, arith}
 use Rattle.std.proofs.lemmas.List.{length-append}
 use Rattle.std.proofs.Math.Seq.{take-append_seam}
 use Rattle.std.specs.Prelude.{ℤ, slice_set, Result, Ok, Err, OnOk, OnErr}
 use Rattle.lnt_wire.specs.declared.put.EncodeFault.{EncodeFault}
 use Rattle.lnt_wire.specs.declared.format.Order.{Order}
 use Rattle.lnt_wire.specs.Bytes.{Exactly, IsShortest, Appends, Extends}
-use Rattle.lnt_wire.specs.Leb128.{UnsignedLeb, SignedLeb}
+use Rattle.lnt_wire.specs.At.{At}
+use Rattle.lnt_wire.specs.Reading.{Reads, RefusesField}
+use Rattle.lnt_wire.specs.declared.fault.Fault.{Fault}
+use Rattle.lnt_wire.specs.Laws.Codes.{unsigned_code}
+use Rattle.lnt_wire.specs.Leb128.{UnsignedLeb, SignedLeb, IsLargeUnsigned, IsLebFault}
 use Rattle.lnt_wire.specs.Numbers.{NumberBytes}
 use Rattle.lnt_wire.specs.Laws.Lengths.{length-number_bytes}
 use Rattle.lnt_header.specs.declared.header.HeaderParts.{HeaderParts}
 use Rattle.lnt_header.specs.declared.op.Op.{Op}
-use Rattle.lnt_header.specs.declared.op.Op.TheVariants.{AdvancePc, AdvanceLine, SetFile, SetColumn, SetIsa, UnknownStandard, EndSequence, SetAddress, SetDiscriminator, UnknownExtended}
+use Rattle.lnt_header.specs.declared.op.Op.TheVariants.{Special, Copy, AdvancePc, AdvanceLine, SetFile, SetColumn, NegateStmt, SetBasicBlock, ConstAddPc, FixedAdvancePc, SetPrologueEnd, SetEpilogueBegin, SetIsa, UnknownStandard, EndSequence, SetAddress, SetDiscriminator, UnknownExtended}
+use Rattle.lnt_header.specs.declared.view.OpView.{OpView}
+use Rattle.lnt_header.specs.declared.view.OpView.TheVariants as views
+use Rattle.lnt_header.specs.declared.view.Operands.{Operands}
+use Rattle.lnt_header.specs.declared.view.Operands.TheVariants.{Spelled, Listed}
+use Rattle.lnt_header.specs.OpViews.{AreOperands, StandsFor}
 use Rattle.lnt_header.specs.Joins.{Each}
 use Rattle.lnt_header.specs.OpRules.{Admits}
-use Rattle.lnt_header.specs.Laws.Puts.{put_as, each_begun, each_more, each_done}
+use Rattle.lnt_header.specs.Laws.Puts.{put_as, each_begun, each_put, each_more, each_done}
+use Rattle.lnt_ops.specs.Laws.Ops.{same_whole}
+use Rattle.lnt_ops.specs.Laws.Views.{leb_is_some, op_of, operands_of, is_op_of}
 use Rattle.lnt_ops.specs.OpBytes.{OpBytes, Standard, Extended}
+use Rattle.lnt_ops.specs.OpPuts.{IsOpOf, AddsView, AddsSpelled, AddsOperands}
+use Rattle.lnt_ops.specs.OperandLists.{IsOperands, SpellsNumbers, NumbersSoFar}
 use Rattle.lnt_ops.specs.OpSpellings.{Coded, ExtendedCoded, ExtendedStart}
+use Rattle.lnt_ops.proofs.OwnedLemmas as owned
 use Rattle.lnt_ops.proofs.LebSizes.{shortest_of_less, at_most_ten, one_group}
 
 -- what a call gives where it gives something
@@ -176,48 +190,173 @@ extended_as : {X : Type 0} (Operand : X → List ℕ → Type 0) (h : HeaderPart
 extended_as Operand h code x op old new to from p =
     put_as (ExtendedCoded code Operand) (OpBytes h) x op old new (λ y t. to y t.spelled) (λ y t. record { spelled = from y t }) p
 
--- what was put is of this operation
-put_admitted : (h : HeaderParts) (op known : Op) (old new : List ℕ) → op ≡ known → Admits h op → (Admits h known → Appends (OpBytes h) known old new) → Appends (OpBytes h) op old new
-put_admitted h op known old new is admits put = subst (λ (o : Op). Appends (OpBytes h) o old new) (sym is) (put (subst (Admits h) is admits))
+-- an opcode alone
+alone : (code : ℕ) (old new : List ℕ) → new ≡ old ++ code ∷ [] → Appends (Coded code Exactly) [] old new
+alone code old new put = record {
+  spelling = code ∷ [];
+  spelled = record { spelled = record { operand = []; spelled = refl; joined = refl }; shortest = λ other q. omega (arith, ap length q.joined) };
+  joined = put;
+}
 
-pub advance_pc_put : (h : HeaderParts) (op : Op) (n : ℕ) (old new : List ℕ) → op ≡ AdvancePc n → Admits h op → Appends (Coded 2 UnsignedLeb) n old new → Appends (OpBytes h) op old new
-advance_pc_put h op n old new is admits p = put_admitted h op (AdvancePc n) old new is admits (λ a. standard_as UnsignedLeb h 2 n (AdvancePc n) old new (λ y t. t) (λ y t. t) a p)
+-- a standard operation without operands
+plain_as : (h : HeaderParts) (code : ℕ) (op : Op) (old new : List ℕ) → ((y : List ℕ) → Standard h code (Exactly []) y → OpBytes h op y) → ((y : List ℕ) → OpBytes h op y → Standard h code (Exactly []) y) → code < h.opcode_base
+    → new ≡ old ++ code ∷ [] → Appends (OpBytes h) op old new
+plain_as h code op old new to from low put = standard_as Exactly h code [] op old new to from low (alone code old new put)
 
-pub advance_line_put : (h : HeaderParts) (op : Op) (z : ℤ) (old new : List ℕ) → op ≡ AdvanceLine z → Admits h op → Appends (Coded 3 SignedLeb) z old new → Appends (OpBytes h) op old new
-advance_line_put h op z old new is admits p = put_admitted h op (AdvanceLine z) old new is admits (λ a. standard_as SignedLeb h 3 z (AdvanceLine z) old new (λ y t. t) (λ y t. t) a p)
+-- what was put is of the operation that a view stands for
+put_known : (h : HeaderParts) (op known : Op) (old new : List ℕ) → op ≡ known → Admits h op → (Admits h known → Appends (OpBytes h) known old new) → Appends (OpBytes h) op old new
+put_known h op known old new is admits put = subst (λ (o : Op). Appends (OpBytes h) o old new) (sym is) (put (subst (Admits h) is admits))
 
-pub set_file_put : (h : HeaderParts) (op : Op) (n : ℕ) (old new : List ℕ) → op ≡ SetFile n → Admits h op → Appends (Coded 4 UnsignedLeb) n old new → Appends (OpBytes h) op old new
-set_file_put h op n old new is admits p = put_admitted h op (SetFile n) old new is admits (λ a. standard_as UnsignedLeb h 4 n (SetFile n) old new (λ y t. t) (λ y t. t) a p)
+put_of : (order : Order) (size : ℕ) (view known : OpView) (old new : List ℕ) → view ≡ known
+    → ((h : HeaderParts) (op : Op) → h.order ≡ order → h.address_size ≡ size → StandsFor known op → Admits h (op_of known (operands_of op)) → Appends (OpBytes h) (op_of known (operands_of op)) old new)
+    → AddsView order size view old new
+put_of order size view known old new is put = record {
+  adds = λ h op ordered sized stands admits.
+      let s : StandsFor known op = subst (λ (v : OpView). StandsFor v op) is stands in
+      put_known h op (op_of known (operands_of op)) old new (is_op_of known op s) admits (put h op ordered sized s);
+}
 
-pub set_column_put : (h : HeaderParts) (op : Op) (n : ℕ) (old new : List ℕ) → op ≡ SetColumn n → Admits h op → Appends (Coded 5 UnsignedLeb) n old new → Appends (OpBytes h) op old new
-set_column_put h op n old new is admits p = put_admitted h op (SetColumn n) old new is admits (λ a. standard_as UnsignedLeb h 5 n (SetColumn n) old new (λ y t. t) (λ y t. t) a p)
+special_as : (h : HeaderParts) (c : ℕ) (old new : List ℕ) → c < 256 → h.opcode_base ≤ c → new ≡ old ++ c ∷ [] → Appends (OpBytes h) (Special c) old new
+special_as h c old new low high put = record { spelling = c ∷ []; spelled = record { spelled = (high, low, refl); shortest = λ other q. omega (arith, ap length q.2) }; joined = put }
 
-pub set_isa_put : (h : HeaderParts) (op : Op) (n : ℕ) (old new : List ℕ) → op ≡ SetIsa n → Admits h op → Appends (Coded 12 UnsignedLeb) n old new → Appends (OpBytes h) op old new
-set_isa_put h op n old new is admits p = put_admitted h op (SetIsa n) old new is admits (λ a. standard_as UnsignedLeb h 12 n (SetIsa n) old new (λ y t. t) (λ y t. t) a p)
+pub special_put : (order : Order) (size : ℕ) (view : OpView) (c : ℕ) (old new : List ℕ) → view ≡ views.Special c → c < 256 → new ≡ old ++ c ∷ [] → AddsView order size view old new
+special_put order size view c old new is low put = put_of order size view (views.Special c) old new is (λ h op o s stands a. special_as h c old new low a put)
 
-pub unknown_standard_put : (h : HeaderParts) (op : Op) (k : ℕ) (operands numbers : List ℕ) (old new : List ℕ) → op ≡ UnknownStandard k operands → Admits h op → numbers ≡ operands → Appends (Coded k (Each UnsignedLeb)) numbers old new
-    → Appends (OpBytes h) op old new
-unknown_standard_put h op k operands numbers old new is admits same p =
-    put_admitted h op (UnknownStandard k operands) old new is admits
-    (λ a. standard_as (Each UnsignedLeb) h k operands (UnknownStandard k operands) old new (λ y t. (a.0, a.2, t)) (λ y t. t.2) a.1 (subst (λ (z : List ℕ). Appends (Coded k (Each UnsignedLeb)) z old new) same p))
+pub copy_put : (order : Order) (size : ℕ) (view : OpView) (old new : List ℕ) → view ≡ views.Copy → new ≡ old ++ 1 ∷ [] → AddsView order size view old new
+copy_put order size view old new is put = put_of order size view views.Copy old new is (λ h op o s stands a. plain_as h 1 Copy old new (λ y t. t) (λ y t. t) a put)
 
-pub end_sequence_put : (h : HeaderParts) (op : Op) (operand : List ℕ) (old new : List ℕ) → op ≡ EndSequence → Admits h op → operand ≡ [] → Appends (ExtendedCoded 1 Exactly) operand old new → Appends (OpBytes h) op old new
-end_sequence_put h op operand old new is admits none p =
-    put_admitted h op EndSequence old new is admits (λ a. extended_as Exactly h 1 [] EndSequence old new (λ y t. t) (λ y t. t) (subst (λ (z : List ℕ). Appends (ExtendedCoded 1 Exactly) z old new) none p))
+pub advance_pc_put : (order : Order) (size : ℕ) (view : OpView) (n : ℕ) (old new : List ℕ) → view ≡ views.AdvancePc n → Appends (Coded 2 UnsignedLeb) n old new → AddsView order size view old new
+advance_pc_put order size view n old new is p =
+    put_of order size view (views.AdvancePc n) old new is (λ h op o s stands a. standard_as UnsignedLeb h 2 n (AdvancePc n) old new (λ y t. t) (λ y t. t) a p)
 
-pub set_address_put : (h : HeaderParts) (op : Op) (address : ℕ) (old new : List ℕ) → op ≡ SetAddress address → Admits h op → Appends (ExtendedCoded 2 (NumberBytes h.order h.address_size)) address old new → Appends (OpBytes h) op old new
-set_address_put h op address old new is admits p =
-    put_admitted h op (SetAddress address) old new is admits (λ a. extended_as (NumberBytes h.order h.address_size) h 2 address (SetAddress address) old new (λ y t. t) (λ y t. t) p)
+pub advance_line_put : (order : Order) (size : ℕ) (view : OpView) (z : ℤ) (old new : List ℕ) → view ≡ views.AdvanceLine z → Appends (Coded 3 SignedLeb) z old new → AddsView order size view old new
+advance_line_put order size view z old new is p =
+    put_of order size view (views.AdvanceLine z) old new is (λ h op o s stands a. standard_as SignedLeb h 3 z (AdvanceLine z) old new (λ y t. t) (λ y t. t) a p)
 
-pub set_discriminator_put : (h : HeaderParts) (op : Op) (n : ℕ) (old new : List ℕ) → op ≡ SetDiscriminator n → Admits h op → Appends (ExtendedCoded 4 UnsignedLeb) n old new → Appends (OpBytes h) op old new
-set_discriminator_put h op n old new is admits p =
-    put_admitted h op (SetDiscriminator n) old new is admits (λ a. extended_as UnsignedLeb h 4 n (SetDiscriminator n) old new (λ y t. t) (λ y t. t) p)
+pub set_file_put : (order : Order) (size : ℕ) (view : OpView) (n : ℕ) (old new : List ℕ) → view ≡ views.SetFile n → Appends (Coded 4 UnsignedLeb) n old new → AddsView order size view old new
+set_file_put order size view n old new is p =
+    put_of order size view (views.SetFile n) old new is (λ h op o s stands a. standard_as UnsignedLeb h 4 n (SetFile n) old new (λ y t. t) (λ y t. t) a p)
 
-pub unknown_extended_put : (h : HeaderParts) (op : Op) (code : ℕ) (bytes operand : List ℕ) (old new : List ℕ) → op ≡ UnknownExtended code bytes → Admits h op → code < 256 → operand ≡ bytes → Appends (ExtendedCoded code Exactly) operand old new
-    → Appends (OpBytes h) op old new
-unknown_extended_put h op code bytes operand old new is admits low same p =
-    put_admitted h op (UnknownExtended code bytes) old new is admits
-    (λ a. extended_as Exactly h code bytes (UnknownExtended code bytes) old new (λ y t. (a.0, a.1, a.2, low, t)) (λ y t. t.4) (subst (λ (z : List ℕ). Appends (ExtendedCoded code Exactly) z old new) same p))
+pub set_column_put : (order : Order) (size : ℕ) (view : OpView) (n : ℕ) (old new : List ℕ) → view ≡ views.SetColumn n → Appends (Coded 5 UnsignedLeb) n old new → AddsView order size view old new
+set_column_put order size view n old new is p =
+    put_of order size view (views.SetColumn n) old new is (λ h op o s stands a. standard_as UnsignedLeb h 5 n (SetColumn n) old new (λ y t. t) (λ y t. t) a p)
+
+pub negate_stmt_put : (order : Order) (size : ℕ) (view : OpView) (old new : List ℕ) → view ≡ views.NegateStmt → new ≡ old ++ 6 ∷ [] → AddsView order size view old new
+negate_stmt_put order size view old new is put = put_of order size view views.NegateStmt old new is (λ h op o s stands a. plain_as h 6 NegateStmt old new (λ y t. t) (λ y t. t) a put)
+
+pub set_basic_block_put : (order : Order) (size : ℕ) (view : OpView) (old new : List ℕ) → view ≡ views.SetBasicBlock → new ≡ old ++ 7 ∷ [] → AddsView order size view old new
+set_basic_block_put order size view old new is put = put_of order size view views.SetBasicBlock old new is (λ h op o s stands a. plain_as h 7 SetBasicBlock old new (λ y t. t) (λ y t. t) a put)
+
+pub const_add_pc_put : (order : Order) (size : ℕ) (view : OpView) (old new : List ℕ) → view ≡ views.ConstAddPc → new ≡ old ++ 8 ∷ [] → AddsView order size view old new
+const_add_pc_put order size view old new is put = put_of order size view views.ConstAddPc old new is (λ h op o s stands a. plain_as h 8 ConstAddPc old new (λ y t. t) (λ y t. t) a put)
+
+pub fixed_advance_pc_put : (order : Order) (size : ℕ) (view : OpView) (n : ℕ) (old new : List ℕ) → view ≡ views.FixedAdvancePc n → Appends (Coded 9 (NumberBytes order 2)) n old new → AddsView order size view old new
+fixed_advance_pc_put order size view n old new is p =
+    put_of order size view (views.FixedAdvancePc n) old new is
+    (λ h op o s stands a. standard_as (NumberBytes h.order 2) h 9 n (FixedAdvancePc n) old new (λ y t. t) (λ y t. t) a (subst (λ (w : Order). Appends (Coded 9 (NumberBytes w 2)) n old new) (sym o) p))
+
+pub set_prologue_end_put : (order : Order) (size : ℕ) (view : OpView) (old new : List ℕ) → view ≡ views.SetPrologueEnd → new ≡ old ++ 10 ∷ [] → AddsView order size view old new
+set_prologue_end_put order size view old new is put = put_of order size view views.SetPrologueEnd old new is (λ h op o s stands a. plain_as h 10 SetPrologueEnd old new (λ y t. t) (λ y t. t) a put)
+
+pub set_epilogue_begin_put : (order : Order) (size : ℕ) (view : OpView) (old new : List ℕ) → view ≡ views.SetEpilogueBegin → new ≡ old ++ 11 ∷ [] → AddsView order size view old new
+set_epilogue_begin_put order size view old new is put = put_of order size view views.SetEpilogueBegin old new is (λ h op o s stands a. plain_as h 11 SetEpilogueBegin old new (λ y t. t) (λ y t. t) a put)
+
+pub set_isa_put : (order : Order) (size : ℕ) (view : OpView) (n : ℕ) (old new : List ℕ) → view ≡ views.SetIsa n → Appends (Coded 12 UnsignedLeb) n old new → AddsView order size view old new
+set_isa_put order size view n old new is p =
+    put_of order size view (views.SetIsa n) old new is (λ h op o s stands a. standard_as UnsignedLeb h 12 n (SetIsa n) old new (λ y t. t) (λ y t. t) a p)
+
+-- the operands of an unknown standard operation
+are_operands : (k : ℕ) (operands : Operands) (op : Op) → StandsFor (views.UnknownStandard k operands) op → AreOperands operands (operands_of op)
+are_operands k operands (UnknownStandard j numbers) p = p.1
+are_operands k operands op p = absurd p
+
+pub unknown_standard_put : (order : Order) (size : ℕ) (view : OpView) (k : ℕ) (operands : Operands) (old new : List ℕ) → view ≡ views.UnknownStandard k operands → AddsOperands k operands old new → AddsView order size view old new
+unknown_standard_put order size view k operands old new is p =
+    put_of order size view (views.UnknownStandard k operands) old new is
+    (λ h op o s stands a.
+    let numbers = operands_of op in
+    standard_as (Each UnsignedLeb) h k numbers (UnknownStandard k numbers) old new (λ y t. (a.0, a.2, t)) (λ y t. t.2) a.1 (p.adds numbers (are_operands k operands op stands)))
+
+pub end_sequence_put : (order : Order) (size : ℕ) (view : OpView) (operand : List ℕ) (old new : List ℕ) → view ≡ views.EndSequence → operand ≡ [] → Appends (ExtendedCoded 1 Exactly) operand old new → AddsView order size view old new
+end_sequence_put order size view operand old new is none p =
+    put_of order size view views.EndSequence old new is
+    (λ h op o s stands a. extended_as Exactly h 1 [] EndSequence old new (λ y t. t) (λ y t. t) (subst (λ (z : List ℕ). Appends (ExtendedCoded 1 Exactly) z old new) none p))
+
+address_as : (h : HeaderParts) (order : Order) (size address : ℕ) (old new : List ℕ) → h.order ≡ order → h.address_size ≡ size → Appends (ExtendedCoded 2 (NumberBytes order size)) address old new → Appends (OpBytes h) (SetAddress address) old new
+address_as h order size address old new o s p =
+    let here : Appends (ExtendedCoded 2 (NumberBytes h.order h.address_size)) address old new =
+    subst (λ (w : Order). Appends (ExtendedCoded 2 (NumberBytes w h.address_size)) address old new) (sym o) (subst (λ (k : ℕ). Appends (ExtendedCoded 2 (NumberBytes order k)) address old new) (sym s) p) in
+    extended_as (NumberBytes h.order h.address_size) h 2 address (SetAddress address) old new (λ y t. t) (λ y t. t) here
+
+pub set_address_put : (order : Order) (size : ℕ) (view : OpView) (address : ℕ) (old new : List ℕ) → view ≡ views.SetAddress address → Appends (ExtendedCoded 2 (NumberBytes order size)) address old new → AddsView order size view old new
+set_address_put order size view address old new is p = put_of order size view (views.SetAddress address) old new is (λ h op o s stands a. address_as h order size address old new o s p)
+
+pub set_discriminator_put : (order : Order) (size : ℕ) (view : OpView) (n : ℕ) (old new : List ℕ) → view ≡ views.SetDiscriminator n → Appends (ExtendedCoded 4 UnsignedLeb) n old new → AddsView order size view old new
+set_discriminator_put order size view n old new is p =
+    put_of order size view (views.SetDiscriminator n) old new is (λ h op o s stands a. extended_as UnsignedLeb h 4 n (SetDiscriminator n) old new (λ y t. t) (λ y t. t) p)
+
+pub unknown_extended_put : (order : Order) (size : ℕ) (view : OpView) (code : ℕ) (bytes : Bor (List ℕ)) (old new : List ℕ) → view ≡ views.UnknownExtended code bytes → code < 256 → Appends (ExtendedCoded code Exactly) bytes.now old new
+    → AddsView order size view old new
+unknown_extended_put order size view code bytes old new is low p =
+    put_of order size view (views.UnknownExtended code bytes) old new is
+    (λ h op o s stands a. extended_as Exactly h code bytes.now (UnknownExtended code bytes.now) old new (λ y t. (a.0, a.1, a.2, low, t)) (λ y t. t.4) p)
+
+-- ---- what a view is of
+
+-- an address fits its size
+pub address_of : (size address : ℕ) → IsOpOf size (views.SetAddress address) → address < 256 ^ size
+address_of size address is =
+    let admitted : Admits is.header (SetAddress address) = subst (Admits is.header) (is_op_of (views.SetAddress address) is.op is.stands) is.admitted in
+    subst (λ (n : ℕ). address < 256 ^ n) is.size_is admitted
+
+-- the operands of an unknown standard operation are numbers
+pub operands_are : (size k : ℕ) (operands : Operands) → IsOpOf size (views.UnknownStandard k operands) → IsOperands operands
+operands_are size k operands is = record { numbers = operands_of is.op; are = are_operands k operands is.op is.stands }
+
+-- an operation of a header
+pub is_op_of_header : (h : HeaderParts) (op : Op) (view : OpView) (size : ℕ) → Admits h op → StandsFor view op → size ≡ h.address_size → IsOpOf size view
+is_op_of_header h op view size admits stands sized = record { header = h; op = op; size_is = sym sized; stands = stands; admitted = admits }
+
+pub op_put : (h : HeaderParts) (op : Op) (view : OpView) (order : Order) (size : ℕ) (old new : List ℕ) → Admits h op → StandsFor view op → order ≡ h.order → size ≡ h.address_size → AddsView order size view old new → Appends (OpBytes h) op old new
+op_put h op view order size old new admits stands ordered sized p = p.adds h op (sym ordered) (sym sized) stands admits
+
+-- ---- operands
+
+pub spelled_put : (code : ℕ) (operands : Operands) (bytes : Bor (List ℕ)) (old middle new : List ℕ) → operands ≡ Spelled bytes → middle ≡ old ++ code ∷ [] → AddsSpelled bytes.now middle new → AddsOperands code operands old new
+spelled_put code operands bytes old middle new is pushed p = record {
+  adds = λ numbers are. coded_put (Each UnsignedLeb) code numbers old middle new pushed (p.adds numbers (subst (λ (o : Operands). AreOperands o numbers) is are));
+}
+
+pub listed_put : (code : ℕ) (operands : Operands) (listed : Bor (List ℕ)) (old middle new : List ℕ) → operands ≡ Listed listed → middle ≡ old ++ code ∷ [] → Appends (Each UnsignedLeb) listed.now middle new → AddsOperands code operands old new
+listed_put code operands listed old middle new is pushed p = record {
+  adds = λ numbers are.
+      let same : listed.now ≡ numbers = subst (λ (o : Operands). AreOperands o numbers) is are in
+      coded_put (Each UnsignedLeb) code numbers old middle new pushed (subst (λ (ns : List ℕ). Appends (Each UnsignedLeb) ns middle new) same p);
+}
+
+-- the numbers that were read of the bytes so far were added
+pub record SpelledSoFar (bytes old : List ℕ) (at : At) (new : List ℕ) : Type 0 where
+  pub numbers : List ℕ
+  pub read : NumbersSoFar bytes numbers at
+  pub put : Appends (Each UnsignedLeb) numbers old new
+
+pub spelled_begun : (bytes old : List ℕ) (at : At) → at.rest ≡ bytes → SpelledSoFar bytes old at old
+spelled_begun bytes old at rest = record { numbers = []; read = owned.numbers_none bytes at rest; put = each_begun UnsignedLeb old }
+
+pub spelled_more : (bytes old middle new : List ℕ) (n : ℕ) (at next : At) → SpelledSoFar bytes old at middle → Reads UnsignedLeb n at next → Appends UnsignedLeb n middle new → SpelledSoFar bytes old next new
+spelled_more bytes old middle new n at next so r p =
+    record { numbers = so.numbers ++ n ∷ []; read = owned.numbers_more bytes so.numbers n at next so.read r; put = each_put UnsignedLeb so.numbers n old middle new so.put p }
+
+pub spelled_extends : (bytes old : List ℕ) (at : At) (middle new : List ℕ) → SpelledSoFar bytes old at middle → new ≡ middle → Extends old new
+spelled_extends bytes old at middle new so same = record { more = so.put.spelling; joined = same ∙ so.put.joined }
+
+pub spelled_done : (bytes old new : List ℕ) (at : At) (fault : Fault) → SpellsNumbers bytes → SpelledSoFar bytes old at new → RefusesField (IsLebFault IsLargeUnsigned) UnsignedLeb at fault → AddsSpelled bytes old new
+spelled_done bytes old new at fault some so r = record {
+  adds = λ numbers each.
+      let all : Each UnsignedLeb so.numbers bytes = owned.numbers_done bytes so.numbers at fault some so.read r in
+      let same : so.numbers ≡ numbers = same_whole unsigned_code leb_is_some so.numbers numbers bytes bytes all each refl in
+      subst (λ (ns : List ℕ). Appends (Each UnsignedLeb) ns old new) same so.put;
+}
 
 -- ---- lists of operations
 

@@ -7,11 +7,13 @@ ghost use Rattle.lnt_wire.specs.Numbers.{NumberBytes};
 ghost use Rattle.lnt_header.specs.HeaderRules.{IsAddressSize};
 ghost use Rattle.lnt_header.specs.Joins.{Each};
 ghost use Rattle.lnt_header.specs.OpRules.{Admits};
+ghost use Rattle.lnt_ops.specs.OperandLists.{IsOperands, SpellsNumbers};
 ghost use Rattle.lnt_ops.specs.OpBytes.{OpBytes};
+ghost use Rattle.lnt_ops.specs.OpPuts.{AddsOperands, AddsSpelled, AddsView, IsOpOf};
 ghost use Rattle.lnt_ops.specs.OpSpellings.{Coded, ExtendedCoded, ExtendedStart};
 
-use lnt_header::{Header, Op};
-use lnt_wire::{EncodeFault, Order, put_sleb, put_u16, put_u32, put_u64, put_uleb};
+use lnt_header::{Header, Op, OpView, Operands};
+use lnt_wire::{Cursor, EncodeFault, Order, put_sleb, put_u16, put_u32, put_u64, put_uleb};
 
 /// Adds the bytes of the operations in a unit with the header, one behind the other, each LEB128 in its shortest
 /// spelling. The caller sees to it that the header admits each of them (`Header::admits`). The only refusal is
@@ -48,39 +50,59 @@ fn add_ops(out: &mut Vec<u8>, header: &Header, ops: &[Op]) -> Result<(), EncodeF
 }
 
 // Adds an operation. After a refusal a part of it may be there.
+#[tactic(auto, using(crate::proofs::OpPutLemmas::is_op_of_header, crate::proofs::OpPutLemmas::op_put))]
 fn add_op(out: &mut Vec<u8>, header: &Header, op: &Op) -> Result<(), EncodeFault>
     requires { Admits header.now op.now }
     ensures ok { OnOk result (Appends (OpBytes header.now) op.now out.old.items out.new.items) }
     ensures err { IfErr result (λ fault. fault ≡ EncodeFault.Memory) }
     ensures extends { OnErr result (Extends out.old.items out.new.items) }
 {
-    match op {
-        Op::Special(opcode) => add_code(out, *opcode),
-        Op::Copy => add_code(out, 1),
-        Op::AdvancePc(n) => add_unsigned(out, 2, *n),
-        Op::AdvanceLine(z) => add_signed(out, 3, *z),
-        Op::SetFile(n) => add_unsigned(out, 4, *n),
-        Op::SetColumn(n) => add_unsigned(out, 5, *n),
-        Op::NegateStmt => add_code(out, 6),
-        Op::SetBasicBlock => add_code(out, 7),
-        Op::ConstAddPc => add_code(out, 8),
-        Op::FixedAdvancePc(n) => add_number(out, 9, *n, header.order()),
-        Op::SetPrologueEnd => add_code(out, 10),
-        Op::SetEpilogueBegin => add_code(out, 11),
-        Op::SetIsa(n) => add_unsigned(out, 12, *n),
-        Op::UnknownStandard(opcode, operands) => add_operands(out, *opcode, operands.as_slice()),
-        Op::EndSequence => add_extended(out, 1, &[]),
-        Op::SetAddress(address) => add_address(out, *address, header),
-        Op::SetDiscriminator(n) => add_discriminator(out, *n),
-        Op::UnknownExtended(code, bytes) => add_extended(out, *code, bytes.as_slice()),
+    put_view(out, op.view(), header.order(), header.address_size())
+}
+
+/// Adds the bytes of the operation that the view stands for, in a unit whose numbers have the order, each LEB128 in its
+/// shortest spelling. The caller sees to it that a header with addresses of this size admits it. The only refusal is
+/// `Memory`, and then a part of the operation may be there. It takes no memory but that of `out`.
+pub fn put_view(
+    out: &mut Vec<u8>,
+    view: OpView<'_>,
+    order: Order,
+    address_size: u8,
+) -> Result<(), EncodeFault>
+    requires size { IsAddressSize address_size }
+    requires admitted { IsOpOf address_size view }
+    ensures ok { OnOk result (AddsView order address_size view.entry out.old.items out.new.items) }
+    ensures err { IfErr result (λ fault. fault ≡ EncodeFault.Memory) }
+    ensures extends { OnErr result (Extends out.old.items out.new.items) }
+{
+    match view {
+        OpView::Special(opcode) => add_code(out, opcode),
+        OpView::Copy => add_code(out, 1),
+        OpView::AdvancePc(n) => add_unsigned(out, 2, n),
+        OpView::AdvanceLine(z) => add_signed(out, 3, z),
+        OpView::SetFile(n) => add_unsigned(out, 4, n),
+        OpView::SetColumn(n) => add_unsigned(out, 5, n),
+        OpView::NegateStmt => add_code(out, 6),
+        OpView::SetBasicBlock => add_code(out, 7),
+        OpView::ConstAddPc => add_code(out, 8),
+        OpView::FixedAdvancePc(n) => add_number(out, 9, n, order),
+        OpView::SetPrologueEnd => add_code(out, 10),
+        OpView::SetEpilogueBegin => add_code(out, 11),
+        OpView::SetIsa(n) => add_unsigned(out, 12, n),
+        OpView::UnknownStandard(opcode, operands) => add_operands(out, opcode, operands),
+        OpView::EndSequence => add_extended(out, 1, &[]),
+        OpView::SetAddress(address) => add_address(out, address, address_size, order),
+        OpView::SetDiscriminator(n) => add_discriminator(out, n),
+        OpView::UnknownExtended(code, bytes) => add_extended(out, code, bytes),
     }
 }
 
 // Adds an opcode without operands.
+#[tactic(auto, using(crate::proofs::OpPutLemmas::unchanged_extends))]
 fn add_code(out: &mut Vec<u8>, code: u8) -> Result<(), EncodeFault>
     ensures ok { OnOk result (out.new.items ≡ out.old.items ++ code ∷ []) }
     ensures err { IfErr result (λ fault. fault ≡ EncodeFault.Memory) }
-    ensures unchanged { OnErr result (out.new.items ≡ out.old.items) }
+    ensures extends { OnErr result (Extends out.old.items out.new.items) }
 {
     Ok(out.push(code)?)
 }
@@ -119,14 +141,33 @@ fn add_number(out: &mut Vec<u8>, code: u8, n: u16, order: Order) -> Result<(), E
 }
 
 // Adds an opcode and unsigned numbers.
-#[tactic(auto, using(crate::proofs::OpPutLemmas::coded_put))]
-fn add_operands(out: &mut Vec<u8>, code: u8, operands: &[u64]) -> Result<(), EncodeFault>
-    ensures ok { OnOk result (Appends (Coded code (Each UnsignedLeb)) operands.now out.old.items out.new.items) }
+#[tactic(auto, using(crate::proofs::OpPutLemmas::spelled_put, crate::proofs::OpPutLemmas::listed_put))]
+fn add_operands(out: &mut Vec<u8>, code: u8, operands: Operands<'_>) -> Result<(), EncodeFault>
+    requires { IsOperands operands }
+    ensures ok { OnOk result (AddsOperands code operands.entry out.old.items out.new.items) }
     ensures err { IfErr result (λ fault. fault ≡ EncodeFault.Memory) }
     ensures extends { OnErr result (Extends out.old.items out.new.items) }
 {
     out.push(code)?;
-    add_numbers(out, operands)
+    match operands {
+        Operands::Spelled(bytes) => add_spelled(out, bytes),
+        Operands::Listed(numbers) => add_numbers(out, numbers),
+    }
+}
+
+// Adds the unsigned numbers that the bytes spell.
+#[tactic(auto, using(crate::proofs::OpPutLemmas::spelled_begun, crate::proofs::OpPutLemmas::spelled_more, crate::proofs::OpPutLemmas::spelled_done, crate::proofs::OwnedLemmas::number_long))]
+fn add_spelled(out: &mut Vec<u8>, bytes: &[u8]) -> Result<(), EncodeFault>
+    requires { SpellsNumbers bytes.now }
+    ensures ok { OnOk result (AddsSpelled bytes.now out.old.items out.new.items) }
+    ensures err { IfErr result (λ fault. fault ≡ EncodeFault.Memory) }
+    ensures extends { OnErr result (Extends out.old.items out.new.items) }
+{
+    let mut cursor = Cursor::new(bytes, 0, Order::Little);
+    while let Ok(number) = cursor.uleb() {
+        put_uleb(out, number)?;
+    }
+    Ok(())
 }
 
 // Adds unsigned numbers.
@@ -169,15 +210,15 @@ fn start_extended(out: &mut Vec<u8>, count: u64, code: u8) -> Result<(), EncodeF
 
 // Adds the operation that sets the address.
 #[tactic(auto, using(crate::proofs::OpPutLemmas::address_put))]
-fn add_address(out: &mut Vec<u8>, address: u64, header: &Header) -> Result<(), EncodeFault>
-    requires { address < 256 ^ header.now.address_size }
-    ensures ok { OnOk result (Appends (ExtendedCoded 2 (NumberBytes header.now.order header.now.address_size)) address out.old.items out.new.items) }
+fn add_address(out: &mut Vec<u8>, address: u64, size: u8, order: Order) -> Result<(), EncodeFault>
+    requires size { IsAddressSize size }
+    requires fits { address < 256 ^ size }
+    ensures ok { OnOk result (Appends (ExtendedCoded 2 (NumberBytes order size)) address out.old.items out.new.items) }
     ensures err { IfErr result (λ fault. fault ≡ EncodeFault.Memory) }
     ensures extends { OnErr result (Extends out.old.items out.new.items) }
 {
-    let size = header.address_size();
     start_extended(out, u64::from(size) + 1, 2)?;
-    add_sized(out, address, size, header.order())
+    add_sized(out, address, size, order)
 }
 
 // Adds a number in as many bytes as an address has.

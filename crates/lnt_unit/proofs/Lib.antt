@@ -1,6 +1,7 @@
 pub mod InPlaceLemmas
-pub mod ConvertLemmas
+pub mod ConvertedLemmas
 pub mod SectionLemmas
+pub mod JudgeLemmas
 pub mod UnitLemmas
 pub mod UnitReaders
 pub mod ViewLemmas

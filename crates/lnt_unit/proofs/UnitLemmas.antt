@@ -52,7 +52,7 @@ same_parts unit header same = ap (λ (h : HeaderParts). parts_with h unit.ops) s
 -- ---- writing
 
 -- the shortest program gives the shortest unit
-unit_put : (order : Order) (unit : Parts) (program bytes : List ℕ) → IsShortest (Each (OpBytes unit.header)) unit.ops program → IsShortest (HeaderBytesIn order) (unit.header, program) bytes
+pub unit_put : (order : Order) (unit : Parts) (program bytes : List ℕ) → IsShortest (Each (OpBytes unit.header)) unit.ops program → IsShortest (HeaderBytesIn order) (unit.header, program) bytes
     → IsShortest (UnitBytesIn order) unit bytes
 unit_put order unit program bytes p q = record {
   spelled = record { order_is = q.spelled.order_is; spelled = record { program = program; operations = p.spelled; whole = q.spelled.spelled } };
@@ -63,7 +63,7 @@ unit_put order unit program bytes p q = record {
 }
 
 -- where the shortest program has no unit, no program has one
-unit_refused : (order : Order) (unit : Parts) (program : List ℕ) (fault : EncodeFault) → IsShortest (Each (OpBytes unit.header)) unit.ops program → RefusedPut (HeaderBytesIn order) (unit.header, program) fault
+pub unit_refused : (order : Order) (unit : Parts) (program : List ℕ) (fault : EncodeFault) → IsShortest (Each (OpBytes unit.header)) unit.ops program → RefusedPut (HeaderBytesIn order) (unit.header, program) fault
     → RefusedPut (UnitBytesIn order) unit fault
 unit_refused order unit program fault p refused = record {
   none = λ large bytes t.

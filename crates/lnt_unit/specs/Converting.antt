@@ -2,8 +2,6 @@
 use Rattle.std.specs.Prelude.{◌≡◌, ℕ, List, ◌∷◌, ◌++◌, map}
 use Rattle.lnt_wire.specs.declared.format.Format.{Format}
 use Rattle.lnt_wire.specs.declared.format.Order.{Order}
-use Rattle.lnt_wire.specs.declared.put.EncodeFault.{EncodeFault}
-use Rattle.lnt_wire.specs.declared.put.EncodeFault.TheVariants as put
 use Rattle.lnt_wire.specs.Bytes.{IsShortest}
 use Rattle.lnt_header.specs.Conversion.{in_format}
 use Rattle.lnt_header.specs.Encoding.{NoSpelling}
@@ -52,14 +50,3 @@ abbrev pub IsConvertFault : Order → List ℕ → Format → Order → ConvertF
 IsConvertFault order section format to (Malformed fault) = BrokenSection order fault section
 IsConvertFault order section format to (TooLarge offset) = HasFirstLarge order section format to offset
 IsConvertFault order section format to Memory = Unit {0}
-
--- why the units of a section aren't written
-abbrev pub IsUnitsFault : Format → Order → List (ℕ × Parts) → ConvertFault → Type 0
-IsUnitsFault format to units (Malformed fault) = ⊥
-IsUnitsFault format to units (TooLarge offset) = IsFirstLarge format to units offset
-IsUnitsFault format to units Memory = Unit {0}
-
--- the fault of a unit at this offset that isn't written
-abbrev pub unit_fault : ℕ → EncodeFault → ConvertFault
-unit_fault offset put.TooLarge = TooLarge offset
-unit_fault offset put.Memory = Memory

@@ -1,4 +1,5 @@
 pub mod Broken
+pub mod Converted
 pub mod Frames
 pub mod Numbers
 pub mod Units

@@ -1,4 +1,5 @@
 pub mod BrokenUnits
+pub mod ConvertedUnits
 pub mod Converting
 pub mod Laws
 pub mod TooLong

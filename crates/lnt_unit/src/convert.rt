@@ -1,15 +1,10 @@
 //! Sections in another format and byte order (DWARF 5, sections 6.2.4 and 7.4).
 ghost use Rattle.std.specs.Prelude.{◌≡◌, IfOk, IfErr, OnOk};
-ghost use Rattle.lnt_wire.specs.Bytes.{Appends, IsShortest};
-ghost use Rattle.lnt_header.specs.Encoding.{RefusedPut};
-ghost use Rattle.lnt_header.specs.Joins.{Each};
-ghost use Rattle.lnt_unit.specs.Converting.{unit_fault, units_in_format, IsConverted, IsConvertFault, IsUnitsFault};
-ghost use Rattle.lnt_unit.specs.UnitBytes.{UnitBytesIn};
+ghost use Rattle.lnt_unit.specs.ConvertedUnits.{first_large, Converts};
+ghost use Rattle.lnt_unit.specs.Converting.{IsConverted, IsConvertFault};
 
-use crate::decode::decode_section;
-use crate::encode::encode_unit;
-use crate::unit::Unit;
-use lnt_wire::{EncodeFault, Fault, Format, Order, Reason};
+use crate::converting::{convert_unit, judge_unit, told};
+use lnt_wire::{Cursor, Fault, Format, Order};
 use std::alloc::Global;
 
 /// Why a section isn't converted.
@@ -28,7 +23,7 @@ pub enum ConvertFault {
 ///
 /// It refuses with `Malformed` where no units spell the section; with `TooLarge` and the offset of the first unit
 /// that nothing spells in the format, which is an offset in `bytes`; and else with `Memory`.
-#[tactic(auto, using(crate::proofs::ConvertLemmas::section_not_converted))]
+#[tactic(auto, using(crate::specs::Laws::Converted::converted_none, crate::specs::Laws::Converted::converted_all, crate::specs::Laws::Converted::converted_long))]
 pub fn convert_section(
     alloc: Global,
     bytes: &[u8],
@@ -39,52 +34,54 @@ pub fn convert_section(
     ensures ok { IfOk result (λ converted. IsConverted order bytes.now format to converted.items) }
     ensures err { IfErr result (IsConvertFault order bytes.now format to) }
 {
-    let units = match decode_section(alloc, bytes, order) {
-        Ok(units) => units,
-        Err(fault) if fault.reason == Reason::Memory => return Err(ConvertFault::Memory),
-        Err(fault) => return Err(ConvertFault::Malformed(fault)),
-    };
-    convert_units(alloc, units, format, to)
-}
-
-// The bytes of the units in the format and order, one behind the other. It refuses with `TooLarge` and the offset of
-// the first unit that nothing spells so, and else with `Memory`.
-fn convert_units(
-    alloc: Global,
-    units: Vec<(u64, Unit)>,
-    format: Format,
-    order: Order,
-) -> Result<Vec<u8>, ConvertFault>
-    ensures ok { IfOk result (λ bytes. Each (IsShortest (UnitBytesIn order)) (units_in_format units.items format order) bytes.items) }
-    ensures err { IfErr result (IsUnitsFault format order units.items) }
-{
+    judge_section(alloc, bytes, order, format, to)?;
     let mut out = Vec::new(alloc);
-    'units: for (offset, unit) in units {
-        let unit = unit.with_format(format, order);
-        if let Err(fault) = add_unit(alloc, &mut out, &unit) {
-            return Err(fault_at(offset, fault));
-        }
+    let mut cursor = Cursor::new(bytes, 0, order);
+    while !cursor.rest().is_empty() {
+        let Ok(()) = convert_unit(alloc, &mut cursor, order, format, to, &mut out) else {
+            return Err(ConvertFault::Memory);
+        };
     }
     Ok(out)
 }
 
-// The fault of a unit at this offset that isn't written.
-fn fault_at(offset: u64, fault: EncodeFault) -> ConvertFault
-    ensures { result ≡ unit_fault offset fault }
+/// Whether the section `bytes`, whose byte order is `order`, has a conversion to the format and the byte order `to`. It
+/// takes the memory of one converted unit.
+///
+/// It refuses as `convert_section` does.
+#[tactic(auto, using(crate::proofs::JudgeLemmas::judged_none, crate::proofs::JudgeLemmas::judged_more, crate::proofs::JudgeLemmas::judged_sound, crate::proofs::JudgeLemmas::judged_large, crate::proofs::JudgeLemmas::judged_long))]
+pub fn judge_section(
+    alloc: Global,
+    bytes: &[u8],
+    order: Order,
+    format: Format,
+    to: Order,
+) -> Result<(), ConvertFault>
+    ensures ok { OnOk result (Converts order bytes.now format to) }
+    ensures err { IfErr result (IsConvertFault order bytes.now format to) }
 {
-    match fault {
-        EncodeFault::TooLarge => ConvertFault::TooLarge(offset),
-        EncodeFault::Memory => ConvertFault::Memory,
+    let mut large = None;
+    let mut cursor = Cursor::new(bytes, 0, order);
+    while !cursor.rest().is_empty() {
+        let offset = cursor.place();
+        match judge_unit(alloc, &mut cursor, order, format, to) {
+            Ok(converts) => large = first_of(large, converts, offset),
+            Err(fault) => return Err(told(fault)),
+        }
+    }
+    match large {
+        None => Ok(()),
+        Some(offset) => Err(ConvertFault::TooLarge(offset)),
     }
 }
 
-// Adds the bytes of the unit.
-#[tactic(auto, using(lnt_header::specs::Laws::Puts::refused_memory))]
-fn add_unit(alloc: Global, out: &mut Vec<u8>, unit: &Unit) -> Result<(), EncodeFault>
-    ensures ok { OnOk result (Appends (UnitBytesIn unit.now.header.order) unit.now out.old.items out.new.items) }
-    ensures err { IfErr result (λ fault. RefusedPut (UnitBytesIn unit.now.header.order) unit.now fault) }
+// The first unit that nothing spells: the one that was found before, or the one at the offset.
+fn first_of(first: Option<u64>, converts: bool, offset: u64) -> Option<u64>
+    ensures { result ≡ first_large first converts offset }
 {
-    let bytes = encode_unit(alloc, unit)?;
-    out.extend_from_slice(&bytes)?;
-    Ok(())
+    if first.is_none() && !converts {
+        Some(offset)
+    } else {
+        first
+    }
 }

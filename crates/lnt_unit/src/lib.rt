@@ -2,6 +2,7 @@
 #![tactic(auto)]
 
 mod convert;
+mod converting;
 mod decode;
 mod encode;
 mod in_place;
@@ -9,7 +10,8 @@ pub mod laws;
 mod unit;
 mod view;
 
-pub use convert::{ConvertFault, convert_section};
+pub use convert::{ConvertFault, convert_section, judge_section};
+pub use converting::convert_unit;
 pub use decode::{decode_section, decode_unit};
 pub use encode::encode_unit;
 pub use in_place::UnitInPlace;

@@ -24,7 +24,7 @@ numbers_in_format h format order n = record {
 pub header_in_format : (h : HeaderParts) (format : Format) (order : Order) → IsHeader h → IsHeader (in_format h format order)
 header_in_format h format order is = record { numbers = numbers_in_format h format order is.numbers; directories = is.directories; files = is.files }
 
-op_in_format : (h : HeaderParts) (format : Format) (order : Order) (op : Op) → Admits h op → Admits (in_format h format order) op
+pub op_in_format : (h : HeaderParts) (format : Format) (order : Order) (op : Op) → Admits h op → Admits (in_format h format order) op
 op_in_format h format order (Special c) a = a
 op_in_format h format order Copy a = a
 op_in_format h format order (AdvancePc n) a = a

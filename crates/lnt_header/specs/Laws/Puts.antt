@@ -71,22 +71,22 @@ each_part P (v ∷ us) u bytes p =
       joined = p.joined ∙ ap (λ (z : List ℕ). p.front ++ z) rest.joined ∙ sym (append_assoc p.front rest.front rest.back);
     }
 
+-- one more value behind those that were put
+pub each_put : {X : Type 0} (P : X → List ℕ → Type 0) (us : List X) (u : X) (old middle new : List ℕ) → Appends (Each P) us old middle → Appends P u middle new → Appends (Each P) (us ++ u ∷ []) old new
+each_put P us u old middle new p q = record {
+  spelling = p.spelling ++ q.spelling;
+  spelled = record {
+    spelled = each_push P us u p.spelling q.spelling p.spelled.spelled q.spelled.spelled;
+    shortest = λ other t.
+        let parts = each_part P us u other t in
+        omega (arith, length-append p.spelling q.spelling, ap length parts.joined, length-append parts.front parts.back, p.spelled.shortest parts.front parts.first, q.spelled.shortest parts.back parts.last);
+  };
+  joined = q.joined ∙ ap (λ (z : List ℕ). z ++ q.spelling) p.joined ∙ append_assoc old p.spelling q.spelling;
+}
+
 pub each_more : {X : Type 0} (P : X → List ℕ → Type 0) (xs : List X) (i : ℕ) (d : X) (old middle new : List ℕ) → i < length xs → Appends (Each P) (take i xs) old middle → Appends P (get_or xs i d) middle new
     → Appends (Each P) (take (i + 1) xs) old new
-each_more P xs i d old middle new lt p q =
-    let us = take i xs in
-    let u = get_or xs i d in
-    let all : Appends (Each P) (us ++ u ∷ []) old new = record {
-      spelling = p.spelling ++ q.spelling;
-      spelled = record {
-        spelled = each_push P us u p.spelling q.spelling p.spelled.spelled q.spelled.spelled;
-        shortest = λ other t.
-            let parts = each_part P us u other t in
-            omega (arith, length-append p.spelling q.spelling, ap length parts.joined, length-append parts.front parts.back, p.spelled.shortest parts.front parts.first, q.spelled.shortest parts.back parts.last);
-      };
-      joined = q.joined ∙ ap (λ (z : List ℕ). z ++ q.spelling) p.joined ∙ append_assoc old p.spelling q.spelling;
-    } in
-    subst (λ (vs : List _). Appends (Each P) vs old new) (sym (take_more xs i d lt)) all
+each_more P xs i d old middle new lt p q = subst (λ (vs : List _). Appends (Each P) vs old new) (sym (take_more xs i d lt)) (each_put P (take i xs) (get_or xs i d) old middle new p q)
 
 pub taken_all : {X : Type 0} (xs : List X) (n : ℕ) → length xs ≤ n → take n xs ≡ xs
 taken_all [] zero le = refl

@@ -24,7 +24,7 @@ same_operands (Spelled bytes) us vs p q = same_whole unsigned_code leb_is_some u
 same_operands (Listed listed) us vs p q = sym p ∙ q
 
 -- the operation of a view, with these operands if it is an unknown standard one
-op_of : OpView → List ℕ → Op
+abbrev pub op_of : OpView → List ℕ → Op
 op_of (views.Special c) operands = ops.Special c
 op_of views.Copy operands = ops.Copy
 op_of (views.AdvancePc n) operands = ops.AdvancePc n
@@ -45,12 +45,11 @@ op_of (views.SetDiscriminator n) operands = ops.SetDiscriminator n
 op_of (views.UnknownExtended c bytes) operands = ops.UnknownExtended c bytes.now
 
 -- the operands of an unknown standard operation
-operands_of : Op → List ℕ
+abbrev pub operands_of : Op → List ℕ
 operands_of (ops.UnknownStandard k operands) = operands
 operands_of op = []
 
-is_op_of : (view : OpView) (op : Op) → StandsFor view op → op ≡ op_of view (operands_of op)
-unfolding op_of operands_of
+pub is_op_of : (view : OpView) (op : Op) → StandsFor view op → op ≡ op_of view (operands_of op)
 is_op_of (views.Special c) (ops.Special d) p = ap ops.Special (sym p)
 is_op_of views.Copy ops.Copy p = refl
 is_op_of (views.AdvancePc m) (ops.AdvancePc n) p = ap ops.AdvancePc (sym p)
@@ -72,7 +71,6 @@ is_op_of (views.UnknownExtended c bytes) (ops.UnknownExtended d operand) p = ap 
 is_op_of view op p = absurd p
 
 same_listed : (view : OpView) (u v : Op) → StandsFor view u → StandsFor view v → op_of view (operands_of u) ≡ op_of view (operands_of v)
-unfolding op_of operands_of
 same_listed (views.UnknownStandard i spelled) (ops.UnknownStandard j us) (ops.UnknownStandard k vs) p q = ap (ops.UnknownStandard i) (same_operands spelled us vs p.1 q.1)
 same_listed (views.UnknownStandard i spelled) (ops.UnknownStandard j us) v p q = absurd q
 same_listed (views.UnknownStandard i spelled) u v p q = absurd p

@@ -1,0 +1,46 @@
+-- Views of operations, written.
+use Rattle.std.specs.Prelude.{◌≡◌, ℕ, List}
+use Rattle.lnt_wire.specs.Bytes.{Appends}
+use Rattle.lnt_wire.specs.Leb128.{UnsignedLeb}
+use Rattle.lnt_wire.specs.declared.format.Order.{Order}
+use Rattle.lnt_header.specs.declared.header.HeaderParts.{HeaderParts}
+use Rattle.lnt_header.specs.declared.op.Op.{Op}
+use Rattle.lnt_header.specs.declared.view.OpView.{OpView}
+use Rattle.lnt_header.specs.declared.view.Operands.{Operands}
+use Rattle.lnt_header.specs.Joins.{Each}
+use Rattle.lnt_header.specs.OpRules.{Admits}
+use Rattle.lnt_header.specs.OpViews.{AreOperands, StandsFor}
+use Rattle.lnt_ops.specs.OpBytes.{OpBytes}
+use Rattle.lnt_ops.specs.OpSpellings.{Coded}
+
+-- The view stands for an operation that some header with addresses of this size admits.
+pub record IsOpOf (size : ℕ) (view : OpView) : Type 0 where
+  pub header : HeaderParts
+  pub op : Op
+  pub size_is : header.address_size ≡ size
+  pub stands : StandsFor view op
+  pub admitted : Admits header op
+
+-- The operation that the view stands for was added in its shortest spelling, as it is in each unit whose numbers have this order, whose addresses have this size, and whose header admits it.
+pub record AddsView (order : Order) (size : ℕ) (view : OpView) (old new : List ℕ) : Type 0 where
+  pub adds : (h : HeaderParts) (op : Op) → h.order ≡ order → h.address_size ≡ size → StandsFor view op → Admits h op → Appends (OpBytes h) op old new
+
+-- The numbers that the bytes spell were added, each in its shortest spelling.
+pub record AddsSpelled (bytes old new : List ℕ) : Type 0 where
+  pub adds : (numbers : List ℕ) → Each UnsignedLeb numbers bytes → Appends (Each UnsignedLeb) numbers old new
+
+-- The code was added, and behind it the numbers that the operands are.
+pub record AddsOperands (code : ℕ) (operands : Operands) (old new : List ℕ) : Type 0 where
+  pub adds : (numbers : List ℕ) → AreOperands operands numbers → Appends (Coded code (Each UnsignedLeb)) numbers old new
+
+-- Another header whose numbers have this order: its addresses have the same size, and it admits the same operations.
+pub record IsLike (h : HeaderParts) (order : Order) (other : HeaderParts) : Type 0 where
+  pub order_is : other.order ≡ order
+  pub size_is : other.address_size ≡ h.address_size
+  pub admits : (op : Op) → Admits h op → Admits other op
+
+-- The operations of the program were added in this order, each in its shortest spelling.
+pub record AddsOps (h : HeaderParts) (program : List ℕ) (order : Order) (old new : List ℕ) : Type 0 where
+  pub ops : List Op
+  pub spelled : Each (OpBytes h) ops program
+  pub adds : (other : HeaderParts) → IsLike h order other → Appends (Each (OpBytes other)) ops old new

@@ -1,0 +1,39 @@
+//! Programs in another byte order.
+ghost use Rattle.std.specs.Prelude.{◌≢◌, ◌+◌, ◌^◌, ◌<◌, length, IfErr, OnOk};
+ghost use Rattle.lnt_ops.specs.OpPuts.{AddsOps};
+ghost use Rattle.lnt_ops.specs.Programs.{BrokenProgram};
+
+use crate::iterator::Ops;
+use crate::put::put_view;
+use lnt_header::Header;
+use lnt_wire::{Fault, Order, Reason};
+
+/// Adds the operations of a whole program in a unit with this header, in the byte order `to`: the same operations, each
+/// LEB128 in its shortest spelling (DWARF 5, sections 6.2.5 and 7.22). The program's first byte stands at the offset
+/// `place` of the section. It takes no memory but that of `out`.
+///
+/// It refuses only where no operations spell the program, with the fault of the first operation that isn't there, or
+/// with `Memory`. Then the first of them may be there.
+#[tactic(auto, using(crate::proofs::ConvertedLemmas::converted_none, crate::proofs::ConvertedLemmas::converted_more, crate::proofs::ConvertedLemmas::converted_all, crate::proofs::ConvertedLemmas::view_of_header))]
+pub fn convert_ops(
+    out: &mut Vec<u8>,
+    header: &Header,
+    program: &[u8],
+    place: u64,
+    to: Order,
+) -> Result<(), Fault>
+    requires { place + length program.now < 2 ^ 64 }
+    ensures ok { OnOk result (AddsOps header.now program.now to out.old.items out.new.items) }
+    ensures err { IfErr result (λ fault. fault.reason ≢ Reason.Memory → BrokenProgram header.now place program.now fault) }
+{
+    let size = header.address_size();
+    for view in Ops::new(header, program, place) {
+        let Ok(()) = put_view(out, view?, to, size) else {
+            return Err(Fault {
+                place,
+                reason: Reason::Memory,
+            });
+        };
+    }
+    Ok(())
+}

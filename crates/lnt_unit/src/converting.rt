@@ -1,0 +1,142 @@
+//! Units in another format and byte order, each from the bytes in which it stands (DWARF 5, sections 6.2.4 and 7.4).
+ghost use Rattle.std.specs.Prelude.{◌≡◌, ◌≢◌, ◌+◌, length, IfErr, IfOk, OnOk, OnErr};
+ghost use Rattle.lnt_wire.specs.FrameBytes.{frame_bytes, IsPlacedFrame};
+ghost use Rattle.lnt_wire.specs.Bytes.{Appends};
+ghost use Rattle.lnt_header.specs.Encoding.{RefusedPut};
+ghost use Rattle.lnt_header.specs.HeaderBytes.{HeaderBytesIn};
+ghost use Rattle.lnt_unit.specs.BrokenUnits.{BrokenUnit};
+ghost use Rattle.lnt_unit.specs.ConvertedUnits.{ConvertsBytes, ConvertsUnit, IsNextStop, IsToldAs, IsUnitStop, JudgesUnit};
+
+use crate::convert::ConvertFault;
+use lnt_header::{Header, decode_header, encode_header};
+use lnt_ops::convert_ops;
+use lnt_wire::{Cursor, EncodeFault, Fault, Format, Frame, Order, Reason, take_frame};
+use std::alloc::Global;
+
+/// Adds the bytes of the unit at the cursor in the format and in the byte order `to`, each LEB128 in its shortest
+/// spelling, and moves the cursor past the unit. The caller sees to it that `order` is the cursor's. It takes the memory
+/// of the converted unit, and no list of its operations.
+///
+/// It refuses with `Malformed` where no unit begins the bytes that are left, with the fault of `decode_unit`; with
+/// `TooLarge` and the unit's offset where nothing spells it in the format; and else with `Memory`. Then the cursor is as
+/// it was.
+#[tactic(auto, using(crate::proofs::UnitReaders::frame_placed, crate::proofs::UnitReaders::frame_end, crate::proofs::ConvertedLemmas::unit_converted))]
+pub fn convert_unit(
+    alloc: Global,
+    cursor: &mut Cursor<'_>,
+    order: Order,
+    format: Format,
+    to: Order,
+    out: &mut Vec<u8>,
+) -> Result<(), ConvertFault>
+    requires { cursor.old.order ≡ order }
+    ensures ok { OnOk result (ConvertsUnit order format to cursor.old cursor.new out.old.items out.new.items) }
+    ensures err { IfErr result (IsNextStop order format to cursor.old) }
+    ensures unchanged { OnErr result (cursor.new ≡ cursor.old) }
+{
+    let mut ahead = Cursor::new(cursor.rest(), cursor.place(), order);
+    let frame = match take_frame(&mut ahead) {
+        Ok(frame) => frame,
+        Err(fault) => return Err(told(fault)),
+    };
+    convert_frame(alloc, &frame, ahead.place(), order, format, to, out)?;
+    *cursor = ahead;
+    Ok(())
+}
+
+/// Whether the unit at the cursor has a spelling in the format and in the byte order `to`. The cursor moves past the
+/// unit. The caller sees to it that `order` is the cursor's.
+///
+/// It refuses as `decode_unit` does, and then leaves the cursor as it was.
+#[tactic(auto, using(crate::proofs::UnitReaders::frame_placed, crate::proofs::UnitReaders::frame_end, crate::proofs::ConvertedLemmas::unit_judged, crate::proofs::ConvertedLemmas::unit_judged_large))]
+pub(crate) fn judge_unit(
+    alloc: Global,
+    cursor: &mut Cursor<'_>,
+    order: Order,
+    format: Format,
+    to: Order,
+) -> Result<bool, Fault>
+    requires { cursor.old.order ≡ order }
+    ensures ok { IfOk result (λ converts. JudgesUnit order format to converts cursor.old cursor.new) }
+    ensures err { IfErr result (λ fault. fault.reason ≢ Reason.Memory → BrokenUnit order fault cursor.old.place cursor.old.rest) }
+    ensures unchanged { OnErr result (cursor.new ≡ cursor.old) }
+{
+    let mut ahead = Cursor::new(cursor.rest(), cursor.place(), order);
+    let frame = take_frame(&mut ahead)?;
+    let mut bytes = Vec::new(alloc);
+    match convert_frame(alloc, &frame, ahead.place(), order, format, to, &mut bytes) {
+        Ok(()) => {
+            *cursor = ahead;
+            Ok(true)
+        }
+        Err(ConvertFault::TooLarge(_)) => {
+            *cursor = ahead;
+            Ok(false)
+        }
+        Err(ConvertFault::Malformed(fault)) => Err(fault),
+        Err(ConvertFault::Memory) => Err(Fault {
+            place: frame.offset,
+            reason: Reason::Memory,
+        }),
+    }
+}
+
+// Adds the bytes of the unit of a frame in the format and in the byte order `to`. It ends before the offset `end` of the
+// section.
+#[tactic(auto, using(crate::proofs::UnitReaders::program_within))]
+fn convert_frame(
+    alloc: Global,
+    frame: &Frame<'_>,
+    end: u64,
+    order: Order,
+    format: Format,
+    to: Order,
+    out: &mut Vec<u8>,
+) -> Result<(), ConvertFault>
+    requires frame { IsPlacedFrame order frame.now }
+    requires end { end ≡ frame.now.offset + length (frame_bytes order frame.now.format frame.now.body.now) }
+    ensures ok { OnOk result (ConvertsBytes order format to (frame_bytes order frame.now.format frame.now.body.now) out.old.items out.new.items) }
+    ensures err { IfErr result (IsUnitStop order format to frame.now.offset (frame_bytes order frame.now.format frame.now.body.now)) }
+{
+    let (header, program) = match decode_header(alloc, frame, order) {
+        Ok(found) => found,
+        Err(fault) => return Err(told(fault)),
+    };
+    let place = end - program.len() as u64;
+    let mut converted = Vec::new(alloc);
+    if let Err(fault) = convert_ops(&mut converted, &header, program, place, to) {
+        return Err(told(fault));
+    }
+    let header = header.with_format(format, to);
+    match add_encoded(alloc, &header, &converted, out) {
+        Ok(()) => Ok(()),
+        Err(EncodeFault::TooLarge) => Err(ConvertFault::TooLarge(frame.offset)),
+        Err(EncodeFault::Memory) => Err(ConvertFault::Memory),
+    }
+}
+
+// Adds the bytes of a unit with this header and this program.
+#[tactic(auto, using(lnt_header::specs::Laws::Puts::refused_memory))]
+fn add_encoded(
+    alloc: Global,
+    header: &Header,
+    program: &[u8],
+    out: &mut Vec<u8>,
+) -> Result<(), EncodeFault>
+    ensures ok { OnOk result (Appends (HeaderBytesIn header.now.order) (header.now, program.now) out.old.items out.new.items) }
+    ensures err { IfErr result (λ fault. RefusedPut (HeaderBytesIn header.now.order) (header.now, program.now) fault) }
+{
+    let bytes = encode_header(alloc, header, program)?;
+    out.extend_from_slice(&bytes)?;
+    Ok(())
+}
+
+// The fault, or want of memory.
+pub(crate) fn told(fault: Fault) -> ConvertFault
+    ensures { IsToldAs fault result }
+{
+    match fault.reason {
+        Reason::Memory => ConvertFault::Memory,
+        _ => ConvertFault::Malformed(fault),
+    }
+}
