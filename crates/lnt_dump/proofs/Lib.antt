@@ -1,1 +1,2 @@
 pub mod Gained
+pub mod Sections

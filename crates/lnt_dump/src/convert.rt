@@ -8,17 +8,21 @@ ghost use Rattle.lnt_dump.specs.Printed.{IsPrintedIn, IsRefusalTold, refusal_tex
 
 use crate::faults::print_fault;
 use lnt_files::{Halt, Status};
-use lnt_unit::{ConvertFault, convert_section};
-use lnt_wire::{Format, Order, Source, read_all};
+use lnt_unit::{ConvertFault, convert_unit, judge_section};
+use lnt_wire::{Cursor, Format, Order, Source, read_all};
 use std::alloc::Global;
 use std::io::Write;
+
+// A page is handed to the writer once it has so many bytes.
+const PAGE: usize = 1 << 16;
 
 /// Prints the section that the source has to give in the format and in the byte order `to`, or why that can't be.
 ///
 /// Where it answers `Done`, the writer has gained the converted section, and nothing else. Where it answers `No`, the
 /// section is malformed, or a unit of it is too large for the format, and the writer has gained the line that says so
 /// alone. It stops by `Read` only where the source failed, by `TooLong` only where it has more bytes than it may give,
-/// by `Write` where the writer failed, and by `Memory`. The caller sees to it that the number of the source's failures
+/// by `Write` where the writer failed, and by `Memory`. It keeps the bytes of the section, which are read once, and
+/// converts them unit by unit, once it is known that each unit has a spelling in the format. The caller sees to it that the number of the source's failures
 /// is below `u64::MAX`.
 pub fn print_converted<R: Source, W: Write>(
     alloc: Global,
@@ -37,13 +41,39 @@ pub fn print_converted<R: Source, W: Write>(
     ensures too_long { IsErrOf result Halt.TooLong → IsTrue (R.too_long source.new) }
 {
     let bytes = read_all(alloc, source)?;
-    match convert_section(alloc, &bytes, order, format, to) {
-        Ok(converted) => {
-            out.write_all(&converted)?;
-            Ok(Status::Done)
-        }
-        Err(fault) => print_refusal(fault, out),
+    if let Err(fault) = judge_section(alloc, &bytes, order, format, to) {
+        return print_refusal(fault, out);
     }
+    print_section(alloc, &bytes, order, format, to, out)?;
+    Ok(Status::Done)
+}
+
+// Prints a section that converts in the format and in the byte order `to`, unit by unit.
+#[tactic(auto, using(crate::proofs::Sections::section_begun, crate::proofs::Sections::section_handed_on, crate::proofs::Sections::unit_long))]
+fn print_section<W: Write>(
+    alloc: Global,
+    bytes: &[u8],
+    order: Order,
+    format: Format,
+    to: Order,
+    out: &mut W,
+) -> Result<(), Halt>
+    ensures ok { OnOk result (IsPrintedIn (IsConverted order bytes.now format to) (W.contents out.old) (W.contents out.new)) }
+    ensures err { IfErr result IsPrinting }
+{
+    let mut page = Vec::new(alloc);
+    let mut cursor = Cursor::new(bytes, 0, order);
+    while !cursor.rest().is_empty() {
+        let Ok(()) = convert_unit(alloc, &mut cursor, order, format, to, &mut page) else {
+            return Err(Halt::Memory);
+        };
+        if page.len() >= PAGE {
+            out.write_all(&page)?;
+            page.clear();
+        }
+    }
+    out.write_all(&page)?;
+    Ok(())
 }
 
 // Prints the line that says why a section isn't converted.
