@@ -3,6 +3,7 @@ pub mod DecodeLemmas
 pub mod EncodeLemmas
 pub mod HeaderFrames
 pub mod HeaderReaders
+pub mod KeptLemmas
 pub mod LargeLemmas
 pub mod PassLemmas
 pub mod Places

@@ -1,16 +1,12 @@
 //! Headers, read from the bytes of their units.
-ghost use Rattle.std.specs.Prelude.{◌≡◌, ◌≢◌, ◌+◌, ◌^◌, ◌<◌, length, IfOk, IfErr};
+ghost use Rattle.std.specs.Prelude.{◌≡◌, ◌≢◌, IfOk, IfErr};
 ghost use Rattle.lnt_wire.specs.FrameBytes.{frame_bytes, IsPlacedFrame};
-ghost use Rattle.lnt_wire.specs.Reading.{RefusesOr};
 ghost use Rattle.lnt_header.specs.Broken.{BrokenHeader};
-ghost use Rattle.lnt_header.specs.FieldsBytes.{FieldsBytes, IsHeaderFault};
 ghost use Rattle.lnt_header.specs.HeaderBytes.{HeaderBytesIn};
-ghost use Rattle.lnt_header.specs.HeaderReading.{IsBehindVersion, HasFields, standing};
-ghost use Rattle.lnt_header.specs.HeaderRules.{IsAddressSize};
+ghost use Rattle.lnt_header.specs.HeaderReading.{IsBehindVersion};
 
-use crate::fields::read_fields;
-use crate::header::{Header, HeaderParts};
-use crate::start::read_start;
+use crate::header::Header;
+use crate::in_place::view_header;
 use lnt_wire::{Cursor, Fault, Format, Frame, Items, Order, Reason};
 use std::alloc::Global;
 
@@ -19,7 +15,6 @@ use std::alloc::Global;
 /// It refuses with `Memory`, and else only where no header with a program is the frame's bytes. The fault is that of
 /// the first field that isn't there whole, or has a value that none may have, and its place is the field's first byte;
 /// where the fields of one byte end too early, that is where they end.
-#[tactic(auto, using(crate::proofs::Allowed::found_header, crate::proofs::HeaderFrames::refuses_start, crate::proofs::HeaderFrames::refuses_fields, crate::proofs::HeaderFrames::header_found))]
 pub fn decode_header<'a>(
     alloc: Global,
     frame: &Frame<'a>,
@@ -29,18 +24,14 @@ pub fn decode_header<'a>(
     ensures ok { IfOk result (λ found. HeaderBytesIn order (found.0, found.1.now) (frame_bytes order frame.now.format frame.now.body.now)) }
     ensures err { IfErr result (λ fault. fault.reason ≢ Reason.Memory → BrokenHeader order fault frame.now.offset (frame_bytes order frame.now.format frame.now.body.now)) }
 {
-    let mut cursor = behind_version(frame, order);
-    let start = read_start(&mut cursor, frame.format)?;
-    let place = cursor.place() - start.header.len() as u64;
-    let parts = read_parts(
-        alloc,
-        start.header,
-        place,
-        order,
-        frame.format,
-        start.address_size,
-    )?;
-    Ok((Header::of(parts), cursor.rest()))
+    let (header, program) = view_header(alloc, frame, order)?;
+    match header.view().to_header(alloc) {
+        Ok(header) => Ok((header, program)),
+        Err(_) => Err(Fault {
+            place: frame.offset,
+            reason: Reason::Memory,
+        }),
+    }
 }
 
 /// A cursor behind the version.
@@ -54,44 +45,6 @@ pub(crate) fn behind_version<'a>(frame: &Frame<'a>, order: Order) -> Cursor<'a>
     };
     let (_, behind) = frame.body.split_at(2);
     Cursor::new(behind, frame.offset + initial_size + 2, order)
-}
-
-// The parts of a header, from the bytes that header_length counts, which stand at the place.
-fn read_parts(
-    alloc: Global,
-    header: &[u8],
-    place: u64,
-    order: Order,
-    format: Format,
-    address_size: u8,
-) -> Result<HeaderParts, Fault>
-    requires size { IsAddressSize address_size }
-    requires room { place + length header.now < 2 ^ 64 }
-    ensures ok { IfOk result (λ h. HasFields format order address_size header.now h) }
-    ensures err { IfErr result (λ fault. RefusesOr (IsHeaderFault format order) (FieldsBytes format order) (standing place header.now order) fault) }
-{
-    let mut cursor = Cursor::new(header, place, order);
-    let fields = read_fields(alloc, &mut cursor, format)?;
-    let lengths = copied(alloc, fields.lengths, place)?;
-    let extra = copied(alloc, cursor.rest(), place)?;
-    let singles = fields.singles;
-    Ok(HeaderParts {
-        format,
-        order,
-        address_size,
-        minimum_instruction_length: singles.minimum_instruction_length,
-        max_ops: singles.max_ops,
-        default_is_stmt: singles.default_is_stmt,
-        line_base: singles.line_base.cast_signed(),
-        line_range: singles.line_range,
-        opcode_base: singles.opcode_base,
-        standard_lengths: lengths,
-        directory_format: Items::new(fields.directories.0),
-        directories: Items::new(fields.directories.1),
-        file_format: Items::new(fields.files.0),
-        files: Items::new(fields.files.1),
-        extra,
-    })
 }
 
 /// A copy of the bytes.

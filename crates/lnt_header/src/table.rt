@@ -3,8 +3,8 @@ ghost use Rattle.std.specs.Prelude.{◌≡◌, ◌∷◌, ◌++◌, [], length, 
 ghost use Rattle.lnt_header.specs.Joins.{Several};
 ghost use Rattle.lnt_wire.specs.Reading.{Reads, Refuses, RefusesOr};
 ghost use Rattle.lnt_header.specs.Layouts.{IsLayout, ReadsNext, entry_of};
-ghost use Rattle.lnt_header.specs.TableBytes.{PairBytes, ValuesBytes, EntryBytes, TableOf};
-ghost use Rattle.lnt_header.specs.TableFaults.{IsPairFault, IsPairsFault, IsEntryFault, IsEntriesFault, IsTableFault};
+ghost use Rattle.lnt_header.specs.TableBytes.{PairBytes, ValuesBytes, EntryBytes};
+ghost use Rattle.lnt_header.specs.TableFaults.{IsPairFault, IsPairsFault, IsEntryFault, IsEntriesFault};
 
 use crate::header::{Entry, Pair};
 use lnt_lists::ShortList;
@@ -72,9 +72,9 @@ fn read_values(
     Ok(values)
 }
 
-// As many entries as the count says.
+/// As many entries as the count says.
 #[tactic(auto, using(crate::proofs::TableReaders::entries_none, crate::proofs::TableReaders::refuses_entries))]
-fn read_entries(
+pub(crate) fn read_entries(
     alloc: Global,
     cursor: &mut Cursor<'_>,
     format: Format,
@@ -270,28 +270,4 @@ fn no_memory(cursor: &Cursor<'_>) -> Fault
         place: cursor.place(),
         reason: Reason::Memory,
     }
-}
-
-/// A format, and its entries.
-#[tactic(auto, using(crate::proofs::TableReaders::reads_table, crate::proofs::TableReaders::refuses_count, crate::proofs::TableReaders::refuses_kinds, crate::proofs::TableReaders::refuses_size, crate::proofs::TableReaders::refuses_empty, crate::proofs::TableReaders::refuses_rest))]
-pub(crate) fn read_table(
-    alloc: Global,
-    cursor: &mut Cursor<'_>,
-    format: Format,
-) -> Result<(Vec<Pair>, Vec<Entry>), Fault>
-    ensures ok { IfOk result (λ table. Reads (TableOf format cursor.old.order) (table.0.items, table.1.items) cursor.old cursor.new) }
-    ensures err { IfErr result (λ fault. RefusesOr (IsTableFault format cursor.old.order) (TableOf format cursor.old.order) cursor.old fault) }
-{
-    let count = cursor.u8()?;
-    let pairs = read_pairs(alloc, cursor, count)?;
-    let place = cursor.place();
-    let size = cursor.uleb()?;
-    if count == 0 && size > 0 {
-        return Err(Fault {
-            place,
-            reason: Reason::EmptyFormat,
-        });
-    }
-    let entries = read_entries(alloc, cursor, format, &pairs, size)?;
-    Ok((pairs, entries))
 }

@@ -1,27 +1,23 @@
 //! Tables of a header whose entries stay where they lie.
-ghost use Rattle.std.specs.Prelude.{◌≡◌, length, IfOk, IfErr};
-ghost use Rattle.lnt_header.specs.Borrowed.{IsTableRead, AreEntryBytes};
-ghost use Rattle.lnt_header.specs.TableBytes.{TableOf};
-ghost use Rattle.lnt_header.specs.TableFaults.{IsTableFault};
-ghost use Rattle.lnt_wire.specs.Reading.{RefusesOr};
+ghost use Rattle.std.specs.Prelude.{◌≡◌, length, IfOk};
+ghost use Rattle.lnt_header.specs.Borrowed.{borrowed_table, AreEntryBytes};
 
-use crate::header::Pair;
-use crate::pass::pass_entries;
-use crate::table::read_pairs;
-use lnt_wire::{Cursor, Fault, Format, Order, Reason};
-use std::alloc::Global;
+use crate::header::{Entry, Header, Pair};
+use crate::read_table::EntriesInPlace;
+use crate::table::read_entries;
+use lnt_wire::{Cursor, Format, Order};
+use std::alloc::{AllocError, Global};
 use std::marker::Model;
 
-/// A format, and its entries, which stay where they lie. It takes memory for the format alone.
+/// A format, and its entries, which stay where they lie.
 ///
 /// Contracts see the format and the entries, and how the numbers of these are spelled (`BorrowedTable`).
 #[derive(Drop)]
 pub struct TableView<'a> {
     format: Format,
     order: Order,
-    pairs: Vec<Pair>,
-    count: u64,
-    bytes: &'a [u8],
+    pairs: &'a [Pair],
+    entries: EntriesInPlace<'a>,
 }
 
 impl<'a> Model for TableView<'a> {
@@ -29,17 +25,34 @@ impl<'a> Model for TableView<'a> {
 
     ghost Value = { BorrowedTable };
 
-    ghost view = { λ t. borrowed_table t.format t.order t.pairs.items t.count t.bytes.now };
+    ghost view = { λ t. borrowed_table t.format t.order t.pairs.now t.entries.count t.entries.bytes.now };
 
-    ghost invariant = { λ t. AreEntryBytes (borrowed_table t.format t.order t.pairs.items t.count t.bytes.now) t.bytes.now };
+    ghost invariant = { λ t. AreEntryBytes (borrowed_table t.format t.order t.pairs.now t.entries.count t.entries.bytes.now) t.entries.bytes.now };
 }
 
 impl<'a> TableView<'a> {
+    /// A table of the header's format and order, whose entries consist of these pairs.
+    pub(crate) fn of(
+        header: &Header,
+        pairs: &'a [Pair],
+        entries: EntriesInPlace<'a>,
+    ) -> TableView<'a>
+        requires { AreEntryBytes (borrowed_table header.now.format header.now.order pairs.now entries.count entries.bytes.now) entries.bytes.now }
+        ensures { result ≡ borrowed_table header.now.format header.now.order pairs.entry.now entries.entry.count entries.entry.bytes.now }
+    {
+        TableView {
+            format: header.format(),
+            order: header.order(),
+            pairs,
+            entries,
+        }
+    }
+
     /// What each entry consists of.
     pub fn pairs(&self) -> &[Pair]
         ensures { result.now ≡ self.now.pairs }
     {
-        &self.pairs
+        self.pairs
     }
 
     /// How many entries there are. It takes no memory.
@@ -47,7 +60,7 @@ impl<'a> TableView<'a> {
     pub fn count(&self) -> u64
         ensures { result ≡ length self.now.entries }
     {
-        self.count
+        self.entries.count
     }
 
     /// The format of the offsets in the entries.
@@ -62,37 +75,22 @@ impl<'a> TableView<'a> {
         ensures order { result.order ≡ self.now.order }
         ensures rest { AreEntryBytes self.now result.rest }
     {
-        Cursor::new(self.bytes, 0, self.order)
+        Cursor::new(self.entries.bytes, 0, self.order)
     }
-}
 
-/// A format, and its entries, which are passed.
-#[tactic(auto, using(crate::proofs::TableReaders::refuses_count, crate::proofs::TableReaders::refuses_kinds, crate::proofs::TableReaders::refuses_size, crate::proofs::TableReaders::refuses_empty, crate::proofs::TableReaders::refuses_rest, crate::proofs::ViewLemmas::lies, crate::proofs::ViewLemmas::table_read))]
-pub(crate) fn view_table<'a>(
-    alloc: Global,
-    cursor: &mut Cursor<'a>,
-    format: Format,
-) -> Result<TableView<'a>, Fault>
-    ensures ok { IfOk result (λ table. IsTableRead format table cursor.old cursor.new) }
-    ensures err { IfErr result (λ fault. RefusesOr (IsTableFault format cursor.old.order) (TableOf format cursor.old.order) cursor.old fault) }
-{
-    let order = cursor.order();
-    let count = cursor.u8()?;
-    let pairs = read_pairs(alloc, cursor, count)?;
-    let place = cursor.place();
-    let size = cursor.uleb()?;
-    if count == 0 && size > 0 {
-        return Err(Fault {
-            place,
-            reason: Reason::EmptyFormat,
-        });
+    /// The entries themselves. It refuses only where memory runs out.
+    pub(crate) fn to_entries(&self, alloc: Global) -> Result<Vec<Entry>, AllocError>
+        ensures { IfOk result (λ entries. entries.items ≡ self.now.entries) }
+    {
+        match read_entries(
+            alloc,
+            &mut self.cursor(),
+            self.format,
+            self.pairs,
+            self.entries.count,
+        ) {
+            Ok(entries) => Ok(entries),
+            Err(_) => Err(AllocError),
+        }
     }
-    let bytes = pass_entries(cursor, format, &pairs, size)?;
-    Ok(TableView {
-        format,
-        order,
-        pairs,
-        count: size,
-        bytes,
-    })
 }

@@ -13,6 +13,7 @@ use crate::index::Index;
 use crate::judge::judge_unit;
 use crate::refusal::Refusal;
 use crate::stop::Stop;
+use lnt_entries::StringEnds;
 use lnt_machine::Program;
 use lnt_rows::{Collected, Overlap};
 use lnt_stream::UnitBuffer;
@@ -49,13 +50,17 @@ impl Draft {
         &mut self,
         alloc: Global,
         buffer: &UnitBuffer,
-        strings: &Strings<'_>,
+        ends: &StringEnds<'_>,
         dead: Option<u64>,
     ) -> Result<(), Refusal>
-        ensures ok { OnOk result (HasAdded strings.now.line.now strings.now.general.now dead buffer.now self.old self.new) }
-        ensures err { IfErr result (IsUnitRefusal strings.now.line.now strings.now.general.now dead buffer.now) }
+        ensures ok { OnOk result (HasAdded ends.now.line ends.now.general dead buffer.now self.old self.new) }
+        ensures err { IfErr result (IsUnitRefusal ends.now.line ends.now.general dead buffer.now) }
     {
-        let program = judge_unit(alloc, buffer, strings, dead, &mut self.collected)?;
+        let other = match self.programs.last() {
+            Some(program) => Some(program.kept_header()),
+            None => None,
+        };
+        let program = judge_unit(alloc, buffer, ends, dead, &mut self.collected, other)?;
         if self.units.push(buffer.offset()).is_err() {
             return Err(Refusal::Stop(Stop::Memory));
         }

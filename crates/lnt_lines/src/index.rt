@@ -1,7 +1,7 @@
 //! What a good section answers, with its rows decoded again where they are asked for.
 ghost use Rattle.std.specs.Prelude.{◌≡◌, ◌+◌, ◌-◌, ◌^◌, ◌<◌, ◌≤◌, ℕ, List, length, Option, IfNone, IfOk, IfErr, IfSome, IsSomeAnd};
 ghost use Rattle.std.specs.List.{All, AllZip};
-ghost use Rattle.std.specs.Option.{option_copied, option_map};
+ghost use Rattle.std.specs.Option.{option_map};
 ghost use Rattle.lnt_unit.specs.declared.unit.Parts.{Parts};
 ghost use Rattle.lnt_machine.specs.declared.row.Row.{Row};
 ghost use Rattle.lnt_machine.specs.Walking.{WillGive};
@@ -17,12 +17,13 @@ ghost use Rattle.lnt_lines.specs.Indexed.{IsIndex, IsIndexOf, IsSequenceIn, file
 use crate::lines::place_of;
 use crate::spans::Spans;
 use crate::stop::Stop;
-use lnt_entries::{Files, file_count, listed, path_of};
+use lnt_entries::Files;
+use lnt_entries::in_place::{file_count, listed, path_of};
 use lnt_machine::{Program, SequenceRows};
 use lnt_rows::laws::holder_answers;
 use lnt_rows::{Extent, SeqId, answer_at, holder};
 use lnt_spans::{Answer, Position, Probes};
-use lnt_unit::Header;
+use lnt_unit::HeaderView;
 use lnt_wire::Strings;
 use std::alloc::{AllocError, Global};
 use std::marker::Model;
@@ -114,7 +115,7 @@ impl<'a> Index<'a> {
         ensures { result ≡ file_count_in self.now unit }
     {
         match self.header_of(unit) {
-            Some(header) => file_count(header),
+            Some(header) => file_count(&header),
             None => 0,
         }
     }
@@ -124,7 +125,7 @@ impl<'a> Index<'a> {
     pub fn listed(&self, unit: u64, file: u64) -> Option<[u8; 16]>
         ensures { result ≡ file_sum_in self.now unit file }
     {
-        listed(self.header_of(unit)?, file)
+        listed(&self.header_of(unit)?, file)
     }
 
     /// The whole path of the file of the unit at this offset, made of its texts. None exactly where the file or the unit
@@ -136,7 +137,7 @@ impl<'a> Index<'a> {
         let Some(header) = self.header_of(unit) else {
             return Ok(None);
         };
-        match path_of(alloc, header, &self.strings, file) {
+        match path_of(alloc, &header, self.strings, file) {
             Ok(path) => Ok(path),
             Err(_) => Err(Stop::Memory),
         }
@@ -150,9 +151,9 @@ impl<'a> Index<'a> {
     }
 
     // The header of the unit at an offset. Its tables are usable.
-    fn header_of(&self, unit: u64) -> Option<&Header>
-        ensures header { option_copied result ≡ header_in self.now unit }
-        ensures usable { IfSome result (λ header. AreUsableTables self.now.line self.now.general header.now) }
+    fn header_of(&self, unit: u64) -> Option<HeaderView<'_>>
+        ensures header { result ≡ header_in self.now unit }
+        ensures usable { IfSome result (λ header. AreUsableTables self.now.line self.now.general header) }
     {
         let place = place_of(&self.units, unit)?;
         let program = self.programs.get(place)?;
@@ -171,7 +172,8 @@ fn files_of(
 {
     let mut all = Vec::new(alloc);
     for program in programs {
-        all.push(Files::of(alloc, program.header(), strings)?)?;
+        let header = program.header().to_header(alloc)?;
+        all.push(Files::of(alloc, &header, strings)?)?;
     }
     Ok(all)
 }

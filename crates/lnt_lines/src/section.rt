@@ -12,6 +12,7 @@ use crate::no::No;
 use crate::options::Options;
 use crate::refusal::Refusal;
 use crate::stop::Stop;
+use lnt_entries::StringEnds;
 use lnt_stream::SectionReader;
 use lnt_wire::{Source, Strings};
 use std::alloc::Global;
@@ -132,8 +133,9 @@ fn judge_units<R: Source>(
 {
     let mut draft = Draft::new(alloc);
     let mut room = Vec::new(alloc);
+    let ends = StringEnds::of(*strings);
     while let Some(buffer) = reader.next_unit_in(room)? {
-        draft.add_unit(alloc, &buffer, strings, options.dead)?;
+        draft.add_unit(alloc, &buffer, &ends, options.dead)?;
         room = buffer.into_bytes();
     }
     Ok(draft)

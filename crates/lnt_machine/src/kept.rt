@@ -6,13 +6,13 @@ ghost use Rattle.lnt_machine.specs.Matrix.{sequences};
 ghost use Rattle.lnt_machine.specs.Walking.{IsKept, Keeps, WillGive};
 
 use crate::walk::SequenceRows;
-use lnt_unit::Header;
+use lnt_unit::{HeaderView, KeptHeader};
 use std::marker::Model;
 
 /// The program of a unit that runs, with the place of each of its sequences.
 #[derive(Drop)]
 pub struct Program {
-    header: Header,
+    header: KeptHeader,
     bytes: Vec<u8>,
     places: Vec<usize>,
 }
@@ -29,7 +29,7 @@ impl Model for Program {
 
 impl Program {
     /// The program of a unit, by its bytes and the places of its sequences.
-    pub fn of(header: Header, bytes: Vec<u8>, places: Vec<usize>) -> Program
+    pub fn of(header: KeptHeader, bytes: Vec<u8>, places: Vec<usize>) -> Program
         requires { IsKept (record { header = header; program = bytes.items; places = places.items }) }
         ensures { result ≡ record { header = header; program = bytes.items; places = places.items } }
     {
@@ -41,7 +41,14 @@ impl Program {
     }
 
     /// The header.
-    pub fn header(&self) -> &Header
+    pub fn header(&self) -> HeaderView<'_>
+        ensures { result ≡ self.now.header }
+    {
+        self.header.view()
+    }
+
+    /// The header, as it is kept.
+    pub fn kept_header(&self) -> &KeptHeader
         ensures { result.now ≡ self.now.header }
     {
         &self.header
@@ -54,6 +61,6 @@ impl Program {
         ensures rows { IfSome result (λ walk. (unit : Parts) (d : spec.Sequence) → Keeps self.now unit → WillGive (slice_index_or (sequences unit) index d).rows walk) }
     {
         let place = *self.places.get(index)?;
-        Some(SequenceRows::at(&self.header, &self.bytes, place))
+        Some(SequenceRows::at(self.header.numbers(), &self.bytes, place))
     }
 }

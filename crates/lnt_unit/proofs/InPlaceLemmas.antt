@@ -1,12 +1,12 @@
 -- Operations of a unit in a buffer, which are read by its header's numbers, and counted.
 use Rattle.std.proofs.Common.{◌≡◌, ℕ, false}
-use Rattle.lnt_header.specs.Borrowed.{without_tables}
+use Rattle.lnt_header.specs.Borrowed.{without_entries}
 use Rattle.lnt_ops.specs.Walks.{Walk, Ends}
 use Rattle.lnt_unit.specs.Laws.Numbers.{given_all_by_numbers}
 use Rattle.lnt_unit.specs.Views.{View, IsView, HasCount, by_numbers}
 use Rattle.lnt_unit.proofs.ViewLemmas.{CountedTo, counted_none}
 
-pub counted_none_by_numbers : (view : View) (walk : Walk) → walk.header ≡ without_tables view.header → walk.failed ≡ false → walk.at.place ≡ view.place → walk.at.rest ≡ view.program → walk.at.order ≡ view.header.order
+pub counted_none_by_numbers : (view : View) (walk : Walk) → walk.header ≡ without_entries view.header → walk.failed ≡ false → walk.at.place ≡ view.place → walk.at.rest ≡ view.program → walk.at.order ≡ view.header.order
     → CountedTo (by_numbers view) 0 walk
 counted_none_by_numbers view walk same going place rest order = counted_none (by_numbers view) walk same going place rest order
 

@@ -1,6 +1,6 @@
 -- A unit that lies in a buffer: its header with its program, and how far its operations were read.
 use Rattle.std.specs.Prelude.{◌≡◌, ℕ, ◌+◌, ◌^◌, ◌<◌, List, length, false}
-use Rattle.lnt_header.specs.Borrowed.{without_tables}
+use Rattle.lnt_header.specs.Borrowed.{without_entries}
 use Rattle.lnt_header.specs.declared.header.HeaderParts.{HeaderParts}
 use Rattle.lnt_header.specs.declared.op.Op.{Op}
 use Rattle.lnt_header.specs.HeaderBytes.{HeaderBytesIn}
@@ -25,7 +25,7 @@ pub record IsView (view : View) : Type 0 where
 
 -- the same by the header's numbers alone
 abbrev pub by_numbers : View → View
-by_numbers view = record view { header = without_tables view.header }
+by_numbers view = record view { header = without_entries view.header }
 
 -- the unit of these operations
 abbrev pub with_ops : View → List Op → Parts

@@ -3,7 +3,7 @@ ghost use Rattle.std.specs.Prelude.{◌≡◌, ◌≢◌, IfOk, IfErr, false};
 ghost use Rattle.lnt_header.specs.Broken.{BrokenHeader};
 ghost use Rattle.lnt_unit.specs.BrokenUnits.{BrokenUnit};
 
-use lnt_header::{HeaderView, view_header};
+use lnt_header::{Header, HeaderInPlace, HeaderView, view_header};
 use lnt_ops::Ops;
 use lnt_stream::UnitBuffer;
 use lnt_wire::{Fault, Reason};
@@ -11,14 +11,14 @@ use std::alloc::Global;
 use std::marker::Model;
 
 /// A unit in a buffer: its directories, files and operations, each read where it lies (DWARF 5, section 6.2.4). It takes
-/// memory for the formats of its tables alone.
+/// memory for the formats of its tables and its standard opcode lengths alone.
 ///
 /// Contracts see what those of `UnitView` do (`View`): the buffer's unit, the header, the program, and the offset in the
 /// section at which that begins. The header with the program spells the buffer's bytes.
 #[derive(Drop)]
 pub struct UnitInPlace<'a> {
     buffer: &'a UnitBuffer,
-    header: HeaderView<'a>,
+    header: HeaderInPlace<'a>,
     program: &'a [u8],
     place: u64,
 }
@@ -34,7 +34,7 @@ impl<'a> Model for UnitInPlace<'a> {
 }
 
 impl<'a> UnitInPlace<'a> {
-    ghost use Rattle.lnt_header.specs.Borrowed.{without_tables};
+    ghost use Rattle.lnt_header.specs.Borrowed.{without_entries};
     ghost use Rattle.lnt_header.specs.HeaderRules.{IsHeader};
     ghost use Rattle.lnt_unit.specs.Views.{IsView, HasCount};
 
@@ -59,11 +59,39 @@ impl<'a> UnitInPlace<'a> {
         })
     }
 
-    /// The header, whose numbers are what a machine runs by.
-    pub fn header(&self) -> &HeaderView<'a>
-        ensures { result.now ≡ self.now.header }
+    /// The header.
+    pub fn header(&self) -> HeaderView<'_>
+        ensures { result ≡ self.now.header }
     {
-        &self.header
+        self.header.view()
+    }
+
+    /// The numbers of the header, which are what a machine runs by: a header that has them, and no entries.
+    pub fn numbers(&self) -> &Header
+        ensures { result.now ≡ without_entries self.now.header }
+    {
+        self.header.numbers()
+    }
+
+    /// The bytes of the program.
+    #[inline(always)]
+    pub fn program(&self) -> &[u8]
+        ensures { result.now ≡ self.now.program }
+    {
+        self.program
+    }
+
+    /// The header and the bytes of the program.
+    pub fn into_parts(self) -> (HeaderInPlace<'a>, &'a [u8])
+        ensures header { result.0 ≡ self.entry.header }
+        ensures program { result.1.now ≡ self.entry.program }
+    {
+        let UnitInPlace {
+            header,
+            program,
+            ..
+        } = self;
+        (header, program)
     }
 
     /// The operations in order, each read where it lies. It takes no memory.
@@ -72,7 +100,7 @@ impl<'a> UnitInPlace<'a> {
     /// the bytes are those of the unit of the header and these operations; where one is refused, they are those of no
     /// unit (`given_all_by_numbers`, `given_broken_by_numbers`).
     pub fn ops(&self) -> Ops<'_>
-        ensures header { result.header ≡ without_tables self.now.header }
+        ensures header { result.header ≡ without_entries self.now.header }
         ensures place { result.at.place ≡ self.now.place }
         ensures rest { result.at.rest ≡ self.now.program }
         ensures order { result.at.order ≡ self.now.header.order }

@@ -8,7 +8,7 @@ use Rattle.lnt_wire.specs.declared.form.FormValue.{FormValue}
 use Rattle.lnt_wire.specs.FirstValues.{first_value, first_size}
 use Rattle.lnt_wire.specs.Laws.Lengths.{same_rest}
 use Rattle.lnt_wire.specs.Laws.FirstValues.{IsFound, value_found}
-use Rattle.lnt_header.specs.Borrowed.{first_values, first_values_size, first_entries, without_tables}
+use Rattle.lnt_header.specs.Borrowed.{first_values, first_values_size, first_entries, without_entries}
 use Rattle.lnt_header.specs.declared.header.Entry.{Entry}
 use Rattle.lnt_header.specs.declared.header.Pair.{Pair}
 use Rattle.lnt_header.specs.declared.header.HeaderParts.{HeaderParts}
@@ -84,13 +84,17 @@ pub length_found : (format : Format) (order : Order) (pairs : List Pair) (count 
 length_found format order pairs zero x = refl
 length_found format order pairs (suc count) x = ap suc (length_found format order pairs count (drop (first_values_size format order pairs x) x))
 
--- ---- numbers alone
+-- ---- numbers and formats alone
 
-no_entries : IsTable [] []
-no_entries = record { few_pairs = lit< tt; none_without_pairs = λ e. refl; of_format = tt }
+no_entries : (pairs : List Pair) (entries : List Entry) → IsTable pairs entries → IsTable pairs []
+no_entries pairs entries is = record { few_pairs = is.few_pairs; none_without_pairs = λ e. refl; of_format = tt }
 
-same_numbers : (h : HeaderParts) → HasHeaderNumbers h → HasHeaderNumbers (without_tables h)
+same_numbers : (h : HeaderParts) → HasHeaderNumbers h → HasHeaderNumbers (without_entries h)
 same_numbers h n = record { address_size = n.address_size; line_base = n.line_base; bytes = n.bytes; max_ops = n.max_ops; line_range = n.line_range; opcode_base = n.opcode_base; lengths = n.lengths }
 
-pub header_without_tables : (h : HeaderParts) → IsHeader h → IsHeader (without_tables h)
-header_without_tables h is = record { numbers = same_numbers h is.numbers; directories = no_entries; files = no_entries }
+pub header_without_entries : (h : HeaderParts) → IsHeader h → IsHeader (without_entries h)
+header_without_entries h is = record {
+  numbers = same_numbers h is.numbers;
+  directories = no_entries h.directory_format h.directories is.directories;
+  files = no_entries h.file_format h.files is.files;
+}

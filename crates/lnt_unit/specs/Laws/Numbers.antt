@@ -2,13 +2,13 @@
 use Rattle.std.proofs.Common.{ℕ, List, [], ◌∷◌}
 use Rattle.lnt_wire.specs.declared.fault.Fault.{Fault}
 use Rattle.lnt_wire.specs.declared.fault.Reason.{Reason}
-use Rattle.lnt_header.specs.Borrowed.{without_tables}
+use Rattle.lnt_header.specs.Borrowed.{without_entries}
 use Rattle.lnt_header.specs.declared.header.HeaderParts.{HeaderParts}
 use Rattle.lnt_header.specs.declared.op.Op.{Op}
 use Rattle.lnt_header.specs.declared.op.Op.TheVariants.{Special, Copy, AdvancePc, AdvanceLine, SetFile, SetColumn, NegateStmt, SetBasicBlock, ConstAddPc, FixedAdvancePc, SetPrologueEnd, SetEpilogueBegin, SetIsa, UnknownStandard, EndSequence, SetAddress, SetDiscriminator, UnknownExtended}
 use Rattle.lnt_header.specs.HeaderRules.{IsHeader}
 use Rattle.lnt_header.specs.Joins.{Each}
-use Rattle.lnt_header.specs.Laws.Borrowed.{header_without_tables}
+use Rattle.lnt_header.specs.Laws.Borrowed.{header_without_entries}
 use Rattle.lnt_ops.specs.Laws.Programs.{walk_done, walk_broken}
 use Rattle.lnt_ops.specs.OpBytes.{OpBytes}
 use Rattle.lnt_ops.specs.OpFaults.{IsFirstFault}
@@ -23,7 +23,7 @@ use Rattle.lnt_unit.specs.Views.{View, IsView, HasGiven, with_ops, by_numbers}
 
 -- ---- operations
 
-pub op_by_numbers : (h : HeaderParts) (op : Op) (x : List ℕ) → OpBytes (without_tables h) op x → OpBytes h op x
+pub op_by_numbers : (h : HeaderParts) (op : Op) (x : List ℕ) → OpBytes (without_entries h) op x → OpBytes h op x
 op_by_numbers h (Special c) x p = p
 op_by_numbers h Copy x p = p
 op_by_numbers h (AdvancePc n) x p = p
@@ -43,7 +43,7 @@ op_by_numbers h (SetAddress address) x p = p
 op_by_numbers h (SetDiscriminator n) x p = p
 op_by_numbers h (UnknownExtended code operand) x p = p
 
-pub numbers_of_op : (h : HeaderParts) (op : Op) (x : List ℕ) → OpBytes h op x → OpBytes (without_tables h) op x
+pub numbers_of_op : (h : HeaderParts) (op : Op) (x : List ℕ) → OpBytes h op x → OpBytes (without_entries h) op x
 numbers_of_op h (Special c) x p = p
 numbers_of_op h Copy x p = p
 numbers_of_op h (AdvancePc n) x p = p
@@ -63,17 +63,17 @@ numbers_of_op h (SetAddress address) x p = p
 numbers_of_op h (SetDiscriminator n) x p = p
 numbers_of_op h (UnknownExtended code operand) x p = p
 
-pub ops_by_numbers : (h : HeaderParts) (ops : List Op) (x : List ℕ) → Each (OpBytes (without_tables h)) ops x → Each (OpBytes h) ops x
+pub ops_by_numbers : (h : HeaderParts) (ops : List Op) (x : List ℕ) → Each (OpBytes (without_entries h)) ops x → Each (OpBytes h) ops x
 ops_by_numbers h [] x p = p
 ops_by_numbers h (op ∷ ops) x p = record { front = p.front; back = p.back; first = op_by_numbers h op p.front p.first; second = ops_by_numbers h ops p.back p.second; joined = p.joined }
 
-pub numbers_of_ops : (h : HeaderParts) (ops : List Op) (x : List ℕ) → Each (OpBytes h) ops x → Each (OpBytes (without_tables h)) ops x
+pub numbers_of_ops : (h : HeaderParts) (ops : List Op) (x : List ℕ) → Each (OpBytes h) ops x → Each (OpBytes (without_entries h)) ops x
 numbers_of_ops h [] x p = p
 numbers_of_ops h (op ∷ ops) x p = record { front = p.front; back = p.back; first = numbers_of_op h op p.front p.first; second = numbers_of_ops h ops p.back p.second; joined = p.joined }
 
 -- ---- faults
 
-first_by_numbers : (h : HeaderParts) (reason : Reason) (before left : List ℕ) → IsFirstFault (without_tables h) reason before left → IsFirstFault h reason before left
+first_by_numbers : (h : HeaderParts) (reason : Reason) (before left : List ℕ) → IsFirstFault (without_entries h) reason before left → IsFirstFault h reason before left
 first_by_numbers h reason before left (no_opcode a b c) = no_opcode a b c
 first_by_numbers h reason before left (unsigned_operand k a b c d) = unsigned_operand k a b c d
 first_by_numbers h reason before left (signed_operand a b c) = signed_operand a b c
@@ -84,7 +84,7 @@ first_by_numbers h reason before left (cut_counted n spelling a b c d) = cut_cou
 first_by_numbers h reason before left (wrong_counted a b c) = wrong_counted a b c
 first_by_numbers h reason before left (large_counted spelling operand rest a b c d e f) = large_counted spelling operand rest a b c d e f
 
-pub broken_by_numbers : (h : HeaderParts) (place : ℕ) (program : List ℕ) (fault : Fault) → BrokenProgram (without_tables h) place program fault → BrokenProgram h place program fault
+pub broken_by_numbers : (h : HeaderParts) (place : ℕ) (program : List ℕ) (fault : Fault) → BrokenProgram (without_entries h) place program fault → BrokenProgram h place program fault
 broken_by_numbers h place program fault b = record {
   before = b.before;
   left = b.left;
@@ -108,7 +108,7 @@ broken_by_numbers h place program fault b = record {
 pub given_all_by_numbers : (view : View) (ops : List Op) (old new : Walk) → IsView view → HasGiven (by_numbers view) ops old → Ends old new → UnitBytesIn view.unit.order (with_ops view ops) view.unit.bytes
 given_all_by_numbers view ops old new is given ends =
     unit_found view.unit.order (with_ops view ops) view.program view.unit.bytes is.spelled
-    (ops_by_numbers view.header ops view.program (walk_done (without_tables view.header) view.place view.program ops old new given.going given.so ends))
+    (ops_by_numbers view.header ops view.program (walk_done (without_entries view.header) view.place view.program ops old new given.going given.so ends))
 
 -- one was refused: the bytes are those of no unit
 pub given_broken_by_numbers : (view : View) (ops : List Op) (fault : Fault) (old new : Walk) → IsHeader view.header → IsView view → HasGiven (by_numbers view) ops old → Fails fault old new
@@ -116,4 +116,4 @@ pub given_broken_by_numbers : (view : View) (ops : List Op) (fault : Fault) (old
 given_broken_by_numbers view ops fault old new header is given fails =
     ops_broken view.unit.order view.header view.program view.unit.bytes fault view.unit.offset view.place is.spelled is.end
     (broken_by_numbers view.header view.place view.program fault
-    (walk_broken (without_tables view.header) view.place view.program ops fault old new (header_without_tables view.header header) given.header_is given.so fails))
+    (walk_broken (without_entries view.header) view.place view.program ops fault old new (header_without_entries view.header header) given.header_is given.so fails))

@@ -11,48 +11,48 @@ use Rattle.lnt_lines.proofs.judge.judge_unit.Goals as goal
 pub returns-in_err-watch-clause-err : goal.returns-in_err-watch-clause-err
 returns-in_err-watch-clause-err c =
     let p = err_from_is_err_and c.from_residual-in_err-watch.result c.from_residual-in_err-watch.ensures.1 in
-    let text = c.args.strings.now.line.now in
-    let general = c.args.strings.now.general.now in
+    let text = c.args.ends.now.line in
+    let general = c.args.ends.now.general in
     let refused : IsUnitRefusal text general c.args.dead c.args.buffer.now c.in_err-watch.field-0.0 =
     subst (λ (b : UnitBytes). IsUnitRefusal text general c.args.dead b c.in_err-watch.field-0.0) c.in_ok-view.ensures.ok (c.in_err-watch.ensures.err text general) in
     rw (p.1, p.2) refused
 
 pub returns-in-Some-clause-err : goal.returns-in-Some-clause-err
 returns-in-Some-clause-err c =
-    let text = c.args.strings.now.line.now in
-    let general = c.args.strings.now.general.now in
+    let text = c.args.ends.now.line in
+    let general = c.args.ends.now.general in
     rw c.table_no.ensures
-    (tables_no text general c.args.dead c.args.buffer.now c.in_ok-view.view c.header-header.result.now c.offset-unit.result c.run_unit.new.places.items c.args.collected.now c.run_unit.new.collected c.in_ok-watch.watch c.in-Some.fault
-    c.in_ok-view.ensures.ok c.in_ok-watch.ensures.runs c.offset-unit.ensures c.header-header.ensures c.in-Some.ensures)
+    (tables_no text general c.args.dead c.args.buffer.now c.in_ok-view.view c.header.result c.offset-unit.result c.run_unit.new.places.items c.args.collected.now c.run_unit.new.collected c.in_ok-watch.watch c.in-Some.fault
+    c.in_ok-view.ensures.ok c.in_ok-watch.ensures.runs c.offset-unit.ensures c.header.ensures c.in-Some.ensures)
 
 pub returns-in-Some-missing_file-clause-err : goal.returns-in-Some-missing_file-clause-err
 returns-in-Some-missing_file-clause-err c =
-    let text = c.args.strings.now.line.now in
-    let general = c.args.strings.now.general.now in
+    let text = c.args.ends.now.line in
+    let general = c.args.ends.now.general in
     let run = c.in_ok-watch.ensures.runs in
-    missing_no text general c.args.dead c.args.buffer.now c.in_ok-view.view c.header-header.result.now c.offset-unit.result c.run_unit.new.places.items c.args.collected.now c.run_unit.new.collected c.in_ok-watch.watch c.in-Some-missing_file.missing
-    c.in_ok-view.ensures.ok run c.offset-unit.ensures c.header-header.ensures c.in_default.ensures
+    missing_no text general c.args.dead c.args.buffer.now c.in_ok-view.view c.header.result c.offset-unit.result c.run_unit.new.places.items c.args.collected.now c.run_unit.new.collected c.in_ok-watch.watch c.in-Some-missing_file.missing
+    c.in_ok-view.ensures.ok run c.offset-unit.ensures c.header.ensures c.in_default.ensures
     (c.in-Some-missing_file.ensures c.args.dead c.in_ok-view.view.unit.offset (length run.unit.header.files) (rows run.unit) run.seen)
 
 pub returns-in-Some-falls-clause-err : goal.returns-in-Some-falls-clause-err
 returns-in-Some-falls-clause-err c =
-    let text = c.args.strings.now.line.now in
-    let general = c.args.strings.now.general.now in
+    let text = c.args.ends.now.line in
+    let general = c.args.ends.now.general in
     let run = c.in_ok-watch.ensures.runs in
-    falls_no text general c.args.dead c.args.buffer.now c.in_ok-view.view c.header-header.result.now c.offset-unit.result c.run_unit.new.places.items c.args.collected.now c.run_unit.new.collected c.in_ok-watch.watch c.in-Some-falls.row
-    c.in_ok-view.ensures.ok run c.offset-unit.ensures c.header-header.ensures c.in_default.ensures
+    falls_no text general c.args.dead c.args.buffer.now c.in_ok-view.view c.header.result c.offset-unit.result c.run_unit.new.places.items c.args.collected.now c.run_unit.new.collected c.in_ok-watch.watch c.in-Some-falls.row
+    c.in_ok-view.ensures.ok run c.offset-unit.ensures c.header.ensures c.in_default.ensures
     (c.in_default-missing_file.ensures c.args.dead c.in_ok-view.view.unit.offset (length run.unit.header.files) (rows run.unit) run.seen)
     (c.in-Some-falls.ensures c.args.dead c.in_ok-view.view.unit.offset (length run.unit.header.files) (rows run.unit) run.seen)
 
 pub returns-clause-sound : goal.returns-clause-sound
 returns-clause-sound c =
-    let text = c.args.strings.now.line.now in
-    let general = c.args.strings.now.general.now in
+    let text = c.args.ends.now.line in
+    let general = c.args.ends.now.general in
     let run = c.in_ok-watch.ensures.runs in
     let kept : c.of.result ≡ record { header = c.in_ok-view.view.header; program = c.in_ok-view.view.program; places = c.run_unit.new.places.items } =
     grind (arith, common_steps) in
     subst (λ (k : Kept). IsJudgedSound text general c.args.dead c.args.buffer.now c.args.collected.now c.run_unit.new.collected k) (sym kept)
-    (judged_sound text general c.args.dead c.args.buffer.now c.in_ok-view.view c.header-header.result.now c.run_unit.new.places.items c.args.collected.now c.run_unit.new.collected c.in_ok-watch.watch
-    c.in_ok-view.ensures.ok run c.header-header.ensures c.in_default.ensures
+    (judged_sound text general c.args.dead c.args.buffer.now c.in_ok-view.view c.header.result c.run_unit.new.places.items c.args.collected.now c.run_unit.new.collected c.in_ok-watch.watch
+    c.in_ok-view.ensures.ok run c.header.ensures c.in_default.ensures
     (c.in_default-missing_file.ensures c.args.dead c.in_ok-view.view.unit.offset (length run.unit.header.files) (rows run.unit) run.seen)
     (c.in_default-falls.ensures c.args.dead c.in_ok-view.view.unit.offset (length run.unit.header.files) (rows run.unit) run.seen))

@@ -13,6 +13,6 @@ returns-clause-usable c =
     let found = c.in_ok-program.ensures.lookup.3 in
     let few : c.in_ok-place.place < length index.programs = subst (λ (ks : List Kept). c.in_ok-place.place < length ks) c.deref-2.ensures.value found.0 in
     let at : kept ≡ get_or index.programs c.in_ok-place.place kept = found.1 kept ∙ ap (λ (ks : List Kept). get_or ks c.in_ok-place.place kept) c.deref-2.ensures.value in
-    subst (λ (i : Indexed). AreUsableTables i.line i.general c.header.result.now) c.self.view_is
+    subst (λ (i : Indexed). AreUsableTables i.line i.general c.header.result) c.self.view_is
     (subst (AreUsableTables index.line index.general) (ap (λ (k : Kept). k.header) (sym at) ∙ sym c.header.ensures)
     (usable_at index.line index.general c.self.invariant.units index.programs c.in_ok-place.place kept is.programs is.tables few))

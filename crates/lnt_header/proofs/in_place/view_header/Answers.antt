@@ -4,7 +4,7 @@ use Rattle.lnt_wire.specs.FrameBytes.{frame_bytes}
 use Rattle.lnt_wire.specs.declared.fault.Reason.TheVariants.{Memory}
 use Rattle.lnt_header.specs.Broken.{BrokenHeader}
 use Rattle.lnt_header.proofs.HeaderFrames.{counted_before, refuses_fields}
-use Rattle.lnt_header.proofs.header_view.view_header.Goals as goal
+use Rattle.lnt_header.proofs.in_place.view_header.Goals as goal
 
 pub returns-in_err-header-clause-err : goal.returns-in_err-header-clause-err
 returns-in_err-header-clause-err c =
