@@ -6,3 +6,4 @@ pub mod OwnedLemmas
 pub mod StandardReaders
 pub mod UnknownReaders
 pub mod WalkLemmas
+pub mod SpelledOps

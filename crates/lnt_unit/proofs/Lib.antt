@@ -6,3 +6,4 @@ pub mod UnitReaders
 pub mod ViewLemmas
 pub mod WholeWalks
 pub mod LargeUnits
+pub mod SpelledUnits
