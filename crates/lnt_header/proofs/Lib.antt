@@ -8,6 +8,7 @@ pub mod LargeLemmas
 pub mod PassLemmas
 pub mod Places
 pub mod ShortLemmas
+pub mod SpelledHeaders
 pub mod StartReaders
 pub mod TableReaders
 pub mod TestLemmas

@@ -16,6 +16,7 @@ pub mod Large
 pub mod Laws
 pub mod OpRules
 pub mod OpViews
+pub mod Spelled
 pub mod StartBytes
 pub mod TableBytes
 pub mod TableFaults

@@ -7,3 +7,4 @@ pub mod OwnedLemmas
 pub mod StandardReaders
 pub mod UnknownReaders
 pub mod WalkLemmas
+pub mod SpelledOps

@@ -1,5 +1,5 @@
 //! Laws of operations, each the contract of a function without parameters that does nothing.
-ghost use Rattle.lnt_ops.specs.Laws.{OneProgram};
+ghost use Rattle.lnt_ops.specs.Laws.{AllowedOpsAreSpelled, OneProgram};
 
 /// Under one header no operation begins another's bytes, and each spells one operation (DWARF 5, section 6.2.5).
 /// A whole program spells one list of operations.
@@ -7,3 +7,12 @@ ghost use Rattle.lnt_ops.specs.Laws.{OneProgram};
 pub fn one_program()
     ensures { OneProgram }
 {}
+
+/// Operations that a header admits are spelled by some bytes, and operations that some bytes spell are admitted (DWARF 5,
+/// section 6.2.5).
+#[tactic(auto, using(crate::proofs::SpelledOps::allowed_ops_are_spelled))]
+pub fn allowed_ops_are_spelled()
+    ensures { AllowedOpsAreSpelled }
+{
+    lnt_wire::laws::spelled_values();
+}

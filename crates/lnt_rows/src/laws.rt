@@ -1,7 +1,7 @@
 //! Laws of what rows say of positions, each the contract of a function without parameters that does nothing.
 ghost use Rattle.lnt_rows.specs.Extents.{HolderAnswers};
 ghost use Rattle.lnt_rows.specs.InTurn.{EntriesInTurn, SpansInTurn};
-ghost use Rattle.lnt_rows.specs.Laws.{AnswersAsHolder, CollectedUnit, DistinctSequences, FallIsNotOrdered, MissingFileIsNotThere, OverlapIsNotApart, SequenceSpans, SpansAnswer};
+ghost use Rattle.lnt_rows.specs.Laws.{AnswersAsHolder, CollectedUnit, ConvertedAnswers, DistinctSequences, FallIsNotOrdered, MissingFileIsNotThere, OverlapIsNotApart, SequenceSpans, SpansAnswer};
 
 /// The spans of sequences whose positions never fall answer at every position as their rows do.
 #[tactic(auto, using(crate::proofs::RowLemmas::spans_answer))]
@@ -66,3 +66,12 @@ pub fn spans_in_turn()
 pub fn entries_in_turn()
     ensures { EntriesInTurn }
 {}
+
+/// A section and what it was converted to, in another format or byte order, answer alike at every position: the same but
+/// for the offsets of units, of which each stands for that of the unit with the same place (DWARF 5, sections 6.2.4 and
+/// 7.4).
+pub fn converted_answers()
+    ensures { ConvertedAnswers }
+{
+    lnt_machine::laws::same_matrix();
+}

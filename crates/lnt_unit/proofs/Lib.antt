@@ -7,3 +7,4 @@ pub mod UnitReaders
 pub mod ViewLemmas
 pub mod WholeWalks
 pub mod LargeUnits
+pub mod SpelledUnits

@@ -8,6 +8,7 @@ pub mod Views
 -- over a unit and over a section say.
 use Rattle.std.specs.Prelude.{◌≡◌, ◌⊎◌, ◌≤◌, ℕ, List, [], ◌∷◌, ◌++◌, length, false, Some}
 use Rattle.std.specs.List.{AllByRecursion, AllZip}
+use Rattle.lnt_wire.specs.declared.format.Format.TheVariants.{D64}
 use Rattle.lnt_wire.specs.declared.format.Order.{Order}
 use Rattle.lnt_wire.specs.declared.fault.Fault.{Fault}
 use Rattle.lnt_wire.specs.Bytes.{IsCode}
@@ -16,13 +17,16 @@ use Rattle.lnt_header.specs.Borrowed.{without_tables}
 use Rattle.lnt_header.specs.HeaderRules.{IsHeader}
 use Rattle.lnt_header.specs.OpRules.{Admits}
 use Rattle.lnt_header.specs.OpViews.{StandsFor}
+use Rattle.lnt_header.specs.Spelled.{HasSmallOffsets}
 use Rattle.lnt_header.specs.declared.op.Op.{Op}
 use Rattle.lnt_header.specs.declared.view.OpView.{OpView}
 use Rattle.lnt_ops.specs.Walks.{Ends, Fails, Steps, Walk}
 use Rattle.lnt_stream.specs.Units as stream
 use Rattle.lnt_unit.specs.declared.unit.Parts.{Parts}
 use Rattle.lnt_unit.specs.BrokenUnits.{BrokenSection, BrokenUnit, IsTrueFault}
-use Rattle.lnt_unit.specs.UnitBytes.{UnitBytesIn, SectionBytes}
+use Rattle.lnt_unit.specs.Spelled.{FitsUnit, UnitLengthsFit}
+use Rattle.lnt_unit.specs.UnitBytes.{UnitBytes, UnitBytesIn, SectionBytes}
+use Rattle.lnt_unit.specs.UnitRules.{IsUnit}
 use Rattle.lnt_unit.specs.Views.{IsView, View, with_ops}
 
 -- units
@@ -33,6 +37,15 @@ OneSpelling = (order : Order) → IsCode (UnitBytesIn order)
 pub record OneSection : Type 0 where
   pub units : (order : Order) (us vs : List (ℕ × Parts)) (bytes : List ℕ) → SectionBytes order us bytes → SectionBytes order vs bytes → us ≡ vs
   pub fault : (order : Order) (fault : Fault) (units : List (ℕ × Parts)) (bytes : List ℕ) → IsTrueFault order fault bytes → SectionBytes order units bytes → ⊥
+
+-- ---- what is allowed is spelled
+
+-- A unit that `Unit::new` allows is spelled by some bytes exactly where its format can say its offsets and its length. In the 64-bit
+-- format no offset is too large.
+pub record AllowedIsSpelled : Type 0 where
+  pub spelled : (unit : Parts) → IsUnit unit → FitsUnit unit → HasSmallOffsets unit.header → UnitLengthsFit unit → (bytes : List ℕ) × UnitBytes unit bytes
+  pub allowed : (unit : Parts) (bytes : List ℕ) → UnitBytes unit bytes → IsUnit unit × FitsUnit unit × HasSmallOffsets unit.header × UnitLengthsFit unit
+  pub wide : (unit : Parts) → unit.header.format ≡ D64 → HasSmallOffsets unit.header
 
 -- ---- whole walks
 

@@ -2,6 +2,7 @@ pub mod BrokenUnits
 pub mod ConvertedUnits
 pub mod Converting
 pub mod Laws
+pub mod Spelled
 pub mod TooLong
 pub mod UnitBytes
 pub mod UnitRules

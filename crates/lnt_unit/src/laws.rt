@@ -1,5 +1,5 @@
 //! Laws of the format, each the contract of a function without parameters that does nothing.
-ghost use Rattle.lnt_unit.specs.Laws.{FaultOfSection, OneSection, OneSpelling, WholeWalk};
+ghost use Rattle.lnt_unit.specs.Laws.{AllowedIsSpelled, FaultOfSection, OneSection, OneSpelling, WholeWalk};
 
 /// Under one byte order no unit begins another's bytes, and each spells one unit (DWARF 5, section 6.2.4). So
 /// decoding what was encoded gives it back, whatever follows.
@@ -13,6 +13,17 @@ pub fn one_spelling()
 pub fn one_section()
     ensures { OneSection }
 {}
+
+/// Parts that `Unit::new` allows are spelled by some bytes exactly where their format can say each offset and the unit's
+/// length (DWARF 5, sections 6.2.4 and 7.4); and whatever unit is spelled is allowed. In the 64-bit format no offset is too
+/// large.
+#[tactic(auto, using(crate::proofs::SpelledUnits::allowed_is_spelled))]
+pub fn allowed_is_spelled()
+    ensures { AllowedIsSpelled }
+{
+    lnt_header::laws::allowed_is_spelled();
+    lnt_ops::laws::allowed_ops_are_spelled();
+}
 
 /// What the operations of a unit in a buffer are, from first to last, as `UnitView::ops` and `UnitInPlace::ops` give them
 /// one by one (DWARF 5, section 6.2.5). They stand for operations that the header admits, no more than the program has

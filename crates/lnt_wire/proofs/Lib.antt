@@ -7,3 +7,4 @@ pub mod ReadLemmas
 pub mod RefusedForms
 pub mod TextLemmas
 pub mod ValueLemmas
+pub mod SpelledLemmas

@@ -5,14 +5,17 @@ pub mod Lengths
 pub mod Pulls
 pub mod Values
 -- What is spelled is read again, whatever follows: no spelling begins another, and each spells one value.
-use Rattle.std.specs.Prelude.{◌≡◌, ℕ, List}
+use Rattle.std.specs.Prelude.{◌≡◌, ℕ, ◌^◌, ◌<◌, List, ℤ, FitsSigned}
+use Rattle.std.specs.Int.{w64}
 use Rattle.lnt_wire.specs.declared.format.Order.{Order}
 use Rattle.lnt_wire.specs.declared.format.Format.{Format}
 use Rattle.lnt_wire.specs.declared.form.Form.{Form}
+use Rattle.lnt_wire.specs.declared.form.FormValue.{FormValue}
 use Rattle.lnt_wire.specs.Bytes.{IsCode}
-use Rattle.lnt_wire.specs.FormBytes.{ValueBytes}
+use Rattle.lnt_wire.specs.FormBytes.{FormBytes, HasSpelling, IsTooLarge, ValueBytes}
 use Rattle.lnt_wire.specs.Leb128.{UnsignedLeb, SignedLeb}
 use Rattle.lnt_wire.specs.Numbers.{NumberBytes, OffsetBytes}
+use Rattle.lnt_wire.specs.Spelled.{FitsForm, HasShortest}
 
 -- numbers of 1, 2, 4 and 8 bytes, and offsets
 pub record OneNumber : Type 0 where
@@ -30,6 +33,13 @@ pub record OneLeb : Type 0 where
 -- values of one form
 abbrev pub OneValue : Type 0
 OneValue = (format : Format) (order : Order) (form : Form) → IsCode (ValueBytes format order form)
+
+-- A LEB128 number has a spelling where it is in range, and a value exactly where it is one of its form that the format can say.
+pub record SpelledValues : Type 0 where
+  pub unsigned : (n : ℕ) → n < 2 ^ 64 → HasShortest UnsignedLeb n
+  pub signed : (z : ℤ) → FitsSigned w64 z → HasShortest SignedLeb z
+  pub value : (format : Format) (order : Order) (value : FormValue) → HasSpelling value → FitsForm value → (IsTooLarge format value → ⊥) → HasShortest (FormBytes format order) value
+  pub allowed : (format : Format) (order : Order) (value : FormValue) (bytes : List ℕ) → FormBytes format order value bytes → HasSpelling value × FitsForm value × (IsTooLarge format value → ⊥)
 
 -- two initial lengths, and what stands behind them, are the same
 pub record SameLength (f g : Format) (m n : ℕ) (r s : List ℕ) : Type 0 where

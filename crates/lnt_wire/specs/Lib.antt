@@ -14,4 +14,5 @@ pub mod Numbers
 pub mod Prefixes
 pub mod Pulling
 pub mod Reading
+pub mod Spelled
 pub mod Texts

@@ -2,7 +2,7 @@
 //!
 //! They say that what is written is read again: no spelling of a kind begins another one, and each spells one value.
 //! So a read of bytes that begin with a spelling gives the value that it spells, whatever follows.
-ghost use Rattle.lnt_wire.specs.Laws.{OneNumber, OneLeb, OneValue};
+ghost use Rattle.lnt_wire.specs.Laws.{OneNumber, OneLeb, OneValue, SpelledValues};
 
 /// Fixed-width numbers and offsets, in either order and format (DWARF 5, sections 7.4 and 7.5.5).
 #[tactic(auto, using(crate::specs::Laws::Values::one_number))]
@@ -20,4 +20,11 @@ pub fn one_leb()
 #[tactic(auto, using(crate::specs::Laws::Values::one_value))]
 pub fn one_value()
     ensures { OneValue }
+{}
+
+/// Which values have a spelling (DWARF 5, sections 7.5.6 and 7.6): LEB128 numbers of 64 bits, and a value exactly where its
+/// form can say it in the format.
+#[tactic(auto, using(crate::proofs::SpelledLemmas::spelled_values))]
+pub fn spelled_values()
+    ensures { SpelledValues }
 {}
