@@ -17,6 +17,7 @@ mod table;
 mod table_view;
 mod tested;
 mod view;
+mod view_encode;
 
 pub use decode::decode_header;
 pub use encode::encode_header;
@@ -27,3 +28,4 @@ pub use lnt_lists::ShortList;
 pub use op::Op;
 pub use table_view::TableView;
 pub use view::{OpView, Operands};
+pub use view_encode::put_header_view;
