@@ -15,7 +15,7 @@ use Rattle.lnt_header.specs.HeaderBytes.{HeaderFieldsBytes}
 use Rattle.lnt_header.specs.HeaderReading.{HasFields}
 use Rattle.lnt_header.specs.TableBytes.{ValuesBytes, EntryBytes, TableBytes}
 
-spelled_value : (format : Format) (order : Order) (v : FormValue) (x : List ℕ) → FormBytes format order v x → HasSpelling v
+pub spelled_value : (format : Format) (order : Order) (v : FormValue) (x : List ℕ) → FormBytes format order v x → HasSpelling v
 spelled_value format order (Text t) x p = p.no_zero
 spelled_value format order (LineStrp n) x p = tt
 spelled_value format order (Strp n) x p = tt

@@ -20,9 +20,10 @@ use Rattle.lnt_header.specs.declared.header.HeaderParts.{HeaderParts}
 use Rattle.lnt_header.specs.HeaderBytes.{HeaderFieldsBytes, HeaderBytesIn, unit_body}
 use Rattle.lnt_header.specs.declared.header.Pair.{Pair}
 use Rattle.lnt_header.specs.Encoding.{RefusedPut, EntryParts}
+use Rattle.lnt_header.specs.HeaderPuts.{around, AddsAround}
 use Rattle.lnt_header.specs.HeaderRules.{IsEntryOf, IsTable, IsHeader, six_bytes, single_bytes}
 use Rattle.lnt_header.specs.Joins.{Each}
-use Rattle.lnt_header.specs.Laws.Programs.{length-initial-same, length-body, fits_less}
+use Rattle.lnt_header.specs.Laws.Programs.{length-initial-same, length-around, length-body, fits_less}
 use Rattle.lnt_header.specs.Laws.Puts.{byte_put, join_put, put_as, each_begun, each_more, each_done, each_refused}
 use Rattle.lnt_header.specs.TableBytes.{PairBytes, ValuesBytes, EntryBytes, TableOf}
 
@@ -46,7 +47,7 @@ pairs_done pairs n old new le p = each_done PairBytes pairs n old new le p
 
 -- ---- values
 
-large_value : (format : Format) (order : Order) (value : FormValue) (x : List ℕ) → IsTooLarge format value → FormBytes format order value x → ⊥
+pub large_value : (format : Format) (order : Order) (value : FormValue) (x : List ℕ) → IsTooLarge format value → FormBytes format order value x → ⊥
 large_value D32 order (Strp n) x large p = omega (arith, p.fits, large)
 large_value D32 order (LineStrp n) x large p = omega (arith, p.fits, large)
 large_value D64 order (Strp n) x large p = large
@@ -243,58 +244,78 @@ files_refused h pairs entries fault p e refused = record { none = λ large bytes
 
 -- ---- the whole unit
 
-regroup_out : (a b c d e f : List ℕ) → ((((a ++ b) ++ c) ++ d) ++ e) ++ f ≡ a ++ (b ++ c ++ d ++ e ++ f)
-regroup_out a b c d e f = simp append_assoc
+regroup_out : (o a b c d e f : List ℕ) → (((((o ++ a) ++ b) ++ c) ++ d) ++ e) ++ f ≡ o ++ (a ++ (b ++ c ++ d ++ e ++ f))
+regroup_out o a b c d e f = simp append_assoc
 
-pub header_put : (h : HeaderParts) (program fields : List ℕ) (n count : ℕ) (o0 o1 o2 size o3 o4 o5 o6 : List ℕ) → IsShortest HeaderFieldsBytes h fields → n ≡ 4 + offset_size h.format + length fields + length program → LengthFits h.format n
-    → o0 ≡ [] → o1 ≡ o0 ++ initial_length h.format h.order n → Appends (NumberBytes h.order 2) 5 o1 o2 → size ≡ o2 ++ h.address_size ∷ [] → o3 ≡ size ++ 0 ∷ [] → count ≡ length fields → Appends (OffsetBytes h.format h.order) count o3 o4
-    → o5 ≡ o4 ++ fields → o6 ≡ o5 ++ program → IsShortest (HeaderBytesIn h.order) (h, program) o6
-header_put h program fields n count o0 o1 o2 size o3 o4 o5 o6 p n_is fits begun initial version size_put selector_put count_is length_put counted last =
-    let body = unit_body h fields program in
-    let long : n ≡ length body = n_is ∙ sym (length-body h fields program) in
-    let a = initial_length h.format h.order n in
-    let v = version_five h.order in
-    let s = h.address_size ∷ 0 ∷ [] in
-    let number = number_bytes h.order (offset_size h.format) (length fields) in
-    let e1 : o1 ≡ a = initial ∙ ap (λ (z : List ℕ). z ++ a) begun in
-    let e2 : o2 ≡ a ++ v = version.joined ∙ ap (λ (z : List ℕ). z ++ version.spelling) e1 ∙ ap (λ (z : List ℕ). a ++ z) version.spelled.spelled.spelled in
-    let sizes : o3 ≡ o2 ++ s = selector_put ∙ ap (λ (z : List ℕ). z ++ 0 ∷ []) size_put ∙ append_assoc o2 (h.address_size ∷ []) (0 ∷ []) in
-    let e3 : o3 ≡ (a ++ v) ++ s = sizes ∙ ap (λ (z : List ℕ). z ++ s) e2 in
-    let number_is : length_put.spelling ≡ number = length_put.spelled.spelled.spelled ∙ ap (λ (k : ℕ). number_bytes h.order (offset_size h.format) k) count_is in
-    let e4 : o4 ≡ ((a ++ v) ++ s) ++ number = length_put.joined ∙ ap (λ (z : List ℕ). z ++ length_put.spelling) e3 ∙ ap (λ (z : List ℕ). ((a ++ v) ++ s) ++ z) number_is in
-    let e5 : o5 ≡ (((a ++ v) ++ s) ++ number) ++ fields = counted ∙ ap (λ (z : List ℕ). z ++ fields) e4 in
-    let e6 : o6 ≡ a ++ body = last ∙ ap (λ (z : List ℕ). z ++ program) e5 ∙ regroup_out a v s number fields program in
-    let whole : o6 ≡ frame_bytes h.order h.format body = e6 ∙ ap (λ (k : ℕ). initial_length h.format h.order k ++ body) long in
-    record {
-      spelled = record { order_is = refl; spelled = record { fields = fields; counted = p.spelled; fits = subst (LengthFits h.format) long fits; joined = whole } };
-      shortest = λ other q.
-          let t = q.spelled in
-          let body' = unit_body h t.fields program in
-          omega (
-            arith,
-            ap length whole,
-            length-append (initial_length h.format h.order (length body)) body,
-            ap length t.joined,
-            length-append (initial_length h.format h.order (length body')) body',
-            length-initial-same h.format h.order (length body) (length body'),
-            length-body h fields program,
-            length-body h t.fields program,
-            p.shortest t.fields t.counted,
-          );
-    }
+pub around_put : (order : Order) (format : Format) (address_size : ℕ) (program fields : List ℕ) (n count : ℕ) (o0 o1 o2 size o3 o4 o5 o6 : List ℕ) → n ≡ 4 + offset_size format + length fields + length program → LengthFits format n
+    → o1 ≡ o0 ++ initial_length format order n → Appends (NumberBytes order 2) 5 o1 o2 → size ≡ o2 ++ address_size ∷ [] → o3 ≡ size ++ 0 ∷ [] → count ≡ length fields → Appends (OffsetBytes format order) count o3 o4
+    → o5 ≡ o4 ++ fields → o6 ≡ o5 ++ program → AddsAround order format address_size fields program o0 o6
+around_put order format address_size program fields n count o0 o1 o2 size o3 o4 o5 o6 n_is fits initial version size_put selector_put count_is length_put counted last =
+    let body = around order format address_size fields program in
+    let long : n ≡ length body = n_is ∙ sym (length-around order format address_size fields program) in
+    let a = initial_length format order n in
+    let v = version_five order in
+    let s = address_size ∷ 0 ∷ [] in
+    let number = number_bytes order (offset_size format) (length fields) in
+    let e2 : o2 ≡ (o0 ++ a) ++ v = version.joined ∙ ap (λ (z : List ℕ). z ++ version.spelling) initial ∙ ap (λ (z : List ℕ). (o0 ++ a) ++ z) version.spelled.spelled.spelled in
+    let sizes : o3 ≡ o2 ++ s = selector_put ∙ ap (λ (z : List ℕ). z ++ 0 ∷ []) size_put ∙ append_assoc o2 (address_size ∷ []) (0 ∷ []) in
+    let e3 : o3 ≡ ((o0 ++ a) ++ v) ++ s = sizes ∙ ap (λ (z : List ℕ). z ++ s) e2 in
+    let number_is : length_put.spelling ≡ number = length_put.spelled.spelled.spelled ∙ ap (λ (k : ℕ). number_bytes order (offset_size format) k) count_is in
+    let e4 : o4 ≡ (((o0 ++ a) ++ v) ++ s) ++ number = length_put.joined ∙ ap (λ (z : List ℕ). z ++ length_put.spelling) e3 ∙ ap (λ (z : List ℕ). (((o0 ++ a) ++ v) ++ s) ++ z) number_is in
+    let e5 : o5 ≡ ((((o0 ++ a) ++ v) ++ s) ++ number) ++ fields = counted ∙ ap (λ (z : List ℕ). z ++ fields) e4 in
+    let e6 : o6 ≡ o0 ++ (a ++ body) = last ∙ ap (λ (z : List ℕ). z ++ program) e5 ∙ regroup_out o0 a v s number fields program in
+    record { fits = subst (LengthFits format) long fits; joined = e6 ∙ ap (λ (k : ℕ). o0 ++ (initial_length format order k ++ body)) long }
 
-pub header_refused : (h : HeaderParts) (program : List ℕ) (fault : EncodeFault) → RefusedPut HeaderFieldsBytes h fault → RefusedPut (HeaderBytesIn h.order) (h, program) fault
-header_refused h program fault refused = record { none = λ large bytes p. refused.none large p.spelled.fields p.spelled.counted }
-
-pub header_too_long : (h : HeaderParts) (program fields : List ℕ) (m n : ℕ) (fault : EncodeFault) → IsShortest HeaderFieldsBytes h fields → m ≡ length fields → n ≡ length program
-    → (LengthFits h.format (4 + offset_size h.format + m + n) → ⊥) → RefusedPut (HeaderBytesIn h.order) (h, program) fault
-header_too_long h program fields m n fault p m_is n_is long = record {
-  none = λ large bytes q.
-      let t = q.spelled in
-      long (fits_less h.format (4 + offset_size h.format + m + n) (length (unit_body h t.fields program)) (omega (arith, m_is, n_is, length-body h t.fields program, p.shortest t.fields t.counted)) t.fits);
-}
+pub around_too_long : (order : Order) (format : Format) (size m n : ℕ) (fields program : List ℕ) → m ≡ length fields → n ≡ length program → (LengthFits format (4 + offset_size format + m + n) → ⊥)
+    → LengthFits format (length (around order format size fields program)) → ⊥
+around_too_long order format size m n fields program m_is n_is long fits =
+    long (subst (LengthFits format) (length-around order format size fields program ∙ ap (λ (k : ℕ). 4 + offset_size format + k + length program) (sym m_is) ∙ ap (λ (k : ℕ). 4 + offset_size format + m + k) (sym n_is)) fits)
 
 -- an offset within a unit whose length fits is never too large
 pub offset_fits : (format : Format) (n length_is : ℕ) → n ≤ length_is → LengthFits format length_is → IsLargeOffset format n → ⊥
 offset_fits D32 n length_is le fits large = omega (arith, le, fits, large)
 offset_fits D64 n length_is le fits large = large
+
+-- fields and a program in their shortest spellings
+pub header_added : (h : HeaderParts) (program fields old new : List ℕ) → IsShortest HeaderFieldsBytes h fields → AddsAround h.order h.format h.address_size fields program old new → Appends (HeaderBytesIn h.order) (h, program) old new
+header_added h program fields old new p a =
+    let body = unit_body h fields program in
+    record {
+      spelling = frame_bytes h.order h.format body;
+      spelled = record {
+        spelled = record { order_is = refl; spelled = record { fields = fields; counted = p.spelled; fits = a.fits; joined = refl } };
+        shortest = λ other q.
+            let t = q.spelled in
+            let body' = unit_body h t.fields program in
+            omega (
+              arith,
+              length-append (initial_length h.format h.order (length body)) body,
+              ap length t.joined,
+              length-append (initial_length h.format h.order (length body')) body',
+              length-initial-same h.format h.order (length body) (length body'),
+              length-body h fields program,
+              length-body h t.fields program,
+              p.shortest t.fields t.counted,
+            );
+      };
+      joined = a.joined;
+    }
+
+-- the same into an empty vector
+pub header_put : (h : HeaderParts) (program fields named begun new : List ℕ) → IsShortest HeaderFieldsBytes h fields → begun ≡ [] → named ≡ fields → AddsAround h.order h.format h.address_size named program begun new
+    → IsShortest (HeaderBytesIn h.order) (h, program) new
+header_put h program fields named begun new p empty is a =
+    let added = header_added h program fields begun new p (subst (λ (z : List ℕ). AddsAround h.order h.format h.address_size z program begun new) is a) in
+    subst (IsShortest (HeaderBytesIn h.order) (h, program)) (sym (added.joined ∙ ap (λ (z : List ℕ). z ++ added.spelling) empty)) added.spelled
+
+pub header_refused : (h : HeaderParts) (program : List ℕ) (fault : EncodeFault) → RefusedPut HeaderFieldsBytes h fault → RefusedPut (HeaderBytesIn h.order) (h, program) fault
+header_refused h program fault refused = record { none = λ large bytes p. refused.none large p.spelled.fields p.spelled.counted }
+
+pub header_too_long : (h : HeaderParts) (program fields named : List ℕ) (fault : EncodeFault) → IsShortest HeaderFieldsBytes h fields → named ≡ fields
+    → (fault ≡ TooLarge → LengthFits h.format (length (around h.order h.format h.address_size named program)) → ⊥) → RefusedPut (HeaderBytesIn h.order) (h, program) fault
+header_too_long h program fields named fault p is long = record {
+  none = λ large bytes q.
+      let t = q.spelled in
+      let here = subst (λ (z : List ℕ). LengthFits h.format (length (around h.order h.format h.address_size z program)) → ⊥) is (long large) in
+      here (fits_less h.format (length (unit_body h fields program)) (length (unit_body h t.fields program)) (omega (arith, length-body h fields program, length-body h t.fields program, p.shortest t.fields t.counted)) t.fits);
+}

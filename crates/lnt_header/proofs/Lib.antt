@@ -14,3 +14,4 @@ pub mod TableReaders
 pub mod TestLemmas
 pub mod ViewLemmas
 pub mod WrongTables
+pub mod ViewPutLemmas

@@ -4,6 +4,7 @@ pub mod Conversion
 pub mod Encoding
 pub mod FieldFaults
 pub mod HeaderBytes
+pub mod HeaderPuts
 pub mod HeaderReading
 pub mod HeaderRules
 pub mod HeaderTests

@@ -1,5 +1,5 @@
 //! Headers, written as the bytes of their units.
-ghost use Rattle.std.specs.Prelude.{◌≡◌, ◌⊎◌, ◌+◌, ◌++◌, IfOk, IfErr, OnOk};
+ghost use Rattle.std.specs.Prelude.{◌≡◌, ◌⊎◌, ◌+◌, ◌++◌, length, IfOk, IfErr, OnOk};
 ghost use Rattle.std.specs.List.{AllByRecursion};
 ghost use Rattle.lnt_wire.specs.Bytes.{IsShortest, Appends};
 ghost use Rattle.lnt_wire.specs.FormBytes.{HasSpelling, FormBytes};
@@ -7,6 +7,7 @@ ghost use Rattle.lnt_wire.specs.InitialLength.{initial_length, LengthFits};
 ghost use Rattle.lnt_wire.specs.Numbers.{offset_size};
 ghost use Rattle.lnt_header.specs.Encoding.{RefusedPut, EntryParts};
 ghost use Rattle.lnt_header.specs.HeaderBytes.{HeaderFieldsBytes, HeaderBytesIn};
+ghost use Rattle.lnt_header.specs.HeaderPuts.{around, AddsAround};
 ghost use Rattle.lnt_header.specs.HeaderRules.{IsHeader, IsTable};
 ghost use Rattle.lnt_header.specs.Large.{HasLargeEntry, HasLargeOffset, HasLargeValue, IfTooLarge, IsTooLong};
 ghost use Rattle.lnt_header.specs.Joins.{Each};
@@ -39,16 +40,41 @@ fn encode_parts(alloc: Global, parts: &HeaderParts, program: &[u8]) -> Result<Ve
     ensures large { IfErr result (IfTooLarge (HasLargeOffset parts.now ⊎ IsTooLong parts.now program.now)) }
 {
     let fields = counted_fields(alloc, parts)?;
-    let length = unit_length(parts.format, fields.len(), program.len())?;
     let mut out = Vec::new(alloc);
-    add_initial_length(&mut out, length, parts.format, parts.order)?;
-    put_u16(&mut out, 5, parts.order)?;
-    out.push(parts.address_size)?;
-    out.push(0)?;
-    put_offset(&mut out, fields.len() as u64, parts.format, parts.order)?;
-    out.extend_from_slice(&fields)?;
-    out.extend_from_slice(program)?;
+    add_around(
+        &mut out,
+        &fields,
+        program,
+        parts.address_size,
+        parts.format,
+        parts.order,
+    )?;
     Ok(out)
+}
+
+// Adds the bytes of a unit with these fields, which header_length counts, and this program. After a refusal a part of
+// it may be there.
+#[tactic(auto, using(crate::proofs::EncodeLemmas::around_put, crate::proofs::EncodeLemmas::offset_fits))]
+pub(crate) fn add_around(
+    out: &mut Vec<u8>,
+    fields: &[u8],
+    program: &[u8],
+    address_size: u8,
+    format: Format,
+    order: Order,
+) -> Result<(), EncodeFault>
+    ensures ok { OnOk result (AddsAround order format address_size fields.now program.now out.old.items out.new.items) }
+    ensures err { IfErr result (λ fault. fault ≡ EncodeFault.TooLarge → LengthFits format (length (around order format address_size fields.now program.now)) → ⊥) }
+{
+    let length = unit_length(format, fields.len(), program.len())?;
+    add_initial_length(out, length, format, order)?;
+    put_u16(out, 5, order)?;
+    out.push(address_size)?;
+    out.push(0)?;
+    put_offset(out, fields.len() as u64, format, order)?;
+    out.extend_from_slice(fields)?;
+    out.extend_from_slice(program)?;
+    Ok(())
 }
 
 // How many bytes a unit has behind its initial length.
@@ -141,7 +167,7 @@ fn add_table(
 
 // Adds the pairs of a format.
 #[tactic(auto, using(crate::proofs::EncodeLemmas::pairs_begun, crate::proofs::EncodeLemmas::pairs_more, crate::proofs::EncodeLemmas::pairs_done))]
-fn add_pairs(out: &mut Vec<u8>, pairs: &[Pair]) -> Result<(), EncodeFault>
+pub(crate) fn add_pairs(out: &mut Vec<u8>, pairs: &[Pair]) -> Result<(), EncodeFault>
     ensures ok { OnOk result (Appends (Each PairBytes) pairs.now out.old.items out.new.items) }
     ensures err { IfErr result (λ fault. fault ≡ EncodeFault.Memory) }
 {

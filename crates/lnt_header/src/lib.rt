@@ -19,6 +19,7 @@ mod table;
 mod table_view;
 mod tested;
 mod view;
+mod view_encode;
 
 pub use decode::decode_header;
 pub use encode::encode_header;
@@ -32,3 +33,4 @@ pub use op::Op;
 pub use read_table::EntriesInPlace;
 pub use table_view::TableView;
 pub use view::{OpView, Operands};
+pub use view_encode::put_header_view;

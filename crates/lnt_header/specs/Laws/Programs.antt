@@ -9,6 +9,7 @@ use Rattle.lnt_wire.specs.InitialLength.{initial_length, LengthFits}
 use Rattle.lnt_wire.specs.Laws.Lengths.{length-number_bytes}
 use Rattle.lnt_wire.specs.Numbers.{number_bytes, offset_size}
 use Rattle.lnt_header.specs.declared.header.HeaderParts.{HeaderParts}
+use Rattle.lnt_header.specs.HeaderPuts.{around}
 use Rattle.lnt_header.specs.HeaderBytes.{HeaderBytesIn, unit_body}
 
 pub length-initial-same : (format : Format) (order : Order) (m n : ℕ) → length (initial_length format order m) ≡ length (initial_length format order n)
@@ -19,10 +20,13 @@ length-initial-same D64 order m n =
 pub length-five : (a b c d e : List ℕ) → length (a ++ b ++ c ++ d ++ e) ≡ length a + length b + length c + length d + length e
 length-five a b c d e = simp length-append refl
 
+pub length-around : (order : Order) (format : Format) (size : ℕ) (fields program : List ℕ) → length (around order format size fields program) ≡ 4 + offset_size format + length fields + length program
+length-around order format size fields program =
+    let number = number_bytes order (offset_size format) (length fields) in
+    omega (arith, length-five (version_five order) (size ∷ 0 ∷ []) number fields program, length-number_bytes order 2 5, length-number_bytes order (offset_size format) (length fields))
+
 pub length-body : (h : HeaderParts) (fields program : List ℕ) → length (unit_body h fields program) ≡ 4 + offset_size h.format + length fields + length program
-length-body h fields program =
-    let number = number_bytes h.order (offset_size h.format) (length fields) in
-    omega (arith, length-five (version_five h.order) (h.address_size ∷ 0 ∷ []) number fields program, length-number_bytes h.order 2 5, length-number_bytes h.order (offset_size h.format) (length fields))
+length-body h fields program = length-around h.order h.format h.address_size fields program
 
 pub fits_less : (format : Format) (m n : ℕ) → m ≤ n → LengthFits format n → LengthFits format m
 fits_less D32 m n le fits = omega arith
