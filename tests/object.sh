@@ -159,18 +159,23 @@ END
     for version in 2 3; do
       image elf64$order unit .debug_line="$work/old$version${order#-}"
       expect "version $version$order" 1 "no 25 malformed at 0x4: version $version"$'\n' \
-        "$says its unit is of version $version, the first of src/a.c; $hint -gdwarf-5 -Wa,--gdwarf-5, as it is the assembler's"$'\n' \
+        "$says its unit, of src/a.c, is of version $version; $hint -gdwarf-5 -Wa,--gdwarf-5, as it is the assembler's"$'\n' \
           object table "$work/unit"
     done
     image elf64$order unit .debug_line="$work/old4${order#-}"
     expect "version 4$order" 1 $'no 25 malformed at 0x4: version 4\n' \
-      "$says its unit is of version 4, the first of src/a.c; $hint -gdwarf-5"$'\n' object table "$work/unit"
+      "$says its unit, of src/a.c, is of version 4; $hint -gdwarf-5"$'\n' object table "$work/unit"
   done
+  cat "$work/old2" examples/hello.debug_line "$work/old4" "$work/old4" >"$work/mixed"
+  image elf64 unit .debug_line="$work/mixed" "${hello[1]}"
+  expect 'versions 2 and 4' 1 $'no 25 malformed at 0x4: version 2\n' \
+    "$says 3 of its 4 units, the first of src/a.c, are of version 2 and 4; $hint -gdwarf-5 -Wa,--gdwarf-5, as it is the assembler's"$'\n' \
+    object table "$work/unit"
   cat examples/hello.debug_line "$work/old4" >"$work/mixed"
   echo 'clang LLVM (rustc version 1.95.0)' >"$work/said"
   image elf64 unit .debug_line="$work/mixed" "${hello[1]}" z:.debug_str="$work/said"
   expect 'version 4 behind version 5, by rustc' 1 $'no 25 malformed at 0xa4: version 4\n' \
-    "$says 1 of its 2 units are of version 4, the first of src/a.c; ${hint% compile with} $rust"$'\n' \
+    "$says 1 of its 2 units, of src/a.c, is of version 4; ${hint% compile with} $rust"$'\n' \
     object table "$work/unit"
   cat examples/hello.debug_line examples/hello.debug_line >"$work/twice"
   image elf64 unit .debug_line="$work/twice" "${hello[1]}"
@@ -294,7 +299,7 @@ arm:arm-linux-gnueabihf-gcc:arm-linux-gnueabihf-gcc -gdwarf-5 -Wa,--gdwarf-5 -o 
 END
   here gcc && gcc -gdwarf-4 -o "$work/made" "$work/main.c" || return
   expect 'gcc, version 4' 1 $'no 25 malformed at 0x4: version 4\n' \
-    "$says its unit is of version 4, the first of $work/main.c; linetab reads DWARF 5 alone: compile with -gdwarf-5"$'\n' \
+    "$says its unit, of $work/main.c, is of version 4; linetab reads DWARF 5 alone: compile with -gdwarf-5"$'\n' \
     object table "$work/made"
   gcc -gdwarf-5 -c -o "$work/made" "$work/main.c"
   refuses 'gcc, not linked' made "it is a relocatable object, whose relocations aren't applied and whose addresses all begin at 0: link it"
