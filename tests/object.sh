@@ -1,0 +1,323 @@
+#!/usr/bin/env bash
+# linetab-object on programs of each format: some written here byte by byte by tests/images.py, and some by compilers, where
+# they are here.
+cd "$(dirname "$0")/.." || exit 1
+. tests/check.bash
+work=$(cd "$work" && pwd -P)
+skipped=0
+hello=(.debug_line=examples/hello.debug_line .debug_line_str=examples/hello.debug_line_str)
+dead=(.debug_line=examples/gc-sections.debug_line .debug_line_str=examples/gc-sections.debug_line_str)
+table=$(cat examples/hello.csv)$'\n'
+says=linetab-object:
+
+image() { # FORMAT NAME WORD..: a file of that name, in the folder of the test
+  python3 tests/images.py "$1" "$work/$2" "${@:3}" || exit 1
+}
+# A folder with the script and the program alone, as they are installed: the launcher would take as long as the rest.
+mkdir "$work/bin"
+cp linetab-object "$work/bin"
+ln -s "$PWD/crates/linetab/out/linetab" "$work/bin/linetab"
+linetab=$work/bin/linetab
+object() { # WORD..
+  "$work/bin/linetab-object" "$@"
+}
+export -f object
+export work
+# The output is that of linetab with these options on the raw section of an example; ERROR is on standard error.
+agrees() { # NAME FILE EXAMPLE ERROR [OPTION..]
+  local section=examples/$3.debug_line
+  expect "$1" 0 "$("$linetab" table "$section" --line-str "${section}_str" "${@:5}")"$'\n' "$4" object table "$work/$2"
+}
+refuses() { # NAME FILE REASON
+  expect "$1" 3 '' "$says $work/$2: $3"$'\n' object table "$work/$2"
+}
+# Whether these are here; else the case is counted as skipped.
+here() { # TOOL..
+  local tool
+  for tool; do
+    command -v "$tool" >/dev/null || { skipped=$((skipped + 1)); return 1; }
+  done
+}
+
+formats() {
+  local format
+  for format in elf64 elf32 pe pe32 macho fat wasm; do
+    image "$format" "$format" "${hello[@]}" code=0x1000,0x1000
+    agrees "$format" "$format" hello ''
+  done
+  for format in elf64-big elf32-big macho32-big; do
+    image "$format" "$format" .debug_line=examples/powerpc64.debug_line .debug_line_str=examples/powerpc64.debug_line_str
+    agrees "$format" "$format" powerpc64 '' --big
+  done
+  mkdir -p "$work/app.dSYM/Contents/Resources/DWARF" && cp "$work/macho" "$work/app.dSYM/Contents/Resources/DWARF/app"
+  agrees 'a folder with a dSYM' app.dSYM hello ''
+  (bytes 2f6100) >"$work/strings"
+  image elf64 other "${hello[0]}" .debug_str="$work/strings"
+  expect 'no line strings, in words that need none' 0 $'0x0 32 156\n' '' object units "$work/other"
+  expect 'no line strings, where a path is wanted' 1 $'no 28 string outside unit 0x0 directories entry 0\n' \
+    "$says the file has no .debug_line_str, in which the text may be"$'\n' object table "$work/other"
+}
+
+words() {
+  local lookup='0x1137,0 unit 0 file 1 line 1 column 50 stmt 1 path "/w/src/small/a.c"'$'\n'
+  expect 'a lookup' 0 "$lookup" '' object lookup "$work/elf64" 0x1137
+  expect 'a check' 0 $'yes\n' '' object check "$work/pe" examples/hello.csv
+  expect 'a check of standard input' 0 $'yes\n' '' object check "$work/macho" - <examples/hello.csv
+  expect 'a table that differs' 1 $'no 40 differs at 0x1129,0 table none section 0,1,1,27,1\n' '' \
+    bash -c 'head -n 1 examples/hello.csv | object check "$0" -' "$work/elf64"
+  expect 'a conversion' 0 '' '' bash -c 'object convert "$0" --format 32 --order little | cmp - examples/hello.debug_line' "$work/elf32"
+  expect 'strings of the words' 0 "$lookup" '' object lookup "$work/other" 0x1137 --line-str examples/hello.debug_line_str
+  expect 'an order of the words' 1 $'no 25 malformed at 0x0: truncated\n' '' object units "$work/elf64" --big
+  expect 'an unknown word' 2 '' "$("$linetab" tables 2>&1)"$'\n' object tables "$work/elf64"
+  expect 'a missing word' 2 '' "$("$linetab" lookup --line-str x x 2>&1)"$'\n' object lookup "$work/elf64"
+  expect 'no file' 2 '' $'linetab-object: a word of linetab and a file are wanted\n\nusage: linetab-object WORD FILE [WORDS..]\n' object \
+    table
+  expect 'help' 0 $'usage: linetab-object WORD FILE [WORDS..]\n' '' bash -c 'object --help | grep usage'
+  expect 'a link to it' 0 "$table" '' bash -c 'ln -s "$PWD/linetab-object" "$0/link" && "$0/link" table "$0/elf64"' "$work"
+  expect 'a full device' 3 '' $'linetab: cannot write\n' bash -c 'object table "$0" >/dev/full' "$work/elf64"
+}
+
+packed() {
+  local note="section .debug_line isn't what its compression header says: the file is damaged"
+  image elf64 packed "z:${hello[0]}" "z:${hello[1]}"
+  agrees 'compressed sections' packed hello ''
+  image elf32-big packed z:.debug_line=examples/powerpc64.debug_line z:.debug_line_str=examples/powerpc64.debug_line_str
+  agrees 'compressed sections, big-endian' packed powerpc64 '' --big
+  image pe packed "gnu:${hello[0]}" "gnu:${hello[1]}"
+  agrees 'sections compressed as .zdebug' packed hello ''
+  image elf64 packed "z:${hello[0]}" damaged
+  refuses 'a compressed section that is cut' packed "$note"
+  image elf64 packed "gnu:${hello[0]}" damaged
+  refuses 'one that is cut in .zdebug' packed "$note"
+  here objcopy || return
+  # Large enough that compressing gains anything.
+  image elf64 packed "${dead[@]}"
+  objcopy --compress-debug-sections=zstd "$work/packed" 2>/dev/null || { skipped=$((skipped + 1)); return; }
+  local units
+  units=$("$linetab" units examples/gc-sections.debug_line)$'\n'
+  here zstd && expect 'sections compressed by zstd' 0 "$units" '' object units "$work/packed"
+  mkdir -p "$work/few"
+  ln -s "$(command -v env)" "$(command -v objcopy)" "$work/few"
+  ln -s "$(python3 -c 'import sys; print(sys.executable)')" "$work/few/python3"
+  expect 'the same by objcopy' 0 "$units" '' env PATH="$work/few" "$work/bin/linetab-object" units "$work/packed"
+  rm "$work/few/objcopy"
+  expect 'the same by nothing' 3 '' \
+    "$says $work/packed: section .debug_line is compressed by zstd, which nothing here unpacks: install the package zstd"$'\n' \
+    env PATH="$work/few" "$work/bin/linetab-object" units "$work/packed"
+}
+
+discarded() {
+  local note="where $work/dead has no code: the linker left those of discarded functions there;"
+  image elf64 dead "${dead[@]}" code=0x1000,0x100000
+  agrees 'sequences at 0' dead gc-sections "$says sequences begin at 0x0, $note --dead 0x0 leaves them out"$'\n' --dead 0x0
+  expect 'sequences at 0, in words that take no marker' 0 "$("$linetab" units examples/gc-sections.debug_line)"$'\n' '' object units \
+    "$work/dead"
+  expect 'a marker of the words' 1 \
+    "$("$linetab" table examples/gc-sections.debug_line --line-str examples/gc-sections.debug_line_str)"$'\n' \
+    "$says sequences overlap at 0x0; if the linker left those of discarded functions there, --dead 0x0 leaves them out"$'\n' \
+    object table "$work/dead" --dead 0x1
+  image elf64 live "${dead[@]}" code=0x0,0x100000
+  expect 'sequences at 0, where code is' 1 \
+    "$("$linetab" table examples/gc-sections.debug_line --line-str examples/gc-sections.debug_line_str)"$'\n' \
+    "$says sequences overlap at 0x0; if the linker left those of discarded functions there, --dead 0x0 leaves them out"$'\n' \
+    object table "$work/live"
+  python3 -c \
+    'import sys; start = b"\0\x09\x02"; section = open(sys.argv[1], "rb").read()
+sys.stdout.buffer.write(section.replace(start + bytes(8), start + b"\xff" * 8))' \
+    examples/gc-sections.debug_line >"$work/ones"
+  image elf64 dead .debug_line="$work/ones" "${dead[1]}" code=0x0,0x100000
+  agrees 'sequences at the highest address' dead gc-sections \
+    "$says sequences begin at 0xffffffffffffffff, $note --dead 0xffffffffffffffff leaves them out"$'\n' --dead 0x0
+  # The bytes of an operation that sets address 0, in a block of a directory.
+  (bytes 520000000500080038000000 010101fb0e0d 000101010100000001000001 020108 81400a 01 2f7300 0b 0009020000000000000000 \
+    020108020b02612e630000612e630000 0009020010000000000000 144b0202 000101) >"$work/none"
+  image elf64 dead .debug_line="$work/none"
+  expect 'the bytes of address 0 elsewhere' 0 \
+    $'low,low_op,high,high_op,unit,file,line,column,is_stmt\n0x1000,0,0x1004,0,0,1,3,0,1\n0x1004,0,0x1006,0,0,1,4,0,1\n' '' \
+    object table "$work/dead"
+}
+
+versions() {
+  local hint='linetab reads DWARF 5 alone: compile with'
+  python3 - "$work/old" <<'END'
+import struct, sys
+name = sys.argv[1]
+tables = b"src\0\0" + b"a.c\0\1\0\0\0"
+program = b"\0\x09\x02" + struct.pack("<Q", 0x1000) + b"\x14\x02\x02\0\1\1"
+for version in (2, 3, 4):
+    numbers = bytes([1]) + (bytes([1]) if version >= 4 else b"") + bytes([1, 251, 14, 13]) + bytes([0, 1, 1, 1, 1, 0, 0, 0, 1, 0, 0, 1])
+    for order in "<>":
+        inner = struct.pack(order + "HI", version, len(numbers + tables)) + numbers + tables + program
+        with open("%s%d%s" % (name, version, "big" if order == ">" else ""), "wb") as file:
+            file.write(struct.pack(order + "I", len(inner)) + inner)
+END
+  local rust='rustc takes -C dwarf-version=5, and -O -C lto=fat for its standard library, which is of version 4'
+  local copies='GNU ld and gold resolve the line numbers of a discarded copy of an inline function to the copy that they kept, '
+  copies+='and --icf folds functions into one; link by lld or mold without --icf, or compile with -flto'
+  local version order
+  for order in '' -big; do
+    for version in 2 3; do
+      image elf64$order unit .debug_line="$work/old$version${order#-}"
+      expect "version $version$order" 1 "no 25 malformed at 0x4: version $version"$'\n' \
+        "$says its unit, of src/a.c, is of version $version; $hint -gdwarf-5 -Wa,--gdwarf-5, as it is the assembler's"$'\n' \
+          object table "$work/unit"
+    done
+    image elf64$order unit .debug_line="$work/old4${order#-}"
+    expect "version 4$order" 1 $'no 25 malformed at 0x4: version 4\n' \
+      "$says its unit, of src/a.c, is of version 4; $hint -gdwarf-5"$'\n' object table "$work/unit"
+  done
+  cat "$work/old2" examples/hello.debug_line "$work/old4" "$work/old4" >"$work/mixed"
+  image elf64 unit .debug_line="$work/mixed" "${hello[1]}"
+  expect 'versions 2 and 4' 1 $'no 25 malformed at 0x4: version 2\n' \
+    "$says 3 of its 4 units, the first of src/a.c, are of version 2 and 4; $hint -gdwarf-5 -Wa,--gdwarf-5, as it is the assembler's"$'\n' \
+    object table "$work/unit"
+  cat examples/hello.debug_line "$work/old4" >"$work/mixed"
+  echo 'clang LLVM (rustc version 1.95.0)' >"$work/said"
+  image elf64 unit .debug_line="$work/mixed" "${hello[1]}" z:.debug_str="$work/said"
+  expect 'version 4 behind version 5, by rustc' 1 $'no 25 malformed at 0xa4: version 4\n' \
+    "$says 1 of its 2 units, of src/a.c, is of version 4; ${hint% compile with} $rust"$'\n' \
+    object table "$work/unit"
+  cat examples/hello.debug_line examples/hello.debug_line >"$work/twice"
+  image elf64 unit .debug_line="$work/twice" "${hello[1]}"
+  expect 'two copies' 1 $'no 32 overlap 0x0:0 0xa0:0 at 0x1129,0\n' \
+    "$says two sequences hold 0x1129: $copies"$'\n' \
+    object table "$work/unit"
+}
+
+apart() {
+  local found="$says the debug information of $work/app is in"
+  local lost='it has no .debug_line: it is stripped, and its debug information'
+  local install='install the package with the debug symbols (Debian: -dbgsym or -dbg), or take the file before it was stripped'
+  image elf64 app.debug "${hello[@]}" code=0x1000,0x1000
+  image elf64 app link=app.debug,"$work/app.debug" code=0x1000,0x1000
+  agrees 'a debug link, beside the program' app hello "$found $work/app.debug"$'\n'
+  mkdir -p "$work/.debug" && mv "$work/app.debug" "$work/.debug"
+  agrees 'a debug link, in .debug' app hello "$found $work/.debug/app.debug"$'\n'
+  echo more >>"$work/.debug/app.debug"
+  refuses 'a file of another program' app \
+    "it has no .debug_line, and $work/.debug/app.debug, which lies where its debug information should, is of another file"
+  rm "$work/.debug/app.debug"
+  refuses 'a debug link to nothing' app \
+    "$lost isn't in $work/app.debug or $work/.debug/app.debug or /usr/lib/debug$work/app.debug; $install"
+  image elf64 app.debug "${hello[@]}" id=00112233445566778899
+  image elf64 app link=app.debug,/dev/null id=00112233445566778899
+  agrees 'a debug link with an old sum, and the same build id' app hello "$found $work/app.debug"$'\n'
+  image elf64 app id=00112233445566778899
+  refuses 'a build id of nothing' app \
+    "$lost isn't in /usr/lib/debug/.build-id/00/112233445566778899.debug; $install; its build id is 00112233445566778899"
+  image macho tool id=00112233445566778899aabbccddeeff code=0x1000,0x1000
+  refuses 'a Mach-O program without a dSYM' tool 'it has no .debug_line: make its dSYM by dsymutil FILE, and take that'
+  mkdir -p "$work/tool.dSYM/Contents/Resources/DWARF"
+  image macho tool.dSYM/Contents/Resources/DWARF/tool "${hello[@]}" id=00112233445566778899aabbccddeeff
+  agrees 'a Mach-O program with its dSYM' tool hello \
+    "$says the debug information of $work/tool is in $work/tool.dSYM/Contents/Resources/DWARF/tool"$'\n'
+  image macho tool.dSYM/Contents/Resources/DWARF/tool "${hello[@]}" id=ff
+  lost=$work/tool.dSYM/Contents/Resources/DWARF/tool
+  refuses 'a Mach-O program with a dSYM of another' tool \
+    "it has no .debug_line, and $lost, which lies where its debug information should, is of another file"
+}
+
+refusals() {
+  local loose="it is a relocatable object, whose relocations aren't applied and whose addresses all begin at 0: link it"
+  local cut='its headers reach behind the end of the file, which is cut or damaged'
+  image elf64 no "${hello[@]}" object && refuses 'a relocatable object' no "$loose"
+  image macho no "${hello[@]}" object && refuses 'one of Mach-O' no \
+    'it is a relocatable object: take the dSYM of the linked program, which dsymutil makes'
+  image wasm no "${hello[@]}" object && refuses 'one of WebAssembly' no \
+    "it is a relocatable object, whose relocations aren't applied: link it"
+  (bytes 6486 0000) >"$work/no" && refuses 'one of COFF' no "$loose"
+  image elf64 no "${hello[@]}" dwo && refuses 'split debug information' no \
+    'it is split debug information: the line number section is in the linked program'
+  image elf64 no "${hello[@]}" module && refuses 'a kernel module' no \
+    "it is a kernel module, whose addresses aren't final before it is loaded"
+  image elf64 no "${hello[@]}" core && refuses 'a core file' no 'it is a core file: take the program that it is of'
+  image elf64 no code=0x1000,0x1000 && refuses 'no debug information' no \
+    "it has no .debug_line: compile and link it with -gdwarf-5, and don't strip it"
+  image pe no code=0x1000,0x1000 && refuses 'none in PE' no \
+    'it has no .debug_line: compile with -gdwarf-5 by gcc or clang for mingw; a PDB has no DWARF'
+  image fat no "${hello[@]}" machine machine && refuses 'two machines' no \
+    'it is for 2 machines: take one of them out by lipo -thin MACHINE FILE -output ONE'
+  (bytes cafebabe00000034) >"$work/no" && refuses 'a class of Java' no 'it is a class of Java, which has no DWARF'
+  cp examples/hello.debug_line "$work/no" && refuses 'a raw section' no \
+    'it is none of ELF, PE, Mach-O and WebAssembly; a raw section is for linetab itself'
+  : >"$work/no" && refuses 'an empty file' no 'it is none of ELF, PE, Mach-O and WebAssembly; a raw section is for linetab itself'
+  printf '!<arch>\n' >"$work/no" && refuses 'an archive' no 'it is an archive of relocatable objects: link them'
+  cp linetab "$work/no" && refuses 'a script' no 'it is a script: take the program that it runs'
+  gzip -c linetab >"$work/no" && refuses 'a compressed file' no 'it is compressed by gzip: unpack it first'
+  for format in elf64 elf32-big pe macho wasm; do
+    image "$format" whole "${hello[@]}"
+    head -c 70 "$work/whole" >"$work/no"
+    [ "$format" != wasm ] || cut='section .debug_line reaches behind the end of the file, which is cut or damaged'
+    refuses "a cut file, $format" no "$cut"
+  done
+  refuses 'a file that is not there' nothing 'cannot read it: No such file or directory'
+  refuses 'a folder' .debug 'it is a folder, and no .dSYM of one program'
+  expect 'a name with an escape' 3 '' "$says "'"no\x1b[31m": cannot read it: No such file or directory'$'\n' object table $'no\e[31m'
+  image elf64 kept "${hello[@]}" && cp -p "$work/kept" "$work/same" && chmod 400 "$work/kept"
+  agrees 'a file that may only be read' kept hello ''
+  expect 'which stays as it is' 0 '' '' cmp "$work/kept" "$work/same"
+}
+
+# Every cut of a file ends in an answer or a line, and never in a trace of Python.
+cuts() {
+  local format size count
+  for format in elf64 pe macho wasm; do
+    image "$format" whole "${hello[@]}" code=0x1000,0x1000
+    size=$(wc -c <"$work/whole")
+    for ((count = 1; count < size; count += 23)); do
+      head -c "$count" "$work/whole" >"$work/cut"
+      object units "$work/cut" 2>&1 | sed -E 's/^linetab-object: .*: (it|its|section) .*/told/'
+    done | sort | uniq -c | awk '{ print $2, $3, $4 }' >"$work/kinds"
+    expect "$format, cut anywhere" 0 '' '' bash -c 'grep -vE "^(told|0x0 32 156|no 25 malformed)" "$0" | head -n 5' "$work/kinds"
+  done
+}
+
+# A program of each compiler: its own table is answered by yes.
+compiled() {
+  local name tools words
+  { printf 'static int twice(int x) { return 2 * x; }\nint main(int n, char **v) { return twice(n); }\n'
+    printf 'int f%d(int x) { return x + 1; }\n' {1..50}; } >"$work/main.c"
+  while IFS=: read -r name tools words; do
+    here $tools || continue
+    (cd "$work" && bash -c "$words") >/dev/null 2>&1 || { skipped=$((skipped + 1)); continue; }
+    object table "$work/made" >"$work/made.csv" 2>/dev/null
+    expect "$name" 0 $'yes\n' '' bash -c 'object check "$0" "$1" 2>/dev/null' "$work/made" "$work/made.csv"
+    expect "$name, line 2" 0 $'0\n' '' bash -c 'awk -F , "\$7 == 2" "$0" | grep -q . ; echo $?' "$work/made.csv"
+  done <<'END'
+gcc:gcc:gcc -gdwarf-5 -o made main.c
+gcc, compressed:gcc:gcc -gdwarf-5 -gz -o made main.c
+gcc, compressed as before:gcc:gcc -gdwarf-5 -gz=zlib-gnu -o made main.c
+gcc, in the 64-bit format:gcc:gcc -gdwarf-5 -gdwarf64 -o made main.c
+gcc, its debug information alone:gcc strip:gcc -gdwarf-5 -o made main.c && strip --only-keep-debug made
+gcc, stripped:gcc strip objcopy:gcc -gdwarf-5 -o made main.c && objcopy --only-keep-debug made a && objcopy -g --add-gnu-debuglink=a made
+gcc and lld:gcc ld.lld:gcc -gdwarf-5 -fuse-ld=lld -ffunction-sections -Wl,--gc-sections -o made main.c
+clang:clang:clang -gdwarf-5 -o made main.c
+clang, big-endian:clang ld.lld:clang --target=powerpc64-linux-gnu -nostdlib -ffreestanding -fuse-ld=lld -gdwarf-5 -Wl,-e,main -o made main.c
+clang, WebAssembly:clang wasm-ld:clang --target=wasm32 -nostdlib -gdwarf-5 -Wl,--no-entry -Wl,--export=main -o made main.c
+mingw:x86_64-w64-mingw32-gcc:x86_64-w64-mingw32-gcc -gdwarf-5 -o made.exe main.c && mv made.exe made
+arm:arm-linux-gnueabihf-gcc:arm-linux-gnueabihf-gcc -gdwarf-5 -Wa,--gdwarf-5 -o made main.c
+END
+  here gcc && gcc -gdwarf-4 -o "$work/made" "$work/main.c" || return
+  expect 'gcc, version 4' 1 $'no 25 malformed at 0x4: version 4\n' \
+    "$says its unit, of $work/main.c, is of version 4; linetab reads DWARF 5 alone: compile with -gdwarf-5"$'\n' \
+    object table "$work/made"
+  gcc -gdwarf-5 -c -o "$work/made" "$work/main.c"
+  refuses 'gcc, not linked' made "it is a relocatable object, whose relocations aren't applied and whose addresses all begin at 0: link it"
+  gcc -o "$work/made" "$work/main.c"
+  refuses 'gcc without debug information' made "it has no .debug_line: compile and link it with -gdwarf-5, and don't strip it"
+}
+
+command -v python3 >/dev/null || { echo "skipped: python3 isn't here"; finish; }
+# The interpreter itself, where python3 is a script that looks for one.
+PATH=$(dirname "$(python3 -c 'import sys; print(sys.executable)')"):$PATH
+formats
+words
+packed
+discarded
+versions
+apart
+refusals
+cuts
+compiled
+[ "$skipped" -eq 0 ] || echo "skipped: $skipped cases of tools that aren't here"
+finish
