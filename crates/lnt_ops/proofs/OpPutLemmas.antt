@@ -8,7 +8,7 @@ use Rattle.lnt_wire.specs.declared.format.Order.{Order}
 use Rattle.lnt_wire.specs.Bytes.{Exactly, IsShortest, Appends, Extends}
 use Rattle.lnt_wire.specs.Leb128.{UnsignedLeb, SignedLeb}
 use Rattle.lnt_wire.specs.Numbers.{NumberBytes}
-use Rattle.lnt_wire.specs.Laws.Lengths.{length-number_bytes}
+use Rattle.lnt_wire.proofs.LengthLaws.{length-number_bytes}
 use Rattle.lnt_header.specs.declared.header.HeaderParts.{HeaderParts}
 use Rattle.lnt_header.specs.declared.op.Op.{Op}
 use Rattle.lnt_header.specs.declared.op.Op.TheVariants.{AdvancePc, AdvanceLine, SetFile, SetColumn, SetIsa, UnknownStandard, EndSequence, SetAddress, SetDiscriminator, UnknownExtended}

@@ -1,9 +1,3 @@
-pub mod Codes
-pub mod FirstValues
-pub mod Frames
-pub mod Lengths
-pub mod Pulls
-pub mod Values
 -- What is spelled is read again, whatever follows: no spelling begins another, and each spells one value.
 use Rattle.std.specs.Prelude.{◌≡◌, ℕ, List}
 use Rattle.lnt_wire.specs.declared.format.Order.{Order}
@@ -30,9 +24,3 @@ pub record OneLeb : Type 0 where
 -- values of one form
 abbrev pub OneValue : Type 0
 OneValue = (format : Format) (order : Order) (form : Form) → IsCode (ValueBytes format order form)
-
--- two initial lengths, and what stands behind them, are the same
-pub record SameLength (f g : Format) (m n : ℕ) (r s : List ℕ) : Type 0 where
-  pub format : f ≡ g
-  pub number : m ≡ n
-  pub behind : r ≡ s
