@@ -7,8 +7,8 @@ use Rattle.lnt_wire.specs.Bytes.{NoneSpelled}
 use Rattle.lnt_wire.specs.FrameBytes.{version_five, frame_bytes}
 use Rattle.lnt_wire.specs.FrameFaults.{InFrame}
 use Rattle.lnt_wire.specs.InitialLength.{initial_length, LengthFits}
-use Rattle.lnt_wire.specs.Laws.Lengths.{same_front, same_length, length-number_bytes}
-use Rattle.lnt_wire.specs.Laws.Values.{offset_width}
+use Rattle.lnt_wire.proofs.LengthLaws.{same_front, same_length, length-number_bytes}
+use Rattle.lnt_wire.proofs.ValueLaws.{offset_width}
 use Rattle.lnt_wire.specs.Numbers.{number_bytes, offset_size}
 use Rattle.lnt_wire.specs.Reading.{Reads, Refuses}
 use Rattle.lnt_wire.specs.declared.fault.Fault.{Fault}

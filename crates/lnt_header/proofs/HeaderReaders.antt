@@ -9,7 +9,7 @@ use Rattle.lnt_wire.specs.declared.fault.Reason.{Reason}
 use Rattle.lnt_wire.specs.declared.fault.Reason.TheVariants.{Truncated, MaxOpsZero, LineRangeZero, OpcodeBaseZero, StandardLength}
 use Rattle.lnt_wire.specs.declared.format.Format.{Format}
 use Rattle.lnt_wire.specs.declared.format.Order.{Order}
-use Rattle.lnt_wire.specs.Laws.Lengths.{same_front}
+use Rattle.lnt_wire.proofs.LengthLaws.{same_front}
 use Rattle.lnt_header.specs.Laws.Readers.{first_refused, second_refused, reads_both}
 use Rattle.lnt_header.specs.declared.header.Entry.{Entry}
 use Rattle.lnt_header.specs.declared.header.Pair.{Pair}

@@ -1,5 +1,5 @@
 -- What is too large for a format where something isn't written.
-use Rattle.std.proofs.Common.{◌≡◌, ◌⊎◌, ℕ, ◌+◌, ◌<◌, List, length, get_or, sym, subst, arith, inl, inr}
+use Rattle.std.proofs.Common.{◌≡◌, ◌⊎◌, ℕ, ◌<◌, List, length, get_or, sym, subst, inl, inr}
 use Rattle.std.proofs.lemmas.List.Elements.{Contains-get_or}
 use Rattle.std.specs.List.{Contains}
 use Rattle.lnt_wire.specs.declared.format.Format.{Format}
@@ -9,12 +9,11 @@ use Rattle.lnt_wire.specs.declared.put.EncodeFault.TheVariants.{Memory, TooLarge
 use Rattle.lnt_wire.specs.Bytes.{IsShortest}
 use Rattle.lnt_wire.specs.FormBytes.{IsTooLarge}
 use Rattle.lnt_wire.specs.InitialLength.{LengthFits}
-use Rattle.lnt_wire.specs.Numbers.{offset_size}
 use Rattle.lnt_header.specs.declared.header.Entry.{Entry}
 use Rattle.lnt_header.specs.declared.header.HeaderParts.{HeaderParts}
 use Rattle.lnt_header.specs.HeaderBytes.{HeaderFieldsBytes, unit_body}
+use Rattle.lnt_header.specs.HeaderPuts.{around}
 use Rattle.lnt_header.specs.Large.{HasLargeEntry, HasLargeOffset, HasLargeValue, IfTooLarge, IsTooLong}
-use Rattle.lnt_header.specs.Laws.Programs.{length-body}
 
 -- want of memory says nothing
 pub memory_not_large : (IsSo : Type 0) (fault : EncodeFault) → fault ≡ Memory → IfTooLarge IsSo fault
@@ -41,8 +40,8 @@ files_large h entries fault same large = record { is_so = λ e. inr (subst (HasL
 pub offset_large : (h : HeaderParts) (program : List ℕ) (fault : EncodeFault) → IfTooLarge (HasLargeOffset h) fault → IfTooLarge (HasLargeOffset h ⊎ IsTooLong h program) fault
 offset_large h program fault large = record { is_so = λ e. inl (large.is_so e) }
 
-pub unit_too_long : (h : HeaderParts) (program fields : List ℕ) (m n : ℕ) (fault : EncodeFault) → IsShortest HeaderFieldsBytes h fields → m ≡ length fields → n ≡ length program
-    → (LengthFits h.format (4 + offset_size h.format + m + n) → ⊥) → IfTooLarge (HasLargeOffset h ⊎ IsTooLong h program) fault
-unit_too_long h program fields m n fault p m_is n_is long =
-    let same : length (unit_body h fields program) ≡ 4 + offset_size h.format + m + n = omega (arith, length-body h fields program, m_is, n_is) in
-    record { is_so = λ e. inr (record { fields = fields; shortest = p; too_long = λ fits. long (subst (LengthFits h.format) same fits) }) }
+pub unit_too_long : (h : HeaderParts) (program fields named : List ℕ) (fault : EncodeFault) → IsShortest HeaderFieldsBytes h fields → named ≡ fields
+    → (fault ≡ TooLarge → LengthFits h.format (length (around h.order h.format h.address_size named program)) → ⊥)
+    → IfTooLarge (HasLargeOffset h ⊎ IsTooLong h program) fault
+unit_too_long h program fields named fault p is long =
+    record { is_so = λ e. inr (record { fields = fields; shortest = p; too_long = subst (λ (z : List ℕ). LengthFits h.format (length (around h.order h.format h.address_size z program)) → ⊥) is (long e) }) }

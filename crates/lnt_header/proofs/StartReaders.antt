@@ -10,9 +10,9 @@ use Rattle.lnt_wire.specs.declared.format.Order.{Order}
 use Rattle.lnt_wire.specs.declared.fault.Fault.{Fault}
 use Rattle.lnt_wire.specs.declared.fault.Reason.{Reason}
 use Rattle.lnt_wire.specs.declared.fault.Reason.TheVariants.{AddressSize, SegmentSelector, HeaderLength}
-use Rattle.lnt_wire.specs.Laws.Codes.{number_code}
-use Rattle.lnt_wire.specs.Laws.Lengths.{same_rest}
-use Rattle.lnt_wire.specs.Laws.Values.{offset_width}
+use Rattle.lnt_wire.proofs.CodeLaws.{number_code}
+use Rattle.lnt_wire.proofs.LengthLaws.{same_rest}
+use Rattle.lnt_wire.proofs.ValueLaws.{offset_width}
 use Rattle.lnt_header.specs.HeaderRules.{IsAddressSize}
 use Rattle.lnt_header.specs.Laws.Tables.{byte_code, one_digit}
 use Rattle.lnt_header.specs.StartBytes.{AddressSizeBytes, IsSizeFault, SelectorBytes, IsSelectorFault, CountedBytes, IsCountedFault, BehindSize, StartBytes, IsStartFault}

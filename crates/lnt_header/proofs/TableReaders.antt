@@ -14,8 +14,8 @@ use Rattle.lnt_wire.specs.declared.format.Format.{Format}
 use Rattle.lnt_wire.specs.declared.format.Order.{Order}
 use Rattle.lnt_wire.specs.declared.fault.Fault.{Fault}
 use Rattle.lnt_wire.specs.declared.fault.Reason.TheVariants.{UnknownForm, EmptyFormat}
-use Rattle.lnt_wire.specs.Laws.Codes.{unsigned_code, number_code}
-use Rattle.lnt_wire.specs.Laws.Lengths.{width_1}
+use Rattle.lnt_wire.proofs.CodeLaws.{unsigned_code, number_code}
+use Rattle.lnt_wire.proofs.LengthLaws.{width_1}
 use Rattle.lnt_header.specs.Joins.{Both, Several, Each}
 use Rattle.lnt_header.specs.Laws.Lists.{several_code}
 use Rattle.lnt_header.specs.Laws.Readers.{refuses_here, moved_field, refuses_field, refuses_map, reads_map, reads_both, first_refused, second_refused, several_refused, reads_none, reads_more}

@@ -5,8 +5,8 @@ use Rattle.lnt_wire.specs.At.{At}
 use Rattle.lnt_wire.specs.Bytes.{IsShortest, Appends}
 use Rattle.lnt_wire.specs.FormBytes.{FormBytes, ValueBytes, HasSpelling, IsTooLarge}
 use Rattle.lnt_wire.specs.InitialLength.{LengthFits}
-use Rattle.lnt_wire.specs.Laws.Codes.{peel_by}
-use Rattle.lnt_wire.specs.Laws.Values.{same_value}
+use Rattle.lnt_wire.proofs.CodeLaws.{peel_by}
+use Rattle.lnt_wire.proofs.ValueLaws.{same_value}
 use Rattle.lnt_wire.specs.Reading.{Reads}
 use Rattle.lnt_wire.specs.declared.form.FormValue.{FormValue}
 use Rattle.lnt_wire.specs.declared.format.Format.{Format}

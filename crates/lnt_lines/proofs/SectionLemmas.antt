@@ -7,8 +7,8 @@ use Rattle.lnt_wire.specs.declared.format.Order.{Order}
 use Rattle.lnt_wire.specs.declared.format.Format.{Format}
 use Rattle.lnt_wire.specs.FrameBytes.{FrameBytes}
 use Rattle.lnt_wire.specs.InitialLength.{initial_length}
-use Rattle.lnt_wire.specs.Laws.Lengths.{length-initial}
-use Rattle.lnt_wire.specs.Laws.Pulls.{pulls_append}
+use Rattle.lnt_wire.proofs.LengthLaws.{length-initial}
+use Rattle.lnt_wire.proofs.PullLaws.{pulls_append}
 use Rattle.lnt_wire.specs.Pulling.{Pulls}
 use Rattle.lnt_stream.specs.declared.stop.SectionStop.{SectionStop}
 use Rattle.lnt_stream.specs.declared.stop.SectionStop.TheVariants as section

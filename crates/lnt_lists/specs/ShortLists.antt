@@ -1,9 +1,9 @@
--- Lists that are mostly short, as they are kept.
+-- What a short list stands for, in each way in which its values are kept.
 use Rattle.std.specs.Prelude.{◌<◌, List, [], length}
 use Rattle.lnt_lists.specs.declared.short_list.Kept.{Kept}
 use Rattle.lnt_lists.specs.declared.short_list.Kept.TheVariants.{Zero, One, Two, Three, More}
 
--- the list of them
+-- the values in order
 abbrev pub listed : {T : Type 0} → Kept T → List T
 listed Zero = []
 listed (One values) = values

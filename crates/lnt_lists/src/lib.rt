@@ -1,4 +1,4 @@
-//! Lists that contracts see as lists, however they are kept.
+//! A list that keeps up to three values without memory of its own. Contracts see it as a plain list.
 #![tactic(auto)]
 
 mod short_list;

@@ -1,4 +1,4 @@
-//! Lists that are mostly short.
+//! Lists that mostly have few values.
 ghost use Rattle.std.specs.Prelude.{◌≡◌, ◌<◌, ◌∷◌, ◌++◌, [], length, IfOk};
 ghost use Rattle.std.specs.Result.{IsOk};
 ghost use Rattle.lnt_lists.specs.ShortLists.{IsKept, listed};
@@ -7,7 +7,7 @@ use std::alloc::{AllocError, Global};
 use std::marker::Model;
 use std::mem;
 
-// Where the values are kept.
+// The values in order: up to three in place, and more of them in a vector on the heap.
 #[derive(Debug, Drop)]
 enum Kept<T> {
     Zero,
@@ -17,7 +17,8 @@ enum Kept<T> {
     More(Vec<T>),
 }
 
-/// Values in order, of which up to three take no memory of their own. A contract sees the list alone.
+/// Values in order. Up to three are kept in the list itself, and more in a vector. A contract sees the list of the values
+/// alone, and not where they are kept.
 #[derive(Debug, Drop)]
 pub struct ShortList<T> {
     kept: Kept<T>,
@@ -35,7 +36,7 @@ impl<T> Model for ShortList<T> {
 }
 
 impl<T> ShortList<T> {
-    /// One value. It takes no memory.
+    /// The list of this one value. It takes no memory.
     #[inline(always)]
     pub fn one(value: T) -> ShortList<T>
         ensures { result ≡ value ∷ [] }
@@ -45,7 +46,7 @@ impl<T> ShortList<T> {
         }
     }
 
-    /// Two values. It takes no memory.
+    /// The list of these two values, in this order. It takes no memory.
     #[inline(always)]
     pub fn two(first: T, second: T) -> ShortList<T>
         ensures { result ≡ first ∷ second ∷ [] }
@@ -55,7 +56,7 @@ impl<T> ShortList<T> {
         }
     }
 
-    /// Three values. It takes no memory.
+    /// The list of these three values, in this order. It takes no memory.
     #[inline(always)]
     pub fn three(first: T, second: T, third: T) -> ShortList<T>
         ensures { result ≡ first ∷ second ∷ third ∷ [] }
@@ -65,7 +66,7 @@ impl<T> ShortList<T> {
         }
     }
 
-    /// The values.
+    /// All values, in order.
     pub fn as_slice(&self) -> &[T]
         ensures { result.now ≡ self.now }
     {
@@ -80,15 +81,16 @@ impl<T> ShortList<T> {
 }
 
 impl<T: Drop> ShortList<T> {
-    /// No values. It takes no memory.
+    /// The empty list. It takes no memory.
     pub fn new() -> ShortList<T>
         ensures { result ≡ [] }
     {
         ShortList { kept: Kept::Zero }
     }
 
-    /// Adds a value behind the others. Up to the third it takes no memory, and is never refused. After the error, that
-    /// memory ran out, nothing is said of the list.
+    /// Adds a value at the end. Up to the third it takes no memory, and is never refused.
+    ///
+    /// The only error is that memory ran out. Nothing is said of the list after it: its values may be lost.
     pub fn push(&mut self, alloc: Global, value: T) -> Result<(), AllocError>
         ensures ok { IfOk result (λ _. self.new ≡ self.old ++ value ∷ []) }
         ensures short { length self.old < 3 → IsOk result }
@@ -101,7 +103,7 @@ impl<T: Drop> ShortList<T> {
     }
 }
 
-// The values and one more.
+// The values, and this one at the end. After an error they are gone.
 fn pushed<T: Drop>(alloc: Global, kept: Kept<T>, value: T) -> Result<Kept<T>, AllocError>
     requires { IsKept kept }
     ensures ok { IfOk result (λ more. listed more ≡ listed kept ++ value ∷ []) }
@@ -120,7 +122,7 @@ fn pushed<T: Drop>(alloc: Global, kept: Kept<T>, value: T) -> Result<Kept<T>, Al
     }
 }
 
-// Three values and one more.
+// The vector of three values, and this one at the end.
 fn four<T: Drop>(alloc: Global, three: [T; 3], value: T) -> Result<Vec<T>, AllocError>
     ensures { IfOk result (λ values. values.items ≡ three ++ value ∷ []) }
 {

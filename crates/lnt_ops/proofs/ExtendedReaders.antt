@@ -8,8 +8,8 @@ use Rattle.lnt_wire.specs.declared.fault.Fault.{Fault}
 use Rattle.lnt_wire.specs.declared.fault.Reason.{Reason}
 use Rattle.lnt_wire.specs.declared.fault.Reason.TheVariants.{Truncated, LebTooLarge}
 use Rattle.lnt_wire.specs.FormBytes.{BlockBytes}
-use Rattle.lnt_wire.specs.Laws.Codes.{unsigned_code, same_leb}
-use Rattle.lnt_wire.specs.Laws.Lengths.{length-number_bytes, same_front, same_rest}
+use Rattle.lnt_wire.proofs.CodeLaws.{unsigned_code, same_leb}
+use Rattle.lnt_wire.proofs.LengthLaws.{length-number_bytes, same_front, same_rest}
 use Rattle.lnt_wire.specs.Leb128.{IsLeb, AreHigh, UnsignedLeb, IsLargeUnsigned, IsLebFault}
 use Rattle.lnt_wire.specs.Numbers.{NumberBytes}
 use Rattle.lnt_wire.specs.Reading.{Reads, RefusesField, Refuses, IsCutShort}

@@ -9,10 +9,10 @@ use Rattle.lnt_wire.specs.Bytes.{Exactly, IsShortest, Appends, Extends}
 use Rattle.lnt_wire.specs.At.{At}
 use Rattle.lnt_wire.specs.Reading.{Reads, RefusesField}
 use Rattle.lnt_wire.specs.declared.fault.Fault.{Fault}
-use Rattle.lnt_wire.specs.Laws.Codes.{unsigned_code}
+use Rattle.lnt_wire.proofs.CodeLaws.{unsigned_code}
 use Rattle.lnt_wire.specs.Leb128.{UnsignedLeb, SignedLeb, IsLargeUnsigned, IsLebFault}
 use Rattle.lnt_wire.specs.Numbers.{NumberBytes}
-use Rattle.lnt_wire.specs.Laws.Lengths.{length-number_bytes}
+use Rattle.lnt_wire.proofs.LengthLaws.{length-number_bytes}
 use Rattle.lnt_header.specs.declared.header.HeaderParts.{HeaderParts}
 use Rattle.lnt_header.specs.declared.op.Op.{Op}
 use Rattle.lnt_header.specs.declared.op.Op.TheVariants.{Special, Copy, AdvancePc, AdvanceLine, SetFile, SetColumn, NegateStmt, SetBasicBlock, ConstAddPc, FixedAdvancePc, SetPrologueEnd, SetEpilogueBegin, SetIsa, UnknownStandard, EndSequence, SetAddress, SetDiscriminator, UnknownExtended}

@@ -5,7 +5,7 @@ use Rattle.std.proofs.lemmas.List.{length-append}
 use Rattle.lnt_wire.specs.declared.format.Order.{Order}
 use Rattle.lnt_wire.specs.Bytes.{Exactly}
 use Rattle.lnt_wire.specs.Laws as wire
-use Rattle.lnt_wire.specs.Laws.Lengths.{length-number_bytes}
+use Rattle.lnt_wire.proofs.LengthLaws.{length-number_bytes}
 use Rattle.lnt_wire.specs.Leb128.{SignedLeb, UnsignedLeb}
 use Rattle.lnt_wire.specs.Numbers.{NumberBytes, number_bytes}
 use Rattle.lnt_wire.specs.Spelled.{HasShortest}

@@ -4,7 +4,7 @@ use Rattle.std.proofs.Math.Seq.{take-append_seam}
 use Rattle.std.proofs.lemmas.List.{length-append}
 use Rattle.lnt_wire.specs.At.{At}
 use Rattle.lnt_wire.specs.declared.fault.Fault.{Fault}
-use Rattle.lnt_wire.specs.Laws.Codes.{unsigned_code}
+use Rattle.lnt_wire.proofs.CodeLaws.{unsigned_code}
 use Rattle.lnt_wire.specs.Leb128.{UnsignedLeb, IsLargeUnsigned, IsLebFault}
 use Rattle.lnt_wire.specs.Reading.{Reads, RefusesField, Refuses}
 use Rattle.lnt_header.specs.declared.header.HeaderParts.{HeaderParts}

@@ -11,7 +11,7 @@ use Rattle.lnt_wire.specs.Numbers.{number_bytes}
 use Rattle.lnt_wire.specs.InitialLength.{initial_length}
 use Rattle.lnt_wire.specs.FrameBytes.{FrameBytes, IsFrame}
 use Rattle.lnt_wire.specs.Reading.{Reads}
-use Rattle.lnt_wire.specs.Laws.Lengths.{length-number_bytes}
+use Rattle.lnt_wire.proofs.LengthLaws.{length-number_bytes}
 use Rattle.lnt_stream.specs.Sizes.{IsLeastSize}
 use Rattle.lnt_stream.specs.Units.{IsSpelled, initial_size}
 

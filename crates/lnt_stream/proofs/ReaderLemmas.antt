@@ -13,7 +13,7 @@ use Rattle.lnt_wire.specs.FrameFaults.IsCutFrame.{no_length}
 use Rattle.lnt_wire.specs.Numbers.{number_bytes}
 use Rattle.lnt_wire.specs.Pulling.{Pulls}
 use Rattle.lnt_wire.specs.Reading.{Refuses}
-use Rattle.lnt_wire.specs.Laws.Frames.{no_frame}
+use Rattle.lnt_wire.proofs.FrameLaws.{no_frame}
 use Rattle.lnt_stream.specs.Units.{SectionEndsBy}
 
 -- ---- a fault of bytes that are not cut is one whatever follows

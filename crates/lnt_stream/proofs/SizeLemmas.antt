@@ -10,8 +10,8 @@ use Rattle.lnt_wire.specs.InitialLength.{initial_length, LengthFits}
 use Rattle.lnt_wire.specs.FrameFaults.{IsCutFrame}
 use Rattle.lnt_wire.specs.FrameFaults.IsCutFrame.{no_length, no_wide_length, too_long}
 use Rattle.lnt_wire.specs.Reading.{Reads}
-use Rattle.lnt_wire.specs.Laws.Frames.{cut_none}
-use Rattle.lnt_wire.specs.Laws.Lengths.{length-number_bytes, width_4, same_number_front, same_length, length-initial}
+use Rattle.lnt_wire.proofs.FrameLaws.{cut_none}
+use Rattle.lnt_wire.proofs.LengthLaws.{length-number_bytes, width_4, same_number_front, same_length, length-initial}
 use Rattle.lnt_stream.specs.Sizes.{IsLeastSize}
 
 -- nothing was taken yet

@@ -4,7 +4,7 @@ use Rattle.std.proofs.Math.Seq.{take-append-add}
 use Rattle.std.proofs.lemmas.List.{length-append, take-append-le, length-take-le}
 use Rattle.lnt_wire.specs.declared.format.Order.{Order}
 use Rattle.lnt_wire.specs.Pulling.{Pulls, GivesMore}
-use Rattle.lnt_wire.specs.Laws.Pulls.{pulls_append}
+use Rattle.lnt_wire.proofs.PullLaws.{pulls_append}
 use Rattle.lnt_stream.specs.Sizes.{IsLeastSize}
 
 -- the front of the room where one more pull wrote behind the front that was filled

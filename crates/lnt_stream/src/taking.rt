@@ -11,7 +11,7 @@ use lnt_wire::{Order, ReadFault, Source, SourceStop};
 const BLOCK: u64 = 1 << 16;
 
 // Puts the next bytes of the source into the room, until it is full or no more come. It answers how many came.
-#[tactic(auto, using(lnt_wire::specs::Laws::Pulls::pulls_none))]
+#[tactic(auto, using(lnt_wire::proofs::PullLaws::pulls_none))]
 fn fill<R: Source>(source: &mut R, room: &mut [u8]) -> Result<usize, ReadFault>
     requires { R.failures source.old < 2 ^ 64 - 1 }
     ensures bound { IfOk result (λ k. k ≤ length room.new) }
@@ -62,7 +62,7 @@ fn take_block<R: Source>(
 // Takes the bytes of the frame that comes next, and none behind them: all of them, or those up to the end of the
 // source. It answers whether all came that can be asked for. No byte is asked for that isn't of the frame, and
 // no more room is reserved than for one block ahead.
-#[tactic(auto, using(lnt_wire::specs::Laws::Pulls::pulls_none, lnt_wire::specs::Laws::Pulls::pulls_more, lnt_wire::specs::Laws::Pulls::more_from_start, crate::proofs::TakingLemmas::least_block, crate::proofs::SizeLemmas::least_nothing))]
+#[tactic(auto, using(lnt_wire::proofs::PullLaws::pulls_none, lnt_wire::proofs::PullLaws::pulls_more, lnt_wire::proofs::PullLaws::more_from_start, crate::proofs::TakingLemmas::least_block, crate::proofs::SizeLemmas::least_nothing))]
 pub(crate) fn take_unit_bytes<R: Source>(
     source: &mut R,
     order: Order,

@@ -1,4 +1,5 @@
-//! The MD5 sums of sources, and whether they are those that a line table lists (DWARF 5, section 6.2.4.1).
+//! The MD5 sum of the bytes of a file, and whether it is the one that a line table lists for it (`DW_LNCT_MD5` of DWARF 5,
+//! section 6.2.4.1).
 #![tactic(auto)]
 
 mod sums;

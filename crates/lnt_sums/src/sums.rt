@@ -1,4 +1,4 @@
-//! Sums of sources, and their comparison with listed ones.
+//! The MD5 sum of a source, and its comparison with the one that is listed.
 ghost use Rattle.std.specs.Prelude.{◌≡◌, ◌≢◌, ℕ, ◌+◌, ◌-◌, ◌^◌, ◌<◌, IfOk, IfSome, IsErrOf, IsTrue, OnOk, false};
 ghost use Rattle.md5.specs.Md5.{md5};
 ghost use Rattle.lnt_wire.specs.Pulling.{HasMoreThan};
@@ -7,32 +7,33 @@ ghost use Rattle.lnt_sums.specs.Agreements.{Agrees};
 use lnt_wire::Source;
 use md5::{Digest, Md5};
 
-/// Why the sum of a source isn't known.
+/// Why the sum of a source isn't known. No sum is given of a part of the bytes.
 #[derive(Clone, Copy, Debug, PartialEq, Eq)]
 pub enum SumStop {
-    /// 34: the source failed.
+    /// 34: the source failed to give its next bytes.
     Read,
-    /// 35: the source has more bytes than it may give.
+    /// 35: the source has more bytes than its limit allows it to give.
     TooLong,
 }
 
-/// Whether the bytes of a source have the sum that is listed for them.
+/// Whether the MD5 sum of a source is the listed one.
 #[derive(Clone, Copy, Debug, PartialEq, Eq)]
 pub enum Agreement {
-    /// Their sum is the listed one.
+    /// The sum of the bytes is the listed one, in all 16 bytes.
     Same,
-    /// Their sum is this one, which isn't the listed one.
+    /// The sum of the bytes is this one, in the order of its bytes as MD5 gives them. It isn't the listed one.
     Differs([u8; 16]),
 }
 
-// How many bytes are asked of a source at once.
+// How many bytes are asked of a source at once. They are kept in the frame of `sum_of`, so no memory is asked for.
 const BLOCK: usize = 1 << 14;
 
-/// The MD5 sum of all bytes that the source has to give. It takes no memory.
+/// The MD5 sum of all bytes that the source has to give, from where it stands to its end. It takes no memory.
 ///
-/// It stops with `Read` only where the source failed, which is not tried again, and with `TooLong` only where the
-/// source is too long. The caller sees to it that the number of failures is below `u64::MAX`.
-#[tactic(auto, using(crate::proofs::SumLemmas::none_summed, crate::proofs::SumLemmas::more_summed, crate::proofs::SumLemmas::all_summed, crate::proofs::SumLemmas::too_many))]
+/// It stops with `Read` only where the source failed, once, which is not tried again, and with `TooLong` only where the
+/// source was found to have more bytes than it may give. The caller sees to it that the source has failed fewer than
+/// `u64::MAX` times.
+#[tactic(auto, using(crate::proofs::SumLemmas::summing))]
 pub fn sum_of<R: Source>(source: &mut R) -> Result<[u8; 16], SumStop>
     requires { R.failures source.old < 2 ^ 64 - 1 }
     ensures ok { IfOk result (λ sum. IfSome (R.remaining source.old) (λ bytes. sum ≡ md5 bytes)) }
@@ -59,13 +60,15 @@ pub fn sum_of<R: Source>(source: &mut R) -> Result<[u8; 16], SumStop>
     Ok(hasher.finalize())
 }
 
-/// Whether the MD5 sum of all bytes that the source has to give is the listed one (DWARF 5, section 6.2.4.1). It takes
-/// no memory.
+/// Whether the MD5 sum of all bytes that the source has to give is the listed one, which an entry of a file table gives
+/// in 16 bytes (`DW_LNCT_MD5` of DWARF 5, section 6.2.4.1). It takes no memory.
 ///
-/// It stops as `sum_of` does. The caller sees to it that the number of failures is below `u64::MAX`.
+/// It stops as `sum_of` does: with `Read` only where the source failed, and with `TooLong` only where it has more bytes
+/// than it may give. The caller sees to it that the source has failed fewer than `u64::MAX` times.
 pub fn md5_agrees<R: Source>(source: &mut R, listed: &[u8; 16]) -> Result<Agreement, SumStop>
     requires { R.failures source.old < 2 ^ 64 - 1 }
-    ensures ok { IfOk result (λ agreement. IfSome (R.remaining source.old) (λ bytes. Agrees agreement (md5 bytes) listed.now)) }
+    ensures ok { IfOk result (λ agreement.
+        IfSome (R.remaining source.old) (λ bytes. Agrees agreement (md5 bytes) listed.now)) }
     ensures not_long { OnOk result (R.too_long source.new ≡ false) }
     ensures read { IsErrOf result SumStop.Read → R.failures source.new ≡ R.failures source.old + 1 }
     ensures no_failure { result ≢ Err SumStop.Read → R.failures source.new ≡ R.failures source.old }

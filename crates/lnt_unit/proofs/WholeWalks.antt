@@ -6,7 +6,7 @@ use Rattle.lnt_wire.specs.declared.fault.Fault.{Fault}
 use Rattle.lnt_wire.specs.declared.format.Order.{Order}
 use Rattle.lnt_wire.specs.FrameBytes.{FrameBytes}
 use Rattle.lnt_wire.specs.InitialLength.{initial_length}
-use Rattle.lnt_wire.specs.Laws.Lengths.{length-initial}
+use Rattle.lnt_wire.proofs.LengthLaws.{length-initial}
 use Rattle.lnt_header.specs.Borrowed.{without_tables}
 use Rattle.lnt_header.specs.OpViews.{StandsFor}
 use Rattle.lnt_header.specs.declared.op.Op.{Op}

@@ -15,8 +15,8 @@ use Rattle.lnt_wire.specs.FrameBytes.{BeginsWithFive, FrameBytes, IsFrame}
 use Rattle.lnt_wire.specs.FrameFaults.{InFrame, IsCutFrame, IsFrameFault, IsInitialFault, IsVersionFault}
 use Rattle.lnt_wire.specs.FrameFaults.IsCutFrame.{no_wide_length, too_long}
 use Rattle.lnt_wire.specs.Reading.{Refuses, RefusesField, Reads, IsCutShort}
-use Rattle.lnt_wire.specs.Laws.Frames.{no_frame}
-use Rattle.lnt_wire.specs.Laws.Lengths.{length-initial}
+use Rattle.lnt_wire.proofs.FrameLaws.{no_frame}
+use Rattle.lnt_wire.proofs.LengthLaws.{length-initial}
 
 -- ---- the exits of the reader
 

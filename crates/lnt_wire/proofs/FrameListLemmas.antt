@@ -7,7 +7,7 @@ use Rattle.lnt_wire.specs.At.{At}
 use Rattle.lnt_wire.specs.FrameBytes.{IsFrame, FramesFrom}
 use Rattle.lnt_wire.specs.InitialLength.{initial_length}
 use Rattle.lnt_wire.specs.Reading.{Reads}
-use Rattle.lnt_wire.specs.Laws.Lengths.{length-initial}
+use Rattle.lnt_wire.proofs.LengthLaws.{length-initial}
 
 -- the frames that were read up to the cursor
 pub record FramesSoFar (order : Order) (bytes : List ℕ) (frames : List Frame) (cursor : At) : Type 0 where

@@ -11,7 +11,7 @@ use Rattle.lnt_wire.specs.declared.fault.Reason.TheVariants.{LebTooLarge}
 use Rattle.lnt_wire.specs.Leb128.{IsLeb, AreHigh, IsShortLeb, IsLargeUnsigned, groups, has_sign, signed_groups, UnsignedLeb, SignedLeb, IsLargeSigned, IsLebFault}
 use Rattle.lnt_wire.specs.At.{At}
 use Rattle.lnt_wire.specs.Reading.{Reads, Skips}
-use Rattle.lnt_wire.specs.Laws.Codes.{same_leb}
+use Rattle.lnt_wire.proofs.CodeLaws.{same_leb}
 use Rattle.lnt_wire.proofs.ReadLemmas.{reads_skipped}
 
 pub high_push : (front : List ℕ) (b : ℕ) → AreHigh front → 128 ≤ b → AreHigh (front ++ b ∷ [])

@@ -1,10 +1,16 @@
+pub mod CodeLaws
+pub mod FirstValueLaws
+pub mod FrameLaws
 pub mod FrameLemmas
 pub mod FrameListLemmas
 pub mod LebLemmas
+pub mod LengthLaws
 pub mod NumberLemmas
+pub mod PullLaws
 pub mod PutLemmas
 pub mod ReadLemmas
 pub mod RefusedForms
 pub mod TextLemmas
+pub mod ValueLaws
 pub mod ValueLemmas
 pub mod SpelledLemmas

@@ -9,7 +9,7 @@ use Rattle.lnt_wire.specs.At.{At}
 use Rattle.lnt_wire.specs.Bytes.{NoneSpelled, TakenBytes}
 use Rattle.lnt_wire.specs.Numbers.{NumberBytes}
 use Rattle.lnt_wire.specs.Reading.{Reads, RefusesField, IsCutShort, Skips}
-use Rattle.lnt_wire.specs.Laws.Lengths.{length-number_bytes}
+use Rattle.lnt_wire.proofs.LengthLaws.{length-number_bytes}
 
 -- no front of the bytes is longer than they are
 none_taken : (count : ℕ) (bytes : List ℕ) → length bytes < count → NoneSpelled (TakenBytes count) bytes

@@ -12,8 +12,8 @@ use Rattle.lnt_wire.specs.Prefixes.{IsLengthFault}
 use Rattle.lnt_wire.specs.FormFaults.IsBlockFault.{no_length, cut_block}
 use Rattle.lnt_wire.specs.Prefixes.{IsPrefixedFault}
 use Rattle.lnt_wire.specs.Reading.{Reads, RefusesField, Skips}
-use Rattle.lnt_wire.specs.Laws.Lengths.{same_rest}
-use Rattle.lnt_wire.specs.Laws.Values.{length_code}
+use Rattle.lnt_wire.proofs.LengthLaws.{same_rest}
+use Rattle.lnt_wire.proofs.ValueLaws.{length_code}
 
 -- ---- texts
 

@@ -1,9 +1,3 @@
-pub mod Codes
-pub mod FirstValues
-pub mod Frames
-pub mod Lengths
-pub mod Pulls
-pub mod Values
 -- What is spelled is read again, whatever follows: no spelling begins another, and each spells one value.
 use Rattle.std.specs.Prelude.{◌≡◌, ℕ, ◌^◌, ◌<◌, List, ℤ, FitsSigned}
 use Rattle.std.specs.Int.{w64}
@@ -40,9 +34,3 @@ pub record SpelledValues : Type 0 where
   pub signed : (z : ℤ) → FitsSigned w64 z → HasShortest SignedLeb z
   pub value : (format : Format) (order : Order) (value : FormValue) → HasSpelling value → FitsForm value → (IsTooLarge format value → ⊥) → HasShortest (FormBytes format order) value
   pub allowed : (format : Format) (order : Order) (value : FormValue) (bytes : List ℕ) → FormBytes format order value bytes → HasSpelling value × FitsForm value × (IsTooLarge format value → ⊥)
-
--- two initial lengths, and what stands behind them, are the same
-pub record SameLength (f g : Format) (m n : ℕ) (r s : List ℕ) : Type 0 where
-  pub format : f ≡ g
-  pub number : m ≡ n
-  pub behind : r ≡ s

@@ -5,19 +5,19 @@
 ghost use Rattle.lnt_wire.specs.Laws.{OneNumber, OneLeb, OneValue, SpelledValues};
 
 /// Fixed-width numbers and offsets, in either order and format (DWARF 5, sections 7.4 and 7.5.5).
-#[tactic(auto, using(crate::specs::Laws::Values::one_number))]
+#[tactic(auto, using(crate::proofs::ValueLaws::one_number))]
 pub fn one_number()
     ensures { OneNumber }
 {}
 
 /// LEB128 numbers, unsigned and signed, padded or not (DWARF 5, section 7.6).
-#[tactic(auto, using(crate::specs::Laws::Values::one_leb))]
+#[tactic(auto, using(crate::proofs::ValueLaws::one_leb))]
 pub fn one_leb()
     ensures { OneLeb }
 {}
 
 /// Values of one form, in either order and format (DWARF 5, section 7.5.6).
-#[tactic(auto, using(crate::specs::Laws::Values::one_value))]
+#[tactic(auto, using(crate::proofs::ValueLaws::one_value))]
 pub fn one_value()
     ensures { OneValue }
 {}

@@ -92,7 +92,7 @@ fn take_block<R: Source>(source: &mut R, all: &mut Vec<u8>) -> Result<usize, Sou
 /// It stops with `Memory`; with `Read` only where the source failed, which is not tried again; and with
 /// `TooLong` only where the source is too long. Nothing is reserved ahead of the bytes that come, but for one
 /// block. The caller sees to it that the number of failures is below `u64::MAX`.
-#[tactic(auto, using(crate::specs::Laws::Pulls::pulls_none, crate::specs::Laws::Pulls::pulls_more, crate::specs::Laws::Pulls::pulls_all, crate::specs::Laws::Pulls::more_from_start))]
+#[tactic(auto, using(crate::proofs::PullLaws::pulls_none, crate::proofs::PullLaws::pulls_more, crate::proofs::PullLaws::pulls_all, crate::proofs::PullLaws::more_from_start))]
 pub fn read_all<R: Source>(alloc: Global, source: &mut R) -> Result<Vec<u8>, SourceStop>
     requires { R.failures source.old < 2 ^ 64 - 1 }
     ensures ok { IfOk result (λ all. IfSome (R.remaining source.old) (λ bytes. all.items ≡ bytes)) }

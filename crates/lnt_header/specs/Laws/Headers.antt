@@ -10,8 +10,8 @@ use Rattle.lnt_wire.specs.declared.format.Format.TheVariants.{D32, D64}
 use Rattle.lnt_wire.specs.Numbers.{number_bytes, offset_size}
 use Rattle.lnt_wire.specs.FrameBytes.{version_five}
 use Rattle.lnt_wire.specs.InitialLength.{initial_length, LengthFits}
-use Rattle.lnt_wire.specs.Laws.Values.{offset_width}
-use Rattle.lnt_wire.specs.Laws.Lengths.{IsWidth, same_front, same_rest, same_number_front, same_length}
+use Rattle.lnt_wire.proofs.ValueLaws.{offset_width}
+use Rattle.lnt_wire.proofs.LengthLaws.{IsWidth, same_front, same_rest, same_number_front, same_length}
 use Rattle.lnt_header.specs.declared.header.Entry.{Entry}
 use Rattle.lnt_header.specs.declared.header.HeaderParts.{HeaderParts}
 use Rattle.lnt_header.specs.declared.header.Pair.{Pair}

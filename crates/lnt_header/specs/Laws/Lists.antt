@@ -1,7 +1,7 @@
 -- Lists of values whose kind is a code have one spelling each. These are proofs: nothing here is to be believed.
 use Rattle.std.proofs.Common.{◌≡◌, ℕ, List, [], ◌∷◌, ◌++◌, length, refl, sym, ◌∙◌, arith}
 use Rattle.lnt_wire.specs.Bytes.{IsCode}
-use Rattle.lnt_wire.specs.Laws.Codes.{peel, same_join}
+use Rattle.lnt_wire.proofs.CodeLaws.{peel, same_join}
 use Rattle.lnt_header.specs.Joins.{Each, Several}
 
 -- lists of as many values have one spelling

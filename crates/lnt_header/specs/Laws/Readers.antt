@@ -7,8 +7,8 @@ use Rattle.lnt_wire.specs.declared.format.Order.{Order}
 use Rattle.lnt_wire.specs.declared.fault.Fault.{Fault}
 use Rattle.lnt_wire.specs.declared.fault.Reason.{Reason}
 use Rattle.lnt_wire.specs.Reading.{Reads, RefusesField, Refuses}
-use Rattle.lnt_wire.specs.Laws.Codes.{peel}
-use Rattle.lnt_wire.specs.Laws.Lengths.{same_rest}
+use Rattle.lnt_wire.proofs.CodeLaws.{peel}
+use Rattle.lnt_wire.proofs.LengthLaws.{same_rest}
 use Rattle.lnt_header.specs.FieldFaults.{IsCutField}
 use Rattle.lnt_header.specs.FieldFaults.IsCutField.{number, text, leb, block, sized_block, operation}
 use Rattle.lnt_header.specs.FirstFaults.{FirstOf, FirstOfSeveral}

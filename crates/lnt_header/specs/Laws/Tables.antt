@@ -7,10 +7,10 @@ use Rattle.lnt_wire.specs.declared.form.Form.{Form}
 use Rattle.lnt_wire.specs.declared.form.FormValue.{FormValue}
 use Rattle.lnt_wire.specs.Bytes.{Exactly, IsCode}
 use Rattle.lnt_wire.specs.FormBytes.{form_code}
-use Rattle.lnt_wire.specs.Laws.Codes.{unsigned_code, peel, peel_by, same_join}
-use Rattle.lnt_wire.specs.Laws.Lengths.{same_front, same_rest}
+use Rattle.lnt_wire.proofs.CodeLaws.{unsigned_code, peel, peel_by, same_join}
+use Rattle.lnt_wire.proofs.LengthLaws.{same_front, same_rest}
 use Rattle.lnt_header.specs.Joins.{Each}
-use Rattle.lnt_wire.specs.Laws.Values.{same_value, same_code}
+use Rattle.lnt_wire.proofs.ValueLaws.{same_value, same_code}
 use Rattle.lnt_wire.specs.Numbers.{number_bytes}
 use Rattle.lnt_header.specs.declared.header.Entry.{Entry}
 use Rattle.lnt_header.specs.declared.header.Pair.{Pair}

@@ -8,8 +8,8 @@ use Rattle.lnt_wire.specs.Reading.{Reads}
 use Rattle.lnt_wire.specs.declared.form.FormValue.{FormValue}
 use Rattle.lnt_wire.specs.declared.format.Format.{Format}
 use Rattle.lnt_wire.specs.declared.format.Order.{Order}
-use Rattle.lnt_wire.specs.Laws.Codes.{peel_by}
-use Rattle.lnt_wire.specs.Laws.Values.{same_value}
+use Rattle.lnt_wire.proofs.CodeLaws.{peel_by}
+use Rattle.lnt_wire.proofs.ValueLaws.{same_value}
 use Rattle.lnt_header.specs.declared.header.Pair.{Pair}
 use Rattle.lnt_header.specs.Laws.Readers.{reads_map}
 use Rattle.lnt_header.specs.Layouts.{entry_of}

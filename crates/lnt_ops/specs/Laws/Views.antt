@@ -1,6 +1,6 @@
 -- A view stands for one operation. These are proofs: nothing here is to be believed.
 use Rattle.std.proofs.Common.{◌≡◌, ℕ, ◌<◌, List, [], ◌∷◌, length, refl, sym, ap, ◌∙◌, arith}
-use Rattle.lnt_wire.specs.Laws.Codes.{unsigned_code}
+use Rattle.lnt_wire.proofs.CodeLaws.{unsigned_code}
 use Rattle.lnt_wire.specs.Leb128.{IsLeb, UnsignedLeb}
 use Rattle.lnt_header.specs.declared.op.Op.{Op}
 use Rattle.lnt_header.specs.declared.op.Op.TheVariants as ops

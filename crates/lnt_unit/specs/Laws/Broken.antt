@@ -6,7 +6,7 @@ use Rattle.lnt_wire.specs.At.{At}
 use Rattle.lnt_wire.specs.FrameBytes.{FrameBytes, version_five}
 use Rattle.lnt_wire.specs.FrameFaults.{InFrame, IsFrameFault}
 use Rattle.lnt_wire.specs.InitialLength.{initial_length, LengthFits}
-use Rattle.lnt_wire.specs.Laws.Lengths.{length-initial}
+use Rattle.lnt_wire.proofs.LengthLaws.{length-initial}
 use Rattle.lnt_wire.specs.Numbers.{number_bytes, offset_size}
 use Rattle.lnt_wire.specs.Reading.{Refuses}
 use Rattle.lnt_wire.specs.declared.fault.Fault.{Fault}

@@ -9,7 +9,7 @@ use Rattle.lnt_wire.specs.declared.fault.Reason.TheVariants.{Truncated, Reserved
 use Rattle.lnt_wire.specs.FrameBytes.{FrameBytes, frame_bytes, version_five}
 use Rattle.lnt_wire.specs.Bytes.{NoneSpelled}
 use Rattle.lnt_wire.specs.FrameFaults.{InFrame, IsCutFrame, IsReserved, IsFrameFault}
-use Rattle.lnt_wire.specs.Laws.Frames.{frame_code, frame_not_cut}
+use Rattle.lnt_wire.proofs.FrameLaws.{frame_code, frame_not_cut}
 use Rattle.lnt_wire.specs.Numbers.{number_bytes, offset_size}
 use Rattle.lnt_header.specs.Broken.{InHeader, UpToLimit, IsAt, IsFirstField}
 use Rattle.lnt_header.specs.Broken.IsFirstField.{frame, start, counted}

@@ -1,6 +1,6 @@
 use Rattle.std.proofs.Common.{◌≡◌, ◌+◌, ◌-◌, ◌≤◌, ◌++◌, take, length, arith, vec_len, replicate}
 use Rattle.std.proofs.lemmas.Grind.{common_steps}
-use Rattle.lnt_wire.specs.Laws.Pulls.{gives_written, front_kept}
+use Rattle.lnt_wire.proofs.PullLaws.{gives_written, front_kept}
 use Rattle.lnt_stream.proofs.taking.take_block.Goals as goal
 
 pub returns-clause-bytes : goal.returns-clause-bytes

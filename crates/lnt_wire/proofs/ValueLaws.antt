@@ -14,8 +14,8 @@ use Rattle.lnt_wire.specs.FormBytes.{form_code, form_of, HasNoZero, BlockBytes, 
 use Rattle.lnt_wire.specs.Prefixes.{LengthBytes}
 use Rattle.lnt_wire.specs.Laws.{OneNumber, OneLeb, OneValue}
 use Rattle.lnt_wire.specs.Numbers.{offset_size}
-use Rattle.lnt_wire.specs.Laws.Codes.{number_code, unsigned_code, signed_code, taken_code, peel, same_join}
-use Rattle.lnt_wire.specs.Laws.Lengths.{IsWidth, width_1, width_2, width_4, width_8, same_front}
+use Rattle.lnt_wire.proofs.CodeLaws.{number_code, unsigned_code, signed_code, taken_code, peel, same_join}
+use Rattle.lnt_wire.proofs.LengthLaws.{IsWidth, width_1, width_2, width_4, width_8, same_front}
 
 pub offset_width : (format : Format) → IsWidth (offset_size format)
 offset_width D32 = width_4

@@ -9,7 +9,6 @@ use Rattle.lnt_wire.specs.declared.format.Format.{Format}
 use Rattle.lnt_wire.specs.declared.format.Format.TheVariants.{D32, D64}
 use Rattle.lnt_wire.specs.Numbers.{number_bytes}
 use Rattle.lnt_wire.specs.InitialLength.{initial_length, LengthFits}
-use Rattle.lnt_wire.specs.Laws.{SameLength}
 
 -- ---- fronts of one length
 
@@ -83,6 +82,12 @@ same_number_front order size width m n r s p q e =
     (width.same order m n p q same, same_rest (number_bytes order size m) (number_bytes order size n) r s same e)
 
 -- ---- initial lengths
+
+-- two initial lengths, and what stands behind them, are the same
+pub record SameLength (f g : Format) (m n : ℕ) (r s : List ℕ) : Type 0 where
+  pub format : f ≡ g
+  pub number : m ≡ n
+  pub behind : r ≡ s
 
 pub length-initial : (format : Format) (order : Order) (n : ℕ) → 4 ≤ length (initial_length format order n)
 length-initial D32 order n = omega (arith, length-number_bytes order 4 n)

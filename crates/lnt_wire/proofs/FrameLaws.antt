@@ -6,7 +6,7 @@ use Rattle.lnt_wire.specs.FrameBytes.{FrameBytes, version_five}
 use Rattle.lnt_wire.specs.FrameFaults.{IsCutFrame, InFrame, IsReserved, IsFrameFault}
 use Rattle.lnt_wire.specs.FrameFaults.IsCutFrame.{no_length, no_wide_length, too_long}
 use Rattle.lnt_wire.specs.InitialLength.{initial_length, LengthFits}
-use Rattle.lnt_wire.specs.Laws.Lengths.{width_4, same_front, same_number_front, same_length, length-initial, length-number_bytes, width_2}
+use Rattle.lnt_wire.proofs.LengthLaws.{width_4, same_front, same_number_front, same_length, length-initial, length-number_bytes, width_2}
 use Rattle.lnt_wire.specs.Numbers.{number_bytes}
 use Rattle.lnt_wire.specs.declared.format.Format.{Format}
 use Rattle.lnt_wire.specs.declared.format.Format.TheVariants.{D32, D64}

@@ -4,7 +4,7 @@ use Rattle.lnt_wire.specs.declared.format.Order.{Order}
 use Rattle.lnt_wire.specs.Bytes.{TakenBytes, Then, IsCode}
 use Rattle.lnt_wire.specs.Leb128.{IsLeb, groups, signed_groups, UnsignedLeb, SignedLeb}
 use Rattle.lnt_wire.specs.Numbers.{NumberBytes}
-use Rattle.lnt_wire.specs.Laws.Lengths.{IsWidth, length-number_bytes, same_front, same_rest}
+use Rattle.lnt_wire.proofs.LengthLaws.{IsWidth, length-number_bytes, same_front, same_rest}
 
 -- ---- numbers in groups of seven bits
 

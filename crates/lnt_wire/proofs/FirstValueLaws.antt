@@ -14,7 +14,7 @@ use Rattle.lnt_wire.specs.FirstValues.{first_number, first_leb, first_text, behi
 use Rattle.lnt_wire.specs.FormBytes.{form_of, HasNoZero, BlockBytes, FormBytes, ValueBytes}
 use Rattle.lnt_wire.specs.Leb128.{IsLeb, groups, UnsignedLeb}
 use Rattle.lnt_wire.specs.Numbers.{NumberBytes, offset_size}
-use Rattle.lnt_wire.specs.Laws.Lengths.{length-number_bytes}
+use Rattle.lnt_wire.proofs.LengthLaws.{length-number_bytes}
 
 number_found : (order : Order) (size n : ℕ) (x more : List ℕ) → NumberBytes order size n x → first_number order size (x ++ more) ≡ n
 number_found Little size n x more p = ap (λ (z : List ℕ). first_number Little size (z ++ more)) p.spelled ∙ little_number-reads_back size n more p.fits
