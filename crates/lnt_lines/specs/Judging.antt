@@ -1,7 +1,7 @@
 -- One unit, judged.
 --     line, general   the bytes of .debug_line_str and of .debug_str
 --     dead            the address at which sequences of dead code begin, where one is given
-use Rattle.std.specs.Prelude.{◌≡◌, ℕ, List, [], ◌∷◌, ◌++◌, length, Option}
+use Rattle.std.specs.Prelude.{◌≡◌, ℕ, List, [], ◌∷◌, ◌++◌, length, drop, Option}
 use Rattle.lnt_wire.specs.declared.fault.Fault.{Fault}
 use Rattle.lnt_stream.specs.Units.{UnitBytes}
 use Rattle.lnt_unit.specs.declared.unit.Parts.{Parts}
@@ -15,6 +15,7 @@ use Rattle.lnt_rows.specs.declared.collected.Collected.{Collected}
 use Rattle.lnt_rows.specs.declared.watch.Watch.{Watch}
 use Rattle.lnt_rows.specs.Sequences.{live_sequences, Placed}
 use Rattle.lnt_rows.specs.Watching.{Collects, CollectsRows, HasSeenAll}
+use Rattle.lnt_lines.specs.declared.judge.SoundUnit.{SoundUnit}
 use Rattle.lnt_lines.specs.declared.no.No.{No}
 use Rattle.lnt_lines.specs.declared.no.No.TheVariants as no
 use Rattle.lnt_lines.specs.declared.refusal.Refusal.{Refusal}
@@ -55,6 +56,10 @@ pub record HasRun (dead : Option ℕ) (view : View) (places : List ℕ) (old new
   pub seen : HasSeenAll dead view.unit.offset (length unit.header.files) watch (rows unit)
   pub collects : (sequences : List Placed) → Collects old sequences → CollectsRows dead view.unit.offset new sequences (rows unit)
   pub kept : Keeps (record { header = view.header; program = view.program; places = places }) unit
+
+-- what is kept of the unit in the buffer: its program goes to the end of the bytes
+abbrev pub kept_of : UnitBytes → SoundUnit → Kept
+kept_of buffer unit = record { header = unit.header; program = drop unit.start buffer.bytes; places = unit.places.items }
 
 -- The bytes of the buffer are those of a sound unit, whose program is kept. What its live sequences hold was collected.
 pub record IsJudgedSound (line general : List ℕ) (dead : Option ℕ) (buffer : UnitBytes) (old new : Collected) (kept : Kept) : Type 0 where

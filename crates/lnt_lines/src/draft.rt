@@ -1,5 +1,5 @@
 //! What is known of a section as far as its units were judged.
-ghost use Rattle.std.specs.Prelude.{◌≡◌, ℕ, List, [], Option, IfOk, OnOk, IfErr};
+ghost use Rattle.std.specs.Prelude.{◌≡◌, ◌≤◌, ℕ, List, [], length, drop, Option, IfOk, OnOk, IfErr};
 ghost use Rattle.lnt_unit.specs.declared.unit.Parts.{Parts};
 ghost use Rattle.lnt_rows.specs.Extents.{IsFirstOverlap};
 ghost use Rattle.lnt_rows.specs.Rules.{AreApart};
@@ -18,7 +18,7 @@ use lnt_machine::Program;
 use lnt_rows::{Collected, Overlap};
 use lnt_stream::UnitBuffer;
 use lnt_wire::Strings;
-use std::alloc::Global;
+use std::alloc::{AllocError, Global};
 
 /// What is known of the units judged so far, all of which are sound.
 #[derive(Drop)]
@@ -43,31 +43,34 @@ impl Draft {
         }
     }
 
-    /// Judges the next unit, and adds it if it is sound. Else it refuses as `judge_unit`. Nothing is said then of the
-    /// draft.
+    /// Judges the next unit, and adds it if it is sound: then it gives memory for the bytes of another unit. Else it
+    /// refuses as `judge_unit`. Nothing is said then of the draft.
     #[tactic(auto, using(crate::proofs::DraftLemmas::added))]
     pub(crate) fn add_unit(
         &mut self,
         alloc: Global,
-        buffer: &UnitBuffer,
+        buffer: UnitBuffer,
         ends: &StringEnds<'_>,
         dead: Option<u64>,
-    ) -> Result<(), Refusal>
-        ensures ok { OnOk result (HasAdded ends.now.line ends.now.general dead buffer.now self.old self.new) }
-        ensures err { IfErr result (IsUnitRefusal ends.now.line ends.now.general dead buffer.now) }
+    ) -> Result<Vec<u8>, Refusal>
+        ensures ok { OnOk result (HasAdded ends.now.line ends.now.general dead buffer self.old self.new) }
+        ensures err { IfErr result (IsUnitRefusal ends.now.line ends.now.general dead buffer) }
     {
         let other = match self.programs.last() {
             Some(program) => Some(program.kept_header()),
             None => None,
         };
-        let program = judge_unit(alloc, buffer, ends, dead, &mut self.collected, other)?;
-        if self.units.push(buffer.offset()).is_err() {
+        let offset = buffer.offset();
+        let unit = judge_unit(alloc, &buffer, ends, dead, &mut self.collected, other)?;
+        let taken = take_program(alloc, buffer.into_bytes(), unit.start)?;
+        let program = Program::of(unit.header, taken.bytes, taken.start, unit.places);
+        if self.units.push(offset).is_err() {
             return Err(Refusal::Stop(Stop::Memory));
         }
         if self.programs.push(program).is_err() {
             return Err(Refusal::Stop(Stop::Memory));
         }
-        Ok(())
+        Ok(taken.room)
     }
 
     /// The index, after the last unit, or the first overlap. The strings are those that the units were judged by.
@@ -87,4 +90,38 @@ impl Draft {
         let entries = collected.entries()?;
         Ok(Index::of(strings, entries, units, programs))
     }
+}
+
+// How many bytes of a program are kept where they are, and not copied.
+const LARGE: usize = 1 << 16;
+
+// A program, which goes to the end of some bytes and begins after so many, and memory for others.
+#[derive(Drop)]
+struct Taken {
+    bytes: Vec<u8>,
+    start: usize,
+    room: Vec<u8>,
+}
+
+// The program that goes to the end of these bytes, and begins after so many. A small one is copied, so that the memory of
+// the bytes is free for others.
+fn take_program(alloc: Global, bytes: Vec<u8>, start: usize) -> Result<Taken, AllocError>
+    requires { start ≤ length bytes.items }
+    ensures program { IfOk result (λ taken. drop taken.start taken.bytes.items ≡ drop start bytes.items) }
+    ensures within { IfOk result (λ taken. taken.start ≤ length taken.bytes.items) }
+{
+    if bytes.len() - start >= LARGE {
+        return Ok(Taken {
+            bytes,
+            start,
+            room: Vec::new(alloc),
+        });
+    }
+    let (_, program) = bytes.split_at(start);
+    let program = Vec::from_slice(alloc, program)?;
+    Ok(Taken {
+        bytes: program,
+        start: 0,
+        room: bytes,
+    })
 }

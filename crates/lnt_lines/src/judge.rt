@@ -1,7 +1,7 @@
 //! One unit, judged.
-ghost use Rattle.std.specs.Prelude.{◌≡◌, IfOk, IfErr, MatchOption};
+ghost use Rattle.std.specs.Prelude.{◌≡◌, ◌≤◌, length, IfOk, IfErr, MatchOption};
 ghost use Rattle.lnt_entries.specs.Tables.{AreUsableTables, IsTablesFault};
-ghost use Rattle.lnt_lines.specs.Judging.{IsJudgedSound, IsUnitRefusal};
+ghost use Rattle.lnt_lines.specs.Judging.{IsJudgedSound, IsUnitRefusal, kept_of};
 ghost use Rattle.lnt_lines.specs.Refusals.{table_no};
 
 use crate::no::No;
@@ -9,14 +9,23 @@ use crate::refusal::Refusal;
 use crate::run::run_unit;
 use lnt_entries::in_place::tables_fault;
 use lnt_entries::{StringEnds, TableFault};
-use lnt_machine::Program;
 use lnt_rows::Collected;
 use lnt_stream::UnitBuffer;
 use lnt_unit::{KeptHeader, UnitInPlace};
 use std::alloc::Global;
 
-/// Judges the unit in the buffer. Of a sound one it gives the program, and adds what its live sequences hold to what is
-/// collected. The program shares the numbers of its header with the other header, if that has the same.
+/// What is kept of a sound unit, but for its program.
+#[derive(Drop)]
+pub(crate) struct SoundUnit {
+    pub header: KeptHeader,
+    /// How many bytes of the unit stand before its program, which goes to the unit's end.
+    pub start: usize,
+    /// Where its sequences begin in the program.
+    pub places: Vec<usize>,
+}
+
+/// Judges the unit in the buffer. Of a sound one it gives what is kept, and adds what its live sequences hold to what is
+/// collected. Its header shares its numbers and formats with the other one, if that has the same.
 ///
 /// It refuses with the first thing that is wrong, in the order of the numbers of `No`, and else with `Memory`. After a
 /// refusal nothing is said of what is collected.
@@ -27,8 +36,9 @@ pub(crate) fn judge_unit(
     dead: Option<u64>,
     collected: &mut Collected,
     other: Option<&KeptHeader>,
-) -> Result<Program, Refusal>
-    ensures sound { IfOk result (IsJudgedSound ends.now.line ends.now.general dead buffer.now collected.old collected.new) }
+) -> Result<SoundUnit, Refusal>
+    ensures sound { IfOk result (λ unit. IsJudgedSound ends.now.line ends.now.general dead buffer.now collected.old collected.new (kept_of buffer.now unit)) }
+    ensures within { IfOk result (λ unit. unit.start ≤ length buffer.now.bytes) }
     ensures err { IfErr result (IsUnitRefusal ends.now.line ends.now.general dead buffer.now) }
 {
     let unit = buffer.offset();
@@ -48,10 +58,14 @@ pub(crate) fn judge_unit(
     if let Some(row) = watch.falls() {
         return Err(Refusal::No(No::Falls { unit, row }));
     }
-    let (header, program) = view.into_parts();
+    let (header, start) = view.into_parts();
     let header = header.keep(alloc, other)?;
-    let bytes = Vec::from_slice(alloc, program)?;
-    Ok(Program::of(header, bytes, places))
+    places.shrink_to_fit();
+    Ok(SoundUnit {
+        header,
+        start,
+        places,
+    })
 }
 
 // What is wrong with the tables of the unit at an offset.

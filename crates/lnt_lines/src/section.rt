@@ -135,8 +135,7 @@ fn judge_units<R: Source>(
     let mut room = Vec::new(alloc);
     let ends = StringEnds::of(*strings);
     while let Some(buffer) = reader.next_unit_in(room)? {
-        draft.add_unit(alloc, &buffer, &ends, options.dead)?;
-        room = buffer.into_bytes();
+        room = draft.add_unit(alloc, buffer, &ends, options.dead)?;
     }
     Ok(draft)
 }

@@ -1,5 +1,5 @@
 //! The program of a unit that runs, kept with the places of its sequences.
-ghost use Rattle.std.specs.Prelude.{◌≡◌, ◌<◌, ◌≤◌, length, slice_index_or, IfNone, IfSome};
+ghost use Rattle.std.specs.Prelude.{◌≡◌, ◌<◌, ◌≤◌, length, drop, slice_index_or, IfNone, IfSome};
 ghost use Rattle.lnt_unit.specs.declared.unit.Parts.{Parts};
 ghost use Rattle.lnt_machine.specs.declared.row.Sequence as spec;
 ghost use Rattle.lnt_machine.specs.Matrix.{sequences};
@@ -13,29 +13,34 @@ use std::marker::Model;
 #[derive(Drop)]
 pub struct Program {
     header: KeptHeader,
+    // The program goes to the end of the bytes, and begins after so many.
     bytes: Vec<u8>,
+    start: usize,
     places: Vec<usize>,
 }
 
 impl Model for Program {
+    ghost use Rattle.std.specs.Prelude.{◌≤◌, length, drop};
     ghost use Rattle.lnt_machine.specs.Walking.{IsKept, Kept};
 
     ghost Value = { Kept };
 
-    ghost view = { λ p. record { header = p.header; program = p.bytes.items; places = p.places.items } };
+    ghost view = { λ p. record { header = p.header; program = drop p.start p.bytes.items; places = p.places.items } };
 
-    ghost invariant = { λ p. IsKept (record { header = p.header; program = p.bytes.items; places = p.places.items }) };
+    ghost invariant = { λ p. IsKept (record { header = p.header; program = drop p.start p.bytes.items; places = p.places.items }) × (p.start ≤ length p.bytes.items) };
 }
 
 impl Program {
-    /// The program of a unit, by its bytes and the places of its sequences.
-    pub fn of(header: KeptHeader, bytes: Vec<u8>, places: Vec<usize>) -> Program
-        requires { IsKept (record { header = header; program = bytes.items; places = places.items }) }
-        ensures { result ≡ record { header = header; program = bytes.items; places = places.items } }
+    /// The program of a unit, by bytes that it is the end of, after so many, and by the places of its sequences.
+    pub fn of(header: KeptHeader, bytes: Vec<u8>, start: usize, places: Vec<usize>) -> Program
+        requires kept { IsKept (record { header = header; program = drop start bytes.items; places = places.items }) }
+        requires within { start ≤ length bytes.items }
+        ensures { result ≡ record { header = header; program = drop start bytes.items; places = places.items } }
     {
         Program {
             header,
             bytes,
+            start,
             places,
         }
     }
@@ -61,6 +66,7 @@ impl Program {
         ensures rows { IfSome result (λ walk. (unit : Parts) (d : spec.Sequence) → Keeps self.now unit → WillGive (slice_index_or (sequences unit) index d).rows walk) }
     {
         let place = *self.places.get(index)?;
-        Some(SequenceRows::at(self.header.numbers(), &self.bytes, place))
+        let (_, program) = self.bytes.split_at(self.start);
+        Some(SequenceRows::at(self.header.numbers(), program, place))
     }
 }

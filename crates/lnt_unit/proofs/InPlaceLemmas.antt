@@ -1,5 +1,11 @@
--- Operations of a unit in a buffer, which are read by its header's numbers, and counted.
-use Rattle.std.proofs.Common.{◌≡◌, ℕ, false}
+-- Operations of a unit in a buffer, which are read by its header's numbers, and counted; and where its program begins.
+use Rattle.std.proofs.Common.{◌≡◌, ℕ, ◌+◌, ◌-◌, ◌≤◌, List, [], ◌∷◌, ◌++◌, length, drop, false, sym, ap, ◌∙◌, append_assoc, arith}
+use Rattle.std.proofs.Math.Seq.{drop-append_seam}
+use Rattle.std.proofs.lemmas.List.{length-append}
+use Rattle.lnt_wire.specs.FrameBytes.{version_five}
+use Rattle.lnt_wire.specs.InitialLength.{initial_length}
+use Rattle.lnt_wire.specs.Numbers.{number_bytes, offset_size}
+use Rattle.lnt_header.specs.HeaderBytes.{unit_body}
 use Rattle.lnt_header.specs.Borrowed.{without_entries}
 use Rattle.lnt_ops.specs.Walks.{Walk, Ends}
 use Rattle.lnt_unit.specs.Laws.Numbers.{given_all_by_numbers}
@@ -12,3 +18,23 @@ counted_none_by_numbers view walk same going place rest order = counted_none (by
 
 pub counted_all_by_numbers : (view : View) (count : ℕ) (old new : Walk) → IsView view → CountedTo (by_numbers view) count old → Ends old new → HasCount view count
 counted_all_by_numbers view count old new is so ends = record { ops = so.ops; spelled = given_all_by_numbers view so.ops old new is so.given ends; count_is = so.count_is }
+
+-- ---- the program goes to the end of the unit
+
+ends_with : (view : View) → IsView view → (front : List ℕ) × (view.unit.bytes ≡ front ++ view.program)
+ends_with view is =
+    let h = view.header in
+    let fields = is.spelled.spelled.fields in
+    let body = unit_body h fields view.program in
+    let start = initial_length h.format h.order (length body) in
+    let before = version_five h.order ++ (h.address_size ∷ 0 ∷ []) ++ number_bytes h.order (offset_size h.format) (length fields) ++ fields in
+    (start ++ before, is.spelled.spelled.joined ∙ sym (append_assoc start before view.program))
+
+pub program_fits : (view : View) → IsView view → length view.program ≤ length view.unit.bytes
+program_fits view is = let whole = ends_with view is in omega (arith, ap length whole.1, length-append whole.0 view.program)
+
+pub program_ends : (view : View) (n : ℕ) → IsView view → n ≡ length view.unit.bytes - length view.program → drop n view.unit.bytes ≡ view.program
+program_ends view n is at =
+    let whole = ends_with view is in
+    let place : n ≡ length whole.0 = omega (arith, at, ap length whole.1, length-append whole.0 view.program) in
+    ap (λ (k : ℕ). drop k view.unit.bytes) place ∙ ap (drop (length whole.0)) whole.1 ∙ drop-append_seam whole.0 view.program

@@ -1,5 +1,5 @@
 //! A unit that lies in a buffer with its directories and files, and its operations one by one.
-ghost use Rattle.std.specs.Prelude.{◌≡◌, ◌≢◌, IfOk, IfErr, false};
+ghost use Rattle.std.specs.Prelude.{◌≡◌, ◌≢◌, ◌≤◌, length, drop, IfOk, IfErr, false};
 ghost use Rattle.lnt_header.specs.Broken.{BrokenHeader};
 ghost use Rattle.lnt_unit.specs.BrokenUnits.{BrokenUnit};
 
@@ -81,17 +81,20 @@ impl<'a> UnitInPlace<'a> {
         self.program
     }
 
-    /// The header and the bytes of the program.
-    pub fn into_parts(self) -> (HeaderInPlace<'a>, &'a [u8])
+    /// The header, and how many bytes of the unit stand before the program, which goes to the unit's end.
+    #[tactic(auto, using(crate::proofs::InPlaceLemmas::program_fits, crate::proofs::InPlaceLemmas::program_ends))]
+    pub fn into_parts(self) -> (HeaderInPlace<'a>, usize)
         ensures header { result.0 ≡ self.entry.header }
-        ensures program { result.1.now ≡ self.entry.program }
+        ensures within { result.1 ≤ length self.entry.unit.bytes }
+        ensures program { drop result.1 self.entry.unit.bytes ≡ self.entry.program }
     {
         let UnitInPlace {
+            buffer,
             header,
             program,
             ..
         } = self;
-        (header, program)
+        (header, buffer.bytes().len() - program.len())
     }
 
     /// The operations in order, each read where it lies. It takes no memory.

@@ -1,10 +1,10 @@
-use Rattle.std.proofs.Common.{◌≡◌, arith, length, subst, sym}
-use Rattle.std.proofs.lemmas.Grind.{common_steps}
+use Rattle.std.proofs.Common.{◌≡◌, ◌∙◌, ap, drop, length, subst, sym}
 use Rattle.std.proofs.lemmas.Result.{err_from_is_err_and}
 use Rattle.lnt_stream.specs.Units.{UnitBytes}
 use Rattle.lnt_machine.specs.Matrix.{rows}
 use Rattle.lnt_machine.specs.Walking.{Kept}
-use Rattle.lnt_lines.specs.Judging.{IsJudgedSound, IsUnitRefusal}
+use Rattle.lnt_lines.specs.declared.judge.SoundUnit.{SoundUnit}
+use Rattle.lnt_lines.specs.Judging.{IsJudgedSound, IsUnitRefusal, kept_of}
 use Rattle.lnt_lines.proofs.JudgeLemmas.{falls_no, judged_sound, missing_no, tables_no}
 use Rattle.lnt_lines.proofs.judge.judge_unit.Goals as goal
 
@@ -49,8 +49,12 @@ returns-clause-sound c =
     let text = c.args.ends.now.line in
     let general = c.args.ends.now.general in
     let run = c.in_ok-watch.ensures.runs in
-    let kept : c.of.result ≡ record { header = c.in_ok-view.view.header; program = c.in_ok-view.view.program; places = c.run_unit.new.places.items } =
-    grind (arith, common_steps) in
+    let parts = c.into_parts-header.ensures in
+    let program : drop c.into_parts-header.result.1 c.args.buffer.now.bytes ≡ c.in_ok-view.view.program =
+    ap (λ (b : UnitBytes). drop c.into_parts-header.result.1 b.bytes) (sym c.in_ok-view.ensures.ok) ∙ parts.program in
+    let unit : SoundUnit = record { header = c.in_ok-header.header; start = c.into_parts-header.result.1; places = c.shrink_to_fit.new.self } in
+    let kept : kept_of c.args.buffer.now unit ≡ record { header = c.in_ok-view.view.header; program = c.in_ok-view.view.program; places = c.run_unit.new.places.items } =
+    cc (c.in_ok-header.ensures, parts.header, program, c.shrink_to_fit.ensures.items) in
     subst (λ (k : Kept). IsJudgedSound text general c.args.dead c.args.buffer.now c.args.collected.now c.run_unit.new.collected k) (sym kept)
     (judged_sound text general c.args.dead c.args.buffer.now c.in_ok-view.view c.header.result c.run_unit.new.places.items c.args.collected.now c.run_unit.new.collected c.in_ok-watch.watch
     c.in_ok-view.ensures.ok run c.header.ensures c.in_default.ensures

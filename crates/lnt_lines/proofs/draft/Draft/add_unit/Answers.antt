@@ -1,7 +1,8 @@
 use Rattle.std.proofs.Common.{arith}
+use Rattle.lnt_lines.specs.Judging.{kept_of}
 use Rattle.lnt_lines.proofs.DraftLemmas.{added}
 use Rattle.lnt_lines.proofs.draft.Draft.add_unit.Goals as goal
 
 pub returns-clause-ok : goal.returns-clause-ok
 returns-clause-ok c =
-    added c.args.ends.now.line c.args.ends.now.general c.args.dead c.args.buffer.now c.args.self.now _ c.offset.result c.in_ok-program.program c.in_ok-program.ensures.sound c.offset.ensures (grind arith) (grind arith)
+    added c.args.ends.now.line c.args.ends.now.general c.args.dead c.args.buffer c.args.self.now _ c.offset-offset.result (kept_of c.args.buffer c.in_ok-unit.unit) c.in_ok-unit.ensures.sound c.offset-offset.ensures (grind arith) (grind arith)
