@@ -7,7 +7,7 @@ use Rattle.lnt_wire.specs.declared.format.Order.{Order}
 use Rattle.lnt_wire.specs.FrameBytes.{FrameBytes}
 use Rattle.lnt_wire.specs.InitialLength.{initial_length}
 use Rattle.lnt_wire.proofs.LengthLaws.{length-initial}
-use Rattle.lnt_header.specs.Borrowed.{without_tables}
+use Rattle.lnt_header.specs.Borrowed.{without_entries}
 use Rattle.lnt_header.specs.OpViews.{StandsFor}
 use Rattle.lnt_header.specs.declared.op.Op.{Op}
 use Rattle.lnt_header.specs.declared.view.OpView.{OpView}
@@ -70,14 +70,14 @@ are_given view items walk so = record { stand = so.stand; admitted = so.given.so
 by_numbers_given : (view : View) (items : List OpView) (ops : List Op) → AreGiven (by_numbers view) items ops → AreGiven view items ops
 by_numbers_given view items ops so = record { stand = so.stand; admitted = so.admitted; few = so.few }
 
-begins_by_numbers : (view : View) (walk : Walk) → walk.header ≡ without_tables view.header → BeginsOf view walk → BeginsOf (by_numbers view) walk
+begins_by_numbers : (view : View) (walk : Walk) → walk.header ≡ without_entries view.header → BeginsOf view walk → BeginsOf (by_numbers view) walk
 begins_by_numbers view walk same b = record { header_is = inl same; place_is = b.place_is; rest_is = b.rest_is; order_is = b.order_is; going = b.going }
 
 -- by the header, or by its numbers
 from_start : (view : View) (start now : Walk) (items : List OpView) → BeginsOf view start → GivesEach items start now → HasWalked view items now ⊎ HasWalked (by_numbers view) items now
 from_start view start now items b gives = by_header b.header_is
   where
-    by_header : (start.header ≡ view.header) ⊎ (start.header ≡ without_tables view.header) → HasWalked view items now ⊎ HasWalked (by_numbers view) items now
+    by_header : (start.header ≡ view.header) ⊎ (start.header ≡ without_entries view.header) → HasWalked view items now ⊎ HasWalked (by_numbers view) items now
     by_header (inl same) = inl (walked view [] items start now (walked_none view start same b) gives)
     by_header (inr same) =
         inr (walked (by_numbers view) [] items start now (walked_none (by_numbers view) start same (begins_by_numbers view start same b)) gives)

@@ -13,7 +13,7 @@ use Rattle.lnt_wire.specs.declared.format.Order.{Order}
 use Rattle.lnt_wire.specs.declared.fault.Fault.{Fault}
 use Rattle.lnt_wire.specs.Bytes.{IsCode}
 use Rattle.lnt_wire.specs.Frames.{EndsBy}
-use Rattle.lnt_header.specs.Borrowed.{without_tables}
+use Rattle.lnt_header.specs.Borrowed.{without_entries}
 use Rattle.lnt_header.specs.HeaderRules.{IsHeader}
 use Rattle.lnt_header.specs.OpRules.{Admits}
 use Rattle.lnt_header.specs.OpViews.{StandsFor}
@@ -51,7 +51,7 @@ pub record AllowedIsSpelled : Type 0 where
 
 -- A walk over the program of a view that has given nothing yet, as `ops` gives it. It reads by the header, or by its numbers alone.
 pub record BeginsOf (view : View) (walk : Walk) : Type 0 where
-  pub header_is : (walk.header ≡ view.header) ⊎ (walk.header ≡ without_tables view.header)
+  pub header_is : (walk.header ≡ view.header) ⊎ (walk.header ≡ without_entries view.header)
   pub place_is : walk.at.place ≡ view.place
   pub rest_is : walk.at.rest ≡ view.program
   pub order_is : walk.at.order ≡ view.header.order

@@ -1,21 +1,18 @@
 //! Units in another format and byte order, each from the bytes in which it stands (DWARF 5, sections 6.2.4 and 7.4).
 ghost use Rattle.std.specs.Prelude.{◌≡◌, ◌≢◌, ◌+◌, length, IfErr, IfOk, OnOk, OnErr};
 ghost use Rattle.lnt_wire.specs.FrameBytes.{frame_bytes, IsPlacedFrame};
-ghost use Rattle.lnt_wire.specs.Bytes.{Appends};
-ghost use Rattle.lnt_header.specs.Encoding.{RefusedPut};
-ghost use Rattle.lnt_header.specs.HeaderBytes.{HeaderBytesIn};
 ghost use Rattle.lnt_unit.specs.BrokenUnits.{BrokenUnit};
 ghost use Rattle.lnt_unit.specs.ConvertedUnits.{ConvertsBytes, ConvertsUnit, IsNextStop, IsToldAs, IsUnitStop, JudgesUnit};
 
 use crate::convert::ConvertFault;
-use lnt_header::{Header, decode_header, encode_header};
+use lnt_header::{put_header_view, view_header};
 use lnt_ops::convert_ops;
 use lnt_wire::{Cursor, EncodeFault, Fault, Format, Frame, Order, Reason, take_frame};
 use std::alloc::Global;
 
 /// Adds the bytes of the unit at the cursor in the format and in the byte order `to`, each LEB128 in its shortest
-/// spelling, and moves the cursor past the unit. The caller sees to it that `order` is the cursor's. It takes the memory
-/// of the converted unit, and no list of its operations.
+/// spelling, and moves the cursor past the unit. The caller sees to it that `order` is the cursor's. Entries and operations
+/// are read where they lie, and written one by one: it takes the memory of the converted unit, and of its parts once more.
 ///
 /// It refuses with `Malformed` where no unit begins the bytes that are left, with the fault of `decode_unit`; with
 /// `TooLarge` and the unit's offset where nothing spells it in the format; and else with `Memory`. Then the cursor is as
@@ -98,37 +95,20 @@ fn convert_frame(
     ensures ok { OnOk result (ConvertsBytes order format to (frame_bytes order frame.now.format frame.now.body.now) out.old.items out.new.items) }
     ensures err { IfErr result (IsUnitStop order format to frame.now.offset (frame_bytes order frame.now.format frame.now.body.now)) }
 {
-    let (header, program) = match decode_header(alloc, frame, order) {
+    let (header, program) = match view_header(alloc, frame, order) {
         Ok(found) => found,
         Err(fault) => return Err(told(fault)),
     };
     let place = end - program.len() as u64;
     let mut converted = Vec::new(alloc);
-    if let Err(fault) = convert_ops(&mut converted, &header, program, place, to) {
+    if let Err(fault) = convert_ops(&mut converted, header.numbers(), program, place, to) {
         return Err(told(fault));
     }
-    let header = header.with_format(format, to);
-    match add_encoded(alloc, &header, &converted, out) {
+    match put_header_view(alloc, out, &header, &converted, format, to) {
         Ok(()) => Ok(()),
         Err(EncodeFault::TooLarge) => Err(ConvertFault::TooLarge(frame.offset)),
         Err(EncodeFault::Memory) => Err(ConvertFault::Memory),
     }
-}
-
-// Adds the bytes of a unit with this header and this program.
-#[tactic(auto, using(lnt_header::specs::Laws::Puts::refused_memory))]
-fn add_encoded(
-    alloc: Global,
-    header: &Header,
-    program: &[u8],
-    out: &mut Vec<u8>,
-) -> Result<(), EncodeFault>
-    ensures ok { OnOk result (Appends (HeaderBytesIn header.now.order) (header.now, program.now) out.old.items out.new.items) }
-    ensures err { IfErr result (λ fault. RefusedPut (HeaderBytesIn header.now.order) (header.now, program.now) fault) }
-{
-    let bytes = encode_header(alloc, header, program)?;
-    out.extend_from_slice(&bytes)?;
-    Ok(())
 }
 
 // The fault, or want of memory.

@@ -8,6 +8,7 @@ use Rattle.lnt_header.specs.declared.op.Op.{Op}
 use Rattle.lnt_header.specs.declared.op.Op.TheVariants.{Special, Copy, AdvancePc, AdvanceLine, SetFile, SetColumn, NegateStmt, SetBasicBlock, ConstAddPc, FixedAdvancePc, SetPrologueEnd, SetEpilogueBegin, SetIsa, UnknownStandard, EndSequence, SetAddress, SetDiscriminator, UnknownExtended}
 use Rattle.lnt_header.specs.HeaderRules.{IsHeader}
 use Rattle.lnt_header.specs.Joins.{Each}
+use Rattle.lnt_header.specs.OpRules.{Admits}
 use Rattle.lnt_header.specs.Laws.Borrowed.{header_without_entries}
 use Rattle.lnt_ops.specs.Laws.Programs.{walk_done, walk_broken}
 use Rattle.lnt_ops.specs.OpBytes.{OpBytes}
@@ -70,6 +71,27 @@ ops_by_numbers h (op ∷ ops) x p = record { front = p.front; back = p.back; fir
 pub numbers_of_ops : (h : HeaderParts) (ops : List Op) (x : List ℕ) → Each (OpBytes h) ops x → Each (OpBytes (without_entries h)) ops x
 numbers_of_ops h [] x p = p
 numbers_of_ops h (op ∷ ops) x p = record { front = p.front; back = p.back; first = numbers_of_op h op p.front p.first; second = numbers_of_ops h ops p.back p.second; joined = p.joined }
+
+-- what a header admits by its numbers
+pub admits_by_numbers : (h : HeaderParts) (op : Op) → Admits (without_entries h) op → Admits h op
+admits_by_numbers h (Special c) a = a
+admits_by_numbers h Copy a = a
+admits_by_numbers h (AdvancePc n) a = a
+admits_by_numbers h (AdvanceLine z) a = a
+admits_by_numbers h (SetFile n) a = a
+admits_by_numbers h (SetColumn n) a = a
+admits_by_numbers h NegateStmt a = a
+admits_by_numbers h SetBasicBlock a = a
+admits_by_numbers h ConstAddPc a = a
+admits_by_numbers h (FixedAdvancePc n) a = a
+admits_by_numbers h SetPrologueEnd a = a
+admits_by_numbers h SetEpilogueBegin a = a
+admits_by_numbers h (SetIsa n) a = a
+admits_by_numbers h (UnknownStandard k operands) a = a
+admits_by_numbers h EndSequence a = a
+admits_by_numbers h (SetAddress address) a = a
+admits_by_numbers h (SetDiscriminator n) a = a
+admits_by_numbers h (UnknownExtended code operand) a = a
 
 -- ---- faults
 

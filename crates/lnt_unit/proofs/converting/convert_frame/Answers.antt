@@ -3,7 +3,7 @@ use Rattle.lnt_wire.specs.FrameBytes.{frame_bytes}
 use Rattle.lnt_wire.specs.declared.fault.Reason.TheVariants.{Memory}
 use Rattle.lnt_unit.specs.BrokenUnits.{BrokenUnit}
 use Rattle.lnt_unit.specs.Laws.Broken.{header_broken, ops_broken}
-use Rattle.lnt_unit.proofs.ConvertedLemmas.{frame_converted, frame_large, told_stop}
+use Rattle.lnt_unit.proofs.ConvertedLemmas.{frame_broken_program, frame_converted, frame_large, told_stop}
 use Rattle.lnt_unit.proofs.UnitReaders.{program_within}
 use Rattle.lnt_unit.proofs.converting.convert_frame.Goals as goal
 
@@ -22,17 +22,17 @@ returns-in-Err-convert_ops-clause-err c =
     let within = program_within c.args.order header program bytes c.in-Ok.ensures.ok in
     let ends : c.args.end - length program + length program ≡ frame.offset + length bytes = omega (arith, c.requires.end, within) in
     let broken : fault.reason ≢ Memory → BrokenUnit c.args.order fault frame.offset bytes =
-    λ some. ops_broken c.args.order header program bytes fault frame.offset _ c.in-Ok.ensures.ok ends (c.in-Err-convert_ops.ensures.err some) in
+    λ some. ops_broken c.args.order header program bytes fault frame.offset _ c.in-Ok.ensures.ok ends (frame_broken_program header c.numbers.result.now _ program fault c.numbers.ensures.numbers (c.in-Err-convert_ops.ensures.err some)) in
     told_stop c.args.order c.args.format c.args.to frame.offset bytes fault c.told-in-Err-convert_ops.result broken c.told-in-Err-convert_ops.ensures
 
-pub returns-in-Ok-add_encoded-clause-ok : goal.returns-in-Ok-add_encoded-clause-ok
-returns-in-Ok-add_encoded-clause-ok c =
-    frame_converted c.args.order c.in-Ok.found.0 c.with_format-header.result c.in-Ok.found.1.now _ c.new-converted.result.items _ c.deref.result.now _ _ c.args.format c.args.to c.in-Ok.ensures.ok c.in_default.ensures.ok
-    c.new-converted.ensures.items c.with_format-header.ensures c.deref.ensures.value c.in-Ok-add_encoded.ensures.ok
+pub returns-in-Ok-put_header_view-clause-ok : goal.returns-in-Ok-put_header_view-clause-ok
+returns-in-Ok-put_header_view-clause-ok c =
+    frame_converted c.args.order c.in-Ok.found.0 c.numbers.result.now c.in-Ok.found.1.now _ c.new-converted.result.items _ c.deref.result.now _ _ c.args.format c.args.to c.in-Ok.ensures.ok c.numbers.ensures.numbers c.in_default.ensures.ok
+    c.new-converted.ensures.items c.deref.ensures.value c.in-Ok-put_header_view.ensures.ok
 
 pub returns-in-Err-TooLarge-clause-err : goal.returns-in-Err-TooLarge-clause-err
 returns-in-Err-TooLarge-clause-err c = (
   refl,
-  frame_large c.args.order c.in-Ok.found.0 c.with_format-header.result c.in-Ok.found.1.now _ c.new-converted.result.items _ c.deref.result.now c.args.format c.args.to _ c.in-Ok.ensures.ok c.in_default.ensures.ok
-      c.new-converted.ensures.items c.with_format-header.ensures c.deref.ensures.value c.in-Err-TooLarge.ensures.err c.in-Err-TooLarge.field-0-is,
+  frame_large c.args.order c.in-Ok.found.0 c.numbers.result.now c.in-Ok.found.1.now _ c.new-converted.result.items _ c.deref.result.now c.args.format c.args.to _ c.in-Ok.ensures.ok c.numbers.ensures.numbers c.in_default.ensures.ok
+      c.new-converted.ensures.items c.deref.ensures.value c.in-Err-TooLarge.ensures.err c.in-Err-TooLarge.field-0-is,
 )
