@@ -1,4 +1,4 @@
--- Units of a section, each as its bytes alone (DWARF 5, sections 6.2.4 and 7.4).
+-- Units of a section, each by its bytes alone (DWARF 5, sections 6.2.4 and 7.4).
 use Rattle.std.specs.Prelude.{◌≡◌, ℕ, ◌+◌, ◌^◌, ◌<◌, List, length, drop, Option, IfSome}
 use Rattle.lnt_wire.specs.declared.format.Order.{Order}
 use Rattle.lnt_wire.specs.declared.format.Format.{Format}
@@ -8,36 +8,40 @@ use Rattle.lnt_wire.specs.FrameBytes.{FrameBytes}
 use Rattle.lnt_wire.specs.Frames.{EndsBy}
 use Rattle.lnt_wire.specs.Pulling.{Pulls}
 
--- the bytes of a unit, the offset in the section of the first of them, and the order of the bytes of its numbers
+-- The bytes of a unit, the offset in the section of the first of them, and the byte order of its numbers.
 pub record UnitBytes : Type 0 where
   pub offset : ℕ
   pub bytes : List ℕ
   pub order : Order
 
--- The bytes are one whole frame, which ends below 2^64.
+-- The bytes are one whole frame, and the offset in the section of its end is below 2^64.
 pub record IsWholeUnit (unit : UnitBytes) : Type 0 where
   pub format : Format
   pub body : List ℕ
   pub spelled : FrameBytes unit.order (format, body) unit.bytes
   pub room : unit.offset + length unit.bytes < 2 ^ 64
 
--- The unit is a whole one at the offset, of the next bytes of a source: of those that it had to give (old), the others are left (new).
+-- The unit is a whole one at the offset, and its bytes are the next of a source: of those that the source had to give (old), the
+-- others are left (new).
 pub record IsNextUnit (offset : ℕ) (order : Order) (old new : Option (List ℕ)) (unit : UnitBytes) : Type 0 where
   pub whole : IsWholeUnit unit
   pub offset_is : unit.offset ≡ offset
   pub order_is : unit.order ≡ order
   pub pulls : Pulls old new unit.bytes
 
--- Where the source tells its bytes, the section ends there: nothing is left; or, with a fault, bytes that no frame begins, for the fault's reason at its place.
+-- The section ends at the offset, where the source tells the bytes that it has to give (remaining): nothing is left; or, with a
+-- fault, some bytes, which begin with no frame, for the fault's reason at its place.
 abbrev pub SectionEndsBy : ℕ → Order → Option (List ℕ) → Option Fault → Type 0
-SectionEndsBy offset order remaining fault = IfSome remaining (λ bytes. EndsBy (record { place = offset; rest = bytes; order = order }) fault)
+SectionEndsBy offset order remaining fault =
+    IfSome remaining (λ bytes. EndsBy (record { place = offset; rest = bytes; order = order }) fault)
 
--- how many bytes an initial length has
+-- how many bytes an initial length has (DWARF 5, section 7.4)
 abbrev pub initial_size : Format → ℕ
 initial_size D32 = 4
 initial_size D64 = 12
 
--- The bytes behind an initial length of the format are the body that it counts, and the last of them stands below 2^64.
+-- The bytes are an initial length of the format and the body that it counts, which are one frame, and the offset in the section of
+-- its end is below 2^64.
 pub record IsSpelled (offset : ℕ) (order : Order) (format : Format) (bytes : List ℕ) : Type 0 where
   pub spelled : FrameBytes order (format, drop (initial_size format) bytes) bytes
   pub room : offset + length bytes < 2 ^ 64

@@ -1,4 +1,4 @@
-//! The bytes of one unit.
+//! The bytes of one unit, from its initial length to its end.
 ghost use Rattle.std.specs.Prelude.{◌≡◌, ◌+◌, ◌^◌, ◌<◌, length, IfOk, IfErr};
 ghost use Rattle.lnt_wire.specs.FrameBytes.{FrameBytes, IsPlacedFrame, frame_bytes};
 ghost use Rattle.lnt_wire.specs.FrameFaults.{IsFrameFault};
@@ -9,10 +9,11 @@ ghost use Rattle.lnt_stream.specs.Units.{IsWholeUnit};
 use lnt_wire::{Cursor, Fault, Format, Frame, Order, take_frame};
 use std::marker::Model;
 
-/// The bytes of one whole unit: its initial length, and the body that it counts, which begins with version 5
-/// (DWARF 5, sections 6.2.4 and 7.4).
+/// The bytes of one whole unit: its initial length, and the body that it counts, which begins with version 5 (DWARF 5,
+/// sections 6.2.4 and 7.4). What else stands in the body isn't judged.
 ///
-/// A `SectionReader` alone makes it. A contract sees the unit's offset, its bytes and the order of its numbers.
+/// A `SectionReader` alone makes one. A contract sees the offset of the unit in the section, its bytes, and the byte order
+/// of its numbers.
 #[derive(Debug, Drop)]
 pub struct UnitBuffer {
     offset: u64,
@@ -32,15 +33,17 @@ impl Model for UnitBuffer {
 }
 
 impl UnitBuffer {
-    // The unit of these bytes, or the fault for which no frame begins them. No frame that begins with these bytes
-    // may be shorter than they are.
+    // The unit that these bytes are, which stands at the offset in the section; or the fault for which they begin with no
+    // frame. The caller sees to it that no frame that begins with these bytes is shorter than they are, so that the frame
+    // is all of them.
     #[tactic(auto, using(crate::proofs::BufferLemmas::spelled_whole))]
     pub(crate) fn of(bytes: Vec<u8>, offset: u64, order: Order) -> Result<UnitBuffer, Fault>
         requires room { offset + length bytes.items < 2 ^ 64 }
         requires least { IsLeastSize order bytes.items (length bytes.items) }
         ensures ok { IfOk result (λ unit. unit ≡ record { offset = offset; bytes = bytes.items; order = order }) }
         ensures whole { IfOk result (λ unit. IsWholeUnit unit) }
-        ensures err { IfErr result (λ fault. Refuses (IsFrameFault order) (FrameBytes order) (record { place = offset; rest = bytes.items; order = order }) fault) }
+        ensures err { IfErr result (λ fault.
+            Refuses (IsFrameFault order) (FrameBytes order) (record { place = offset; rest = bytes.items; order = order }) fault) }
     {
         let format = take_frame(&mut Cursor::new(bytes.as_slice(), offset, order))?.format;
         Ok(UnitBuffer {
@@ -51,15 +54,15 @@ impl UnitBuffer {
         })
     }
 
-    /// The offset in the section of the unit's first byte.
+    /// The offset in the section, in bytes, of the unit's first byte.
     pub fn offset(&self) -> u64
         ensures { result ≡ self.now.offset }
     {
         self.offset
     }
 
-    /// The bytes of the unit, from its initial length to its end. They are one whole frame, and end below 2^64,
-    /// counted from the section's first byte.
+    /// The bytes of the unit, from its initial length to its end. They are one whole frame, and the offset in the section
+    /// of its end is below 2^64.
     pub fn bytes(&self) -> &[u8]
         ensures bytes { result.now ≡ self.now.bytes }
         ensures whole { IsWholeUnit self.now }
@@ -67,8 +70,8 @@ impl UnitBuffer {
         self.bytes.as_slice()
     }
 
-    /// The bytes of the unit, with their memory, for a caller that is done with it: `next_unit_in` reads the next unit
-    /// into the same memory.
+    /// The bytes of the unit as the vector that holds them, which isn't copied, for a caller that is done with the unit:
+    /// `next_unit_in` reads the next unit into the same memory.
     pub fn into_bytes(self) -> Vec<u8>
         ensures { result.items ≡ self.bytes }
     {
@@ -76,14 +79,14 @@ impl UnitBuffer {
         bytes
     }
 
-    /// The order in which the unit's numbers are spelled.
+    /// The byte order of the unit's numbers.
     pub fn order(&self) -> Order
         ensures { result ≡ self.now.order }
     {
         self.order
     }
 
-    /// The frame that the bytes are, at the unit's offset.
+    /// The frame that the bytes are, at the unit's offset: its format, and its body without the initial length.
     pub fn frame(&self) -> Frame<'_>
         ensures offset { result.offset ≡ self.now.offset }
         ensures bytes { frame_bytes self.now.order result.format result.body.now ≡ self.now.bytes }

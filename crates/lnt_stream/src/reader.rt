@@ -1,5 +1,6 @@
-//! A section, read unit by unit.
-ghost use Rattle.std.specs.Prelude.{◌≡◌, ◌≢◌, ℕ, ◌+◌, ◌-◌, ◌^◌, ◌<◌, length, IsTrue, false, IfOk, IfErr, OnErr, IsErrOf, IfSome, IfNone};
+//! The reader of a section, which gives one unit after another.
+ghost use Rattle.std.specs.Prelude.{◌≡◌, ◌≢◌, ℕ, ◌+◌, ◌-◌, ◌^◌, ◌<◌, length};
+ghost use Rattle.std.specs.Prelude.{IsTrue, false, IfOk, IfErr, OnErr, IsErrOf, IfSome, IfNone};
 ghost use Rattle.lnt_wire.specs.Pulling.{HasMoreThan};
 ghost use Rattle.lnt_stream.specs.Stops.{IfFault};
 ghost use Rattle.lnt_stream.specs.Units.{IsNextUnit, SectionEndsBy};
@@ -14,18 +15,18 @@ use std::alloc::Global;
 // Where a reader stands.
 #[derive(Clone, Copy, Debug, PartialEq, Eq)]
 enum Progress {
-    // Before a unit, or at the end of the section.
+    // Before a unit or at the end of the section, which isn't known yet.
     Reading,
-    // Behind the end, which was answered.
+    // After the end of the section, which was answered.
     Ended,
-    // Behind a stop.
+    // After a stop.
     Failed,
 }
 
 /// Reads a section unit by unit from a source, which it borrows.
 ///
-/// A contract sees the source, the order, the offset in the section at which the next unit stands, and the
-/// progress: reading, or ended, or failed.
+/// A contract sees the source, the byte order, the offset in the section at which the next unit stands, and the progress:
+/// reading, or ended, or failed.
 #[derive(Drop)]
 pub struct SectionReader<'s, R: Source> {
     source: &'s mut R,
@@ -39,9 +40,9 @@ pub struct SectionReader<'s, R: Source> {
 impl<'s, R: Source> SectionReader<'s, R> {
     ghost use Rattle.lnt_stream.specs.Steps.{IsStep};
 
-    /// A reader before the first unit of the section that the source has to give, with numbers in this order. It
-    /// takes nothing of the source yet. The caller sees to it that the number of the source's failures is below
-    /// `u64::MAX`.
+    /// A reader before the first unit of the section that the source has to give from where it stands, with numbers in this
+    /// byte order. It takes nothing of the source yet. The caller sees to it that the source has failed fewer than
+    /// `u64::MAX` times.
     pub fn new(source: &'s mut R, order: Order) -> SectionReader<'s, R>
         requires { R.failures source.now < 2 ^ 64 - 1 }
         ensures source { result.source.now ≡ source.entry.now }
@@ -62,24 +63,31 @@ impl<'s, R: Source> SectionReader<'s, R> {
 
     /// The next unit of the section, or none at its end (DWARF 5, sections 6.2.4 and 7.4).
     ///
-    /// The unit's bytes are the next ones of the source, and its offset is the number of all bytes given before.
-    /// None comes only where the section ends behind the last unit, and again in each later call. The source is
-    /// never asked for more bytes than the initial length, or the unit at hand, still needs, and no room is
-    /// reserved further than a block of 64 KiB ahead of the bytes that came.
+    /// The unit's bytes are the next ones of the source, and its offset is the number of bytes of all units before it. None
+    /// comes only where the section ends after the last unit, and again in each later call. The source is never asked for
+    /// more bytes than the initial length, or the unit at hand, still needs, and no memory is reserved for more than 64 KiB
+    /// ahead of the bytes that came.
     ///
-    /// It is stopped by a `Fault` only where bytes are left that no unit begins, which is true of them at its place
-    /// as in `take_frame`: where the section ends within the unit, `Truncated` at the unit's offset; by `Read` only
-    /// where the source failed; by `TooLong` only where it has more bytes than it may give; and by `Memory`. After
-    /// each of them every call answers `Failed`, and leaves the source alone.
+    /// It is stopped by a `Fault` only where bytes are left that begin with no unit: `Truncated` at the unit's offset where
+    /// the section ends within the unit, and the others as in `take_frame`. By `Read` only where the source failed; by
+    /// `TooLong` only where the source has more bytes than it may give; and by `Memory`. From then on every call is stopped
+    /// by `Failed`, and leaves the source alone.
     pub fn next_unit(&mut self, alloc: Global) -> Result<Option<UnitBuffer>, SectionStop>
-        ensures unit { IfOk result (λ got. IfSome got (λ unit. IsNextUnit self.old.offset self.old.order (R.remaining self.old.source.now) (R.remaining self.new.source.now) unit)) }
-        ensures goes_on { IfOk result (λ got. IfSome got (λ unit. (self.new.progress ≡ Progress.Reading) × (self.new.offset ≡ self.old.offset + length unit.bytes))) }
-        ensures left { IfOk result (λ got. IfSome got (λ unit. R.left self.new.source.now + length unit.bytes ≡ R.left self.old.source.now)) }
-        ensures fewer { IfOk result (λ got. IfSome got (λ unit. R.left self.new.source.now < R.left self.old.source.now)) }
-        ensures end { self.old.progress ≡ Progress.Reading → IfOk result (λ got. IfNone got (SectionEndsBy self.old.offset self.old.order (R.remaining self.old.source.now) None)) }
-        ensures not_long { self.old.progress ≡ Progress.Reading → IfOk result (λ got. IfNone got (R.too_long self.new.source.now ≡ false)) }
+        ensures unit { IfOk result (λ got. IfSome got (λ unit.
+            IsNextUnit self.old.offset self.old.order (R.remaining self.old.source.now) (R.remaining self.new.source.now) unit)) }
+        ensures goes_on { IfOk result (λ got. IfSome got (λ unit.
+            (self.new.progress ≡ Progress.Reading) × (self.new.offset ≡ self.old.offset + length unit.bytes))) }
+        ensures left { IfOk result (λ got. IfSome got (λ unit.
+            R.left self.new.source.now + length unit.bytes ≡ R.left self.old.source.now)) }
+        ensures fewer { IfOk result (λ got. IfSome got (λ unit.
+            R.left self.new.source.now < R.left self.old.source.now)) }
+        ensures end { self.old.progress ≡ Progress.Reading → IfOk result (λ got. IfNone got
+            (SectionEndsBy self.old.offset self.old.order (R.remaining self.old.source.now) None)) }
+        ensures not_long { self.old.progress ≡ Progress.Reading → IfOk result (λ got. IfNone got
+            (R.too_long self.new.source.now ≡ false)) }
         ensures ends { IfOk result (λ got. IfNone got (self.new.progress ≡ Progress.Ended)) }
-        ensures fault { IfErr result (λ stop. IfFault stop (λ fault. SectionEndsBy self.old.offset self.old.order (R.remaining self.old.source.now) (Some fault))) }
+        ensures fault { IfErr result (λ stop. IfFault stop (λ fault.
+            SectionEndsBy self.old.offset self.old.order (R.remaining self.old.source.now) (Some fault))) }
         ensures read { IsErrOf result SectionStop.Read → R.failures self.new.source.now ≡ R.failures self.old.source.now + 1 }
         ensures no_failure { result ≢ Err SectionStop.Read → R.failures self.new.source.now ≡ R.failures self.old.source.now }
         ensures too_long { IsErrOf result SectionStop.TooLong → IsTrue (R.too_long self.new.source.now) }
@@ -94,11 +102,11 @@ impl<'s, R: Source> SectionReader<'s, R> {
         self.next_unit_in(Vec::new(alloc))
     }
 
-    /// The next unit of the section, as `next_unit` gives it, with its bytes read into this memory, which grows where
-    /// the unit needs more. What it held before is dropped.
+    /// The next unit of the section, as `next_unit` gives it, with its bytes read into this vector, which grows where the
+    /// unit needs more. What the vector held is dropped.
     ///
-    /// A caller that is done with a unit gets its memory back by `UnitBuffer::into_bytes`, and so reads a whole section
-    /// in the memory of the largest unit.
+    /// A caller that is done with a unit gets the vector back by `UnitBuffer::into_bytes`, and so reads a whole section in the
+    /// memory of its largest unit.
     pub fn next_unit_in(&mut self, room: Vec<u8>) -> Result<Option<UnitBuffer>, SectionStop>
         ensures { IsStep self.old self.new result }
     {
@@ -119,9 +127,9 @@ impl<'s, R: Source> SectionReader<'s, R> {
     }
 }
 
-// The unit that comes next from the source and stands at the offset, or none where the source has ended. Its bytes
-// take the place of those given. After a stop nothing is said of how far the source was read.
-#[tactic(auto, using(crate::proofs::ReaderLemmas::section_ends, crate::proofs::ReaderLemmas::ended_short, crate::proofs::ReaderLemmas::section_refused))]
+// The unit that comes next from the source and stands at the offset in the section, or none where the source has ended. Its
+// bytes take the place of those in `bytes`. After a stop nothing is said of how far the source was read.
+#[tactic(auto, using(crate::proofs::ReaderLemmas::unit_exits))]
 fn take_unit<R: Source>(
     source: &mut R,
     mut bytes: Vec<u8>,
@@ -130,11 +138,13 @@ fn take_unit<R: Source>(
 ) -> Result<Option<UnitBuffer>, SectionStop>
     requires failures { R.failures source.old < 2 ^ 64 - 1 }
     requires room { offset + R.left source.old < 2 ^ 64 }
-    ensures unit { IfOk result (λ got. IfSome got (λ unit. IsNextUnit offset order (R.remaining source.old) (R.remaining source.new) unit)) }
+    ensures unit { IfOk result (λ got. IfSome got (λ unit.
+        IsNextUnit offset order (R.remaining source.old) (R.remaining source.new) unit)) }
     ensures left { IfOk result (λ got. IfSome got (λ unit. R.left source.new + length unit.bytes ≡ R.left source.old)) }
     ensures end { IfOk result (λ got. IfNone got (SectionEndsBy offset order (R.remaining source.old) None)) }
     ensures not_long { IfOk result (λ got. IfNone got (R.too_long source.new ≡ false)) }
-    ensures fault { IfErr result (λ stop. IfFault stop (λ fault. SectionEndsBy offset order (R.remaining source.old) (Some fault))) }
+    ensures fault { IfErr result (λ stop. IfFault stop (λ fault.
+        SectionEndsBy offset order (R.remaining source.old) (Some fault))) }
     ensures read { IsErrOf result SectionStop.Read → R.failures source.new ≡ R.failures source.old + 1 }
     ensures no_failure { result ≢ Err SectionStop.Read → R.failures source.new ≡ R.failures source.old }
     ensures too_long { IsErrOf result SectionStop.TooLong → IsTrue (R.too_long source.new) }

@@ -1,12 +1,13 @@
-//! How many bytes of a unit are still to come (DWARF 5, section 7.4).
+//! How many bytes of a unit may be asked for, by those that came (DWARF 5, section 7.4).
 ghost use Rattle.std.specs.Prelude.{◌≡◌, ◌+◌, ◌<◌, length};
 ghost use Rattle.lnt_wire.specs.FrameFaults.{IsCutFrame};
 ghost use Rattle.lnt_stream.specs.Sizes.{IsLeastSize};
 
 use lnt_wire::{Cursor, Order};
 
-// How many bytes are missing for sure of the frame that begins with these: up to the end of its initial length,
-// and from there on up to its own end. It is 0 where the frame is whole, or its initial length is a reserved one.
+// How many bytes after these surely belong to the frame that begins with these: those up to the end of its initial length,
+// and once that is whole, those up to the end of the frame. It is 0 where the frame is whole, or its initial length is a
+// reserved one.
 pub(crate) fn missing_size(bytes: &[u8], order: Order) -> u64
     ensures least { 0 < result → IsLeastSize order bytes.now (length bytes.now + result) }
     ensures whole { result ≡ 0 → IsCutFrame order bytes.now → ⊥ }
@@ -14,8 +15,8 @@ pub(crate) fn missing_size(bytes: &[u8], order: Order) -> u64
     missing_at(&mut Cursor::new(bytes, 0, order))
 }
 
-// The same of the bytes that a cursor has left. Nothing is said of where the cursor stands then.
-#[tactic(auto, using(crate::proofs::SizeLemmas::least_first, crate::proofs::SizeLemmas::least_second, crate::proofs::SizeLemmas::least_short, crate::proofs::SizeLemmas::least_wide, crate::proofs::SizeLemmas::whole_short, crate::proofs::SizeLemmas::whole_reserved, crate::proofs::SizeLemmas::whole_wide))]
+// The same, of the bytes that a cursor has left. Nothing is said of where the cursor then stands.
+#[tactic(auto, using(crate::proofs::SizeLemmas::sizes))]
 fn missing_at(cursor: &mut Cursor<'_>) -> u64
     ensures least { 0 < result → IsLeastSize cursor.old.order cursor.old.rest (length cursor.old.rest + result) }
     ensures whole { result ≡ 0 → IsCutFrame cursor.old.order cursor.old.rest → ⊥ }

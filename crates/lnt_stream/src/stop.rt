@@ -1,24 +1,43 @@
-//! Why no further unit comes.
-ghost use Rattle.std.specs.Prelude.{◌≡◌};
+//! Why a reader of a section is stopped.
+ghost use Rattle.std.specs.Prelude.{◌≡◌, Some};
 ghost use Rattle.lnt_stream.specs.declared.stop.SectionStop.TheVariants.{Fault as StopFault};
-ghost use Rattle.lnt_stream.specs.Stops.{stop_of};
+ghost use Rattle.lnt_stream.specs.Stops.{stop_of, stop_text};
 
 use lnt_wire::{Fault, SourceStop};
+use std::error::Error;
+use std::fmt;
 
-/// Why no further unit comes.
+/// Why no further unit comes, though the section hasn't ended. The reader is done with it.
 #[derive(Clone, Copy, Debug, PartialEq, Eq)]
 pub enum SectionStop {
-    /// No unit begins the bytes that are left, for a reason from 1 to 3 (DWARF 5, sections 6.2.4 and 7.4).
+    /// The bytes that are left begin with no unit, for a reason from 1 to 3: `Truncated`, `ReservedLength` or
+    /// `VersionNotFive` (DWARF 5, sections 6.2.4 and 7.4).
     Fault(Fault),
-    /// 33: memory ran out. It says nothing of the bytes.
+    /// 33: memory ran out, which says nothing of the bytes.
     Memory,
-    /// 34: the source failed.
+    /// 34: the source failed to give its next bytes.
     Read,
-    /// 35: the source has more bytes than it may give.
+    /// 35: the source has more bytes than its limit allows it to give.
     TooLong,
-    /// 41: an earlier call of the reader was stopped.
+    /// 41: an earlier call of the same reader was stopped.
     Failed,
 }
+
+impl fmt::Display for SectionStop {
+    ghost output = { λ stop. Some (stop_text stop) };
+
+    fn fmt<W: fmt::Write>(&self, f: &mut fmt::Formatter<W>) -> fmt::Result {
+        match *self {
+            SectionStop::Fault(fault) => write!(f, "{fault}"),
+            SectionStop::Memory => write!(f, "out of memory"),
+            SectionStop::Read => write!(f, "cannot read"),
+            SectionStop::TooLong => write!(f, "too long"),
+            SectionStop::Failed => write!(f, "stopped before"),
+        }
+    }
+}
+
+impl Error for SectionStop {}
 
 impl From<Fault> for SectionStop {
     ghost from_gives = { λ fault stop. stop ≡ StopFault fault };

@@ -1,11 +1,14 @@
 //! The MD5 sum of a source, and its comparison with the one that is listed.
-ghost use Rattle.std.specs.Prelude.{◌≡◌, ◌≢◌, ℕ, ◌+◌, ◌-◌, ◌^◌, ◌<◌, IfOk, IfSome, IsErrOf, IsTrue, OnOk, false};
+ghost use Rattle.std.specs.Prelude.{◌≡◌, ◌≢◌, ℕ, ◌+◌, ◌-◌, ◌^◌, ◌<◌, IfOk, IfSome, IsErrOf, IsTrue, OnOk, Some, false};
 ghost use Rattle.md5.specs.Md5.{md5};
 ghost use Rattle.lnt_wire.specs.Pulling.{HasMoreThan};
 ghost use Rattle.lnt_sums.specs.Agreements.{Agrees};
+ghost use Rattle.lnt_sums.specs.SumTexts.{sum_stop_text};
 
 use lnt_wire::Source;
 use md5::{Digest, Md5};
+use std::error::Error;
+use std::fmt;
 
 /// Why the sum of a source isn't known. No sum is given of a part of the bytes.
 #[derive(Clone, Copy, Debug, PartialEq, Eq)]
@@ -15,6 +18,19 @@ pub enum SumStop {
     /// 35: the source has more bytes than its limit allows it to give.
     TooLong,
 }
+
+impl fmt::Display for SumStop {
+    ghost output = { λ stop. Some (sum_stop_text stop) };
+
+    fn fmt<W: fmt::Write>(&self, f: &mut fmt::Formatter<W>) -> fmt::Result {
+        match self {
+            SumStop::Read => write!(f, "cannot read"),
+            SumStop::TooLong => write!(f, "too long"),
+        }
+    }
+}
+
+impl Error for SumStop {}
 
 /// Whether the MD5 sum of a source is the listed one.
 #[derive(Clone, Copy, Debug, PartialEq, Eq)]

@@ -1,4 +1,5 @@
--- A frame has one spelling, which begins no other's, and none where one of its faults is so. These are proofs: nothing here is to be believed.
+-- A frame has one spelling, which is the front of no other frame's; and where a fault of a frame is so, the bytes begin with none.
+-- Crates above cite these.
 use Rattle.std.proofs.Common.{◌≡◌, ℕ, ◌≤◌, List, ◌++◌, length, sym, ap, ◌∙◌, append_assoc, arith, [], ◌∷◌}
 use Rattle.std.proofs.lemmas.List.{length-append, append-nil}
 use Rattle.lnt_wire.specs.Bytes.{IsCode, NoneSpelled}
@@ -15,24 +16,32 @@ use Rattle.lnt_wire.specs.declared.fault.Reason.{Reason}
 use Rattle.lnt_wire.specs.declared.fault.Reason.TheVariants.{Truncated, ReservedLength, VersionNotFive}
 
 -- bytes that begin with an initial length, and as many bytes as it counts, are not cut
-pub cut_none : (order : Order) (format : Format) (n : ℕ) (behind bytes : List ℕ) → LengthFits format n → n ≤ length behind → initial_length format order n ++ behind ≡ bytes → IsCutFrame order bytes → ⊥
-cut_none order format n behind bytes fits le e (no_length lt) = omega (arith, ap length e, length-append (initial_length format order n) behind, length-initial format order n)
+pub cut_none : (order : Order) (format : Format) (n : ℕ) (behind bytes : List ℕ) → LengthFits format n → n ≤ length behind
+    → initial_length format order n ++ behind ≡ bytes → IsCutFrame order bytes → ⊥
+cut_none order format n behind bytes fits le e (no_length lt) =
+    omega (arith, ap length e, length-append (initial_length format order n) behind, length-initial format order n)
 cut_none order D32 n behind bytes fits le e (no_wide_length rest f lt) =
     let found = same_number_front order 4 width_4 n 0xffffffff behind rest (omega arith) (omega arith) (e ∙ f) in
     omega (arith, found.0)
 cut_none order D64 n behind bytes fits le e (no_wide_length rest f lt) =
-    let found = same_number_front order 4 width_4 0xffffffff 0xffffffff (number_bytes order 8 n ++ behind) rest (omega arith) (omega arith) (sym (append_assoc (number_bytes order 4 0xffffffff) (number_bytes order 8 n) behind) ∙ e ∙ f) in
+    let found =
+    same_number_front order 4 width_4 0xffffffff 0xffffffff (number_bytes order 8 n ++ behind) rest (omega arith) (omega arith)
+    (sym (append_assoc (number_bytes order 4 0xffffffff) (number_bytes order 8 n) behind) ∙ e ∙ f) in
     omega (arith, ap length found.1, length-append (number_bytes order 8 n) behind, length-number_bytes order 8 n)
 cut_none order format n behind bytes fits le e (too_long f m rest fits' g lt) =
     let found = same_length order format f n m behind rest fits fits' (e ∙ g) in
     omega (arith, found.number, ap length found.behind)
 
-reserved_none : (order : Order) (format : Format) (n : ℕ) (behind bytes : List ℕ) → LengthFits format n → initial_length format order n ++ behind ≡ bytes → IsReserved order bytes → ⊥
+-- a reserved length begins no frame
+reserved_none : (order : Order) (format : Format) (n : ℕ) (behind bytes : List ℕ) → LengthFits format n
+    → initial_length format order n ++ behind ≡ bytes → IsReserved order bytes → ⊥
 reserved_none order D32 n behind bytes fits e r =
     let found = same_number_front order 4 width_4 n r.n behind r.rest (omega arith) (omega (arith, r.high)) (e ∙ r.joined) in
     omega (arith, found.0, r.low)
 reserved_none order D64 n behind bytes fits e r =
-    let found = same_number_front order 4 width_4 0xffffffff r.n (number_bytes order 8 n ++ behind) r.rest (omega arith) (omega (arith, r.high)) (sym (append_assoc (number_bytes order 4 0xffffffff) (number_bytes order 8 n) behind) ∙ e ∙ r.joined) in
+    let found =
+    same_number_front order 4 width_4 0xffffffff r.n (number_bytes order 8 n ++ behind) r.rest (omega arith) (omega (arith, r.high))
+    (sym (append_assoc (number_bytes order 4 0xffffffff) (number_bytes order 8 n) behind) ∙ e ∙ r.joined) in
     omega (arith, found.0, r.high)
 
 -- two bodies that their initial lengths count at one place are one
@@ -43,14 +52,20 @@ same_body order f g body other more left p q e =
     same_front body other more left found.number found.behind
 
 -- the body of a frame, where another body is known to stand
-in_frame_body : (order : Order) (format g : Format) (body left more before from : List ℕ) → LengthFits format (length body) → InFrame order g [] left before from
+in_frame_body : (order : Order) (format g : Format) (body left more before from : List ℕ) → LengthFits format (length body)
+    → InFrame order g [] left before from
     → initial_length format order (length body) ++ (body ++ more) ≡ before ++ from → body ≡ left
 in_frame_body order format g body left more before from fits h e =
     same_body order format g body left more h.more fits h.fits
-    (e ∙ ap (λ (z : List ℕ). z ++ from) (h.before_is ∙ append-nil (initial_length g order (length left))) ∙ ap (λ (z : List ℕ). initial_length g order (length left) ++ z) h.from_is)
+    (e
+    ∙ ap (λ (z : List ℕ). z ++ from) (h.before_is ∙ append-nil (initial_length g order (length left)))
+    ∙ ap (λ (z : List ℕ). initial_length g order (length left) ++ z) h.from_is)
 
-no_frame_at : (order : Order) (reason : Reason) (before from : List ℕ) → IsFrameFault order reason before from → (format : Format) (body behind more : List ℕ)
-    → LengthFits format (length body) → body ≡ version_five order ++ behind → initial_length format order (length body) ++ (body ++ more) ≡ before ++ from → ⊥
+-- where a fault is so, no initial length and body of version 5 stand there
+no_frame_at : (order : Order) (reason : Reason) (before from : List ℕ) → IsFrameFault order reason before from
+    → (format : Format) (body behind more : List ℕ)
+    → LengthFits format (length body) → body ≡ version_five order ++ behind
+    → initial_length format order (length body) ++ (body ++ more) ≡ before ++ from → ⊥
 no_frame_at order Truncated [] from h format body behind more fits version e =
     cut_none order format (length body) (body ++ more) from fits (omega (arith, length-append body more)) e h
 no_frame_at order Truncated (b ∷ before) from h format body behind more fits version e =
@@ -64,7 +79,8 @@ no_frame_at order (VersionNotFive v) before from h format body behind more fits 
     h.3 found.0
 no_frame_at order reason before from h format body behind more fits version e = absurd h
 
-pub no_frame : (order : Order) (reason : Reason) (before from : List ℕ) → IsFrameFault order reason before from → NoneSpelled (FrameBytes order) (before ++ from)
+pub no_frame : (order : Order) (reason : Reason) (before from : List ℕ) → IsFrameFault order reason before from
+    → NoneSpelled (FrameBytes order) (before ++ from)
 no_frame order reason before from h (format, body) spelling more p e =
     let head = initial_length format order (length body) in
     no_frame_at order reason before from h format body p.version.behind more p.fits p.version.joined
@@ -77,6 +93,7 @@ frame_not_cut order frame bytes p h = cut_none order frame.0 (length frame.1) fr
 same_pair : (u v : Format × List ℕ) → u.0 ≡ v.0 → u.1 ≡ v.1 → u ≡ v
 same_pair (f, x) (g, y) formats bodies = cc (formats, bodies)
 
+-- the format and the body of a frame are a code
 pub frame_code : (order : Order) → IsCode (FrameBytes order)
 frame_code order = record {
   one = λ u v x y r s p q e.
@@ -88,6 +105,10 @@ frame_code order = record {
       let bodies : u.1 ≡ v.1 = same_front u.1 v.1 r s found.number found.behind in
       let starts : initial_length u.0 order (length u.1) ≡ initial_length v.0 order (length v.1) =
       ap (λ (f : Format). initial_length f order (length u.1)) found.format ∙ ap (λ (n : ℕ). initial_length v.0 order n) found.number in
-      let bytes : x ≡ y = p.joined ∙ ap (λ (z : List ℕ). z ++ u.1) starts ∙ ap (λ (z : List ℕ). initial_length v.0 order (length v.1) ++ z) bodies ∙ sym q.joined in
+      let bytes : x ≡ y =
+      p.joined
+      ∙ ap (λ (z : List ℕ). z ++ u.1) starts
+      ∙ ap (λ (z : List ℕ). initial_length v.0 order (length v.1) ++ z) bodies
+      ∙ sym q.joined in
       (same_pair u v found.format bodies, bytes);
 }

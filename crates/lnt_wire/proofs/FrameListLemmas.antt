@@ -1,4 +1,4 @@
--- Frames one behind the other.
+-- A walk over the frames of a section, one after another.
 use Rattle.std.proofs.Common.{◌≡◌, ℕ, ◌+◌, ◌<◌, List, [], ◌∷◌, ◌++◌, length, refl, sym, ap, subst, ◌∙◌, append_assoc, arith}
 use Rattle.std.proofs.lemmas.List.{length-append, append-nil}
 use Rattle.lnt_wire.specs.declared.format.Order.{Order}
@@ -9,7 +9,7 @@ use Rattle.lnt_wire.specs.InitialLength.{initial_length}
 use Rattle.lnt_wire.specs.Reading.{Reads}
 use Rattle.lnt_wire.proofs.LengthLaws.{length-initial}
 
--- the frames that were read up to the cursor
+-- The frames are those of the bytes before the cursor.
 pub record FramesSoFar (order : Order) (bytes : List ℕ) (frames : List Frame) (cursor : At) : Type 0 where
   pub front : List ℕ
   pub whole : bytes ≡ front ++ cursor.rest
@@ -17,14 +17,26 @@ pub record FramesSoFar (order : Order) (bytes : List ℕ) (frames : List Frame) 
   pub place : cursor.place ≡ length front
   pub order_is : cursor.order ≡ order
 
-pub no_frames : (order : Order) (bytes : List ℕ) (cursor : At) → cursor.rest ≡ bytes → cursor.place ≡ 0 → cursor.order ≡ order → FramesSoFar order bytes [] cursor
-no_frames order bytes cursor rest place order_is = record { front = []; whole = sym rest; joined = refl; place = place; order_is = order_is }
+pub no_frames : (order : Order) (bytes : List ℕ) (cursor : At) → cursor.rest ≡ bytes → cursor.place ≡ 0 → cursor.order ≡ order
+    → FramesSoFar order bytes [] cursor
+no_frames order bytes cursor rest place order_is =
+    record { front = []; whole = sym rest; joined = refl; place = place; order_is = order_is }
 
--- one more frame behind others
-frames_push : (order : Order) (offset : ℕ) (frames : List Frame) (frame : Frame) (front more : List ℕ) → FramesFrom order offset frames front
+-- one more frame after others
+frames_push : (order : Order) (offset : ℕ) (frames : List Frame) (frame : Frame) (front more : List ℕ)
+    → FramesFrom order offset frames front
     → frame.offset ≡ offset + length front → IsFrame order frame more → FramesFrom order offset (frames ++ frame ∷ []) (front ++ more)
-frames_push order offset [] frame front more joined here spelled =
-    (more, [], ap (λ (z : List ℕ). z ++ more) joined ∙ sym (append-nil more), here ∙ ap (λ (z : List ℕ). offset + length z) joined ∙ omega arith, spelled, refl)
+frames_push order offset [] frame front more joined here spelled = (
+  more,
+  [],
+  ap (λ (z : List ℕ). z ++ more) joined
+      ∙ sym (append-nil more),
+  here
+      ∙ ap (λ (z : List ℕ). offset + length z) joined
+      ∙ omega arith,
+  spelled,
+  refl,
+)
 frames_push order offset (first ∷ frames) frame front more (a, b, whole, at, spelled_first, rest) here spelled =
     let size : length front ≡ length a + length b = ap length whole ∙ length-append a b in (
       a,
@@ -35,18 +47,31 @@ frames_push order offset (first ∷ frames) frame front more (a, b, whole, at, s
       frames_push order (offset + length a) frames frame b more rest (omega (arith, here, size)) spelled,
     )
 
-pub one_more_frame : (order : Order) (bytes : List ℕ) (frames : List Frame) (frame : Frame) (old new : At) → FramesSoFar order bytes frames old → Reads (IsFrame old.order) frame old new
+pub one_more_frame : (order : Order) (bytes : List ℕ) (frames : List Frame) (frame : Frame) (old new : At)
+    → FramesSoFar order bytes frames old → Reads (IsFrame old.order) frame old new
     → frame.offset ≡ old.place → FramesSoFar order bytes (frames ++ frame ∷ []) new
 one_more_frame order bytes frames frame old new so_far r here = record {
   front = so_far.front ++ r.spelling;
   whole = so_far.whole ∙ ap (λ (z : List ℕ). so_far.front ++ z) r.whole ∙ sym (append_assoc so_far.front r.spelling new.rest);
-  joined = frames_push order 0 frames frame so_far.front r.spelling so_far.joined (omega (arith, here, so_far.place)) (subst (λ (o : Order). IsFrame o frame r.spelling) so_far.order_is r.spelled);
+  joined =
+      frames_push order 0 frames frame so_far.front r.spelling so_far.joined (omega (arith, here, so_far.place))
+      (subst (λ (o : Order). IsFrame o frame r.spelling) so_far.order_is r.spelled);
   place = omega (arith, r.place, so_far.place, length-append so_far.front r.spelling);
   order_is = r.order ∙ so_far.order_is;
 }
 
--- a frame has bytes
+-- a frame has bytes, so the walk ends
 pub frame_long : (order : Order) (frame : Frame) (old new : At) → Reads (IsFrame order) frame old new → length new.rest < length old.rest
 frame_long order frame old new r =
     let head = initial_length frame.format order (length frame.body.now) in
-    omega (arith, ap length r.whole, length-append r.spelling new.rest, ap length r.spelled.spelled.joined, length-append head frame.body.now, length-initial frame.format order (length frame.body.now))
+    omega (
+      arith,
+      ap length r.whole,
+      length-append r.spelling new.rest,
+      ap length r.spelled.spelled.joined,
+      length-append head frame.body.now,
+      length-initial frame.format order (length frame.body.now),
+    )
+
+-- what the walk cites
+pub ruleset frame_walk = (no_frames, one_more_frame, frame_long)

@@ -1,16 +1,20 @@
--- Reading groups of seven bits from the front and from the back.
-use Rattle.std.proofs.Common.{◌≡◌, ℕ, zero, suc, ◌+◌, ◌*◌, ◌%◌, ◌^◌, ◌<◌, ◌≤◌, List, [], ◌∷◌, ◌++◌, length, get_or, take, drop, refl, sym, ap, ◌∙◌, arith, subst, Bool, true, false, cond, leb, add-one, ◌-◌, inl, inr}
+-- LEB128 numbers: their groups read from the front, and summed from the front or from the back.
+use Rattle.std.proofs.Common.{◌≡◌, ℕ, zero, suc, ◌+◌, ◌*◌, ◌%◌, ◌^◌, ◌<◌, ◌≤◌, List, [], ◌∷◌, ◌++◌, length, get_or, take, drop}
+use Rattle.std.proofs.Common.{refl, sym, ap, ◌∙◌, arith, subst, Bool, true, false, cond, leb, add-one, ◌-◌, inl, inr}
 use Rattle.std.specs.Prelude.{ℤ, pos, ◌+ℤ◌, ◌-ℤ◌, ◌*ℤ◌, neg_ℤ, ◌≤ℤ◌, ◌<ℤ◌, FitsSigned}
 use Rattle.std.specs.Int.{w64, w128, cast_signed as to_z, cast_unsigned as of_z}
 use Rattle.std.proofs.lemmas.Int.{ints, to_z-of_z}
 use Rattle.std.proofs.Math.Nat.{pow-suc, pow-le-pow_right, mul_comm, mul_assoc, mul-le-mul_right}
 use Rattle.std.proofs.lemmas.Bool.{lt-leb, le-leb, cases_lt}
-use Rattle.std.proofs.lemmas.List.{take_more, drop_more, take-append-drop, length-take-le, get_or-take}
+use Rattle.std.proofs.lemmas.List.{take_more, take-append-drop, length-take-le, get_or-take}
 use Rattle.lnt_wire.specs.Bytes.{NoneSpelled}
 use Rattle.lnt_wire.specs.declared.fault.Reason.TheVariants.{LebTooLarge}
-use Rattle.lnt_wire.specs.Leb128.{IsLeb, AreHigh, IsShortLeb, IsLargeUnsigned, groups, has_sign, signed_groups, UnsignedLeb, SignedLeb, IsLargeSigned, IsLebFault}
+use Rattle.lnt_wire.specs.Leb128.{IsLeb, AreHigh, IsLargeUnsigned, groups, has_sign, signed_groups, UnsignedLeb, SignedLeb}
+use Rattle.lnt_wire.specs.Leb128.{IsLargeSigned, IsLebFault}
+use Rattle.lnt_wire.specs.ShortLebs.{IsShortLeb}
 use Rattle.lnt_wire.specs.At.{At}
-use Rattle.lnt_wire.specs.Reading.{Reads, Skips}
+use Rattle.lnt_wire.specs.Reading.{Reads}
+use Rattle.lnt_wire.specs.Skipping.{Skips}
 use Rattle.lnt_wire.proofs.CodeLaws.{same_leb}
 use Rattle.lnt_wire.proofs.ReadLemmas.{reads_skipped}
 
@@ -39,11 +43,7 @@ no_leb (b ∷ c ∷ spelling) more (d ∷ bytes) p e h =
     let tails : (c ∷ spelling) ++ more ≡ bytes = cc in
     no_leb (c ∷ spelling) more bytes p.1 tails h.1
 
--- one more group in front
-pub groups_more : (bytes : List ℕ) (i : ℕ) → i < length bytes → groups (drop i bytes) ≡ get_or bytes i 0 % 128 + 128 * groups (drop (i + 1) bytes)
-groups_more bytes i lt = ap groups (drop_more bytes i 0 lt)
-
--- the groups from a place on are at most the whole, and behind the first place at most a 128th of it
+-- the groups from a place on are at most all of them, and after the first place at most a 128th of that
 pub groups_drop : (bytes : List ℕ) (i : ℕ) → groups (drop i bytes) ≤ groups bytes
 groups_drop bytes zero = omega arith
 groups_drop [] (suc i) = omega arith
@@ -60,10 +60,12 @@ groups_after bytes (suc i) h = groups_behind bytes i
 -- groups that are too large are no number, and no other groups stand there
 pub none_large : (bytes : List ℕ) (size : ℕ) → IsLeb (take size bytes) → 2 ^ 64 ≤ groups (take size bytes) → NoneSpelled UnsignedLeb bytes
 none_large bytes size shape large = λ x spelling more p e.
-    let same : spelling ≡ take size bytes = same_leb spelling (take size bytes) more (drop size bytes) p.shape shape (e ∙ sym (take-append-drop size bytes)) in
+    let same : spelling ≡ take size bytes =
+    same_leb spelling (take size bytes) more (drop size bytes) p.shape shape (e ∙ sym (take-append-drop size bytes)) in
     omega (arith, p.value, p.fits, ap groups same)
 
-pub is_large : (bytes : List ℕ) (size : ℕ) → IsLeb (take size bytes) → 2 ^ 64 ≤ groups (take size bytes) → IsLebFault IsLargeUnsigned LebTooLarge bytes
+pub is_large : (bytes : List ℕ) (size : ℕ) → IsLeb (take size bytes) → 2 ^ 64 ≤ groups (take size bytes)
+    → IsLebFault IsLargeUnsigned LebTooLarge bytes
 is_large bytes size shape large = (take size bytes, drop size bytes, shape, large, sym (take-append-drop size bytes))
 
 pub none_cut : (bytes : List ℕ) → AreHigh bytes → NoneSpelled UnsignedLeb bytes
@@ -71,16 +73,19 @@ none_cut bytes high = λ x spelling more p e. no_leb spelling more bytes p.shape
 
 -- ---- signed groups, from the back
 
-signed_step : (low g width whole : ℕ) (s : Bool) → whole ≡ 128 * width → pos (low + 128 * g) -ℤ pos (cond s whole 0) ≡ pos low +ℤ pos 128 *ℤ (pos g -ℤ pos (cond s width 0))
+signed_step : (low g width whole : ℕ) (s : Bool) → whole ≡ 128 * width
+    → pos (low + 128 * g) -ℤ pos (cond s whole 0) ≡ pos low +ℤ pos 128 *ℤ (pos g -ℤ pos (cond s width 0))
 signed_step low g width whole true e = omega (arith, ints)
 signed_step low g width whole false e = omega (arith, ints)
 
 -- one more byte in front of some
 pub signed_more : (b c : ℕ) (bytes : List ℕ) → signed_groups (b ∷ c ∷ bytes) ≡ pos (b % 128) +ℤ pos 128 *ℤ signed_groups (c ∷ bytes)
 signed_more b c bytes =
-    signed_step (b % 128) (groups (c ∷ bytes)) (128 ^ length (c ∷ bytes)) (128 ^ suc (length (c ∷ bytes))) (has_sign (c ∷ bytes)) (omega (arith, pow-suc 128 (length (c ∷ bytes))))
+    signed_step (b % 128) (groups (c ∷ bytes)) (128 ^ length (c ∷ bytes)) (128 ^ suc (length (c ∷ bytes))) (has_sign (c ∷ bytes))
+    (omega (arith, pow-suc 128 (length (c ∷ bytes))))
 
-pub signed_at : (bytes : List ℕ) (i : ℕ) → suc i < length bytes → signed_groups (drop i bytes) ≡ pos (get_or bytes i 0 % 128) +ℤ pos 128 *ℤ signed_groups (drop (suc i) bytes)
+pub signed_at : (bytes : List ℕ) (i : ℕ) → suc i < length bytes
+    → signed_groups (drop i bytes) ≡ pos (get_or bytes i 0 % 128) +ℤ pos 128 *ℤ signed_groups (drop (suc i) bytes)
 signed_at [] i lt = absurd (omega arith)
 signed_at (b ∷ []) i lt = absurd (omega arith)
 signed_at (b ∷ c ∷ bytes) zero lt = signed_more b c bytes
@@ -103,10 +108,12 @@ far_is_large : (z : ℤ) → IsFar (2 ^ 63) z → FitsSigned w64 z → ⊥
 far_is_large z (above h) fits = omega (arith, ints)
 far_is_large z (under h) fits = omega (arith, ints)
 
-pub far_whole : (bytes : List ℕ) (i : ℕ) → suc i < length bytes → IsFar (2 ^ 56) (signed_groups (drop (suc i) bytes)) → IsFar (2 ^ 63) (signed_groups bytes)
+pub far_whole : (bytes : List ℕ) (i : ℕ) → suc i < length bytes → IsFar (2 ^ 56) (signed_groups (drop (suc i) bytes))
+    → IsFar (2 ^ 63) (signed_groups bytes)
 far_whole [] i lt far = absurd (omega arith)
 far_whole (b ∷ []) i lt far = absurd (omega arith)
-far_whole (b ∷ c ∷ bytes) zero lt far = subst (IsFar (2 ^ 63)) (sym (signed_more b c bytes)) (far_more (signed_groups (c ∷ bytes)) (b % 128) (omega arith) far)
+far_whole (b ∷ c ∷ bytes) zero lt far =
+    subst (IsFar (2 ^ 63)) (sym (signed_more b c bytes)) (far_more (signed_groups (c ∷ bytes)) (b % 128) (omega arith) far)
 far_whole (b ∷ c ∷ bytes) (suc i) lt far =
     subst (IsFar (2 ^ 63)) (sym (signed_more b c bytes)) (far_more (signed_groups (c ∷ bytes)) (b % 128) (omega arith)
     (far_less (signed_groups (c ∷ bytes)) (far_whole (c ∷ bytes) i (omega arith) far)))
@@ -129,19 +136,23 @@ end_of (b ∷ c ∷ bytes) p =
     let last : length (b ∷ c ∷ bytes) - 1 ≡ suc (length (c ∷ bytes) - 1) = omega arith in
     record { some = omega arith; low = rw last rest.low; alone = rw last rest.alone }
 
-pub signed_before : (bytes : List ℕ) (i : ℕ) → 0 < i → i < length bytes → signed_groups (drop (i - 1) bytes) ≡ pos (get_or bytes (i - 1) 0 % 128) +ℤ pos 128 *ℤ signed_groups (drop i bytes)
+pub signed_before : (bytes : List ℕ) (i : ℕ) → 0 < i → i < length bytes
+    → signed_groups (drop (i - 1) bytes) ≡ pos (get_or bytes (i - 1) 0 % 128) +ℤ pos 128 *ℤ signed_groups (drop i bytes)
 signed_before bytes zero some lt = absurd (omega arith)
 signed_before bytes (suc i) some lt = let e : suc i - 1 ≡ i = omega arith in rw e (signed_at bytes i lt)
 
 pub none_cut_signed : (bytes : List ℕ) → AreHigh bytes → NoneSpelled SignedLeb bytes
 none_cut_signed bytes high = λ x spelling more p e. no_leb spelling more bytes p.shape e high
 
-pub none_large_signed : (bytes : List ℕ) (size : ℕ) → IsLeb (take size bytes) → IsLargeSigned (take size bytes) → NoneSpelled SignedLeb bytes
+pub none_large_signed : (bytes : List ℕ) (size : ℕ) → IsLeb (take size bytes) → IsLargeSigned (take size bytes)
+    → NoneSpelled SignedLeb bytes
 none_large_signed bytes size shape large = λ x spelling more p e.
-    let same : spelling ≡ take size bytes = same_leb spelling (take size bytes) more (drop size bytes) p.shape shape (e ∙ sym (take-append-drop size bytes)) in
+    let same : spelling ≡ take size bytes =
+    same_leb spelling (take size bytes) more (drop size bytes) p.shape shape (e ∙ sym (take-append-drop size bytes)) in
     large (subst (λ (b : List ℕ). FitsSigned w64 (signed_groups b)) same (subst (FitsSigned w64) p.value p.fits))
 
-pub is_large_signed : (bytes : List ℕ) (size : ℕ) → IsLeb (take size bytes) → IsLargeSigned (take size bytes) → IsLebFault IsLargeSigned LebTooLarge bytes
+pub is_large_signed : (bytes : List ℕ) (size : ℕ) → IsLeb (take size bytes) → IsLargeSigned (take size bytes)
+    → IsLebFault IsLargeSigned LebTooLarge bytes
 is_large_signed bytes size shape large = (take size bytes, drop size bytes, shape, large, sym (take-append-drop size bytes))
 
 -- one byte in two's complement
@@ -159,7 +170,8 @@ pub groups_push : (front : List ℕ) (b : ℕ) → groups (front ++ b ∷ []) �
 groups_push [] b = omega arith
 groups_push (a ∷ front) b =
     let rest = groups_push front b in
-    let moved : 128 * (b % 128 * 128 ^ length front) ≡ b % 128 * 128 ^ suc (length front) = rw (pow-suc 128 (length front)) (mul_comm 128 (b % 128 * 128 ^ length front) ∙ mul_assoc (b % 128) (128 ^ length front) 128) in
+    let moved : 128 * (b % 128 * 128 ^ length front) ≡ b % 128 * 128 ^ suc (length front) =
+    rw (pow-suc 128 (length front)) (mul_comm 128 (b % 128 * 128 ^ length front) ∙ mul_assoc (b % 128) (128 ^ length front) 128) in
     omega (arith, rest, moved)
 
 pub groups_bound : (front : List ℕ) → groups front < 128 ^ length front
@@ -167,12 +179,16 @@ groups_bound [] = omega arith
 groups_bound (a ∷ front) = omega (arith, groups_bound front, pow-suc 128 (length front))
 
 -- one more group of a few
-pub sum_more : (bytes : List ℕ) (i sum scale : ℕ) → i < length bytes → sum ≡ groups (take i bytes) → scale ≡ 128 ^ i → sum + get_or bytes i 0 % 128 * scale ≡ groups (take (i + 1) bytes)
+pub sum_more : (bytes : List ℕ) (i sum scale : ℕ) → i < length bytes → sum ≡ groups (take i bytes) → scale ≡ 128 ^ i
+    → sum + get_or bytes i 0 % 128 * scale ≡ groups (take (i + 1) bytes)
 sum_more bytes i sum scale lt s k =
     let size : length (take i bytes) ≡ i = length-take-le i bytes (omega arith) in
     let step = groups_push (take i bytes) (get_or bytes i 0) in
     let power : 128 ^ length (take i bytes) ≡ scale = ap (λ (n : ℕ). 128 ^ n) size ∙ sym k in
-    ap (λ (n : ℕ). n + get_or bytes i 0 % 128 * scale) s ∙ ap (λ (n : ℕ). groups (take i bytes) + get_or bytes i 0 % 128 * n) (sym power) ∙ sym step ∙ ap groups (sym (take_more bytes i 0 lt))
+    ap (λ (n : ℕ). n + get_or bytes i 0 % 128 * scale) s
+    ∙ ap (λ (n : ℕ). groups (take i bytes) + get_or bytes i 0 % 128 * n) (sym power)
+    ∙ sym step
+    ∙ ap groups (sym (take_more bytes i 0 lt))
 
 pub scale_more : (i scale : ℕ) → scale ≡ 128 ^ i → scale * 128 ≡ 128 ^ (i + 1)
 scale_more i scale k = rw (add-one, pow-suc 128 i, k) refl
@@ -201,7 +217,8 @@ sum_room low sum scale lt s k = let most : low * scale ≤ 127 * scale = mul-le-
 pub no_groups : (bytes : List ℕ) → FewGroups bytes 0 0 1
 no_groups bytes = record { few = omega arith; high = tt; sum_is = refl; scale_is = refl }
 
-pub one_more_group : (bytes : List ℕ) (i sum scale more wider : ℕ) → FewGroups bytes i sum scale → i < 9 → i < length bytes → 128 ≤ get_or bytes i 0 → more ≡ sum + get_or bytes i 0 % 128 * scale → wider ≡ scale * 128
+pub one_more_group : (bytes : List ℕ) (i sum scale more wider : ℕ) → FewGroups bytes i sum scale → i < 9 → i < length bytes
+    → 128 ≤ get_or bytes i 0 → more ≡ sum + get_or bytes i 0 % 128 * scale → wider ≡ scale * 128
     → FewGroups bytes (i + 1) more wider
 one_more_group bytes i sum scale more wider g lt within high m w = record {
   few = omega arith;
@@ -210,7 +227,8 @@ one_more_group bytes i sum scale more wider g lt within high m w = record {
   scale_is = w ∙ scale_more i scale g.scale_is;
 }
 
-pub last_group_found : (bytes : List ℕ) (i sum scale more wider : ℕ) → FewGroups bytes i sum scale → i < 9 → i < length bytes → get_or bytes i 0 < 128 → more ≡ sum + get_or bytes i 0 % 128 * scale → wider ≡ scale * 128
+pub last_group_found : (bytes : List ℕ) (i sum scale more wider : ℕ) → FewGroups bytes i sum scale → i < 9 → i < length bytes
+    → get_or bytes i 0 < 128 → more ≡ sum + get_or bytes i 0 % 128 * scale → wider ≡ scale * 128
     → IsShortLeb (i + 1) more wider bytes
 last_group_found bytes i sum scale more wider g lt within low m w = record {
   within = omega arith;
@@ -219,6 +237,9 @@ last_group_found bytes i sum scale more wider g lt within low m w = record {
   sum_is = m ∙ sum_more bytes i sum scale within g.sum_is g.scale_is;
   scale_is = w ∙ scale_more i scale g.scale_is;
 }
+
+-- what the reader of a few groups cites
+pub ruleset few_groups = (no_groups, one_more_group, last_group_found, scale_fits, sum_fits)
 
 -- a few groups are in range
 pub short_fits : (size sum scale : ℕ) (bytes : List ℕ) → IsShortLeb size sum scale bytes → (sum < scale) × (scale ≤ 2 ^ 63)
@@ -230,7 +251,8 @@ short_fits size sum scale bytes s =
     (omega (arith, bound, power, s.sum_is), omega (arith, le, s.scale_is))
 
 pub short_unsigned : (size sum scale : ℕ) (bytes : List ℕ) → IsShortLeb size sum scale bytes → UnsignedLeb sum (take size bytes)
-short_unsigned size sum scale bytes s = let fits = short_fits size sum scale bytes s in record { shape = s.shape; value = s.sum_is; fits = omega (arith, fits.0, fits.1) }
+short_unsigned size sum scale bytes s =
+    let fits = short_fits size sum scale bytes s in record { shape = s.shape; value = s.sum_is; fits = omega (arith, fits.0, fits.1) }
 
 -- ---- the same in two's complement
 
@@ -251,21 +273,27 @@ pub short_end : (size sum scale : ℕ) (bytes : List ℕ) → IsShortLeb size su
 short_end zero sum scale bytes s = absurd s.shape
 short_end (suc size) sum scale bytes s =
     let is : length (take (suc size) bytes) ≡ suc size = length-take-le (suc size) bytes s.within in
-    let last : get_or (take (suc size) bytes) (suc size - 1) 0 ≡ get_or bytes (suc size - 1) 0 = get_or-take (suc size) bytes (suc size - 1) 0 (omega arith) in
+    let last : get_or (take (suc size) bytes) (suc size - 1) 0 ≡ get_or bytes (suc size - 1) 0 =
+    get_or-take (suc size) bytes (suc size - 1) 0 (omega arith) in
     record {
       some = omega arith;
-      sign = has_sign_last (take (suc size) bytes) s.shape ∙ ap (λ (n : ℕ). leb 64 (get_or (take (suc size) bytes) (n - 1) 0)) is ∙ ap (leb 64) last;
+      sign =
+          has_sign_last (take (suc size) bytes) s.shape
+          ∙ ap (λ (n : ℕ). leb 64 (get_or (take (suc size) bytes) (n - 1) 0)) is
+          ∙ ap (leb 64) last;
       power = ap (λ (n : ℕ). 128 ^ n) is ∙ sym s.scale_is;
     }
 
-pub short_low : (size sum scale : ℕ) (bytes : List ℕ) → IsShortLeb size sum scale bytes → get_or bytes (size - 1) 0 < 64 → SignedLeb (pos sum) (take size bytes)
+pub short_low : (size sum scale : ℕ) (bytes : List ℕ) → IsShortLeb size sum scale bytes → get_or bytes (size - 1) 0 < 64
+    → SignedLeb (pos sum) (take size bytes)
 short_low size sum scale bytes s low =
     let end = short_end size sum scale bytes s in
     let fits = short_fits size sum scale bytes s in
     let sign : has_sign (take size bytes) ≡ false = end.sign ∙ lt-leb 64 (get_or bytes (size - 1) 0) low in
     record { shape = s.shape; value = rw (sign, s.sum_is) (omega (arith, ints)); fits = omega (arith, ints, fits.0, fits.1) }
 
-pub short_high : (size sum scale : ℕ) (bytes : List ℕ) → IsShortLeb size sum scale bytes → 64 ≤ get_or bytes (size - 1) 0 → SignedLeb (pos sum -ℤ pos scale) (take size bytes)
+pub short_high : (size sum scale : ℕ) (bytes : List ℕ) → IsShortLeb size sum scale bytes → 64 ≤ get_or bytes (size - 1) 0
+    → SignedLeb (pos sum -ℤ pos scale) (take size bytes)
 short_high size sum scale bytes s high =
     let end = short_end size sum scale bytes s in
     let fits = short_fits size sum scale bytes s in
@@ -276,10 +304,12 @@ short_high size sum scale bytes s high =
 pub low_computed : (sum : ℕ) → sum < 2 ^ 63 → to_z w64 sum ≡ pos sum
 low_computed sum fits = omega (arith, ints)
 
-pub high_fits : (sum scale : ℕ) (a b : ℤ) → sum < scale → scale ≤ 2 ^ 63 → a ≡ pos sum → b ≡ pos scale → FitsSigned w64 (to_z w128 (of_z w128 (to_z w128 (of_z w128 a) -ℤ to_z w128 (of_z w128 b))))
+pub high_fits : (sum scale : ℕ) (a b : ℤ) → sum < scale → scale ≤ 2 ^ 63 → a ≡ pos sum → b ≡ pos scale
+    → FitsSigned w64 (to_z w128 (of_z w128 (to_z w128 (of_z w128 a) -ℤ to_z w128 (of_z w128 b))))
 high_fits sum scale a b lt le p q = rw (p, q) (omega (arith, ints))
 
-pub high_computed : (sum scale : ℕ) (a b : ℤ) → sum < scale → scale ≤ 2 ^ 63 → a ≡ pos sum → b ≡ pos scale → to_z w64 (of_z w64 (to_z w128 (of_z w128 (to_z w128 (of_z w128 a) -ℤ to_z w128 (of_z w128 b))))) ≡ pos sum -ℤ pos scale
+pub high_computed : (sum scale : ℕ) (a b : ℤ) → sum < scale → scale ≤ 2 ^ 63 → a ≡ pos sum → b ≡ pos scale
+    → to_z w64 (of_z w64 (to_z w128 (of_z w128 (to_z w128 (of_z w128 a) -ℤ to_z w128 (of_z w128 b))))) ≡ pos sum -ℤ pos scale
 high_computed sum scale a b lt le p q = rw (p, q) (omega (arith, ints))
 
 -- ---- numbers of one byte
@@ -293,15 +323,18 @@ one_unsigned bytes some low =
     let small : get_or bytes 0 0 % 128 ≡ get_or bytes 0 0 = omega arith in
     rw (one_taken bytes some) (record { shape = low; value = omega (arith, small); fits = omega arith })
 
-pub reads_one : (old new : At) (bytes : List ℕ) (n : ℕ) → bytes ≡ old.rest → 0 < length bytes → get_or bytes 0 0 < 128 → n ≡ get_or bytes 0 0 → Skips 1 old new → Reads UnsignedLeb n old new
+pub reads_one : (old new : At) (bytes : List ℕ) (n : ℕ) → bytes ≡ old.rest → 0 < length bytes → get_or bytes 0 0 < 128
+    → n ≡ get_or bytes 0 0 → Skips 1 old new → Reads UnsignedLeb n old new
 reads_one old new bytes n same some low is s =
     let spelled : UnsignedLeb n (take 1 old.rest) = rw (← same, is) (one_unsigned bytes some low) in
     reads_skipped UnsignedLeb n 1 old new (omega (arith, ap length same)) spelled s
 
 one_byte_fits : (b : ℕ) → b < 128 → FitsSigned w64 (signed_groups (b ∷ []))
-one_byte_fits b lt = elim (cases_lt b 64) [ inl low ↦ rw (one_low b low) (omega (arith, ints)) | inr high ↦ rw (one_high b high lt) (omega (arith, ints)) ]
+one_byte_fits b lt =
+    elim (cases_lt b 64) [ inl low ↦ rw (one_low b low) (omega (arith, ints)) | inr high ↦ rw (one_high b high lt) (omega (arith, ints)) ]
 
-pub reads_one_signed : (old new : At) (bytes : List ℕ) (z : ℤ) → bytes ≡ old.rest → 0 < length bytes → get_or bytes 0 0 < 128 → z ≡ signed_groups (get_or bytes 0 0 ∷ []) → Skips 1 old new
+pub reads_one_signed : (old new : At) (bytes : List ℕ) (z : ℤ) → bytes ≡ old.rest → 0 < length bytes → get_or bytes 0 0 < 128
+    → z ≡ signed_groups (get_or bytes 0 0 ∷ []) → Skips 1 old new
     → Reads SignedLeb (to_z w64 (of_z w64 z)) old new
 reads_one_signed old new bytes z same some low is s =
     let fits : FitsSigned w64 z = subst (FitsSigned w64) (sym is) (one_byte_fits (get_or bytes 0 0) low) in
@@ -309,6 +342,7 @@ reads_one_signed old new bytes z same some low is s =
     rw (to_z-of_z w64 z fits) (reads_skipped SignedLeb z 1 old new (omega (arith, ap length same)) spelled s)
 
 -- what the code computes of one more byte, from the back
-pub computed_more : (z r low : ℤ) (m : ℕ) → z <ℤ pos (2 ^ 56) → neg_ℤ (pos (2 ^ 56)) ≤ℤ z → low ≡ pos (m % 128) → r ≡ pos (m % 128) +ℤ pos 128 *ℤ z
+pub computed_more : (z r low : ℤ) (m : ℕ) → z <ℤ pos (2 ^ 56) → neg_ℤ (pos (2 ^ 56)) ≤ℤ z → low ≡ pos (m % 128)
+    → r ≡ pos (m % 128) +ℤ pos 128 *ℤ z
     → to_z w64 (of_z w64 (to_z w64 (of_z w64 (z *ℤ pos 128)) +ℤ to_z w64 (of_z w64 low))) ≡ r
 computed_more z r low m high less is e = rw is (omega (arith, ints))

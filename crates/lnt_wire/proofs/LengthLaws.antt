@@ -1,7 +1,8 @@
--- Numbers of a fixed width and initial lengths have one spelling each, of which none begins another's. These are proofs: nothing here is to be believed.
+-- Numbers of a fixed width and initial lengths have one spelling each, which is the front of no other's. Crates above cite these.
 use Rattle.std.proofs.Common.{◌≡◌, ℕ, zero, suc, ◌%◌, ◌^◌, ◌<◌, ◌≤◌, List, [], ◌∷◌, ◌++◌, length, refl, sym, ap, ◌∙◌, append_assoc, arith}
 use Rattle.std.proofs.lemmas.List.{append_cancel_left, length-append}
-use Rattle.std.proofs.lemmas.Nat.{from_le_bytes-to_le_bytes_2, from_be_bytes-to_be_bytes_2, from_le_bytes-to_le_bytes_4, from_be_bytes-to_be_bytes_4, from_le_bytes-to_le_bytes_8, from_be_bytes-to_be_bytes_8}
+use Rattle.std.proofs.lemmas.Nat.{from_le_bytes-to_le_bytes_2, from_be_bytes-to_be_bytes_2, from_le_bytes-to_le_bytes_4}
+use Rattle.std.proofs.lemmas.Nat.{from_be_bytes-to_be_bytes_4, from_le_bytes-to_le_bytes_8, from_be_bytes-to_be_bytes_8}
 use Rattle.std.specs.Int.{w16, w32, w64, from_le_bytes, from_be_bytes, bytes_low_first, bytes_high_first}
 use Rattle.lnt_wire.specs.declared.format.Order.{Order}
 use Rattle.lnt_wire.specs.declared.format.Order.TheVariants.{Little, Big}
@@ -23,7 +24,7 @@ same_front (a ∷ x) (b ∷ y) r s len e =
     let rest : x ≡ y = same_front x y r s n tails in
     cc
 
--- what is behind fronts that are the same
+-- what follows fronts that are the same
 pub same_rest : (x y r s : List ℕ) → x ≡ y → x ++ r ≡ y ++ s → r ≡ s
 same_rest x y r s same e = append_cancel_left y r s (ap (λ (t : List ℕ). t ++ r) (sym same) ∙ e)
 
@@ -78,12 +79,13 @@ pub same_number_front : (order : Order) (size : ℕ) → IsWidth size → (m n :
     → number_bytes order size m ++ r ≡ number_bytes order size n ++ s → (m ≡ n) × (r ≡ s)
 same_number_front order size width m n r s p q e =
     let same : number_bytes order size m ≡ number_bytes order size n =
-    same_front (number_bytes order size m) (number_bytes order size n) r s (length-number_bytes order size m ∙ sym (length-number_bytes order size n)) e in
+    same_front (number_bytes order size m) (number_bytes order size n) r s
+    (length-number_bytes order size m ∙ sym (length-number_bytes order size n)) e in
     (width.same order m n p q same, same_rest (number_bytes order size m) (number_bytes order size n) r s same e)
 
 -- ---- initial lengths
 
--- two initial lengths, and what stands behind them, are the same
+-- two initial lengths, and what follows them, are the same
 pub record SameLength (f g : Format) (m n : ℕ) (r s : List ℕ) : Type 0 where
   pub format : f ≡ g
   pub number : m ≡ n
@@ -91,7 +93,8 @@ pub record SameLength (f g : Format) (m n : ℕ) (r s : List ℕ) : Type 0 where
 
 pub length-initial : (format : Format) (order : Order) (n : ℕ) → 4 ≤ length (initial_length format order n)
 length-initial D32 order n = omega (arith, length-number_bytes order 4 n)
-length-initial D64 order n = omega (arith, length-append (number_bytes order 4 0xffffffff) (number_bytes order 8 n), length-number_bytes order 4 0xffffffff)
+length-initial D64 order n =
+    omega (arith, length-append (number_bytes order 4 0xffffffff) (number_bytes order 8 n), length-number_bytes order 4 0xffffffff)
 
 pub same_length : (order : Order) (f g : Format) (m n : ℕ) (r s : List ℕ) → LengthFits f m → LengthFits g n
     → initial_length f order m ++ r ≡ initial_length g order n ++ s → SameLength f g m n r s
@@ -99,14 +102,20 @@ same_length order D32 D32 m n r s p q e =
     let found = same_number_front order 4 width_4 m n r s (omega arith) (omega arith) e in
     record { format = refl; number = found.0; behind = found.1 }
 same_length order D32 D64 m n r s p q e =
-    let found = same_number_front order 4 width_4 m 0xffffffff r (number_bytes order 8 n ++ s) (omega arith) (omega arith) (e ∙ append_assoc (number_bytes order 4 0xffffffff) (number_bytes order 8 n) s) in
+    let found =
+    same_number_front order 4 width_4 m 0xffffffff r (number_bytes order 8 n ++ s) (omega arith) (omega arith)
+    (e ∙ append_assoc (number_bytes order 4 0xffffffff) (number_bytes order 8 n) s) in
     absurd (omega (arith, found.0))
 same_length order D64 D32 m n r s p q e =
-    let found = same_number_front order 4 width_4 0xffffffff n (number_bytes order 8 m ++ r) s (omega arith) (omega arith) (sym (append_assoc (number_bytes order 4 0xffffffff) (number_bytes order 8 m) r) ∙ e) in
+    let found =
+    same_number_front order 4 width_4 0xffffffff n (number_bytes order 8 m ++ r) s (omega arith) (omega arith)
+    (sym (append_assoc (number_bytes order 4 0xffffffff) (number_bytes order 8 m) r) ∙ e) in
     absurd (omega (arith, found.0))
 same_length order D64 D64 m n r s p q e =
     let tails : number_bytes order 8 m ++ r ≡ number_bytes order 8 n ++ s =
     append_cancel_left (number_bytes order 4 0xffffffff) (number_bytes order 8 m ++ r) (number_bytes order 8 n ++ s)
-    (sym (append_assoc (number_bytes order 4 0xffffffff) (number_bytes order 8 m) r) ∙ e ∙ append_assoc (number_bytes order 4 0xffffffff) (number_bytes order 8 n) s) in
+    (sym (append_assoc (number_bytes order 4 0xffffffff) (number_bytes order 8 m) r)
+    ∙ e
+    ∙ append_assoc (number_bytes order 4 0xffffffff) (number_bytes order 8 n) s) in
     let found = same_number_front order 8 width_8 m n r s p q tails in
     record { format = refl; number = found.0; behind = found.1 }

@@ -1,5 +1,6 @@
--- Pulls in a row, and what they put behind the bytes that were taken. These are proofs: nothing here is to be believed.
-use Rattle.std.proofs.Common.{◌≡◌, ℕ, ◌+◌, ◌≤◌, List, [], ◌++◌, length, take, Option, Some, None, IfSome, sym, ap, ◌∙◌, append_assoc, append-nil, refl, arith}
+-- Pulls one after another, and what they add after the bytes that were taken. Crates above cite these.
+use Rattle.std.proofs.Common.{◌≡◌, ℕ, ◌+◌, ◌≤◌, List, [], ◌++◌, length, take, Option, Some, None, IfSome, sym, ap, ◌∙◌, append_assoc}
+use Rattle.std.proofs.Common.{append-nil, refl, arith}
 use Rattle.std.proofs.Math.Seq.{take-append-add, take-append_seam, take-take}
 use Rattle.std.proofs.lemmas.List.{length-append, take-append-le, length-take-le, take_all}
 use Rattle.lnt_wire.specs.Pulling.{Pulls, GivesMore, HasMoreThan}
@@ -21,37 +22,45 @@ pub pulls_more : (a b c : Option (List ℕ)) (taken more : List ℕ) (k : ℕ) �
 pulls_more a b c taken more k p q = rw (q.joined) (pulls_append a b c taken q.given p q.pulls)
 
 -- where nothing is left, all was given
-pub pulls_all : (a b : Option (List ℕ)) (given : List ℕ) → Pulls a b given → IfSome b (λ bytes. bytes ≡ []) → IfSome a (λ bytes. given ≡ bytes)
+pub pulls_all : (a b : Option (List ℕ)) (given : List ℕ) → Pulls a b given → IfSome b (λ bytes. bytes ≡ [])
+    → IfSome a (λ bytes. given ≡ bytes)
 pulls_all None b given p q = tt
 pulls_all (Some x) None given p q = absurd p
 pulls_all (Some x) (Some y) given p q = sym (p ∙ ap (λ r. given ++ r) q ∙ append-nil given)
 
 -- where a source that gave some bytes has more than it may give, it had more from the start
-pub more_from_start : (a b : Option (List ℕ)) (given : List ℕ) (before after : ℕ) → Pulls a b given → after + length given ≡ before → HasMoreThan b after → HasMoreThan a before
+pub more_from_start : (a b : Option (List ℕ)) (given : List ℕ) (before after : ℕ) → Pulls a b given → after + length given ≡ before
+    → HasMoreThan b after → HasMoreThan a before
 more_from_start None b given before after p same more = tt
 more_from_start (Some x) None given before after p same more = absurd p
 more_from_start (Some x) (Some y) given before after p same more = omega (arith, same, more, ap length p, length-append given y)
 
--- what was put behind the bytes taken before, cut where it ends
-pub written_behind : (k n : ℕ) (taken put post tail : List ℕ) → k ≤ length put → length taken + k ≤ n
+-- what was written after the bytes taken before, cut where it ends
+pub written_after : (k n : ℕ) (taken put post tail : List ℕ) → k ≤ length put → length taken + k ≤ n
     → take (length taken + k) (take n (taken ++ (put ++ post) ++ tail)) ≡ taken ++ take k put
-written_behind k n taken put post tail le room =
+written_after k n taken put post tail le room =
     take-take (length taken + k) n (taken ++ (put ++ post) ++ tail) room
     ∙ ap (take (length taken + k)) (append_assoc taken (put ++ post) tail)
     ∙ take-append-add taken ((put ++ post) ++ tail) k
     ∙ ap (λ (z : List ℕ). taken ++ take k z) (append_assoc put post tail)
     ∙ ap (λ (z : List ℕ). taken ++ z) (take-append-le k put (post ++ tail) le)
 
-pub gives_written : (old new : Option (List ℕ)) (k n start : ℕ) (taken lent put post tail more : List ℕ) → Pulls old new (take k put) → start ≡ length taken → take start lent ≡ taken → k ≤ length put → start + k ≤ n
+pub gives_written : (old new : Option (List ℕ)) (k n start : ℕ) (taken lent put post tail more : List ℕ) → Pulls old new (take k put)
+    → start ≡ length taken → take start lent ≡ taken → k ≤ length put → start + k ≤ n
     → more ≡ take (start + k) (take n (take start lent ++ (put ++ post) ++ tail)) → GivesMore old new taken more k
 gives_written old new k n start taken lent put post tail more pulls at same le room whole = record {
   given = take k put;
   count = length-take-le k put le;
-  joined = whole ∙ rw (same, at) (written_behind k n taken put post tail le (rw (← at) room));
+  joined = whole ∙ rw (same, at) (written_after k n taken put post tail le (rw (← at) room));
   pulls = pulls;
 }
 
--- what stands before the room that was made
-pub front_kept : (start more : ℕ) (taken lent room : List ℕ) → start ≡ length taken → lent ≡ take (start + more) taken ++ room → take start lent ≡ taken
+-- the bytes before the room that was made are those taken before
+pub front_kept : (start more : ℕ) (taken lent room : List ℕ) → start ≡ length taken → lent ≡ take (start + more) taken ++ room
+    → take start lent ≡ taken
 front_kept start more taken lent room at whole =
-    ap (take start) (whole ∙ ap (λ (z : List ℕ). z ++ room) (take_all (start + more) taken (omega (arith, at)))) ∙ rw at (take-append_seam taken room)
+    ap (take start) (whole ∙ ap (λ (z : List ℕ). z ++ room) (take_all (start + more) taken (omega (arith, at))))
+    ∙ rw at (take-append_seam taken room)
+
+-- what a walk over a source cites
+pub ruleset pulling = (pulls_none, pulls_more, pulls_all, more_from_start)

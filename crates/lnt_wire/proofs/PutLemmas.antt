@@ -1,5 +1,6 @@
 -- What is put is the shortest spelling.
-use Rattle.std.proofs.Common.{◌≡◌, ℕ, suc, ◌+◌, ◌/◌, ◌%◌, ◌^◌, ◌-◌, ◌<◌, ◌≤◌, List, [], ◌∷◌, ◌++◌, length, take, refl, sym, ap, subst, ◌∙◌, append_assoc, append-nil, arith, inl, inr}
+use Rattle.std.proofs.Common.{◌≡◌, ℕ, suc, ◌+◌, ◌/◌, ◌%◌, ◌^◌, ◌-◌, ◌<◌, ◌≤◌, List, [], ◌∷◌, ◌++◌, length, take, refl, sym, ap}
+use Rattle.std.proofs.Common.{subst, ◌∙◌, append_assoc, append-nil, arith, inl, inr}
 use Rattle.std.specs.Prelude.{ℤ, pos, negsuc, ◌+ℤ◌, ◌*ℤ◌, neg_ℤ, ◌≤ℤ◌, ◌<ℤ◌, FitsSigned}
 use Rattle.std.specs.Int.{w64, int_div_euclid, int_rem_euclid}
 use Rattle.std.proofs.lemmas.Int.{ints}
@@ -23,15 +24,17 @@ pub record Begun {X : Type 0} (Spells : X → List ℕ → Type 0) (whole rest :
   pub completes : (tail : List ℕ) → Spells rest tail → Spells whole (front ++ tail)
   pub same : (other : List ℕ) → Spells whole other → (tail : List ℕ) × Spells rest tail × (length other ≡ length front + length tail)
 
--- one more group, behind which the rest is spelled
+-- one more group, after which the rest is spelled
 pub record IsGroup {X : Type 0} (Spells : X → List ℕ → Type 0) (rest after : X) (byte : ℕ) : Type 0 where
   pub completes : (tail : List ℕ) → Spells after tail → Spells rest (byte ∷ tail)
   pub same : (other : List ℕ) → Spells rest other → (tail : List ℕ) × Spells after tail × (length other ≡ suc (length tail))
 
 begun : {X : Type 0} (Spells : X → List ℕ → Type 0) (whole : X) (old : List ℕ) → Begun Spells whole whole old old
-begun Spells whole old = record { front = []; joined = sym (append-nil old); completes = λ tail p. p; same = λ other p. (other, p, omega arith) }
+begun Spells whole old =
+    record { front = []; joined = sym (append-nil old); completes = λ tail p. p; same = λ other p. (other, p, omega arith) }
 
-group_put : {X : Type 0} (Spells : X → List ℕ → Type 0) (whole rest after : X) (old new : List ℕ) (byte : ℕ) → Begun Spells whole rest old new → IsGroup Spells rest after byte
+group_put : {X : Type 0} (Spells : X → List ℕ → Type 0) (whole rest after : X) (old new : List ℕ) (byte : ℕ)
+    → Begun Spells whole rest old new → IsGroup Spells rest after byte
     → Begun Spells whole after old (new ++ byte ∷ [])
 group_put Spells whole rest after old new byte b g = record {
   front = b.front ++ byte ∷ [];
@@ -44,7 +47,8 @@ group_put Spells whole rest after old new byte b g = record {
 }
 
 -- the last group
-last_put : {X : Type 0} (Spells : X → List ℕ → Type 0) (whole rest : X) (old new : List ℕ) (byte : ℕ) → Begun Spells whole rest old new → Spells rest (byte ∷ []) → ((other : List ℕ) → Spells rest other → 0 < length other)
+last_put : {X : Type 0} (Spells : X → List ℕ → Type 0) (whole rest : X) (old new : List ℕ) (byte : ℕ) → Begun Spells whole rest old new
+    → Spells rest (byte ∷ []) → ((other : List ℕ) → Spells rest other → 0 < length other)
     → Appends Spells whole old (new ++ byte ∷ [])
 last_put Spells whole rest old new byte b p some = record {
   spelling = b.front ++ byte ∷ [];
@@ -66,25 +70,30 @@ some_leb (b ∷ bytes) p = omega arith
 pub begun_unsigned : (n : ℕ) (old : List ℕ) → Begun UnsignedLeb n n old old
 begun_unsigned n old = begun UnsignedLeb n old
 
-completes_unsigned : (rest : ℕ) (tail : List ℕ) → rest < 2 ^ 64 → UnsignedLeb (rest / 128) tail → UnsignedLeb rest ((rest % 128 + 128) ∷ tail)
+completes_unsigned : (rest : ℕ) (tail : List ℕ) → rest < 2 ^ 64 → UnsignedLeb (rest / 128) tail
+    → UnsignedLeb rest ((rest % 128 + 128) ∷ tail)
 completes_unsigned rest [] fits p = absurd p.shape
 completes_unsigned rest (b ∷ tail) fits p = record { shape = (omega arith, p.shape); value = omega (arith, p.value); fits = fits }
 
-same_unsigned : (rest : ℕ) (other : List ℕ) → 128 ≤ rest → rest < 2 ^ 64 → UnsignedLeb rest other → (tail : List ℕ) × UnsignedLeb (rest / 128) tail × (length other ≡ suc (length tail))
+same_unsigned : (rest : ℕ) (other : List ℕ) → 128 ≤ rest → rest < 2 ^ 64 → UnsignedLeb rest other
+    → (tail : List ℕ) × UnsignedLeb (rest / 128) tail × (length other ≡ suc (length tail))
 same_unsigned rest [] large fits p = absurd p.shape
 same_unsigned rest (a ∷ []) large fits p = absurd (omega (arith, p.value))
 same_unsigned rest (a ∷ b ∷ tail) large fits p =
     (b ∷ tail, record { shape = p.shape.1; value = omega (arith, p.value); fits = omega (arith, fits) }, refl)
 
-pub put_unsigned : (n rest : ℕ) (old new : List ℕ) → Begun UnsignedLeb n rest old new → 128 ≤ rest → rest < 2 ^ 64 → Begun UnsignedLeb n (rest / 128) old (new ++ (rest % 128 + 128) ∷ [])
+pub put_unsigned : (n rest : ℕ) (old new : List ℕ) → Begun UnsignedLeb n rest old new → 128 ≤ rest → rest < 2 ^ 64
+    → Begun UnsignedLeb n (rest / 128) old (new ++ (rest % 128 + 128) ∷ [])
 put_unsigned n rest old new b large fits =
     group_put UnsignedLeb n rest (rest / 128) old new (rest % 128 + 128) b
     (record { completes = λ tail p. completes_unsigned rest tail fits p; same = λ other p. same_unsigned rest other large fits p })
 
-pub last_unsigned : (n rest : ℕ) (old new : List ℕ) → Begun UnsignedLeb n rest old new → rest < 128 → Appends UnsignedLeb n old (new ++ rest ∷ [])
+pub last_unsigned : (n rest : ℕ) (old new : List ℕ) → Begun UnsignedLeb n rest old new → rest < 128
+    → Appends UnsignedLeb n old (new ++ rest ∷ [])
 last_unsigned n rest old new b small =
     let low : rest % 128 ≡ rest = omega arith in
-    last_put UnsignedLeb n rest old new rest b (record { shape = small; value = omega (arith, low); fits = omega arith }) (λ other p. some_leb other p.shape)
+    last_put UnsignedLeb n rest old new rest b (record { shape = small; value = omega (arith, low); fits = omega arith })
+    (λ other p. some_leb other p.shape)
 
 -- ---- signed numbers
 
@@ -107,15 +116,34 @@ pub data IsWide (z : ℤ) : Type 0 where
 
 one_group_near : (b : ℕ) (z : ℤ) → b < 128 → z ≡ signed_groups (b ∷ []) → IsWide z → ⊥
 one_group_near b z lt e (under h) =
-    elim (cases_lt b 64) [ inl low ↦ let is = one_low b low in omega (arith, ints, h, e, is) | inr high ↦ let is = one_high b high lt in omega (arith, ints, h, e, is) ]
+    elim (cases_lt b 64) [
+      | inl low ↦ let is = one_low b low in
+          omega (arith, ints, h, e, is)
+      | inr high ↦ let is = one_high b high lt in
+          omega (arith, ints, h, e, is)
+    ]
 one_group_near b z lt e (above h) =
-    elim (cases_lt b 64) [ inl low ↦ let is = one_low b low in omega (arith, ints, h, e, is) | inr high ↦ let is = one_high b high lt in omega (arith, ints, h, e, is) ]
+    elim (cases_lt b 64) [
+      | inl low ↦ let is = one_low b low in
+          omega (arith, ints, h, e, is)
+      | inr high ↦ let is = one_high b high lt in
+          omega (arith, ints, h, e, is)
+    ]
 
-completes_signed : (z d : ℤ) (m : ℕ) (tail : List ℕ) → IsDivided z d m → FitsSigned w64 z → SignedLeb d tail → SignedLeb z ((m + 128) ∷ tail)
+completes_signed : (z d : ℤ) (m : ℕ) (tail : List ℕ) → IsDivided z d m → FitsSigned w64 z → SignedLeb d tail
+    → SignedLeb z ((m + 128) ∷ tail)
 completes_signed z d m [] is fits p = absurd p.shape
 completes_signed z d m (b ∷ tail) is fits p =
     let low : (m + 128) % 128 ≡ m = omega (arith, is.low) in
-    record { shape = (omega arith, p.shape); value = is.whole ∙ ap (λ (y : ℤ). pos m +ℤ pos 128 *ℤ y) p.value ∙ ap (λ (k : ℕ). pos k +ℤ pos 128 *ℤ signed_groups (b ∷ tail)) (sym low) ∙ sym (signed_more (m + 128) b tail); fits = fits }
+    record {
+      shape = (omega arith, p.shape);
+      value =
+          is.whole
+          ∙ ap (λ (y : ℤ). pos m +ℤ pos 128 *ℤ y) p.value
+          ∙ ap (λ (k : ℕ). pos k +ℤ pos 128 *ℤ signed_groups (b ∷ tail)) (sym low)
+          ∙ sym (signed_more (m + 128) b tail);
+      fits = fits;
+    }
 
 one_quotient : (z d s : ℤ) (m k : ℕ) → m < 128 → k < 128 → z ≡ pos m +ℤ pos 128 *ℤ d → z ≡ pos k +ℤ pos 128 *ℤ s → d ≡ s
 one_quotient z d s m k lt lt' e f = omega (arith, ints)
@@ -123,16 +151,20 @@ one_quotient z d s m k lt lt' e f = omega (arith, ints)
 pub quotient_fits : (z d : ℤ) (m : ℕ) → IsDivided z d m → FitsSigned w64 z → FitsSigned w64 d
 quotient_fits z d m is fits = omega (arith, ints, is.whole, is.low)
 
-same_signed : (z d : ℤ) (m : ℕ) (other : List ℕ) → IsDivided z d m → FitsSigned w64 z → IsWide z → SignedLeb z other → (tail : List ℕ) × SignedLeb d tail × (length other ≡ suc (length tail))
+same_signed : (z d : ℤ) (m : ℕ) (other : List ℕ) → IsDivided z d m → FitsSigned w64 z → IsWide z → SignedLeb z other
+    → (tail : List ℕ) × SignedLeb d tail × (length other ≡ suc (length tail))
 same_signed z d m [] is fits wide p = absurd p.shape
 same_signed z d m (a ∷ []) is fits wide p = absurd (one_group_near a z p.shape p.value wide)
 same_signed z d m (a ∷ b ∷ tail) is fits wide p =
-    let quotient : d ≡ signed_groups (b ∷ tail) = one_quotient z d (signed_groups (b ∷ tail)) m (a % 128) is.low (omega arith) is.whole (p.value ∙ signed_more a b tail) in
+    let quotient : d ≡ signed_groups (b ∷ tail) =
+    one_quotient z d (signed_groups (b ∷ tail)) m (a % 128) is.low (omega arith) is.whole (p.value ∙ signed_more a b tail) in
     (b ∷ tail, record { shape = p.shape.1; value = quotient; fits = quotient_fits z d m is fits }, refl)
 
-pub put_signed : (z rest d : ℤ) (m : ℕ) (old new : List ℕ) → Begun SignedLeb z rest old new → IsWide rest → IsDivided rest d m → FitsSigned w64 rest → Begun SignedLeb z d old (new ++ (m + 128) ∷ [])
+pub put_signed : (z rest d : ℤ) (m : ℕ) (old new : List ℕ) → Begun SignedLeb z rest old new → IsWide rest → IsDivided rest d m
+    → FitsSigned w64 rest → Begun SignedLeb z d old (new ++ (m + 128) ∷ [])
 put_signed z rest d m old new b wide is fits =
-    group_put SignedLeb z rest d old new (m + 128) b (record { completes = λ tail p. completes_signed rest d m tail is fits p; same = λ other p. same_signed rest d m other is fits wide p })
+    group_put SignedLeb z rest d old new (m + 128) b
+    (record { completes = λ tail p. completes_signed rest d m tail is fits p; same = λ other p. same_signed rest d m other is fits wide p })
 
 near_value : (z d : ℤ) (m : ℕ) → IsDivided z d m → neg_ℤ (pos 64) ≤ℤ z → z <ℤ pos 64 → z ≡ signed_groups (m ∷ [])
 near_value z d m is low high =
@@ -141,14 +173,20 @@ near_value z d m is low high =
       | inr le ↦ let e = one_high m le is.low in omega (arith, ints, is.whole, is.low, low, high, e)
     ]
 
-pub last_signed : (z rest d : ℤ) (m : ℕ) (old new : List ℕ) → Begun SignedLeb z rest old new → IsDivided rest d m → neg_ℤ (pos 64) ≤ℤ rest → rest <ℤ pos 64 → FitsSigned w64 rest → Appends SignedLeb z old (new ++ m ∷ [])
+pub last_signed : (z rest d : ℤ) (m : ℕ) (old new : List ℕ) → Begun SignedLeb z rest old new → IsDivided rest d m → neg_ℤ (pos 64) ≤ℤ rest
+    → rest <ℤ pos 64 → FitsSigned w64 rest → Appends SignedLeb z old (new ++ m ∷ [])
 last_signed z rest d m old new b is low high fits =
-    last_put SignedLeb z rest old new m b (record { shape = is.low; value = near_value rest d m is low high; fits = fits }) (λ other p. some_leb other p.shape)
+    last_put SignedLeb z rest old new m b (record { shape = is.low; value = near_value rest d m is low high; fits = fits })
+    (λ other p. some_leb other p.shape)
 
 -- ---- what was begun, and taken back
 
-pub begun_extends : {X : Type 0} (Spells : X → List ℕ → Type 0) (whole rest : X) (old new : List ℕ) → Begun Spells whole rest old new → Extends old new
+pub begun_extends : {X : Type 0} (Spells : X → List ℕ → Type 0) (whole rest : X) (old new : List ℕ) → Begun Spells whole rest old new
+    → Extends old new
 begun_extends Spells whole rest old new b = record { more = b.front; joined = b.joined }
+
+-- what the writer of an unsigned number cites
+pub ruleset unsigned_groups = (begun_unsigned, put_unsigned, last_unsigned, begun_extends)
 
 pub taken_back : (old new : List ℕ) (start : ℕ) → start ≡ length old → Extends old new → take start new ≡ old
 taken_back old new start is e = rw (is, e.joined) (take-append_seam old e.more)

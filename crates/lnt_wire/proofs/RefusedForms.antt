@@ -1,4 +1,4 @@
--- No value in a form is read where none of its field is.
+-- Where no field of the kind that a form has is read, no value in the form is, for the same reason.
 use Rattle.std.proofs.Common.{◌≡◌, ℕ, List, sym, subst}
 use Rattle.lnt_wire.specs.At.{At}
 use Rattle.lnt_wire.specs.Bytes.{TakenBytes}
@@ -9,143 +9,213 @@ use Rattle.lnt_wire.specs.declared.fault.Reason.{Reason}
 use Rattle.lnt_wire.specs.declared.form.Form.{Form}
 use Rattle.lnt_wire.specs.declared.form.Form.TheVariants as forms
 use Rattle.lnt_wire.specs.declared.form.FormValue.{FormValue}
-use Rattle.lnt_wire.specs.declared.form.FormValue.TheVariants.{Text, LineStrp, Strp, Udata, Data1, Data2, Data4, Data8, Data16, Block, Block1, Block2, Block4}
+use Rattle.lnt_wire.specs.declared.form.FormValue.TheVariants.{Text, LineStrp, Strp, Udata, Data1, Data2, Data4, Data8, Data16}
+use Rattle.lnt_wire.specs.declared.form.FormValue.TheVariants.{Block, Block1, Block2, Block4}
 use Rattle.lnt_wire.specs.declared.form.Prefix.TheVariants.{Leb, One, Two, Four}
 use Rattle.lnt_wire.specs.FormBytes.{TextBytes, BlockBytes, ValueBytes}
-use Rattle.lnt_wire.specs.Prefixes.{LengthBytes}
 use Rattle.lnt_wire.specs.FormFaults.{IsCutText, IsValueFault}
 use Rattle.lnt_wire.specs.Leb128.{UnsignedLeb, IsLargeUnsigned, IsLebFault}
 use Rattle.lnt_wire.specs.Numbers.{NumberBytes, OffsetBytes, offset_size}
-use Rattle.lnt_wire.specs.Prefixes.{IsPrefixedFault}
+use Rattle.lnt_wire.specs.Prefixes.{LengthBytes, IsPrefixedFault}
 use Rattle.lnt_wire.specs.Reading.{RefusesField, IsCutShort}
 
 -- no value of one kind, where there is none of another that each has
 refused_as : {X Y : Type 0} (IsSo : Reason → List ℕ → Type 0) (P : X → List ℕ → Type 0) (Q : Y → List ℕ → Type 0) (old : At) (fault : Fault)
     → ((y : Y) (bytes : List ℕ) → Q y bytes → (x : X) × P x bytes) → RefusesField IsSo P old fault → RefusesField IsSo Q old fault
 refused_as IsSo P Q old fault part r =
-    record { place = r.place; reason = r.reason; none = λ y spelling more q e. let found = part y spelling q in r.none found.0 spelling more found.1 e }
+    record {
+      place = r.place;
+      reason = r.reason;
+      none = λ y spelling more q e. let found = part y spelling q in r.none found.0 spelling more found.1 e;
+    }
 
 -- what was refused in one form
-refused_in : (format : Format) (form known : Form) (old : At) (fault : Fault) → form ≡ known → RefusesField (IsValueFault format old.order known) (ValueBytes format old.order known) old fault
+refused_in : (format : Format) (form known : Form) (old : At) (fault : Fault) → form ≡ known
+    → RefusesField (IsValueFault format old.order known) (ValueBytes format old.order known) old fault
     → RefusesField (IsValueFault format old.order form) (ValueBytes format old.order form) old fault
-refused_in format form known old fault is r = subst (λ (f : Form). RefusesField (IsValueFault format old.order f) (ValueBytes format old.order f) old fault) (sym is) r
+refused_in format form known old fault is r =
+    subst (λ (f : Form). RefusesField (IsValueFault format old.order f) (ValueBytes format old.order f) old fault) (sym is) r
 
-data1_part : (format : Format) (order : Order) (value : FormValue) (bytes : List ℕ) → ValueBytes format order forms.Data1 value bytes → (n : ℕ) × NumberBytes order 1 n bytes
+data1_part : (format : Format) (order : Order) (value : FormValue) (bytes : List ℕ) → ValueBytes format order forms.Data1 value bytes
+    → (n : ℕ) × NumberBytes order 1 n bytes
 data1_part format order (Data1 n) bytes p = (n, p.spelled)
 data1_part format order value bytes p = let other = p.form_is in absurd cc
 
-pub refuses_data1 : (format : Format) (form : Form) (old : At) (fault : Fault) → form ≡ forms.Data1 → RefusesField (IsCutShort 1) (NumberBytes old.order 1) old fault
+pub refuses_data1 : (format : Format) (form : Form) (old : At) (fault : Fault) → form ≡ forms.Data1
+    → RefusesField (IsCutShort 1) (NumberBytes old.order 1) old fault
     → RefusesField (IsValueFault format old.order form) (ValueBytes format old.order form) old fault
 refuses_data1 format form old fault is r =
-    refused_in format form forms.Data1 old fault is (refused_as (IsCutShort 1) (NumberBytes old.order 1) (ValueBytes format old.order forms.Data1) old fault (data1_part format old.order) r)
+    refused_in format form forms.Data1 old fault is
+    (refused_as (IsCutShort 1) (NumberBytes old.order 1) (ValueBytes format old.order forms.Data1) old fault
+    (data1_part format old.order) r)
 
-data2_part : (format : Format) (order : Order) (value : FormValue) (bytes : List ℕ) → ValueBytes format order forms.Data2 value bytes → (n : ℕ) × NumberBytes order 2 n bytes
+data2_part : (format : Format) (order : Order) (value : FormValue) (bytes : List ℕ) → ValueBytes format order forms.Data2 value bytes
+    → (n : ℕ) × NumberBytes order 2 n bytes
 data2_part format order (Data2 n) bytes p = (n, p.spelled)
 data2_part format order value bytes p = let other = p.form_is in absurd cc
 
-pub refuses_data2 : (format : Format) (form : Form) (old : At) (fault : Fault) → form ≡ forms.Data2 → RefusesField (IsCutShort 2) (NumberBytes old.order 2) old fault
+pub refuses_data2 : (format : Format) (form : Form) (old : At) (fault : Fault) → form ≡ forms.Data2
+    → RefusesField (IsCutShort 2) (NumberBytes old.order 2) old fault
     → RefusesField (IsValueFault format old.order form) (ValueBytes format old.order form) old fault
 refuses_data2 format form old fault is r =
-    refused_in format form forms.Data2 old fault is (refused_as (IsCutShort 2) (NumberBytes old.order 2) (ValueBytes format old.order forms.Data2) old fault (data2_part format old.order) r)
+    refused_in format form forms.Data2 old fault is
+    (refused_as (IsCutShort 2) (NumberBytes old.order 2) (ValueBytes format old.order forms.Data2) old fault
+    (data2_part format old.order) r)
 
-data4_part : (format : Format) (order : Order) (value : FormValue) (bytes : List ℕ) → ValueBytes format order forms.Data4 value bytes → (n : ℕ) × NumberBytes order 4 n bytes
+data4_part : (format : Format) (order : Order) (value : FormValue) (bytes : List ℕ) → ValueBytes format order forms.Data4 value bytes
+    → (n : ℕ) × NumberBytes order 4 n bytes
 data4_part format order (Data4 n) bytes p = (n, p.spelled)
 data4_part format order value bytes p = let other = p.form_is in absurd cc
 
-pub refuses_data4 : (format : Format) (form : Form) (old : At) (fault : Fault) → form ≡ forms.Data4 → RefusesField (IsCutShort 4) (NumberBytes old.order 4) old fault
+pub refuses_data4 : (format : Format) (form : Form) (old : At) (fault : Fault) → form ≡ forms.Data4
+    → RefusesField (IsCutShort 4) (NumberBytes old.order 4) old fault
     → RefusesField (IsValueFault format old.order form) (ValueBytes format old.order form) old fault
 refuses_data4 format form old fault is r =
-    refused_in format form forms.Data4 old fault is (refused_as (IsCutShort 4) (NumberBytes old.order 4) (ValueBytes format old.order forms.Data4) old fault (data4_part format old.order) r)
+    refused_in format form forms.Data4 old fault is
+    (refused_as (IsCutShort 4) (NumberBytes old.order 4) (ValueBytes format old.order forms.Data4) old fault
+    (data4_part format old.order) r)
 
-data8_part : (format : Format) (order : Order) (value : FormValue) (bytes : List ℕ) → ValueBytes format order forms.Data8 value bytes → (n : ℕ) × NumberBytes order 8 n bytes
+data8_part : (format : Format) (order : Order) (value : FormValue) (bytes : List ℕ) → ValueBytes format order forms.Data8 value bytes
+    → (n : ℕ) × NumberBytes order 8 n bytes
 data8_part format order (Data8 n) bytes p = (n, p.spelled)
 data8_part format order value bytes p = let other = p.form_is in absurd cc
 
-pub refuses_data8 : (format : Format) (form : Form) (old : At) (fault : Fault) → form ≡ forms.Data8 → RefusesField (IsCutShort 8) (NumberBytes old.order 8) old fault
+pub refuses_data8 : (format : Format) (form : Form) (old : At) (fault : Fault) → form ≡ forms.Data8
+    → RefusesField (IsCutShort 8) (NumberBytes old.order 8) old fault
     → RefusesField (IsValueFault format old.order form) (ValueBytes format old.order form) old fault
 refuses_data8 format form old fault is r =
-    refused_in format form forms.Data8 old fault is (refused_as (IsCutShort 8) (NumberBytes old.order 8) (ValueBytes format old.order forms.Data8) old fault (data8_part format old.order) r)
+    refused_in format form forms.Data8 old fault is
+    (refused_as (IsCutShort 8) (NumberBytes old.order 8) (ValueBytes format old.order forms.Data8) old fault
+    (data8_part format old.order) r)
 
-data16_part : (format : Format) (order : Order) (value : FormValue) (bytes : List ℕ) → ValueBytes format order forms.Data16 value bytes → (b : List ℕ) × TakenBytes 16 b bytes
+data16_part : (format : Format) (order : Order) (value : FormValue) (bytes : List ℕ) → ValueBytes format order forms.Data16 value bytes
+    → (b : List ℕ) × TakenBytes 16 b bytes
 data16_part format order (Data16 b) bytes p = (b, p.spelled)
 data16_part format order value bytes p = let other = p.form_is in absurd cc
 
-pub refuses_data16 : (format : Format) (form : Form) (old : At) (fault : Fault) → form ≡ forms.Data16 → RefusesField (IsCutShort 16) (TakenBytes 16) old fault
+pub refuses_data16 : (format : Format) (form : Form) (old : At) (fault : Fault) → form ≡ forms.Data16
+    → RefusesField (IsCutShort 16) (TakenBytes 16) old fault
     → RefusesField (IsValueFault format old.order form) (ValueBytes format old.order form) old fault
 refuses_data16 format form old fault is r =
-    refused_in format form forms.Data16 old fault is (refused_as (IsCutShort 16) (TakenBytes 16) (ValueBytes format old.order forms.Data16) old fault (data16_part format old.order) r)
+    refused_in format form forms.Data16 old fault is
+    (refused_as (IsCutShort 16) (TakenBytes 16) (ValueBytes format old.order forms.Data16) old fault (data16_part format old.order) r)
 
-strp_part : (format : Format) (order : Order) (value : FormValue) (bytes : List ℕ) → ValueBytes format order forms.Strp value bytes → (n : ℕ) × OffsetBytes format order n bytes
+strp_part : (format : Format) (order : Order) (value : FormValue) (bytes : List ℕ) → ValueBytes format order forms.Strp value bytes
+    → (n : ℕ) × OffsetBytes format order n bytes
 strp_part format order (Strp n) bytes p = (n, p.spelled)
 strp_part format order value bytes p = let other = p.form_is in absurd cc
 
-pub refuses_strp : (format : Format) (form : Form) (old : At) (fault : Fault) → form ≡ forms.Strp → RefusesField (IsCutShort (offset_size format)) (OffsetBytes format old.order) old fault
+pub refuses_strp : (format : Format) (form : Form) (old : At) (fault : Fault) → form ≡ forms.Strp
+    → RefusesField (IsCutShort (offset_size format)) (OffsetBytes format old.order) old fault
     → RefusesField (IsValueFault format old.order form) (ValueBytes format old.order form) old fault
 refuses_strp format form old fault is r =
-    refused_in format form forms.Strp old fault is (refused_as (IsCutShort (offset_size format)) (OffsetBytes format old.order) (ValueBytes format old.order forms.Strp) old fault (strp_part format old.order) r)
+    refused_in format form forms.Strp old fault is
+    (refused_as (IsCutShort (offset_size format)) (OffsetBytes format old.order) (ValueBytes format old.order forms.Strp) old fault
+    (strp_part format old.order) r)
 
-line_strp_part : (format : Format) (order : Order) (value : FormValue) (bytes : List ℕ) → ValueBytes format order forms.LineStrp value bytes → (n : ℕ) × OffsetBytes format order n bytes
+line_strp_part : (format : Format) (order : Order) (value : FormValue) (bytes : List ℕ)
+    → ValueBytes format order forms.LineStrp value bytes → (n : ℕ) × OffsetBytes format order n bytes
 line_strp_part format order (LineStrp n) bytes p = (n, p.spelled)
 line_strp_part format order value bytes p = let other = p.form_is in absurd cc
 
-pub refuses_line_strp : (format : Format) (form : Form) (old : At) (fault : Fault) → form ≡ forms.LineStrp → RefusesField (IsCutShort (offset_size format)) (OffsetBytes format old.order) old fault
+pub refuses_line_strp : (format : Format) (form : Form) (old : At) (fault : Fault) → form ≡ forms.LineStrp
+    → RefusesField (IsCutShort (offset_size format)) (OffsetBytes format old.order) old fault
     → RefusesField (IsValueFault format old.order form) (ValueBytes format old.order form) old fault
 refuses_line_strp format form old fault is r =
-    refused_in format form forms.LineStrp old fault is (refused_as (IsCutShort (offset_size format)) (OffsetBytes format old.order) (ValueBytes format old.order forms.LineStrp) old fault (line_strp_part format old.order) r)
+    refused_in format form forms.LineStrp old fault is
+    (refused_as (IsCutShort (offset_size format)) (OffsetBytes format old.order) (ValueBytes format old.order forms.LineStrp) old fault
+    (line_strp_part format old.order) r)
 
-udata_part : (format : Format) (order : Order) (value : FormValue) (bytes : List ℕ) → ValueBytes format order forms.Udata value bytes → (n : ℕ) × UnsignedLeb n bytes
+udata_part : (format : Format) (order : Order) (value : FormValue) (bytes : List ℕ) → ValueBytes format order forms.Udata value bytes
+    → (n : ℕ) × UnsignedLeb n bytes
 udata_part format order (Udata n) bytes p = (n, p.spelled)
 udata_part format order value bytes p = let other = p.form_is in absurd cc
 
-pub refuses_udata : (format : Format) (form : Form) (old : At) (fault : Fault) → form ≡ forms.Udata → RefusesField (IsLebFault IsLargeUnsigned) UnsignedLeb old fault
+pub refuses_udata : (format : Format) (form : Form) (old : At) (fault : Fault) → form ≡ forms.Udata
+    → RefusesField (IsLebFault IsLargeUnsigned) UnsignedLeb old fault
     → RefusesField (IsValueFault format old.order form) (ValueBytes format old.order form) old fault
 refuses_udata format form old fault is r =
-    refused_in format form forms.Udata old fault is (refused_as (IsLebFault IsLargeUnsigned) UnsignedLeb (ValueBytes format old.order forms.Udata) old fault (udata_part format old.order) r)
+    refused_in format form forms.Udata old fault is
+    (refused_as (IsLebFault IsLargeUnsigned) UnsignedLeb (ValueBytes format old.order forms.Udata) old fault
+    (udata_part format old.order) r)
 
-string_part : (format : Format) (order : Order) (value : FormValue) (bytes : List ℕ) → ValueBytes format order forms.Text value bytes → (b : List ℕ) × TextBytes b bytes
+string_part : (format : Format) (order : Order) (value : FormValue) (bytes : List ℕ) → ValueBytes format order forms.Text value bytes
+    → (b : List ℕ) × TextBytes b bytes
 string_part format order (Text b) bytes p = (b, p.spelled)
 string_part format order value bytes p = let other = p.form_is in absurd cc
 
-pub refuses_string : (format : Format) (form : Form) (old : At) (fault : Fault) → form ≡ forms.Text → RefusesField IsCutText TextBytes old fault
+pub refuses_string : (format : Format) (form : Form) (old : At) (fault : Fault) → form ≡ forms.Text
+    → RefusesField IsCutText TextBytes old fault
     → RefusesField (IsValueFault format old.order form) (ValueBytes format old.order form) old fault
 refuses_string format form old fault is r =
-    refused_in format form forms.Text old fault is (refused_as IsCutText TextBytes (ValueBytes format old.order forms.Text) old fault (string_part format old.order) r)
+    refused_in format form forms.Text old fault is
+    (refused_as IsCutText TextBytes (ValueBytes format old.order forms.Text) old fault (string_part format old.order) r)
 
-block_part : (format : Format) (order : Order) (value : FormValue) (bytes : List ℕ) → ValueBytes format order forms.Block value bytes → (b : List ℕ) × BlockBytes (LengthBytes order Leb) b bytes
+block_part : (format : Format) (order : Order) (value : FormValue) (bytes : List ℕ) → ValueBytes format order forms.Block value bytes
+    → (b : List ℕ) × BlockBytes (LengthBytes order Leb) b bytes
 block_part format order (Block b) bytes p = (b, p.spelled)
 block_part format order value bytes p = let other = p.form_is in absurd cc
 
-pub refuses_block : (format : Format) (form : Form) (old : At) (fault : Fault) → form ≡ forms.Block → RefusesField (IsPrefixedFault old.order Leb) (BlockBytes (LengthBytes old.order Leb)) old fault
+pub refuses_block : (format : Format) (form : Form) (old : At) (fault : Fault) → form ≡ forms.Block
+    → RefusesField (IsPrefixedFault old.order Leb) (BlockBytes (LengthBytes old.order Leb)) old fault
     → RefusesField (IsValueFault format old.order form) (ValueBytes format old.order form) old fault
 refuses_block format form old fault is r =
-    refused_in format form forms.Block old fault is (refused_as (IsPrefixedFault old.order Leb) (BlockBytes (LengthBytes old.order Leb)) (ValueBytes format old.order forms.Block) old fault (block_part format old.order) r)
+    refused_in format form forms.Block old fault is
+    (refused_as (IsPrefixedFault old.order Leb) (BlockBytes (LengthBytes old.order Leb))
+    (ValueBytes format old.order forms.Block) old fault (block_part format old.order) r)
 
-block1_part : (format : Format) (order : Order) (value : FormValue) (bytes : List ℕ) → ValueBytes format order forms.Block1 value bytes → (b : List ℕ) × BlockBytes (LengthBytes order One) b bytes
+block1_part : (format : Format) (order : Order) (value : FormValue) (bytes : List ℕ) → ValueBytes format order forms.Block1 value bytes
+    → (b : List ℕ) × BlockBytes (LengthBytes order One) b bytes
 block1_part format order (Block1 b) bytes p = (b, p.spelled)
 block1_part format order value bytes p = let other = p.form_is in absurd cc
 
-pub refuses_block1 : (format : Format) (form : Form) (old : At) (fault : Fault) → form ≡ forms.Block1 → RefusesField (IsPrefixedFault old.order One) (BlockBytes (LengthBytes old.order One)) old fault
+pub refuses_block1 : (format : Format) (form : Form) (old : At) (fault : Fault) → form ≡ forms.Block1
+    → RefusesField (IsPrefixedFault old.order One) (BlockBytes (LengthBytes old.order One)) old fault
     → RefusesField (IsValueFault format old.order form) (ValueBytes format old.order form) old fault
 refuses_block1 format form old fault is r =
-    refused_in format form forms.Block1 old fault is (refused_as (IsPrefixedFault old.order One) (BlockBytes (LengthBytes old.order One)) (ValueBytes format old.order forms.Block1) old fault (block1_part format old.order) r)
+    refused_in format form forms.Block1 old fault is
+    (refused_as (IsPrefixedFault old.order One) (BlockBytes (LengthBytes old.order One))
+    (ValueBytes format old.order forms.Block1) old fault (block1_part format old.order) r)
 
-block2_part : (format : Format) (order : Order) (value : FormValue) (bytes : List ℕ) → ValueBytes format order forms.Block2 value bytes → (b : List ℕ) × BlockBytes (LengthBytes order Two) b bytes
+block2_part : (format : Format) (order : Order) (value : FormValue) (bytes : List ℕ) → ValueBytes format order forms.Block2 value bytes
+    → (b : List ℕ) × BlockBytes (LengthBytes order Two) b bytes
 block2_part format order (Block2 b) bytes p = (b, p.spelled)
 block2_part format order value bytes p = let other = p.form_is in absurd cc
 
-pub refuses_block2 : (format : Format) (form : Form) (old : At) (fault : Fault) → form ≡ forms.Block2 → RefusesField (IsPrefixedFault old.order Two) (BlockBytes (LengthBytes old.order Two)) old fault
+pub refuses_block2 : (format : Format) (form : Form) (old : At) (fault : Fault) → form ≡ forms.Block2
+    → RefusesField (IsPrefixedFault old.order Two) (BlockBytes (LengthBytes old.order Two)) old fault
     → RefusesField (IsValueFault format old.order form) (ValueBytes format old.order form) old fault
 refuses_block2 format form old fault is r =
-    refused_in format form forms.Block2 old fault is (refused_as (IsPrefixedFault old.order Two) (BlockBytes (LengthBytes old.order Two)) (ValueBytes format old.order forms.Block2) old fault (block2_part format old.order) r)
+    refused_in format form forms.Block2 old fault is
+    (refused_as (IsPrefixedFault old.order Two) (BlockBytes (LengthBytes old.order Two))
+    (ValueBytes format old.order forms.Block2) old fault (block2_part format old.order) r)
 
-block4_part : (format : Format) (order : Order) (value : FormValue) (bytes : List ℕ) → ValueBytes format order forms.Block4 value bytes → (b : List ℕ) × BlockBytes (LengthBytes order Four) b bytes
+block4_part : (format : Format) (order : Order) (value : FormValue) (bytes : List ℕ) → ValueBytes format order forms.Block4 value bytes
+    → (b : List ℕ) × BlockBytes (LengthBytes order Four) b bytes
 block4_part format order (Block4 b) bytes p = (b, p.spelled)
 block4_part format order value bytes p = let other = p.form_is in absurd cc
 
-pub refuses_block4 : (format : Format) (form : Form) (old : At) (fault : Fault) → form ≡ forms.Block4 → RefusesField (IsPrefixedFault old.order Four) (BlockBytes (LengthBytes old.order Four)) old fault
+pub refuses_block4 : (format : Format) (form : Form) (old : At) (fault : Fault) → form ≡ forms.Block4
+    → RefusesField (IsPrefixedFault old.order Four) (BlockBytes (LengthBytes old.order Four)) old fault
     → RefusesField (IsValueFault format old.order form) (ValueBytes format old.order form) old fault
 refuses_block4 format form old fault is r =
-    refused_in format form forms.Block4 old fault is (refused_as (IsPrefixedFault old.order Four) (BlockBytes (LengthBytes old.order Four)) (ValueBytes format old.order forms.Block4) old fault (block4_part format old.order) r)
+    refused_in format form forms.Block4 old fault is
+    (refused_as (IsPrefixedFault old.order Four) (BlockBytes (LengthBytes old.order Four))
+    (ValueBytes format old.order forms.Block4) old fault (block4_part format old.order) r)
 
--- each form's
-pub ruleset value_refusals = (refuses_data1, refuses_data2, refuses_data4, refuses_data8, refuses_data16, refuses_strp, refuses_line_strp, refuses_udata, refuses_string, refuses_block, refuses_block1, refuses_block2, refuses_block4)
+-- the refusal of each form, which the reader of values cites
+pub ruleset value_refusals = (
+  refuses_data1,
+  refuses_data2,
+  refuses_data4,
+  refuses_data8,
+  refuses_data16,
+  refuses_strp,
+  refuses_line_strp,
+  refuses_udata,
+  refuses_string,
+  refuses_block,
+  refuses_block1,
+  refuses_block2,
+  refuses_block4,
+)

@@ -1,4 +1,4 @@
--- Values of one kind have one spelling each, of which none begins another. These are proofs: nothing here is to be believed.
+-- Values of one form have spellings of which none is the front of another, and each spells one value. Crates above cite these.
 use Rattle.std.proofs.Common.{◌≡◌, ℕ, List, [], ◌∷◌, ◌++◌, length, refl, sym, ap, ◌∙◌, arith}
 use Rattle.lnt_wire.specs.declared.format.Order.{Order}
 use Rattle.lnt_wire.specs.declared.format.Format.{Format}
@@ -6,7 +6,8 @@ use Rattle.lnt_wire.specs.declared.format.Format.TheVariants.{D32, D64}
 use Rattle.lnt_wire.specs.declared.form.Form.{Form}
 use Rattle.lnt_wire.specs.declared.form.Form.TheVariants as forms
 use Rattle.lnt_wire.specs.declared.form.FormValue.{FormValue}
-use Rattle.lnt_wire.specs.declared.form.FormValue.TheVariants.{Text, LineStrp, Strp, Udata, Data1, Data2, Data4, Data8, Data16, Block, Block1, Block2, Block4}
+use Rattle.lnt_wire.specs.declared.form.FormValue.TheVariants.{Text, LineStrp, Strp, Udata, Data1, Data2, Data4, Data8, Data16}
+use Rattle.lnt_wire.specs.declared.form.FormValue.TheVariants.{Block, Block1, Block2, Block4}
 use Rattle.lnt_wire.specs.declared.form.Prefix.{Prefix}
 use Rattle.lnt_wire.specs.declared.form.Prefix.TheVariants.{Leb, One, Two, Four}
 use Rattle.lnt_wire.specs.Bytes.{IsCode}
@@ -27,6 +28,7 @@ length_code order One = number_code order 1 width_1
 length_code order Two = number_code order 2 width_2
 length_code order Four = number_code order 4 width_4
 
+-- texts that end at the same zero byte
 same_text : (t t' r s : List ℕ) → HasNoZero t → HasNoZero t' → (t ++ 0 ∷ []) ++ r ≡ (t' ++ 0 ∷ []) ++ s → t ≡ t'
 same_text [] [] r s p q e = refl
 same_text [] (b ∷ t') r s p q e = let heads : 0 ≡ b = cc in absurd (omega (arith, q.0))
@@ -40,7 +42,9 @@ same_text (a ∷ t) (b ∷ t') r s p q e =
 same_number : {X : Type 0} (make : ℕ → X) (m n : ℕ) (x y : List ℕ) → (m ≡ n) × (x ≡ y) → (make m ≡ make n) × (x ≡ y)
 same_number make m n x y h = (ap make h.0, h.1)
 
-same_block : (order : Order) (prefix : Prefix) (t t' x y r s : List ℕ) → BlockBytes (LengthBytes order prefix) t x → BlockBytes (LengthBytes order prefix) t' y → x ++ r ≡ y ++ s → (t ≡ t') × (x ≡ y)
+-- blocks with lengths of one kind
+same_block : (order : Order) (prefix : Prefix) (t t' x y r s : List ℕ) → BlockBytes (LengthBytes order prefix) t x
+    → BlockBytes (LengthBytes order prefix) t' y → x ++ r ≡ y ++ s → (t ≡ t') × (x ≡ y)
 same_block order prefix t t' x y r s p q e =
     let one = peel (length_code order prefix) (length t) (length t') x y r s p q e in
     let len : length p.back ≡ length q.back = ap length p.second ∙ one.value ∙ sym (ap length q.second) in
@@ -51,15 +55,22 @@ same_block order prefix t t' x y r s p q e =
 pub same_value : (format : Format) (order : Order) (u v : FormValue) (x y r s : List ℕ) → form_of u ≡ form_of v
     → FormBytes format order u x → FormBytes format order v y → x ++ r ≡ y ++ s → (u ≡ v) × (x ≡ y)
 same_value format order (Text t) (Text t') x y r s same p q e =
-    let text : t ≡ t' = same_text t t' r s p.no_zero q.no_zero (ap (λ (z : List ℕ). z ++ r) (sym p.joined) ∙ e ∙ ap (λ (z : List ℕ). z ++ s) q.joined) in
+    let text : t ≡ t' =
+    same_text t t' r s p.no_zero q.no_zero (ap (λ (z : List ℕ). z ++ r) (sym p.joined) ∙ e ∙ ap (λ (z : List ℕ). z ++ s) q.joined) in
     (ap Text text, p.joined ∙ ap (λ (z : List ℕ). z ++ 0 ∷ []) text ∙ sym q.joined)
-same_value format order (LineStrp m) (LineStrp n) x y r s same p q e = same_number LineStrp m n x y ((number_code order (offset_size format) (offset_width format)).one m n x y r s p q e)
-same_value format order (Strp m) (Strp n) x y r s same p q e = same_number Strp m n x y ((number_code order (offset_size format) (offset_width format)).one m n x y r s p q e)
+same_value format order (LineStrp m) (LineStrp n) x y r s same p q e =
+    same_number LineStrp m n x y ((number_code order (offset_size format) (offset_width format)).one m n x y r s p q e)
+same_value format order (Strp m) (Strp n) x y r s same p q e =
+    same_number Strp m n x y ((number_code order (offset_size format) (offset_width format)).one m n x y r s p q e)
 same_value format order (Udata m) (Udata n) x y r s same p q e = same_number Udata m n x y (unsigned_code.one m n x y r s p q e)
-same_value format order (Data1 m) (Data1 n) x y r s same p q e = same_number Data1 m n x y ((number_code order 1 width_1).one m n x y r s p q e)
-same_value format order (Data2 m) (Data2 n) x y r s same p q e = same_number Data2 m n x y ((number_code order 2 width_2).one m n x y r s p q e)
-same_value format order (Data4 m) (Data4 n) x y r s same p q e = same_number Data4 m n x y ((number_code order 4 width_4).one m n x y r s p q e)
-same_value format order (Data8 m) (Data8 n) x y r s same p q e = same_number Data8 m n x y ((number_code order 8 width_8).one m n x y r s p q e)
+same_value format order (Data1 m) (Data1 n) x y r s same p q e =
+    same_number Data1 m n x y ((number_code order 1 width_1).one m n x y r s p q e)
+same_value format order (Data2 m) (Data2 n) x y r s same p q e =
+    same_number Data2 m n x y ((number_code order 2 width_2).one m n x y r s p q e)
+same_value format order (Data4 m) (Data4 n) x y r s same p q e =
+    same_number Data4 m n x y ((number_code order 4 width_4).one m n x y r s p q e)
+same_value format order (Data8 m) (Data8 n) x y r s same p q e =
+    same_number Data8 m n x y ((number_code order 8 width_8).one m n x y r s p q e)
 same_value format order (Data16 t) (Data16 t') x y r s same p q e =
     let found = (taken_code 16).one t t' x y r s p q e in
     (ap Data16 found.0, found.1)
@@ -94,6 +105,8 @@ same_code forms.LineStrp forms.LineStrp e = refl
 same_code forms.Udata forms.Udata e = refl
 same_code a b e = absurd (omega arith)
 
+-- ---- the laws
+
 pub one_number : OneNumber
 one_number = record {
   one_byte = λ order. number_code order 1 width_1;
@@ -107,4 +120,5 @@ pub one_leb : OneLeb
 one_leb = record { unsigned = unsigned_code; signed = signed_code }
 
 pub one_value : OneValue
-one_value format order form = record { one = λ u v x y r s p q e. same_value format order u v x y r s (p.form_is ∙ sym q.form_is) p.spelled q.spelled e }
+one_value format order form =
+    record { one = λ u v x y r s p q e. same_value format order u v x y r s (p.form_is ∙ sym q.form_is) p.spelled q.spelled e }

@@ -1,17 +1,17 @@
--- Values in a form: what is read, and why nothing is.
-use Rattle.std.proofs.Common.{◌≡◌, ℕ, ◌+◌, ◌<◌, ◌≤◌, List, [], ◌∷◌, ◌++◌, length, get_or, take, drop, refl, sym, ap, subst, ◌∙◌, append_assoc, arith}
+-- The exits of the readers of texts and blocks: what is read, and why nothing is.
+use Rattle.std.proofs.Common.{◌≡◌, ℕ, ◌+◌, ◌<◌, ◌≤◌, List, [], ◌∷◌, ◌++◌, length, get_or, take, drop, refl, sym, ap, subst, ◌∙◌}
+use Rattle.std.proofs.Common.{append_assoc, arith}
 use Rattle.std.proofs.lemmas.List.{length-append, length-take-le, take_more, take-append-drop}
 use Rattle.lnt_wire.specs.At.{At}
 use Rattle.lnt_wire.specs.declared.fault.Fault.{Fault}
 use Rattle.lnt_wire.specs.declared.fault.Reason.TheVariants.{Truncated}
 use Rattle.lnt_wire.specs.declared.form.Prefix.{Prefix}
 use Rattle.lnt_wire.specs.FormBytes.{HasNoZero, TextBytes, BlockBytes}
-use Rattle.lnt_wire.specs.Prefixes.{LengthBytes}
 use Rattle.lnt_wire.specs.FormFaults.{IsCutText}
-use Rattle.lnt_wire.specs.Prefixes.{IsLengthFault}
+use Rattle.lnt_wire.specs.Prefixes.{LengthBytes, IsLengthFault, IsPrefixedFault}
 use Rattle.lnt_wire.specs.FormFaults.IsBlockFault.{no_length, cut_block}
-use Rattle.lnt_wire.specs.Prefixes.{IsPrefixedFault}
-use Rattle.lnt_wire.specs.Reading.{Reads, RefusesField, Skips}
+use Rattle.lnt_wire.specs.Reading.{Reads, RefusesField}
+use Rattle.lnt_wire.specs.Skipping.{Skips}
 use Rattle.lnt_wire.proofs.LengthLaws.{same_rest}
 use Rattle.lnt_wire.proofs.ValueLaws.{length_code}
 
@@ -23,7 +23,8 @@ no_text [] (b ∷ text) more h e = cc
 no_text (a ∷ bytes) [] more h e = let heads : 0 ≡ a = cc in omega (arith, h.0)
 no_text (a ∷ bytes) (b ∷ text) more h e = let tails : (text ++ 0 ∷ []) ++ more ≡ bytes = cc in no_text bytes text more h.1 tails
 
-pub refuses_text : (old : At) (fault : Fault) (bytes : List ℕ) → bytes ≡ old.rest → HasNoZero bytes → fault.place ≡ old.place → fault.reason ≡ Truncated → RefusesField IsCutText TextBytes old fault
+pub refuses_text : (old : At) (fault : Fault) (bytes : List ℕ) → bytes ≡ old.rest → HasNoZero bytes → fault.place ≡ old.place
+    → fault.reason ≡ Truncated → RefusesField IsCutText TextBytes old fault
 refuses_text old fault bytes same no_zero place reason =
     let here : HasNoZero old.rest = subst HasNoZero same no_zero in
     record {
@@ -32,9 +33,11 @@ refuses_text old fault bytes same no_zero place reason =
       none = λ text spelling more p e. no_text old.rest text more here (ap (λ (z : List ℕ). z ++ more) (sym p.joined) ∙ e);
     }
 
-pub reads_text : (old new : At) (bytes text : List ℕ) (size : ℕ) → bytes ≡ old.rest → size < length bytes → HasNoZero (take size bytes) → get_or bytes size 0 ≡ 0 → text ≡ take size bytes → Skips (size + 1) old new → Reads TextBytes text old new
+pub reads_text : (old new : At) (bytes text : List ℕ) (size : ℕ) → bytes ≡ old.rest → size < length bytes → HasNoZero (take size bytes)
+    → get_or bytes size 0 ≡ 0 → text ≡ take size bytes → Skips (size + 1) old new → Reads TextBytes text old new
 reads_text old new bytes text size same lt no_zero zero_is is s =
-    let joined : take (size + 1) bytes ≡ text ++ 0 ∷ [] = take_more bytes size 0 lt ∙ ap (λ (b : ℕ). take size bytes ++ b ∷ []) zero_is ∙ ap (λ (z : List ℕ). z ++ 0 ∷ []) (sym is) in
+    let joined : take (size + 1) bytes ≡ text ++ 0 ∷ [] =
+    take_more bytes size 0 lt ∙ ap (λ (b : ℕ). take size bytes ++ b ∷ []) zero_is ∙ ap (λ (z : List ℕ). z ++ 0 ∷ []) (sym is) in
     record {
       spelling = take (size + 1) old.rest;
       spelled = record { no_zero = rw is no_zero; joined = rw (← same) joined };
@@ -45,41 +48,67 @@ reads_text old new bytes text size same lt no_zero zero_is is s =
 
 -- ---- blocks
 
-pub refuses_no_length : (prefix : Prefix) (old at : At) (fault : Fault) → at ≡ old → RefusesField (IsLengthFault prefix) (LengthBytes at.order prefix) at fault → RefusesField (IsPrefixedFault old.order prefix) (BlockBytes (LengthBytes old.order prefix)) old fault
+pub refuses_no_length : (prefix : Prefix) (old at : At) (fault : Fault) → at ≡ old
+    → RefusesField (IsLengthFault prefix) (LengthBytes at.order prefix) at fault
+    → RefusesField (IsPrefixedFault old.order prefix) (BlockBytes (LengthBytes old.order prefix)) old fault
 refuses_no_length prefix old at fault same there =
-    let r : RefusesField (IsLengthFault prefix) (LengthBytes old.order prefix) old fault = subst (λ (a : At). RefusesField (IsLengthFault prefix) (LengthBytes a.order prefix) a fault) same there in
+    let r : RefusesField (IsLengthFault prefix) (LengthBytes old.order prefix) old fault =
+    subst (λ (a : At). RefusesField (IsLengthFault prefix) (LengthBytes a.order prefix) a fault) same there in
     record {
       place = r.place;
       reason = no_length r.reason;
       none = λ block spelling more p e.
-          r.none (length block) p.front (p.back ++ more) p.first (sym (append_assoc p.front p.back more) ∙ ap (λ (z : List ℕ). z ++ more) (sym p.joined) ∙ e);
+          r.none (length block) p.front (p.back ++ more) p.first
+          (sym (append_assoc p.front p.back more) ∙ ap (λ (z : List ℕ). z ++ more) (sym p.joined) ∙ e);
     }
 
-pub refuses_cut_block : (prefix : Prefix) (old at ahead : At) (size : ℕ) (bytes : List ℕ) (fault : Fault) → at ≡ old → Reads (LengthBytes at.order prefix) size at ahead → bytes ≡ ahead.rest → length bytes < size
-    → fault.place ≡ old.place → fault.reason ≡ Truncated → RefusesField (IsPrefixedFault old.order prefix) (BlockBytes (LengthBytes old.order prefix)) old fault
+pub refuses_cut_block : (prefix : Prefix) (old at ahead : At) (size : ℕ) (bytes : List ℕ) (fault : Fault) → at ≡ old
+    → Reads (LengthBytes at.order prefix) size at ahead → bytes ≡ ahead.rest → length bytes < size
+    → fault.place ≡ old.place → fault.reason ≡ Truncated
+    → RefusesField (IsPrefixedFault old.order prefix) (BlockBytes (LengthBytes old.order prefix)) old fault
 refuses_cut_block prefix old at ahead size bytes fault same there rest short place reason =
-    let r : Reads (LengthBytes old.order prefix) size old ahead = subst (λ (a : At). Reads (LengthBytes a.order prefix) size a ahead) same there in
+    let r : Reads (LengthBytes old.order prefix) size old ahead =
+    subst (λ (a : At). Reads (LengthBytes a.order prefix) size a ahead) same there in
     let short_here : length ahead.rest < size = omega (arith, short, ap length rest) in
     record {
       place = place;
       reason = cut_block size r.spelling ahead.rest reason r.spelled r.whole short_here;
       none = λ block spelling more p e.
-          let all : p.front ++ (p.back ++ more) ≡ r.spelling ++ ahead.rest = sym (append_assoc p.front p.back more) ∙ ap (λ (z : List ℕ). z ++ more) (sym p.joined) ∙ e ∙ r.whole in
-          let found = (length_code old.order prefix).one (length block) size p.front r.spelling (p.back ++ more) ahead.rest p.first r.spelled all in
+          let all : p.front ++ (p.back ++ more) ≡ r.spelling ++ ahead.rest =
+          sym (append_assoc p.front p.back more) ∙ ap (λ (z : List ℕ). z ++ more) (sym p.joined) ∙ e ∙ r.whole in
+          let found =
+          (length_code old.order prefix).one (length block) size p.front r.spelling (p.back ++ more) ahead.rest p.first r.spelled all in
           let behind : p.back ++ more ≡ ahead.rest = same_rest p.front r.spelling (p.back ++ more) ahead.rest found.1 all in
           omega (arith, found.0, short_here, ap length behind, length-append p.back more, ap length p.second);
     }
 
-pub reads_block : (prefix : Prefix) (old at ahead new : At) (size : ℕ) (bytes block : List ℕ) → at ≡ old → Reads (LengthBytes at.order prefix) size at ahead → bytes ≡ ahead.rest → size ≤ length bytes → block ≡ take size bytes
+pub reads_block : (prefix : Prefix) (old at ahead new : At) (size : ℕ) (bytes block : List ℕ) → at ≡ old
+    → Reads (LengthBytes at.order prefix) size at ahead → bytes ≡ ahead.rest → size ≤ length bytes → block ≡ take size bytes
     → Skips size ahead new → Reads (BlockBytes (LengthBytes old.order prefix)) block old new
 reads_block prefix old at ahead new size bytes block same there rest le is s =
-    let r : Reads (LengthBytes old.order prefix) size old ahead = subst (λ (a : At). Reads (LengthBytes a.order prefix) size a ahead) same there in
+    let r : Reads (LengthBytes old.order prefix) size old ahead =
+    subst (λ (a : At). Reads (LengthBytes a.order prefix) size a ahead) same there in
     let count : length block ≡ size = ap length is ∙ length-take-le size bytes le in
-    let joined : ahead.rest ≡ block ++ new.rest = sym rest ∙ sym (take-append-drop size bytes) ∙ ap (λ (z : List ℕ). z ++ drop size bytes) (sym is) ∙ ap (λ (z : List ℕ). block ++ drop size z) rest ∙ ap (λ (z : List ℕ). block ++ z) (sym s.rest) in
+    let joined : ahead.rest ≡ block ++ new.rest =
+    sym rest
+    ∙ sym (take-append-drop size bytes)
+    ∙ ap (λ (z : List ℕ). z ++ drop size bytes) (sym is)
+    ∙ ap (λ (z : List ℕ). block ++ drop size z) rest
+    ∙ ap (λ (z : List ℕ). block ++ z) (sym s.rest) in
     record {
       spelling = r.spelling ++ block;
-      spelled = record { front = r.spelling; back = block; first = subst (λ (n : ℕ). LengthBytes old.order prefix n r.spelling) (sym count) r.spelled; second = refl; joined = refl };
+      spelled =
+          record {
+            front = r.spelling;
+            back = block;
+            first = subst (λ (n : ℕ). LengthBytes old.order prefix n r.spelling) (sym count) r.spelled;
+            second = refl;
+            joined = refl;
+          };
       whole = r.whole ∙ ap (λ (z : List ℕ). r.spelling ++ z) joined ∙ sym (append_assoc r.spelling block new.rest);
       place = omega (arith, s.place, r.place, count, length-append r.spelling block);
       order = s.order ∙ r.order;
     }
+
+-- the exits of the reader of a block
+pub ruleset block_exits = (refuses_no_length, refuses_cut_block, reads_block)

@@ -1,10 +1,11 @@
--- Values that are borrowed, and the values that they stand for.
+-- The value that a borrowed one stands for.
 use Rattle.lnt_wire.specs.declared.form.FormValue.{FormValue}
 use Rattle.lnt_wire.specs.declared.form.FormValue.TheVariants as values
 use Rattle.lnt_wire.specs.declared.view.ValueView.{ValueView}
-use Rattle.lnt_wire.specs.declared.view.ValueView.TheVariants.{Text, LineStrp, Strp, Udata, Data1, Data2, Data4, Data8, Data16, Block, Block1, Block2, Block4}
+use Rattle.lnt_wire.specs.declared.view.ValueView.TheVariants.{Text, LineStrp, Strp, Udata, Data1, Data2, Data4, Data8, Data16}
+use Rattle.lnt_wire.specs.declared.view.ValueView.TheVariants.{Block, Block1, Block2, Block4}
 
--- the value of the same form, with the same bytes or the same number
+-- The value in the same form, with the same bytes or the same number.
 abbrev pub value_of : ValueView → FormValue
 value_of (Text text) = values.Text text.now
 value_of (LineStrp offset) = values.LineStrp offset

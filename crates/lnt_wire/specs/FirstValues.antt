@@ -1,5 +1,6 @@
--- The value in a form that bytes begin with, and how many of them spell it, as a reader finds them. Where the bytes begin with none, nothing is meant by it.
--- No public contract speaks of these: that the bytes spell the value is `ValueBytes`, and `Laws.FirstValues` says that what is spelled is found.
+-- The value in a form that bytes begin with, and how many of them spell it, as a reader finds them. Where the bytes begin with no
+-- value in the form, these functions give something that means nothing. No public contract speaks of them: that bytes spell a
+-- value is `ValueBytes` of `FormBytes`, and `proofs/FirstValueLaws` shows that what is spelled is found.
 use Rattle.std.specs.Prelude.{ℕ, zero, suc, ◌+◌, cond, nat_lt, List, [], ◌∷◌, length, take, drop}
 use Rattle.byteorder.specs.Endian.{little_number, big_number}
 use Rattle.lnt_wire.specs.declared.format.Order.{Order}
@@ -8,16 +9,17 @@ use Rattle.lnt_wire.specs.declared.format.Format.{Format}
 use Rattle.lnt_wire.specs.declared.form.Form.{Form}
 use Rattle.lnt_wire.specs.declared.form.Form.TheVariants as forms
 use Rattle.lnt_wire.specs.declared.form.FormValue.{FormValue}
-use Rattle.lnt_wire.specs.declared.form.FormValue.TheVariants.{Text, LineStrp, Strp, Udata, Data1, Data2, Data4, Data8, Data16, Block, Block1, Block2, Block4}
+use Rattle.lnt_wire.specs.declared.form.FormValue.TheVariants.{Text, LineStrp, Strp, Udata, Data1, Data2, Data4, Data8, Data16}
+use Rattle.lnt_wire.specs.declared.form.FormValue.TheVariants.{Block, Block1, Block2, Block4}
 use Rattle.lnt_wire.specs.Leb128.{groups}
 use Rattle.lnt_wire.specs.Numbers.{offset_size}
 
--- the number of the first bytes, as many as size says
+-- the number that the first bytes spell, as many as size says
 abbrev pub first_number : Order → ℕ → List ℕ → ℕ
 first_number Little size bytes = little_number size bytes
 first_number Big size bytes = big_number size bytes
 
--- the bytes up to the first that is below 128
+-- the bytes up to the first that is below 128, and this one
 abbrev pub first_leb : List ℕ → List ℕ
 first_leb [] = []
 first_leb (byte ∷ bytes) = cond (nat_lt byte 128) (byte ∷ []) (byte ∷ first_leb bytes)
@@ -28,11 +30,11 @@ first_text [] = []
 first_text (zero ∷ bytes) = []
 first_text (suc b ∷ bytes) = suc b ∷ first_text bytes
 
--- as many bytes as count says, behind a length of so many
-abbrev pub behind_length : ℕ → ℕ → List ℕ → List ℕ
-behind_length size count bytes = take count (drop size bytes)
+-- the count bytes after a length of size bytes
+abbrev pub after_length : ℕ → ℕ → List ℕ → List ℕ
+after_length size count bytes = take count (drop size bytes)
 
--- the value
+-- the value that the bytes begin with
 abbrev pub first_value : Format → Order → Form → List ℕ → FormValue
 first_value format order forms.Data1 bytes = Data1 (first_number order 1 bytes)
 first_value format order forms.Data2 bytes = Data2 (first_number order 2 bytes)
@@ -40,15 +42,15 @@ first_value format order forms.Data4 bytes = Data4 (first_number order 4 bytes)
 first_value format order forms.Data8 bytes = Data8 (first_number order 8 bytes)
 first_value format order forms.Data16 bytes = Data16 (take 16 bytes)
 first_value format order forms.Text bytes = Text (first_text bytes)
-first_value format order forms.Block bytes = Block (behind_length (length (first_leb bytes)) (groups (first_leb bytes)) bytes)
-first_value format order forms.Block1 bytes = Block1 (behind_length 1 (first_number order 1 bytes) bytes)
-first_value format order forms.Block2 bytes = Block2 (behind_length 2 (first_number order 2 bytes) bytes)
-first_value format order forms.Block4 bytes = Block4 (behind_length 4 (first_number order 4 bytes) bytes)
+first_value format order forms.Block bytes = Block (after_length (length (first_leb bytes)) (groups (first_leb bytes)) bytes)
+first_value format order forms.Block1 bytes = Block1 (after_length 1 (first_number order 1 bytes) bytes)
+first_value format order forms.Block2 bytes = Block2 (after_length 2 (first_number order 2 bytes) bytes)
+first_value format order forms.Block4 bytes = Block4 (after_length 4 (first_number order 4 bytes) bytes)
 first_value format order forms.Strp bytes = Strp (first_number order (offset_size format) bytes)
 first_value format order forms.LineStrp bytes = LineStrp (first_number order (offset_size format) bytes)
 first_value format order forms.Udata bytes = Udata (groups (first_leb bytes))
 
--- how many bytes spell it
+-- how many bytes spell that value
 abbrev pub first_size : Format → Order → Form → List ℕ → ℕ
 first_size format order forms.Data1 bytes = 1
 first_size format order forms.Data2 bytes = 2

@@ -1,4 +1,4 @@
--- Values in the forms that a table of a line number header may have (DWARF 5, section 7.5.6).
+-- Values in the forms that a table of a line number header may have, and the bytes that spell them (DWARF 5, section 7.5.6).
 use Rattle.std.specs.Prelude.{◌≡◌, ◌≢◌, ℕ, ◌^◌, ◌<◌, List, [], ◌∷◌, ◌++◌, length}
 use Rattle.std.specs.List.{AllByRecursion}
 use Rattle.lnt_wire.specs.declared.format.Order.{Order}
@@ -6,12 +6,13 @@ use Rattle.lnt_wire.specs.declared.format.Format.{Format}
 use Rattle.lnt_wire.specs.declared.form.Form.{Form}
 use Rattle.lnt_wire.specs.declared.form.Form.TheVariants as forms
 use Rattle.lnt_wire.specs.declared.form.FormValue.{FormValue}
-use Rattle.lnt_wire.specs.declared.form.FormValue.TheVariants.{Text, LineStrp, Strp, Udata, Data1, Data2, Data4, Data8, Data16, Block, Block1, Block2, Block4}
+use Rattle.lnt_wire.specs.declared.form.FormValue.TheVariants.{Text, LineStrp, Strp, Udata, Data1, Data2, Data4, Data8, Data16}
+use Rattle.lnt_wire.specs.declared.form.FormValue.TheVariants.{Block, Block1, Block2, Block4}
 use Rattle.lnt_wire.specs.Bytes.{Exactly, TakenBytes, ◌⨾◌}
 use Rattle.lnt_wire.specs.Leb128.{UnsignedLeb}
 use Rattle.lnt_wire.specs.Numbers.{NumberBytes, OffsetBytes, IsLargeOffset}
 
--- the code of each form
+-- The code of each form (DWARF 5, section 7.5.6).
 abbrev pub form_code : Form → ℕ
 form_code forms.Block2 = 0x03
 form_code forms.Block4 = 0x04
@@ -27,11 +28,11 @@ form_code forms.Udata = 0x0f
 form_code forms.Data16 = 0x1e
 form_code forms.LineStrp = 0x1f
 
--- no form has this code
+-- No form here has this code.
 abbrev pub IsUnknownForm : ℕ → Type 0
 IsUnknownForm code = (form : Form) → form_code form ≢ code
 
--- the form of a value
+-- The form that a value is in.
 abbrev pub form_of : FormValue → Form
 form_of (Text text) = forms.Text
 form_of (LineStrp offset) = forms.LineStrp
@@ -47,20 +48,20 @@ form_of (Block1 block) = forms.Block1
 form_of (Block2 block) = forms.Block2
 form_of (Block4 block) = forms.Block4
 
--- no byte is zero
+-- No byte is zero.
 abbrev pub HasNoZero : List ℕ → Type 0
 HasNoZero text = AllByRecursion (λ byte. 0 < byte) text
 
--- bytes other than zero, and a zero byte
+-- The bytes are the text, in which none is zero, and after it a zero byte.
 pub record TextBytes (text bytes : List ℕ) : Type 0 where
   pub no_zero : HasNoZero text
   pub joined : bytes ≡ text ++ 0 ∷ []
 
--- a length, spelled as its kind says, and as many bytes
+-- The bytes are the length of the block, of the kind of spelling Length, and after it the bytes of the block.
 abbrev pub BlockBytes : (ℕ → List ℕ → Type 0) → List ℕ → List ℕ → Type 0
 BlockBytes Length block bytes = (Length (length block) ⨾ Exactly block) bytes
 
--- Bytes that spell a value in its form.
+-- The bytes spell the value in its form. Offsets have 4 bytes in the 32-bit format, and 8 in the 64-bit one.
 abbrev pub FormBytes : Format → Order → FormValue → List ℕ → Type 0
 FormBytes format order (Text text) bytes = TextBytes text bytes
 FormBytes format order (LineStrp offset) bytes = OffsetBytes format order offset bytes
@@ -76,12 +77,12 @@ FormBytes format order (Block1 block) bytes = BlockBytes (NumberBytes order 1) b
 FormBytes format order (Block2 block) bytes = BlockBytes (NumberBytes order 2) block bytes
 FormBytes format order (Block4 block) bytes = BlockBytes (NumberBytes order 4) block bytes
 
--- a value of this form, and its bytes
+-- The value is in this form, and the bytes spell it.
 pub record ValueBytes (format : Format) (order : Order) (form : Form) (value : FormValue) (bytes : List ℕ) : Type 0 where
   pub form_is : form_of value ≡ form
   pub spelled : FormBytes format order value bytes
 
--- a value with a spelling in its form, but for offsets in the 32-bit format
+-- The value has a spelling in its form; of offsets this is so in the 64-bit format.
 abbrev pub HasSpelling : FormValue → Type 0
 HasSpelling (Text text) = HasNoZero text
 HasSpelling (Block1 block) = length block < 2 ^ 8
@@ -89,7 +90,7 @@ HasSpelling (Block2 block) = length block < 2 ^ 16
 HasSpelling (Block4 block) = length block < 2 ^ 32
 HasSpelling _ = Unit {0}
 
--- a value that has no spelling in the format
+-- The value is an offset, and too large for the format.
 abbrev pub IsTooLarge : Format → FormValue → Type 0
 IsTooLarge format (Strp offset) = IsLargeOffset format offset
 IsTooLarge format (LineStrp offset) = IsLargeOffset format offset

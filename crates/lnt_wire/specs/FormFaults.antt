@@ -1,4 +1,5 @@
--- What is wrong where no value in a form begins some bytes. Each reason holds at the value's first byte.
+-- What is wrong with bytes that begin with no value in a form (DWARF 5, section 7.5.6). The place of each fault is the value's
+-- first byte, so `bytes` are those from there on, up to the end of what may be read.
 use Rattle.std.specs.Prelude.{◌≡◌, ℕ, ◌<◌, List, ◌++◌, length}
 use Rattle.lnt_wire.specs.declared.format.Order.{Order}
 use Rattle.lnt_wire.specs.declared.format.Format.{Format}
@@ -11,17 +12,20 @@ use Rattle.lnt_wire.specs.Leb128.{UnsignedLeb, IsLargeUnsigned, IsLebFault}
 use Rattle.lnt_wire.specs.Numbers.{NumberBytes, offset_size}
 use Rattle.lnt_wire.specs.Reading.{IsCutShort}
 
--- no zero byte follows
+-- No zero byte follows, so the text doesn't end.
 pub record IsCutText (reason : Reason) (bytes : List ℕ) : Type 0 where
   pub reason_is : reason ≡ Truncated
   pub no_zero : HasNoZero bytes
 
--- The length of a block isn't there, or not as many bytes as it says. Length is how it is spelled, and IsLengthFault why it isn't.
-pub data IsBlockFault (Length : ℕ → List ℕ → Type 0) (IsLengthFault : Reason → List ℕ → Type 0) (reason : Reason) (bytes : List ℕ) : Type 0 where
+-- The length of a block isn't there, or is followed by fewer bytes than it says. Length is the kind in which the length is
+-- spelled, and IsLengthFault says why bytes begin with none of it.
+pub data IsBlockFault (Length : ℕ → List ℕ → Type 0) (IsLengthFault : Reason → List ℕ → Type 0) (reason : Reason)
+    (bytes : List ℕ) : Type 0 where
   no_length : IsLengthFault reason bytes → IsBlockFault Length IsLengthFault reason bytes
-  cut_block : (size : ℕ) (spelling rest : List ℕ) → reason ≡ Truncated → Length size spelling → bytes ≡ spelling ++ rest → length rest < size → IsBlockFault Length IsLengthFault reason bytes
+  cut_block : (size : ℕ) (spelling rest : List ℕ) → reason ≡ Truncated → Length size spelling → bytes ≡ spelling ++ rest
+      → length rest < size → IsBlockFault Length IsLengthFault reason bytes
 
--- why no value in the form is read
+-- Why the bytes begin with no value in the form.
 abbrev pub IsValueFault : Format → Order → Form → Reason → List ℕ → Type 0
 IsValueFault format order forms.Data1 = IsCutShort 1
 IsValueFault format order forms.Data2 = IsCutShort 2

@@ -6,36 +6,37 @@ use Rattle.lnt_wire.specs.declared.frame.Frame.{Frame}
 use Rattle.lnt_wire.specs.Numbers.{number_bytes}
 use Rattle.lnt_wire.specs.InitialLength.{initial_length, LengthFits}
 
--- the version of each unit
+-- The 2 bytes of version 5.
 abbrev pub version_five : Order → List ℕ
 version_five order = number_bytes order 2 5
 
--- the bytes of a body that begins with version 5
+-- The body of the unit begins with version 5.
 pub record BeginsWithFive (order : Order) (body : List ℕ) : Type 0 where
   pub behind : List ℕ
   pub joined : body ≡ version_five order ++ behind
 
--- an initial length, and the body that it counts
+-- an initial length, and after it the body that it counts
 abbrev pub frame_bytes : Order → Format → List ℕ → List ℕ
 frame_bytes order format body = initial_length format order (length body) ++ body
 
--- The bytes of a frame by its format and its body: the initial length, and the body that it counts, which begins with version 5.
+-- The bytes of a frame with this format and this body: the initial length, and after it the body that it counts, which begins with
+-- version 5.
 pub record FrameBytes (order : Order) (frame : Format × List ℕ) (bytes : List ℕ) : Type 0 where
   pub fits : LengthFits frame.0 (length frame.1)
   pub version : BeginsWithFive order frame.1
   pub joined : bytes ≡ frame_bytes order frame.0 frame.1
 
--- the frame of these bytes
+-- The bytes are those of the frame, and its length counts its body.
 pub record IsFrame (order : Order) (frame : Frame) (bytes : List ℕ) : Type 0 where
   pub length_is : frame.length ≡ length frame.body.now
   pub spelled : FrameBytes order (frame.format, frame.body.now) bytes
 
--- a frame that ends below 2 ^ 64, counted from the section's first byte
+-- The frame stands at its offset in a section, in which it ends below 2 ^ 64.
 pub record IsPlacedFrame (order : Order) (frame : Frame) : Type 0 where
   pub is : IsFrame order frame (frame_bytes order frame.format frame.body.now)
   pub room : frame.offset + length (frame_bytes order frame.format frame.body.now) < 2 ^ 64
 
--- The bytes of frames, one behind the other. The first frame stands at the offset, and each further one behind all before it.
+-- The bytes of frames one after another. The first frame stands at the offset, and each other where the one before it ends.
 abbrev pub FramesFrom : Order → ℕ → List Frame → List ℕ → Type 0
 FramesFrom order offset [] bytes = bytes ≡ []
 FramesFrom order offset (frame ∷ frames) bytes =

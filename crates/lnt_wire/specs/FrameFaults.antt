@@ -1,6 +1,7 @@
--- What is wrong where no frame begins some bytes.
---     before   the bytes up to the place of the fault
---     from     the bytes from the place on
+-- What is wrong with bytes that begin with no frame (DWARF 5, sections 6.2.4 and 7.4). A fault has a place in the bytes, which
+-- parts them:
+--     before   the bytes before the place of the fault
+--     from     the bytes from the place on, to the end of the section
 use Rattle.std.specs.Prelude.{◌≡◌, ◌≢◌, ℕ, ◌^◌, ◌<◌, ◌≤◌, List, [], ◌∷◌, ◌++◌, length}
 use Rattle.lnt_wire.specs.declared.format.Order.{Order}
 use Rattle.lnt_wire.specs.declared.format.Format.{Format}
@@ -9,20 +10,22 @@ use Rattle.lnt_wire.specs.declared.fault.Reason.TheVariants.{Truncated, Reserved
 use Rattle.lnt_wire.specs.Numbers.{number_bytes}
 use Rattle.lnt_wire.specs.InitialLength.{initial_length, LengthFits}
 
--- The bytes begin with a whole unit by its initial length. Its body has the fields up to the place, and what is left of it behind them.
+-- The bytes begin with a whole unit, judged by its initial length. Its body is the fields before the place, and from there on what
+-- is left of it.
 pub record InFrame (order : Order) (format : Format) (fields left before from : List ℕ) : Type 0 where
   pub more : List ℕ
   pub fits : LengthFits format (length (fields ++ left))
   pub before_is : before ≡ initial_length format order (length (fields ++ left)) ++ fields
   pub from_is : from ≡ left ++ more
 
--- The initial length is cut, in its first 4 bytes or in the 8 bytes behind 0xffffffff; or the unit is longer than the bytes.
+-- The initial length is cut, in its first 4 bytes or in the 8 bytes after 0xffffffff; or it counts more bytes than follow it.
 pub data IsCutFrame (order : Order) (bytes : List ℕ) : Type 0 where
   no_length : length bytes < 4 → IsCutFrame order bytes
   no_wide_length : (rest : List ℕ) → bytes ≡ number_bytes order 4 0xffffffff ++ rest → length rest < 8 → IsCutFrame order bytes
-  too_long : (format : Format) (n : ℕ) (rest : List ℕ) → LengthFits format n → bytes ≡ initial_length format order n ++ rest → length rest < n → IsCutFrame order bytes
+  too_long : (format : Format) (n : ℕ) (rest : List ℕ) → LengthFits format n → bytes ≡ initial_length format order n ++ rest
+      → length rest < n → IsCutFrame order bytes
 
--- a 32-bit length from 0xfffffff0 to 0xfffffffe
+-- The first 4 bytes are a number from 0xfffffff0 to 0xfffffffe, which are reserved (DWARF 5, section 7.4).
 pub record IsReserved (order : Order) (bytes : List ℕ) : Type 0 where
   pub n : ℕ
   pub rest : List ℕ
@@ -30,34 +33,22 @@ pub record IsReserved (order : Order) (bytes : List ℕ) : Type 0 where
   pub high : n < 0xffffffff
   pub joined : bytes ≡ number_bytes order 4 n ++ rest
 
--- a whole unit that ends within its version
+-- The unit is whole by its initial length, and its body has fewer than the 2 bytes of a version.
 abbrev pub IsCutVersion : Order → List ℕ → List ℕ → Type 0
 IsCutVersion order before from =
     (format : Format) × (left : List ℕ) × (length left < 2) × InFrame order format [] left before from
 
--- a whole unit of another version
+-- The unit is whole by its initial length, and its version is another than 5.
 abbrev pub IsOtherVersion : Order → ℕ → List ℕ → List ℕ → Type 0
 IsOtherVersion order version before from =
     (format : Format) × (left : List ℕ) × (version < 2 ^ 16) × (version ≢ 5)
     × InFrame order format [] (number_bytes order 2 version ++ left) before from
 
--- The reasons for which no frame begins the bytes, each at its place: the first byte, or that of the version.
+-- The reasons for which the bytes begin with no frame, each at its place: the first byte of the bytes, where nothing is before
+-- it, or that of the version.
 abbrev pub IsFrameFault : Order → Reason → List ℕ → List ℕ → Type 0
 IsFrameFault order Truncated [] from = IsCutFrame order from
 IsFrameFault order Truncated (b ∷ before) from = IsCutVersion order (b ∷ before) from
 IsFrameFault order ReservedLength before from = (before ≡ []) × IsReserved order from
 IsFrameFault order (VersionNotFive version) before from = IsOtherVersion order version before from
 IsFrameFault order _ before from = ⊥
-
--- why no initial length is read
-abbrev pub IsInitialFault : Order → Reason → List ℕ → Type 0
-IsInitialFault order Truncated bytes = IsCutFrame order bytes
-IsInitialFault order ReservedLength bytes = IsReserved order bytes
-IsInitialFault order _ bytes = ⊥
-
--- why a body doesn't begin with version 5
-abbrev pub IsVersionFault : Order → Reason → List ℕ → Type 0
-IsVersionFault order Truncated body = length body < 2
-IsVersionFault order (VersionNotFive version) body =
-    (left : List ℕ) × (version < 2 ^ 16) × (version ≢ 5) × (body ≡ number_bytes order 2 version ++ left)
-IsVersionFault order _ body = ⊥

@@ -1,12 +1,15 @@
 pub mod At
 pub mod Borrowed
 pub mod Bytes
+pub mod CountedSources
+pub mod FaultTexts
 pub mod FirstValues
 pub mod FormBytes
 pub mod FormFaults
 pub mod FrameBytes
 pub mod FrameFaults
 pub mod Frames
+pub mod InitialFaults
 pub mod InitialLength
 pub mod Laws
 pub mod Leb128
@@ -14,5 +17,7 @@ pub mod Numbers
 pub mod Prefixes
 pub mod Pulling
 pub mod Reading
+pub mod ShortLebs
+pub mod Skipping
 pub mod Spelled
 pub mod Texts

@@ -6,25 +6,26 @@ use Rattle.lnt_wire.specs.declared.format.Order.TheVariants.{Little, Big}
 use Rattle.lnt_wire.specs.declared.format.Format.{Format}
 use Rattle.lnt_wire.specs.declared.format.Format.TheVariants.{D32, D64}
 
--- the lowest bytes of n, as many as size says
+-- the size lowest bytes of n, in the order
 abbrev pub number_bytes : Order → ℕ → ℕ → List ℕ
 number_bytes Little size n = bytes_low_first 0 size n
 number_bytes Big size n = bytes_high_first size n
 
--- bytes that spell a number in as many bytes as size says
+-- The bytes spell the unsigned number in size bytes.
 pub record NumberBytes (order : Order) (size n : ℕ) (bytes : List ℕ) : Type 0 where
   pub fits : n < 256 ^ size
   pub spelled : bytes ≡ number_bytes order size n
 
--- how many bytes an offset has
+-- how many bytes an offset or a length has (DWARF 5, section 7.4)
 abbrev pub offset_size : Format → ℕ
 offset_size D32 = 4
 offset_size D64 = 8
 
+-- The bytes spell the offset in the format.
 abbrev pub OffsetBytes : Format → Order → ℕ → List ℕ → Type 0
 OffsetBytes format order n bytes = NumberBytes order (offset_size format) n bytes
 
--- an offset that the format can't say
+-- The offset is larger than the format can say.
 abbrev pub IsLargeOffset : Format → ℕ → Type 0
 IsLargeOffset D32 n = 2 ^ 32 ≤ n
 IsLargeOffset D64 n = ⊥

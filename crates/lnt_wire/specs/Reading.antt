@@ -1,12 +1,12 @@
--- What a read of a cursor does, and what is wrong where it is refused.
-use Rattle.std.specs.Prelude.{◌≡◌, ◌≢◌, ℕ, ◌+◌, ◌<◌, List, ◌++◌, length, drop}
+-- What a read of a cursor does, and what is so where it is refused.
+use Rattle.std.specs.Prelude.{◌≡◌, ◌≢◌, ℕ, ◌+◌, ◌<◌, List, ◌++◌, length}
 use Rattle.lnt_wire.specs.declared.fault.Fault.{Fault}
 use Rattle.lnt_wire.specs.declared.fault.Reason.{Reason}
 use Rattle.lnt_wire.specs.declared.fault.Reason.TheVariants.{Truncated, Memory}
 use Rattle.lnt_wire.specs.At.{At}
 use Rattle.lnt_wire.specs.Bytes.{NoneSpelled}
 
--- The read gave v, and moved past bytes that spell it, and past no others.
+-- The read gave v, and moved past bytes that spell it, and past no others. What follows them is left.
 pub record Reads {X : Type 0} (Spells : X → List ℕ → Type 0) (v : X) (old new : At) : Type 0 where
   pub spelling : List ℕ
   pub spelled : Spells v spelling
@@ -14,18 +14,22 @@ pub record Reads {X : Type 0} (Spells : X → List ℕ → Type 0) (v : X) (old 
   pub place : new.place ≡ old.place + length spelling
   pub order : new.order ≡ old.order
 
--- The read of a field was refused: no front of the rest spells a value, and the reason is so of the rest. The place is the field's first byte.
-pub record RefusesField {X : Type 0} (IsSo : Reason → List ℕ → Type 0) (Spells : X → List ℕ → Type 0) (old : At) (fault : Fault) : Type 0 where
+-- The read of a field was refused: the bytes that are left begin with no spelling of a value, and the reason is so of them. The
+-- fault's place is the field's first byte.
+pub record RefusesField {X : Type 0} (IsSo : Reason → List ℕ → Type 0) (Spells : X → List ℕ → Type 0) (old : At)
+    (fault : Fault) : Type 0 where
   pub place : fault.place ≡ old.place
   pub reason : IsSo fault.reason old.rest
   pub none : NoneSpelled Spells old.rest
 
--- the same, but for want of memory, which says nothing of the bytes
+-- The same, but where memory ran out, which says nothing of the bytes.
 abbrev pub RefusesFieldOr : {X : Type 0} → (Reason → List ℕ → Type 0) → (X → List ℕ → Type 0) → At → Fault → Type 0
 RefusesFieldOr IsSo Spells old fault = fault.reason ≢ Memory → RefusesField IsSo Spells old fault
 
--- The read of several fields was refused: no front of the rest spells a value. The fault's place lies in the rest, behind the bytes `before`, and its reason is so there.
-pub record Refuses {X : Type 0} (IsSo : Reason → List ℕ → List ℕ → Type 0) (Spells : X → List ℕ → Type 0) (old : At) (fault : Fault) : Type 0 where
+-- The read of several fields was refused: the bytes that are left begin with no spelling of a value. The fault's place lies in
+-- them: the bytes `before` stand before it, and the reason is so of these and of the bytes from the place on (left).
+pub record Refuses {X : Type 0} (IsSo : Reason → List ℕ → List ℕ → Type 0) (Spells : X → List ℕ → Type 0) (old : At)
+    (fault : Fault) : Type 0 where
   pub before : List ℕ
   pub left : List ℕ
   pub split : old.rest ≡ before ++ left
@@ -33,17 +37,11 @@ pub record Refuses {X : Type 0} (IsSo : Reason → List ℕ → List ℕ → Typ
   pub reason : IsSo fault.reason before left
   pub none : NoneSpelled Spells old.rest
 
--- the same, but for want of memory
+-- The same, but where memory ran out.
 abbrev pub RefusesOr : {X : Type 0} → (Reason → List ℕ → List ℕ → Type 0) → (X → List ℕ → Type 0) → At → Fault → Type 0
 RefusesOr IsSo Spells old fault = fault.reason ≢ Memory → Refuses IsSo Spells old fault
 
--- fewer bytes are left than the count says
+-- Fewer bytes are left than the count says.
 pub record IsCutShort (count : ℕ) (reason : Reason) (bytes : List ℕ) : Type 0 where
   pub reason_is : reason ≡ Truncated
   pub short : length bytes < count
-
--- the next n bytes were passed
-pub record Skips (n : ℕ) (old new : At) : Type 0 where
-  pub rest : new.rest ≡ drop n old.rest
-  pub place : new.place ≡ old.place + n
-  pub order : new.order ≡ old.order

@@ -1,30 +1,33 @@
-//! A source over a reader, with a limit.
+//! A source over any reader, as a file, with a limit.
 ghost use Rattle.std.specs.Prelude.{◌≡◌, ℕ, ◌+◌, ◌-◌, ◌^◌, ◌<◌, ◌≤◌, ◌∷◌, [], length, min, false, is_some, option_to_list, IsTrue, true};
 ghost use Rattle.std.specs.Io.KnownBytes.{prepend_known};
-ghost use Rattle.lnt_wire.specs.Pulling.{more_of};
+ghost use Rattle.lnt_wire.specs.CountedSources.{more_of};
 
 use crate::source::{ReadFault, Source};
 use std::io::Read;
 
-// The greatest limit.
+// The greatest limit, in bytes: 1 TiB.
 const MOST: u64 = 1 << 40;
 
 /// Gives the bytes of a reader, up to a limit.
 ///
-/// Every error of the reader is a failure and isn't tried again, also where a call was interrupted. Once the
-/// limit is reached, one more byte is asked for: where it is there, the source is too long, and the byte is kept
-/// among those that it has to give.
+/// Every error of the reader is a failure and isn't tried again, also where a call was interrupted. Once the limit is
+/// reached, the next pull asks the reader for one byte more. Where there is one, the source is too long, gives nothing
+/// from then on, and counts the byte among those that it has to give.
 #[derive(Drop)]
 pub struct Counted<R> {
     reader: R,
+    // How many bytes it may still give.
     left: u64,
+    // How many pulls were refused.
     failures: u64,
+    // The byte after the limit, where there is one.
     beyond: Option<u8>,
     ghost full: { is_some beyond ≡ true → left ≡ 0 },
 }
 
 impl<R: Read> Counted<R> {
-    /// A source of at most `limit` bytes of the reader; a limit above 2^40 counts as 2^40.
+    /// A source of at most `limit` bytes of the reader; a limit above 2^40 counts as 2^40. It asks the reader for nothing yet.
     pub fn new(reader: R, limit: u64) -> Counted<R>
         ensures remaining { ⟦<Counted<R> as Source>⟧.remaining result ≡ R.remaining reader }
         ensures failures { ⟦<Counted<R> as Source>⟧.failures result ≡ 0 }

@@ -1,17 +1,18 @@
-//! A place in a run of bytes, from which fields are read.
+//! A cursor over the bytes of a section, from which fields are read one after another.
 ghost use Rattle.std.specs.Prelude.{◌≡◌, ◌+◌, ◌^◌, ◌<◌, ◌≤◌, length, IfOk, OnErr, IfErr};
 ghost use Rattle.lnt_wire.specs.Bytes.{TakenBytes};
-ghost use Rattle.lnt_wire.specs.Reading.{Reads, RefusesField, IsCutShort, Skips};
+ghost use Rattle.lnt_wire.specs.Reading.{Reads, RefusesField, IsCutShort};
+ghost use Rattle.lnt_wire.specs.Skipping.{Skips};
 
 use crate::fault::{Fault, Reason};
 use crate::format::Order;
 use std::marker::Model;
 
-/// Reads fields one after another, up to the end of its bytes, which is their limit.
+/// Reads fields one after another from a slice of a section. No read goes past the end of the slice.
 ///
-/// A read gives a value and moves past exactly the bytes that spell it. It refuses only where no front of the
-/// bytes that are left spells a value, and then leaves the cursor as it was. The fault's place is the first
-/// byte of the field.
+/// A read gives a value and moves past exactly the bytes that spell it. It refuses only where the bytes that are left
+/// begin with no spelling of a value, and then leaves the cursor as it was. The place of the fault is the offset in the
+/// section of the field's first byte.
 #[derive(Drop)]
 pub struct Cursor<'a> {
     rest: &'a [u8],
@@ -31,8 +32,8 @@ impl<'a> Model for Cursor<'a> {
 }
 
 impl<'a> Cursor<'a> {
-    /// A cursor before the first of the bytes, which stands at the offset `base` of the section. The caller sees
-    /// to it that the offset behind the last byte is below 2^64.
+    /// A cursor before the first of these bytes, which stands at the offset `base` in the section. The caller sees to it
+    /// that the offset after the last byte is below 2^64.
     pub fn new(bytes: &'a [u8], base: u64, order: Order) -> Cursor<'a>
         requires { base + length bytes.now < 2 ^ 64 }
         ensures place { result.place ≡ base }
@@ -46,7 +47,7 @@ impl<'a> Cursor<'a> {
         }
     }
 
-    /// The offset in the section of the next byte.
+    /// The offset in the section of the next byte, or of the end of the bytes where none is left.
     pub fn place(&self) -> u64
         ensures value { result ≡ self.now.place }
         ensures room { self.now.place + length self.now.rest < 2 ^ 64 }
@@ -54,21 +55,21 @@ impl<'a> Cursor<'a> {
         self.place
     }
 
-    /// The bytes that are left.
+    /// The bytes that are left, from the next one to the end. The cursor stays where it is.
     pub fn rest(&self) -> &'a [u8]
         ensures { result.now ≡ self.now.rest }
     {
         self.rest
     }
 
-    /// The order of the bytes of numbers.
+    /// The byte order in which numbers are read.
     pub fn order(&self) -> Order
         ensures { result ≡ self.now.order }
     {
         self.order
     }
 
-    // Another cursor at the same place.
+    // Another cursor at the same place over the same bytes, so that fields can be read ahead and given up.
     pub(crate) fn fork(&self) -> Cursor<'a>
         ensures { result ≡ self.now }
     {
@@ -76,19 +77,19 @@ impl<'a> Cursor<'a> {
         Cursor { rest, place, order }
     }
 
-    // Moves past the next `n` bytes.
+    // Moves past the next `n` bytes. The caller sees to it that so many are left.
     #[inline(always)]
     pub(crate) fn skip(&mut self, n: usize)
         requires { n ≤ length self.old.rest }
         ensures { Skips n self.old self.new }
     {
         let Cursor { rest, place, .. } = self;
-        let (_, behind) = rest.split_at(n);
-        *rest = behind;
+        let (_, after) = rest.split_at(n);
+        *rest = after;
         *place += n as u64;
     }
 
-    /// The next `n` bytes. It refuses with `Truncated` where fewer are left.
+    /// The next `n` bytes, as they stand. It refuses with `Truncated` where fewer are left.
     #[inline(always)]
     #[tactic(auto, using(crate::proofs::ReadLemmas::refuses_short, crate::proofs::ReadLemmas::reads_taken))]
     pub fn take(&mut self, n: usize) -> Result<&'a [u8], Fault>

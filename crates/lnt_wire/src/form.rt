@@ -1,43 +1,43 @@
-//! The forms of values in the tables of a line number header (DWARF 5, section 7.5.6).
+//! The forms that values have in the tables of directories and files (DWARF 5, sections 6.2.4.1 and 7.5.6).
 ghost use Rattle.std.specs.Prelude.{◌≡◌, ◌↔◌, IsTrue, MatchOption};
 ghost use Rattle.lnt_wire.specs.FormBytes.{form_code, form_of, IsUnknownForm, HasNoZero, HasSpelling};
 
 use crate::items::Items;
 use crate::strings::text_size;
 
-/// A form that an entry of a table may have. Others are refused.
+/// A form that a value of a table may have. A table with values in any other form is refused, with `UnknownForm`.
 #[derive(Clone, Copy, Debug, PartialEq, Eq)]
 pub enum Form {
-    /// 0x0b: a number of 1 byte.
+    /// `DW_FORM_data1`, 0x0b: a number of 1 byte.
     Data1,
-    /// 0x05: a number of 2 bytes.
+    /// `DW_FORM_data2`, 0x05: a number of 2 bytes.
     Data2,
-    /// 0x06: a number of 4 bytes.
+    /// `DW_FORM_data4`, 0x06: a number of 4 bytes.
     Data4,
-    /// 0x07: a number of 8 bytes.
+    /// `DW_FORM_data8`, 0x07: a number of 8 bytes.
     Data8,
-    /// 0x1e: 16 bytes.
+    /// `DW_FORM_data16`, 0x1e: 16 bytes, as an MD5 sum.
     Data16,
-    /// 0x08, `string`: bytes other than zero, and a zero byte.
+    /// `DW_FORM_string`, 0x08: bytes other than zero, and a zero byte.
     Text,
-    /// 0x09: an unsigned LEB128, and as many bytes.
+    /// `DW_FORM_block`, 0x09: a length as an unsigned LEB128 number, and as many bytes.
     Block,
-    /// 0x0a: a length of 1 byte, and as many bytes.
+    /// `DW_FORM_block1`, 0x0a: a length in 1 byte, and as many bytes.
     Block1,
-    /// 0x03: a length of 2 bytes, and as many bytes.
+    /// `DW_FORM_block2`, 0x03: a length in 2 bytes, and as many bytes.
     Block2,
-    /// 0x04: a length of 4 bytes, and as many bytes.
+    /// `DW_FORM_block4`, 0x04: a length in 4 bytes, and as many bytes.
     Block4,
-    /// 0x0e: an offset into the section `.debug_str`.
+    /// `DW_FORM_strp`, 0x0e: an offset into the section `.debug_str`, of 4 or 8 bytes by the unit's format.
     Strp,
-    /// 0x1f: an offset into the section `.debug_line_str`.
+    /// `DW_FORM_line_strp`, 0x1f: an offset into the section `.debug_line_str`, of 4 or 8 bytes by the unit's format.
     LineStrp,
-    /// 0x0f: an unsigned LEB128.
+    /// `DW_FORM_udata`, 0x0f: an unsigned LEB128 number.
     Udata,
 }
 
 impl Form {
-    /// The form of this code. None where no form here has it.
+    /// The form of this code. None exactly where the code is none of those above.
     pub fn of(code: u64) -> Option<Form>
         ensures { MatchOption result (IsUnknownForm code) (λ form. form_code form ≡ code) }
     {
@@ -59,7 +59,7 @@ impl Form {
         }
     }
 
-    /// The code of the form.
+    /// The code by which an entry format names the form (DWARF 5, section 7.5.6).
     pub fn code(self) -> u64
         ensures { result ≡ form_code self }
     {
@@ -81,23 +81,24 @@ impl Form {
     }
 }
 
-/// A value in one of the forms.
+/// A value in one of the forms, with bytes of its own. `ValueView` is the same over borrowed bytes.
 #[derive(Debug, Drop, PartialEq, Eq)]
 pub enum FormValue {
     /// The bytes before the zero byte.
     Text(Items<u8>),
-    /// An offset into the section `.debug_line_str`.
+    /// An offset in bytes into the section `.debug_line_str`.
     LineStrp(u64),
-    /// An offset into the section `.debug_str`.
+    /// An offset in bytes into the section `.debug_str`.
     Strp(u64),
+    /// The number, here and to `Data8`.
     Udata(u64),
     Data1(u8),
     Data2(u16),
     Data4(u32),
     Data8(u64),
-    /// The bytes as they stand.
+    /// The bytes, in the order in which they stand in the section.
     Data16([u8; 16]),
-    /// The bytes behind the length, here and below.
+    /// The bytes after the length, here and below. The length is their number.
     Block(Items<u8>),
     Block1(Items<u8>),
     Block2(Items<u8>),
@@ -126,8 +127,9 @@ impl FormValue {
         }
     }
 
-    /// Whether the value has a spelling in its form: a `Text` has no zero byte in it, and the length of a `Block1`,
-    /// `Block2` or `Block4` fits its 1, 2 or 4 bytes. Offsets are taken to be in the 64-bit format.
+    /// Whether the value has a spelling in its form: a `Text` has no zero byte in it, and the number of bytes of a
+    /// `Block1`, `Block2` or `Block4` fits its 1, 2 or 4 bytes. Offsets are taken to be in the 64-bit format, which can say
+    /// each of them; `put_form` says which are too large in the 32-bit one.
     pub fn has_spelling(&self) -> bool
         ensures { IsTrue result ↔ HasSpelling self.now }
     {
@@ -148,7 +150,7 @@ fn has_no_zero(bytes: &[u8]) -> bool
     text_size(bytes).is_none()
 }
 
-// How the length of a block is spelled.
+// How the length of a block is spelled: as an unsigned LEB128 number, or in 1, 2 or 4 bytes.
 #[derive(Clone, Copy)]
 pub(crate) enum Prefix {
     Leb,

@@ -1,6 +1,7 @@
-//! How a section spells its numbers: byte orders and formats.
+//! How a section spells its numbers: the byte order, and the format of a unit.
 
-/// The order of the bytes of a fixed-width number.
+/// The order of the bytes of a fixed-width number. All units of a section have the same one, which the file says and not the
+/// section.
 #[derive(Clone, Copy, Debug, PartialEq, Eq)]
 pub enum Order {
     /// Little-endian: the lowest byte first.
@@ -9,11 +10,12 @@ pub enum Order {
     Big,
 }
 
-/// The format of a unit, which decides how wide its lengths and offsets are (DWARF 5, section 7.4).
+/// The format of a unit, which its initial length shows and which says how wide its lengths and offsets are (DWARF 5,
+/// section 7.4).
 #[derive(Clone, Copy, Debug, PartialEq, Eq)]
 pub enum Format {
-    /// The 32-bit format: lengths and offsets have 4 bytes.
+    /// The 32-bit format: lengths and offsets have 4 bytes, and the initial length too.
     D32,
-    /// The 64-bit format: lengths and offsets have 8 bytes.
+    /// The 64-bit format: lengths and offsets have 8 bytes, and the initial length 12, of which the first 4 are 0xff.
     D64,
 }

@@ -11,25 +11,26 @@ use crate::format::{Format, Order};
 use crate::initial::{begins_with_five, initial_length};
 use std::alloc::Global;
 
-/// A unit that was not looked into: its initial length, and the body that it counts, which begins with version 5.
+/// A unit seen from outside: its initial length, and the body that it counts, of which the version, 5, is known and no more.
 #[derive(Clone, Copy, Debug)]
 pub struct Frame<'a> {
     /// The offset in the section of the first byte of the initial length.
     pub offset: u64,
-    /// The format that the initial length has.
+    /// The format of the unit, which the initial length shows.
     pub format: Format,
-    /// How many bytes the body has.
+    /// How many bytes the body has: the initial length as a number.
     pub length: u64,
-    /// The bytes behind the initial length.
+    /// The bytes after the initial length, up to the end of the unit. The first two spell version 5.
     pub body: &'a [u8],
 }
 
-/// The frame at the cursor, which moves past it.
+/// The frame at the cursor, which moves past it, to the first byte after the unit.
 ///
-/// It refuses only where no frame stands there, and leaves the cursor as it was: `Truncated` at the cursor where
-/// the initial length is cut or counts more bytes than are left, and at the version where the body ends within
-/// it; `ReservedLength` at the cursor; `VersionNotFive` at the version.
-#[tactic(auto, using(crate::proofs::FrameLemmas::refuses_initial, crate::proofs::FrameLemmas::refuses_long, crate::proofs::FrameLemmas::refuses_version, crate::proofs::FrameLemmas::reads_frame))]
+/// It refuses only where no frame stands there, and then leaves the cursor as it was. The reasons are, at the place of
+/// the cursor, `Truncated` where the initial length is cut or counts more bytes than are left, and `ReservedLength`; and
+/// at the place of the version, the body's first byte, `Truncated` where the body has fewer than 2 bytes, and
+/// `VersionNotFive`.
+#[tactic(auto, using(crate::proofs::FrameLemmas::frame_exits))]
 pub fn take_frame<'a>(cursor: &mut Cursor<'a>) -> Result<Frame<'a>, Fault>
     ensures ok { IfOk result (λ frame. Reads (IsFrame cursor.old.order) frame cursor.old cursor.new) }
     ensures offset { IfOk result (λ frame. frame.offset ≡ cursor.old.place) }
@@ -64,20 +65,20 @@ pub fn take_frame<'a>(cursor: &mut Cursor<'a>) -> Result<Frame<'a>, Fault>
     })
 }
 
-/// The frames of a section, and why what stands behind them is no frame.
+/// The frames of a section from its start on, and the fault of the bytes after them, where they don't reach its end.
 #[derive(Debug, Drop)]
 pub struct Framed<'a> {
-    /// The frames in order, from the section's first byte on, one behind the other.
+    /// The frames in the order of their offsets. The first begins at offset 0, and each other where the one before it ends.
     pub frames: Vec<Frame<'a>>,
-    /// None where the section ends behind the last frame.
+    /// Why no frame begins after the last one. None where the section ends there.
     pub fault: Option<Fault>,
 }
 
-/// The frames of the section `bytes`: all of them, or those before the first fault.
+/// The frames of the section `bytes`, whose numbers are in this byte order: all of them, or those before the first fault.
 ///
-/// The bytes of the frames joined are the section, or, where there is a fault, the part of it before the bytes
-/// that no frame begins. The only error is `Memory`.
-#[tactic(auto, using(crate::proofs::FrameListLemmas::no_frames, crate::proofs::FrameListLemmas::one_more_frame, crate::proofs::FrameListLemmas::frame_long))]
+/// The bytes of the frames one after another are the section, or, where there is a fault, the part of it before the bytes
+/// that no frame begins. A fault is an answer, and the frames before it stand. The only error is `Memory`.
+#[tactic(auto, using(crate::proofs::FrameListLemmas::frame_walk))]
 pub fn frames<'a>(alloc: Global, bytes: &'a [u8], order: Order) -> Result<Framed<'a>, Fault>
     ensures ok { IfOk result (λ framed. AreFrames order bytes.entry.now framed.frames.items framed.fault) }
     ensures err { IfErr result (λ fault. fault.reason ≡ Reason.Memory) }

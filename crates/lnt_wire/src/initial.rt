@@ -1,7 +1,7 @@
 //! The initial length and the version of a unit (DWARF 5, sections 6.2.4 and 7.4).
 ghost use Rattle.std.specs.Prelude.{◌≡◌, ℕ, ◌+◌, ◌^◌, ◌<◌, ◌++◌, List, length, IfOk, IfErr, OnOk};
 ghost use Rattle.lnt_wire.specs.FrameBytes.{BeginsWithFive};
-ghost use Rattle.lnt_wire.specs.FrameFaults.{IsInitialFault, IsVersionFault};
+ghost use Rattle.lnt_wire.specs.InitialFaults.{IsInitialFault, IsVersionFault};
 ghost use Rattle.lnt_wire.specs.InitialLength.{InitialBytes};
 ghost use Rattle.lnt_wire.specs.Reading.{Reads};
 
@@ -9,7 +9,8 @@ use crate::cursor::Cursor;
 use crate::fault::{Fault, Reason};
 use crate::format::{Format, Order};
 
-// The initial length at the cursor. After a refusal nothing is said of the cursor.
+// The initial length at the cursor: the format, and how many bytes the unit has after it. It refuses with `Truncated` where
+// its 4 bytes, or the 8 after 0xffffffff, aren't there, and with `ReservedLength`. Then nothing is said of the cursor.
 pub(crate) fn initial_length(cursor: &mut Cursor<'_>) -> Result<(Format, u64), Reason>
     ensures ok { IfOk result (λ initial. Reads (InitialBytes cursor.old.order) initial cursor.old cursor.new) }
     ensures err { IfErr result (λ reason. IsInitialFault cursor.old.order reason cursor.old.rest) }
@@ -29,7 +30,8 @@ pub(crate) fn initial_length(cursor: &mut Cursor<'_>) -> Result<(Format, u64), R
     }
 }
 
-// Tests that the body of a unit, which stands at the place, begins with version 5.
+// Tests that the body of a unit begins with version 5. Its first byte stands at the offset `place` in the section, which is
+// the place of the faults: `Truncated` where it has fewer than 2 bytes, and `VersionNotFive`.
 pub(crate) fn begins_with_five(body: &[u8], place: u64, order: Order) -> Result<(), Fault>
     requires { place + length body.now < 2 ^ 64 }
     ensures ok { OnOk result (BeginsWithFive order body.now) }

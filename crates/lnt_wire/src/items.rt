@@ -1,9 +1,10 @@
-//! A vector that contracts see as a list.
+//! A vector of which contracts see the values, and not the capacity.
 ghost use Rattle.std.specs.Prelude.{◌≡◌};
 
 use std::marker::Model;
 
-/// Values in order. A contract sees the list alone, and no capacity.
+/// A vector of values that a contract sees as the list of them, without its capacity. So two of them are equal in a
+/// contract exactly where they hold the same values.
 #[derive(Debug, Drop)]
 pub struct Items<T> {
     values: Vec<T>,
@@ -18,21 +19,21 @@ impl<T> Model for Items<T> {
 }
 
 impl<T> Items<T> {
-    /// The values of the vector. It takes no memory.
+    /// The values of the vector, which isn't copied.
     pub fn new(values: Vec<T>) -> Items<T>
         ensures { result ≡ values.items }
     {
         Self { values }
     }
 
-    /// The values.
+    /// All values, in order.
     pub fn as_slice(&self) -> &[T]
         ensures { result.now ≡ self.now }
     {
         self.values.as_slice()
     }
 
-    /// The vector of the values. It takes no memory.
+    /// The vector of the values, which isn't copied.
     pub fn into_vec(self) -> Vec<T>
         ensures { result.items ≡ self }
     {

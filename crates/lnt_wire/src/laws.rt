@@ -1,7 +1,7 @@
-//! Laws of the format, each the contract of a function without parameters that does nothing.
+//! Laws of the format. Each is the contract of a function that takes nothing and does nothing, so that it is proved.
 //!
-//! They say that what is written is read again: no spelling of a kind begins another one, and each spells one value.
-//! So a read of bytes that begin with a spelling gives the value that it spells, whatever follows.
+//! They say that what is written is read again: no spelling of a kind is the front of another one, and each spells one
+//! value. So a read of bytes that begin with a spelling gives the value that it spells, whatever follows.
 ghost use Rattle.lnt_wire.specs.Laws.{OneNumber, OneLeb, OneValue, SpelledValues};
 
 /// Fixed-width numbers and offsets, in either order and format (DWARF 5, sections 7.4 and 7.5.5).

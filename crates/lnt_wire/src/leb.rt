@@ -1,15 +1,18 @@
-//! Numbers in groups of seven bits, LEB128 (DWARF 5, section 7.6).
-ghost use Rattle.std.specs.Prelude.{◌≡◌, ℕ, ◌+◌, ◌^◌, ◌<◌, ◌≤◌, length, take, MatchOption, MatchResult, IfOk, IfErr, IfSome, OnErr, [], ◌∷◌};
+//! Reads of LEB128 numbers, which are spelled in groups of seven bits (DWARF 5, section 7.6).
+ghost use Rattle.std.specs.Prelude.{◌≡◌, ℕ, ◌+◌, ◌^◌, ◌<◌, ◌≤◌, [], ◌∷◌};
+ghost use Rattle.std.specs.Prelude.{length, take, MatchOption, MatchResult, IfOk, IfErr, IfSome, OnErr};
 ghost use Rattle.lnt_wire.specs.Bytes.{NoneSpelled};
-ghost use Rattle.lnt_wire.specs.Leb128.{IsLeb, AreHigh, groups, signed_groups, UnsignedLeb, SignedLeb, IsLargeUnsigned, IsLargeSigned, IsLebFault, IsShortLeb};
+ghost use Rattle.lnt_wire.specs.Leb128.{IsLeb, AreHigh, groups, signed_groups, UnsignedLeb, SignedLeb};
+ghost use Rattle.lnt_wire.specs.Leb128.{IsLargeUnsigned, IsLargeSigned, IsLebFault};
 ghost use Rattle.lnt_wire.specs.Reading.{Reads, RefusesField};
+ghost use Rattle.lnt_wire.specs.ShortLebs.{IsShortLeb};
 
 use crate::cursor::Cursor;
 use crate::fault::{Fault, Reason};
 
 impl<'a> Cursor<'a> {
-    /// The next unsigned LEB128, padded or not. It refuses with `Truncated` where its last byte isn't there, and
-    /// with `LebTooLarge` where it is, and the number is 2^64 or more.
+    /// The next unsigned LEB128 number, with or without groups of zeros at its end. It refuses with `Truncated` where its
+    /// last byte isn't there, and with `LebTooLarge` where it is, and the number is 2^64 or more.
     #[inline(always)]
     #[tactic(auto, using(crate::proofs::ReadLemmas::reads_skipped, crate::proofs::ReadLemmas::refuses_field))]
     pub fn uleb(&mut self) -> Result<u64, Fault>
@@ -34,8 +37,8 @@ impl<'a> Cursor<'a> {
         }
     }
 
-    /// The next signed LEB128, padded or not. It refuses with `Truncated` where its last byte isn't there, and with
-    /// `LebTooLarge` where it is, and the number is below -2^63, or 2^63 or more.
+    /// The next signed LEB128 number, with or without groups at its end that repeat the sign. It refuses with `Truncated`
+    /// where its last byte isn't there, and with `LebTooLarge` where it is, and the number is below -2^63, or 2^63 or more.
     #[inline(always)]
     #[tactic(auto, using(crate::proofs::ReadLemmas::reads_skipped, crate::proofs::ReadLemmas::refuses_field))]
     pub fn sleb(&mut self) -> Result<i64, Fault>
@@ -61,18 +64,19 @@ impl<'a> Cursor<'a> {
     }
 }
 
-// Groups of at most 9 bytes.
+// The spelling of a number in at most 9 bytes. Its groups have at most 63 bits, so no sum of them overflows.
 #[derive(Clone, Copy)]
 struct ShortLeb {
-    // How many bytes there are.
+    // How many bytes spell it.
     size: usize,
-    // The sum of the groups.
+    // The number that the groups say, unsigned.
     sum: u64,
-    // One more than the greatest sum of as many groups: 128 to the size.
+    // One more than the greatest number of as many groups: 128 to the size.
     scale: u64,
 }
 
-// The number that the bytes begin with, and how many bytes spell it.
+// The unsigned number that the bytes begin with, and how many bytes spell it. It isn't inlined: it is for numbers of more
+// than one byte, which are few, and keeps the call above small.
 #[inline(never)]
 #[tactic(auto, using(crate::proofs::LebLemmas::short_unsigned, crate::proofs::LebLemmas::none_cut))]
 fn long_uleb(bytes: &[u8]) -> Result<(u64, usize), Reason>
@@ -92,7 +96,7 @@ fn long_uleb(bytes: &[u8]) -> Result<(u64, usize), Reason>
     }
 }
 
-// The signed number that the bytes begin with, and how many bytes spell it.
+// The signed number that the bytes begin with, and how many bytes spell it. It isn't inlined, as `long_uleb`.
 #[inline(never)]
 #[tactic(auto, using(crate::proofs::LebLemmas::none_cut_signed))]
 fn long_sleb(bytes: &[u8]) -> Result<(i64, usize), Reason>
@@ -112,8 +116,8 @@ fn long_sleb(bytes: &[u8]) -> Result<(i64, usize), Reason>
     }
 }
 
-// The groups that the bytes begin with, where they are at most 9.
-#[tactic(auto, using(crate::proofs::LebLemmas::no_groups, crate::proofs::LebLemmas::one_more_group, crate::proofs::LebLemmas::last_group_found, crate::proofs::LebLemmas::scale_fits, crate::proofs::LebLemmas::sum_fits))]
+// The spelling that the bytes begin with, where it has at most 9 bytes. None says nothing: it may be longer, or cut.
+#[tactic(auto, using(crate::proofs::LebLemmas::few_groups))]
 fn short_leb(bytes: &[u8]) -> Option<ShortLeb>
     ensures { IfSome result (λ found. IsShortLeb found.size found.sum found.scale bytes.now) }
 {
@@ -136,7 +140,7 @@ fn short_leb(bytes: &[u8]) -> Option<ShortLeb>
     None
 }
 
-// The groups in two's complement.
+// The signed number that this spelling at the front of the bytes says: bit 6 of its last byte is the sign.
 fn short_sum(short: ShortLeb, bytes: &[u8]) -> i64
     requires { IsShortLeb short.size short.sum short.scale bytes.now }
     ensures { SignedLeb result (take short.size bytes.now) }
@@ -148,7 +152,7 @@ fn short_sum(short: ShortLeb, bytes: &[u8]) -> i64
     }
 }
 
-// A last byte in two's complement.
+// What the last byte of a signed number says: its seven bits in two's complement, from -64 to 63.
 #[tactic(auto, using(crate::proofs::LebLemmas::one_low, crate::proofs::LebLemmas::one_high))]
 fn last_group(byte: u8) -> i64
     requires { byte < 128 }
@@ -161,7 +165,7 @@ fn last_group(byte: u8) -> i64
     }
 }
 
-// How many bytes the groups at the front have, where their last byte is there.
+// How many bytes spell the number that the bytes begin with: up to the first below 128. None where there is no such byte.
 fn leb_size(bytes: &[u8]) -> Option<usize>
     ensures { MatchOption result (AreHigh bytes.now)
         (λ size. (size ≤ length bytes.now) × IsLeb (take size bytes.now)) }
@@ -174,7 +178,7 @@ fn leb_size(bytes: &[u8]) -> Option<usize>
     None
 }
 
-// The sum of the groups, where it is below 2^64.
+// The unsigned number that the whole slice spells, summed from its last byte to its first. None where it is 2^64 or more.
 fn group_sum(spelling: &[u8]) -> Option<u64>
     ensures { MatchOption result (IsLargeUnsigned spelling.now) (λ sum. sum ≡ groups spelling.now) }
 {
@@ -190,7 +194,8 @@ fn group_sum(spelling: &[u8]) -> Option<u64>
     Some(sum)
 }
 
-// The groups in two's complement, where they are from -2^63 to 2^63 - 1.
+// The signed number that the whole slice spells, summed from its last byte to its first. None where it is below -2^63, or
+// 2^63 or more.
 fn signed_sum(spelling: &[u8]) -> Option<i64>
     requires { IsLeb spelling.now }
     ensures { MatchOption result (IsLargeSigned spelling.now) (λ sum. sum ≡ signed_groups spelling.now) }

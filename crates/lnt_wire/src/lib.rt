@@ -1,7 +1,9 @@
-//! The words of DWARF 5 line number sections: numbers, forms, frames, and the sources that bytes come from.
+//! The fields of DWARF 5 line number sections as bytes: numbers, values in a form, and frames; and where bytes come from.
 //!
-//! A [`Cursor`] reads one field after another, each with its exact bytes. [`frames`] parts a section into its
-//! units by their initial lengths. A [`Source`] gives the bytes of a section, and [`read_all`] takes them.
+//! A [`Cursor`] reads one field after another, and moves past exactly the bytes that spell it; `put_u16`, `put_form` and
+//! their like write one. [`frames`] parts a section into its units by their initial lengths and versions alone. A
+//! [`Source`] gives the bytes of a file some at a time, and [`read_all`] takes them all. Bytes are refused with a
+//! [`Fault`]: a reason, and the offset in the section of the field at which it holds.
 #![tactic(auto)]
 
 mod counted;

@@ -1,4 +1,4 @@
-//! Fixed-width numbers in either byte order, and offsets in either format (DWARF 5, sections 7.4 and 7.5.5).
+//! Reads of fixed-width numbers in either byte order, and of offsets in either format (DWARF 5, sections 7.4 and 7.5.5).
 ghost use Rattle.std.specs.Prelude.{◌≡◌, length, IfOk, OnErr, IfErr};
 ghost use Rattle.lnt_wire.specs.Numbers.{NumberBytes, OffsetBytes, offset_size};
 ghost use Rattle.lnt_wire.specs.Reading.{Reads, RefusesField, IsCutShort};
@@ -9,9 +9,9 @@ use crate::format::{Format, Order};
 use byteorder::{BigEndian, ByteOrder, LittleEndian};
 
 impl<'a> Cursor<'a> {
-    /// The next byte. It refuses with `Truncated` where none is left.
+    /// The next byte as an unsigned number. It refuses with `Truncated` where none is left.
     #[inline(always)]
-    #[tactic(auto, using(crate::proofs::ReadLemmas::reads_number, crate::proofs::ReadLemmas::refuses_number, crate::proofs::NumberLemmas::one_byte))]
+    #[tactic(auto, using(crate::proofs::NumberLemmas::one_byte, crate::proofs::ReadLemmas::number_exits))]
     pub fn u8(&mut self) -> Result<u8, Fault>
         ensures ok { IfOk result (λ v. Reads (NumberBytes self.old.order 1) v self.old self.new) }
         ensures err { IfErr result (λ fault. RefusesField (IsCutShort 1) (NumberBytes self.old.order 1) self.old fault) }
@@ -21,9 +21,9 @@ impl<'a> Cursor<'a> {
         Ok(bytes[0])
     }
 
-    /// The number of the next 2 bytes. It refuses with `Truncated` where fewer are left.
+    /// The unsigned number of the next 2 bytes, in the cursor's order. It refuses with `Truncated` where fewer are left.
     #[inline(always)]
-    #[tactic(auto, using(crate::proofs::ReadLemmas::reads_number, crate::proofs::ReadLemmas::refuses_number))]
+    #[tactic(auto, using(crate::proofs::ReadLemmas::number_exits))]
     pub fn u16(&mut self) -> Result<u16, Fault>
         ensures ok { IfOk result (λ v. Reads (NumberBytes self.old.order 2) v self.old self.new) }
         ensures err { IfErr result (λ fault. RefusesField (IsCutShort 2) (NumberBytes self.old.order 2) self.old fault) }
@@ -34,9 +34,9 @@ impl<'a> Cursor<'a> {
         Ok(u16_of(order, bytes))
     }
 
-    /// The number of the next 4 bytes. It refuses with `Truncated` where fewer are left.
+    /// The unsigned number of the next 4 bytes, in the cursor's order. It refuses with `Truncated` where fewer are left.
     #[inline(always)]
-    #[tactic(auto, using(crate::proofs::ReadLemmas::reads_number, crate::proofs::ReadLemmas::refuses_number))]
+    #[tactic(auto, using(crate::proofs::ReadLemmas::number_exits))]
     pub fn u32(&mut self) -> Result<u32, Fault>
         ensures ok { IfOk result (λ v. Reads (NumberBytes self.old.order 4) v self.old self.new) }
         ensures err { IfErr result (λ fault. RefusesField (IsCutShort 4) (NumberBytes self.old.order 4) self.old fault) }
@@ -47,9 +47,9 @@ impl<'a> Cursor<'a> {
         Ok(u32_of(order, bytes))
     }
 
-    /// The number of the next 8 bytes. It refuses with `Truncated` where fewer are left.
+    /// The unsigned number of the next 8 bytes, in the cursor's order. It refuses with `Truncated` where fewer are left.
     #[inline(always)]
-    #[tactic(auto, using(crate::proofs::ReadLemmas::reads_number, crate::proofs::ReadLemmas::refuses_number))]
+    #[tactic(auto, using(crate::proofs::ReadLemmas::number_exits))]
     pub fn u64(&mut self) -> Result<u64, Fault>
         ensures ok { IfOk result (λ v. Reads (NumberBytes self.old.order 8) v self.old self.new) }
         ensures err { IfErr result (λ fault. RefusesField (IsCutShort 8) (NumberBytes self.old.order 8) self.old fault) }
@@ -60,12 +60,13 @@ impl<'a> Cursor<'a> {
         Ok(u64_of(order, bytes))
     }
 
-    /// The next offset, of 4 bytes in the 32-bit format and of 8 in the 64-bit one (DWARF 5, section 7.4). It
+    /// The next offset or length, which has 4 bytes in the 32-bit format and 8 in the 64-bit one (DWARF 5, section 7.4). It
     /// refuses with `Truncated` where fewer are left.
     #[inline(always)]
     pub fn offset(&mut self, format: Format) -> Result<u64, Fault>
         ensures ok { IfOk result (λ v. Reads (OffsetBytes format self.old.order) v self.old self.new) }
-        ensures err { IfErr result (λ fault. RefusesField (IsCutShort (offset_size format)) (OffsetBytes format self.old.order) self.old fault) }
+        ensures err { IfErr result (λ fault.
+            RefusesField (IsCutShort (offset_size format)) (OffsetBytes format self.old.order) self.old fault) }
         ensures unchanged { OnErr result (self.new ≡ self.old) }
     {
         match format {
@@ -75,7 +76,7 @@ impl<'a> Cursor<'a> {
     }
 }
 
-// The number of these 2 bytes.
+// The number that these 2 bytes spell in the order.
 #[tactic(auto, using(crate::proofs::NumberLemmas::number_read_2))]
 fn u16_of(order: Order, bytes: &[u8]) -> u16
     requires { length bytes.now ≡ 2 }
@@ -87,7 +88,7 @@ fn u16_of(order: Order, bytes: &[u8]) -> u16
     }
 }
 
-// The number of these 4 bytes.
+// The number that these 4 bytes spell in the order.
 #[tactic(auto, using(crate::proofs::NumberLemmas::number_read_4))]
 fn u32_of(order: Order, bytes: &[u8]) -> u32
     requires { length bytes.now ≡ 4 }
@@ -99,7 +100,7 @@ fn u32_of(order: Order, bytes: &[u8]) -> u32
     }
 }
 
-// The number of these 8 bytes.
+// The number that these 8 bytes spell in the order.
 #[tactic(auto, using(crate::proofs::NumberLemmas::number_read_8))]
 fn u64_of(order: Order, bytes: &[u8]) -> u64
     requires { length bytes.now ≡ 8 }

@@ -1,7 +1,9 @@
-//! Numbers and values written at the end of a vector (DWARF 5, sections 7.4, 7.5.6 and 7.6).
-ghost use Rattle.std.specs.Prelude.{◌≡◌, ◌<◌, ◌↔◌, ◌++◌, pos, length, take, IsErrOf, IfErr, OnOk, OnErr};
+//! Numbers and values, written at the end of a vector (DWARF 5, sections 7.4, 7.5.6 and 7.6). A refused call leaves the vector
+//! as it was.
+ghost use Rattle.std.specs.Prelude.{◌≡◌, ◌<◌, ◌↔◌, ◌++◌, Some, pos, length, take, IsErrOf, IfErr, OnOk, OnErr};
 ghost use Rattle.std.specs.Int.{int_rem_euclid};
 ghost use Rattle.lnt_wire.specs.Bytes.{Appends, Extends};
+ghost use Rattle.lnt_wire.specs.FaultTexts.{encode_fault_text};
 ghost use Rattle.lnt_wire.specs.FormBytes.{HasNoZero, BlockBytes, FormBytes, TextBytes, HasSpelling, IsTooLarge};
 ghost use Rattle.lnt_wire.specs.Leb128.{UnsignedLeb, SignedLeb};
 ghost use Rattle.lnt_wire.specs.Prefixes.{LengthFits, LengthBytes};
@@ -11,15 +13,30 @@ use crate::form::{FormValue, Prefix};
 use crate::format::{Format, Order};
 use byteorder::{BigEndian, ByteOrder, LittleEndian};
 use std::alloc::{AllocError, AllocFailed};
+use std::error::Error;
+use std::fmt;
 
-/// Why a value isn't written.
+/// Why a value isn't written. Nothing of it is.
 #[derive(Clone, Copy, Debug, PartialEq, Eq)]
 pub enum EncodeFault {
-    /// 20: a length or an offset that the 32-bit format can't say.
+    /// 20: a length or an offset is larger than the 32-bit format can say.
     TooLarge,
     /// 21: memory ran out.
     Memory,
 }
+
+impl fmt::Display for EncodeFault {
+    ghost output = { λ fault. Some (encode_fault_text fault) };
+
+    fn fmt<W: fmt::Write>(&self, f: &mut fmt::Formatter<W>) -> fmt::Result {
+        match self {
+            EncodeFault::TooLarge => write!(f, "too large for the 32-bit format"),
+            EncodeFault::Memory => write!(f, "out of memory"),
+        }
+    }
+}
+
+impl Error for EncodeFault {}
 
 impl From<AllocError> for EncodeFault {
     ghost use Rattle.lnt_wire.specs.declared.put.EncodeFault.TheVariants.{Memory};
@@ -41,7 +58,8 @@ impl<T: Drop> From<AllocFailed<T>> for EncodeFault {
     }
 }
 
-/// Adds the shortest unsigned LEB128 of the number. The only refusal is `Memory`, and then `out` is as before.
+/// Adds the number as an unsigned LEB128 number, in as few bytes as spell it. The only refusal is `Memory`, and then `out` is
+/// as before.
 #[tactic(auto, using(crate::proofs::PutLemmas::taken_back))]
 pub fn put_uleb(out: &mut Vec<u8>, n: u64) -> Result<(), EncodeFault>
     ensures ok { OnOk result (Appends UnsignedLeb n out.old.items out.new.items) }
@@ -53,7 +71,8 @@ pub fn put_uleb(out: &mut Vec<u8>, n: u64) -> Result<(), EncodeFault>
     cut_back(out, start, ended)
 }
 
-/// Adds the shortest signed LEB128 of the number. The only refusal is `Memory`, and then `out` is as before.
+/// Adds the number as a signed LEB128 number, in as few bytes as spell it. The only refusal is `Memory`, and then `out` is as
+/// before.
 #[tactic(auto, using(crate::proofs::PutLemmas::taken_back))]
 pub fn put_sleb(out: &mut Vec<u8>, z: i64) -> Result<(), EncodeFault>
     ensures ok { OnOk result (Appends SignedLeb z out.old.items out.new.items) }
@@ -65,10 +84,11 @@ pub fn put_sleb(out: &mut Vec<u8>, z: i64) -> Result<(), EncodeFault>
     cut_back(out, start, ended)
 }
 
-/// Adds the value in its form, each LEB128 in its shortest spelling. The caller sees to it that a `Text` holds no
-/// zero byte, and that the length of a `Block1`, `Block2` or `Block4` fits its 1, 2 or 4 bytes.
+/// Adds the value in its form, in the format and the order of its unit, each LEB128 number in as few bytes as spell it. The
+/// caller sees to it that a `Text` holds no zero byte, and that the length of a `Block1`, `Block2` or `Block4` fits its 1,
+/// 2 or 4 bytes, as `FormValue::has_spelling` tells.
 ///
-/// It refuses with `TooLarge` exactly where an offset of 2^32 or more has no spelling in the 32-bit format, and else
+/// It refuses with `TooLarge` exactly where the value is an offset of 2^32 or more and the format the 32-bit one, and else
 /// only with `Memory`. Then `out` is as before.
 #[tactic(auto, using(crate::proofs::PutLemmas::taken_back))]
 pub fn put_form(
@@ -87,7 +107,7 @@ pub fn put_form(
     cut_back(out, start, ended)
 }
 
-/// Adds the number in 2 bytes of the order. The only refusal is `Memory`, and then `out` is as before.
+/// Adds the number in 2 bytes, in this order. The only refusal is `Memory`, and then `out` is as before.
 pub fn put_u16(out: &mut Vec<u8>, n: u16, order: Order) -> Result<(), EncodeFault>
     ensures ok { OnOk result (Appends (NumberBytes order 2) n out.old.items out.new.items) }
     ensures err { IfErr result (λ fault. fault ≡ EncodeFault.Memory) }
@@ -102,7 +122,7 @@ pub fn put_u16(out: &mut Vec<u8>, n: u16, order: Order) -> Result<(), EncodeFaul
     Ok(())
 }
 
-/// Adds the number in 4 bytes of the order. The only refusal is `Memory`, and then `out` is as before.
+/// Adds the number in 4 bytes, in this order. The only refusal is `Memory`, and then `out` is as before.
 pub fn put_u32(out: &mut Vec<u8>, n: u32, order: Order) -> Result<(), EncodeFault>
     ensures ok { OnOk result (Appends (NumberBytes order 4) n out.old.items out.new.items) }
     ensures err { IfErr result (λ fault. fault ≡ EncodeFault.Memory) }
@@ -117,7 +137,7 @@ pub fn put_u32(out: &mut Vec<u8>, n: u32, order: Order) -> Result<(), EncodeFaul
     Ok(())
 }
 
-/// Adds the number in 8 bytes of the order. The only refusal is `Memory`, and then `out` is as before.
+/// Adds the number in 8 bytes, in this order. The only refusal is `Memory`, and then `out` is as before.
 pub fn put_u64(out: &mut Vec<u8>, n: u64, order: Order) -> Result<(), EncodeFault>
     ensures ok { OnOk result (Appends (NumberBytes order 8) n out.old.items out.new.items) }
     ensures err { IfErr result (λ fault. fault ≡ EncodeFault.Memory) }
@@ -132,10 +152,10 @@ pub fn put_u64(out: &mut Vec<u8>, n: u64, order: Order) -> Result<(), EncodeFaul
     Ok(())
 }
 
-/// Adds the offset in the 4 bytes of the 32-bit format or the 8 of the 64-bit one.
+/// Adds the offset or length, in the 4 bytes of the 32-bit format or the 8 of the 64-bit one (DWARF 5, section 7.4).
 ///
-/// It refuses with `TooLarge` exactly where an offset of 2^32 or more has no spelling in the 32-bit format, and else
-/// only with `Memory`. Then `out` is as before.
+/// It refuses with `TooLarge` exactly where `n` is 2^32 or more and the format the 32-bit one, and else only with `Memory`.
+/// Then `out` is as before.
 pub fn put_offset(
     out: &mut Vec<u8>,
     n: u64,
@@ -155,7 +175,7 @@ pub fn put_offset(
     }
 }
 
-// Takes back what a refused call has added behind the start.
+// What a call ended with, after its bytes were taken back if it was refused: those from index `start` on.
 fn cut_back(
     out: &mut Vec<u8>,
     start: usize,
@@ -171,8 +191,8 @@ fn cut_back(
     ended
 }
 
-// Adds the shortest unsigned LEB128. After a refusal a part of it may be there.
-#[tactic(auto, using(crate::proofs::PutLemmas::begun_unsigned, crate::proofs::PutLemmas::put_unsigned, crate::proofs::PutLemmas::last_unsigned, crate::proofs::PutLemmas::begun_extends))]
+// Adds the shortest unsigned LEB128 number. After a refusal a part of it may be there.
+#[tactic(auto, using(crate::proofs::PutLemmas::unsigned_groups))]
 fn add_uleb(out: &mut Vec<u8>, n: u64) -> Result<(), EncodeFault>
     ensures ok { OnOk result (Appends UnsignedLeb n out.old.items out.new.items) }
     ensures err { IfErr result (λ fault. fault ≡ EncodeFault.Memory) }
@@ -187,7 +207,7 @@ fn add_uleb(out: &mut Vec<u8>, n: u64) -> Result<(), EncodeFault>
     Ok(())
 }
 
-// Adds the shortest signed LEB128. After a refusal a part of it may be there.
+// Adds the shortest signed LEB128 number. After a refusal a part of it may be there.
 #[tactic(auto, using(crate::proofs::PutLemmas::begun_signed, crate::proofs::PutLemmas::begun_extends))]
 fn add_sleb(out: &mut Vec<u8>, z: i64) -> Result<(), EncodeFault>
     ensures ok { OnOk result (Appends SignedLeb z out.old.items out.new.items) }
@@ -203,7 +223,7 @@ fn add_sleb(out: &mut Vec<u8>, z: i64) -> Result<(), EncodeFault>
     Ok(())
 }
 
-// The low seven bits, in two's complement.
+// The low seven bits of the number in two's complement, from 0 to 127.
 fn low_group(z: i64) -> u8
     ensures value { int_rem_euclid z (pos 128) ≡ pos result }
     ensures low { result < 128 }
@@ -252,7 +272,7 @@ fn add_text(out: &mut Vec<u8>, text: &[u8]) -> Result<(), EncodeFault>
     Ok(())
 }
 
-// Adds the length of a block, and its bytes. After a refusal a part of it may be there.
+// Adds the length of a block, spelled as `prefix` says, and its bytes. After a refusal a part of it may be there.
 fn add_block(
     out: &mut Vec<u8>,
     block: &[u8],
@@ -260,7 +280,8 @@ fn add_block(
     order: Order,
 ) -> Result<(), EncodeFault>
     requires { LengthFits prefix (length block.now) }
-    ensures ok { OnOk result (Appends (BlockBytes (LengthBytes order prefix)) block.now out.old.items out.new.items) }
+    ensures ok { OnOk result
+        (Appends (BlockBytes (LengthBytes order prefix)) block.now out.old.items out.new.items) }
     ensures err { IfErr result (λ fault. fault ≡ EncodeFault.Memory) }
     ensures extends { OnErr result (Extends out.old.items out.new.items) }
 {
@@ -269,7 +290,7 @@ fn add_block(
     Ok(())
 }
 
-// Adds the length of a block.
+// Adds the length of a block, spelled as `prefix` says. A refused call leaves `out` as it was.
 fn add_length(
     out: &mut Vec<u8>,
     length: usize,

@@ -1,4 +1,4 @@
-//! The texts of strings (DWARF 5, sections 7.5.5 and 7.26).
+//! The texts of values: the string sections, and where in them an offset leads (DWARF 5, sections 7.5.5 and 7.26).
 ghost use Rattle.std.specs.Prelude.{◌≡◌, ◌<◌, length, take, drop, get_or, MatchOption};
 ghost use Rattle.std.specs.Option.{option_map};
 ghost use Rattle.lnt_wire.specs.Borrowed.{value_of};
@@ -8,21 +8,21 @@ ghost use Rattle.lnt_wire.specs.Texts.{text_of, up_to_zero};
 use crate::form::FormValue;
 use crate::view::ValueView;
 
-/// The string sections that offsets lead into.
+/// The string sections into which the offsets of values lead. Either may be empty, as where a file lacks it.
 #[derive(Clone, Copy)]
 pub struct Strings<'a> {
-    /// The bytes of `.debug_line_str`.
+    /// The bytes of `.debug_line_str`, into which `DW_FORM_line_strp` leads.
     pub line: &'a [u8],
-    /// The bytes of `.debug_str`.
+    /// The bytes of `.debug_str`, into which `DW_FORM_strp` leads.
     pub general: &'a [u8],
 }
 
 impl<'a> Strings<'a> {
-    /// The text of the value: a `Text`'s own bytes; for a `LineStrp` or a `Strp` those of its section from the offset
-    /// up to the first zero byte.
+    /// The text of the value, without its zero byte: a `Text`'s own bytes; for a `LineStrp` or a `Strp` those of its
+    /// section from the offset up to the first zero byte.
     ///
-    /// None exactly where the offset is outside of the section, no zero byte follows, or the value is no string. It
-    /// takes no memory.
+    /// None exactly where the offset is past the end of the section, no zero byte follows there, or the value is in a
+    /// form that is no string. The bytes are not copied, and need not be UTF-8.
     pub fn text<'s>(&'s self, value: &'s FormValue) -> Option<&'s [u8]>
         ensures { option_map (λ text. text.now) result ≡ text_of self.now.line.now self.now.general.now value.now }
     {
@@ -34,7 +34,7 @@ impl<'a> Strings<'a> {
         }
     }
 
-    /// The text of a borrowed value, in the same way.
+    /// The text of a borrowed value, as `text` gives it.
     pub fn view_text(self, value: ValueView<'a>) -> Option<&'a [u8]>
         ensures { option_map (λ text. text.now) result ≡ text_of self.entry.line.now self.entry.general.now (value_of value.entry) }
     {
@@ -47,7 +47,8 @@ impl<'a> Strings<'a> {
     }
 }
 
-// The text at the offset.
+// The bytes of the section from the offset up to the first zero byte. None where the offset is past the end, or no zero
+// byte follows.
 #[tactic(auto, using(crate::proofs::TextLemmas::no_end, crate::proofs::TextLemmas::first_end))]
 fn text_at(section: &[u8], offset: u64) -> Option<&[u8]>
     ensures { option_map (λ text. text.now) result ≡ up_to_zero (drop offset section.now) }
@@ -63,7 +64,7 @@ fn text_at(section: &[u8], offset: u64) -> Option<&[u8]>
     Some(text)
 }
 
-// How many bytes stand before the first zero byte, where there is one.
+// How many bytes stand before the first zero byte. None where there is none.
 #[tactic(auto, using(crate::proofs::TextLemmas::no_zero_more))]
 pub(crate) fn text_size(bytes: &[u8]) -> Option<usize>
     ensures { MatchOption result (HasNoZero bytes.now)

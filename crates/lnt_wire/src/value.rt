@@ -1,4 +1,4 @@
-//! Values in the forms of a table (DWARF 5, section 7.5.6).
+//! Reads of values in the forms of a table (DWARF 5, section 7.5.6).
 ghost use Rattle.std.specs.Prelude.{◌≡◌, IfOk, IfErr, OnErr};
 ghost use Rattle.lnt_wire.specs.Borrowed.{value_of};
 ghost use Rattle.lnt_wire.specs.Bytes.{TakenBytes};
@@ -16,15 +16,18 @@ use crate::view::{ValueView, owned};
 use std::alloc::Global;
 
 impl<'a> Cursor<'a> {
-    /// The next value in the form, whose bytes are borrowed. It takes no memory.
+    /// The next value in the form, over the bytes of the section. Offsets have 4 bytes in the 32-bit format, and 8 in the
+    /// 64-bit one. It takes no memory.
     ///
-    /// It refuses only where no value in the form stands here: with `Truncated` where the bytes up to the limit don't
-    /// hold it whole, and with `LebTooLarge` where a LEB128 in it is out of range.
+    /// It refuses only where no value in the form stands here: with `Truncated` where the bytes that are left don't hold
+    /// it whole, and with `LebTooLarge` where a LEB128 number in it doesn't fit 64 bits. The place of both is the value's
+    /// first byte.
     #[inline(always)]
     #[tactic(auto, using(crate::proofs::RefusedForms::value_refusals))]
     pub fn value(&mut self, form: Form, format: Format) -> Result<ValueView<'a>, Fault>
         ensures ok { IfOk result (λ v. Reads (ValueBytes format self.old.order form) (value_of v) self.old self.new) }
-        ensures err { IfErr result (λ fault. RefusesField (IsValueFault format self.old.order form) (ValueBytes format self.old.order form) self.old fault) }
+        ensures err { IfErr result (λ fault.
+            RefusesField (IsValueFault format self.old.order form) (ValueBytes format self.old.order form) self.old fault) }
         ensures unchanged { OnErr result (self.new ≡ self.old) }
     {
         match form {
@@ -44,13 +47,14 @@ impl<'a> Cursor<'a> {
         }
     }
 
-    /// The next value in the form. Its bytes are copied.
+    /// The next value in the form, with a copy of its bytes.
     ///
-    /// It refuses with `Memory`, and else as `value` does.
+    /// It refuses with `Memory` where there is none for the copy, and else as `value` does.
     #[inline(always)]
     pub fn form(&mut self, alloc: Global, form: Form, format: Format) -> Result<FormValue, Fault>
         ensures ok { IfOk result (λ v. Reads (ValueBytes format self.old.order form) v self.old self.new) }
-        ensures err { IfErr result (λ fault. RefusesFieldOr (IsValueFault format self.old.order form) (ValueBytes format self.old.order form) self.old fault) }
+        ensures err { IfErr result (λ fault.
+            RefusesFieldOr (IsValueFault format self.old.order form) (ValueBytes format self.old.order form) self.old fault) }
         ensures unchanged { OnErr result (self.new ≡ self.old) }
     {
         let place = self.place();
@@ -61,7 +65,7 @@ impl<'a> Cursor<'a> {
         Ok(value)
     }
 
-    // The next 16 bytes.
+    // The next 16 bytes, as they stand. It refuses with `Truncated` where fewer are left.
     #[inline(always)]
     fn data16(&mut self) -> Result<[u8; 16], Fault>
         ensures ok { IfOk result (λ v. Reads (TakenBytes 16) v self.old self.new) }
@@ -73,7 +77,8 @@ impl<'a> Cursor<'a> {
         Ok(value)
     }
 
-    // The next bytes up to a zero byte.
+    // The next bytes up to a zero byte, without it. The cursor moves past it too. It refuses with `Truncated` where none of
+    // the bytes that are left is zero.
     #[inline(never)]
     #[tactic(auto, using(crate::proofs::ValueLemmas::refuses_text, crate::proofs::ValueLemmas::reads_text))]
     fn text(&mut self) -> Result<&'a [u8], Fault>
@@ -94,12 +99,14 @@ impl<'a> Cursor<'a> {
         Ok(text)
     }
 
-    // The next length of the kind, and as many bytes.
+    // The bytes of the next block, whose length is spelled as `prefix` says. It refuses with `Truncated` where the length isn't
+    // there, or counts more bytes than follow it, and with `LebTooLarge`. The place of each is the length's first byte.
     #[inline(never)]
-    #[tactic(auto, using(crate::proofs::ValueLemmas::refuses_no_length, crate::proofs::ValueLemmas::refuses_cut_block, crate::proofs::ValueLemmas::reads_block))]
+    #[tactic(auto, using(crate::proofs::ValueLemmas::block_exits))]
     fn block(&mut self, prefix: Prefix) -> Result<&'a [u8], Fault>
         ensures ok { IfOk result (λ v. Reads (BlockBytes (LengthBytes self.old.order prefix)) v.now self.old self.new) }
-        ensures err { IfErr result (λ fault. RefusesField (IsPrefixedFault self.old.order prefix) (BlockBytes (LengthBytes self.old.order prefix)) self.old fault) }
+        ensures err { IfErr result (λ fault.
+            RefusesField (IsPrefixedFault self.old.order prefix) (BlockBytes (LengthBytes self.old.order prefix)) self.old fault) }
         ensures unchanged { OnErr result (self.new ≡ self.old) }
     {
         let place = self.place();
@@ -118,10 +125,11 @@ impl<'a> Cursor<'a> {
         Ok(block)
     }
 
-    // The next length of the kind.
+    // The next length of a block, spelled as `prefix` says.
     fn length(&mut self, prefix: Prefix) -> Result<u64, Fault>
         ensures ok { IfOk result (λ v. Reads (LengthBytes self.old.order prefix) v self.old self.new) }
-        ensures err { IfErr result (λ fault. RefusesField (IsLengthFault prefix) (LengthBytes self.old.order prefix) self.old fault) }
+        ensures err { IfErr result (λ fault.
+            RefusesField (IsLengthFault prefix) (LengthBytes self.old.order prefix) self.old fault) }
         ensures unchanged { OnErr result (self.new ≡ self.old) }
     {
         match prefix {

@@ -1,4 +1,4 @@
-//! Values in the forms of a table, borrowed from the bytes that spell them (DWARF 5, section 7.5.6).
+//! Values in the forms of a table, over the bytes of the section that spell them (DWARF 5, section 7.5.6).
 ghost use Rattle.std.specs.Prelude.{◌≡◌, IfOk, IfErr};
 ghost use Rattle.lnt_wire.specs.Borrowed.{value_of};
 
@@ -7,31 +7,32 @@ use crate::form::FormValue;
 use crate::items::Items;
 use std::alloc::Global;
 
-/// A value in one of the forms, whose bytes are borrowed.
+/// A value in one of the forms. Its bytes are those of the section, which aren't copied; `FormValue` has bytes of its own.
 #[derive(Clone, Copy, Debug)]
 pub enum ValueView<'a> {
     /// The bytes before the zero byte.
     Text(&'a [u8]),
-    /// An offset into the section `.debug_line_str`.
+    /// An offset in bytes into the section `.debug_line_str`.
     LineStrp(u64),
-    /// An offset into the section `.debug_str`.
+    /// An offset in bytes into the section `.debug_str`.
     Strp(u64),
+    /// The number, here and to `Data8`.
     Udata(u64),
     Data1(u8),
     Data2(u16),
     Data4(u32),
     Data8(u64),
-    /// The bytes as they stand.
+    /// The bytes, in the order in which they stand in the section.
     Data16([u8; 16]),
-    /// The bytes behind the length, here and below.
+    /// The bytes after the length, here and below. The length is their number.
     Block(&'a [u8]),
     Block1(&'a [u8]),
     Block2(&'a [u8]),
     Block4(&'a [u8]),
 }
 
-/// The value that the view stands for. Its bytes are copied, of a value that was read at the place. The only error is
-/// `Memory`.
+/// The value that the view stands for, with a copy of its bytes. The only error is `Memory`, at the offset `place` at which
+/// the value was read.
 #[inline(always)]
 pub(crate) fn owned(alloc: Global, view: ValueView<'_>, place: u64) -> Result<FormValue, Fault>
     ensures ok { IfOk result (λ value. value ≡ value_of view.entry) }
@@ -54,7 +55,7 @@ pub(crate) fn owned(alloc: Global, view: ValueView<'_>, place: u64) -> Result<Fo
     }
 }
 
-// A copy of the bytes.
+// A copy of the bytes. The only error is `Memory`, at the offset `place`.
 #[inline(never)]
 fn copied(alloc: Global, bytes: &[u8], place: u64) -> Result<Items<u8>, Fault>
     ensures ok { IfOk result (λ items. items ≡ bytes.now) }

@@ -8,5 +8,7 @@ loop-filled-preserved g c = record {
   bound = grind (arith, common_steps);
   failures = grind (arith, common_steps);
   left = grind (arith, common_steps);
-  pulls = pulls_filled _ _ _ c.loop-filled.filled c.in_ok-count.count c.loop-filled.room c.pull.new.buf _ c.loop-filled.invariant.pulls c.in_ok-count.ensures.bytes c.loop-filled.invariant.bound c.in_ok-count.ensures.bound;
+  pulls =
+      pulls_filled _ _ _ c.loop-filled.filled c.in_ok-count.count c.loop-filled.room c.pull.new.buf _ c.loop-filled.invariant.pulls
+      c.in_ok-count.ensures.bytes c.loop-filled.invariant.bound c.in_ok-count.ensures.bound;
 }

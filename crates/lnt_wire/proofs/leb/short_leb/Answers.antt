@@ -12,8 +12,10 @@ overflow_add-sum c =
 
 pub returns-then-byte-lt128 : goal.returns-then-byte-lt128
 returns-then-byte-lt128 c =
-    last_group_found c.args.bytes.now c.loop-i.i c.loop-i.sum c.loop-i.scale _ _ c.loop-i.invariant (omega arith) c.loop-i-test.true c.if-byte-lt128.true (rw c.from.ensures refl) refl
+    last_group_found c.args.bytes.now c.loop-i.i c.loop-i.sum c.loop-i.scale _ _ c.loop-i.invariant
+    (omega arith) c.loop-i-test.true c.if-byte-lt128.true (rw c.from.ensures refl) refl
 
 pub loop-i-preserved : goal.loop-i-preserved
 loop-i-preserved c =
-    one_more_group c.args.bytes.now c.loop-i.i c.loop-i.sum c.loop-i.scale _ _ c.loop-i.invariant (omega arith) c.loop-i-test.true c.if-byte-lt128.false (rw c.from.ensures refl) refl
+    one_more_group c.args.bytes.now c.loop-i.i c.loop-i.sum c.loop-i.scale _ _ c.loop-i.invariant
+    (omega arith) c.loop-i-test.true c.if-byte-lt128.false (rw c.from.ensures refl) refl

@@ -14,10 +14,12 @@ overflow_cast-result-else-bytes-short-lt64 c =
 pub returns-then-bytes-short-lt64 : goal.returns-then-bytes-short-lt64
 returns-then-bytes-short-lt64 c =
     let fits = short_fits _ _ _ c.args.bytes.now c.requires in
-    rw (low_computed c.args.short.sum (omega (arith, fits.0, fits.1))) (short_low _ _ _ c.args.bytes.now c.requires c.if-bytes-short-lt64.true)
+    rw (low_computed c.args.short.sum (omega (arith, fits.0, fits.1)))
+    (short_low _ _ _ c.args.bytes.now c.requires c.if-bytes-short-lt64.true)
 
 pub returns-else-bytes-short-lt64 : goal.returns-else-bytes-short-lt64
 returns-else-bytes-short-lt64 c =
     let fits = short_fits _ _ _ c.args.bytes.now c.requires in
-    rw (high_computed c.args.short.sum c.args.short.scale c.from.result c.from-else-bytes-short-lt64.result fits.0 fits.1 c.from.ensures c.from-else-bytes-short-lt64.ensures)
+    rw (high_computed c.args.short.sum c.args.short.scale c.from.result c.from-else-bytes-short-lt64.result fits.0 fits.1 c.from.ensures
+    c.from-else-bytes-short-lt64.ensures)
     (short_high _ _ _ c.args.bytes.now c.requires c.if-bytes-short-lt64.false)

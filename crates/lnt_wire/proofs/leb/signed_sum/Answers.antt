@@ -13,7 +13,12 @@ last_group-sum-requires c = (end_of c.args.spelling.now c.requires).low
 
 pub returns-then-sum : goal.returns-then-sum
 returns-then-sum c = large_signed c.args.spelling.now c.loop-i.i c.loop-i-test.true c.loop-i.invariant.within
-    (elim c.then-sum.branch [ then-sum-via-then-sum w ↦ above (grind (arith, ints, w.if-sum.true, c.loop-i.invariant.sum)) | then-sum-via-else-sum+then-sum-2 w ↦ under (grind (arith, ints, w.if-sum-2.true, c.loop-i.invariant.sum)) ])
+    (elim c.then-sum.branch [
+      | then-sum-via-then-sum w ↦ above
+          (grind (arith, ints, w.if-sum.true, c.loop-i.invariant.sum))
+      | then-sum-via-else-sum+then-sum-2 w ↦ under
+          (grind (arith, ints, w.if-sum-2.true, c.loop-i.invariant.sum))
+    ])
 
 pub loop-i-preserved : goal.loop-i-preserved
 loop-i-preserved c =
@@ -22,5 +27,10 @@ loop-i-preserved c =
     let sum = cast_signed w64 c.loop-i.sum-bits in
     let high : sum <ℤ pos (2 ^ 56) = grind (arith, ints, c.if-sum.false) in
     let low : neg_ℤ (pos (2 ^ 56)) ≤ℤ sum = grind (arith, ints, c.if-sum-2.false) in
-    let known = subst (λ (z : ℤ). signed_groups (drop (c.loop-i.i - 1) c.args.spelling.now) ≡ pos (byte % 128) +ℤ pos 128 *ℤ z) (sym c.loop-i.invariant.sum) before in
-    record { within = omega arith; sum = computed_more sum (signed_groups (drop (c.loop-i.i - 1) c.args.spelling.now)) c.from.result byte high low c.from.ensures known }
+    let known =
+    subst (λ (z : ℤ). signed_groups (drop (c.loop-i.i - 1) c.args.spelling.now) ≡ pos (byte % 128) +ℤ pos 128 *ℤ z)
+    (sym c.loop-i.invariant.sum) before in
+    record {
+      within = omega arith;
+      sum = computed_more sum (signed_groups (drop (c.loop-i.i - 1) c.args.spelling.now)) c.from.result byte high low c.from.ensures known;
+    }

@@ -10,5 +10,6 @@ pub returns-in_ok-push-in-One-clause-ok : goal.returns-in_ok-push-in-One-clause-
 returns-in_ok-push-in-One-clause-ok c =
     let fits : c.args.length < 256 = subst (λ (prefix : Prefix). LengthFits prefix c.args.length) c.in-One.is c.requires in
     let items : c.push.new.self.items ≡ c.args.out.now.items ++ c.args.length ∷ [] = grind (arith, common_steps) in
-    subst (λ (prefix : Prefix). Appends (LengthBytes c.args.order prefix) c.args.length c.args.out.now.items c.push.new.self.items) (sym c.in-One.is)
+    subst (λ (prefix : Prefix). Appends (LengthBytes c.args.order prefix) c.args.length c.args.out.now.items c.push.new.self.items)
+    (sym c.in-One.is)
     (put_byte c.args.order c.args.length c.args.out.now.items c.push.new.self.items fits items)

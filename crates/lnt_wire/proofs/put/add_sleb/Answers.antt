@@ -21,7 +21,8 @@ loop-rest-preserved c =
     let items : c.push.new.self.items ≡ c.loop-rest.out.items ++ (c.low_group.result + 128) ∷ [] = grind (arith, common_steps) in
     let is = divided rest c.low_group.result c.low_group.ensures.value in
     let quotient = quotient_fits rest (int_div_euclid rest (pos 128)) c.low_group.result is fits in
-    rw (items, c.div_euclid-rest.ensures, to_z-of_z w64 (int_div_euclid rest (pos 128)) quotient) (put_signed _ rest _ c.low_group.result _ _ c.loop-rest.invariant wide is fits)
+    rw (items, c.div_euclid-rest.ensures, to_z-of_z w64 (int_div_euclid rest (pos 128)) quotient)
+    (put_signed _ rest _ c.low_group.result _ _ c.loop-rest.invariant wide is fits)
 
 pub returns-clause-ok : goal.returns-clause-ok
 returns-clause-ok c =
@@ -33,4 +34,5 @@ returns-clause-ok c =
     let items : c.push-2.new.self.items ≡ c.loop-rest.out.items ++ c.low_group-2.result ∷ [] = grind (arith, common_steps) in
     let is = divided rest c.low_group-2.result c.low_group-2.ensures.value in
     let whole = last_signed _ rest _ c.low_group-2.result _ _ c.loop-rest.invariant is low high fits in
-    rw items (subst (λ (z : ℤ). Appends SignedLeb z c.args.out.now.items (c.loop-rest.out.items ++ c.low_group-2.result ∷ [])) (to_z-of_z w64 c.args.z fits_whole) whole)
+    rw items (subst (λ (z : ℤ). Appends SignedLeb z c.args.out.now.items (c.loop-rest.out.items ++ c.low_group-2.result ∷ []))
+    (to_z-of_z w64 c.args.z fits_whole) whole)

@@ -6,4 +6,5 @@ use Rattle.lnt_wire.proofs.cursor.Cursor.sleb.Goals as goal
 pub returns-then-bytes-lt128-clause-ok : goal.returns-then-bytes-lt128-clause-ok
 returns-then-bytes-lt128-clause-ok c =
     let some : 0 < length c.rest-bytes.result.now = grind (arith, common_steps) in
-    reads_one_signed _ _ c.rest-bytes.result.now c.last_group.result c.rest-bytes.ensures some c.if-bytes-lt128.true c.last_group.ensures c.skip.ensures
+    reads_one_signed _ _ c.rest-bytes.result.now c.last_group.result c.rest-bytes.ensures some c.if-bytes-lt128.true c.last_group.ensures
+    c.skip.ensures
