@@ -1,25 +1,76 @@
 #!/usr/bin/env bash
-# The commands that README.md shows with their output print that output.
+# The commands of README.md, examples/README.md and docs/STORES.md: those with a `$` before them print what stands below them, and
+# all others that stand in blocks, or in tables of examples/README.md, end with status 0. They run in a folder like the top of the
+# repository, with a program `app` and a folder `store` of debug information.
 cd "$(dirname "$0")/.." || exit 1
 . tests/check.bash
-command= wanted=
+top=$PWD
+there=$work/there
 
-# Runs the command that was read last, if there is one, and compares what it prints.
-run() {
-  [ -n "$command" ] || return
-  if printf '%s' "$wanted" | cmp -s - <(bash -c "$command" 2>"$work/err"); then
+# A tool that a command needs isn't here.
+lacks() { # COMMAND
+  local tool
+  for tool in parallel make python3; do
+    [[ " $1" == *" $tool "* || $tool == python3 && $1 == *linetab-object* ]] && ! command -v "$tool" >/dev/null &&
+      echo "skipped: $tool isn't here: $1" && return
+  done
+  return 1
+}
+# Runs a command. Where it is shown with what it prints, that is compared, as it may end in a no; else its status has to be 0.
+runs() { # COMMAND [WANTED]
+  local status
+  lacks "$1" && return
+  (cd "$there" && bash -c "$1") >"$work/out" 2>"$work/err"
+  status=$?
+  [ $# -eq 1 ] || { printf '%s' "$2" | cmp -s - "$work/out"; status=$?; }
+  if [ "$status" -eq 0 ]; then
     passed=$((passed + 1))
   else
     failed=$((failed + 1))
-    echo "failed: $command"
+    echo "failed: $1"
+    head -n 5 "$work/err"
   fi
 }
 
-while IFS= read -r line; do
-  case $line in
-    '$ '*) run; command=${line#'$ '} wanted= ;;
-    '```'*) run; command= ;;
-    *) wanted+=$line$'\n' ;;
-  esac
-done <README.md
+# The blocks of a page: commands with what they print, commands alone, and the text of a Makefile. `./test` runs this script.
+page() { # FILE
+  local line inside= command= wanted=
+  while IFS= read -r line; do
+    case $line in
+      '```'*)
+        [ -z "$command" ] || runs "$command" "$wanted"
+        command= wanted=
+        [ -z "$inside" ] && inside=${line#'```'}: || inside= ;;
+      *)
+        case $inside in
+          '') ;;
+          make:) echo "$line" >>"$there/Makefile" ;;
+          *)
+            if [[ $line == '$ '* ]]; then
+              [ -z "$command" ] || runs "$command" "$wanted"
+              command=${line#'$ '} wanted=
+            elif [ -n "$command" ]; then
+              wanted+=$line$'\n'
+            elif [ "$line" != ./test ]; then
+              runs "$line"
+            fi ;;
+        esac ;;
+    esac
+  done <"$1"
+}
+
+mkdir -p "$there/store/one" "$there/store/two" "$there/bin"
+ln -s "$top"/* "$there"
+ln -s "$top/linetab-object" "$top/linetab" "$there/bin"
+PATH=$there/bin:$PATH
+for file in app store/one/a.debug store/two/b.debug; do
+  python3 tests/images.py elf64 "$there/$file" .debug_line=examples/hello.debug_line .debug_line_str=examples/hello.debug_line_str
+done
+page README.md
+expect 'the table of app' 0 '' '' cmp "$there/app.csv" examples/hello.csv
+page docs/STORES.md
+command -v make >/dev/null && expect 'the answers of a store' 0 $'yes\nyes\n' '' bash -c 'cat "$0"/store/*/*.answer' "$there"
+while IFS= read -r command; do
+  runs "$command"
+done < <(grep -oE '`\./linetab[^`]*`' examples/README.md | tr -d '`')
 finish
