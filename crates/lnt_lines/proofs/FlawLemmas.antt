@@ -29,19 +29,19 @@ use Rattle.lnt_lines.specs.Nos.{IsFirstFlaw, IsFlaw}
 
 -- ---- a sound unit has no flaw
 
-runs_well : (unit : Parts) (fault : RunFault) → Runs unit → fault ≢ run.Memory → IsRunFault unit fault → ⊥
+pub runs_well : (unit : Parts) (fault : RunFault) → Runs unit → fault ≢ run.Memory → IsRunFault unit fault → ⊥
 runs_well unit (run.LineOutOfRange k) runs some f = f.2 (runs.lines (k + 1) (omega (arith, f.0)))
 runs_well unit run.OpenSequence runs some f = f.1 runs.closed
 runs_well unit run.Memory runs some f = some refl
 
-tables_well : (text general : List ℕ) (h : HeaderParts) (fault : TableFault) → AreUsableTables text general h → IsTablesFault text general h fault → ⊥
+pub tables_well : (text general : List ℕ) (h : HeaderParts) (fault : TableFault) → AreUsableTables text general h → IsTablesFault text general h fault → ⊥
 tables_well text general h (table.EntryFormat Directories) usable f = f usable.directories.format
 tables_well text general h (table.EntryFormat Files) usable f = f.1 usable.files.format
 tables_well text general h (table.StringOutside Directories entry) usable f = first_is_wrong f.1 usable.directories.paths
 tables_well text general h (table.StringOutside Files entry) usable f = first_is_wrong f.2 usable.files.paths
 tables_well text general h (table.DirectoryNumber file) usable f = first_is_wrong f.2 usable.numbers
 
-sound_well : FallIsNotOrdered → MissingFileIsNotThere → (text general : List ℕ) (dead : Option ℕ) (unit : ℕ × Parts) (reason : No)
+pub sound_well : FallIsNotOrdered → MissingFileIsNotThere → (text general : List ℕ) (dead : Option ℕ) (unit : ℕ × Parts) (reason : No)
     → IsSound text general dead unit → IsFlaw text general dead unit reason → ⊥
 sound_well falls missing text general dead unit (no.Malformed fault) s f = f
 sound_well falls missing text general dead unit (no.Run offset fault) s f = runs_well unit.1 fault s.well_formed.runs f.1 f.2
@@ -55,10 +55,10 @@ sound_well falls missing text general dead unit (no.Overlap first second positio
 
 -- ---- its units begin with those of each front
 
-same_pair : (u v : ℕ × Parts) → u.0 ≡ v.0 → u.1 ≡ v.1 → u ≡ v
+pub same_pair : (u v : ℕ × Parts) → u.0 ≡ v.0 → u.1 ≡ v.1 → u ≡ v
 same_pair (m, x) (n, y) places parts = cc (places, parts)
 
-units_begin : (order : Order) (offset : ℕ) (us vs : List (ℕ × Parts)) (front rest whole : List ℕ) → UnitsFrom order offset us front → UnitsFrom order offset vs whole → whole ≡ front ++ rest
+pub units_begin : (order : Order) (offset : ℕ) (us vs : List (ℕ × Parts)) (front rest whole : List ℕ) → UnitsFrom order offset us front → UnitsFrom order offset vs whole → whole ≡ front ++ rest
     → (ws : List (ℕ × Parts)) × (vs ≡ us ++ ws)
 units_begin order offset [] vs front rest whole p q e = (vs, refl)
 units_begin order offset (u ∷ us) [] front rest whole p q e =
@@ -72,7 +72,7 @@ units_begin order offset (u ∷ us) (v ∷ vs) front rest whole p q e =
     let heads : u ≡ v = same_pair u v (p.2 ∙ sym q.2) one.0 in
     (more.0, cc (heads, more.1))
 
-all_at : {X : Type 0} (P : X → Type 0) (xs ys : List X) (x : X) → AllByRecursion P ((xs ++ x ∷ []) ++ ys) → P x
+pub all_at : {X : Type 0} (P : X → Type 0) (xs ys : List X) (x : X) → AllByRecursion P ((xs ++ x ∷ []) ++ ys) → P x
 all_at P [] ys x all = all.0
 all_at P (y ∷ xs) ys x all = all_at P xs ys x all.1
 

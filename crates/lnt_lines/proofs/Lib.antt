@@ -10,3 +10,6 @@ mod WholeLemmas
 pub mod IndexLemmas
 mod CursorLemmas
 pub mod GoodLemmas
+pub mod OneFlawLemmas
+pub mod OneNoLemmas
+pub mod OneOverlapLemmas

@@ -1,5 +1,5 @@
 //! Laws of judged sections, each the contract of a function without parameters that does nothing.
-ghost use Rattle.lnt_lines.specs.Laws.{AnswersAsHolder, FilesOfUnits, GoodHasNoFlaw, HeadersOfUnits};
+ghost use Rattle.lnt_lines.specs.Laws.{AnswersAsHolder, FilesOfUnits, GoodHasNoFlaw, HeadersOfUnits, OneNo};
 
 /// A good section has no flaw: nothing that a `No` tells is true of it. So where `verify` doesn't stop, it answers
 /// `Good` exactly where the section is good.
@@ -33,4 +33,14 @@ pub fn answers_as_holder()
     ensures { AnswersAsHolder }
 {
     lnt_rows::laws::answers_as_holder();
+}
+
+/// Of one section at most one reason is true, and so one is told: the first flaw of the first unit that has one, or the first
+/// overlap, or that the bytes are malformed. Which fault is told of malformed bytes isn't said here.
+#[tactic(auto, using(crate::proofs::OneNoLemmas::one_no))]
+pub fn one_no()
+    ensures { OneNo }
+{
+    lnt_rows::laws::fall_is_not_ordered();
+    lnt_rows::laws::missing_file_is_not_there();
 }
