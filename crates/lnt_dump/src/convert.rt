@@ -8,7 +8,7 @@ ghost use Rattle.lnt_dump.specs.Printed.{IsPrintedIn, IsRefusalTold, refusal_tex
 
 use crate::faults::print_fault;
 use lnt_files::{Halt, Status};
-use lnt_unit::{ConvertFault, convert_unit, judge_section};
+use lnt_unit::{ConvertFault, convert_unit, judge_conversion};
 use lnt_wire::{Cursor, Format, Order, Source, read_all};
 use std::alloc::Global;
 use std::io::Write;
@@ -41,7 +41,7 @@ pub fn print_converted<R: Source, W: Write>(
     ensures too_long { IsErrOf result Halt.TooLong → IsTrue (R.too_long source.new) }
 {
     let bytes = read_all(alloc, source)?;
-    if let Err(fault) = judge_section(alloc, &bytes, order, format, to) {
+    if let Err(fault) = judge_conversion(alloc, &bytes, order, format, to) {
         return print_refusal(fault, out);
     }
     print_section(alloc, &bytes, order, format, to, out)?;

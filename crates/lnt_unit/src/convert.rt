@@ -34,7 +34,7 @@ pub fn convert_section(
     ensures ok { IfOk result (λ converted. IsConverted order bytes.now format to converted.items) }
     ensures err { IfErr result (IsConvertFault order bytes.now format to) }
 {
-    judge_section(alloc, bytes, order, format, to)?;
+    judge_conversion(alloc, bytes, order, format, to)?;
     let mut out = Vec::new(alloc);
     let mut cursor = Cursor::new(bytes, 0, order);
     while !cursor.rest().is_empty() {
@@ -50,7 +50,7 @@ pub fn convert_section(
 ///
 /// It refuses as `convert_section` does.
 #[tactic(auto, using(crate::proofs::JudgeLemmas::judged_none, crate::proofs::JudgeLemmas::judged_more, crate::proofs::JudgeLemmas::judged_sound, crate::proofs::JudgeLemmas::judged_large, crate::proofs::JudgeLemmas::judged_long))]
-pub fn judge_section(
+pub fn judge_conversion(
     alloc: Global,
     bytes: &[u8],
     order: Order,

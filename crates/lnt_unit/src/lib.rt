@@ -10,7 +10,7 @@ pub mod laws;
 mod unit;
 mod view;
 
-pub use convert::{ConvertFault, convert_section, judge_section};
+pub use convert::{ConvertFault, convert_section, judge_conversion};
 pub use converting::convert_unit;
 pub use decode::{decode_section, decode_unit};
 pub use encode::encode_unit;

@@ -1,7 +1,7 @@
 use Rattle.std.proofs.Common.{◌≡◌, ◌<◌, length, sym, ap, ◌∙◌, arith}
 use Rattle.std.proofs.lemmas.Bool.{eqb-false, eqb-true}
 use Rattle.lnt_unit.proofs.JudgeLemmas.{judged_broken, judged_sound}
-use Rattle.lnt_unit.proofs.convert.judge_section.Goals as goal
+use Rattle.lnt_unit.proofs.convert.judge_conversion.Goals as goal
 
 pub returns-in-Err-clause-err : goal.returns-in-Err-clause-err
 returns-in-Err-clause-err c =
