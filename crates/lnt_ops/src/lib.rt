@@ -8,6 +8,7 @@ mod operation;
 mod owned;
 mod program;
 mod put;
+mod short;
 mod unknown;
 
 pub use iterator::Ops;
