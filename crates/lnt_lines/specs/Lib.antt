@@ -7,3 +7,4 @@ pub mod Judging
 pub mod Laws
 pub mod Nos
 pub mod Refusals
+pub mod Running

@@ -1,5 +1,5 @@
 -- A machine that does the operations which a walk gives, from some place of a program on.
-use Rattle.std.proofs.Common.{◌≡◌, ℕ, Bool, true, false, List, [], ◌∷◌, ◌++◌, refl, sym, ap, subst, ◌∙◌}
+use Rattle.std.proofs.Common.{◌≡◌, ℕ, Bool, true, false, List, [], ◌∷◌, refl, sym, ap, subst, ◌∙◌}
 use Rattle.std.specs.Prelude.{reverse, cond, Option, Some, None, drop}
 use Rattle.std.specs.List.{cons_option}
 use Rattle.std.proofs.lemmas.Bool.{true≢false}
@@ -11,13 +11,12 @@ use Rattle.lnt_header.specs.HeaderRules.{IsHeader}
 use Rattle.lnt_header.specs.OpRules.{Admits}
 use Rattle.lnt_header.specs.OpViews.{StandsFor}
 use Rattle.lnt_ops.specs.Laws.Left.{left_at, left_ends, left_fails, left_next}
-use Rattle.lnt_ops.specs.Left.{IsLeft, IsNextOf, IsPlace}
 use Rattle.lnt_ops.specs.Walks as walks
 use Rattle.lnt_ops.specs.Walks.{Walk, Ends, Fails}
 use Rattle.lnt_machine.specs.declared.row.Row.{Row}
 use Rattle.lnt_machine.specs.Laws.InParts.{stands_at_start}
 use Rattle.lnt_machine.specs.Matrix.{row_made, rows_behind}
-use Rattle.lnt_machine.specs.Parts.{AtStart, first_sequence, rows_of_ops}
+use Rattle.lnt_machine.specs.Parts.{first_sequence}
 use Rattle.lnt_machine.specs.Registers.{IsLine, line}
 use Rattle.lnt_machine.specs.State.{StandsAfter, State}
 use Rattle.lnt_machine.specs.Steps.{LeavesRange, Steps}

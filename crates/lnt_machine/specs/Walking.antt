@@ -36,6 +36,11 @@ GivesNext h [] None machine walk = Unit {0}
 GivesNext h (row ∷ rows) (Some made) machine walk = (made ≡ row) × HasRows h rows machine walk
 GivesNext h _ _ machine walk = ⊥
 
+-- The first of the rows was made, and the others are to come; or none was made yet.
+abbrev pub ComesNext : HeaderParts → List Row → Option Row → State → Walk → Type 0
+ComesNext h rows None machine walk = HasRows h rows machine walk
+ComesNext h rows (Some made) machine walk = GivesNext h rows (Some made) machine walk
+
 -- ---- the rows of one sequence
 
 -- a machine, a walk, and whether the sequence has ended

@@ -8,7 +8,7 @@ ghost use Rattle.lnt_header.specs.OpRules.{Admits};
 ghost use Rattle.lnt_header.specs.declared.op.Op.{Op};
 
 use crate::fault::RunFault;
-use crate::registers::{change, initial};
+use crate::registers::{change, initial, reciprocal_of};
 use crate::row::Row;
 use lnt_unit::{Header, OpView};
 use std::marker::Model;
@@ -22,17 +22,20 @@ use std::marker::Model;
 pub struct Machine<'a> {
     header: &'a Header,
     registers: Row,
+    // of the line range
+    reciprocal: u32,
     count: u64,
 }
 
 impl<'a> Model for Machine<'a> {
+    ghost use Rattle.std.specs.Prelude.{◌≡◌, ◌+◌, ◌/◌};
     ghost use Rattle.lnt_machine.specs.State.{State, IsBounded};
 
     ghost Value = { State };
 
     ghost view = { λ m. record { header = m.header.now; registers = m.registers; count = m.count } };
 
-    ghost invariant = { λ m. IsBounded m.header.now m.registers };
+    ghost invariant = { λ m. IsBounded m.header.now m.registers × (m.reciprocal ≡ 65536 / m.header.now.line_range + 1) };
 }
 
 impl<'a> Machine<'a> {
@@ -45,6 +48,7 @@ impl<'a> Machine<'a> {
         Machine {
             header,
             registers: initial(header),
+            reciprocal: reciprocal_of(header),
             count: 0,
         }
     }
@@ -70,9 +74,10 @@ impl<'a> Machine<'a> {
         let Machine {
             header,
             registers,
+            reciprocal,
             count,
         } = self;
-        let Ok(row) = change(registers, header, view) else {
+        let Ok(row) = change(registers, header, *reciprocal, view) else {
             return Err(RunFault::LineOutOfRange(*count));
         };
         *count = count.saturating_add(1);

@@ -1,5 +1,5 @@
 //! How operations change the registers (DWARF 5, section 6.2.5).
-ghost use Rattle.std.specs.Prelude.{◌≡◌, ◌+◌, ◌*◌, ◌%◌, ◌^◌, ◌<◌, ◌≤◌, pos, ◌+ℤ◌, unsigned_abs, IfOk, OnOk, OnErr};
+ghost use Rattle.std.specs.Prelude.{◌≡◌, ◌+◌, ◌*◌, ◌/◌, ◌%◌, ◌^◌, ◌<◌, ◌≤◌, pos, ◌+ℤ◌, unsigned_abs, IfOk, OnOk, OnErr};
 ghost use Rattle.lnt_machine.specs.Changes.{advanced, Changes, initial_registers, IsAllowed, line_reached, plain, set_by, special_row, unmarked};
 ghost use Rattle.lnt_machine.specs.Registers.{IsLine};
 ghost use Rattle.lnt_machine.specs.State.{IsBounded};
@@ -41,8 +41,10 @@ pub(crate) fn initial(header: &Header) -> Row
 pub(crate) fn change(
     registers: &mut Row,
     header: &Header,
+    reciprocal: u32,
     view: &OpView<'_>,
 ) -> Result<Option<Row>, OutOfRange>
+    requires reciprocal { reciprocal ≡ 65536 / header.now.line_range + 1 }
     requires allowed { IsAllowed header.now (plain view.now) }
     requires bounded { IsBounded header.now registers.old }
     ensures ok { IfOk result (λ row. Changes header.now (plain view.now) registers.old registers.new row) }
@@ -51,7 +53,7 @@ pub(crate) fn change(
 {
     match *view {
         OpView::Special(opcode) => {
-            let row = special(registers, header, opcode)?;
+            let row = special(registers, header, reciprocal, opcode)?;
             Ok(Some(row))
         }
         OpView::Copy => Ok(Some(append(registers))),
@@ -103,9 +105,23 @@ fn set(registers: &mut Row, header: &Header, view: &OpView<'_>)
     }
 }
 
+// The number by which special opcodes are divided by the line range without a division.
+#[inline(always)]
+pub(crate) fn reciprocal_of(header: &Header) -> u32
+    ensures { result ≡ 65536 / header.now.line_range + 1 }
+{
+    65536 / u32::from(header.line_range()) + 1
+}
+
 // Does a special opcode, and gives its row.
 #[inline(always)]
-fn special(registers: &mut Row, header: &Header, opcode: u8) -> Result<Row, OutOfRange>
+fn special(
+    registers: &mut Row,
+    header: &Header,
+    reciprocal: u32,
+    opcode: u8,
+) -> Result<Row, OutOfRange>
+    requires reciprocal { reciprocal ≡ 65536 / header.now.line_range + 1 }
     requires allowed { header.now.opcode_base ≤ opcode }
     requires bounded { IsBounded header.now registers.old }
     ensures line { OnOk result (IsLine (line_reached header.now registers.old (Op.Special opcode))) }
@@ -115,11 +131,24 @@ fn special(registers: &mut Row, header: &Header, opcode: u8) -> Result<Row, OutO
     ensures unchanged { OnErr result (registers.new ≡ registers.old) }
 {
     let adjusted = opcode - header.opcode_base();
-    let range = header.line_range();
-    let by = i64::from(header.line_base()) + i64::from(adjusted % range);
+    let (operations, lines) = divided(adjusted, header.line_range(), reciprocal);
+    let by = i64::from(header.line_base()) + i64::from(lines);
     registers.line = moved_line(registers.line, by)?;
-    advance(registers, header, u64::from(adjusted / range));
+    advance(registers, header, u64::from(operations));
     Ok(append(registers))
+}
+
+// The quotient and the rest of bytes. A reciprocal in units of 2^-16, rounded up, is exact for them.
+#[inline(always)]
+#[tactic(auto, using(crate::proofs::DivisionLemmas::quotient, crate::proofs::DivisionLemmas::rest, crate::proofs::DivisionLemmas::quotient_fits, crate::proofs::DivisionLemmas::product_fits, crate::proofs::DivisionLemmas::product_within, crate::proofs::DivisionLemmas::multiple_fits))]
+fn divided(dividend: u8, divisor: u8, reciprocal: u32) -> (u8, u8)
+    requires some { 0 < divisor }
+    requires reciprocal { reciprocal ≡ 65536 / divisor + 1 }
+    ensures quotient { result.0 ≡ dividend / divisor }
+    ensures rest { result.1 ≡ dividend % divisor }
+{
+    let quotient = (u32::from(dividend) * reciprocal / 65536) as u8;
+    (quotient, dividend - quotient * divisor)
 }
 
 // The registers as a row. What a row resets is reset.

@@ -5,7 +5,7 @@ ghost use Rattle.lnt_header.specs.declared.header.HeaderParts.{HeaderParts};
 ghost use Rattle.lnt_header.specs.declared.op.Op.{Op};
 ghost use Rattle.lnt_machine.specs.Matrix.{rows_behind};
 ghost use Rattle.lnt_machine.specs.Parts.{first_sequence};
-ghost use Rattle.lnt_machine.specs.Walking.{GivesNext, GivesRow, HasRows, IsSequencePlace, WillGive};
+ghost use Rattle.lnt_machine.specs.Walking.{ComesNext, GivesNext, GivesRow, HasRows, IsSequencePlace, WillGive};
 ghost use Rattle.lnt_machine.specs.declared.row.Row as spec;
 
 use crate::machine::Machine;
@@ -80,10 +80,35 @@ fn next_row(machine: &mut Machine<'_>, ops: &mut Ops<'_>) -> Option<Row>
     ensures shorter { IfSome result (λ row. length ops.new.at.rest < length ops.old.at.rest) }
     ensures gives { (h : HeaderParts) (rows : List spec.Row) → HasRows h rows machine.old ops.old → GivesNext h rows result machine.new ops.new }
 {
+    if let Some(row) = short_row(machine, ops) {
+        return Some(row);
+    }
     while let Some(op) = ops.next() {
         let Ok(op) = op else {
             return None;
         };
+        let Ok(made) = machine.step(&op) else {
+            return None;
+        };
+        if let Some(row) = made {
+            return Some(row);
+        }
+    }
+    None
+}
+
+// The row that the machine makes of the next operations, where all of them up to it are short. None may come behind some
+// that make none.
+#[tactic(auto, using(crate::proofs::WalkingLemmas::may_step))]
+#[inline(always)]
+fn short_row(machine: &mut Machine<'_>, ops: &mut Ops<'_>) -> Option<Row>
+    requires { machine.old.header ≡ ops.old.header }
+    ensures same { machine.new.header ≡ ops.new.header }
+    ensures no_longer { length ops.new.at.rest ≤ length ops.old.at.rest }
+    ensures shorter { IfSome result (λ row. length ops.new.at.rest < length ops.old.at.rest) }
+    ensures gives { (h : HeaderParts) (rows : List spec.Row) → HasRows h rows machine.old ops.old → ComesNext h rows result machine.new ops.new }
+{
+    while let Some(op) = ops.next_short() {
         let Ok(made) = machine.step(&op) else {
             return None;
         };

@@ -4,6 +4,7 @@ pub mod LebSizes
 pub mod OpPutLemmas
 pub mod OpReaders
 pub mod OwnedLemmas
+pub mod ShortLemmas
 pub mod StandardReaders
 pub mod UnknownReaders
 pub mod WalkLemmas

@@ -4,6 +4,7 @@ ghost use Rattle.std.specs.Iterator.{at_most};
 ghost use Rattle.lnt_ops.specs.Walks.{WalkStep};
 
 use crate::operation::read_op;
+use crate::short::short_op;
 use lnt_header::{Header, OpView};
 use lnt_wire::{Cursor, Fault};
 use std::marker::Model;
@@ -15,23 +16,31 @@ use std::marker::Model;
 #[derive(Drop)]
 pub struct Ops<'a> {
     header: &'a Header,
-    cursor: Cursor<'a>,
+    rest: &'a [u8],
+    // the offset behind the last byte
+    end: u64,
     failed: bool,
 }
 
 impl<'a> Model for Ops<'a> {
-    ghost use Rattle.std.specs.Prelude.{◌≡◌};
+    ghost use Rattle.std.specs.Prelude.{◌-◌, ◌^◌, ◌<◌, ◌≤◌, length};
     ghost use Rattle.lnt_ops.specs.Walks.{Walk};
 
     ghost Value = { Walk };
 
-    ghost view = { λ ops. record { header = ops.header.now; at = ops.cursor; failed = ops.failed } };
+    ghost view = { λ ops. record {
+      header = ops.header.now;
+      at = record { place = ops.end - length ops.rest.now; rest = ops.rest.now; order = ops.header.now.order };
+      failed = ops.failed;
+    } };
 
-    ghost invariant = { λ ops. ops.cursor.order ≡ ops.header.now.order };
+    ghost invariant = { λ ops. (length ops.rest.now ≤ ops.end) × (ops.end < 2 ^ 64) };
 }
 
 impl<'a> Ops<'a> {
+    ghost use Rattle.std.specs.Prelude.{◌≡◌, IfNone, IfSome};
     ghost use Rattle.lnt_header.specs.HeaderRules.{IsHeader};
+    ghost use Rattle.lnt_ops.specs.Walks.{Steps};
 
     /// The operations of a program in a unit with this header. The program's first byte stands at the offset `place`
     /// of the section, and the offset behind its last byte is below 2^64.
@@ -44,9 +53,12 @@ impl<'a> Ops<'a> {
         ensures going { result.failed ≡ false }
         ensures is_header { IsHeader header.entry.now }
     {
+        // The unit's order is the header's.
+        let _order = header.order();
         Ops {
             header,
-            cursor: Cursor::new(program, place, header.order()),
+            rest: program,
+            end: place + program.len() as u64,
             failed: false,
         }
     }
@@ -71,7 +83,25 @@ impl<'a> Ops<'a> {
     pub fn left(&self) -> usize
         ensures { result ≡ length self.now.at.rest }
     {
-        self.cursor.rest().len()
+        self.rest.len()
+    }
+
+    /// The next operation, where it is of a frequent kind and its operand is short: one that `next` would give now. It is
+    /// read in line, for loops that do many. None says nothing of the program, and leaves the walk as it was: `next` tells.
+    #[inline(always)]
+    #[tactic(auto, using(crate::proofs::ShortLemmas::steps_short))]
+    pub fn next_short(&mut self) -> Option<OpView<'a>>
+        ensures steps { IfSome result (λ view. Steps view self.old self.new) }
+        ensures unchanged { IfNone result (self.new ≡ self.old) }
+    {
+        if self.failed {
+            return None;
+        }
+        let rest = self.rest;
+        let (view, size) = short_op(rest, self.header)?;
+        let (_, behind) = rest.split_at(size);
+        self.rest = behind;
+        Some(view)
     }
 }
 
@@ -85,11 +115,16 @@ impl<'a> Iterator for Ops<'a> {
     #[inline(always)]
     #[tactic(auto, using(crate::proofs::WalkLemmas::ends_failed, crate::proofs::WalkLemmas::ends_empty, crate::proofs::WalkLemmas::steps_on, crate::proofs::WalkLemmas::fails_here, crate::proofs::WalkLemmas::order_kept))]
     fn next(&mut self) -> Option<Result<OpView<'a>, Fault>> {
-        if self.failed || self.cursor.rest().is_empty() {
+        if self.failed || self.rest.is_empty() {
             return None;
         }
-        match read_op(&mut self.cursor, self.header) {
-            Ok(view) => Some(Ok(view)),
+        let place = self.end - self.rest.len() as u64;
+        let mut cursor = Cursor::new(self.rest, place, self.header.order());
+        match read_op(&mut cursor, self.header) {
+            Ok(view) => {
+                self.rest = cursor.rest();
+                Some(Ok(view))
+            }
             Err(fault) => {
                 self.failed = true;
                 Some(Err(fault))

@@ -9,6 +9,7 @@ mod operation;
 mod owned;
 mod program;
 mod put;
+mod short;
 mod unknown;
 
 pub use converted::convert_ops;

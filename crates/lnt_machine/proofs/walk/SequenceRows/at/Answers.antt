@@ -1,6 +1,6 @@
 use Rattle.lnt_machine.proofs.WalkingLemmas.{will_give}
 use Rattle.lnt_machine.proofs.walk.SequenceRows.at.Goals as goal
-use Rattle.std.proofs.Common.{◌∙◌, refl}
+use Rattle.std.proofs.Common.{refl}
 
 pub returns-clause-rows : goal.returns-clause-rows
 returns-clause-rows c earlier later is =

@@ -1,0 +1,106 @@
+-- A unit's program, run operation by operation. Contracts of private functions speak of this.
+use Rattle.std.specs.Prelude.{◌≡◌, ◌≢◌, ℕ, ◌+◌, ◌^◌, ◌<◌, ◌≤◌, Bool, true, false, List, [], ◌∷◌, length, reverse, Option}
+use Rattle.lnt_header.specs.declared.op.Op.{Op}
+use Rattle.lnt_header.specs.declared.view.OpView.{OpView}
+use Rattle.lnt_ops.specs.Walks as walks
+use Rattle.lnt_ops.specs.Walks.{Walk}
+use Rattle.lnt_unit.specs.Views.{by_numbers, HasGiven, View, with_ops}
+use Rattle.lnt_machine.specs.declared.fault.RunFault.{RunFault}
+use Rattle.lnt_machine.specs.declared.fault.RunFault.TheVariants.{LineOutOfRange, Memory}
+use Rattle.lnt_machine.specs.declared.row.Row.{Row}
+use Rattle.lnt_machine.specs.declared.row.Sequence.{Sequence}
+use Rattle.lnt_machine.specs.Laws.Sequences.{IsCut}
+use Rattle.lnt_machine.specs.Matrix.{LinesFit, rows}
+use Rattle.lnt_machine.specs.State.{StandsAfter, State}
+use Rattle.lnt_machine.specs.Steps.{LeavesRange}
+use Rattle.lnt_machine.specs.Walking.{HasPlaces}
+use Rattle.lnt_rows.specs.declared.collected.Collected.{Collected}
+use Rattle.lnt_rows.specs.declared.watch.Watch.{Watch}
+use Rattle.lnt_rows.specs.Sequences.{Placed}
+use Rattle.lnt_rows.specs.Watching.{Collects, CollectsRows, HasSeen}
+use Rattle.lnt_lines.specs.declared.refusal.Refusal.{Refusal}
+use Rattle.lnt_lines.specs.declared.refusal.Refusal.TheVariants as refusal
+use Rattle.lnt_lines.specs.declared.run.Run.{Run}
+use Rattle.lnt_lines.specs.declared.stop.Stop.TheVariants as stop
+use Rattle.lnt_lines.specs.Judging.{IsTold}
+
+-- whether there is a row
+abbrev pub are_some : List Row → Bool
+are_some [] = false
+are_some (row ∷ rows) = true
+
+-- What was run so far: the operations that the walk has given, whose rows the watch has seen. Those of sequences that have
+-- ended stand in sequences, of which the places are known. It is run by a header that needn't have its files: so many there are.
+pub record RanSoFar (dead : Option ℕ) (view : View) (files : ℕ) (old now : Collected) (walk : Walk) (machine : State) (watch : Watch) (is_open : Bool)
+  (places : List ℕ) (place : ℕ) : Type 0 where
+  pub ops : List Op
+  pub given : HasGiven view ops walk
+  pub few : length ops + length walk.at.rest ≤ length view.program
+  pub header_is : machine.header ≡ view.header
+  pub stands : StandsAfter machine (reverse ops)
+  pub count : machine.count ≡ length ops
+  pub lines : LinesFit (with_ops view ops) (length ops)
+  pub seen : HasSeen dead view.unit.offset files watch (rows (with_ops view ops))
+  pub collects : (sequences : List Placed) → Collects old sequences → CollectsRows dead view.unit.offset now sequences (rows (with_ops view ops))
+  pub ended : List Sequence
+  pub left : List Row
+  pub cut : IsCut (rows (with_ops view ops)) ended left
+  pub open_is : is_open ≡ are_some left
+  pub known : HasPlaces view.header view.program (length ended) places place
+
+-- the same of a run
+abbrev pub RunsSoFar : Option ℕ → View → ℕ → Run → Collected → Collected → Walk → List ℕ → Type 0
+RunsSoFar dead view files run old now walk places = RanSoFar dead view files old now walk run.machine run.watch run.is_open places run.place
+
+-- the same of a run of a unit, by the numbers of its header
+abbrev pub RunsByNumbers : Option ℕ → View → Run → Collected → Collected → Walk → List ℕ → Type 0
+RunsByNumbers dead view run old now walk places = RunsSoFar dead (by_numbers view) (length view.header.files) run old now walk places
+
+-- the program, of which a run knows how many bytes it has, ends below 2^64
+abbrev pub HasRoom : View → Run → Type 0
+HasRoom view run = (view.place + length view.program < 2 ^ 64) × (run.length ≡ length view.program)
+
+-- Whatever was run so far, it goes on by an operation that the walk gives, after which so many bytes are left.
+abbrev pub GoesOn : OpView → ℕ → Run → Run → Collected → Collected → List ℕ → List ℕ → Type 0
+GoesOn item left run run' now now' places places' =
+    (dead : Option ℕ) (view : View) (files : ℕ) (old : Collected) (walk walk' : Walk) → RunsSoFar dead view files run old now walk places
+    → walks.Steps item walk walk' → HasRoom view run → left ≡ length walk'.at.rest → RunsSoFar dead view files run' old now' walk' places'
+
+-- Whatever was run so far, it goes on up to where the walk stands then.
+abbrev pub GoesOnTo : Walk → Walk → Run → Run → Collected → Collected → List ℕ → List ℕ → Type 0
+GoesOnTo walk walk' run run' now now' places places' =
+    (dead : Option ℕ) (view : View) (files : ℕ) (old : Collected) → RunsSoFar dead view files run old now walk places → HasRoom view run
+    → RunsSoFar dead view files run' old now' walk' places'
+
+-- An operation leads out of the range of lines, after those that were run, and the fault names it.
+pub record IsOut (dead : Option ℕ) (view : View) (files : ℕ) (old : Collected) (fault : RunFault) : Type 0 where
+  pub now : Collected
+  pub walk : Walk
+  pub after : Walk
+  pub machine : State
+  pub watch : Watch
+  pub is_open : Bool
+  pub places : List ℕ
+  pub place : ℕ
+  pub item : OpView
+  pub ran : RanSoFar dead view files old now walk machine watch is_open places place
+  pub step : walks.Steps item walk after
+  pub leaves : LeavesRange item machine
+  pub fault_is : fault ≡ LineOutOfRange machine.count
+
+-- The run stops at an operation, or somewhere after a walk, which is an operation out of the range of lines, but for want
+-- of memory.
+abbrev pub StopsAt : OpView → Run → Collected → List ℕ → RunFault → Type 0
+StopsAt item run now places fault =
+    fault ≢ Memory → (dead : Option ℕ) (view : View) (files : ℕ) (old : Collected) (walk walk' : Walk) → RunsSoFar dead view files run old now walk places
+    → walks.Steps item walk walk' → IsOut dead view files old fault
+
+abbrev pub StopsAfter : Walk → Run → Collected → List ℕ → RunFault → Type 0
+StopsAfter walk run now places fault =
+    fault ≢ Memory → (dead : Option ℕ) (view : View) (files : ℕ) (old : Collected) → RunsSoFar dead view files run old now walk places → HasRoom view run
+    → IsOut dead view files old fault
+
+-- What is told for the fault of a program.
+abbrev pub IsRefusedFor : View → ℕ → RunFault → Refusal → Type 0
+IsRefusedFor view unit Memory told = told ≡ refusal.Stop stop.Memory
+IsRefusedFor view unit fault told = IsTold view unit fault told

@@ -1,0 +1,95 @@
+//! Frequent operations with short operands, read in line (DWARF 5, section 6.2.5).
+ghost use Rattle.std.specs.Prelude.{◌≡◌, ◌<◌, ◌≤◌, length, take, [], ◌∷◌, IfSome};
+ghost use Rattle.lnt_wire.specs.Leb128.{SignedLeb, UnsignedLeb};
+ghost use Rattle.lnt_ops.specs.Short.{IsFront, IsGroup};
+
+use lnt_header::{Header, OpView};
+
+/// The operation that the bytes begin with, and how many of them spell it, where it is of a frequent kind and its operand
+/// is short. None says nothing of the bytes.
+#[inline(always)]
+#[tactic(auto, using(crate::proofs::ShortLemmas::front_special, crate::proofs::ShortLemmas::front_copy, crate::proofs::ShortLemmas::front_advance_pc, crate::proofs::ShortLemmas::front_advance_line, crate::proofs::ShortLemmas::front_set_file, crate::proofs::ShortLemmas::front_set_column, crate::proofs::ShortLemmas::front_negate_stmt, crate::proofs::ShortLemmas::front_const_add_pc, crate::proofs::ShortLemmas::front_discriminator))]
+pub(crate) fn short_op<'a>(bytes: &'a [u8], header: &Header) -> Option<(OpView<'a>, usize)>
+    ensures { IfSome result (λ found. IsFront header.now found.0 found.1 bytes.now) }
+{
+    if bytes.is_empty() {
+        return None;
+    }
+    let opcode = bytes[0];
+    if opcode >= header.opcode_base() {
+        return Some((OpView::Special(opcode), 1));
+    }
+    let (_, operand) = bytes.split_at(1);
+    match opcode {
+        0 => Some((OpView::SetDiscriminator(short_discriminator(operand)?), 4)),
+        1 => Some((OpView::Copy, 1)),
+        2 => Some((OpView::AdvancePc(short_number(operand)?), 2)),
+        3 => {
+            let (by, size) = short_signed(operand)?;
+            Some((OpView::AdvanceLine(by), size + 1))
+        }
+        4 => Some((OpView::SetFile(short_number(operand)?), 2)),
+        5 => Some((OpView::SetColumn(short_number(operand)?), 2)),
+        6 => Some((OpView::NegateStmt, 1)),
+        8 => Some((OpView::ConstAddPc, 1)),
+        _ => None,
+    }
+}
+
+// The number that one byte spells.
+#[inline(always)]
+#[tactic(auto, using(crate::proofs::ShortLemmas::one_unsigned))]
+fn short_number(bytes: &[u8]) -> Option<u64>
+    ensures { IfSome result (λ n. (1 ≤ length bytes.now) × UnsignedLeb n (take 1 bytes.now)) }
+{
+    if !bytes.is_empty() && bytes[0] < 128 {
+        return Some(u64::from(bytes[0]));
+    }
+    None
+}
+
+// The discriminator that one byte spells, behind the length 2 and the code 4.
+#[inline(always)]
+#[tactic(auto, using(crate::proofs::ShortLemmas::discriminator_taken))]
+fn short_discriminator(bytes: &[u8]) -> Option<u64>
+    ensures { IfSome result (λ n. (3 ≤ length bytes.now) × (n < 128) × (take 3 bytes.now ≡ 2 ∷ 4 ∷ n ∷ [])) }
+{
+    if bytes.len() >= 3 && bytes[0] == 2 && bytes[1] == 4 && bytes[2] < 128 {
+        return Some(u64::from(bytes[2]));
+    }
+    None
+}
+
+// The signed number that one or two bytes spell, and how many they are.
+#[inline(always)]
+#[tactic(auto, using(crate::proofs::ShortLemmas::one_signed, crate::proofs::ShortLemmas::two_signed))]
+fn short_signed(bytes: &[u8]) -> Option<(i64, usize)>
+    ensures { IfSome result (λ found. (found.1 ≤ length bytes.now) × SignedLeb found.0 (take found.1 bytes.now)) }
+{
+    if bytes.is_empty() {
+        return None;
+    }
+    let first = bytes[0];
+    if first < 128 {
+        return Some((last_group(first), 1));
+    }
+    if bytes.len() < 2 || bytes[1] >= 128 {
+        return None;
+    }
+    let second = last_group(bytes[1]);
+    Some((second * 128 + i64::from(first % 128), 2))
+}
+
+// A last byte in two's complement.
+#[inline(always)]
+#[tactic(auto, using(crate::proofs::ShortLemmas::group_low, crate::proofs::ShortLemmas::group_high))]
+fn last_group(byte: u8) -> i64
+    requires { byte < 128 }
+    ensures { IsGroup byte result }
+{
+    if byte < 64 {
+        i64::from(byte)
+    } else {
+        i64::from(byte) - 128
+    }
+}
