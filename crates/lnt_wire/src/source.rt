@@ -64,10 +64,12 @@ pub enum SourceStop {
 // How many bytes are asked of a source at once.
 const BLOCK: usize = 1 << 16;
 
-// Takes the next bytes of the source, a block at most, right into the room behind those that were taken. It
-// answers how many came.
-
-fn take_block<R: Source>(source: &mut R, all: &mut Vec<u8>) -> Result<usize, SourceStop>
+/// Takes the next bytes of the source, a block of 64 KiB at most, right into the room behind those that were taken. It
+/// answers how many came: none only at their end, or where the source is too long.
+///
+/// It stops with `Memory`, and with `Read` only where the source failed. The caller sees to it that the number of
+/// failures is below `u64::MAX`.
+pub fn take_block<R: Source>(source: &mut R, all: &mut Vec<u8>) -> Result<usize, SourceStop>
     requires { R.failures source.old < 2 ^ 64 - 1 }
     ensures bytes { IfOk result (λ k. GivesMore (R.remaining source.old) (R.remaining source.new) all.old.items all.new.items k) }
     ensures end { IfOk result (λ k. k ≡ 0 → IsAtEnd (R.remaining source.new) (R.too_long source.new)) }
