@@ -1,7 +1,8 @@
 -- What a comparison knows after one more record, and what it tells.
-use Rattle.std.proofs.Common.{◌≡◌, ◌∙◌, ℕ, ◌+◌, List, [], ◌∷◌, ◌++◌, length, length-append, refl, sym, arith}
+use Rattle.std.proofs.Common.{◌≡◌, ◌∙◌, ℕ, ◌+◌, ◌^◌, ◌<◌, List, [], ◌∷◌, ◌++◌, append-nil, append_assoc, length, length-append, refl, subst, sym, arith}
 use Rattle.std.specs.List.{AllZip}
 use Rattle.lnt_spans.specs.declared.answer.Version.{Version}
+use Rattle.lnt_spans.specs.declared.position.Position.{Position}
 use Rattle.lnt_spans.specs.declared.difference.Difference.{Difference}
 use Rattle.lnt_spans.specs.declared.span.Span.{Span}
 use Rattle.lnt_spans.specs.Comparing.{Compares}
@@ -11,8 +12,10 @@ use Rattle.lnt_records.specs.declared.comparison.Comparison.{Comparison}
 use Rattle.lnt_records.specs.declared.fault.TableFault.{TableFault}
 use Rattle.lnt_records.specs.declared.fault.TableFault.TheVariants as fault
 use Rattle.lnt_records.specs.Faults.{AnswersAs, DiffersSo, IsFault, IsFaulty}
+use Rattle.csv.specs.Reading.{reader_state}
+use Rattle.lnt_records.specs.Passing.{IsCut}
 use Rattle.lnt_records.specs.Progress.{BytesReader, HasRead, Judges}
-use Rattle.lnt_records.specs.Table.{Fields, IsSpanRecord, IsTable, RecordsOf, column_names}
+use Rattle.lnt_records.specs.Table.{BeginsWith, Fields, IsSpanRecord, IsTable, RecordsOf, column_names}
 
 -- ---- one more record
 
@@ -58,30 +61,91 @@ pub record Stops (version : Version) (records : List Fields) (fields : Fields) (
 
 -- ---- what is told
 
-pub fault_told : (bytes : List ℕ) (version : Version) (records : List Fields) (fields : Fields) (table : List Span) (told : TableFault) (reader : BytesReader)
-    → HasRead reader bytes (records ++ fields ∷ []) → IsTable version records table → IsFaulty version table (length records) fields told → IsFault bytes told
-fault_told bytes version records fields table fault.Header reader h t f = absurd f
-fault_told bytes version records fields table (fault.Fields k) reader h t f =
-    record { version = version; records = records; spans = table; fields = fields; begins = (_, h.rest, h.reached); table = t; faulty = f }
-fault_told bytes version records fields table (fault.Number k i) reader h t f =
-    record { version = version; records = records; spans = table; fields = fields; begins = (_, h.rest, h.reached); table = t; faulty = f }
-fault_told bytes version records fields table (fault.Order k) reader h t f =
-    record { version = version; records = records; spans = table; fields = fields; begins = (_, h.rest, h.reached); table = t; faulty = f }
+pub fault_told : (bytes : List ℕ) (version : Version) (records : List Fields) (fields : Fields) (table : List Span) (told : TableFault)
+    → BeginsWith bytes (records ++ fields ∷ []) → IsTable version records table → IsFaulty version table (length records) fields told → IsFault bytes told
+fault_told bytes version records fields table fault.Header h t f = absurd f
+fault_told bytes version records fields table (fault.Fields k) h t f =
+    record { version = version; records = records; spans = table; fields = fields; begins = h; table = t; faulty = f }
+fault_told bytes version records fields table (fault.Number k i) h t f =
+    record { version = version; records = records; spans = table; fields = fields; begins = h; table = t; faulty = f }
+fault_told bytes version records fields table (fault.Order k) h t f =
+    record { version = version; records = records; spans = table; fields = fields; begins = h; table = t; faulty = f }
 
-pub same_told : {S : Type 0} (to_come : S → List Span → Type 0) (bytes : List ℕ) (comparison : Comparison S) (section : List Span) (records : List Fields) → (j : Judges to_come comparison section records) → RecordsOf bytes records
-    → Agree (version_answer comparison.merge.version section) (span_answer j.table) → AnswersAs bytes section
-same_told to_come bytes comparison section records j all agree = record {
-  version = comparison.version;
-  table = j.table;
-  is_table = (records, all, j.is_table);
-  agree = rw j.version at agree;
+-- a section that answers as the compared spans do, as far as the version tells
+abbrev pub AnswersSo : Version → List Span → List Span → Type 0
+AnswersSo version list section = (p : Position) → version_answer version list p ≡ version_answer version section p
+
+pub same_told : {S : Type 0} (to_come : S → List Span → Type 0) (bytes : List ℕ) (comparison : Comparison S) (list section : List Span) (records : List Fields) → (j : Judges to_come comparison list records) → RecordsOf bytes records
+    → AnswersSo comparison.version list section → Agree (version_answer comparison.merge.version list) (span_answer j.table) → AnswersAs bytes section
+same_told to_come bytes comparison list section records j all same agree =
+    let own : Agree (version_answer comparison.version list) (span_answer j.table) = rw j.version at agree in
+    record {
+      version = comparison.version;
+      table = j.table;
+      is_table = (records, all, j.is_table);
+      agree = λ p. sym (same p) ∙ own p;
+    }
+
+pub difference_told : {S : Type 0} (to_come : S → List Span → Type 0) (bytes : List ℕ) (comparison : Comparison S) (list section : List Span) (records : List Fields) (difference : Difference) → (j : Judges to_come comparison list records)
+    → RecordsOf bytes records → AnswersSo comparison.version list section → IsLeastDifference (version_answer comparison.merge.version list) (span_answer j.table) difference → DiffersSo bytes section difference
+difference_told to_come bytes comparison list section records difference j all same least =
+    let own : IsLeastDifference (version_answer comparison.version list) (span_answer j.table) difference = rw j.version at least in
+    record {
+      version = comparison.version;
+      table = j.table;
+      is_table = (records, all, j.is_table);
+      least = record { section = own.section ∙ same difference.position; table = own.table; differ = own.differ; least = λ p below. sym (same p) ∙ own.least p below };
+    }
+
+-- ---- records behind lines that were cut out
+
+-- From one state of a comparison to another these records were read behind the header of a text.
+pub record HasCompared {S : Type 0} (to_come : S → List Span → Type 0) (reader : BytesReader) (text : List ℕ) (version : Version) (old new : Comparison S) : Type 0 where
+  pub more : List Fields
+  pub read : HasRead reader text (column_names version ∷ more)
+  pub version_is : new.version ≡ version
+  pub judged : (list : List Span) (passed : List Fields) → Judges to_come old list (column_names version ∷ passed) → Judges to_come new list (column_names version ∷ (passed ++ more))
+
+pub compared_none : {S : Type 0} (to_come : S → List Span → Type 0) (reader : BytesReader) (text : List ℕ) (version : Version) (comparison : Comparison S) → HasRead reader text (column_names version ∷ []) → comparison.version ≡ version
+    → HasCompared to_come reader text version comparison comparison
+compared_none to_come reader text version comparison read same = record {
+  more = [];
+  read = read;
+  version_is = same;
+  judged = λ list passed j. subst (λ (records : List Fields). Judges to_come comparison list (column_names version ∷ records)) (sym (append-nil passed)) j;
 }
 
-pub difference_told : {S : Type 0} (to_come : S → List Span → Type 0) (bytes : List ℕ) (comparison : Comparison S) (section : List Span) (records : List Fields) (difference : Difference) → (j : Judges to_come comparison section records)
-    → RecordsOf bytes records → IsLeastDifference (version_answer comparison.merge.version section) (span_answer j.table) difference → DiffersSo bytes section difference
-difference_told to_come bytes comparison section records difference j all least = record {
-  version = comparison.version;
-  table = j.table;
-  is_table = (records, all, j.is_table);
-  least = rw j.version at least;
+-- what is known of one more record
+abbrev pub Judged : {S : Type 0} → (S → List Span → Type 0) → Comparison S → Comparison S → Fields → Type 0
+Judged to_come old new fields = (section : List Span) (records : List Fields) → Judges to_come old section records → Judges to_come new section (records ++ fields ∷ [])
+
+pub compared_more : {S : Type 0} (to_come : S → List Span → Type 0) (before after : BytesReader) (text : List ℕ) (version : Version) (first old new : Comparison S) (fields : Fields) → (h : HasCompared to_come before text version first old)
+    → HasRead after text (column_names version ∷ (h.more ++ fields ∷ [])) → new.version ≡ old.version → Judged to_come old new fields → HasCompared to_come after text version first new
+compared_more to_come before after text version first old new fields h read same step = record {
+  more = h.more ++ fields ∷ [];
+  read = read;
+  version_is = same ∙ h.version_is;
+  judged = λ list passed j.
+      subst (λ (records : List Fields). Judges to_come new list (column_names version ∷ records)) (append_assoc passed h.more (fields ∷ []))
+      (step list (column_names version ∷ (passed ++ h.more)) (h.judged list passed j));
 }
+
+-- there is room to count one more
+pub compared_few : {S : Type 0} (to_come : S → List Span → Type 0) (before after : BytesReader) (text : List ℕ) (version : Version) (first now : Comparison S) (fields : Fields) (list : List Span) (passed : List Fields)
+    → (h : HasCompared to_come before text version first now) → HasRead after text (column_names version ∷ (h.more ++ fields ∷ [])) → Judges to_come first list (column_names version ∷ passed) → first.count + length text < 2 ^ 64 + 1
+    → length (column_names version ∷ (passed ++ h.more)) + 1 < 2 ^ 64
+compared_few to_come before after text version first now fields list passed h read j few =
+    omega (arith, few, j.count, read.few, length-append passed h.more, length-append h.more (fields ∷ []))
+
+pub fault_behind : {S : Type 0} (to_come : S → List Span → Type 0) (before after : BytesReader) (text bytes : List ℕ) (version : Version) (first now : Comparison S) (fields : Fields) (passed : List Fields) (table : List Span) (told : TableFault)
+    → (h : HasCompared to_come before text version first now) → HasRead after text (column_names version ∷ (h.more ++ fields ∷ [])) → IsCut version text bytes passed
+    → IsTable now.version (column_names version ∷ (passed ++ h.more)) table → IsFaulty now.version table (length (column_names version ∷ (passed ++ h.more))) fields told → IsFault bytes told
+fault_behind to_come before after text bytes version first now fields passed table told h read cut is_table faulty =
+    let names : Fields = column_names version in
+    let all = cut (h.more ++ fields ∷ []) (reader_state after) read.rest read.reached in
+    let begins : BeginsWith bytes (names ∷ (passed ++ h.more ++ fields ∷ [])) =
+    subst (λ (records : List Fields). BeginsWith bytes (names ∷ records)) (sym (append_assoc passed h.more (fields ∷ []))) (reader_state after, read.rest, all) in
+    fault_told bytes now.version (names ∷ (passed ++ h.more)) fields table told begins is_table faulty
+
+pub all_behind : (text bytes : List ℕ) (version : Version) (passed more : List Fields) → IsCut version text bytes passed → RecordsOf text (column_names version ∷ more) → RecordsOf bytes (column_names version ∷ (passed ++ more))
+all_behind text bytes version passed more cut all = (all.0, all.1, cut more all.0 all.1 all.2, all.3)

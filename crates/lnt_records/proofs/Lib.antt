@@ -4,8 +4,11 @@ pub mod FrontLemmas
 pub mod HeaderLemmas
 pub mod LawLemmas
 pub mod LineLemmas
+pub mod PassingLemmas
 pub mod ReadingLemmas
 pub mod RecordLemmas
 pub mod SaidLemmas
+pub mod StreamLemmas
+pub mod TextLemmas
 pub mod WriteLemmas
 pub mod JoinedLemmas

@@ -144,25 +144,25 @@ quiet_said version fields span s =
     (record { of_address = λ text n h. quiet_bytes text (address_from_zero text n h); of_number = λ text n h. quiet_bytes text (decimal_from_zero text n h); of_flag = quiet_flag })
     s i (rw s.count at lt))
 
-span_read : (version : Version) (fields : Fields) (span : Span) (rest : List ℕ) → IsSpanRecord version fields span
+pub span_read : (version : Version) (fields : Fields) (span : Span) (rest : List ℕ) → IsSpanRecord version fields span
     → next_record default_config st.StartRecord [] [] (line_text fields ++ rest) ≡ Some (fields, st.StartRecord, rest)
 span_read version fields span rest s =
     let some : 2 ≤ length fields = subst (λ (n : ℕ). 2 ≤ n) (sym s.count) (count_some version) in
     line_read fields rest some (quiet_said version fields span s)
 
-names_read : (version : Version) (rest : List ℕ)
+pub names_read : (version : Version) (rest : List ℕ)
     → next_record default_config st.StartRecord [] [] (line_text (column_names version) ++ rest) ≡ Some (column_names version, st.StartRecord, rest)
 names_read version rest =
     let some : 2 ≤ length (column_names version) = subst (λ (n : ℕ). 2 ≤ n) (sym (names_count version)) (count_some version) in
     line_read (column_names version) rest some (quiet_names version)
 
 -- a header is no byte order mark
-no_mark : (version : Version) (rest : List ℕ) → strip_bom (line_text (column_names version) ++ rest) ≡ line_text (column_names version) ++ rest
+pub no_mark : (version : Version) (rest : List ℕ) → strip_bom (line_text (column_names version) ++ rest) ≡ line_text (column_names version) ++ rest
 unfolding strip_bom
 no_mark One rest = refl
 no_mark Two rest = refl
 
-header_reached : (version : Version) (rest : List ℕ)
+pub header_reached : (version : Version) (rest : List ℕ)
     → Reached default_config st.StartRecord (strip_bom (line_text (column_names version) ++ rest)) (column_names version ∷ []) st.StartRecord rest
 unfolding Reached
 header_reached version rest = rw (no_mark version rest) ((column_names version, st.StartRecord, rest), names_read version rest, refl, (refl, refl))
@@ -204,7 +204,7 @@ line_judged to_come old new version section bytes before rest span j line order 
 some_end : (field fields : List ℕ) → 0 < length (field ++ fields ++ 10 ∷ [])
 some_end field fields = omega (arith, length-append (field ++ fields) (10 ∷ []))
 
-line_some : (fields : Fields) → 0 < length (line_text fields)
+pub line_some : (fields : Fields) → 0 < length (line_text fields)
 line_some [] = omega arith
 line_some (field ∷ fields) = some_end field (following fields)
 

@@ -185,3 +185,14 @@ pub header_read : (found : Option Version) (reader : BytesReader) (bytes : List 
     → MatchOption found ((v : Version) → BeginsWith bytes (column_names v ∷ []) → ⊥) (λ v. HasRead reader bytes (column_names v ∷ []))
 header_read None reader bytes fields h other = no_header reader bytes fields h other
 header_read (Some v) reader bytes fields h same = subst (λ (names : Fields). HasRead reader bytes (names ∷ [])) same h
+
+pub begins_found : (found : Option Version) (reader : BytesReader) (bytes : List ℕ) → MatchOption found ((v : Version) → BeginsWith bytes (column_names v ∷ []) → ⊥) (λ v. HasRead reader bytes (column_names v ∷ []))
+    → MatchOption found ((v : Version) → BeginsWith bytes (column_names v ∷ []) → ⊥) (λ v. BeginsWith bytes (column_names v ∷ []))
+begins_found None reader bytes h = h
+begins_found (Some v) reader bytes h = begins reader bytes (column_names v ∷ []) h
+
+-- the header of a text that begins with one
+pub header_passed : (reader : BytesReader) (text : List ℕ) (fields : Fields) (found : Bool) (version : Version) → BeginsWith text (column_names version ∷ [])
+    → MatchBool found (HasRead reader text (fields ∷ [])) (RecordsOf text []) → HasRead reader text (column_names version ∷ [])
+header_passed reader text fields true version b h = subst (λ (names : Fields). HasRead reader text (names ∷ [])) (first_same text fields (column_names version) (begins reader text (fields ∷ []) h) b) h
+header_passed reader text fields false version b h = absurd (no_record text (column_names version) h b)

@@ -243,7 +243,7 @@ written_table version bytes records spans z o e = record {
 
 -- ---- a loop that writes
 
-lines_append : (xs ys : List Fields) → lines_text (xs ++ ys) ≡ lines_text xs ++ lines_text ys
+pub lines_append : (xs ys : List Fields) → lines_text (xs ++ ys) ≡ lines_text xs ++ lines_text ys
 lines_append [] ys = refl
 lines_append (x ∷ xs) ys = ap (λ (t : List ℕ). line_text x ++ t) (lines_append xs ys) ∙ sym (append_assoc (line_text x) (lines_text xs) (lines_text ys))
 

@@ -1,14 +1,15 @@
 //! A table compared with the spans of a section, record by record.
-ghost use Rattle.std.specs.Prelude.{◌≡◌, ◌+◌, ◌^◌, ◌<◌, List, [], ◌∷◌, ◌++◌, length, IfOk, MatchOption};
+ghost use Rattle.std.specs.Prelude.{◌≡◌, ◌+◌, ◌^◌, ◌<◌, ℕ, List, [], ◌∷◌, ◌++◌, length, IfOk, MatchOption};
 ghost use Rattle.csv.specs.Records.{fields_of};
 ghost use Rattle.lnt_spans.specs.declared.span.Span.{Span};
-ghost use Rattle.lnt_spans.specs.Spans.{AreInOrder};
+ghost use Rattle.lnt_spans.specs.declared.position.Position.{Position};
+ghost use Rattle.lnt_spans.specs.Spans.{AreInOrder, version_answer};
 ghost use Rattle.lnt_records.specs.Faults.{IsComparison, IsFaulty};
+ghost use Rattle.lnt_records.specs.Passing.{IsCut};
 ghost use Rattle.lnt_records.specs.Progress.{Judges};
-ghost use Rattle.lnt_records.specs.Table.{Fields, IsTable, column_names};
+ghost use Rattle.lnt_records.specs.Table.{BeginsWith, Fields, IsTable, column_names};
 
 use crate::fault::{TableFault, TableStop};
-use crate::lines::compare_lines;
 use crate::reading::{read_header, read_next, reader_of};
 use crate::record::{RecordFault, span_of};
 use csv::ByteRecord;
@@ -28,8 +29,7 @@ pub enum Compared {
 
 /// Compares the table in some bytes with the spans of a section.
 ///
-/// The records are read one by one, and none is kept: line by line where each is a sound one on a line of its own, and
-/// nothing is in quotes; and else as `csv` reads them. `Same`: the bytes are a table that answers at every position as
+/// The records are read one by one, as `csv` reads them, and none is kept. `Same`: the bytes are a table that answers at every position as
 /// the spans do, as far as the table's version tells: in version 1 the spans' instruction sets and discriminators don't
 /// count. `Fault`: they are no table. The first faulty record is told, whatever was different before it. `Differs`: all
 /// records are well formed, and at no lower position do the answers differ; both are told in the table's version.
@@ -39,14 +39,11 @@ pub fn compare(alloc: Global, table: &[u8], spans: &[Span]) -> Result<Compared, 
     requires { AreInOrder spans.now }
     ensures { IfOk result (λ compared. IsComparison table.now spans.now compared) }
 {
-    if let Some(compared) = compare_lines(table, SpanSlice::of(spans)) {
-        return Ok(compared);
-    }
     compare_records(alloc, table, SpanSlice::of(spans))
 }
 
-/// The same of any bytes, by the records that `csv` reads, with spans that come from a source.
-pub fn compare_records<S: SpanSource + Drop>(
+// The same with spans that come from a source.
+pub(crate) fn compare_records<S: SpanSource + Drop>(
     alloc: Global,
     table: &[u8],
     spans: S,
@@ -54,12 +51,44 @@ pub fn compare_records<S: SpanSource + Drop>(
     requires { (list : List Span) × S.to_come spans list × AreInOrder list }
     ensures { IfOk result (λ compared. (list : List Span) → S.to_come spans list → AreInOrder list → IsComparison table.now list compared) }
 {
-    let mut reader = reader_of(alloc, table);
-    let mut row = ByteRecord::new(alloc);
-    let Some(version) = read_header(&mut reader, &mut row)? else {
+    let Some(version) = header_of(alloc, table)? else {
         return Ok(Compared::Fault(TableFault::Header));
     };
-    let mut comparison = Comparison::new(spans, version);
+    compare_behind(alloc, table, Merge::new(spans, version), version, 1)
+}
+
+// The version whose columns record 0 names, if it is a header.
+fn header_of(alloc: Global, table: &[u8]) -> Result<Option<Version>, TableStop>
+    ensures { IfOk result (λ found. MatchOption found ((v : Version) → BeginsWith table.now (column_names v ∷ []) → ⊥) (λ v. BeginsWith table.now (column_names v ∷ []))) }
+{
+    let mut reader = reader_of(alloc, table);
+    let mut row = ByteRecord::new(alloc);
+    read_header(&mut reader, &mut row)
+}
+
+// The same of a text that begins with a header, and from which records behind that were cut out, so many with the header,
+// which the merge has compared with the spans.
+pub(crate) fn compare_behind<S: SpanSource + Drop>(
+    alloc: Global,
+    text: &[u8],
+    merge: Merge<S>,
+    version: Version,
+    count: u64,
+) -> Result<Compared, TableStop>
+    requires begins { BeginsWith text.now (column_names version ∷ []) }
+    requires few { count + length text.now < 2 ^ 64 + 1 }
+    requires judged { (list : List Span) × (passed : List Fields) × Judges S.to_come (record { merge = merge; version = version; count = count }) list (column_names version ∷ passed) }
+    ensures { IfOk result (λ compared. (list section : List Span) (passed : List Fields) (bytes : List ℕ) → Judges S.to_come (record { merge = merge; version = version; count = count }) list (column_names version ∷ passed)
+        → IsCut version text.now bytes passed → ((p : Position) → version_answer version list p ≡ version_answer version section p) → IsComparison bytes section compared) }
+{
+    let mut reader = reader_of(alloc, text);
+    let mut row = ByteRecord::new(alloc);
+    read_next(&mut reader, &mut row)?;
+    let mut comparison = Comparison {
+        merge,
+        version,
+        count,
+    };
     while read_next(&mut reader, &mut row)? {
         if let Some(fault) = comparison.take_record(&row) {
             return Ok(Compared::Fault(fault));
@@ -81,17 +110,6 @@ struct Comparison<S> {
 }
 
 impl<S: SpanSource + Drop> Comparison<S> {
-    // Spans compared with a table that has only its header so far.
-    fn new(spans: S, version: Version) -> Comparison<S>
-        ensures { (list : List Span) → S.to_come spans list → AreInOrder list → Judges S.to_come result list (column_names version ∷ []) }
-    {
-        Comparison {
-            merge: Merge::new(spans, version),
-            version,
-            count: 1,
-        }
-    }
-
     // Takes the next record, if it isn't faulty.
     fn take_record(&mut self, row: &ByteRecord) -> Option<TableFault>
         requires { (section : List Span) × (records : List Fields) × Judges S.to_come self.old section records × (length records + 1 < 2 ^ 64) }

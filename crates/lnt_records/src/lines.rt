@@ -1,60 +1,64 @@
 //! Tables read line by line: each record on a line of its own that ends in a line feed, and nothing in quotes, as
 //! `write_spans` writes them. Each record is read in one pass over its bytes.
-ghost use Rattle.std.specs.Prelude.{◌≡◌, ◌++◌, drop, IfSome, List};
+ghost use Rattle.std.specs.Prelude.{◌≡◌, ◌≢◌, ◌+◌, ◌-◌, ◌^◌, ◌<◌, ◌++◌, ℕ, List, drop, length, IfSome, IsErrOf, MatchOption, OnOk};
 ghost use Rattle.lnt_spans.specs.declared.span.Span as spec;
-ghost use Rattle.lnt_spans.specs.Spans.{AreInOrder};
-ghost use Rattle.lnt_records.specs.Faults.{IsComparison};
+ghost use Rattle.lnt_spans.specs.Comparing.{Compares};
 ghost use Rattle.lnt_records.specs.Lines.{IsAnswer, IsFlagBefore, IsLine, IsMore, IsPosition};
+ghost use Rattle.lnt_records.specs.Passing.{HasPassed, Passes};
 ghost use Rattle.lnt_records.specs.Table.{column_names};
 ghost use Rattle.lnt_records.specs.Written.{line_text};
 
-use crate::comparison::Compared;
 use crate::front::{address_before, behind, decimal_before};
 use crate::header::header_line;
+use crate::window::Window;
 use lnt_spans::{Answer, Merge, More, Position, Span, SpanSource, Version};
+use lnt_wire::{Source, SourceStop};
+use std::alloc::Global;
 
-/// Compares the table in some bytes with the spans of a section that come from a source, if each record is a sound one
-/// on a line of its own, in order, with nothing in quotes, and no number has more than 18 digits. None where that isn't
-/// so. It takes no memory.
-pub fn compare_lines<S: SpanSource + Drop>(table: &[u8], spans: S) -> Option<Compared>
-    requires { (list : List spec.Span) × S.to_come spans list × AreInOrder list }
-    ensures { IfSome result (λ compared. (list : List spec.Span) → S.to_come spans list → AreInOrder list → IsComparison table.now list compared) }
+// Reads the lines of a table, up to the first that is no sound record on a line of its own, with nothing in quotes and no
+// number of more than 18 digits, or whose span isn't behind that of the record before it; and pushes the others.
+pub(crate) fn push_lines<S: SpanSource + Drop, T: Source>(
+    alloc: Global,
+    merge: &mut Merge<S>,
+    count: &mut u64,
+    version: Version,
+    source: &mut T,
+    window: &mut Window,
+) -> Result<(), SourceStop>
+    requires failures { T.failures source.old < 2 ^ 64 - 1 }
+    requires few { length window.old + T.left source.old + count.old < 2 ^ 64 }
+    requires merge { (list table : List spec.Span) × Compares S.to_come merge.old list table }
+    ensures ok { OnOk result ((text : List ℕ) × Passes (T.remaining source.old) (T.remaining source.new) (T.left source.old) (T.left source.new) window.old window.new text
+        × ((section : List spec.Span) (before : List ℕ) → HasPassed S.to_come merge.old version section before count.old → HasPassed S.to_come merge.new version section (before ++ text) count.new)) }
+    ensures read { IsErrOf result SourceStop.Read → T.failures source.new ≡ T.failures source.old + 1 }
+    ensures no_failure { result ≢ Err SourceStop.Read → T.failures source.new ≡ T.failures source.old }
+    ensures not_long { IsErrOf result SourceStop.TooLong → ⊥ }
 {
-    let (version, mut at) = header_in(table)?;
-    let mut merge = Merge::new(spans, version);
-    while at < table.len() {
-        let Some((span, next)) = span_at(table, at, version) else {
-            return None;
+    loop {
+        window.fill(alloc, source)?;
+        let Some((span, length)) = span_at(window.bytes(), 0, version) else {
+            return Ok(());
         };
         if !merge.takes(&span) {
-            return None;
+            return Ok(());
         }
         merge.push(&span);
-        at = next;
+        *count += 1;
+        window.pass(length);
     }
-    Some(match merge.finish() {
-        Some(difference) => Compared::Differs(difference),
-        None => Compared::Same,
-    })
 }
 
-// The version whose columns the first line names, and the place behind that line.
-fn header_in(table: &[u8]) -> Option<(Version, usize)>
-    ensures { IfSome result (λ found. table.now ≡ line_text (column_names found.0) ++ drop found.1 table.now) }
+// Goes on past the line with the names of the columns, if it is next, and says which version's they are.
+pub(crate) fn pass_header(window: &mut Window) -> Option<Version>
+    ensures { MatchOption result (window.new ≡ window.old) (λ version. window.old ≡ line_text (column_names version) ++ window.new) }
 {
-    if let Some(at) = behind_header(table, Version::One) {
-        return Some((Version::One, at));
+    if window.pass_text(header_line(Version::One)) {
+        return Some(Version::One);
     }
-    let at = behind_header(table, Version::Two)?;
-    Some((Version::Two, at))
-}
-
-// The place behind the line with the names of the columns of a version, where that line is first.
-fn behind_header(table: &[u8], version: Version) -> Option<usize>
-    ensures { IfSome result (λ at. table.now ≡ line_text (column_names version) ++ drop at table.now) }
-{
-    let rest = table.strip_prefix(header_line(version))?;
-    Some(table.len() - rest.len())
+    if window.pass_text(header_line(Version::Two)) {
+        return Some(Version::Two);
+    }
+    None
 }
 
 // The span that the line at a place says, and the place behind that line.

@@ -1,14 +1,13 @@
 -- Joining a span with one that touches it and answers the same.
-use Rattle.std.proofs.Common.{append_assoc, ◌≡◌, ◌≢◌, ◌∙◌, List, [], ◌∷◌, ◌++◌, inl, inr, map, refl, ap, sym, subst, Some, None, false}
-use Rattle.std.specs.Option.{option_map}
+use Rattle.std.proofs.Common.{append_assoc, ◌≡◌, ◌≢◌, ◌∙◌, List, [], ◌∷◌, ◌++◌, inl, inr, refl, ap, sym, subst, Some, None, false}
 use Rattle.lnt_spans.specs.declared.answer.Version.{Version}
 use Rattle.lnt_spans.specs.declared.position.Position.{Position}
 use Rattle.lnt_spans.specs.declared.span.Span.{Span}
-use Rattle.lnt_spans.specs.Answers.{in_version}
 use Rattle.lnt_spans.specs.Positions.{IsBelow, IsAtMost}
 use Rattle.lnt_spans.specs.Spans.{AreInOrder, DifferWhereTheyTouch, span_answer, span_in_version, version_answer}
 use Rattle.lnt_spans.specs.Laws.Answering.{answer_in, answer_before, answer_behind, answer_same, first_holds, rest_in_order}
 use Rattle.lnt_spans.specs.Laws.Positions.{order_cases, below_at_most, below_is_at_most}
+use Rattle.lnt_spans.specs.Laws.Told.{told, told_answer, told_order}
 
 -- what stands for an element past a list's end
 abbrev pub no_span : Span
@@ -96,30 +95,6 @@ keep_push spans done first next more j e =
       differ = push_differ done first next j.differ e;
       same = λ p. ap (λ (xs : List Span). span_answer xs p) cut ∙ j.same p;
     }
-
--- ---- answers as a version tells them
-
-abbrev pub told : Version → List Span → List Span
-told version spans = map (span_in_version version) spans
-
-pub told_order : (version : Version) (spans : List Span) → AreInOrder spans → AreInOrder (told version spans)
-told_order version [] h = tt
-told_order version (s ∷ []) h = h
-told_order version (s ∷ t ∷ spans) h = (h.0, h.1, told_order version (t ∷ spans) h.2)
-
-pub told_answer : (version : Version) (spans : List Span) (p : Position) → span_answer (told version spans) p ≡ version_answer version spans p
-told_answer version [] p = refl
-told_answer version (s ∷ spans) p = elim (order_cases p s.low) [
-  | inl before ↦
-      answer_before (span_in_version version s) (told version spans) p before ∙ told_answer version spans p
-      ∙ sym (ap (option_map (in_version version)) (answer_before s spans p before))
-  | inr from ↦ elim (order_cases p s.high) [
-    | inl under ↦ answer_in (span_in_version version s) (told version spans) p from under ∙ sym (ap (option_map (in_version version)) (answer_in s spans p from under))
-    | inr over ↦
-        answer_behind (span_in_version version s) (told version spans) p over ∙ told_answer version spans p
-        ∙ sym (ap (option_map (in_version version)) (answer_behind s spans p over))
-  ]
-]
 
 -- ---- the first span, and the end
 

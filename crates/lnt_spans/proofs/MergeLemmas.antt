@@ -1,7 +1,8 @@
 -- What a merge knows after one more record, and at the end.
-use Rattle.std.proofs.Common.{◌≡◌, ◌∙◌, Bool, true, false, List, [], ◌∷◌, ◌++◌, ◌⊎◌, inl, inr, refl, ap, sym, subst, Some, None, Option, arith}
+use Rattle.std.proofs.Common.{append_assoc, append-nil, ◌≡◌, ◌∙◌, Bool, true, false, List, [], ◌∷◌, ◌++◌, ◌⊎◌, inl, inr, refl, ap, sym, subst, Some, None, Option, arith}
 use Rattle.std.specs.Prelude.{MatchOption}
 use Rattle.std.specs.Bool.{MatchBool}
+use Rattle.std.specs.List.{AllByRecursion}
 use Rattle.std.specs.Option.{is_some, option_map}
 use Rattle.std.proofs.lemmas.Bool.{true≢false}
 use Rattle.lnt_spans.specs.declared.answer.Answer.{Answer}
@@ -12,13 +13,13 @@ use Rattle.lnt_spans.specs.declared.span.Span.{Span}
 use Rattle.lnt_spans.specs.Answers.{in_version}
 use Rattle.lnt_spans.specs.declared.ahead.Ahead.{Ahead}
 use Rattle.lnt_spans.specs.Ahead.{IsAhead}
-use Rattle.lnt_spans.specs.Comparing.{Advances, AgreeBefore, Compares, DifferBefore, end_of, GoesOn, HasCompared, IsCompared, IsComparedBy, IsNext, Merging, State, state_of}
+use Rattle.lnt_spans.specs.Comparing.{Advances, AgreeBefore, Compares, DifferBefore, end_of, GoesOn, HasCompared, IsCompared, IsComparedBy, IsNext, IsTold, Merging, State, state_of}
 use Rattle.lnt_spans.specs.Differences.{Agree, IsLeastDifference}
 use Rattle.lnt_spans.specs.Positions.{IsBelow, IsAtMost}
 use Rattle.lnt_spans.specs.Scanning.{DiffersFirst, EndsBehind, IsScanned, Says}
 use Rattle.lnt_spans.specs.Spans.{AreInOrder, span_answer, span_in_version, version_answer}
 use Rattle.lnt_spans.proofs.ScanLemmas.{begins_with, first_is, first_says, gap_says, next_behind, no_first}
-use Rattle.lnt_spans.specs.Laws.Answering.{answer_before, answer_behind, answer_in, answer_same, first_holds, none_before, rest_in_order}
+use Rattle.lnt_spans.specs.Laws.Answering.{answer_before, answer_behind, answer_in, answer_same, back_in_order, first_holds, front_in_order, none_before, rest_in_order}
 use Rattle.lnt_spans.specs.Laws.Positions.{at_most_below, at_most_itself, at_most_trans, below_at_most, below_is_at_most, not_both, order_cases}
 
 -- ---- one more record, and the order
@@ -316,3 +317,43 @@ compares_none to_come version ahead list is order = record {
     some_end : (spans : List Span) → AreInOrder spans → EndsBehind (record { address = 0; op = 0 }) spans
     some_end [] o = tt
     some_end (span ∷ spans) o = at_most_below (origin_first span.low) (first_holds span spans o)
+
+-- ---- records that the section begins with
+
+rest_from : (done : List Span) (span : Span) (more : List Span) → AreInOrder (done ++ span ∷ more) → Follows done span
+rest_from done span more o = order_pushed done span (front_in_order (done ++ span ∷ []) more (subst AreInOrder (sym (append_assoc done (span ∷ []) more)) o))
+
+passed_more : (version : Version) (at : Position) (done passed rest section : List Span) → AreInOrder (done ++ (passed ++ rest)) → AllByRecursion (IsTold version) passed → at ≡ end_of done
+    → HasCompared (record { version = version; rest = passed ++ rest; at = at; first = None }) section done
+    → HasCompared (record { version = version; rest = rest; at = end_of (done ++ passed); first = None }) section (done ++ passed)
+passed_more version at done [] rest section o told e c =
+    subst (λ (xs : List Span). HasCompared (record { version = version; rest = rest; at = end_of xs; first = None }) section xs) (sym (append-nil done))
+    (subst (λ (p : Position). HasCompared (record { version = version; rest = rest; at = p; first = None }) section done) e c)
+passed_more version at done (span ∷ passed) rest section o told e c =
+    let old : State = record { version = version; rest = span ∷ passed ++ rest; at = at; first = None } in
+    let f = rest_from done span (passed ++ rest) o in
+    let comes : Comes at (span_in_version version span) = record { behind = subst (λ (p : Position). IsAtMost p span.low) (sym e) f.behind; holds = f.holds } in
+    let one = next_compares old span (passed ++ rest) refl refl (back_in_order done (span ∷ passed ++ rest) o) comes section done c in
+    let said : HasCompared (record { version = version; rest = passed ++ rest; at = span.high; first = None }) section (done ++ span ∷ []) =
+    subst (λ (s : Span). HasCompared (record { version = version; rest = passed ++ rest; at = span.high; first = None }) section (done ++ s ∷ [])) told.0 one in
+    subst (λ (xs : List Span). HasCompared (record { version = version; rest = rest; at = end_of xs; first = None }) section xs) (append_assoc done (span ∷ []) passed)
+    (passed_more version span.high (done ++ span ∷ []) passed rest section (subst AreInOrder (sym (append_assoc done (span ∷ []) (passed ++ rest))) o) told.1 (sym (end_pushed done span)) said)
+
+ends_behind : (passed rest : List Span) → AreInOrder (passed ++ rest) → EndsBehind (end_of passed) rest
+ends_behind passed [] o = tt
+ends_behind passed (span ∷ rest) o = let f = rest_from passed span rest o in at_most_below f.behind f.holds
+
+pub compares_passed : {S : Type 0} (to_come : S → List Span → Type 0) (version : Version) (ahead : Ahead S) (at : Position) (passed list : List Span) → IsAhead to_come ahead list → AreInOrder (passed ++ list)
+    → AllByRecursion (IsTold version) passed → at ≡ end_of passed → Compares to_come (record { version = version; spans = ahead; at = at; first = None }) (passed ++ list) passed
+compares_passed to_come version ahead at passed list is order told e =
+    let origin : Position = record { address = 0; op = 0 } in
+    let none : HasCompared (record { version = version; rest = passed ++ list; at = origin; first = None }) (passed ++ list) [] =
+    record { order = tt; at = refl; ended = λ p h. refl; compared = record { rest_same = λ p h. refl; agree = λ p h. absurd (not_both h (origin_first p)) } } in
+    record {
+      rest = list;
+      ahead = is;
+      sound = record { order = back_in_order passed list order; behind = λ _. subst (λ (p : Position). EndsBehind p list) (sym e) (ends_behind passed list order) };
+      compared =
+          subst (λ (p : Position). HasCompared (record { version = version; rest = list; at = p; first = None }) (passed ++ list) passed) (sym e)
+          (passed_more version origin [] passed list (passed ++ list) order told refl none);
+    }

@@ -59,6 +59,10 @@ end_of [] = record { address = 0; op = 0 }
 end_of (first ∷ []) = first.high
 end_of (first ∷ next ∷ records) = end_of (next ∷ records)
 
+-- The span tells its answer as the version tells answers.
+abbrev pub IsTold : Version → Span → Type 0
+IsTold version span = span_in_version version span ≡ span
+
 -- A merge that stands so has compared the spans with these records, which are in order.
 pub record HasCompared (state : State) (spans records : List Span) : Type 0 where
   pub order : AreInOrder records

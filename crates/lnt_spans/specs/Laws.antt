@@ -4,6 +4,7 @@ pub mod Bisection
 pub mod Coming
 pub mod EachTwo
 pub mod Positions
+pub mod Told
 -- What the laws of spans say.
 use Rattle.std.specs.Prelude.{◌≡◌, List, [], ◌∷◌}
 use Rattle.std.specs.List.{AllByRecursion}

@@ -1,10 +1,11 @@
 //! Where a section and a table answer differently first, found in one pass over both.
 ghost use Rattle.std.specs.Prelude.{◌≡◌, ◌≢◌, List, [], ◌∷◌, ◌++◌, true, Option, MatchOption};
 ghost use Rattle.std.specs.Bool.{MatchBool};
+ghost use Rattle.std.specs.List.{AllByRecursion};
 ghost use Rattle.lnt_spans.specs.declared.answer.Answer.{Answer};
 ghost use Rattle.lnt_spans.specs.declared.position.Position.{Position};
 ghost use Rattle.lnt_spans.specs.declared.span.Span.{Span};
-ghost use Rattle.lnt_spans.specs.Comparing.{Compares, GoesOn, IsNext};
+ghost use Rattle.lnt_spans.specs.Comparing.{Compares, GoesOn, IsNext, IsTold, end_of};
 ghost use Rattle.lnt_spans.specs.Differences.{Agree, IsLeastDifference};
 ghost use Rattle.lnt_spans.specs.Positions.{IsAtMost};
 ghost use Rattle.lnt_spans.specs.Spans.{AreInOrder, span_answer, version_answer};
@@ -55,6 +56,22 @@ impl<S: SpanSource + Drop> Merge<S> {
             version,
             spans: Ahead::of(spans),
             at: Position { address: 0, op: 0 },
+            first: None,
+        }
+    }
+
+    /// The spans of a section that begins with some records of a table of this version, compared with these records. They
+    /// end at a position, and the source has the spans behind them. The caller sees to it that all of them are in order,
+    /// none is empty, and the records answer as the version tells answers.
+    pub fn behind(spans: S, version: Version, at: Position) -> Merge<S>
+        ensures version { result.version ≡ version }
+        ensures compares { (passed list : List Span) → S.to_come spans list → AreInOrder (passed ++ list) → AllByRecursion (IsTold version) passed → at ≡ end_of passed
+            → Compares S.to_come result (passed ++ list) passed }
+    {
+        Merge {
+            version,
+            spans: Ahead::of(spans),
+            at,
             first: None,
         }
     }

@@ -20,7 +20,7 @@ pub struct Span {
 impl Span {
     // The span with its answer as a version of the address table tells it.
     #[inline(always)]
-    pub(crate) fn in_version(self, version: Version) -> Span
+    pub fn in_version(self, version: Version) -> Span
         ensures { result ≡ span_in_version version self }
     {
         Span {

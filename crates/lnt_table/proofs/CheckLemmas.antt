@@ -1,5 +1,5 @@
 -- What a comparison of a table with the lines of a good section says of the two.
-use Rattle.std.proofs.Common.{◌≡◌, ◌∙◌, ℕ, List, Option, Some, None, IfSome, sym, ap, subst}
+use Rattle.std.proofs.Common.{◌≡◌, ◌∙◌, ℕ, List, Option, Some, None, IfSome, sym, ap}
 use Rattle.std.specs.Option.{option_map}
 use Rattle.lnt_unit.specs.declared.unit.Parts.{Parts}
 use Rattle.lnt_spans.specs.declared.answer.Version.{Version}
@@ -74,22 +74,26 @@ section_told line general options section index (Differs difference) i = (i.unit
 
 -- ---- the same where sources tell their bytes
 
-abbrev Compares : List ℕ → Indexed → Compared → Type 0
-Compares text index compared = (dead : Option ℕ) (units : List (ℕ × Parts)) → IsIndexOf dead units index → IsComparedWith dead units text compared
+abbrev Compares : Option (List ℕ) → Indexed → Compared → Type 0
+Compares table index compared = (dead : Option ℕ) (units : List (ℕ × Parts)) → IsIndexOf dead units index → IfSome table (λ text. IsComparedWith dead units text compared)
 
-table_told : (line general : List ℕ) (options : Options) (section text : List ℕ) (remaining : Option (List ℕ)) (index : Indexed) (compared : Compared)
-    → IsIndexOfSection line general options section index → IfSome remaining (λ bytes. text ≡ bytes) → Compares text index compared
-    → IfSome remaining (λ table. IsTrueVerdict line general options section table (verdict_of compared))
-table_told line general options section text None index compared i same h = tt
-table_told line general options section text (Some table) index compared i same h =
-    let found = h options.dead i.units i.index_is in
-    compared_told line general options section table index found.spans compared i found.answers (subst (λ (t : List ℕ). IsComparison t found.spans compared) same found.comparison)
+table_told : (line general : List ℕ) (options : Options) (section : List ℕ) (table : Option (List ℕ)) (index : Indexed) (compared : Compared)
+    → (i : IsIndexOfSection line general options section index) → IfSome table (λ text. IsComparedWith options.dead i.units text compared)
+    → IfSome table (λ text. IsTrueVerdict line general options section text (verdict_of compared))
+table_told line general options section None index compared i h = tt
+table_told line general options section (Some text) index compared i h = compared_told line general options section text index h.spans compared i h.answers h.comparison
 
-pub verdict_told : (line general : List ℕ) (options : Options) (section table : Option (List ℕ)) (text : List ℕ) (index : Indexed) (compared : Compared)
-    → IfSome section (λ bytes. IsIndexOfSection line general options bytes index) → IfSome table (λ bytes. text ≡ bytes) → Compares text index compared
+pub verdict_told : (line general : List ℕ) (options : Options) (section table : Option (List ℕ)) (index : Indexed) (compared : Compared)
+    → IfSome section (λ bytes. IsIndexOfSection line general options bytes index) → Compares table index compared
     → IfSome section (λ bytes. IfSome table (λ text. IsTrueVerdict line general options bytes text (verdict_of compared)))
-verdict_told line general options None table text index compared i same h = tt
-verdict_told line general options (Some section) table text index compared i same h = table_told line general options section text table index compared i same h
+verdict_told line general options None table index compared i h = tt
+verdict_told line general options (Some section) table index compared i h = table_told line general options section table index compared i (h options.dead i.units i.index_is)
+
+-- what is found of the spans of an index
+pub found_with : (table : Option (List ℕ)) (dead : Option ℕ) (units : List (ℕ × Parts)) (spans : List Span) (compared : Compared) → ((p : Position) → span_answer spans p ≡ line_answer dead units p)
+    → IfSome table (λ bytes. IsComparison bytes spans compared) → IfSome table (λ text. IsComparedWith dead units text compared)
+found_with None dead units spans compared answers h = tt
+found_with (Some text) dead units spans compared answers h = record { spans = spans; answers = answers; comparison = h }
 
 pub good_told : (line general : List ℕ) (options : Options) (section : Option (List ℕ)) (index : Indexed) (compared : Compared)
     → IfSome section (λ bytes. IsIndexOfSection line general options bytes index)

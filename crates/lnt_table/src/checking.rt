@@ -9,8 +9,8 @@ ghost use Rattle.lnt_table.specs.Verdicts.{IsComparedWith};
 
 use crate::verdict::{TableNo, Verdict, verdict_of};
 use lnt_lines::{Index, JudgedIndex, Options, Stop, index_section};
-use lnt_records::{Compared, TableStop, compare_lines, compare_records};
-use lnt_wire::{Source, SourceStop, Strings, read_all};
+use lnt_records::{Compared, compare_table};
+use lnt_wire::{Source, SourceStop, Strings};
 use std::alloc::Global;
 
 /// Checks the section `.debug_line` (DWARF 5, section 6.2) that one source has to give against the address table that
@@ -70,38 +70,26 @@ pub fn check<R: Source, T: Source>(
         JudgedIndex::Good(index) => index,
         JudgedIndex::Bad(no) => return Ok(Verdict::No(TableNo::Section(no))),
     };
-    let text = read_table(alloc, table)?;
-    let compared = compare_index(alloc, &text, &index)?;
+    let compared = compare_index(alloc, table, &index)?;
     Ok(verdict_of(compared))
 }
 
-// All bytes of the table.
-fn read_table<T: Source>(alloc: Global, table: &mut T) -> Result<Vec<u8>, Stop>
+// What a comparison of the table with the spans of the index finds, as both come.
+fn compare_index<T: Source>(
+    alloc: Global,
+    table: &mut T,
+    index: &Index<'_>,
+) -> Result<Compared, Stop>
     requires { T.failures table.old < 2 ^ 64 - 1 }
-    ensures ok { IfOk result (λ text. IfSome (T.remaining table.old) (λ bytes. text.items ≡ bytes)) }
+    ensures ok { IfOk result (λ compared. (dead : Option ℕ) (units : List (ℕ × Parts)) → IsIndexOf dead units index.now → IfSome (T.remaining table.old) (λ text. IsComparedWith dead units text compared)) }
     ensures read { IsErrOf result Stop.Read → T.failures table.new ≡ T.failures table.old + 1 }
     ensures no_failure { result ≢ Err Stop.Read → T.failures table.new ≡ T.failures table.old }
     ensures too_long { IsErrOf result Stop.TooLong → IsTooLong (T.too_long table.new) (T.remaining table.old) (T.left table.old) }
 {
-    match read_all(alloc, table) {
-        Ok(text) => Ok(text),
+    match compare_table(alloc, table, index.spans()) {
+        Ok(compared) => Ok(compared),
         Err(SourceStop::Memory) => Err(Stop::Memory),
         Err(SourceStop::Read) => Err(Stop::Read),
         Err(SourceStop::TooLong) => Err(Stop::TooLong),
-    }
-}
-
-// What a comparison of the table with the spans of the index finds, as these come: line by line where the table is plain,
-// and else record by record.
-fn compare_index(alloc: Global, text: &[u8], index: &Index<'_>) -> Result<Compared, Stop>
-    ensures ok { IfOk result (λ compared. (dead : Option ℕ) (units : List (ℕ × Parts)) → IsIndexOf dead units index.now → IsComparedWith dead units text.now compared) }
-    ensures err { IfErr result (λ stop. stop ≡ Memory) }
-{
-    if let Some(compared) = compare_lines(text, index.spans()) {
-        return Ok(compared);
-    }
-    match compare_records(alloc, text, index.spans()) {
-        Ok(compared) => Ok(compared),
-        Err(TableStop::Memory) => Err(Stop::Memory),
     }
 }

@@ -31,6 +31,6 @@ pub use format::{Format, Order};
 pub use frame::{Frame, Framed, frames, take_frame};
 pub use items::Items;
 pub use put::{EncodeFault, put_form, put_offset, put_sleb, put_u16, put_u32, put_u64, put_uleb};
-pub use source::{ReadFault, Source, SourceStop, read_all};
+pub use source::{ReadFault, Source, SourceStop, read_all, take_block};
 pub use strings::Strings;
 pub use view::ValueView;

@@ -94,9 +94,12 @@ impl Error for SourceStop {}
 // How many bytes are asked of a source at once, and reserved ahead of them: 64 KiB.
 const BLOCK: usize = 1 << 16;
 
-// Takes the next bytes of the source, a block at most, right into the room after those that `all` holds. It answers how
-// many came, which is 0 only at the end, or where the source is too long. After a stop nothing is said of `all`.
-fn take_block<R: Source>(source: &mut R, all: &mut Vec<u8>) -> Result<usize, SourceStop>
+/// Takes the next bytes of the source, a block of 64 KiB at most, right into the room after those that `all` holds. It
+/// answers how many came: none only at their end, or where the source is too long.
+///
+/// It stops with `Memory`, and with `Read` only where the source failed. After a stop nothing is said of `all`. The caller
+/// sees to it that the number of failures is below `u64::MAX`.
+pub fn take_block<R: Source>(source: &mut R, all: &mut Vec<u8>) -> Result<usize, SourceStop>
     requires { R.failures source.old < 2 ^ 64 - 1 }
     ensures bytes { IfOk result (λ k.
         GivesMore (R.remaining source.old) (R.remaining source.new) all.old.items all.new.items k) }

@@ -55,7 +55,7 @@ returns g c =
     let new : List Span → Type 0 = g.S.SpanSource.to_come c.next_span.new.self in
     let ends : (list : List Span) → g.S.SpanSource.to_come c.args.spans list → list ≡ inv.0 = λ list coming. all_given list inv.0 old new (inv.5 list coming) c.in_default.ensures.gives in
     let all : AreInOrder inv.0 → AreGiven version inv.0 (inv.1 ++ cons_option last []) =
-    subst (λ (v : Version). HasJoined v inv.0 inv.1 c.loop-span.joiner.last → AreInOrder inv.0 → AreGiven v inv.0 (inv.1 ++ cons_option last [])) inv.3 (c.finish.ensures inv.0 inv.1) inv.2 in
+    subst (λ (v : Version). HasJoined v inv.0 inv.1 c.loop-span.joiner.last → AreInOrder inv.0 → AreGiven v inv.0 (inv.1 ++ cons_option last [])) inv.3 (c.finish.ensures.joined inv.0 inv.1) inv.2 in
     let canonical : (list : List Span) → g.S.SpanSource.to_come c.args.spans list → AreInOrder list → AreGiven version list (inv.1 ++ cons_option last []) =
     λ list coming order. subst (λ (xs : List Span). AreGiven version xs (inv.1 ++ cons_option last [])) (sym (ends list coming)) (all (subst AreInOrder (ends list coming) order)) in
     let added = c.in_ok-put_some-2.ensures version

@@ -1,0 +1,150 @@
+-- A table of which lines were passed, and the rest was read behind its header.
+use Rattle.std.proofs.Common.{◌≡◌, ◌∙◌, ℕ, ◌+◌, ◌^◌, ◌<◌, List, [], ◌∷◌, ◌++◌, Option, Some, None, IfSome, append_assoc, length, length-append, refl, ap, subst, sym, arith}
+use Rattle.std.specs.List.{AllByRecursion, AllZip}
+use Rattle.csv.specs.Reading.{Reached, default_config, strip_bom}
+use Rattle.csv.specs.declared.parser.State.{State}
+use Rattle.csv.specs.declared.parser.State.TheVariants as st
+use Rattle.csv.specs.Machine.{Read, next_record}
+use Rattle.lnt_spans.specs.declared.answer.Version.{Version}
+use Rattle.lnt_spans.specs.declared.position.Position.{Position}
+use Rattle.lnt_spans.specs.declared.span.Span.{Span}
+use Rattle.lnt_spans.specs.Comparing.{Compares, IsTold, Merging, end_of}
+use Rattle.lnt_spans.specs.Laws.Answering.{front_in_order}
+use Rattle.lnt_spans.specs.Spans.{AreInOrder}
+use Rattle.lnt_wire.specs.Pulling.{Pulls}
+use Rattle.lnt_records.specs.declared.comparison.Compared.{Compared}
+use Rattle.lnt_records.specs.Faults.{IsComparison}
+use Rattle.lnt_records.specs.Passing.{AreLines, Ends, HasPassed, IsCut, LeavesOff, Passes}
+use Rattle.lnt_records.specs.Progress.{Judges}
+use Rattle.lnt_records.specs.Table.{BeginsWith, Fields, IsSpanRecord, column_names}
+use Rattle.lnt_records.specs.Written.{line_text, lines_text}
+use Rattle.lnt_records.proofs.ComparisonLemmas.{AnswersSo}
+use Rattle.lnt_records.proofs.LineLemmas.{header_reached, line_some, names_read, no_mark, span_read}
+use Rattle.lnt_records.proofs.PassingLemmas.{few_passed, few_records, passes_line}
+
+-- ---- lines cut out
+
+lines_reached : (version : Version) (records : List Fields) (table : List Span) (rest : List ℕ) (more : List Fields) (after : State) (left : List ℕ) → AllZip (IsSpanRecord version) records table
+    → Reached default_config st.StartRecord rest more after left → Reached default_config st.StartRecord (lines_text records ++ rest) (records ++ more) after left
+unfolding Reached
+lines_reached version [] [] rest more after left z r = r
+lines_reached version [] (s ∷ table) rest more after left z r = absurd z
+lines_reached version (f ∷ records) [] rest more after left z r = absurd z
+lines_reached version (f ∷ records) (s ∷ table) rest more after left z r =
+    let behind : List ℕ = lines_text records ++ rest in
+    let read : next_record default_config st.StartRecord [] [] ((line_text f ++ lines_text records) ++ rest) ≡ Some (f, st.StartRecord, behind) =
+    ap (λ (t : List ℕ). next_record default_config st.StartRecord [] [] t) (append_assoc (line_text f) (lines_text records) rest) ∙ span_read version f s behind z.0 in
+    ((f, st.StartRecord, behind), read, refl, lines_reached version records table rest more after left z.1 r)
+
+same_some : (p q : Read) → Some p ≡ Some q → p ≡ q
+same_some p q e = cc
+
+-- what is read behind the header
+behind_header : (version : Version) (rest : List ℕ) (more : List Fields) (after : State) (left : List ℕ) → Reached default_config st.StartRecord (strip_bom (line_text (column_names version) ++ rest)) (column_names version ∷ more) after left
+    → Reached default_config st.StartRecord rest more after left
+unfolding Reached
+behind_header version rest more after left r =
+    let plain = rw (no_mark version rest) at r in
+    let same : (column_names version, st.StartRecord, rest) ≡ plain.0 = same_some (column_names version, st.StartRecord, rest) plain.0 (sym (names_read version rest) ∙ plain.1) in
+    subst (λ (p : Read). Reached default_config p.1 p.2 more after left) (sym same) plain.3
+
+with_header : (version : Version) (rest : List ℕ) (more : List Fields) (after : State) (left : List ℕ) → Reached default_config st.StartRecord rest more after left
+    → Reached default_config st.StartRecord (strip_bom (line_text (column_names version) ++ rest)) (column_names version ∷ more) after left
+unfolding Reached
+with_header version rest more after left r = rw (no_mark version rest) ((column_names version, st.StartRecord, rest), names_read version rest, refl, r)
+
+cut_lines : (version : Version) (records : List Fields) (table : List Span) (rest : List ℕ) → AllZip (IsSpanRecord version) records table
+    → IsCut version (line_text (column_names version) ++ rest) (line_text (column_names version) ++ (lines_text records ++ rest)) records
+cut_lines version records table rest z more after left r =
+    with_header version (lines_text records ++ rest) (records ++ more) after left (lines_reached version records table rest more after left z (behind_header version rest more after left r))
+
+-- ---- the stages
+
+pub begun : (version : Version) (a b : Option (List ℕ)) (la lb : ℕ) (w0 w1 w2 : List ℕ) → w0 ≡ [] → Passes a b la lb w0 w1 [] → w1 ≡ line_text (column_names version) ++ w2
+    → Passes a b la lb [] w2 (line_text (column_names version))
+begun version a b la lb w0 w1 w2 none p e = passes_line a b la lb [] w1 w2 [] (line_text (column_names version)) (subst (λ (w : List ℕ). Passes a b la lb w w1 []) none p) e
+
+pub few_lines : (version : Version) (a b c : Option (List ℕ)) (la lb lc : ℕ) (w2 w3 text : List ℕ) (table : List Span) (count : ℕ) → Passes a b la lb [] w2 (line_text (column_names version)) → Passes b c lb lc w2 w3 text
+    → AreLines version text table count → la < 2 ^ 64 → length w3 + lc + count < 2 ^ 64
+few_lines version a b c la lb lc w2 w3 text table count p q lines fits =
+    omega (arith, fits, few_passed a b la lb [] w2 (line_text (column_names version)) p, few_passed b c lb lc w2 w3 text q, few_records version text table count lines, line_some (column_names version))
+
+pub passed_behind : {S : Type 0} (to_come : S → List Span → Type 0) (P : List Span → Type 0) (merge : Merging S) (version : Version) (section : List Span) (text : List ℕ) (count : ℕ) (end : Position) → LeavesOff P version section text count end
+    → merge.version ≡ version
+    → ((passed list : List Span) → P list → AreInOrder (passed ++ list) → AllByRecursion (IsTold version) passed → end ≡ end_of passed → Compares to_come merge (passed ++ list) passed)
+    → HasPassed to_come merge version section text count
+passed_behind to_come P merge version section text count end l same behind = record {
+  table = l.table;
+  order = front_in_order l.table l.rest l.order;
+  lines = l.lines;
+  follows = record { spans = l.table ++ l.rest; same = l.same; version_is = same; compares = behind l.table l.rest l.left l.order l.told l.end_is };
+}
+
+pub judges_passed : {S : Type 0} (to_come : S → List Span → Type 0) (merge : Merging S) (version : Version) (section : List Span) (text : List ℕ) (count : ℕ) → (h : HasPassed to_come merge version section text count)
+    → Judges to_come (record { merge = merge; version = version; count = count }) h.follows.spans (column_names version ∷ h.lines.records)
+judges_passed to_come merge version section text count h = record {
+  table = h.table;
+  is_table = (refl, record { each = h.lines.each; in_order = h.order });
+  count = omega (arith, h.lines.count_is);
+  version = h.follows.version_is;
+  compares = h.follows.compares;
+}
+
+-- ---- the rest
+
+-- The text of the rest, behind the names of the columns.
+record IsRest (version : Version) (window given all : List ℕ) : Type 0 where
+  joined : all ≡ line_text (column_names version) ++ (window ++ given)
+
+rest_is : (version : Version) (names window given all : List ℕ) → names ≡ line_text (column_names version) → all ≡ (names ++ window) ++ given → IsRest version window given all
+rest_is version names window given all e f = record { joined = f ∙ ap (λ (t : List ℕ). (t ++ window) ++ given) e ∙ append_assoc (line_text (column_names version)) window given }
+
+pub rest_begins : (version : Version) (d : Option (List ℕ)) (ld : ℕ) (names window all : List ℕ) → names ≡ line_text (column_names version) → Ends d ld (names ++ window) all → BeginsWith all (column_names version ∷ [])
+rest_begins version d ld names window all e ends =
+    let rest = rest_is version names window ends.given all e ends.joined in
+    subst (λ (t : List ℕ). BeginsWith t (column_names version ∷ [])) (sym rest.joined) (st.StartRecord, window ++ ends.given, header_reached version (window ++ ends.given))
+
+pub few_all : (version : Version) (a d : Option (List ℕ)) (la ld : ℕ) (names window text all : List ℕ) (table : List Span) (count : ℕ) → names ≡ line_text (column_names version)
+    → Passes a d la ld [] window (line_text (column_names version) ++ text) → Ends d ld (names ++ window) all → AreLines version text table count → la < 2 ^ 64 → count + length all < 2 ^ 64 + 1
+few_all version a d la ld names window text all table count e p ends lines fits =
+    let line : List ℕ = line_text (column_names version) in
+    let rest = rest_is version names window ends.given all e ends.joined in
+    omega (
+      arith,
+      fits,
+      few_passed a d la ld [] window (line ++ text) p,
+      few_records version text table count lines,
+      ends.few,
+      ap length rest.joined,
+      length-append line (window ++ ends.given),
+      length-append window ends.given,
+      length-append line text,
+    )
+
+whole_bytes : (a d : Option (List ℕ)) (given rest : List ℕ) → Pulls a d given → IfSome d (λ bytes. rest ≡ bytes) → IfSome a (λ bytes. given ++ rest ≡ bytes)
+whole_bytes None d given rest p e = tt
+whole_bytes (Some x) None given rest p e = absurd p
+whole_bytes (Some x) (Some y) given rest p e = ap (λ (t : List ℕ). given ++ t) e ∙ sym p
+
+told_bytes : (a : Option (List ℕ)) (bytes : List ℕ) (P : List ℕ → Type 0) → IfSome a (λ all. bytes ≡ all) → P bytes → IfSome a P
+told_bytes None bytes P e h = tt
+told_bytes (Some all) bytes P e h = subst P e h
+
+-- what the comparison of the rest tells of the whole
+pub whole_told : {S : Type 0} (to_come : S → List Span → Type 0) (merge : Merging S) (version : Version) (section : List Span) (a d : Option (List ℕ)) (la ld : ℕ) (names window text all : List ℕ) (count : ℕ) (compared : Compared)
+    → names ≡ line_text (column_names version) → Passes a d la ld [] window (line_text (column_names version) ++ text) → Ends d ld (names ++ window) all → HasPassed to_come merge version section text count
+    → ((list section : List Span) (passed : List Fields) (bytes : List ℕ) → Judges to_come (record { merge = merge; version = version; count = count }) list (column_names version ∷ passed)
+    → IsCut version all bytes passed → AnswersSo version list section → IsComparison bytes section compared)
+    → IfSome a (λ bytes. IsComparison bytes section compared)
+whole_told to_come merge version section a d la ld names window text all count compared e p ends h compare =
+    let line : List ℕ = line_text (column_names version) in
+    let rest : List ℕ = window ++ ends.given in
+    let records = h.lines.records in
+    let given : p.given ++ ends.given ≡ line ++ (lines_text records ++ rest) =
+    ap (λ (t : List ℕ). t ++ ends.given) p.joined ∙ append_assoc (line ++ text) window ends.given ∙ append_assoc line text rest ∙ ap (λ (t : List ℕ). line ++ (t ++ rest)) h.lines.text_is in
+    let cut = cut_lines version records h.table rest h.lines.each in
+    let cut_all : IsCut version all (line ++ (lines_text records ++ rest)) records =
+    subst (λ (t : List ℕ). IsCut version t (line ++ (lines_text records ++ rest)) records) (sym (rest_is version names window ends.given all e ends.joined).joined) cut in
+    let cut_both : IsCut version all (p.given ++ ends.given) records = subst (λ (t : List ℕ). IsCut version all t records) (sym given) cut_all in
+    told_bytes a (p.given ++ ends.given) (λ (bytes : List ℕ). IsComparison bytes section compared) (whole_bytes a d p.given ends.given p.pulls ends.whole)
+    (compare h.follows.spans section records (p.given ++ ends.given) (judges_passed to_come merge version section text count h) cut_both h.follows.same)

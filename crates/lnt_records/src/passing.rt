@@ -1,0 +1,85 @@
+//! The lines of a table that are those of the canonical spans of a section, passed without being read.
+ghost use Rattle.std.specs.Prelude.{◌≡◌, ◌≢◌, ◌+◌, ◌-◌, ◌^◌, ◌<◌, ℕ, List, length, IfOk, IsErrOf};
+ghost use Rattle.std.specs.Bool.{MatchBool};
+ghost use Rattle.lnt_spans.specs.declared.span.Span as spec;
+ghost use Rattle.lnt_spans.specs.Spans.{AreInOrder};
+ghost use Rattle.lnt_records.specs.Lines.{IsLine};
+ghost use Rattle.lnt_records.specs.Passing.{LeavesOff, Passes};
+
+use crate::remaining::Remaining;
+use crate::text::{ROOM, line_of};
+use crate::window::Window;
+use lnt_spans::{Joiner, Merge, Position, Span, SpanSource, Version};
+use lnt_wire::{Source, SourceStop};
+use std::alloc::Global;
+
+// How far a table was passed: the spans behind those that it says so far, how many records it has with them, and where
+// the last one ends.
+#[derive(Drop)]
+pub(crate) struct Passed<S> {
+    pub(crate) spans: Remaining<S>,
+    pub(crate) count: u64,
+    pub(crate) end: Position,
+}
+
+// Goes on past the lines of a table that are those of the canonical spans, as these come, up to the first that isn't. The
+// number of its records stays below 2^64, since none has less than one byte.
+pub(crate) fn pass_spans<S: SpanSource + Drop, T: Source>(
+    alloc: Global,
+    spans: S,
+    version: Version,
+    source: &mut T,
+    window: &mut Window,
+) -> Result<Passed<S>, SourceStop>
+    requires failures { T.failures source.old < 2 ^ 64 - 1 }
+    requires few { length window.old + T.left source.old + 1 < 2 ^ 64 }
+    requires spans { (list : List spec.Span) × S.to_come spans list × AreInOrder list }
+    ensures ok { IfOk result (λ passed. (text : List ℕ) × Passes (T.remaining source.old) (T.remaining source.new) (T.left source.old) (T.left source.new) window.old window.new text
+        × ((list : List spec.Span) → S.to_come spans list → AreInOrder list → LeavesOff (⟦<Remaining<S> as SpanSource>⟧.to_come passed.spans) version list text passed.count passed.end)) }
+    ensures read { IsErrOf result SourceStop.Read → T.failures source.new ≡ T.failures source.old + 1 }
+    ensures no_failure { result ≢ Err SourceStop.Read → T.failures source.new ≡ T.failures source.old }
+    ensures not_long { IsErrOf result SourceStop.TooLong → ⊥ }
+{
+    let mut spans = spans;
+    let mut joiner = Joiner::new(version);
+    let mut room = [0; ROOM];
+    let mut count = 1;
+    let mut end = Position { address: 0, op: 0 };
+    while let Some(span) = spans.next_span() {
+        let Some(joined) = joiner.push(&span) else {
+            continue;
+        };
+        window.fill(alloc, source)?;
+        if !pass_line(window, &mut room, &joined, version) {
+            let spans = Remaining {
+                first: Some(joined),
+                second: joiner.finish(),
+                spans,
+                is_ended: false,
+                version,
+            };
+            return Ok(Passed { spans, count, end });
+        }
+        count += 1;
+        end = joined.high;
+    }
+    let spans = Remaining {
+        first: None,
+        second: joiner.finish(),
+        spans,
+        is_ended: true,
+        version,
+    };
+    Ok(Passed { spans, count, end })
+}
+
+// Goes on past the line of a span, if it is next.
+#[inline(always)]
+fn pass_line(window: &mut Window, room: &mut [u8; ROOM], span: &Span, version: Version) -> bool
+    ensures { MatchBool result (IsLine version span.now window.old window.new) (window.new ≡ window.old) }
+{
+    let Some(start) = line_of(room, span, version) else {
+        return false;
+    };
+    window.pass_text(&room[start..])
+}

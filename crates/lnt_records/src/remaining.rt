@@ -1,0 +1,39 @@
+//! The spans that are left of a section, where some were joined before.
+ghost use Rattle.std.specs.Prelude.{◌≡◌, ◌+◌, List, [], length, map};
+ghost use Rattle.std.specs.List.{cons_option};
+ghost use Rattle.lnt_spans.specs.declared.span.Span.{Span};
+ghost use Rattle.lnt_spans.specs.Spans.{span_in_version};
+ghost use Rattle.lnt_records.specs.Passing.{AreLeft};
+
+use lnt_spans::{Span, SpanSource, Version};
+
+// Up to two spans, and behind them those of a source as a version tells them, unless it was found to have none left.
+#[derive(Drop)]
+pub(crate) struct Remaining<S> {
+    pub(crate) first: Option<Span>,
+    pub(crate) second: Option<Span>,
+    pub(crate) spans: S,
+    pub(crate) is_ended: bool,
+    pub(crate) version: Version,
+}
+
+impl<S: SpanSource> SpanSource for Remaining<S> {
+    ghost to_come = { λ s list. (rest : List Span) × AreLeft s.is_ended (S.to_come s.spans) rest × (list ≡ cons_option s.first (cons_option s.second (map (span_in_version s.version) rest))) };
+
+    ghost left = { λ s. S.left s.spans + length (cons_option s.first (cons_option s.second [])) };
+
+    #[inline(always)]
+    fn next_span(&mut self) -> Option<Span> {
+        if let Some(span) = self.first.take() {
+            return Some(span);
+        }
+        if let Some(span) = self.second.take() {
+            return Some(span);
+        }
+        if self.is_ended {
+            return None;
+        }
+        let span = self.spans.next_span()?;
+        Some(span.in_version(self.version))
+    }
+}

@@ -1,0 +1,72 @@
+//! A table compared with the spans of a section, both as they come.
+ghost use Rattle.std.specs.Prelude.{◌≡◌, ◌≢◌, ◌+◌, ◌-◌, ◌^◌, ◌<◌, List, IfOk, IfSome, IsErrOf, IsTrue};
+ghost use Rattle.lnt_spans.specs.declared.span.Span.{Span};
+ghost use Rattle.lnt_spans.specs.Spans.{AreInOrder};
+ghost use Rattle.lnt_wire.specs.Pulling.{HasMoreThan};
+ghost use Rattle.lnt_records.specs.Faults.{IsComparison};
+
+use crate::comparison::{Compared, compare_behind, compare_records};
+use crate::fault::TableStop;
+use crate::header::header_line;
+use crate::lines::{pass_header, push_lines};
+use crate::passing::pass_spans;
+use crate::window::Window;
+use lnt_spans::{Merge, SpanSource};
+use lnt_wire::{Source, SourceStop};
+use std::alloc::Global;
+
+/// Compares the table that a source has to give with the spans of a section, as both come.
+///
+/// `Same`: the bytes are a table that answers at every position as the spans do, as far as the table's version tells: in
+/// version 1 the spans' instruction sets and discriminators don't count. `Fault`: they are no table. The first faulty
+/// record is told, whatever was different before it. `Differs`: all records are well formed, and at no lower position do
+/// the answers differ; both are told in the table's version.
+///
+/// As long as the table's lines are those that `write_canonical` writes of the spans, they are compared as text and not
+/// read. The lines from there on are read one by one, as long as each is a sound record on a line of its own with nothing
+/// in quotes, and the records behind these are read by `csv`, of bytes held at once. So neither a table that is written
+/// so nor the spans are held: the memory that it takes is one block.
+///
+/// The caller sees to it that the spans are in order and none is empty, and that the number of the source's failures is
+/// below `u64::MAX`. It stops with `Memory`; with `Read` only where the source failed; and with `TooLong` only where it
+/// has more bytes than it may give. The table is read to its end before it is said what is wrong with it.
+pub fn compare_table<S: SpanSource + Drop, T: Source>(
+    alloc: Global,
+    table: &mut T,
+    spans: S,
+) -> Result<Compared, SourceStop>
+    requires failures { T.failures table.old < 2 ^ 64 - 1 }
+    requires spans { (list : List Span) × S.to_come spans list × AreInOrder list }
+    ensures ok { IfOk result (λ compared. (list : List Span) → S.to_come spans list → AreInOrder list → IfSome (T.remaining table.old) (λ bytes. IsComparison bytes list compared)) }
+    ensures read { IsErrOf result SourceStop.Read → T.failures table.new ≡ T.failures table.old + 1 }
+    ensures no_failure { result ≢ Err SourceStop.Read → T.failures table.new ≡ T.failures table.old }
+    ensures too_long { IsErrOf result SourceStop.TooLong → IsTrue (T.too_long table.new) }
+    ensures more { IsErrOf result SourceStop.TooLong → HasMoreThan (T.remaining table.old) (T.left table.old) }
+{
+    // A table has no more records than its source may give bytes, and their number fits.
+    let _may_give = table.left();
+    let mut window = Window::new(alloc);
+    window.fill(alloc, table)?;
+    let Some(version) = pass_header(&mut window) else {
+        let text = window.rest_behind(alloc, &[], table)?;
+        return told(compare_records(alloc, &text, spans));
+    };
+    let passed = pass_spans(alloc, spans, version, table, &mut window)?;
+    let mut merge = Merge::behind(passed.spans, version, passed.end);
+    let mut count = passed.count;
+    push_lines(alloc, &mut merge, &mut count, version, table, &mut window)?;
+    let text = window.rest_behind(alloc, header_line(version), table)?;
+    told(compare_behind(alloc, &text, merge, version, count))
+}
+
+// What a comparison of bytes in memory tells.
+fn told(compared: Result<Compared, TableStop>) -> Result<Compared, SourceStop>
+    ensures ok { IfOk result (λ it. compared ≡ Ok it) }
+    ensures not_read { IsErrOf result SourceStop.Read → ⊥ }
+    ensures not_long { IsErrOf result SourceStop.TooLong → ⊥ }
+{
+    match compared {
+        Ok(compared) => Ok(compared),
+        Err(TableStop::Memory) => Err(SourceStop::Memory),
+    }
+}

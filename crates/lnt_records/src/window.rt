@@ -1,0 +1,167 @@
+//! The bytes of a table that were taken from its source and not read yet.
+ghost use Rattle.std.specs.Prelude.{◌≡◌, ◌≢◌, ◌+◌, ◌-◌, ◌^◌, ◌<◌, ◌≤◌, ◌++◌, [], drop, length, IfOk, IsErrOf, IsTrue, OnOk};
+ghost use Rattle.std.specs.Bool.{MatchBool};
+ghost use Rattle.lnt_wire.specs.Pulling.{HasMoreThan};
+ghost use Rattle.lnt_records.specs.Passing.{Ends, Passes};
+
+use crate::text::ROOM;
+use lnt_wire::{Source, SourceStop, take_block};
+use std::alloc::{AllocError, Global};
+use std::marker::Model;
+
+// The bytes at hand: those of a block from a place on. Contracts see the list of them.
+#[derive(Drop)]
+pub(crate) struct Window {
+    block: Vec<u8>,
+    at: usize,
+}
+
+impl Model for Window {
+    ghost use Rattle.std.specs.Prelude.{ℕ, ◌≤◌, List, drop, length};
+
+    ghost Value = { List ℕ };
+
+    ghost view = { λ w. drop w.at w.block.items };
+
+    ghost invariant = { λ w. w.at ≤ length w.block.items };
+}
+
+impl Window {
+    // No bytes.
+    pub(crate) fn new(alloc: Global) -> Window
+        ensures { result ≡ [] }
+    {
+        Window {
+            block: Vec::new(alloc),
+            at: 0,
+        }
+    }
+
+    // The bytes at hand.
+    #[inline(always)]
+    pub(crate) fn bytes(&self) -> &[u8]
+        ensures { result.now ≡ self.now }
+    {
+        &self.block[self.at..]
+    }
+
+    // Goes on past so many bytes, or all.
+    #[inline(always)]
+    pub(crate) fn pass(&mut self, count: usize)
+        ensures { self.new ≡ drop count self.old }
+    {
+        self.at += count.min(self.block.len() - self.at);
+    }
+
+    // Goes on past a text, if it is next.
+    #[inline(always)]
+    pub(crate) fn pass_text(&mut self, text: &[u8]) -> bool
+        ensures { MatchBool result (self.old ≡ text.now ++ self.new) (self.new ≡ self.old) }
+    {
+        let is_next = self.bytes().starts_with(text);
+        if is_next {
+            self.at += text.len();
+        }
+        is_next
+    }
+
+    // Takes more bytes, unless there are as many as a line may have, or the source has none left.
+    #[inline(always)]
+    pub(crate) fn fill<T: Source>(
+        &mut self,
+        alloc: Global,
+        source: &mut T,
+    ) -> Result<(), SourceStop>
+        requires { T.failures source.old < 2 ^ 64 - 1 }
+        ensures taken { OnOk result (Passes (T.remaining source.old) (T.remaining source.new) (T.left source.old) (T.left source.new) self.old self.new []) }
+        ensures read { IsErrOf result SourceStop.Read → T.failures source.new ≡ T.failures source.old + 1 }
+        ensures no_failure { result ≢ Err SourceStop.Read → T.failures source.new ≡ T.failures source.old }
+        ensures not_long { IsErrOf result SourceStop.TooLong → ⊥ }
+    {
+        if self.block.len() - self.at >= ROOM {
+            return Ok(());
+        }
+        self.refill(alloc, source)
+    }
+
+    // The same where there are fewer.
+    #[inline(never)]
+    fn refill<T: Source>(&mut self, alloc: Global, source: &mut T) -> Result<(), SourceStop>
+        requires { T.failures source.old < 2 ^ 64 - 1 }
+        ensures taken { OnOk result (Passes (T.remaining source.old) (T.remaining source.new) (T.left source.old) (T.left source.new) self.old self.new []) }
+        ensures read { IsErrOf result SourceStop.Read → T.failures source.new ≡ T.failures source.old + 1 }
+        ensures no_failure { result ≢ Err SourceStop.Read → T.failures source.new ≡ T.failures source.old }
+        ensures not_long { IsErrOf result SourceStop.TooLong → ⊥ }
+    {
+        let Ok(mut block) = Vec::from_slice(alloc, self.bytes()) else {
+            return Err(SourceStop::Memory);
+        };
+        fill_block(source, &mut block)?;
+        *self = Window { block, at: 0 };
+        Ok(())
+    }
+
+    // A text with the bytes at hand behind it, and all that the source has left.
+    pub(crate) fn rest_behind<T: Source>(
+        self,
+        alloc: Global,
+        text: &[u8],
+        source: &mut T,
+    ) -> Result<Vec<u8>, SourceStop>
+        requires { T.failures source.old < 2 ^ 64 - 1 }
+        ensures ok { IfOk result (λ all. Ends (T.remaining source.old) (T.left source.old) (text.now ++ self) all.items) }
+        ensures read { IsErrOf result SourceStop.Read → T.failures source.new ≡ T.failures source.old + 1 }
+        ensures no_failure { result ≢ Err SourceStop.Read → T.failures source.new ≡ T.failures source.old }
+        ensures too_long { IsErrOf result SourceStop.TooLong → IsTrue (T.too_long source.new) }
+        ensures more { IsErrOf result SourceStop.TooLong → HasMoreThan (T.remaining source.old) (T.left source.old) }
+    {
+        let Ok(mut all) = joined(alloc, text, self.bytes()) else {
+            return Err(SourceStop::Memory);
+        };
+        read_rest(source, &mut all)?;
+        Ok(all)
+    }
+}
+
+// Two texts, one behind the other.
+fn joined(alloc: Global, first: &[u8], second: &[u8]) -> Result<Vec<u8>, AllocError>
+    ensures { IfOk result (λ all. all.items ≡ first.now ++ second.now) }
+{
+    let mut all = Vec::from_slice(alloc, first)?;
+    all.extend_from_slice(second)?;
+    Ok(all)
+}
+
+// Takes bytes of a source behind those in a block, until there are as many as a line may have, or no more come.
+#[tactic(auto, using(crate::proofs::PassingLemmas::passes_none, crate::proofs::PassingLemmas::passes_block))]
+fn fill_block<T: Source>(source: &mut T, block: &mut Vec<u8>) -> Result<(), SourceStop>
+    requires { T.failures source.old < 2 ^ 64 - 1 }
+    ensures taken { OnOk result (Passes (T.remaining source.old) (T.remaining source.new) (T.left source.old) (T.left source.new) block.old.items block.new.items []) }
+    ensures read { IsErrOf result SourceStop.Read → T.failures source.new ≡ T.failures source.old + 1 }
+    ensures no_failure { result ≢ Err SourceStop.Read → T.failures source.new ≡ T.failures source.old }
+    ensures not_long { IsErrOf result SourceStop.TooLong → ⊥ }
+{
+    while block.len() < ROOM {
+        if take_block(source, block)? == 0 {
+            return Ok(());
+        }
+    }
+    Ok(())
+}
+
+// Takes all bytes that a source has left, behind those that were taken.
+#[tactic(auto, using(crate::proofs::PassingLemmas::passes_none, crate::proofs::PassingLemmas::passes_block, crate::proofs::PassingLemmas::passes_all, crate::proofs::PassingLemmas::longer_from_start))]
+fn read_rest<T: Source>(source: &mut T, all: &mut Vec<u8>) -> Result<(), SourceStop>
+    requires { T.failures source.old < 2 ^ 64 - 1 }
+    ensures ok { OnOk result (Ends (T.remaining source.old) (T.left source.old) all.old.items all.new.items) }
+    ensures read { IsErrOf result SourceStop.Read → T.failures source.new ≡ T.failures source.old + 1 }
+    ensures no_failure { result ≢ Err SourceStop.Read → T.failures source.new ≡ T.failures source.old }
+    ensures too_long { IsErrOf result SourceStop.TooLong → IsTrue (T.too_long source.new) }
+    ensures more { IsErrOf result SourceStop.TooLong → HasMoreThan (T.remaining source.old) (T.left source.old) }
+{
+    while take_block(source, all)? > 0 {}
+    if source.too_long() {
+        return Err(SourceStop::TooLong);
+    }
+    Ok(())
+}
