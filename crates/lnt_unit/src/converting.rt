@@ -104,7 +104,7 @@ fn convert_frame(
     if let Err(fault) = convert_ops(&mut converted, header.numbers(), program, place, to) {
         return Err(told(fault));
     }
-    match put_header_view(alloc, out, &header, &converted, format, to) {
+    match put_header_view(alloc, out, &header.view(), &converted, format, to) {
         Ok(()) => Ok(()),
         Err(EncodeFault::TooLarge) => Err(ConvertFault::TooLarge(frame.offset)),
         Err(EncodeFault::Memory) => Err(ConvertFault::Memory),

@@ -1,4 +1,9 @@
-use Rattle.std.proofs.Common.{◌≡◌, ◌≢◌, ◌+◌, ◌-◌, length, refl, arith}
+use Rattle.std.proofs.Common.{◌≡◌, ◌≢◌, ◌+◌, ◌-◌, length, refl, subst, arith}
+use Rattle.lnt_wire.specs.Bytes.{Appends}
+use Rattle.lnt_header.specs.Conversion.{in_format}
+use Rattle.lnt_header.specs.Encoding.{RefusedPut}
+use Rattle.lnt_header.specs.HeaderBytes.{HeaderBytesIn}
+use Rattle.lnt_header.specs.declared.header.HeaderParts.{HeaderParts}
 use Rattle.lnt_wire.specs.FrameBytes.{frame_bytes}
 use Rattle.lnt_wire.specs.declared.fault.Reason.TheVariants.{Memory}
 use Rattle.lnt_unit.specs.BrokenUnits.{BrokenUnit}
@@ -27,12 +32,16 @@ returns-in-Err-convert_ops-clause-err c =
 
 pub returns-in-Ok-put_header_view-clause-ok : goal.returns-in-Ok-put_header_view-clause-ok
 returns-in-Ok-put_header_view-clause-ok c =
-    frame_converted c.args.order c.in-Ok.found.0 c.numbers.result.now c.in-Ok.found.1.now _ c.new-converted.result.items _ c.deref.result.now _ _ c.args.format c.args.to c.in-Ok.ensures.ok c.numbers.ensures.numbers c.in_default.ensures.ok
-    c.new-converted.ensures.items c.deref.ensures.value c.in-Ok-put_header_view.ensures.ok
+    let put = subst (λ (h : HeaderParts). Appends (HeaderBytesIn c.args.to) (in_format h c.args.format c.args.to, c.deref.result.now) c.args.out.now.items c.put_header_view.new.out.items)
+    c.view.ensures c.in-Ok-put_header_view.ensures.ok in
+    frame_converted c.args.order c.in-Ok.found.0 c.numbers.result.now c.in-Ok.found.1.now _ c.new-converted.result.items _ c.deref.result.now _ _ c.args.format c.args.to
+    c.in-Ok.ensures.ok c.numbers.ensures.numbers c.in_default.ensures.ok c.new-converted.ensures.items c.deref.ensures.value put
 
 pub returns-in-Err-TooLarge-clause-err : goal.returns-in-Err-TooLarge-clause-err
-returns-in-Err-TooLarge-clause-err c = (
-  refl,
-  frame_large c.args.order c.in-Ok.found.0 c.numbers.result.now c.in-Ok.found.1.now _ c.new-converted.result.items _ c.deref.result.now c.args.format c.args.to _ c.in-Ok.ensures.ok c.numbers.ensures.numbers c.in_default.ensures.ok
-      c.new-converted.ensures.items c.deref.ensures.value c.in-Err-TooLarge.ensures.err c.in-Err-TooLarge.field-0-is,
-)
+returns-in-Err-TooLarge-clause-err c =
+    let refused = subst (λ (h : HeaderParts). RefusedPut (HeaderBytesIn c.args.to) (in_format h c.args.format c.args.to, c.deref.result.now) c.in-Err-TooLarge.field-0)
+    c.view.ensures c.in-Err-TooLarge.ensures.err in (
+      refl,
+      frame_large c.args.order c.in-Ok.found.0 c.numbers.result.now c.in-Ok.found.1.now _ c.new-converted.result.items _ c.deref.result.now c.args.format c.args.to _
+          c.in-Ok.ensures.ok c.numbers.ensures.numbers c.in_default.ensures.ok c.new-converted.ensures.items c.deref.ensures.value refused c.in-Err-TooLarge.field-0-is,
+    )
