@@ -1,14 +1,17 @@
 //! Whether files have the sums that are listed.
 ghost use Rattle.std.specs.Prelude.{◌≡◌, IfErr, None, Ok};
 ghost use Rattle.lnt_files.specs.declared.status.Status.TheVariants.{Done};
-ghost use Rattle.lnt_lines.specs.Indexed.{file_sum_in};
+ghost use Rattle.lnt_entries.specs.Paths.{listed_sum};
+ghost use Rattle.lnt_entries.specs.Tables.{AreUsableTables};
 ghost use Rattle.lnt_files.specs.Halts.{IsPrinting};
 
+use lnt_entries::{file_count, listed, path_of};
 use lnt_files::{Halt, LIMIT, Opener, Status};
 use lnt_lines::{Index, Stop};
 use lnt_sums::{Agreement, md5_agrees};
 use lnt_text::Quoted;
-use lnt_wire::Counted;
+use lnt_unit::Header;
+use lnt_wire::{Counted, Strings};
 use std::alloc::Global;
 use std::io::Write;
 use std::str;
@@ -28,10 +31,36 @@ pub fn print_sums<O: Opener, W: Write>(
 {
     let mut status = Status::Done;
     for unit in index.units() {
-        for file in 0..index.file_count(*unit) {
-            if print_sum(alloc, index, *unit, file, opener, out)? == Status::No {
-                status = Status::No;
-            }
+        // Where its first file lists none, none of a unit does: they have one format.
+        if index.listed(*unit, 0).is_some()
+            && print_unit(alloc, index, *unit, opener, out)? == Status::No
+        {
+            status = Status::No;
+        }
+    }
+    Ok(status)
+}
+
+// Prints the lines of the unit's files.
+fn print_unit<O: Opener, W: Write>(
+    alloc: Global,
+    index: &Index<'_>,
+    unit: u64,
+    opener: &mut O,
+    out: &mut W,
+) -> Result<Status, Halt>
+    ensures err { IfErr result IsPrinting }
+{
+    let header = match index.header(alloc, unit) {
+        Ok(Some(header)) => header,
+        Ok(None) | Err(Stop::Read | Stop::TooLong) => return Ok(Status::Done),
+        Err(Stop::Memory) => return Err(Halt::Memory),
+    };
+    let strings = index.strings();
+    let mut status = Status::Done;
+    for file in 0..file_count(&header) {
+        if print_sum(alloc, &header, &strings, unit, file, opener, out)? == Status::No {
+            status = Status::No;
         }
     }
     Ok(status)
@@ -40,22 +69,22 @@ pub fn print_sums<O: Opener, W: Write>(
 // Prints the line of a file, where a sum is listed for it.
 fn print_sum<O: Opener, W: Write>(
     alloc: Global,
-    index: &Index<'_>,
+    header: &Header,
+    strings: &Strings<'_>,
     unit: u64,
     file: u64,
     opener: &mut O,
     out: &mut W,
 ) -> Result<Status, Halt>
+    requires { AreUsableTables strings.now.line.now strings.now.general.now header.now }
     ensures err { IfErr result IsPrinting }
-    ensures unlisted { file_sum_in index.now unit file ≡ None → (out.new ≡ out.old) × (opener.new ≡ opener.old) × (result ≡ Ok Done) }
+    ensures unlisted { listed_sum header.now file ≡ None → (out.new ≡ out.old) × (opener.new ≡ opener.old) × (result ≡ Ok Done) }
 {
-    let Some(listed) = index.listed(unit, file) else {
+    let Some(listed) = listed(header, file) else {
         return Ok(Status::Done);
     };
-    let path = match index.path_of(alloc, unit, file) {
-        Ok(Some(path)) => path,
-        Ok(None) | Err(Stop::Read | Stop::TooLong) => return Ok(Status::Done),
-        Err(Stop::Memory) => return Err(Halt::Memory),
+    let Some(path) = path_of(alloc, header, strings, file)? else {
+        return Ok(Status::Done);
     };
     let agreement = agreement_of(&path, &listed, opener);
     write!(out, "unit {unit} file {file} ")?;

@@ -9,8 +9,8 @@ use Rattle.lnt_header.specs.declared.header.Entry.{Entry}
 use Rattle.lnt_header.specs.declared.header.HeaderParts.{HeaderParts}
 use Rattle.lnt_header.specs.declared.header.Pair.{Pair}
 use Rattle.lnt_entries.specs.declared.walk.EntryView.{EntryView}
-use Rattle.lnt_entries.specs.Contents.{path_text}
-use Rattle.lnt_entries.specs.Paths.{directory_text, file_path}
+use Rattle.lnt_entries.specs.Contents.{bytes_of_sum, content_md5, path_text, place_of, sum_of}
+use Rattle.lnt_entries.specs.Paths.{directory_text, file_path, listed_sum}
 use Rattle.lnt_entries.specs.Seen.{EntryAt, HasSeen}
 use Rattle.lnt_entries.specs.Tables.{AreUsableTables}
 use Rattle.lnt_entries.specs.Walks.{Says, EntryStep}
@@ -88,3 +88,14 @@ pub within_files : (h : HeaderParts) (table : BorrowedTable) (number : ℕ) (vie
 within_files h table number view pairs_are entries_are at =
     let there = file_there h table number view pairs_are entries_are at in
     within h.files number there.0 (sym there.1)
+
+-- no file lists a sum where the format has none
+pub none_listed : (h : HeaderParts) (pairs : List Pair) (number : ℕ) → pairs ≡ h.file_format → place_of content_md5 pairs ≡ None → None ≡ listed_sum h number
+none_listed h pairs number same none = by_entry (slice_get h.files number)
+  where
+    none_there : None ≡ place_of content_md5 h.file_format
+    none_there = sym none ∙ ap (place_of content_md5) same
+
+    by_entry : (o : Option Entry) → None ≡ option_and_then (sum_of h.file_format) o
+    by_entry None = refl
+    by_entry (Some entry) = ap (λ (place : Option ℕ). option_and_then bytes_of_sum (option_and_then (slice_get entry.values) place)) none_there

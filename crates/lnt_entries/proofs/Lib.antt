@@ -1,6 +1,5 @@
 pub mod KeptLemmas
 pub mod PathLemmas
-pub mod TableLemmas
 pub mod EntryLemmas
 pub mod WalkLemmas
 pub mod JudgedLemmas

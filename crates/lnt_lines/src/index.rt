@@ -23,7 +23,7 @@ use lnt_machine::{Program, SequenceRows};
 use lnt_rows::laws::holder_answers;
 use lnt_rows::{Extent, SeqId, answer_at, holder};
 use lnt_spans::{Answer, Position, Probes};
-use lnt_unit::HeaderView;
+use lnt_unit::{Header, HeaderView};
 use lnt_wire::Strings;
 use std::alloc::{AllocError, Global};
 use std::marker::Model;
@@ -141,6 +141,30 @@ impl<'a> Index<'a> {
             Ok(path) => Ok(path),
             Err(_) => Err(Stop::Memory),
         }
+    }
+
+    /// The header of the unit at this offset, with its directories and files at hand, for a caller that goes through many
+    /// of them. None exactly where no unit stands there. It refuses only where memory runs out.
+    pub fn header(&self, alloc: Global, unit: u64) -> Result<Option<Header>, Stop>
+        ensures header { IfOk result (λ header. header ≡ header_in self.now unit) }
+        ensures usable { IfOk result (λ found. IfSome found (λ header. AreUsableTables self.now.line self.now.general header)) }
+        ensures err { IfErr result (λ stop. stop ≡ Memory) }
+    {
+        let Some(header) = self.header_of(unit) else {
+            return Ok(None);
+        };
+        match header.to_header(alloc) {
+            Ok(header) => Ok(Some(header)),
+            Err(_) => Err(Stop::Memory),
+        }
+    }
+
+    /// The string sections that the texts of files are in.
+    pub fn strings(&self) -> Strings<'a>
+        ensures line { result.line.now ≡ self.now.line }
+        ensures general { result.general.now ≡ self.now.general }
+    {
+        self.strings
     }
 
     // The files of each unit, with their whole paths.

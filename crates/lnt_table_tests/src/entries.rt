@@ -1,25 +1,47 @@
-//! The paths of a header's files.
+//! The paths of a header's files, and the header that is kept.
 use crate::lines::STRINGS;
 use crate::worked::PLAIN;
-use lnt_entries::{path_of, tables_fault};
-use lnt_header::{Header, decode_header};
+use lnt_entries::{StringEnds, in_place, path_of};
+use lnt_header::{KeptHeader, decode_header, view_header};
 use lnt_wire::{Cursor, Order, take_frame};
 use std::alloc::Global;
 
-// The header of the plain unit.
-fn header(alloc: Global) -> Option<Header> {
+// The header of the plain unit, as it is kept, if its tables are usable.
+fn kept(alloc: Global) -> Option<KeptHeader> {
     let frame = take_frame(&mut Cursor::new(&PLAIN, 0, Order::Little)).ok()?;
-    let (header, _) = decode_header(alloc, &frame, Order::Little).ok()?;
-    Some(header)
+    let (header, _) = view_header(alloc, &frame, Order::Little).ok()?;
+    if in_place::tables_fault(&header.view(), &StringEnds::of(STRINGS)).is_some() {
+        return None;
+    }
+    header.keep(alloc, None).ok()
 }
 
 // The path of one of the unit's two files. The outer None: there is no header, or memory ran out.
 fn path(alloc: Global, file: u64) -> Option<Option<Vec<u8>>> {
-    let header = header(alloc)?;
-    if tables_fault(&header, &STRINGS).is_some() {
+    let kept = kept(alloc)?;
+    let view = kept.view();
+    if in_place::tables_fault(&view, &StringEnds::of(STRINGS)).is_some() {
         return None;
     }
+    in_place::path_of(alloc, &view, STRINGS, file).ok()
+}
+
+// The same by the header with its entries at hand.
+fn other_path(alloc: Global, file: u64) -> Option<Option<Vec<u8>>> {
+    let kept = kept(alloc)?;
+    let view = kept.view();
+    if in_place::tables_fault(&view, &StringEnds::of(STRINGS)).is_some() {
+        return None;
+    }
+    let header = view.to_header(alloc).ok()?;
     path_of(alloc, &header, &STRINGS, file).ok()
+}
+
+// How many files the header has that is decoded whole.
+fn decoded_count(alloc: Global) -> Option<usize> {
+    let frame = take_frame(&mut Cursor::new(&PLAIN, 0, Order::Little)).ok()?;
+    let (header, _) = decode_header(alloc, &frame, Order::Little).ok()?;
+    Some(header.files().len())
 }
 
 #[test]
@@ -29,4 +51,8 @@ fn paths(rt: HostRuntime) {
         matches!(path(alloc, 1), Some(Some(path)) if path.as_slice() == b"/s/a.c".as_slice())
     );
     assert!(rt; matches!(path(alloc, 2), Some(None)));
+    assert!(rt;
+        matches!(other_path(alloc, 1), Some(Some(path)) if path.as_slice() == b"/s/a.c".as_slice())
+    );
+    assert!(rt; matches!(decoded_count(alloc), Some(2)));
 }

@@ -10,8 +10,14 @@ use crate::tables::{TableFault, is_usable_format};
 use crate::walk::Entries;
 use lnt_header::{HeaderView, TableView, Which};
 
-/// What is wrong with the directories and files of the header, if its tables aren't usable (DWARF 5, section 6.2.4.1):
-/// the answer of the crate's `tables_fault`. It takes no memory, and walks over each table once.
+/// What is wrong with the directories and files of the header, if its tables aren't usable (DWARF 5, section 6.2.4.1).
+/// The first of these is told, each of the directories before the files: `EntryFormat`, `StringOutside`,
+/// `DirectoryNumber`. It takes no memory, and walks over each table once.
+///
+/// In an entry the first component of a content type counts, and a file without a directory number has directory 0.
+/// A table with entries needs a path in the form `string`, `line_strp` or `strp`; a directory number, where it has
+/// one, has the form `udata`, `data1`, `data2`, `data4` or `data8`, and an MD5 sum `data16`. Other components may have
+/// any form. Each path's text is there, and each file's directory number is below the number of directories.
 pub fn tables_fault(header: &HeaderView<'_>, ends: &StringEnds<'_>) -> Option<TableFault>
     ensures { MatchOption result (AreUsableTables ends.now.line ends.now.general header.now)
         (λ fault. IsTablesFault ends.now.line ends.now.general header.now fault) }

@@ -8,6 +8,7 @@ ghost use Rattle.lnt_entries.specs.Seen.{EntryAt};
 ghost use Rattle.lnt_entries.specs.Tables.{AreUsableTables};
 ghost use Rattle.lnt_entries.specs.Walks.{Says};
 
+use crate::contents::{MD5, place_of};
 use crate::paths::{Pieces, add_pieces, begins_with_slash};
 use crate::walk::{Entries, EntryView};
 use lnt_header::{HeaderView, TableView};
@@ -22,11 +23,14 @@ pub fn file_count(header: &HeaderView<'_>) -> u64
 }
 
 /// The MD5 sum that is listed of the file, in the form `data16`. None where it lists none, or isn't there. Files count
-/// from 0. It takes no memory, and passes the files before it.
+/// from 0. It takes no memory, and passes the files before it, unless none of them can list a sum.
+#[tactic(auto, using(crate::proofs::AtLemmas::none_listed))]
 pub fn listed(header: &HeaderView<'_>, file: u64) -> Option<[u8; 16]>
     ensures { result ≡ listed_sum header.now file }
 {
-    entry_at(header.files(), file)?.listed()
+    let files = header.files();
+    place_of(MD5, files.pairs())?;
+    entry_at(files, file)?.listed()
 }
 
 /// The path of the file, as the crate's `path_of` gives it. None exactly where the file isn't there. Files count from 0.
