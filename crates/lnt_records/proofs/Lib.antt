@@ -9,3 +9,4 @@ pub mod RecordLemmas
 pub mod SaidLemmas
 pub mod WriteLemmas
 pub mod JoinedLemmas
+pub mod OneFaultLemmas
