@@ -82,7 +82,7 @@ one_spans version (r ∷ records) (x ∷ xs) (y ∷ ys) a b =
     let rest = one_spans version records xs ys a.1 b.1 in
     cc
 
-one_of : (records : List Fields) (v w : Version) (xs ys : List Span) → IsTable v records xs → IsTable w records ys → (v ≡ w) × (xs ≡ ys)
+pub one_of : (records : List Fields) (v w : Version) (xs ys : List Span) → IsTable v records xs → IsTable w records ys → (v ≡ w) × (xs ≡ ys)
 one_of [] v w xs ys a b = absurd a
 one_of (first ∷ records) v w xs ys a b =
     let same = one_version v w (sym a.0 ∙ b.0) in
@@ -124,7 +124,7 @@ not_faulty version records fields spans number (fault.Order k) p o f =
     f.3 (subst (λ (s : Span). AreInOrder (p.front ++ s ∷ [])) (sym same) front)
 
 -- a faulty record among those of a table
-faulty_none : (v version : Version) (records behind : List Fields) (fields : Fields) (before spans : List Span) (told : TableFault)
+pub faulty_none : (v version : Version) (records behind : List Fields) (fields : Fields) (before spans : List Span) (told : TableFault)
     → IsTable v records before → IsFaulty v before (length records) fields told → IsTable version ((records ++ fields ∷ []) ++ behind) spans → ⊥
 faulty_none v version [] behind fields before spans told t f all = absurd t
 faulty_none v version (first ∷ records) behind fields before spans told t f all =

@@ -12,3 +12,4 @@ pub mod StreamLemmas
 pub mod TextLemmas
 pub mod WriteLemmas
 pub mod JoinedLemmas
+pub mod OneFaultLemmas

@@ -19,6 +19,10 @@ OneTable = (bytes : List ℕ) (v w : Version) (xs ys : List Span) → IsTableOf 
 abbrev pub NoFault : Type 0
 NoFault = (bytes : List ℕ) (version : Version) (spans : List Span) (told : TableFault) → IsTableOf version bytes spans → IsFault bytes told → ⊥
 
+-- At most one fault is the first one of the bytes.
+abbrev pub OneFault : Type 0
+OneFault = (bytes : List ℕ) (told other : TableFault) → IsFault bytes told → IsFault bytes other → told ≡ other
+
 -- Of a table that answers as the section does a comparison tells nothing but that.
 abbrev pub Agreement : Type 0
 Agreement = (bytes : List ℕ) (version : Version) (section table : List Span) (compared : Compared) → IsTableOf version bytes table

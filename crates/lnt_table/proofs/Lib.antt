@@ -1,3 +1,4 @@
 mod CheckLemmas
 mod LawLemmas
 mod WriteLemmas
+pub mod OneVerdictLemmas

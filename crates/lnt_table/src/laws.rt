@@ -1,6 +1,6 @@
 //! Laws of answers and verdicts, each the contract of a function without parameters that does nothing.
 ghost use Rattle.lnt_spans.specs.Laws.{Borders};
-ghost use Rattle.lnt_table.specs.Laws.{OnlyYes, OwnTable, OwnTableOfUnits};
+ghost use Rattle.lnt_table.specs.Laws.{OneVerdict, OnlyYes, OwnTable, OwnTableOfUnits};
 
 /// Two lists of spans in order, none empty, that answer alike wherever a span of either begins or ends answer alike at
 /// every position. So the spans of a table and of a section need comparing at their borders alone.
@@ -19,6 +19,20 @@ pub fn only_yes()
     lnt_lines::laws::good_has_no_flaw();
     lnt_records::laws::one_table();
     lnt_records::laws::no_fault();
+}
+
+/// Of one section, table and choice of options at most one verdict is true, so where nothing stops it, `check` has no choice.
+/// Which fault is told of malformed bytes isn't said here.
+#[tactic(auto, using(crate::proofs::OneVerdictLemmas::one_verdict))]
+pub fn one_verdict()
+    ensures { OneVerdict }
+{
+    only_yes();
+    lnt_lines::laws::good_has_no_flaw();
+    lnt_lines::laws::one_no();
+    lnt_records::laws::one_table();
+    lnt_records::laws::no_fault();
+    lnt_records::laws::one_fault();
 }
 
 /// Of a good section, and the table that `write_table` wrote of its lines in either version, no verdict is true but Yes.
