@@ -1,12 +1,10 @@
 -- Lines that are read, and that they are the records that `csv` reads.
-use Rattle.std.proofs.Common.{◌≡◌, ◌∙◌, ℕ, ◌+◌, ◌<◌, ◌≤◌, List, [], ◌∷◌, ◌++◌, Option, Some, None, length, length-append, length-drop, drop, ◌-◌, refl, sym, ap, subst, append_assoc, arith}
-use Rattle.std.proofs.Math.Seq.{drop-append_seam}
-use Rattle.std.proofs.lemmas.List.{append-nil, drop_all}
+use Rattle.std.proofs.Common.{◌≡◌, ◌∙◌, ℕ, ◌<◌, ◌≤◌, List, [], ◌∷◌, ◌++◌, Option, Some, None, length, length-append, refl, sym, ap, subst, append_assoc, arith}
+use Rattle.std.proofs.lemmas.List.{append-nil}
 use Rattle.std.specs.List.{AllByRecursion}
 use Rattle.csv.specs.Machine.{next_record}
 use Rattle.csv.specs.Reading.{Reached, default_config, strip_bom}
 use Rattle.csv.specs.declared.parser.State.TheVariants as st
-use Rattle.csv.proofs.ReadFacts.{reached-more}
 use Rattle.csv.proofs.RoundTrip.{read-write}
 use Rattle.lnt_digits.specs.Digits.{IsAddress, IsDecimal}
 use Rattle.lnt_digits.specs.Laws.Texts.{address_from_zero, decimal_from_zero}
@@ -14,19 +12,13 @@ use Rattle.lnt_spans.specs.declared.answer.Answer.{Answer}
 use Rattle.lnt_spans.specs.declared.answer.More.{More}
 use Rattle.lnt_spans.specs.declared.answer.Version.{Version}
 use Rattle.lnt_spans.specs.declared.answer.Version.TheVariants.{One, Two}
-use Rattle.lnt_spans.specs.declared.difference.Difference.{Difference}
 use Rattle.lnt_spans.specs.declared.position.Position.{Position}
 use Rattle.lnt_spans.specs.declared.span.Span.{Span}
-use Rattle.lnt_spans.specs.Comparing.{Compares, Merging}
-use Rattle.lnt_spans.specs.Differences.{Agree, IsLeastDifference}
-use Rattle.lnt_spans.specs.Spans.{AreInOrder, span_answer, version_answer}
-use Rattle.lnt_records.specs.Faults.{AnswersAs, DiffersSo}
-use Rattle.lnt_records.specs.Lines.{Begins, AreMoreFields, IsAnswer, IsFlagBefore, IsLine, IsMore, IsPosition, JudgesLines}
-use Rattle.lnt_records.specs.Table.{AreMore, Fields, IsSpanRecord, Kind, RecordsOf, column_count, column_names}
+use Rattle.lnt_records.specs.Lines.{Begins, AreMoreFields, IsAnswer, IsFlagBefore, IsLine, IsMore, IsPosition}
+use Rattle.lnt_records.specs.Table.{AreMore, Fields, IsSpanRecord, Kind, column_count, column_names}
 use Rattle.lnt_records.specs.Written.{following, line_text}
-use Rattle.lnt_records.proofs.ComparisonLemmas.{table_push}
 use Rattle.lnt_records.proofs.SaidLemmas.{each_holds}
-use Rattle.lnt_records.proofs.WriteLemmas.{IsQuiet, all_from_each, count_some, names_count, none_left, quiet_bytes, quiet_flag, quiet_line, quiet_names, same_back}
+use Rattle.lnt_records.proofs.WriteLemmas.{IsQuiet, all_from_each, count_some, names_count, quiet_bytes, quiet_flag, quiet_line, quiet_names, same_back}
 
 -- ---- parts of a line
 
@@ -167,75 +159,9 @@ pub header_reached : (version : Version) (rest : List ℕ)
 unfolding Reached
 header_reached version rest = rw (no_mark version rest) ((column_names version, st.StartRecord, rest), names_read version rest, refl, (refl, refl))
 
--- ---- all lines
-
-pub header_behind : (bytes line names rest : List ℕ) → line ≡ names → bytes ≡ line ++ rest → bytes ≡ names ++ drop (length bytes - length rest) bytes
-header_behind bytes line names rest e f =
-    let long : length bytes ≡ length line + length rest = ap length f ∙ length-append line rest in
-    let place : length bytes - length rest ≡ length line = omega (arith, long) in
-    let behind : drop (length bytes - length rest) bytes ≡ rest = ap (λ (k : ℕ). drop k bytes) place ∙ ap (λ (t : List ℕ). drop (length line) t) f ∙ drop-append_seam line rest in
-    f ∙ ap (λ (t : List ℕ). t ++ rest) e ∙ ap (λ (t : List ℕ). names ++ t) (sym behind)
-
-pub header_judged : {S : Type 0} (to_come : S → List Span → Type 0) (merge : Merging S) (version : Version) (section : List Span) (bytes rest : List ℕ) → bytes ≡ line_text (column_names version) ++ rest → merge.version ≡ version
-    → Compares to_come merge section [] → JudgesLines to_come merge version section bytes rest
-header_judged to_come merge version section bytes rest e same c = record {
-  records = column_names version ∷ [];
-  table = [];
-  is_table = (refl, record { each = tt; in_order = tt });
-  version_is = same;
-  compares = c;
-  reached = subst (λ (b : List ℕ). Reached default_config st.StartRecord (strip_bom b) (column_names version ∷ []) st.StartRecord rest) (sym e) (header_reached version rest);
-}
-
-pub line_judged : {S : Type 0} (to_come : S → List Span → Type 0) (old new : Merging S) (version : Version) (section : List Span) (bytes before rest : List ℕ) (span : Span) → (j : JudgesLines to_come old version section bytes before)
-    → IsLine version span before rest → AreInOrder (j.table ++ span ∷ []) → new.version ≡ old.version
-    → ((spans table : List Span) → Compares to_come old spans table → Compares to_come new spans (table ++ span ∷ [])) → JudgesLines to_come new version section bytes rest
-line_judged to_come old new version section bytes before rest span j line order same step =
-    let read = ap (λ (t : List ℕ). next_record default_config st.StartRecord [] [] t) line.joined ∙ span_read version line.fields span rest line.says in
-    record {
-      records = j.records ++ line.fields ∷ [];
-      table = j.table ++ span ∷ [];
-      is_table = table_push version j.records j.table line.fields span j.is_table line.says order;
-      version_is = same ∙ j.version_is;
-      compares = step section j.table j.compares;
-      reached = reached-more default_config st.StartRecord st.StartRecord (strip_bom bytes) before j.records (line.fields, st.StartRecord, rest) j.reached read;
-    }
-
 some_end : (field fields : List ℕ) → 0 < length (field ++ fields ++ 10 ∷ [])
 some_end field fields = omega (arith, length-append (field ++ fields) (10 ∷ []))
 
 pub line_some : (fields : Fields) → 0 < length (line_text fields)
 line_some [] = omega arith
 line_some (field ∷ fields) = some_end field (following fields)
-
-pub line_shorter : (version : Version) (span : Span) (bytes : List ℕ) (at next : ℕ) → IsLine version span (drop at bytes) (drop next bytes) → length bytes - next < length bytes - at
-line_shorter version span bytes at next line =
-    let long : length (drop at bytes) ≡ length (line_text line.fields) + length (drop next bytes) = ap length line.joined ∙ length-append (line_text line.fields) (drop next bytes) in
-    omega (arith, long, line_some line.fields, length-drop at bytes, length-drop next bytes)
-
--- ---- what is told
-
-pub none_behind : (bytes : List ℕ) (at : ℕ) → length bytes ≤ at → drop at bytes ≡ []
-none_behind bytes at le = drop_all at bytes le
-
-all_records : {S : Type 0} (to_come : S → List Span → Type 0) (merge : Merging S) (version : Version) (section : List Span) (bytes rest : List ℕ) → (j : JudgesLines to_come merge version section bytes rest) → rest ≡ [] → RecordsOf bytes j.records
-all_records to_come merge version section bytes rest j e =
-    (st.StartRecord, [], subst (λ (r : List ℕ). Reached default_config st.StartRecord (strip_bom bytes) j.records st.StartRecord r) e j.reached, none_left)
-
-pub same_told : {S : Type 0} (to_come : S → List Span → Type 0) (merge : Merging S) (version : Version) (section : List Span) (bytes rest : List ℕ) → (j : JudgesLines to_come merge version section bytes rest) → rest ≡ []
-    → Agree (version_answer merge.version section) (span_answer j.table) → AnswersAs bytes section
-same_told to_come merge version section bytes rest j e agree = record {
-  version = version;
-  table = j.table;
-  is_table = (j.records, all_records to_come merge version section bytes rest j e, j.is_table);
-  agree = rw j.version_is at agree;
-}
-
-pub difference_told : {S : Type 0} (to_come : S → List Span → Type 0) (merge : Merging S) (version : Version) (section : List Span) (bytes rest : List ℕ) (difference : Difference) → (j : JudgesLines to_come merge version section bytes rest) → rest ≡ []
-    → IsLeastDifference (version_answer merge.version section) (span_answer j.table) difference → DiffersSo bytes section difference
-difference_told to_come merge version section bytes rest difference j e least = record {
-  version = version;
-  table = j.table;
-  is_table = (j.records, all_records to_come merge version section bytes rest j e, j.is_table);
-  least = rw j.version_is at least;
-}

@@ -1,7 +1,5 @@
 -- A table that is read line by line. The bodies of this crate use it among themselves.
 use Rattle.std.specs.Prelude.{◌≡◌, ℕ, Bool, List, [], ◌∷◌, ◌++◌, Option, Some, None}
-use Rattle.csv.specs.Reading.{Reached, default_config, strip_bom}
-use Rattle.csv.specs.declared.parser.State.TheVariants as state
 use Rattle.lnt_digits.specs.Digits.{IsAddress, IsDecimal}
 use Rattle.lnt_spans.specs.declared.answer.Answer.{Answer}
 use Rattle.lnt_spans.specs.declared.answer.More.{More}
@@ -9,8 +7,7 @@ use Rattle.lnt_spans.specs.declared.answer.Version.{Version}
 use Rattle.lnt_spans.specs.declared.answer.Version.TheVariants.{One, Two}
 use Rattle.lnt_spans.specs.declared.position.Position.{Position}
 use Rattle.lnt_spans.specs.declared.span.Span.{Span}
-use Rattle.lnt_spans.specs.Comparing.{Compares, Merging}
-use Rattle.lnt_records.specs.Table.{Fields, IsFlag, IsSpanRecord, IsTable}
+use Rattle.lnt_records.specs.Table.{Fields, IsFlag, IsSpanRecord}
 use Rattle.lnt_records.specs.Written.{following, line_text}
 
 -- ---- what the bytes begin with, and what is behind it
@@ -69,14 +66,3 @@ pub record IsLine (version : Version) (span : Span) (bytes rest : List ℕ) : Ty
   pub fields : Fields
   pub joined : bytes ≡ line_text fields ++ rest
   pub says : IsSpanRecord version fields span
-
--- ---- all lines
-
--- The lines before the rest are a table so far, which is compared with the spans of a section.
-pub record JudgesLines {S : Type 0} (to_come : S → List Span → Type 0) (merge : Merging S) (version : Version) (section : List Span) (bytes rest : List ℕ) : Type 0 where
-  pub records : List Fields
-  pub table : List Span
-  pub is_table : IsTable version records table
-  pub version_is : merge.version ≡ version
-  pub compares : Compares to_come merge section table
-  pub reached : Reached default_config state.StartRecord (strip_bom bytes) records state.StartRecord rest
