@@ -95,7 +95,17 @@ packed() {
   objcopy --compress-debug-sections=zstd "$work/packed" 2>/dev/null || { skipped=$((skipped + 1)); return; }
   local units
   units=$("$linetab" units examples/gc-sections.debug_line)$'\n'
-  here zstd && expect 'sections compressed by zstd' 0 "$units" '' object units "$work/packed"
+  if here zstd; then
+    expect 'sections compressed by zstd' 0 "$units" '' object units "$work/packed"
+    # Another byte in the middle of the section.
+    python3 - "$work/packed" "$work/torn" <<'END'
+import sys
+content = bytearray(open(sys.argv[1], "rb").read())
+content[content.index(b"\x28\xb5\x2f\xfd") + 40] ^= 0xFF
+open(sys.argv[2], "wb").write(content)
+END
+    refuses 'sections compressed by zstd, and damaged' torn "$note"
+  fi
   mkdir -p "$work/few"
   ln -s "$(command -v env)" "$(command -v objcopy)" "$work/few"
   ln -s "$(python3 -c 'import sys; print(sys.executable)')" "$work/few/python3"
@@ -219,7 +229,7 @@ apart() {
 
 refusals() {
   local loose="it is a relocatable object, whose relocations aren't applied and whose addresses all begin at 0: link it"
-  local cut='its headers reach behind the end of the file, which is cut or damaged'
+  local cut="its headers reach behind the end of the file, or aren't whole: it is cut or damaged"
   image elf64 no "${hello[@]}" object && refuses 'a relocatable object' no "$loose"
   image macho no "${hello[@]}" object && refuses 'one of Mach-O' no \
     'it is a relocatable object: take the dSYM of the linked program, which dsymutil makes'
@@ -272,6 +282,15 @@ cuts() {
   done
 }
 
+# Files of which some bytes are others end in an answer or a line as well.
+changes() {
+  local format
+  for format in elf64 elf32-big pe macho macho32-big fat wasm; do
+    image "$format" "$format" "z:${hello[0]}" "gnu:${hello[1]}" link=app,/dev/null id=0011223344 code=0x1000,0x1000
+    expect "$format, with other bytes" 0 $'1500 files\n' '' python3 tests/changed.py "$work/$format" 1500
+  done
+}
+
 # A program of each compiler: its own table is answered by yes.
 compiled() {
   local name tools words
@@ -307,6 +326,18 @@ END
   refuses 'gcc without debug information' made "it has no .debug_line: compile and link it with -gdwarf-5, and don't strip it"
 }
 
+# The C library of this machine, whose debug information lies where its build id says.
+installed() {
+  local file identity found
+  here readelf || return
+  file=$(ldd "$linetab" | grep -oE '/[^ ]*libc\.so[^ ]*')
+  identity=$(readelf -n "$file" 2>/dev/null | sed -n 's/.*Build ID: //p')
+  found=/usr/lib/debug/.build-id/${identity:0:2}/${identity:2}.debug
+  [ -n "$identity" ] && [ -e "$found" ] || { skipped=$((skipped + 1)); return; }
+  expect 'the C library, by its build id' 0 "$(object units "$found")"$'\n' \
+    "$says the debug information of $file is in $found"$'\n' object units "$file"
+}
+
 command -v python3 >/dev/null || { echo "skipped: python3 isn't here"; finish; }
 # The interpreter itself, where python3 is a script that looks for one.
 PATH=$(dirname "$(python3 -c 'import sys; print(sys.executable)')"):$PATH
@@ -318,6 +349,8 @@ versions
 apart
 refusals
 cuts
+changes
 compiled
+installed
 [ "$skipped" -eq 0 ] || echo "skipped: $skipped cases of tools that aren't here"
 finish
