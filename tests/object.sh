@@ -74,6 +74,10 @@ words() {
     table
   expect 'help' 0 $'usage: linetab-object WORD FILE [WORDS..]\n' '' bash -c 'object --help | grep usage'
   expect 'a link to it' 0 "$table" '' bash -c 'ln -s "$PWD/linetab-object" "$0/link" && "$0/link" table "$0/elf64"' "$work"
+  expect 'no room for its sections' 3 "$says $work/elf64: its sections can't be written to a temporary file: none"$'\n' '' \
+    bash -c 'set -o pipefail; (ulimit -f 0; object table "$work/elf64") 2>&1 | sed "s/: No usable.*/: none/"'
+  expect 'no program beside it' 3 '' "$says the program linetab has to lie beside this one, and $work/alone/linetab isn't there"$'\n' \
+    bash -c 'mkdir "$0/alone" && cp linetab-object "$0/alone" && "$0/alone/linetab-object" table "$0/elf64"' "$work"
   expect 'a full device' 3 '' $'linetab: cannot write\n' bash -c 'object table "$0" >/dev/full' "$work/elf64"
 }
 
