@@ -55,7 +55,7 @@ formats() {
   image elf64 other "${hello[0]}" .debug_str="$work/strings"
   expect 'no line strings, in words that need none' 0 $'0x0 32 156\n' '' object units "$work/other"
   expect 'no line strings, where a path is wanted' 1 $'no 28 string outside unit 0x0 directories entry 0\n' \
-    "$says the file has no .debug_line_str, in which the text may be"$'\n' object table "$work/other"
+    "$says note: the file has no .debug_line_str, in which the text may be"$'\n' object table "$work/other"
 }
 
 words() {
@@ -74,6 +74,10 @@ words() {
     table
   expect 'help' 0 $'usage: linetab-object WORD FILE [WORDS..]\n' '' bash -c 'object --help | grep usage'
   expect 'a link to it' 0 "$table" '' bash -c 'ln -s "$PWD/linetab-object" "$0/link" && "$0/link" table "$0/elf64"' "$work"
+  expect 'no room for its sections' 3 "$says $work/elf64: its sections can't be written to a temporary file: none"$'\n' '' \
+    bash -c 'set -o pipefail; (ulimit -f 0; object table "$work/elf64") 2>&1 | sed "s/: No usable.*/: none/"'
+  expect 'no program beside it' 3 '' "$says the program linetab has to lie beside this one, and $work/alone/linetab isn't there"$'\n' \
+    bash -c 'mkdir "$0/alone" && cp linetab-object "$0/alone" && "$0/alone/linetab-object" table "$0/elf64"' "$work"
   expect 'a full device' 3 '' $'linetab: cannot write\n' bash -c 'object table "$0" >/dev/full' "$work/elf64"
 }
 
@@ -95,7 +99,17 @@ packed() {
   objcopy --compress-debug-sections=zstd "$work/packed" 2>/dev/null || { skipped=$((skipped + 1)); return; }
   local units
   units=$("$linetab" units examples/gc-sections.debug_line)$'\n'
-  here zstd && expect 'sections compressed by zstd' 0 "$units" '' object units "$work/packed"
+  if here zstd; then
+    expect 'sections compressed by zstd' 0 "$units" '' object units "$work/packed"
+    # Another byte in the middle of the section.
+    python3 - "$work/packed" "$work/torn" <<'END'
+import sys
+content = bytearray(open(sys.argv[1], "rb").read())
+content[content.index(b"\x28\xb5\x2f\xfd") + 40] ^= 0xFF
+open(sys.argv[2], "wb").write(content)
+END
+    refuses 'sections compressed by zstd, and damaged' torn "$note"
+  fi
   mkdir -p "$work/few"
   ln -s "$(command -v env)" "$(command -v objcopy)" "$work/few"
   ln -s "$(python3 -c 'import sys; print(sys.executable)')" "$work/few/python3"
@@ -109,17 +123,17 @@ packed() {
 discarded() {
   local note="where $work/dead has no code: the linker left those of discarded functions there;"
   image elf64 dead "${dead[@]}" code=0x1000,0x100000
-  agrees 'sequences at 0' dead gc-sections "$says sequences begin at 0x0, $note --dead 0x0 leaves them out"$'\n' --dead 0x0
+  agrees 'sequences at 0' dead gc-sections "$says note: sequences begin at 0x0, $note --dead 0x0 leaves them out"$'\n' --dead 0x0
   expect 'sequences at 0, in words that take no marker' 0 "$("$linetab" units examples/gc-sections.debug_line)"$'\n' '' object units \
     "$work/dead"
   expect 'a marker of the words' 1 \
     "$("$linetab" table examples/gc-sections.debug_line --line-str examples/gc-sections.debug_line_str)"$'\n' \
-    "$says sequences overlap at 0x0; if the linker left those of discarded functions there, --dead 0x0 leaves them out"$'\n' \
+    "$says note: sequences overlap at 0x0; if the linker left those of discarded functions there, --dead 0x0 leaves them out"$'\n' \
     object table "$work/dead" --dead 0x1
   image elf64 live "${dead[@]}" code=0x0,0x100000
   expect 'sequences at 0, where code is' 1 \
     "$("$linetab" table examples/gc-sections.debug_line --line-str examples/gc-sections.debug_line_str)"$'\n' \
-    "$says sequences overlap at 0x0; if the linker left those of discarded functions there, --dead 0x0 leaves them out"$'\n' \
+    "$says note: sequences overlap at 0x0; if the linker left those of discarded functions there, --dead 0x0 leaves them out"$'\n' \
     object table "$work/live"
   python3 -c \
     'import sys; start = b"\0\x09\x02"; section = open(sys.argv[1], "rb").read()
@@ -127,7 +141,7 @@ sys.stdout.buffer.write(section.replace(start + bytes(8), start + b"\xff" * 8))'
     examples/gc-sections.debug_line >"$work/ones"
   image elf64 dead .debug_line="$work/ones" "${dead[1]}" code=0x0,0x100000
   agrees 'sequences at the highest address' dead gc-sections \
-    "$says sequences begin at 0xffffffffffffffff, $note --dead 0xffffffffffffffff leaves them out"$'\n' --dead 0x0
+    "$says note: sequences begin at 0xffffffffffffffff, $note --dead 0xffffffffffffffff leaves them out"$'\n' --dead 0x0
   # The bytes of an operation that sets address 0, in a block of a directory.
   (bytes 520000000500080038000000 010101fb0e0d 000101010100000001000001 020108 81400a 01 2f7300 0b 0009020000000000000000 \
     020108020b02612e630000612e630000 0009020010000000000000 144b0202 000101) >"$work/none"
@@ -159,33 +173,33 @@ END
     for version in 2 3; do
       image elf64$order unit .debug_line="$work/old$version${order#-}"
       expect "version $version$order" 1 "no 25 malformed at 0x4: version $version"$'\n' \
-        "$says its unit, of src/a.c, is of version $version; $hint -gdwarf-5 -Wa,--gdwarf-5, as it is the assembler's"$'\n' \
+        "$says note: its unit, of src/a.c, is of version $version; $hint -gdwarf-5 -Wa,--gdwarf-5, as it is the assembler's"$'\n' \
           object table "$work/unit"
     done
     image elf64$order unit .debug_line="$work/old4${order#-}"
     expect "version 4$order" 1 $'no 25 malformed at 0x4: version 4\n' \
-      "$says its unit, of src/a.c, is of version 4; $hint -gdwarf-5"$'\n' object table "$work/unit"
+      "$says note: its unit, of src/a.c, is of version 4; $hint -gdwarf-5"$'\n' object table "$work/unit"
   done
   cat "$work/old2" examples/hello.debug_line "$work/old4" "$work/old4" >"$work/mixed"
   image elf64 unit .debug_line="$work/mixed" "${hello[1]}"
   expect 'versions 2 and 4' 1 $'no 25 malformed at 0x4: version 2\n' \
-    "$says 3 of its 4 units, the first of src/a.c, are of version 2 and 4; $hint -gdwarf-5 -Wa,--gdwarf-5, as it is the assembler's"$'\n' \
+    "$says note: 3 of its 4 units, the first of src/a.c, are of version 2 and 4; $hint -gdwarf-5 -Wa,--gdwarf-5, as it is the assembler's"$'\n' \
     object table "$work/unit"
   cat examples/hello.debug_line "$work/old4" >"$work/mixed"
   echo 'clang LLVM (rustc version 1.95.0)' >"$work/said"
   image elf64 unit .debug_line="$work/mixed" "${hello[1]}" z:.debug_str="$work/said"
   expect 'version 4 behind version 5, by rustc' 1 $'no 25 malformed at 0xa4: version 4\n' \
-    "$says 1 of its 2 units, of src/a.c, is of version 4; ${hint% compile with} $rust"$'\n' \
+    "$says note: 1 of its 2 units, of src/a.c, is of version 4; ${hint% compile with} $rust"$'\n' \
     object table "$work/unit"
   cat examples/hello.debug_line examples/hello.debug_line >"$work/twice"
   image elf64 unit .debug_line="$work/twice" "${hello[1]}"
   expect 'two copies' 1 $'no 32 overlap 0x0:0 0xa0:0 at 0x1129,0\n' \
-    "$says two sequences hold 0x1129: $copies"$'\n' \
+    "$says note: two sequences hold 0x1129: $copies"$'\n' \
     object table "$work/unit"
 }
 
 apart() {
-  local found="$says the debug information of $work/app is in"
+  local found="$says note: the debug information of $work/app is in"
   local lost='it has no .debug_line: it is stripped, and its debug information'
   local install='install the package with the debug symbols (Debian: -dbgsym or -dbg), or take the file before it was stripped'
   image elf64 app.debug "${hello[@]}" code=0x1000,0x1000
@@ -210,7 +224,7 @@ apart() {
   mkdir -p "$work/tool.dSYM/Contents/Resources/DWARF"
   image macho tool.dSYM/Contents/Resources/DWARF/tool "${hello[@]}" id=00112233445566778899aabbccddeeff
   agrees 'a Mach-O program with its dSYM' tool hello \
-    "$says the debug information of $work/tool is in $work/tool.dSYM/Contents/Resources/DWARF/tool"$'\n'
+    "$says note: the debug information of $work/tool is in $work/tool.dSYM/Contents/Resources/DWARF/tool"$'\n'
   image macho tool.dSYM/Contents/Resources/DWARF/tool "${hello[@]}" id=ff
   lost=$work/tool.dSYM/Contents/Resources/DWARF/tool
   refuses 'a Mach-O program with a dSYM of another' tool \
@@ -219,7 +233,7 @@ apart() {
 
 refusals() {
   local loose="it is a relocatable object, whose relocations aren't applied and whose addresses all begin at 0: link it"
-  local cut='its headers reach behind the end of the file, which is cut or damaged'
+  local cut="its headers reach behind the end of the file, or aren't whole: it is cut or damaged"
   image elf64 no "${hello[@]}" object && refuses 'a relocatable object' no "$loose"
   image macho no "${hello[@]}" object && refuses 'one of Mach-O' no \
     'it is a relocatable object: take the dSYM of the linked program, which dsymutil makes'
@@ -272,6 +286,15 @@ cuts() {
   done
 }
 
+# Files of which some bytes are others end in an answer or a line as well.
+changes() {
+  local format
+  for format in elf64 elf32-big pe macho macho32-big fat wasm; do
+    image "$format" "$format" "z:${hello[0]}" "gnu:${hello[1]}" link=app,/dev/null id=0011223344 code=0x1000,0x1000
+    expect "$format, with other bytes" 0 $'1500 files\n' '' python3 tests/changed.py "$work/$format" 1500
+  done
+}
+
 # A program of each compiler: its own table is answered by yes.
 compiled() {
   local name tools words
@@ -299,12 +322,24 @@ arm:arm-linux-gnueabihf-gcc:arm-linux-gnueabihf-gcc -gdwarf-5 -Wa,--gdwarf-5 -o 
 END
   here gcc && gcc -gdwarf-4 -o "$work/made" "$work/main.c" || return
   expect 'gcc, version 4' 1 $'no 25 malformed at 0x4: version 4\n' \
-    "$says its unit, of $work/main.c, is of version 4; linetab reads DWARF 5 alone: compile with -gdwarf-5"$'\n' \
+    "$says note: its unit, of $work/main.c, is of version 4; linetab reads DWARF 5 alone: compile with -gdwarf-5"$'\n' \
     object table "$work/made"
   gcc -gdwarf-5 -c -o "$work/made" "$work/main.c"
   refuses 'gcc, not linked' made "it is a relocatable object, whose relocations aren't applied and whose addresses all begin at 0: link it"
   gcc -o "$work/made" "$work/main.c"
   refuses 'gcc without debug information' made "it has no .debug_line: compile and link it with -gdwarf-5, and don't strip it"
+}
+
+# The C library of this machine, whose debug information lies where its build id says.
+installed() {
+  local file identity found
+  here readelf || return
+  file=$(ldd "$linetab" | grep -oE '/[^ ]*libc\.so[^ ]*')
+  identity=$(readelf -n "$file" 2>/dev/null | sed -n 's/.*Build ID: //p')
+  found=/usr/lib/debug/.build-id/${identity:0:2}/${identity:2}.debug
+  [ -n "$identity" ] && [ -e "$found" ] || { skipped=$((skipped + 1)); return; }
+  expect 'the C library, by its build id' 0 "$(object units "$found")"$'\n' \
+    "$says note: the debug information of $file is in $found"$'\n' object units "$file"
 }
 
 command -v python3 >/dev/null || { echo "skipped: python3 isn't here"; finish; }
@@ -318,6 +353,8 @@ versions
 apart
 refusals
 cuts
+changes
 compiled
+installed
 [ "$skipped" -eq 0 ] || echo "skipped: $skipped cases of tools that aren't here"
 finish
