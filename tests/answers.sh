@@ -80,7 +80,7 @@ truncated=$'no 25 malformed at 0x0: truncated\n'
 put() { # NAME DIGITS: a file of these bytes
   (bytes "$2") >"$work/$1"
 }
-says() { # NAME STATUS STDOUT WORD..: nothing on standard error
+says() { # NAME STATUS STDOUT WORD..: nothing on standard error but notes
   expect "$1" "$2" "$3" '' ./linetab "${@:4}"
 }
 reads() { # NAME STATUS STDOUT UNITS WORD..: a word of the command, with options, of these units
@@ -111,6 +111,8 @@ is_bad() { # NAME REASON UNITS [OPTION..]: each word that judges the section tel
   says "$1, looked up" 1 "$2"$'\n' lookup "$work/section" 0x1000 "${@:4}"
   says "$1, as a table" 1 "$2"$'\n' table "$work/section" "${@:4}"
   says "$1, by its sums" 1 "$2"$'\n' md5 "$work/section" "${@:4}"
+  says "$1, verified" 1 "$2"$'\n' verify "$work/section" "${@:4}"
+  says "$1, by its files" 1 "$2"$'\n' files "$work/section" "${@:4}"
 }
 
 put strings 2f7300
@@ -211,18 +213,25 @@ refuses() { # STDERR WORD..: nothing on standard output
 }
 helps '  units    Prints the offset, the format and the length of each unit of a section' --help
 helps 'Usage: linetab <COMMAND>' -h
-helps '  --big   The section is big-endian; otherwise it is little-endian' units --help
+helps '  --big    The section is big-endian; otherwise it is little-endian' units --help
+helps '  --quiet  Prints no notes on standard error' units --help
 helps 'Usage: linetab units [OPTIONS] <SECTION>' help units
 helps 'Usage: linetab dump [OPTIONS] <SECTION>' dump --help
 helps 'Usage: linetab check [OPTIONS] <SECTION> <TABLE>' check --help
-helps 'Usage: linetab lookup [OPTIONS] <SECTION> <ADDRESS>' lookup --help
+helps 'Usage: linetab verify [OPTIONS] <SECTION>' verify --help
+helps 'Usage: linetab lookup [OPTIONS] <SECTION> [ADDRESS]...' lookup --help
+helps 'Usage: linetab files [OPTIONS] <SECTION>' files --help
 helps 'Usage: linetab table [OPTIONS] <SECTION>' table --help
 helps 'Usage: linetab convert [OPTIONS] --format <32|64> --order <little|big> <SECTION>' convert --help
 helps 'Usage: linetab md5 [OPTIONS] <SECTION>' md5 --help
+helps "Where one isn't the same, the status is 1." md5 --help
+for number in 25 26 27 28 29 30 31 32 36 37 38 39 40; do
+  expect "help: number $number" 0 $'1\n' '' bash -c './linetab check --help | grep -Ec "^  $0  .* \(docs/[A-Z]+\.md"' $number
+done
 more=$'\n\nFor more information, try \'--help\'.\n'
 refuses $'error: unrecognized subcommand \'unit\'\n\n  tip: a similar subcommand exists: \'units\'\n\nUsage: linetab <COMMAND>'"$more" unit F
 refuses $'error: the following required arguments were not provided:\n  <SECTION>\n\nUsage: linetab units <SECTION>'"$more" units
-refuses $'error: \'linetab\' requires a subcommand but one was not provided\n  [subcommands: units, dump, check, lookup, table, convert, md5, help]\n\nUsage: linetab <COMMAND>'"$more"
+refuses $'error: \'linetab\' requires a subcommand but one was not provided\n  [subcommands: units, dump, check, verify, lookup, files, table, convert, md5, help]\n\nUsage: linetab <COMMAND>'"$more"
 is_bad_word() { # WANTED WORD..: all words are judged before a file is opened
   refuses "linetab: bad word $1"$'\n' "${@:2}"
 }

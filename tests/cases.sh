@@ -4,4 +4,7 @@ cd "$(dirname "$0")/.." || exit 1
 work=$(mktemp -d) || exit 1
 trap 'rm -rf "$work"' EXIT
 ./linetab --help >/dev/null || exit 1
-tar xzf tests/cases/words.tar.gz -C "$work" && tests/cases/run crates/linetab/out/linetab "$work"
+for archive in tests/cases/*.tar.gz; do
+  tar xzf "$archive" -C "$work" || exit 1
+done
+tests/cases/run crates/linetab/out/linetab "$work"

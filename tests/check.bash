@@ -12,12 +12,27 @@ bytes() {
   printf '%b' "$(printf '%s' "$*" | tr -d ' \n' | sed 's/../\\x&/g')"
 }
 
-# expect NAME STATUS STDOUT STDERR COMMAND..: STDOUT and STDERR as $'..' texts, byte for byte.
+# expect NAME STATUS STDOUT STDERR COMMAND..: STDOUT and STDERR as $'..' texts, byte for byte, but for the notes behind
+# what is wanted on standard error.
 expect() {
-  local name=$1 status=$2 out=$3 err=$4 given
+  local name=$1 status=$2 out=$3 err=$4
   shift 4
-  "$@" >"$work/out" 2>"$work/err"
-  given=$?
+  "$@" >"$work/out" 2>"$work/all"
+  compare "$name" "$status" "$?" "$out" "$err" <(sed '/^linetab: note: /d' "$work/all")
+}
+
+# expect_notes NAME STATUS STDOUT STDERR COMMAND..: the same with the notes, which are in STDERR too.
+expect_notes() {
+  local name=$1 status=$2 out=$3 err=$4
+  shift 4
+  "$@" >"$work/out" 2>"$work/all"
+  compare "$name" "$status" "$?" "$out" "$err" "$work/all"
+}
+
+# compare NAME STATUS GIVEN STDOUT STDERR FILE: what was written, STDERR to the file, and the status that was given.
+compare() {
+  local name=$1 status=$2 given=$3 out=$4 err=$5
+  cat "$6" >"$work/err"
   printf '%s' "$out" >"$work/out.wanted"
   printf '%s' "$err" >"$work/err.wanted"
   if [ "$given" -eq "$status" ] && cmp -s "$work/out" "$work/out.wanted" && cmp -s "$work/err" "$work/err.wanted"; then

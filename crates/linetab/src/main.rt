@@ -5,6 +5,7 @@ mod system;
 
 use lnt_cli::{CliStop, Status, run};
 use std::alloc::Global;
+use std::cell::Cell;
 use std::env;
 use std::io::{self, BufWriter, ErrorKind, Write};
 use std::process::ExitCode;
@@ -12,31 +13,34 @@ use system::{System, hold_standard_places};
 
 fn main(rt: HostRuntime) -> ExitCode {
     let _held = hold_standard_places(&rt);
-    let stop = match run_words(&rt) {
-        Ok(Status::Done) => return ExitCode::from(0),
-        Ok(Status::No) => return ExitCode::from(1),
-        Err(stop) => stop,
-    };
-    let _ = match &stop {
-        // A text of usage ends in a line feed by itself.
-        CliStop::Usage(text) => rt.eprint(text),
-        _ => rt.eprintln(&stop),
-    };
-    match stop {
-        CliStop::Usage(_) => ExitCode::from(2),
-        CliStop::Read(_) | CliStop::TooLong(_) | CliStop::Write => ExitCode::from(3),
-        CliStop::Memory => ExitCode::from(4),
+    let mut notes = Vec::new(rt.alloc());
+    let ended = run_words(&rt, &mut notes);
+    if let Err(stop) = &ended {
+        let _ = match stop {
+            // A text of usage ends in a line feed by itself.
+            CliStop::Usage(text) => rt.eprint(text),
+            _ => rt.eprintln(stop),
+        };
     }
+    let _ = rt.stderr().write_all(&notes);
+    ExitCode::from(match ended {
+        Ok(Status::Done) => 0,
+        Ok(Status::No) => 1,
+        Err(CliStop::Usage(_)) => 2,
+        Err(CliStop::Read(_) | CliStop::TooLong(_) | CliStop::Write) => 3,
+        Err(CliStop::Memory) => 4,
+    })
 }
 
-// Runs the command of the process's words. What was written before a stop goes out too.
-fn run_words(rt: &HostRuntime) -> Result<Status, CliStop> {
+// Runs the command of the process's words, and gathers its notes. What was written before a stop goes out too.
+fn run_words(rt: &HostRuntime, notes: &mut Vec<u8>) -> Result<Status, CliStop> {
     let alloc = rt.alloc();
     let words = words_of(rt, alloc)?;
     let Ok(mut out) = BufWriter::new(alloc, io::writer(rt)) else {
         return Err(CliStop::Memory);
     };
-    let ended = run(alloc, words, &mut System::new(rt), &mut out);
+    let reason = Cell::new(None);
+    let ended = run(alloc, words, &mut System::new(rt, &reason), &mut out, notes);
     let flushed = out.flush();
     if ended.is_ok() && flushed.is_err() {
         return Err(CliStop::Write);

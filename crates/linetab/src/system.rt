@@ -1,5 +1,7 @@
 //! The files and the standard input of the process.
 use lnt_cli::Opener;
+use std::alloc::Global;
+use std::cell::Cell;
 use std::fs::{self, File};
 use std::io::{self, Read, Stdin};
 
@@ -15,18 +17,36 @@ pub(crate) fn hold_standard_places(rt: &HostRuntime) -> Held {
     Held(open(), open(), open())
 }
 
+// Why the last file that failed couldn't be opened or read. None where none failed.
+pub(crate) type Reason = Cell<Option<io::Error>>;
+
 // What a name stands for.
 #[derive(Drop)]
-pub(crate) enum Input {
+enum Input {
     File(File),
     Standard(Stdin),
 }
 
-impl Read for Input {
+// A file that is read, and where it is kept why a read failed.
+#[derive(Drop)]
+pub(crate) struct Reader<'a> {
+    input: Input,
+    reason: &'a Reason,
+}
+
+impl Read for Reader<'_> {
     fn read(&mut self, buf: &mut [u8]) -> io::Result<usize> {
-        match self {
+        let read = match &mut self.input {
             Input::File(file) => file.read(buf),
             Input::Standard(input) => input.read(buf),
+        };
+        match read {
+            Ok(count) => Ok(count),
+            Err(error) => {
+                let kind = error.kind();
+                self.reason.set(Some(error));
+                Err(io::Error::from(kind))
+            }
         }
     }
 }
@@ -36,28 +56,60 @@ impl Read for Input {
 pub(crate) struct System<'a> {
     rt: &'a HostRuntime,
     took_standard: bool,
+    reason: &'a Reason,
 }
 
 impl<'a> System<'a> {
-    pub(crate) fn new(rt: &'a HostRuntime) -> System<'a> {
+    pub(crate) fn new(rt: &'a HostRuntime, reason: &'a Reason) -> System<'a> {
         System {
             rt,
             took_standard: false,
+            reason,
+        }
+    }
+
+    fn open(&self, name: &str) -> Option<File> {
+        match fs::open(self.rt, name) {
+            Ok(file) => Some(file),
+            Err(error) => {
+                self.reason.set(Some(error));
+                None
+            }
+        }
+    }
+
+    fn reader(&self, input: Input) -> Reader<'a> {
+        Reader {
+            input,
+            reason: self.reason,
         }
     }
 }
 
-impl Opener for System<'_> {
-    type Reader = Input;
+impl<'a> Opener for System<'a> {
+    type Reader = Reader<'a>;
 
-    fn reader_of(&mut self, name: &str) -> Option<Input> {
+    fn reader_of(&mut self, name: &str) -> Option<Reader<'a>> {
         if name != "-" {
-            return Some(Input::File(fs::open(self.rt, name).ok()?));
+            return Some(self.reader(Input::File(self.open(name)?)));
         }
         if self.took_standard {
+            self.reason.set(None);
             return None;
         }
         self.took_standard = true;
-        Some(Input::Standard(self.rt.stdin()))
+        Some(self.reader(Input::Standard(self.rt.stdin())))
+    }
+
+    // A pipe that was read has nothing left, and one that was opened anew might wait for ever.
+    fn reader_again(&mut self, name: &str) -> Option<Reader<'a>> {
+        if name == "-" || !fs::metadata(self.rt, name).ok()?.is_file() {
+            return None;
+        }
+        Some(self.reader(Input::File(self.open(name)?)))
+    }
+
+    fn reason(&mut self, alloc: Global) -> Option<String> {
+        self.reason.replace(None)?.to_string(alloc).ok()
     }
 }

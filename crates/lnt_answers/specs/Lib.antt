@@ -1,2 +1,3 @@
+pub mod FileLines
 pub mod Lines
 pub mod Texts

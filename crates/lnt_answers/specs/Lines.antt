@@ -1,14 +1,16 @@
 -- What is printed of a section's lines.
-use Rattle.std.specs.Prelude.{ℕ, List, ◌++◌, Option, codes}
-use Rattle.std.specs.Io.KnownBytes.{Appends}
+use Rattle.std.specs.Prelude.{◌≡◌, ◌==◌, ◌+◌, ℕ, List, ◌++◌, drop, take, if◌then◌else◌, None, Option, Some, codes, decimal}
+use Rattle.std.specs.List.{position}
+use Rattle.std.specs.Io.KnownBytes.{Appends, Keeps}
 use Rattle.lnt_files.specs.declared.halt.Halt.{Halt}
 use Rattle.lnt_files.specs.declared.halt.Halt.TheVariants.{Memory, Read, TooLong}
+use Rattle.lnt_spans.specs.declared.answer.Answer.{Answer}
 use Rattle.lnt_spans.specs.declared.position.Position.{Position}
 use Rattle.lnt_lines.specs.declared.stop.Stop.{Stop}
 use Rattle.lnt_lines.specs.declared.stop.Stop.TheVariants as stop
-use Rattle.lnt_lines.specs.declared.no.No.{No}
-use Rattle.lnt_lines.specs.declared.options.Options.{Options}
-use Rattle.lnt_lines.specs.Nos.{IsTrueNo}
+use Rattle.lnt_lines.specs.declared.section.JudgedIndex.{JudgedIndex}
+use Rattle.lnt_lines.specs.declared.section.JudgedIndex.TheVariants.{Good, Bad}
+use Rattle.lnt_digits.specs.Digits.{IsAddress, IsDecimal}
 use Rattle.lnt_text.specs.Texts.{position_text}
 use Rattle.lnt_answers.specs.Texts.{no_text}
 
@@ -18,10 +20,37 @@ same_halt stop.Memory = Memory
 same_halt stop.Read = Read
 same_halt stop.TooLong = TooLong
 
--- a writer that held these bytes has gained the line of what is wrong with the section
-abbrev pub IsToldNo : List ℕ → List ℕ → Options → List ℕ → Option (List ℕ) → Option (List ℕ) → Type 0
-IsToldNo line general options section old new = (no : No) × IsTrueNo line general options section no × Appends old new (no_text no ++ codes "\n")
+-- the index of a good section was given
+abbrev pub IsIndexGiven : JudgedIndex → Type 0
+IsIndexGiven (Good index) = Unit {0}
+IsIndexGiven (Bad reason) = ⊥
+
+-- a writer that held these bytes has gained the line of what is wrong with the section, and nothing of a good one
+abbrev pub IsTold : JudgedIndex → Option (List ℕ) → Option (List ℕ) → Type 0
+IsTold (Good index) old new = Keeps old new
+IsTold (Bad reason) old new = Appends old new (no_text reason ++ codes "\n")
+
+-- a writer that held these bytes has gained the verdict on the section
+abbrev pub IsVerdict : JudgedIndex → Option (List ℕ) → Option (List ℕ) → Type 0
+IsVerdict (Good index) old new = Appends old new (codes "yes\n")
+IsVerdict (Bad reason) old new = Appends old new (no_text reason ++ codes "\n")
 
 -- the line of a position without an answer
 abbrev pub none_text : Position → List ℕ
 none_text position = position_text position ++ codes " none\n"
+
+-- the front of the line of a position that is answered, up to the path of the file
+abbrev pub place_text : Position → Answer → List ℕ
+place_text position answer = position_text position ++ (codes " unit " ++ (decimal answer.unit ++ (codes " file " ++ (decimal answer.file ++ codes " "))))
+
+abbrev pub row_text : Answer → List ℕ
+row_text answer = codes "line " ++ (decimal answer.line ++ (codes " column " ++ (decimal answer.column ++ (codes " stmt " ++ decimal (if answer.is_stmt then 1 else 0)))))
+
+-- What a line with its first comma at such a place tells: an address, and behind the comma an operation index. Without a
+-- comma it tells an address, and the operation index is that of all such lines.
+abbrev pub TellsPositionAt : ℕ → List ℕ → Option ℕ → Position → Type 0
+TellsPositionAt op line None place = IsAddress line place.address × (place.op ≡ op)
+TellsPositionAt op line (Some comma) place = IsAddress (take comma line) place.address × IsDecimal (drop (comma + 1) line) place.op
+
+abbrev pub TellsPosition : ℕ → List ℕ → Position → Type 0
+TellsPosition op line place = TellsPositionAt op line (position (λ byte. byte == 44) line) place

@@ -1,12 +1,11 @@
 //! A section that is judged.
-ghost use Rattle.std.specs.Prelude.{◌≡◌, ◌+◌, ◌-◌, ◌^◌, ◌<◌, IfOk, IfSome, IsErrOf, IsNone, IsTrue};
+ghost use Rattle.std.specs.Prelude.{◌≡◌, ◌+◌, ◌-◌, ◌^◌, ◌<◌, IfOk, IfSome, IsErrOf, IsTrue};
 ghost use Rattle.lnt_lines.specs.Drafts.{IsJudgedIndex};
-ghost use Rattle.lnt_lines.specs.declared.section.JudgedIndex.TheVariants.{Good};
-ghost use Rattle.lnt_answers.specs.Lines.{IsToldNo, same_halt};
+ghost use Rattle.lnt_answers.specs.Lines.{IsIndexGiven, IsTold, IsVerdict, same_halt};
 
 use crate::no::NoLine;
 use lnt_files::Halt;
-use lnt_lines::{Index, JudgedIndex, Options, Stop, index_section};
+use lnt_lines::{JudgedIndex, Options, Stop, index_section};
 use lnt_wire::{Source, Strings};
 use std::alloc::Global;
 use std::io::Write;
@@ -22,11 +21,11 @@ pub fn halt_of(stop: Stop) -> Halt
     }
 }
 
-/// The index of the section that the source has to give, if it is good. Of another one its line is printed.
+/// Judges the section that the source has to give, and prints the line of one that isn't good.
 ///
-/// The section is good where an index is given, and it is its index (`IsJudgedIndex`); the writer is then as before.
-/// Where none is given, it isn't good, and the writer has gained the line that says why, and nothing else. It stops by `Read`
-/// only where the source failed, by `TooLong` only where it has more bytes than it may give, by `Write` where the writer
+/// What is given is so of the section (`IsJudgedIndex`): its index where it is good, and the writer is then as before;
+/// else what is wrong with it, and the writer has gained the line that says so, and nothing else. It stops by `Read` only
+/// where the source failed, by `TooLong` only where it has more bytes than it may give, by `Write` where the writer
 /// failed, and by `Memory`. The caller sees to it that the number of the source's failures is below `u64::MAX`.
 pub fn judge_section<'s, R: Source, W: Write>(
     alloc: Global,
@@ -34,22 +33,43 @@ pub fn judge_section<'s, R: Source, W: Write>(
     strings: &Strings<'s>,
     options: &Options,
     out: &mut W,
-) -> Result<Option<Index<'s>>, Halt>
+) -> Result<JudgedIndex<'s>, Halt>
     requires { R.failures section.old < 2 ^ 64 - 1 }
-    ensures good { IfOk result (λ given. IfSome given (λ index. IfSome (R.remaining section.old) (λ bytes.
-        IsJudgedIndex strings.now.line.now strings.now.general.now options.now bytes (Good index)))) }
-    ensures silent { IfOk result (λ given. IfSome given (λ _. out.new ≡ out.old)) }
-    ensures bad { IfOk result (λ given. IsNone given → IfSome (R.remaining section.old) (λ bytes.
-        IsToldNo strings.now.line.now strings.now.general.now options.now bytes (W.contents out.old) (W.contents out.new))) }
+    ensures judged { IfOk result (λ judged. IfSome (R.remaining section.old) (λ bytes.
+        IsJudgedIndex strings.now.line.now strings.now.general.now options.now bytes judged)) }
+    ensures told { IfOk result (λ judged. IsTold judged (W.contents out.old) (W.contents out.new)) }
+    ensures silent { IfOk result (λ judged. IsIndexGiven judged → out.new ≡ out.old) }
     ensures read { IsErrOf result Halt.Read → R.failures section.new ≡ R.failures section.old + 1 }
     ensures too_long { IsErrOf result Halt.TooLong → IsTrue (R.too_long section.new) }
 {
     match index_section(alloc, section, strings, options) {
-        Ok(JudgedIndex::Good(index)) => Ok(Some(index)),
+        Ok(JudgedIndex::Good(index)) => Ok(JudgedIndex::Good(index)),
         Ok(JudgedIndex::Bad(no)) => {
             writeln!(out, "{}", NoLine(no))?;
-            Ok(None)
+            Ok(JudgedIndex::Bad(no))
         }
         Err(stop) => Err(halt_of(stop)),
     }
+}
+
+/// Judges the section as `judge_section` does, and prints `yes` where it is good. Its stops are those of `judge_section`.
+pub fn print_verdict<'s, R: Source, W: Write>(
+    alloc: Global,
+    section: &mut R,
+    strings: &Strings<'s>,
+    options: &Options,
+    out: &mut W,
+) -> Result<JudgedIndex<'s>, Halt>
+    requires { R.failures section.old < 2 ^ 64 - 1 }
+    ensures judged { IfOk result (λ judged. IfSome (R.remaining section.old) (λ bytes.
+        IsJudgedIndex strings.now.line.now strings.now.general.now options.now bytes judged)) }
+    ensures verdict { IfOk result (λ judged. IsVerdict judged (W.contents out.old) (W.contents out.new)) }
+    ensures read { IsErrOf result Halt.Read → R.failures section.new ≡ R.failures section.old + 1 }
+    ensures too_long { IsErrOf result Halt.TooLong → IsTrue (R.too_long section.new) }
+{
+    let judged = judge_section(alloc, section, strings, options, out)?;
+    if let JudgedIndex::Good(_) = &judged {
+        writeln!(out, "yes")?;
+    }
+    Ok(judged)
 }

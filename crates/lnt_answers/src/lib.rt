@@ -1,15 +1,20 @@
 //! What a judged section answers, as text.
 //!
-//! [`judge_section`] prints the line of a section that isn't good, and gives the lines of one that is. Of these
-//! [`print_lookup`] prints the answer at a position, and [`print_sums`] whether files have the sums that are listed.
+//! [`judge_section`] prints the line of a section that isn't good, and gives the index of one that is; [`print_verdict`]
+//! prints `yes` of it too. Of the index [`print_lookups`] and [`print_addresses`] print the answers at positions,
+//! [`print_files`] the files, and [`print_sums`] whether these have the sums that are listed.
 #![tactic(auto)]
 
+mod addresses;
+mod files;
 mod judge;
 mod lookup;
 mod no;
 mod sums;
 
-pub use judge::{halt_of, judge_section};
-pub use lookup::print_lookup;
+pub use addresses::print_addresses;
+pub use files::print_files;
+pub use judge::{halt_of, judge_section, print_verdict};
+pub use lookup::{print_lookup, print_lookups};
 pub use no::NoLine;
-pub use sums::print_sums;
+pub use sums::{lists_sums, print_sums};

@@ -1,5 +1,5 @@
 //! What is answered at a position.
-ghost use Rattle.std.specs.Prelude.{◌≡◌, ℕ, List, Option, IfErr, IfOk, None, OnOk};
+ghost use Rattle.std.specs.Prelude.{◌≡◌, ℕ, List, ◌++◌, Option, IfErr, IfOk, None, OnOk};
 ghost use Rattle.std.specs.Io.KnownBytes.{Appends};
 ghost use Rattle.lnt_files.specs.declared.halt.Halt.TheVariants.{Write};
 ghost use Rattle.lnt_files.specs.declared.status.Status.TheVariants.{Done};
@@ -7,7 +7,7 @@ ghost use Rattle.lnt_unit.specs.declared.unit.Parts.{Parts};
 ghost use Rattle.lnt_rows.specs.Sequences.{line_answer};
 ghost use Rattle.lnt_lines.specs.Indexed.{IsIndexOf};
 ghost use Rattle.lnt_files.specs.Halts.{IsPrinting};
-ghost use Rattle.lnt_answers.specs.Lines.{none_text};
+ghost use Rattle.lnt_answers.specs.Lines.{none_text, place_text, row_text};
 
 use crate::judge::halt_of;
 use lnt_files::{Halt, Status};
@@ -43,9 +43,26 @@ pub fn print_lookup<W: Write>(
     Ok(Status::Done)
 }
 
+/// Prints the lines of `print_lookup` at these positions, in their order. It ends as `print_lookup`.
+pub fn print_lookups<W: Write>(
+    alloc: Global,
+    index: &Index<'_>,
+    positions: &[Position],
+    out: &mut W,
+) -> Result<Status, Halt>
+    ensures done { IfOk result (λ status. status ≡ Done) }
+    ensures err { IfErr result (λ halt. IsPrinting halt) }
+{
+    for position in positions {
+        print_lookup(alloc, index, *position, out)?;
+    }
+    Ok(Status::Done)
+}
+
 // Prints the position, and what is answered there but for the path.
 fn print_answer<W: Write>(position: Position, answer: &Answer, out: &mut W) -> Result<(), Halt>
     ensures err { IfErr result (λ halt. halt ≡ Write) }
+    ensures text { OnOk result (Appends (W.contents out.old) (W.contents out.new) (place_text position answer.now ++ row_text answer.now)) }
 {
     let (unit, file, line, column) = (answer.unit, answer.file, answer.line, answer.column);
     let stmt = u8::from(answer.is_stmt);

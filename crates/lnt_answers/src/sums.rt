@@ -66,6 +66,18 @@ fn print_unit<O: Opener, W: Write>(
     Ok(status)
 }
 
+/// Whether a sum is listed of any file. It takes no memory.
+pub fn lists_sums(index: &Index<'_>) -> bool {
+    for unit in index.units() {
+        for file in 0..index.file_count(*unit) {
+            if index.listed(*unit, file).is_some() {
+                return true;
+            }
+        }
+    }
+    false
+}
+
 // Prints the line of a file, where a sum is listed for it.
 fn print_sum<O: Opener, W: Write>(
     alloc: Global,

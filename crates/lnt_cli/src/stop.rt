@@ -50,7 +50,7 @@ impl CliStop {
 impl From<WordsStop> for CliStop {
     fn from(stop: WordsStop) -> CliStop {
         match stop {
-            WordsStop::Usage(text) => CliStop::Usage(text),
+            WordsStop::Usage(text) | WordsStop::BadWord { text, .. } => CliStop::Usage(text),
             WordsStop::Memory => CliStop::Memory,
         }
     }

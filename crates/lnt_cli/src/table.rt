@@ -1,14 +1,12 @@
 //! The subcommands that read and write address tables: `table` and `check`.
 ghost use Rattle.std.specs.Prelude.{◌≡◌, ◌++◌, ◌-◌, ◌^◌, ◌<◌, ℕ, List, Option, IfOk, IfSome, OnOk, codes};
 ghost use Rattle.std.specs.Io.KnownBytes.{Appends};
-ghost use Rattle.lnt_files.specs.declared.status.Status.TheVariants.{Done, No as StatusNo};
-ghost use Rattle.lnt_files.specs.declared.status.Status.TheVariants as status;
+ghost use Rattle.lnt_files.specs.declared.status.Status.TheVariants.{Done};
 ghost use Rattle.lnt_table.specs.Headline.{IsTrueVerdict};
 ghost use Rattle.lnt_unit.specs.declared.unit.Parts.{Parts};
 ghost use Rattle.lnt_lines.specs.Indexed.{IsIndexOf};
 ghost use Rattle.lnt_table.specs.Written.{IsTableOfUnits};
-ghost use Rattle.lnt_table.specs.declared.verdict.TableNo.{TableNo as Reason};
-ghost use Rattle.lnt_table.specs.declared.verdict.Verdict.TheVariants.{No, Yes};
+ghost use Rattle.lnt_table.specs.declared.verdict.Verdict.TheVariants.{Yes};
 
 use crate::verdict::TableNoLine;
 use lnt_answers::halt_of;
@@ -38,7 +36,7 @@ pub(crate) fn print_table<W: Write>(
     }
 }
 
-// Prints whether the table answers as the section does.
+// Judges whether the table answers as the section does, and prints the verdict, which is so.
 pub(crate) fn print_check<R: Source, T: Source, W: Write>(
     alloc: Global,
     section: &mut R,
@@ -46,24 +44,20 @@ pub(crate) fn print_check<R: Source, T: Source, W: Write>(
     table: &mut T,
     options: &Options,
     out: &mut W,
-) -> Result<Status, Halt>
+) -> Result<Verdict, Halt>
     requires section_fails { R.failures section.old < 2 ^ 64 - 1 }
     requires table_fails { T.failures table.old < 2 ^ 64 - 1 }
-    ensures yes { IfOk result (λ status. status ≡ Done → IfSome (R.remaining section.old) (λ bytes. IfSome (T.remaining table.old) (λ text.
-        IsTrueVerdict strings.now.line.now strings.now.general.now options.now bytes text Yes))) }
-    ensures line { IfOk result (λ status. status ≡ Done → Appends (W.contents out.old) (W.contents out.new) (codes "yes\n")) }
-    ensures no { IfOk result (λ status. status ≡ StatusNo → IfSome (R.remaining section.old) (λ bytes. IfSome (T.remaining table.old) (λ text.
-        (reason : Reason) × IsTrueVerdict strings.now.line.now strings.now.general.now options.now bytes text (No reason)))) }
+    ensures verdict { IfOk result (λ verdict. IfSome (R.remaining section.old) (λ bytes. IfSome (T.remaining table.old) (λ text.
+        IsTrueVerdict strings.now.line.now strings.now.general.now options.now bytes text verdict))) }
+    ensures line { IfOk result (λ verdict. verdict ≡ Yes → Appends (W.contents out.old) (W.contents out.new) (codes "yes\n")) }
 {
-    match check(alloc, section, strings, table, options) {
-        Ok(Verdict::Yes) => {
-            writeln!(out, "yes")?;
-            Ok(Status::Done)
-        }
-        Ok(Verdict::No(no)) => {
-            writeln!(out, "{}", TableNoLine(no))?;
-            Ok(Status::No)
-        }
-        Err(stop) => Err(halt_of(stop)),
+    let verdict = match check(alloc, section, strings, table, options) {
+        Ok(verdict) => verdict,
+        Err(stop) => return Err(halt_of(stop)),
+    };
+    match verdict {
+        Verdict::Yes => writeln!(out, "yes")?,
+        Verdict::No(no) => writeln!(out, "{}", TableNoLine(no))?,
     }
+    Ok(verdict)
 }

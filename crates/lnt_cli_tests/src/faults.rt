@@ -25,6 +25,7 @@ fn failing_reads(rt: HostRuntime) {
     assert!(rt; stops_reading(alloc, "linetab lookup F 0x1000 --line-str T", "T", 1));
     assert!(rt; stops_reading(alloc, "linetab check F T", "F", 1));
     assert!(rt; stops_reading(alloc, "linetab check F T", "T", 110));
+    assert!(rt; stops_reading(alloc, "linetab lookup F --addresses A", "A", 6));
 }
 
 // What stands before the fault is written.
@@ -36,6 +37,16 @@ fn a_line_before_a_read_that_fails(rt: HostRuntime) {
     let files = Files::failing(&section, "F", 141);
     let (ended, written) = ran(rt.alloc(), files, "linetab units F", 1000);
     assert!(rt; written.as_slice() == b"0x0 32 67\n".as_slice());
+    assert!(rt; matches!(ended, Err(CliStop::Read(_))));
+}
+
+// The lines that are whole before the fault are answered.
+#[test]
+fn lines_before_a_read_that_fails(rt: HostRuntime) {
+    let files = Files::failing(&PLAIN, "A", 8);
+    let (ended, written) = ran(rt.alloc(), files, "linetab lookup F --addresses A", 1000);
+    let line = b"0x1005,0 unit 0 file 1 line 4 column 0 stmt 1 path \"/s/a.c\"\n";
+    assert!(rt; written.as_slice() == line.as_slice());
     assert!(rt; matches!(ended, Err(CliStop::Read(_))));
 }
 

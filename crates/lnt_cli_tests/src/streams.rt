@@ -4,8 +4,8 @@ use lnt_cli::{CliStop, Opener, Status, run};
 use std::alloc::{AllocError, Global};
 use std::io::{self, Read, Write};
 
-// Files by their names: a section F, its table T, and a source file, which holds `abc`. One of them fails behind so many
-// bytes.
+// Files by their names: a section F, its table T, lines of addresses A, and a source file, which holds `abc`. One of them
+// fails behind so many bytes.
 #[derive(Clone, Copy)]
 pub(crate) struct Files<'a> {
     section: &'a [u8],
@@ -59,6 +59,7 @@ impl<'a> Opener for Files<'a> {
         let bytes = match name {
             "F" => self.section,
             "T" => TABLE,
+            "A" => b"0x1005\nx\n0x1000,0",
             "/s/a.c" => b"abc",
             _ => return None,
         };
@@ -105,7 +106,7 @@ fn words(alloc: Global, line: &str) -> Result<Vec<String>, AllocError> {
     Ok(words)
 }
 
-// How the command ends over a writer with room for so many bytes, and what was written.
+// How the command ends over a writer with room for so many bytes, and what was written. Its notes go nowhere.
 pub(crate) fn ran(
     alloc: Global,
     mut files: Files<'_>,
@@ -117,7 +118,7 @@ pub(crate) fn ran(
         room,
     };
     let ended = match words(alloc, line) {
-        Ok(words) => run(alloc, words, &mut files, &mut out),
+        Ok(words) => run(alloc, words, &mut files, &mut out, &mut io::sink()),
         Err(_) => Err(CliStop::Memory),
     };
     (ended, out.taken)

@@ -1,7 +1,7 @@
 //! The files of names.
 ghost use Rattle.std.specs.Prelude.{◌≡◌, ◌≢◌, ◌^◌, IfOk, IfErr, false};
 ghost use Rattle.lnt_files.specs.Halts.{IsOpening};
-ghost use Rattle.lnt_files.specs.declared.halt.Halt.TheVariants.{Write};
+ghost use Rattle.lnt_files.specs.declared.halt.Halt.TheVariants.{Memory, Write};
 
 use crate::halt::Halt;
 use lnt_wire::{Counted, Source, read_all};
@@ -21,6 +21,18 @@ pub trait Opener {
 
     /// A reader of the file of this name, or none where it can't be opened.
     fn reader_of(&mut self, name: &str) -> Option<Self::Reader>;
+
+    /// Another reader of a file that was read before. None where its bytes can't be read a second time, as those of
+    /// standard input or of a pipe.
+    fn reader_again(&mut self, _name: &str) -> Option<Self::Reader> {
+        None
+    }
+
+    /// Why the last file that failed couldn't be opened or read, as the system says it. None where it says nothing, or
+    /// where memory ran out.
+    fn reason(&mut self, _alloc: Global) -> Option<String> {
+        None
+    }
 }
 
 /// The file of this name, as a source of the bytes that it holds. It is read block by block, as they are asked for.
@@ -37,13 +49,25 @@ pub fn open_file<O: Opener>(
     ensures left { IfOk result (λ source. ⟦<Counted<BufReader<O::Reader>> as Source>⟧.left source ≡ 2 ^ 40) }
     ensures err { IfErr result IsOpening }
 {
-    let Some(reader) = opener.reader_of(name) else {
-        return Err(Halt::Read);
-    };
-    let Ok(reader) = BufReader::with_capacity(alloc, BLOCK, reader) else {
-        return Err(Halt::Memory);
-    };
-    Ok(Counted::new(reader, LIMIT))
+    match opener.reader_of(name) {
+        Some(reader) => source_of(alloc, reader),
+        None => Err(Halt::Read),
+    }
+}
+
+/// A reader's bytes as a source, read block by block, as they are asked for.
+///
+/// The source has not failed, wasn't found too long, and may give 2^40 bytes. It answers `Memory`, and nothing else.
+pub fn source_of<R: Read + Drop>(alloc: Global, reader: R) -> Result<Counted<BufReader<R>>, Halt>
+    ensures failures { IfOk result (λ source. ⟦<Counted<BufReader<R>> as Source>⟧.failures source ≡ 0) }
+    ensures too_long { IfOk result (λ source. ⟦<Counted<BufReader<R>> as Source>⟧.too_long source ≡ false) }
+    ensures left { IfOk result (λ source. ⟦<Counted<BufReader<R>> as Source>⟧.left source ≡ 2 ^ 40) }
+    ensures err { IfErr result (λ halt. halt ≡ Memory) }
+{
+    match BufReader::with_capacity(alloc, BLOCK, reader) {
+        Ok(reader) => Ok(Counted::new(reader, LIMIT)),
+        Err(_) => Err(Halt::Memory),
+    }
 }
 
 /// All bytes of the file of this name.

@@ -1,14 +1,17 @@
-//! How values are printed: faults as the lines that tell them, positions, answers, quoted texts, names and words.
+//! How values are printed: faults as the lines that tell them, positions, answers, quoted texts, names and words, and
+//! the notes that help a person.
 #![tactic(auto)]
 
 mod answer;
 mod fault;
+mod note;
 mod position;
 mod quoted;
 mod shown;
 
 pub use answer::AnswerText;
 pub use fault::{MalformedLine, RunLine};
+pub use note::{Argument, Column, Look, Note, StringSection};
 pub use position::PositionText;
 pub use quoted::Quoted;
 pub use shown::Shown;

@@ -2,39 +2,66 @@
 use clap::{Arg, ArgAction, Command};
 use std::alloc::{AllocError, Global};
 
+// The version of the program, and the toolchain that it is proved with, as `rt version` prints it.
+const VERSION: &str = "0.9.0 (rattle-kit-13b logic dac8208d650f15bf)";
+
+// What the numbers of the lines `no ..` mean that `check` prints.
+const NUMBERS: &str = "Lines that begin with no, and the document that says more:
+  25  no unit stands where one has to, for the fault that is named (docs/SPECIFICATION.md, HEADERS.md, PROGRAMS.md)
+  26  the program of a unit doesn't run (docs/PROGRAMS.md)
+  27  a table of directories or files has no path, or one in a form that it may not have (docs/LINES.md)
+  28  the path of a directory or file has no text; --line-str and --str name the sections of strings (docs/LINES.md)
+  29  the directory of a file isn't there (docs/LINES.md)
+  30  a row names a file that isn't there (docs/LINES.md)
+  31  a row's position is below that of the row before it, in one sequence (docs/LINES.md)
+  32  two sequences hold one position; --dead leaves discarded code out (docs/LINES.md)
+  36  the table doesn't begin with the names of its columns (docs/TABLES.md)
+  37  a record of the table has too few or too many fields (docs/TABLES.md)
+  38  a field of the table is no number of its kind (docs/TABLES.md)
+  39  a span of the table is empty, or begins below the end of the one before it (docs/TABLES.md)
+  40  the table and the section answer differently at this position, the least one (docs/TABLES.md)";
+
+// What the words `same`, `differs` and `unreadable` mean that `md5` prints.
+const SUMS: &str = "A file is the same, differs, or is unreadable: it can't be opened or read. \
+Where one isn't the same, the status is 1.";
+
 // The command with all that it takes.
 pub(crate) fn command_of<'a>(alloc: Global) -> Result<Command<'a>, AllocError> {
     Command::new(alloc, "linetab")
         .about("Reads and checks DWARF 5 line number sections")
+        .version(VERSION)
         .subcommand_required(true)
         .subcommand(units_command(alloc)?)?
         .subcommand(dump_command(alloc)?)?
         .subcommand(check_command(alloc)?)?
+        .subcommand(verify_command(alloc)?)?
         .subcommand(lookup_command(alloc)?)?
+        .subcommand(files_command(alloc)?)?
         .subcommand(table_command(alloc)?)?
         .subcommand(convert_command(alloc)?)?
         .subcommand(md5_command(alloc)?)
 }
 
 fn units_command<'a>(alloc: Global) -> Result<Command<'a>, AllocError> {
-    Command::new(alloc, "units")
+    let command = Command::new(alloc, "units")
         .about("Prints the offset, the format and the length of each unit of a section")
-        .arg(section_argument(alloc))?
-        .arg(big_option(alloc))
+        .arg(section_argument(alloc))?;
+    with_reading(alloc, command)
 }
 
 fn dump_command<'a>(alloc: Global) -> Result<Command<'a>, AllocError> {
-    Command::new(alloc, "dump")
+    let command = Command::new(alloc, "dump")
         .about("Prints the header of each unit of a section, with its directories and files")
         .arg(section_argument(alloc))?
         .arg(flag(alloc, "ops", "Prints the operations of each unit too"))?
-        .arg(flag(alloc, "rows", "Prints the rows of each unit too"))?
-        .arg(big_option(alloc))
+        .arg(flag(alloc, "rows", "Prints the rows of each unit too"))?;
+    with_reading(alloc, command)
 }
 
 fn check_command<'a>(alloc: Global) -> Result<Command<'a>, AllocError> {
     let command = Command::new(alloc, "check")
         .about("Tells whether an address table answers as a section does, or where it doesn't")
+        .after_help(NUMBERS)
         .arg(section_argument(alloc))?
         .arg(argument(
             alloc,
@@ -44,14 +71,33 @@ fn check_command<'a>(alloc: Global) -> Result<Command<'a>, AllocError> {
     with_judging(alloc, command)
 }
 
+fn verify_command<'a>(alloc: Global) -> Result<Command<'a>, AllocError> {
+    let command = Command::new(alloc, "verify")
+        .about("Tells whether a section is good, or what is wrong with it")
+        .arg(section_argument(alloc))?;
+    with_judging(alloc, command)
+}
+
 fn lookup_command<'a>(alloc: Global) -> Result<Command<'a>, AllocError> {
     let command = Command::new(alloc, "lookup")
-        .about("Prints what a section says of an address")
+        .about("Prints what a section says of addresses, in a line for each")
         .arg(section_argument(alloc))?
-        .arg(argument(
+        .arg(
+            argument(
+                alloc,
+                "ADDRESS",
+                "An address: 0x and 1 to 16 hexadecimal digits",
+            )
+            .required(false)
+            .required_unless_present("addresses")?
+            .conflicts_with("addresses")?
+            .num_args(1..),
+        )?
+        .arg(valued(
             alloc,
-            "ADDRESS",
-            "The address: 0x and 1 to 16 hexadecimal digits",
+            "addresses",
+            "FILE",
+            "A file with a line ADDRESS or ADDRESS,N for each lookup, or - for standard input",
         ))?
         .arg(valued(
             alloc,
@@ -59,6 +105,15 @@ fn lookup_command<'a>(alloc: Global) -> Result<Command<'a>, AllocError> {
             "N",
             "The operation of the instruction there, from 0 on; it is 0 by default",
         ))?;
+    with_judging(alloc, command)
+}
+
+fn files_command<'a>(alloc: Global) -> Result<Command<'a>, AllocError> {
+    let command = Command::new(alloc, "files")
+        .about(
+            "Prints the path and the MD5 sum of each file of a section, as comma-separated values",
+        )
+        .arg(section_argument(alloc))?;
     with_judging(alloc, command)
 }
 
@@ -75,7 +130,7 @@ fn table_command<'a>(alloc: Global) -> Result<Command<'a>, AllocError> {
 }
 
 fn convert_command<'a>(alloc: Global) -> Result<Command<'a>, AllocError> {
-    Command::new(alloc, "convert")
+    let command = Command::new(alloc, "convert")
         .about("Prints a section in another format and byte order")
         .arg(section_argument(alloc))?
         .arg(valued(alloc, "format", "32|64", "The format that is written").required(true))?
@@ -85,21 +140,30 @@ fn convert_command<'a>(alloc: Global) -> Result<Command<'a>, AllocError> {
             "little|big",
             "The byte order that is written",
         )
-        .required(true))?
-        .arg(big_option(alloc))
+        .required(true))?;
+    with_reading(alloc, command)
 }
 
 fn md5_command<'a>(alloc: Global) -> Result<Command<'a>, AllocError> {
     let command = Command::new(alloc, "md5")
         .about("Compares the files of a section with the MD5 sums that it lists")
+        .after_help(SUMS)
         .arg(section_argument(alloc))?;
     with_judging(alloc, command)
 }
 
+// The options of a command that reads a section.
+fn with_reading<'a>(alloc: Global, command: Command<'a>) -> Result<Command<'a>, AllocError> {
+    let big = "The section is big-endian; otherwise it is little-endian";
+    let quiet = "Prints no notes on standard error";
+    command
+        .arg(flag(alloc, "big", big))?
+        .arg(flag(alloc, "quiet", quiet))
+}
+
 // The options of a command that judges a section.
 fn with_judging<'a>(alloc: Global, command: Command<'a>) -> Result<Command<'a>, AllocError> {
-    command
-        .arg(big_option(alloc))?
+    with_reading(alloc, command)?
         .arg(valued(
             alloc,
             "line-str",
@@ -123,11 +187,6 @@ fn with_judging<'a>(alloc: Global, command: Command<'a>) -> Result<Command<'a>, 
 fn section_argument<'a>(alloc: Global) -> Arg<'a> {
     let help = "The file with the bytes of a .debug_line section, or - for standard input";
     argument(alloc, "SECTION", help)
-}
-
-fn big_option<'a>(alloc: Global) -> Arg<'a> {
-    let help = "The section is big-endian; otherwise it is little-endian";
-    flag(alloc, "big", help)
 }
 
 // A word that is required.

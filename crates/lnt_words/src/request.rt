@@ -2,10 +2,19 @@
 use lnt_spans::{Position, Version};
 use lnt_wire::{Format, Order};
 
+/// What the words ask for, and how.
+#[derive(Drop)]
+pub struct Asked<'a> {
+    /// What they ask for.
+    pub request: Request<'a>,
+    /// Whether they ask for no notes.
+    pub quiet: bool,
+}
+
 /// What the words ask for. Files are named as the words name them.
 #[derive(Drop)]
 pub enum Request<'a> {
-    /// This help text.
+    /// This text, of help or of the version.
     Help(String),
     /// What the units of a section are.
     Read {
@@ -21,7 +30,7 @@ pub enum Request<'a> {
         /// The section.
         from: Judging<'a>,
         /// What is asked of it.
-        question: Question,
+        question: Question<'a>,
     },
     /// Whether a table answers as a section does.
     Check {
@@ -69,10 +78,21 @@ pub enum Reading {
 }
 
 /// What is asked of a good section.
-#[derive(Clone, Copy)]
-pub enum Question {
-    /// The answer at a position.
-    Lookup(Position),
+#[derive(Drop)]
+pub enum Question<'a> {
+    /// Nothing but whether it is good.
+    Verify,
+    /// The answers at these positions.
+    Lookup(Vec<Position>),
+    /// The answers at the positions that the lines of a file tell.
+    Addresses {
+        /// The file of the lines.
+        file: &'a str,
+        /// The operation index where a line tells none.
+        op: u64,
+    },
+    /// The files of its units.
+    Files,
     /// Its address table, in this version.
     Table(Version),
     /// Whether files have the sums that are listed.

@@ -2,6 +2,7 @@
 ghost use Rattle.std.specs.Prelude.{◌≡◌};
 ghost use Rattle.lnt_words.specs.declared.stop.WordsStop.TheVariants.{Memory};
 
+use lnt_text::Argument;
 use std::alloc::AllocError;
 
 /// Why words ask for nothing.
@@ -9,6 +10,15 @@ use std::alloc::AllocError;
 pub enum WordsStop {
     /// They ask for nothing that the command does. The text says how it is used, and ends in a line feed.
     Usage(String),
+    /// A word isn't what it has to be.
+    BadWord {
+        /// The line that tells the word, with its line feed.
+        text: String,
+        /// What the word has to be.
+        argument: Argument,
+        /// Whether the words ask for no notes.
+        quiet: bool,
+    },
     /// Memory ran out. It says nothing of the words.
     Memory,
 }

@@ -1,22 +1,22 @@
 //! What the words of the command ask for.
 use crate::command::command_of;
-use crate::request::{Judging, Question, Reading, Request};
+use crate::request::{Asked, Judging, Question, Reading, Request};
 use crate::stop::WordsStop;
 use clap::ArgMatches;
 use clap::error::ErrorKind;
 use lnt_digits::{address, decimal};
 use lnt_spans::{Position, Version};
-use lnt_text::Shown;
+use lnt_text::{Argument, Shown};
 use lnt_wire::{Format, Order};
 use std::alloc::{AllocError, Global};
 
 /// What the words ask for, of which the first is the program's own name.
 ///
-/// It stops by `Usage` where they ask for nothing that the command does, and then tells how it is used; and by
-/// `Memory`. What it gives names files by the words themselves.
-pub fn request_of<'a>(alloc: Global, words: &'a [String]) -> Result<Request<'a>, WordsStop> {
+/// It stops by `Usage` where they ask for nothing that the command does, and then tells how it is used; by `BadWord`
+/// where one of them isn't what it has to be; and by `Memory`. What it gives names files by the words themselves.
+pub fn request_of<'a>(alloc: Global, words: &'a [String]) -> Result<Asked<'a>, WordsStop> {
     let error = match command_of(alloc)?.try_get_matches_from(words) {
-        Ok(matches) => return request_in(alloc, &matches),
+        Ok(matches) => return asked_in(alloc, &matches),
         Err(error) => error,
     };
     if error.kind() == ErrorKind::OutOfMemory {
@@ -26,7 +26,10 @@ pub fn request_of<'a>(alloc: Global, words: &'a [String]) -> Result<Request<'a>,
     if error.use_stderr() {
         return Err(WordsStop::Usage(harmless(alloc, text)?));
     }
-    Ok(Request::Help(text))
+    Ok(Asked {
+        request: Request::Help(text),
+        quiet: true,
+    })
 }
 
 // The text with the digits of each control character in its place, since a terminal would obey it. Lines stay.
@@ -50,22 +53,39 @@ fn is_obeyed(character: char) -> bool {
     character.is_control() && character != '\n'
 }
 
-fn request_in<'a>(alloc: Global, matches: &ArgMatches<'a>) -> Result<Request<'a>, WordsStop> {
-    match matches.subcommand() {
-        Some(("units", words)) => read_in(words, Reading::Units),
-        Some(("dump", words)) => {
+// What the words of a subcommand ask for.
+fn asked_in<'a>(alloc: Global, matches: &ArgMatches<'a>) -> Result<Asked<'a>, WordsStop> {
+    let Some((name, words)) = matches.subcommand() else {
+        return Err(WordsStop::Memory);
+    };
+    Ok(Asked {
+        request: request_in(alloc, name, words)?,
+        quiet: words.get_flag("quiet"),
+    })
+}
+
+fn request_in<'a>(
+    alloc: Global,
+    name: &str,
+    words: &ArgMatches<'a>,
+) -> Result<Request<'a>, WordsStop> {
+    match name {
+        "units" => read_in(words, Reading::Units),
+        "dump" => {
             let reading = Reading::Dump {
                 ops: words.get_flag("ops"),
                 rows: words.get_flag("rows"),
             };
             read_in(words, reading)
         }
-        Some(("lookup", words)) => lookup_in(alloc, words),
-        Some(("check", words)) => Ok(Request::Check {
+        "verify" => judge_in(alloc, words, Question::Verify),
+        "check" => Ok(Request::Check {
             from: judging_in(alloc, words)?,
             table: word_in(words, "TABLE")?,
         }),
-        Some(("table", words)) => {
+        "lookup" => lookup_in(alloc, words),
+        "files" => judge_in(alloc, words, Question::Files),
+        "table" => {
             let version = if words.get_flag("wide") {
                 Version::Two
             } else {
@@ -73,8 +93,8 @@ fn request_in<'a>(alloc: Global, matches: &ArgMatches<'a>) -> Result<Request<'a>
             };
             judge_in(alloc, words, Question::Table(version))
         }
-        Some(("convert", words)) => convert_in(alloc, words),
-        Some(("md5", words)) => judge_in(alloc, words, Question::Md5),
+        "convert" => convert_in(alloc, words),
+        "md5" => judge_in(alloc, words, Question::Md5),
         _ => Err(WordsStop::Memory),
     }
 }
@@ -90,7 +110,7 @@ fn read_in<'a>(words: &ArgMatches<'a>, reading: Reading) -> Result<Request<'a>, 
 fn judge_in<'a>(
     alloc: Global,
     words: &ArgMatches<'a>,
-    question: Question,
+    question: Question<'a>,
 ) -> Result<Request<'a>, WordsStop> {
     Ok(Request::Judge {
         from: judging_in(alloc, words)?,
@@ -98,25 +118,43 @@ fn judge_in<'a>(
     })
 }
 
+// The addresses are judged before the operation index, and in their order.
 fn lookup_in<'a>(alloc: Global, words: &ArgMatches<'a>) -> Result<Request<'a>, WordsStop> {
-    let address = address_of(alloc, word_in(words, "ADDRESS")?)?;
+    let mut positions = Vec::new(alloc);
+    if let Some(addresses) = words.get_strs("ADDRESS") {
+        for word in addresses {
+            let address = address_of(alloc, words, word, Argument::Address)?;
+            if positions.push(Position { address, op: 0 }).is_err() {
+                return Err(WordsStop::Memory);
+            }
+        }
+    }
     let op = match words.get_str("op") {
-        Some(word) => number_of(alloc, word)?,
+        Some(word) => number_of(alloc, words, word)?,
         None => 0,
     };
-    judge_in(alloc, words, Question::Lookup(Position { address, op }))
+    let question = match words.get_str("addresses") {
+        Some(file) => Question::Addresses { file, op },
+        None => {
+            for position in &mut positions {
+                position.op = op;
+            }
+            Question::Lookup(positions)
+        }
+    };
+    judge_in(alloc, words, question)
 }
 
 fn convert_in<'a>(alloc: Global, words: &ArgMatches<'a>) -> Result<Request<'a>, WordsStop> {
     let format = match word_in(words, "format")? {
         "32" => Format::D32,
         "64" => Format::D64,
-        word => return Err(bad_word(alloc, word)),
+        word => return Err(bad_word(alloc, words, word, Argument::Format)),
     };
     let to = match word_in(words, "order")? {
         "little" => Order::Little,
         "big" => Order::Big,
-        word => return Err(bad_word(alloc, word)),
+        word => return Err(bad_word(alloc, words, word, Argument::Order)),
     };
     read_in(words, Reading::Convert { format, to })
 }
@@ -124,7 +162,7 @@ fn convert_in<'a>(alloc: Global, words: &ArgMatches<'a>) -> Result<Request<'a>, 
 // A section that is judged, with its strings and the marker of dead code.
 fn judging_in<'a>(alloc: Global, words: &ArgMatches<'a>) -> Result<Judging<'a>, WordsStop> {
     let dead = match words.get_str("dead") {
-        Some(word) => Some(address_of(alloc, word)?),
+        Some(word) => Some(address_of(alloc, words, word, Argument::Dead)?),
         None => None,
     };
     Ok(Judging {
@@ -149,24 +187,33 @@ fn order_in(words: &ArgMatches<'_>) -> Order {
     }
 }
 
-fn address_of(alloc: Global, word: &str) -> Result<u64, WordsStop> {
+fn address_of(
+    alloc: Global,
+    words: &ArgMatches<'_>,
+    word: &str,
+    argument: Argument,
+) -> Result<u64, WordsStop> {
     match address(word.as_bytes()) {
         Some(address) => Ok(address),
-        None => Err(bad_word(alloc, word)),
+        None => Err(bad_word(alloc, words, word, argument)),
     }
 }
 
-fn number_of(alloc: Global, word: &str) -> Result<u64, WordsStop> {
+fn number_of(alloc: Global, words: &ArgMatches<'_>, word: &str) -> Result<u64, WordsStop> {
     match decimal(word.as_bytes()) {
         Some(number) => Ok(number),
-        None => Err(bad_word(alloc, word)),
+        None => Err(bad_word(alloc, words, word, Argument::Op)),
     }
 }
 
-// A word that isn't what it has to be.
-fn bad_word(alloc: Global, word: &str) -> WordsStop {
+// A word isn't what this argument has to be.
+fn bad_word(alloc: Global, words: &ArgMatches<'_>, word: &str, argument: Argument) -> WordsStop {
     match format!(in alloc; "linetab: bad word {}\n", Shown(word)) {
-        Ok(text) => WordsStop::Usage(text),
+        Ok(text) => WordsStop::BadWord {
+            text,
+            argument,
+            quiet: words.get_flag("quiet"),
+        },
         Err(_) => WordsStop::Memory,
     }
 }

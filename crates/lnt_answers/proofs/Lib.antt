@@ -1,0 +1,2 @@
+pub mod CommaLemmas
+pub mod FileLemmas

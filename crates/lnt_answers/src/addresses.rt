@@ -1,0 +1,155 @@
+//! Lookups of the positions that the lines of a text tell.
+ghost use Rattle.std.specs.Prelude.{◌≡◌, ◌+◌, ◌-◌, ◌^◌, ◌<◌, ◌==◌, length, IfErr, IfSome, IsErrOf, IsTrue, MatchOption};
+ghost use Rattle.std.specs.List.{position};
+ghost use Rattle.lnt_files.specs.declared.halt.Halt.TheVariants as halt;
+ghost use Rattle.lnt_files.specs.Halts.{IsPrinting};
+ghost use Rattle.lnt_answers.specs.Lines.{TellsPosition};
+ghost use Rattle.lnt_spans.specs.declared.position.Position.{Position as Spec};
+
+use crate::lookup::print_lookup;
+use lnt_digits::{address, decimal};
+use lnt_files::{Halt, Status};
+use lnt_lines::Index;
+use lnt_spans::Position;
+use lnt_text::Quoted;
+use lnt_wire::Source;
+use std::alloc::Global;
+use std::io::Write;
+
+// How many bytes are asked of the lines at once. No less is held between the source and its reader, so that a pull is
+// one read.
+const BLOCK: usize = 1 << 16;
+
+/// Prints a line for each line of the text that the source has to give: what is answered at the position that it tells,
+/// as `print_lookup` prints it, or that it is bad.
+///
+/// A line is `ADDRESS` or `ADDRESS,N`, ended by a line feed, of which one carriage return before it is a part, or by the
+/// end of the text. Where N is left out, the operation index is `op`. What one read brought is answered, and the writer
+/// flushed, before the next read.
+///
+/// It answers `Done` where all lines tell positions, and else `No`. It stops by `Read` only where the source failed, and
+/// by `TooLong` only where it has more bytes than it may give: the lines before are then answered. It stops by `Write`
+/// where the writer failed, and by `Memory`. The caller sees to it that the number of the source's failures is below
+/// `u64::MAX`.
+pub fn print_addresses<T: Source, W: Write>(
+    alloc: Global,
+    index: &Index<'_>,
+    lines: &mut T,
+    op: u64,
+    out: &mut W,
+) -> Result<Status, Halt>
+    requires { T.failures lines.old < 2 ^ 64 - 1 }
+    ensures read { IsErrOf result halt.Read → T.failures lines.new ≡ T.failures lines.old + 1 }
+    ensures too_long { IsErrOf result halt.TooLong → IsTrue (T.too_long lines.new) }
+{
+    let mut block = vec![in alloc; 0; BLOCK]?;
+    let mut asked = Asked {
+        op,
+        line: Vec::new(alloc),
+        status: Status::Done,
+    };
+    loop {
+        let Ok(count) = lines.pull(&mut block) else {
+            return Err(Halt::Read);
+        };
+        if count == 0 {
+            break;
+        }
+        asked.answer_block(alloc, index, &block[..count], out)?;
+        out.flush()?;
+    }
+    if lines.too_long() {
+        return Err(Halt::TooLong);
+    }
+    if !asked.line.is_empty() {
+        asked.answer_line(alloc, index, out)?;
+    }
+    Ok(asked.status)
+}
+
+// What was asked so far.
+#[derive(Drop)]
+struct Asked {
+    // the operation index where a line tells none
+    op: u64,
+    // what came of the line at hand
+    line: Vec<u8>,
+    // whether all lines so far told positions
+    status: Status,
+}
+
+impl Asked {
+    // Answers the lines that end in a block, and keeps what comes behind them.
+    fn answer_block<W: Write>(
+        &mut self,
+        alloc: Global,
+        index: &Index<'_>,
+        block: &[u8],
+        out: &mut W,
+    ) -> Result<(), Halt>
+        ensures { IfErr result IsPrinting }
+    {
+        let mut rest = block;
+        while let Some(end) = rest.iter().position(|byte| *byte == b'\n') {
+            self.line.extend_from_slice(&rest[..end])?;
+            if self.line.last() == Some(&b'\r') {
+                self.line.pop();
+            }
+            self.answer_line(alloc, index, out)?;
+            rest = &rest[end + 1..];
+        }
+        self.line.extend_from_slice(rest)?;
+        Ok(())
+    }
+
+    // Answers the line at hand, and begins the next one.
+    fn answer_line<W: Write>(
+        &mut self,
+        alloc: Global,
+        index: &Index<'_>,
+        out: &mut W,
+    ) -> Result<(), Halt>
+        ensures { IfErr result IsPrinting }
+    {
+        match position_in(&self.line, self.op) {
+            Some(position) => {
+                print_lookup(alloc, index, position, out)?;
+            }
+            None => {
+                writeln!(out, "bad {}", Quoted(&self.line))?;
+                self.status = Status::No;
+            }
+        }
+        self.line.clear();
+        Ok(())
+    }
+}
+
+// The position that a line tells. None where it tells none.
+fn position_in(line: &[u8], op: u64) -> Option<Position>
+    ensures { MatchOption result ((position : Spec) → TellsPosition op line.now position → ⊥) (TellsPosition op line.now) }
+{
+    let Some(comma) = comma_in(line) else {
+        return Some(Position {
+            address: address(line)?,
+            op,
+        });
+    };
+    Some(Position {
+        address: address(&line[..comma])?,
+        op: decimal(&line[comma + 1..])?,
+    })
+}
+
+// The place of the first comma of a line.
+fn comma_in(line: &[u8]) -> Option<usize>
+    ensures place { result ≡ position (λ byte. byte == 44) line.now }
+    ensures within { IfSome result (λ comma. comma < length line.now) }
+{
+    for comma in 0..line.len() {
+        if line[comma] == b',' {
+            return Some(comma);
+        }
+    }
+    None
+}

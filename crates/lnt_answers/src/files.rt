@@ -1,0 +1,109 @@
+//! The files of a good section, as comma-separated values.
+ghost use Rattle.std.specs.Prelude.{◌≡◌, ◌++◌, IfErr, IfOk, OnOk, Some, false, string_bytes};
+ghost use Rattle.std.specs.Io.KnownBytes.{Appends};
+ghost use Rattle.csv.specs.Writing as csv;
+ghost use Rattle.lnt_files.specs.declared.halt.Halt.TheVariants.{Memory};
+ghost use Rattle.lnt_files.specs.declared.status.Status.TheVariants.{Done};
+ghost use Rattle.lnt_files.specs.Halts.{IsPrinting};
+ghost use Rattle.lnt_lines.specs.Indexed.{file_path_in, file_sum_in};
+ghost use Rattle.lnt_answers.specs.FileLines.{file_record, files_text, path_field, sum_field, unit_records};
+
+use csv::Writer;
+use lnt_files::{Halt, Status};
+use lnt_lines::Index;
+use std::alloc::Global;
+use std::io::Write;
+
+/// Prints a line with the names of the columns, `unit,file,path,md5`, and behind it a record for each file of each unit:
+/// the unit's offset and the file's index, from 0 on, as decimal numbers, the whole path, and the listed sum in
+/// hexadecimal, or nothing.
+///
+/// It answers `Done`. It stops by `Write` where the writer failed, and by `Memory`.
+pub fn print_files<W: Write>(alloc: Global, index: &Index<'_>, out: &mut W) -> Result<Status, Halt>
+    ensures done { IfOk result (λ status. status ≡ Done) }
+    ensures err { IfErr result IsPrinting }
+    ensures files { OnOk result (Appends (W.contents out.old) (W.contents out.new) (files_text index.now)) }
+{
+    writeln!(out, "unit,file,path,md5")?;
+    for unit in index.units() {
+        print_unit_files(alloc, index, *unit, out)?;
+    }
+    Ok(Status::Done)
+}
+
+// Prints the records of the files of a unit.
+fn print_unit_files<W: Write>(
+    alloc: Global,
+    index: &Index<'_>,
+    unit: u64,
+    out: &mut W,
+) -> Result<(), Halt>
+    ensures err { IfErr result IsPrinting }
+    ensures records { OnOk result (Appends (W.contents out.old) (W.contents out.new) (unit_records index.now unit)) }
+{
+    let mut records = Writer::from_writer(Vec::new(alloc));
+    for file in 0..index.file_count(unit) {
+        put_file(alloc, index, unit, file, &mut records)?;
+    }
+    let Ok(bytes) = records.into_inner() else {
+        return Err(Halt::Memory);
+    };
+    out.write_all(&bytes)?;
+    Ok(())
+}
+
+// Adds the record of a file.
+fn put_file(
+    alloc: Global,
+    index: &Index<'_>,
+    unit: u64,
+    file: u64,
+    records: &mut Writer<Vec<u8>>,
+) -> Result<(), Halt>
+    requires fields { csv.fields_written records.old ≡ 0 }
+    requires clean { csv.has_written records.old ≡ false }
+    requires setup { csv.writer_setup records.old ≡ csv.default_writer }
+    ensures err { IfErr result (λ halt. halt ≡ Memory) }
+    ensures record { OnOk result (Appends (csv.text_written (λ bytes. Some bytes.items) records.old) (csv.text_written (λ bytes. Some bytes.items) records.new) (file_record index.now unit file)) }
+    ensures fields { OnOk result (csv.fields_written records.new ≡ 0) }
+    ensures clean { OnOk result (csv.has_written records.new ≡ false) }
+    ensures setup { OnOk result (csv.writer_setup records.new ≡ csv.default_writer) }
+{
+    let path = path_of(alloc, index, unit, file)?;
+    let sum = sum_of(alloc, index, unit, file)?;
+    let unit = format!(in alloc; "{unit}")?;
+    let file = format!(in alloc; "{file}")?;
+    let fields = [
+        unit.as_bytes(),
+        file.as_bytes(),
+        path.as_slice(),
+        sum.as_bytes(),
+    ];
+    match records.write_fields(&fields) {
+        Ok(()) => Ok(()),
+        Err(_) => Err(Halt::Memory),
+    }
+}
+
+// The whole path of a file.
+fn path_of(alloc: Global, index: &Index<'_>, unit: u64, file: u64) -> Result<Vec<u8>, Halt>
+    ensures ok { IfOk result (λ path. path.items ≡ path_field (file_path_in index.now unit file)) }
+    ensures err { IfErr result (λ halt. halt ≡ Memory) }
+{
+    match index.path_of(alloc, unit, file) {
+        Ok(Some(path)) => Ok(path),
+        Ok(None) => Ok(Vec::new(alloc)),
+        Err(_) => Err(Halt::Memory),
+    }
+}
+
+// The listed sum of a file in hexadecimal digits, or nothing.
+fn sum_of(alloc: Global, index: &Index<'_>, unit: u64, file: u64) -> Result<String, Halt>
+    ensures ok { IfOk result (λ sum. string_bytes sum ≡ sum_field (file_sum_in index.now unit file)) }
+    ensures err { IfErr result (λ halt. halt ≡ Memory) }
+{
+    match index.listed(unit, file) {
+        Some(sum) => Ok(hex::encode(alloc, sum.as_slice())?),
+        None => Ok(String::new(alloc)),
+    }
+}

@@ -1,0 +1,40 @@
+//! Where the records of a table begin.
+use csv::{ByteRecord, ReaderBuilder};
+use lnt_text::Column;
+use std::alloc::Global;
+use std::io::Read;
+
+// The line of the text, counted from 1, in which a record of it begins. None where it isn't reached.
+pub(crate) fn line_of<R: Read + Drop>(alloc: Global, text: R, record: u64) -> Option<u64> {
+    let mut reader = ReaderBuilder::new()
+        .has_headers(false)
+        .flexible(true)
+        .from_reader(alloc, text);
+    let mut row = ByteRecord::new(alloc);
+    for _ in 0..record {
+        if !reader.read_byte_record(&mut row).ok()? {
+            return None;
+        }
+    }
+    if !reader.read_byte_record(&mut row).ok()? {
+        return None;
+    }
+    Some(row.position()?.line())
+}
+
+// The column with an index, counted from 0.
+pub(crate) fn column_at(index: u64) -> Column {
+    match index {
+        0 => Column::Low,
+        1 => Column::LowOp,
+        2 => Column::High,
+        3 => Column::HighOp,
+        4 => Column::Unit,
+        5 => Column::File,
+        6 => Column::Line,
+        7 => Column::Column,
+        8 => Column::IsStmt,
+        9 => Column::Isa,
+        _ => Column::Discriminator,
+    }
+}

@@ -1,0 +1,98 @@
+//! At which addresses the sequences of a section begin.
+ghost use Rattle.std.specs.Prelude.{◌-◌, ◌^◌, ◌<◌};
+
+use crate::marks::is_mark;
+use lnt_machine::{Machine, Row};
+use lnt_stream::{SectionReader, UnitBuffer};
+use lnt_unit::UnitView;
+use lnt_wire::{Order, Source};
+use std::alloc::Global;
+
+// At which addresses the sequences of a section begin, as far as that tells discarded code.
+#[derive(Clone, Copy)]
+pub(crate) struct Survey {
+    // the address that was told to be that of discarded code
+    dead: Option<u64>,
+    // whether a sequence begins there
+    pub(crate) begins_dead: bool,
+    // the first other address where linkers leave discarded code, at which a sequence begins, and how many begin there
+    pub(crate) mark: Option<u64>,
+    pub(crate) count: u64,
+}
+
+impl Survey {
+    fn new(dead: Option<u64>) -> Survey {
+        Survey {
+            dead,
+            begins_dead: false,
+            mark: None,
+            count: 0,
+        }
+    }
+
+    // Sees the first row of a sequence, in a unit with such addresses.
+    fn see(&mut self, row: &Row, address_size: u8) {
+        let address = row.address;
+        if self.dead == Some(address) {
+            self.begins_dead = true;
+            return;
+        }
+        if self.mark.is_none() && is_mark(address, address_size) {
+            self.mark = Some(address);
+        }
+        if self.mark == Some(address) {
+            self.count = self.count.saturating_add(1);
+        }
+    }
+
+    // Sees the sequences of a unit. None where its program doesn't run.
+    #[tactic(auto, using(lnt_machine::specs::Laws::Walks::step_allowed))]
+    fn see_unit(&mut self, unit: &UnitView<'_>) -> Option<()> {
+        let address_size = unit.header().address_size();
+        let mut machine = Machine::new(unit.header());
+        let mut open = false;
+        for op in unit.ops() {
+            let Ok(op) = op else {
+                return None;
+            };
+            let row = match machine.step(&op) {
+                Ok(Some(row)) => row,
+                Ok(None) => continue,
+                Err(_) => return None,
+            };
+            if !open {
+                self.see(&row, address_size);
+            }
+            open = !row.end_sequence;
+        }
+        Some(())
+    }
+}
+
+// The survey of the section that the source has to give. Where `all` isn't asked for, it ends at the first sequence of
+// discarded code. None where the section isn't read to its end.
+pub(crate) fn survey_of<R: Source>(
+    alloc: Global,
+    source: &mut R,
+    order: Order,
+    dead: Option<u64>,
+    all: bool,
+) -> Option<Survey>
+    requires { R.failures source.old < 2 ^ 64 - 1 }
+{
+    let mut survey = Survey::new(dead);
+    let mut reader = SectionReader::new(source, order);
+    let mut room = Vec::new(alloc);
+    while let Some(buffer) = reader.next_unit_in(room).ok()? {
+        see_buffer(alloc, &buffer, &mut survey)?;
+        if survey.begins_dead && !all {
+            return Some(survey);
+        }
+        room = buffer.into_bytes();
+    }
+    Some(survey)
+}
+
+fn see_buffer(alloc: Global, buffer: &UnitBuffer, survey: &mut Survey) -> Option<()> {
+    survey.see_unit(&UnitView::over(alloc, buffer).ok()?)
+}

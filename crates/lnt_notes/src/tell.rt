@@ -1,0 +1,265 @@
+//! Which notes there are to an answer.
+ghost use Rattle.std.specs.Prelude.{OnOk};
+ghost use Rattle.std.specs.Io.KnownBytes.{Appends};
+ghost use Rattle.lnt_text.specs.Notes.{note_line};
+
+use crate::lines::{column_at, line_of};
+use crate::look::look_of;
+use crate::marks::may_be_mark;
+use crate::survey::{Survey, survey_of};
+use crate::texts::strings_of;
+use crate::watched::Seen;
+use lnt_files::{Opener, source_of};
+use lnt_header::Which;
+use lnt_lines::{Index, No};
+use lnt_records::TableFault;
+use lnt_spans::{Position, Probes, SpanSource};
+use lnt_text::{Note, StringSection};
+use lnt_wire::Order;
+use std::alloc::Global;
+use std::io::{self, Write};
+
+/// What was given to judge a section.
+#[derive(Clone, Copy)]
+pub struct Given<'a> {
+    /// The file of the section.
+    pub section: &'a str,
+    /// The order of the bytes of its numbers.
+    pub order: Order,
+    /// The address at which sequences of dead code begin, where one is told.
+    pub dead: Option<u64>,
+    /// Whether `.debug_line_str` is given.
+    pub has_line_strings: bool,
+    /// Whether `.debug_str` is given.
+    pub has_strings: bool,
+}
+
+/// What a good section gives notes occasion for.
+#[derive(Clone, Copy)]
+pub struct Hints {
+    /// No sequence holds a position.
+    pub holds_nothing: bool,
+    /// An address that is held, at which linkers leave discarded code. A sequence may begin there.
+    pub mark: Option<u64>,
+    /// No sum is listed, and sums were asked for.
+    pub lists_no_sum: bool,
+}
+
+/// What a good section with this index gives notes occasion for, where sums weren't asked for.
+pub fn hints_of(index: &Index<'_>) -> Hints {
+    let first = index.spans().next_span();
+    let mark = match &first {
+        Some(span) if span.low.address == 0 => Some(0),
+        _ => held_mark(index),
+    };
+    Hints {
+        holds_nothing: first.is_none(),
+        mark,
+        lists_no_sum: false,
+    }
+}
+
+// The greatest addresses at which linkers leave discarded code, in 2, 4 and 8 bytes.
+const MARKS: [u64; 6] = [
+    0xfffe,
+    0xffff,
+    0xffff_fffe,
+    0xffff_ffff,
+    0xffff_ffff_ffff_fffe,
+    0xffff_ffff_ffff_ffff,
+];
+
+// The first of these addresses that a sequence holds, which doesn't hold the address before it.
+fn held_mark(index: &Index<'_>) -> Option<u64> {
+    for address in MARKS {
+        if holds(index, address) && !holds(index, address - 1) {
+            return Some(address);
+        }
+    }
+    None
+}
+
+fn holds(index: &Index<'_>, address: u64) -> bool {
+    let position = Position { address, op: 0 };
+    index.lookup(position, &mut Probes::new()).is_some()
+}
+
+/// Prints the line of a note.
+pub fn print_note<N: Write>(note: Note, notes: &mut N) -> io::Result<()>
+    ensures { OnOk result (Appends (N.contents notes.old) (N.contents notes.new) (note_line note)) }
+{
+    writeln!(notes, "linetab: note: {note}")
+}
+
+/// Prints the notes to a line of refusal, where the section was read in this order and its lines weren't judged.
+pub fn tell_refused<N: Write>(seen: &Seen, order: Order, notes: &mut N) -> io::Result<()> {
+    match look_of(seen, order) {
+        Some(look) => print_note(Note::NotRaw(look), notes),
+        None => Ok(()),
+    }
+}
+
+/// Prints the notes to what is wrong with a section.
+pub fn tell_bad<O: Opener, N: Write>(
+    alloc: Global,
+    no: &No,
+    seen: &Seen,
+    given: &Given<'_>,
+    opener: &mut O,
+    notes: &mut N,
+) -> io::Result<()> {
+    match *no {
+        No::Malformed(_) => tell_refused(seen, given.order, notes),
+        No::StringOutside(unit, which, _) => {
+            tell_strings(alloc, unit, which, given, opener, notes)
+        }
+        No::FileNumber { .. } | No::Falls { .. } => {
+            tell_dead(alloc, None, true, given, opener, notes)
+        }
+        No::Overlap { position, .. } => {
+            let address = Some(position.address).filter(|address| may_be_mark(*address));
+            tell_dead(alloc, address, true, given, opener, notes)
+        }
+        _ => Ok(()),
+    }
+}
+
+/// Prints the notes to a good section.
+pub fn tell_good<O: Opener, N: Write>(
+    alloc: Global,
+    hints: &Hints,
+    given: &Given<'_>,
+    opener: &mut O,
+    notes: &mut N,
+) -> io::Result<()> {
+    if hints.holds_nothing {
+        print_note(Note::HoldsNothing, notes)?;
+    }
+    if hints.lists_no_sum {
+        print_note(Note::NoSums, notes)?;
+    }
+    if hints.mark.is_some() || given.dead.is_some() {
+        tell_dead(
+            alloc,
+            hints.mark,
+            hints.mark.is_some(),
+            given,
+            opener,
+            notes,
+        )?;
+    }
+    Ok(())
+}
+
+// Prints the option that names the strings in which the texts of a table lie, where they weren't given.
+fn tell_strings<O: Opener, N: Write>(
+    alloc: Global,
+    unit: u64,
+    which: Which,
+    given: &Given<'_>,
+    opener: &mut O,
+    notes: &mut N,
+) -> io::Result<()> {
+    let Some(section) = strings_again(alloc, unit, which, given, opener) else {
+        return Ok(());
+    };
+    let is_given = match section {
+        StringSection::Line => given.has_line_strings,
+        StringSection::General => given.has_strings,
+    };
+    if is_given {
+        return Ok(());
+    }
+    print_note(Note::NoStrings(section), notes)
+}
+
+fn strings_again<O: Opener>(
+    alloc: Global,
+    unit: u64,
+    which: Which,
+    given: &Given<'_>,
+    opener: &mut O,
+) -> Option<StringSection> {
+    let reader = opener.reader_again(given.section)?;
+    let mut source = source_of(alloc, reader).ok()?;
+    strings_of(alloc, &mut source, given.order, unit, which)
+}
+
+// Prints what there is to say of sequences that begin where linkers leave discarded code. Where the section can't be read
+// again, an address that is known to be one stands for them.
+fn tell_dead<O: Opener, N: Write>(
+    alloc: Global,
+    known: Option<u64>,
+    all: bool,
+    given: &Given<'_>,
+    opener: &mut O,
+    notes: &mut N,
+) -> io::Result<()> {
+    let Some(survey) = survey_again(alloc, all, given, opener) else {
+        return match known {
+            Some(address) => print_note(Note::MaybeDead(None, address), notes),
+            None => Ok(()),
+        };
+    };
+    if let Some(address) = survey.mark {
+        print_note(Note::MaybeDead(Some(survey.count), address), notes)?;
+    }
+    match given.dead {
+        Some(address) if !survey.begins_dead => print_note(Note::NoneDead(address), notes),
+        _ => Ok(()),
+    }
+}
+
+fn survey_again<O: Opener>(
+    alloc: Global,
+    all: bool,
+    given: &Given<'_>,
+    opener: &mut O,
+) -> Option<Survey> {
+    let reader = opener.reader_again(given.section)?;
+    let mut source = source_of(alloc, reader).ok()?;
+    survey_of(alloc, &mut source, given.order, given.dead, all)
+}
+
+/// Prints the notes to a table that answers as a good section does, in the file of this name.
+pub fn tell_agreed<O: Opener, N: Write>(
+    alloc: Global,
+    given: &Given<'_>,
+    table: &str,
+    opener: &mut O,
+    notes: &mut N,
+) -> io::Result<()> {
+    if let Some(reader) = opener.reader_again(table) {
+        // A table without a span answers nothing.
+        if line_of(alloc, reader, 1).is_none() {
+            print_note(Note::HoldsNothing, notes)?;
+        }
+    }
+    if given.dead.is_some() {
+        tell_dead(alloc, None, false, given, opener, notes)?;
+    }
+    Ok(())
+}
+
+/// Prints the note to a fault of the table in the file of this name.
+pub fn tell_table<O: Opener, N: Write>(
+    alloc: Global,
+    fault: TableFault,
+    table: &str,
+    opener: &mut O,
+    notes: &mut N,
+) -> io::Result<()> {
+    let note = match fault {
+        TableFault::Header => Note::TableHeader,
+        TableFault::Fields(record) => Note::TableFields(line_again(alloc, record, table, opener)),
+        TableFault::Number(record, column) => {
+            Note::TableNumber(line_again(alloc, record, table, opener), column_at(column))
+        }
+        TableFault::Order(record) => Note::TableOrder(line_again(alloc, record, table, opener)),
+    };
+    print_note(note, notes)
+}
+
+fn line_again<O: Opener>(alloc: Global, record: u64, table: &str, opener: &mut O) -> Option<u64> {
+    line_of(alloc, opener.reader_again(table)?, record)
+}

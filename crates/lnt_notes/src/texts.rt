@@ -1,0 +1,60 @@
+//! In which section the texts of entries lie.
+ghost use Rattle.std.specs.Prelude.{◌-◌, ◌^◌, ◌<◌};
+
+use lnt_header::{Header, Pair, Which};
+use lnt_stream::{SectionReader, UnitBuffer};
+use lnt_text::StringSection;
+use lnt_unit::UnitView;
+use lnt_wire::{Form, Order, Source};
+use std::alloc::Global;
+
+// The content type of a path (DWARF 5, section 6.2.4.1).
+const PATH: u64 = 1;
+
+// The section in which the paths of a table lie, of the unit at an offset. None where they lie in none, or the unit isn't
+// reached.
+pub(crate) fn strings_of<R: Source>(
+    alloc: Global,
+    source: &mut R,
+    order: Order,
+    unit: u64,
+    which: Which,
+) -> Option<StringSection>
+    requires { R.failures source.old < 2 ^ 64 - 1 }
+{
+    let mut reader = SectionReader::new(source, order);
+    let mut room = Vec::new(alloc);
+    while let Some(buffer) = reader.next_unit_in(room).ok()? {
+        if buffer.offset() == unit {
+            return strings_in(alloc, &buffer, which);
+        }
+        room = buffer.into_bytes();
+    }
+    None
+}
+
+fn strings_in(alloc: Global, buffer: &UnitBuffer, which: Which) -> Option<StringSection> {
+    let view = UnitView::over(alloc, buffer).ok()?;
+    strings_by(format_of(view.header(), which))
+}
+
+fn format_of(header: &Header, which: Which) -> &[Pair] {
+    match which {
+        Which::Directories => header.directory_format(),
+        Which::Files => header.file_format(),
+    }
+}
+
+// The first component of a content type counts.
+fn strings_by(format: &[Pair]) -> Option<StringSection> {
+    for pair in format {
+        if pair.content == PATH {
+            return match pair.form {
+                Form::LineStrp => Some(StringSection::Line),
+                Form::Strp => Some(StringSection::General),
+                _ => None,
+            };
+        }
+    }
+    None
+}

@@ -1,0 +1,92 @@
+-- The texts of notes.
+use Rattle.std.specs.Prelude.{ℕ, List, [], ◌++◌, Option, None, Some, codes, decimal}
+use Rattle.lnt_wire.specs.declared.format.Order.TheVariants as order
+use Rattle.lnt_text.specs.declared.note.Argument.{Argument}
+use Rattle.lnt_text.specs.declared.note.Argument.TheVariants as argument
+use Rattle.lnt_text.specs.declared.note.Column.{Column}
+use Rattle.lnt_text.specs.declared.note.Column.TheVariants as column
+use Rattle.lnt_text.specs.declared.note.Look.{Look}
+use Rattle.lnt_text.specs.declared.note.Look.TheVariants.{Elf, Pe, MachO, Gzip, Zstd, CompressedSection, Text, InOrder}
+use Rattle.lnt_text.specs.declared.note.Note.{Note}
+use Rattle.lnt_text.specs.declared.note.Note.TheVariants.{Word, NotRaw, NoStrings, MaybeDead, NoneDead, HoldsNothing, NoSums, TableHeader, TableFields, TableNumber, TableOrder}
+use Rattle.lnt_text.specs.declared.note.StringSection.{StringSection}
+use Rattle.lnt_text.specs.declared.note.StringSection.TheVariants.{Line, General}
+use Rattle.lnt_text.specs.Texts.{hexadecimal}
+
+-- what an argument has to be
+abbrev pub argument_text : Argument → List ℕ
+argument_text argument.Address = codes "ADDRESS is 0x and 1 to 16 hexadecimal digits"
+argument_text argument.Op = codes "N of --op is 1 to 20 decimal digits, and below 2^64"
+argument_text argument.Dead = codes "ADDRESS of --dead is 0x and 1 to 16 hexadecimal digits"
+argument_text argument.Format = codes "--format is 32 or 64"
+argument_text argument.Order = codes "--order is little or big"
+
+-- what bytes look like, and what to do
+abbrev pub look_text : Look → List ℕ
+look_text Elf = codes "this looks like an ELF file; objcopy --decompress-debug-sections --dump-section .debug_line=FILE takes its section out"
+look_text Pe = codes "this looks like a PE file; objcopy --dump-section .debug_line=FILE takes its section out"
+look_text MachO = codes "this looks like a Mach-O file; llvm-objcopy --dump-section __DWARF,__debug_line=FILE takes its section out"
+look_text Gzip = codes "this looks like a file that gzip compressed; decompress it first"
+look_text Zstd = codes "this looks like a file that zstd compressed; decompress it first"
+look_text CompressedSection = codes "this looks like a compressed section; objcopy --decompress-debug-sections, with --dump-section, decompresses it"
+look_text Text = codes "this looks like text; a section is the raw bytes of .debug_line"
+look_text (InOrder order.Big) = codes "its length fits where the section is big-endian; try --big"
+look_text (InOrder order.Little) = codes "its length fits where the section is little-endian; leave out --big"
+
+-- which option is missing
+abbrev pub strings_text : StringSection → List ℕ
+strings_text Line = codes "its text lies in .debug_line_str, which wasn't given; --line-str FILE names that section's bytes"
+strings_text General = codes "its text lies in .debug_str, which wasn't given; --str FILE names that section's bytes"
+
+-- how many they are, where that is known
+abbrev pub count_text : Option ℕ → List ℕ
+count_text (Some count) = codes " (" ++ (decimal count ++ codes " of them)")
+count_text None = []
+
+-- how sequences that begin at an address are left out
+abbrev pub advice_text : ℕ → List ℕ
+advice_text address = codes "; --dead " ++ (hexadecimal address ++ codes " leaves them out")
+
+-- the line of the text where a record begins, where that is known
+abbrev pub line_text : Option ℕ → List ℕ
+line_text (Some line) = codes "line " ++ (decimal line ++ codes " of the table: ")
+line_text None = []
+
+-- what a column is called
+abbrev pub column_name : Column → List ℕ
+column_name column.Low = codes "low"
+column_name column.LowOp = codes "low_op"
+column_name column.High = codes "high"
+column_name column.HighOp = codes "high_op"
+column_name column.Unit = codes "unit"
+column_name column.File = codes "file"
+column_name column.Line = codes "line"
+column_name column.Column = codes "column"
+column_name column.IsStmt = codes "is_stmt"
+column_name column.Isa = codes "isa"
+column_name column.Discriminator = codes "discriminator"
+
+-- what it holds
+abbrev pub column_kind : Column → List ℕ
+column_kind column.Low = codes "0x and 1 to 16 hexadecimal digits"
+column_kind column.High = codes "0x and 1 to 16 hexadecimal digits"
+column_kind column.IsStmt = codes "0 or 1"
+column_kind _ = codes "1 to 20 decimal digits, and below 2^64"
+
+-- a note
+abbrev pub note_text : Note → List ℕ
+note_text (Word argument) = argument_text argument
+note_text (NotRaw look) = look_text look
+note_text (NoStrings section) = strings_text section
+note_text (MaybeDead count address) = codes "sequences begin at " ++ (hexadecimal address ++ (codes ", where linkers leave discarded code" ++ (count_text count ++ advice_text address)))
+note_text (NoneDead address) = codes "no sequence begins at " ++ (hexadecimal address ++ codes ", so --dead leaves nothing out")
+note_text HoldsNothing = codes "no sequence holds a position, so the section's table is empty; a relocatable object has to be linked first"
+note_text NoSums = codes "the section lists no MD5 sum, so nothing was compared"
+note_text TableHeader = codes "the table has to begin with low,low_op,high,high_op,unit,file,line,column,is_stmt or with this and ,isa,discriminator"
+note_text (TableFields line) = line_text line ++ codes "each record has as many fields as the header has names"
+note_text (TableNumber line which) = line_text line ++ (column_name which ++ (codes " is " ++ column_kind which))
+note_text (TableOrder line) = line_text line ++ codes "each span ends above its low, which isn't below the high of the span before"
+
+-- the line of a note, on standard error
+abbrev pub note_line : Note → List ℕ
+note_line note = codes "linetab: note: " ++ (note_text note ++ codes "\n")

@@ -1,0 +1,327 @@
+//! Notes: what helps a person, behind an answer that stays as it is.
+ghost use Rattle.std.specs.Prelude.{Some};
+ghost use Rattle.lnt_text.specs.Notes.{advice_text, argument_text, column_kind, column_name, count_text, line_text, look_text, note_text, strings_text};
+
+use lnt_wire::Order;
+use std::fmt;
+
+/// What helps a person. No answer and no status depends on it.
+#[derive(Clone, Copy, Debug, PartialEq, Eq)]
+pub enum Note {
+    /// A word isn't what this argument has to be.
+    Word(Argument),
+    /// The section isn't the raw bytes of one: it looks so.
+    NotRaw(Look),
+    /// The text of an entry lies in a section that wasn't given.
+    NoStrings(StringSection),
+    /// So many live sequences begin at this address, where linkers leave discarded code. None where they weren't counted.
+    MaybeDead(Option<u64>, u64),
+    /// No sequence begins at the address that was told to be that of discarded code.
+    NoneDead(u64),
+    /// No sequence of the good section holds a position.
+    HoldsNothing,
+    /// The good section lists no MD5 sum.
+    NoSums,
+    /// The table doesn't begin with a header.
+    TableHeader,
+    /// A record hasn't as many fields as its table has columns. It begins in this line of the text, where that is known.
+    TableFields(Option<u64>),
+    /// In this column, a record holds what isn't of its kind.
+    TableNumber(Option<u64>, Column),
+    /// The span of a record is empty, or begins below the end of the one before it.
+    TableOrder(Option<u64>),
+}
+
+/// An argument that not every word can be.
+#[derive(Clone, Copy, Debug, PartialEq, Eq)]
+pub enum Argument {
+    /// An address to look up.
+    Address,
+    /// The operation index of `--op`.
+    Op,
+    /// The address of `--dead`.
+    Dead,
+    /// The format of `--format`.
+    Format,
+    /// The byte order of `--order`.
+    Order,
+}
+
+/// What bytes look like that aren't those of a section.
+#[derive(Clone, Copy, Debug, PartialEq, Eq)]
+pub enum Look {
+    /// An ELF file.
+    Elf,
+    /// A PE file.
+    Pe,
+    /// A Mach-O file.
+    MachO,
+    /// A file that gzip compressed.
+    Gzip,
+    /// A file that zstd compressed.
+    Zstd,
+    /// A compressed section of an ELF file, with its header.
+    CompressedSection,
+    /// Text.
+    Text,
+    /// A section in this byte order, which isn't the one in which it was read.
+    InOrder(Order),
+}
+
+/// A section of strings.
+#[derive(Clone, Copy, Debug, PartialEq, Eq)]
+pub enum StringSection {
+    /// `.debug_line_str`
+    Line,
+    /// `.debug_str`
+    General,
+}
+
+/// A column of a table.
+#[derive(Clone, Copy, Debug, PartialEq, Eq)]
+pub enum Column {
+    /// The address of the first position.
+    Low,
+    /// Its operation index.
+    LowOp,
+    /// The address of the position behind the last.
+    High,
+    /// Its operation index.
+    HighOp,
+    /// The offset of the unit.
+    Unit,
+    /// The file.
+    File,
+    /// The line.
+    Line,
+    /// The column of the line.
+    Column,
+    /// Whether a statement begins there.
+    IsStmt,
+    /// The instruction set.
+    Isa,
+    /// The discriminator.
+    Discriminator,
+}
+
+impl fmt::Display for Note {
+    ghost output = { λ note. Some (note_text note) };
+
+    fn fmt<W: fmt::Write>(&self, f: &mut fmt::Formatter<W>) -> fmt::Result {
+        match *self {
+            Note::Word(argument) => write!(f, "{}", ArgumentText(argument)),
+            Note::NotRaw(look) => write!(f, "{}", LookText(look)),
+            Note::NoStrings(section) => write!(f, "{}", StringsText(section)),
+            Note::MaybeDead(count, address) => {
+                let (counted, advice) = (CountText(count), AdviceText(address));
+                write!(
+                    f,
+                    "sequences begin at 0x{address:x}, where linkers leave discarded code{counted}{advice}"
+                )
+            }
+            Note::NoneDead(address) => write!(
+                f,
+                "no sequence begins at 0x{address:x}, so --dead leaves nothing out"
+            ),
+            Note::HoldsNothing => write!(
+                f,
+                "no sequence holds a position, so the section's table is empty; a relocatable object has to be linked first"
+            ),
+            Note::NoSums => write!(f, "the section lists no MD5 sum, so nothing was compared"),
+            Note::TableHeader => write!(
+                f,
+                "the table has to begin with low,low_op,high,high_op,unit,file,line,column,is_stmt or with this and ,isa,discriminator"
+            ),
+            Note::TableFields(line) => write!(
+                f,
+                "{}each record has as many fields as the header has names",
+                LineText(line)
+            ),
+            Note::TableNumber(line, column) => write!(
+                f,
+                "{}{} is {}",
+                LineText(line),
+                ColumnName(column),
+                ColumnKind(column)
+            ),
+            Note::TableOrder(line) => write!(
+                f,
+                "{}each span ends above its low, which isn't below the high of the span before",
+                LineText(line)
+            ),
+        }
+    }
+}
+
+// What an argument has to be.
+#[derive(Clone, Copy)]
+struct ArgumentText(Argument);
+
+impl fmt::Display for ArgumentText {
+    ghost output = { λ text. Some (argument_text text.0) };
+
+    fn fmt<W: fmt::Write>(&self, f: &mut fmt::Formatter<W>) -> fmt::Result {
+        match self.0 {
+            Argument::Address => write!(f, "ADDRESS is 0x and 1 to 16 hexadecimal digits"),
+            Argument::Op => write!(f, "N of --op is 1 to 20 decimal digits, and below 2^64"),
+            Argument::Dead => write!(f, "ADDRESS of --dead is 0x and 1 to 16 hexadecimal digits"),
+            Argument::Format => write!(f, "--format is 32 or 64"),
+            Argument::Order => write!(f, "--order is little or big"),
+        }
+    }
+}
+
+// What bytes look like, and what to do.
+#[derive(Clone, Copy)]
+struct LookText(Look);
+
+impl fmt::Display for LookText {
+    ghost output = { λ text. Some (look_text text.0) };
+
+    fn fmt<W: fmt::Write>(&self, f: &mut fmt::Formatter<W>) -> fmt::Result {
+        match self.0 {
+            Look::Elf => write!(
+                f,
+                "this looks like an ELF file; objcopy --decompress-debug-sections --dump-section .debug_line=FILE takes its section out"
+            ),
+            Look::Pe => write!(
+                f,
+                "this looks like a PE file; objcopy --dump-section .debug_line=FILE takes its section out"
+            ),
+            Look::MachO => write!(
+                f,
+                "this looks like a Mach-O file; llvm-objcopy --dump-section __DWARF,__debug_line=FILE takes its section out"
+            ),
+            Look::Gzip => write!(
+                f,
+                "this looks like a file that gzip compressed; decompress it first"
+            ),
+            Look::Zstd => write!(
+                f,
+                "this looks like a file that zstd compressed; decompress it first"
+            ),
+            Look::CompressedSection => write!(
+                f,
+                "this looks like a compressed section; objcopy --decompress-debug-sections, with --dump-section, decompresses it"
+            ),
+            Look::Text => write!(
+                f,
+                "this looks like text; a section is the raw bytes of .debug_line"
+            ),
+            Look::InOrder(Order::Big) => write!(
+                f,
+                "its length fits where the section is big-endian; try --big"
+            ),
+            Look::InOrder(Order::Little) => {
+                write!(
+                    f,
+                    "its length fits where the section is little-endian; leave out --big"
+                )
+            }
+        }
+    }
+}
+
+// Which option is missing.
+#[derive(Clone, Copy)]
+struct StringsText(StringSection);
+
+impl fmt::Display for StringsText {
+    ghost output = { λ text. Some (strings_text text.0) };
+
+    fn fmt<W: fmt::Write>(&self, f: &mut fmt::Formatter<W>) -> fmt::Result {
+        match self.0 {
+            StringSection::Line => write!(
+                f,
+                "its text lies in .debug_line_str, which wasn't given; --line-str FILE names that section's bytes"
+            ),
+            StringSection::General => write!(
+                f,
+                "its text lies in .debug_str, which wasn't given; --str FILE names that section's bytes"
+            ),
+        }
+    }
+}
+
+// How many they are, where that is known.
+#[derive(Clone, Copy)]
+struct CountText(Option<u64>);
+
+impl fmt::Display for CountText {
+    ghost output = { λ text. Some (count_text text.0) };
+
+    fn fmt<W: fmt::Write>(&self, f: &mut fmt::Formatter<W>) -> fmt::Result {
+        match self.0 {
+            Some(count) => write!(f, " ({count} of them)"),
+            None => Ok(()),
+        }
+    }
+}
+
+// How sequences that begin at an address are left out.
+#[derive(Clone, Copy)]
+struct AdviceText(u64);
+
+impl fmt::Display for AdviceText {
+    ghost output = { λ text. Some (advice_text text.0) };
+
+    fn fmt<W: fmt::Write>(&self, f: &mut fmt::Formatter<W>) -> fmt::Result {
+        let address = self.0;
+        write!(f, "; --dead 0x{address:x} leaves them out")
+    }
+}
+
+// Where a record begins.
+#[derive(Clone, Copy)]
+struct LineText(Option<u64>);
+
+impl fmt::Display for LineText {
+    ghost output = { λ text. Some (line_text text.0) };
+
+    fn fmt<W: fmt::Write>(&self, f: &mut fmt::Formatter<W>) -> fmt::Result {
+        match self.0 {
+            Some(line) => write!(f, "line {line} of the table: "),
+            None => Ok(()),
+        }
+    }
+}
+
+// What a column is called.
+#[derive(Clone, Copy)]
+struct ColumnName(Column);
+
+impl fmt::Display for ColumnName {
+    ghost output = { λ text. Some (column_name text.0) };
+
+    fn fmt<W: fmt::Write>(&self, f: &mut fmt::Formatter<W>) -> fmt::Result {
+        match self.0 {
+            Column::Low => write!(f, "low"),
+            Column::LowOp => write!(f, "low_op"),
+            Column::High => write!(f, "high"),
+            Column::HighOp => write!(f, "high_op"),
+            Column::Unit => write!(f, "unit"),
+            Column::File => write!(f, "file"),
+            Column::Line => write!(f, "line"),
+            Column::Column => write!(f, "column"),
+            Column::IsStmt => write!(f, "is_stmt"),
+            Column::Isa => write!(f, "isa"),
+            Column::Discriminator => write!(f, "discriminator"),
+        }
+    }
+}
+
+// What a column holds.
+#[derive(Clone, Copy)]
+struct ColumnKind(Column);
+
+impl fmt::Display for ColumnKind {
+    ghost output = { λ text. Some (column_kind text.0) };
+
+    fn fmt<W: fmt::Write>(&self, f: &mut fmt::Formatter<W>) -> fmt::Result {
+        match self.0 {
+            Column::Low | Column::High => write!(f, "0x and 1 to 16 hexadecimal digits"),
+            Column::IsStmt => write!(f, "0 or 1"),
+            _ => write!(f, "1 to 20 decimal digits, and below 2^64"),
+        }
+    }
+}

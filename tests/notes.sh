@@ -1,0 +1,186 @@
+#!/usr/bin/env bash
+# The notes on standard error: each kind of them, behind what is printed without them, and none with --quiet.
+cd "$(dirname "$0")/.." || exit 1
+. tests/check.bash
+program=$PWD/crates/linetab/out/linetab
+hello=(examples/hello.debug_line --line-str examples/hello.debug_line_str)
+truncated=$'no 25 malformed at 0x0: truncated\n'
+
+# notes NAME STATUS STDOUT STDERR NOTE WORD..: STDERR and behind it the note, and with --quiet STDERR alone. Standard
+# input is the file $input.
+input=/dev/null
+notes() {
+  expect_notes "$1" "$2" "$3" "$4linetab: note: $5"$'\n' "$program" "${@:6}" <"$input"
+  expect_notes "$1, quiet" "$2" "$3" "$4" "$program" "${@:6}" --quiet <"$input"
+}
+silent() { # NAME STATUS STDOUT WORD..: no note
+  expect_notes "$1" "$2" "$3" '' "$program" "${@:4}"
+}
+put() { # NAME DIGITS: a file of these bytes
+  (bytes "$2") >"$work/$1"
+}
+
+# ---- what isn't a raw section
+
+looks() { # NAME DIGITS STDOUT TEXT: what looks so, to words that judge a section and to those that don't
+  put section "$2"
+  local word
+  for word in units dump verify files table md5 'convert --format 32 --order big' 'lookup 0x0' "check examples/hello.csv"; do
+    set -- "$1" "$2" "$3" "$4" $word
+    case $5 in
+      lookup | check) notes "$1: $5" 1 "$3"$'\n' '' "$4" "$5" "$work/section" "$6" ;;
+      *) notes "$1: $5" 1 "$3"$'\n' '' "$4" "${@:5}" "$work/section" ;;
+    esac
+  done
+}
+zeros=$(printf '%048d' 0)
+malformed='no 25 malformed at 0x0: truncated'
+looks 'an ELF file' "7f454c4602010100$zeros" "$malformed" \
+  'this looks like an ELF file; objcopy --decompress-debug-sections --dump-section .debug_line=FILE takes its section out'
+looks 'a PE file' "4d5a900003000000$zeros" "$malformed" \
+  'this looks like a PE file; objcopy --dump-section .debug_line=FILE takes its section out'
+macho='this looks like a Mach-O file; llvm-objcopy --dump-section __DWARF,__debug_line=FILE takes its section out'
+for magic in feedface feedfacf cefaedfe cffaedfe cafebabe; do
+  put section "$magic$zeros"
+  notes "a Mach-O file, $magic" 1 "$truncated" '' "$macho" verify "$work/section"
+done
+looks 'a gzip file' "1f8b080000000000$zeros" "$malformed" \
+  'this looks like a file that gzip compressed; decompress it first'
+looks 'a zstd file' "28b52ffd2400$zeros" "$malformed" \
+  'this looks like a file that zstd compressed; decompress it first'
+compressed='this looks like a compressed section; objcopy --decompress-debug-sections, with --dump-section, decompresses it'
+looks 'a compressed section' "01000000000000009c0000000000000001000000000000007801$zeros" 'no 25 malformed at 0x4: truncated' "$compressed"
+for head in 02000000000000009c00000000000000010000000000000028b52ffd 010000009c00000001000000789c 000000010000009c0000000178da \
+  5a4c4942000000000000009c; do
+  put section "$head$zeros"
+  expect_notes "a compressed section, $head" 1 "$("$program" verify "$work/section" --quiet)"$'\n' "linetab: note: $compressed"$'\n' \
+    "$program" verify "$work/section"
+done
+printf 'void f(void);\n' >"$work/text"
+notes 'text' 1 "$truncated" '' 'this looks like text; a section is the raw bytes of .debug_line' verify "$work/text"
+notes 'a program' 1 "$truncated" '' 'this looks like an ELF file; objcopy --decompress-debug-sections --dump-section .debug_line=FILE takes its section out' \
+  check "$program" examples/hello.csv
+input=$program
+notes 'a program on standard input' 1 "$truncated" '' \
+  'this looks like an ELF file; objcopy --decompress-debug-sections --dump-section .debug_line=FILE takes its section out' units -
+input=/dev/null
+notes 'a little-endian section taken as big-endian' 1 "$truncated" '' \
+  'its length fits where the section is little-endian; leave out --big' verify "${hello[@]}" --big
+head -c 71 <(bytes "00000043$zeros$zeros$zeros") >"$work/big"
+notes 'a big-endian section taken as little-endian' 1 "$truncated" '' \
+  'its length fits where the section is big-endian; try --big' verify "$work/big"
+silent 'a cut section' 1 "$truncated" verify <(head -c 100 examples/hello.debug_line)
+
+# ---- strings
+
+line_strings="its text lies in .debug_line_str, which wasn't given; --line-str FILE names that section's bytes"
+for word in verify files table md5 'lookup 0x1137' 'check examples/hello.csv'; do
+  set -- $word
+  notes "no strings: $1" 1 $'no 28 string outside unit 0x0 directories entry 0\n' '' "$line_strings" "$1" examples/hello.debug_line "${@:2}"
+done
+silent 'strings that are too few' 1 $'no 28 string outside unit 0x0 directories entry 0\n' verify examples/hello.debug_line --line-str /dev/null
+# A unit whose directory is a string.
+put strp "4400000005000800 2a000000 010101fb0e0d 000101010100000001000001 01010e 01 00000000 020108020b02612e630000612e630000 0009020010000000000000 144b0202 000101"
+notes 'no general strings' 1 $'no 28 string outside unit 0x0 directories entry 0\n' '' \
+  "its text lies in .debug_str, which wasn't given; --str FILE names that section's bytes" verify "$work/strp"
+notes 'no general strings, with others' 1 $'no 28 string outside unit 0x0 directories entry 0\n' '' \
+  "its text lies in .debug_str, which wasn't given; --str FILE names that section's bytes" verify "$work/strp" --line-str examples/hello.debug_line_str
+
+# ---- discarded code
+
+sections=(examples/gc-sections.debug_line --line-str examples/gc-sections.debug_line_str)
+count=$("$program" dump --rows examples/gc-sections.debug_line |
+  awk '$1 == "unit" { begins = 1 } $1 == "row" { if (begins && $3 == "0x0") n++; begins = $9 ~ /e/ } END { print n }')
+overlap=$("$program" verify "${sections[@]}" --quiet)
+notes 'discarded code' 1 "$overlap"$'\n' '' \
+  "sequences begin at 0x0, where linkers leave discarded code ($count of them); --dead 0x0 leaves them out" verify "${sections[@]}"
+input=examples/gc-sections.debug_line
+notes 'discarded code on standard input' 1 "$overlap"$'\n' '' \
+  'sequences begin at 0x0, where linkers leave discarded code; --dead 0x0 leaves them out' verify - "${sections[@]:1}"
+input=/dev/null
+silent 'discarded code that is left out' 0 $'yes\n' verify "${sections[@]}" --dead 0x0
+notes 'no discarded code' 0 $'yes\n' '' 'no sequence begins at 0x0, so --dead leaves nothing out' verify "${hello[@]}" --dead 0x0
+notes 'no discarded code, checked' 0 $'yes\n' '' 'no sequence begins at 0x0, so --dead leaves nothing out' \
+  check "${hello[@]:0:1}" examples/hello.csv "${hello[@]:1}" --dead 0x0
+# One sequence, which begins at 0.
+put zero "4300000005000800 29000000 010101fb0e0d 000101010100000001000001 01010801 2f7300 020108020b02612e630000612e630000 0009020000000000000000 144b0202 000101"
+notes 'a good section with code at 0' 0 $'yes\n' '' \
+  'sequences begin at 0x0, where linkers leave discarded code (1 of them); --dead 0x0 leaves them out' verify "$work/zero"
+# One of four bytes before the end of the addresses, and one that would pass it.
+put last "4300000005000800 29000000 010101fb0e0d 000101010100000001000001 01010801 2f7300 020108020b02612e630000612e630000 000902feffffffffffffff 01020113 000101"
+notes 'a good section with code at the end' 0 $'yes\n' '' \
+  'sequences begin at 0xfffffffffffffffe, where linkers leave discarded code (1 of them); --dead 0xfffffffffffffffe leaves them out' verify "$work/last"
+put falls "4300000005000800 29000000 010101fb0e0d 000101010100000001000001 01010801 2f7300 020108020b02612e630000612e630000 000902ffffffffffffffff 144b0202 000101"
+notes 'code that passes the end' 1 $'no 31 falls unit 0x0 row 1\n' '' \
+  'sequences begin at 0xffffffffffffffff, where linkers leave discarded code (1 of them); --dead 0xffffffffffffffff leaves them out' verify "$work/falls"
+
+# ---- nothing held, no sums
+
+nothing="no sequence holds a position, so the section's table is empty; a relocatable object has to be linked first"
+printf 'low,low_op,high,high_op,unit,file,line,column,is_stmt\n' >"$work/table"
+notes 'nothing held' 0 $'yes\n' '' "$nothing" verify /dev/null
+notes 'nothing held, checked' 0 $'yes\n' '' "$nothing" check /dev/null "$work/table"
+notes 'nothing held, looked up' 0 $'0x0,0 none\n' '' "$nothing" lookup /dev/null 0x0
+notes 'nothing held, as a table' 0 "$(cat "$work/table")"$'\n' '' "$nothing" table /dev/null
+notes 'no sums' 0 '' '' 'the section lists no MD5 sum, so nothing was compared' md5 "${hello[@]}"
+silent 'sums' 1 $'unit 0 file 0 unreadable "/w/src/small/a.c"\n' md5 examples/hello-clang.debug_line --line-str examples/hello-clang.debug_line_str
+
+# ---- words
+
+word() { # WORD TEXT WORD..
+  notes "bad word: ${*:3}" 2 '' "linetab: bad word $1"$'\n' "${@:2}"
+}
+word 1137 'ADDRESS is 0x and 1 to 16 hexadecimal digits' lookup "${hello[@]}" 0x1137 1137
+word x 'N of --op is 1 to 20 decimal digits, and below 2^64' lookup "${hello[@]}" 0x1137 --op x
+word 0 'ADDRESS of --dead is 0x and 1 to 16 hexadecimal digits' verify "${hello[@]}" --dead 0
+word 16 '--format is 32 or 64' convert examples/hello.debug_line --format 16 --order big
+word x '--order is little or big' convert examples/hello.debug_line --format 32 --order x
+
+# ---- files that can't be read
+
+unread() { # NAME REASON WORD..
+  notes "can't be read: ${*:3}" 3 '' "linetab: cannot read $1"$'\n' "${@:2}"
+}
+unread none 'No such file or directory (os error 2)' verify none
+unread none 'No such file or directory (os error 2)' units none
+unread none 'No such file or directory (os error 2)' lookup "${hello[@]}" --addresses none
+unread none 'No such file or directory (os error 2)' check "${hello[@]:0:1}" none
+unread none 'No such file or directory (os error 2)' verify examples/hello.debug_line --str none
+unread tests 'Is a directory (os error 21)' verify tests
+unread tests 'Is a directory (os error 21)' files "${hello[@]}" --str tests
+expect_notes 'a second standard input' 3 '' $'linetab: cannot read -\n' "$program" lookup - --addresses -
+
+# ---- tables
+
+faulty() { # NAME STDOUT NOTE TEXT
+  printf "$4" >"$work/table"
+  notes "$1" 1 "$2"$'\n' '' "$3" check "${hello[@]:0:1}" "$work/table" "${hello[@]:1}"
+}
+names='low,low_op,high,high_op,unit,file,line,column,is_stmt'
+first=0x1129,0,0x1130,0,0,1,1,27,1
+second=0x1130,0,0x1137,0,0,1,1,36,1
+header="the table has to begin with $names or with this and ,isa,discriminator"
+faulty 'no header' 'no 36 table header' "$header" ''
+faulty 'another header' 'no 36 table header' "$header" "$first\n"
+faulty 'too few fields' 'no 37 table fields record 2' 'line 3 of the table: each record has as many fields as the header has names' "$names\n$first\n0x1130,0\n"
+decimal='1 to 20 decimal digits, and below 2^64'
+faulty 'a low that is no address' 'no 38 table number record 1 column 0' 'line 2 of the table: low is 0x and 1 to 16 hexadecimal digits' "$names\n1129${first#0x1129}\n"
+for ((column = 0; column < 9; column++)); do
+  IFS=, read -ra fields <<<"$second"
+  IFS=, read -ra titles <<<"$names"
+  fields[column]=x
+  case $column in
+    0 | 2) kind='0x and 1 to 16 hexadecimal digits' ;;
+    8) kind='0 or 1' ;;
+    *) kind=$decimal ;;
+  esac
+  faulty "a bad ${titles[column]}" "no 38 table number record 2 column $column" "line 3 of the table: ${titles[column]} is $kind" \
+    "$names\n$first\n$(IFS=,; echo "${fields[*]}")\n"
+done
+faulty 'a bad isa' 'no 38 table number record 1 column 9' "line 2 of the table: isa is $decimal" "$names,isa,discriminator\n$first,x,0\n"
+faulty 'a bad discriminator' 'no 38 table number record 1 column 10' "line 2 of the table: discriminator is $decimal" "$names,isa,discriminator\n$first,0,x\n"
+faulty 'spans in disorder' 'no 39 table order record 2' "line 3 of the table: each span ends above its low, which isn't below the high of the span before" "$names\n$second\n$first\n"
+faulty 'a field of two lines' 'no 38 table number record 3 column 1' "line 4 of the table: low_op is $decimal" "$names\n\"0x1129\",0,0x1130,0,0,1,1,27,1\n$second\n0x1137,\"x\n\",0x1139,0,0,1,1,50,1\n"
+input=$work/table
+notes 'a table on standard input' 1 $'no 38 table number record 3 column 1\n' '' "low_op is $decimal" check "${hello[@]:0:1}" - "${hello[@]:1}"
+finish
