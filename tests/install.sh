@@ -12,12 +12,12 @@ hello=(examples/hello.debug_line examples/hello.csv --line-str examples/hello.de
 here() {
   command -v "$1" >/dev/null || { echo "skipped: $1 isn't here"; return 1; }
 }
-# The words of the help, and the options of one of them, each on a line, in order.
+# The words of the help, and the options of one of them, or of none, each on a line, in order.
 words() {
   "$linetab" --help | sed -n '/^Commands:/,/^$/s/^  \([a-z0-9]*\) .*/\1/p' | sort
 }
-options() { # WORD
-  "$linetab" "$1" --help | sed -nE 's/^ +(-[a-z], )?(--[a-z0-9-]+).*/\2/p' | sort
+options() { # [WORD]
+  "$linetab" $1 --help | sed -nE 's/^ +(-[a-zA-Z], )?(--[a-z0-9-]+).*/\2/p' | sort
 }
 # Both are the same, and not empty.
 same() { # NAME WANTED GIVEN
@@ -29,18 +29,22 @@ expect 'no prefix' 2 '' $'usage: ./install PREFIX\n' ./install
 expect 'the program' 0 $'yes\n' '' "$linetab" check "${hello[@]}"
 python3 tests/images.py elf64 "$work/app" .debug_line=examples/hello.debug_line .debug_line_str=examples/hello.debug_line_str
 expect 'linetab-object beside it' 0 $'yes\n' '' "$prefix/bin/linetab-object" check "$work/app" examples/hello.csv
-expect 'by a link' 0 $'yes\n' '' bash -c 'ln -s "$0/bin/linetab-object" "$1/link" && "$1/link" check "$1/app" examples/hello.csv' "$prefix" "$work"
+expect 'by a link' 0 $'yes\n' '' \
+  bash -c 'ln -s "$0/bin/linetab-object" "$1/link" && "$1/link" check "$1/app" examples/hello.csv' "$prefix" "$work"
 expect 'no file that all may write' 0 '' '' find "$prefix" -perm /022
-expect 'licences' 0 '' '' bash -c 'for file in LICENSE-APACHE LICENSE-MIT; do cmp $file "$0/share/doc/linetab/$file" || exit; done' "$prefix"
+expect 'licences' 0 '' '' \
+  bash -c 'for file in LICENSE-APACHE LICENSE-MIT; do cmp $file "$0/share/doc/linetab/$file" || exit; done' "$prefix"
 
 manual() {
   local page=$prefix/share/man/man1/linetab.1 word
   same 'the words of the man page' "$(words | grep -vx help)" "$(sed -n 's/^\.SS //p' "$page" | sort)"
   for word in $(words | grep -vx help); do
     same "the options of $word in the man page" "$(options "$word")" \
-      "$(awk -v word="$word" '$1 == ".SS" { on = $2 == word } on && $1 == ".B"' "$page" | sed 's/\\-/-/g' | grep -oE -- '--[a-z0-9-]+' | sort)"
+      "$(awk -v word="$word" '/^\.S/ { on = $1 == ".SS" && $2 == word } on && $1 == ".B"' "$page" | sed 's/\\-/-/g' |
+        grep -oE -- '--[a-z0-9-]+' | sort)"
   done
-  expect 'the exit statuses are those of README.md' 0 '' '' grep -qxF "$(grep '^The exit status is' README.md | tr -d '`')" "$page"
+  same 'the exit statuses are those of README.md' "$(grep '^The exit status is' README.md | tr -d '`')" \
+    "$(sed -n 's/\\-/-/g; /^The exit status is/p' "$page")"
   here mandoc || return
   expect 'man pages without faults' 0 '' '' mandoc -T lint -W error "$page" "$prefix/share/man/man1/linetab-object.1"
 }
@@ -49,12 +53,14 @@ in_bash() {
   local file=$prefix/share/bash-completion/completions/linetab word
   # What is offered behind these words.
   offered() {
-    bash -c 'complete() { :; }; . "$0"; COMP_WORDS=("$@") COMP_CWORD=$(($# - 1)); _linetab; printf "%s\n" "${COMPREPLY[@]}" | sort' "$file" "$@"
+    bash -c 'complete() { :; }; . "$0"; COMP_WORDS=("$@") COMP_CWORD=$(($# - 1)); _linetab
+      printf "%s\n" "${COMPREPLY[@]}" | sort' "$file" "$@"
   }
   same 'words in bash' "$(words)" "$(offered linetab '' | grep -v '^-')"
   for word in $(words | grep -vx help); do
     same "the options of $word in bash" "$(options "$word")" "$(offered linetab "$word" --)"
   done
+  same 'options without a word in bash' "$(options)" "$(offered linetab --)"
   same 'the beginning of a word in bash' convert "$(offered linetab con)"
   same 'a choice in bash' $'32\n64' "$(offered linetab convert --format '')"
   same 'for linetab-object in bash' $'--format\n--help\n--order' "$(offered linetab-object convert file -- | grep -vxE -- '--(big|quiet)')"
@@ -73,6 +79,7 @@ in_fish() {
   for word in $(words | grep -vx help); do
     same "the options of $word in fish" "$(options "$word")" "$(offered "linetab $word --")"
   done
+  same 'options without a word in fish' "$(options)" "$(offered 'linetab --')"
   same 'a choice in fish' $'big\nlittle' "$(offered 'linetab convert --order ')"
   same 'words of linetab-object in fish' "$(words)" "$(offered 'linetab-object ')"
 }
@@ -91,6 +98,9 @@ in_zsh() {
   for word in $(words | grep -vx help); do
     same "the options of $word in zsh" "$(options "$word")" "$(offered linetab "$word" '')"
   done
+  same 'options without a word in zsh' "$(options)" \
+    "$(zsh -fc 'compadd() { shift; print -l -- $@ }; PREFIX=-; words=(linetab -); CURRENT=2; . $1' zsh \
+      "$prefix/share/zsh/site-functions/_linetab" | sort)"
   expect 'its commands in zsh' 0 $'_linetab _linetab\n' '' zsh -fc 'fpath=($1 $fpath); autoload -Uz compinit; compinit -D -u
     print $_comps[linetab] $_comps[linetab-object]' zsh "$prefix/share/zsh/site-functions"
 }
@@ -100,7 +110,8 @@ release() {
   name=linetab-$(<VERSION)-x86_64-linux
   mkdir "$work/one" "$work/two" "$work/unpacked"
   expect 'an archive' 0 "$name.tar.gz"$'\n' '' bash -c './release "$0" | cut -c 67-' "$work/one"
-  expect 'the same by another umask' 0 '' '' bash -c 'umask 077; ./release "$1" >/dev/null && cmp "$0" "$1/${0##*/}"' "$work/one/$name.tar.gz" "$work/two"
+  expect 'the same by another umask' 0 '' '' \
+    bash -c 'umask 077; ./release "$1" >/dev/null && cmp "$0" "$1/${0##*/}"' "$work/one/$name.tar.gz" "$work/two"
   expect 'its sum' 0 "$name.tar.gz: OK"$'\n' '' bash -c 'cd "$0" && sha256sum -c "$1.tar.gz.sha256"' "$work/one" "$name"
   expect 'the same as under a prefix' 0 '' '' bash -c 'tar xzf "$0" -C "$1/unpacked" && diff -r "$1/unpacked/$2" "$1/prefix"' \
     "$work/one/$name.tar.gz" "$work" "$name"
@@ -111,7 +122,8 @@ release() {
   for file in $(ldd "$linetab" | grep -oE '/[^ ]+'); do
     mkdir -p "$root${file%/*}" && cp -L "$file" "$root$file"
   done
-  expect 'what it is linked with' 0 $'ld-linux-x86-64.so.2\nlibc.so.6\n' '' bash -c 'cd "$0" && find . -name "*.so*" | sed "s,.*/,," | sort' "$root"
+  expect 'what it is linked with' 0 $'ld-linux-x86-64.so.2\nlibc.so.6\n' '' \
+    bash -c 'cd "$0" && find . -name "*.so*" | sed "s,.*/,," | sort' "$root"
   "${enter[@]}" "$root" /opt/bin/linetab --help >"$work/help" 2>&1 || [ -s "$work/help" ] && ! grep -q '^Usage' "$work/help" &&
     { echo "skipped: no other root can be entered"; return; }
   expect 'under a bare root' 0 $'yes\n' '' "${enter[@]}" "$root" /opt/bin/linetab check "${hello[@]}"
