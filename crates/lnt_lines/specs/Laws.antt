@@ -47,8 +47,10 @@ pub record HeadersOfUnits : Type 0 where
 -- Where none holds p, it answers nothing.
 pub record AnswersAsHolder : Type 0 where
   pub one_alone : (line general : List ℕ) (options : Options) (section : List ℕ) (units : List (ℕ × Parts)) (one other : Placed) (p : Position) → IsGood line general options section units
-      → Contains (live_sequences options.dead units) one → Contains (live_sequences options.dead units) other → Holds one.rows p → Holds other.rows p → one ≡ other
-  pub held : (line general : List ℕ) (options : Options) (section : List ℕ) (units : List (ℕ × Parts)) (placed : Placed) (p : Position) → IsGood line general options section units
+      → Contains (live_sequences options.dead units) one → Contains (live_sequences options.dead units) other → Holds one.rows p
+      → Holds other.rows p → one ≡ other
+  pub held : (line general : List ℕ) (options : Options) (section : List ℕ) (units : List (ℕ × Parts)) (placed : Placed) (p : Position)
+      → IsGood line general options section units
       → Contains (live_sequences options.dead units) placed → Holds placed.rows p
       → (row : Row) × IsLastAt p placed.rows row × (line_answer options.dead units p ≡ Some (answer_of placed.id.unit row))
   pub none : (dead : Option ℕ) (units : List (ℕ × Parts)) (p : Position)
@@ -61,5 +63,6 @@ AreMalformed one other = (fault : Fault) × (other_fault : Fault) × (one ≡ Ma
 -- Of one section, under one choice of options, at most one reason is true; but which fault is told of bytes in which no unit was found
 -- isn't said.
 pub record OneNo : Type 0 where
-  pub one : (line general : List ℕ) (options : Options) (section : List ℕ) (one other : No) → IsTrueNo line general options section one → IsTrueNo line general options section other
+  pub one : (line general : List ℕ) (options : Options) (section : List ℕ) (one other : No) → IsTrueNo line general options section one
+      → IsTrueNo line general options section other
       → (one ≡ other) ⊎ AreMalformed one other

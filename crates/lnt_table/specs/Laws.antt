@@ -26,7 +26,8 @@ AreMalformed one other = (fault : Fault) × (other_fault : Fault) × (one ≡ No
 -- Of one section, table and choice of options at most one verdict is true; but which fault is told of bytes in which no unit was found
 -- isn't said.
 pub record OneVerdict : Type 0 where
-  pub one : (line general : List ℕ) (options : Options) (section table : List ℕ) (one other : Verdict) → IsTrueVerdict line general options section table one
+  pub one : (line general : List ℕ) (options : Options) (section table : List ℕ) (one other : Verdict)
+      → IsTrueVerdict line general options section table one
       → IsTrueVerdict line general options section table other → (one ≡ other) ⊎ AreMalformed one other
 
 -- Of a good section, and a table that was written of its lines, no verdict is true but Yes.
