@@ -1,4 +1,4 @@
--- The records of files, one after another.
+-- Texts of items, one after another.
 use Rattle.std.proofs.Common.{◌≡◌, ◌∙◌, ℕ, ◌+◌, ◌<◌, ◌≤◌, List, [], ◌∷◌, ◌++◌, append-nil, length, get_or, take, Option, ap, append_assoc, sym, subst}
 use Rattle.std.specs.List.{flat_map}
 use Rattle.std.specs.Io.KnownBytes.{Appends}
@@ -7,17 +7,17 @@ use Rattle.std.proofs.lemmas.List.{take_all, take_more}
 use Rattle.std.proofs.lemmas.List.Concat.{flat_map-append}
 
 -- with one item more, its text is added
-text_of_more : (f : ℕ → List ℕ) (items : List ℕ) (i d : ℕ) → i < length items → flat_map f (take (i + 1) items) ≡ flat_map f (take i items) ++ f (get_or items i d)
+text_of_more : {X : Type 0} (f : X → List ℕ) (items : List X) (i : ℕ) (d : X) → i < length items → flat_map f (take (i + 1) items) ≡ flat_map f (take i items) ++ f (get_or items i d)
 text_of_more f items i d lt =
     ap (flat_map f) (take_more items i d lt) ∙ flat_map-append f (take i items) (get_or items i d ∷ []) ∙ ap (λ text. flat_map f (take i items) ++ text) (append-nil (f (get_or items i d)))
 
 -- a writer that has gained a head and the texts of some items gains the text of one more
-pub gained_more : (f : ℕ → List ℕ) (head : List ℕ) (items : List ℕ) (i d : ℕ) (a b c : Option (List ℕ)) → i < length items
+pub gained_more : {X : Type 0} (f : X → List ℕ) (head : List ℕ) (items : List X) (i : ℕ) (d : X) (a b c : Option (List ℕ)) → i < length items
     → Appends a b (head ++ flat_map f (take i items)) → Appends b c (f (get_or items i d)) → Appends a c (head ++ flat_map f (take (i + 1) items))
 gained_more f head items i d a b c lt before here =
     subst (Appends a c) (append_assoc head (flat_map f (take i items)) (f (get_or items i d)) ∙ ap (λ text. head ++ text) (sym (text_of_more f items i d lt)))
     (Appends-trans a b c (head ++ flat_map f (take i items)) (f (get_or items i d)) before here)
 
 -- all items
-pub gained_all : (f : ℕ → List ℕ) (head : List ℕ) (items : List ℕ) (i : ℕ) (a b : Option (List ℕ)) → length items ≤ i → Appends a b (head ++ flat_map f (take i items)) → Appends a b (head ++ flat_map f items)
-gained_all f head items i a b le gained = subst (λ (all : List ℕ). Appends a b (head ++ flat_map f all)) (take_all i items le) gained
+pub gained_all : {X : Type 0} (f : X → List ℕ) (head : List ℕ) (items : List X) (i : ℕ) (a b : Option (List ℕ)) → length items ≤ i → Appends a b (head ++ flat_map f (take i items)) → Appends a b (head ++ flat_map f items)
+gained_all f head items i a b le gained = subst (λ all. Appends a b (head ++ flat_map f all)) (take_all i items le) gained

@@ -10,7 +10,11 @@ use Rattle.lnt_lines.specs.declared.stop.Stop.{Stop}
 use Rattle.lnt_lines.specs.declared.stop.Stop.TheVariants as stop
 use Rattle.lnt_lines.specs.declared.section.JudgedIndex.{JudgedIndex}
 use Rattle.lnt_lines.specs.declared.section.JudgedIndex.TheVariants.{Good, Bad}
+use Rattle.lnt_unit.specs.declared.unit.Parts.{Parts}
+use Rattle.lnt_rows.specs.Sequences.{line_answer}
+use Rattle.lnt_lines.specs.Indexed.{file_path_in, Indexed}
 use Rattle.lnt_digits.specs.Digits.{IsAddress, IsDecimal}
+use Rattle.lnt_text.specs.Quotes.{quoted_text}
 use Rattle.lnt_text.specs.Texts.{position_text}
 use Rattle.lnt_answers.specs.Texts.{no_text}
 
@@ -45,6 +49,20 @@ place_text position answer = position_text position ++ (codes " unit " ++ (decim
 
 abbrev pub row_text : Answer → List ℕ
 row_text answer = codes "line " ++ (decimal answer.line ++ (codes " column " ++ (decimal answer.column ++ (codes " stmt " ++ decimal (if answer.is_stmt then 1 else 0)))))
+
+-- the path of the file behind it, if it is there
+abbrev pub path_text : Option (List ℕ) → List ℕ
+path_text (Some path) = codes " path " ++ (quoted_text path ++ codes "\n")
+path_text None = codes "\n"
+
+-- the line of what is answered at a position
+abbrev pub answer_line : Indexed → Position → Option Answer → List ℕ
+answer_line index position None = none_text position
+answer_line index position (Some answer) = (place_text position answer ++ row_text answer) ++ path_text (file_path_in index answer.unit answer.file)
+
+-- the line of what live sequences answer at a position
+abbrev pub lookup_line : Indexed → Option ℕ → List (ℕ × Parts) → Position → List ℕ
+lookup_line index dead units position = answer_line index position (line_answer dead units position)
 
 -- What a line with its first comma at such a place tells: an address, and behind the comma an operation index. Without a
 -- comma it tells an address, and the operation index is that of all such lines.

@@ -1,13 +1,13 @@
 //! What is answered at a position.
-ghost use Rattle.std.specs.Prelude.{◌≡◌, ℕ, List, ◌++◌, Option, IfErr, IfOk, None, OnOk};
+ghost use Rattle.std.specs.Prelude.{◌≡◌, ℕ, List, ◌++◌, Option, IfErr, IfOk, OnOk, Some};
 ghost use Rattle.std.specs.Io.KnownBytes.{Appends};
 ghost use Rattle.lnt_files.specs.declared.halt.Halt.TheVariants.{Write};
 ghost use Rattle.lnt_files.specs.declared.status.Status.TheVariants.{Done};
 ghost use Rattle.lnt_unit.specs.declared.unit.Parts.{Parts};
-ghost use Rattle.lnt_rows.specs.Sequences.{line_answer};
 ghost use Rattle.lnt_lines.specs.Indexed.{IsIndexOf};
 ghost use Rattle.lnt_files.specs.Halts.{IsPrinting};
-ghost use Rattle.lnt_answers.specs.Lines.{none_text, place_text, row_text};
+ghost use Rattle.std.specs.List.{flat_map};
+ghost use Rattle.lnt_answers.specs.Lines.{answer_line, lookup_line, place_text, row_text};
 
 use crate::judge::halt_of;
 use lnt_files::{Halt, Status};
@@ -28,19 +28,34 @@ pub fn print_lookup<W: Write>(
 ) -> Result<Status, Halt>
     ensures done { IfOk result (λ status. status ≡ Done) }
     ensures err { IfErr result (λ halt. IsPrinting halt) }
-    ensures none { (dead : Option ℕ) (units : List (ℕ × Parts)) → IsIndexOf dead units index.now → line_answer dead units position ≡ None → OnOk result (Appends (W.contents out.old) (W.contents out.new) (none_text position)) }
+    ensures line { (dead : Option ℕ) (units : List (ℕ × Parts)) → IsIndexOf dead units index.now → OnOk result (Appends (W.contents out.old) (W.contents out.new) (lookup_line index.now dead units position)) }
 {
     let Some(answer) = index.lookup(position, &mut Probes::new()) else {
         writeln!(out, "{} none", PositionText(position))?;
         return Ok(Status::Done);
     };
-    print_answer(position, &answer, out)?;
+    print_answered(alloc, index, position, &answer, out)?;
+    Ok(Status::Done)
+}
+
+// Prints the line of an answer at the position.
+fn print_answered<W: Write>(
+    alloc: Global,
+    index: &Index<'_>,
+    position: Position,
+    answer: &Answer,
+    out: &mut W,
+) -> Result<(), Halt>
+    ensures err { IfErr result (λ halt. IsPrinting halt) }
+    ensures line { OnOk result (Appends (W.contents out.old) (W.contents out.new) (answer_line index.now position (Some answer.now))) }
+{
+    print_answer(position, answer, out)?;
     match index.path_of(alloc, answer.unit, answer.file) {
         Ok(Some(path)) => writeln!(out, " path {}", Quoted(&path))?,
         Ok(None) => writeln!(out)?,
         Err(stop) => return Err(halt_of(stop)),
     }
-    Ok(Status::Done)
+    Ok(())
 }
 
 /// Prints the lines of `print_lookup` at these positions, in their order. It ends as `print_lookup`.
@@ -52,6 +67,7 @@ pub fn print_lookups<W: Write>(
 ) -> Result<Status, Halt>
     ensures done { IfOk result (λ status. status ≡ Done) }
     ensures err { IfErr result (λ halt. IsPrinting halt) }
+    ensures lines { (dead : Option ℕ) (units : List (ℕ × Parts)) → IsIndexOf dead units index.now → OnOk result (Appends (W.contents out.old) (W.contents out.new) (flat_map (lookup_line index.now dead units) positions.now)) }
 {
     for position in positions {
         print_lookup(alloc, index, *position, out)?;

@@ -51,8 +51,17 @@ fn sections_judged(rt: HostRuntime) {
         )
     );
     assert!(rt; prints(alloc, &PLAIN, "linetab verify F", b"yes\n", Status::Done));
-    let lines = b"0x1005,0 unit 0 file 1 line 4 column 0 stmt 1 path \"/s/a.c\"\nbad \"x\"\n0x1000,0 unit 0 file 1 line 3 column 0 stmt 1 path \"/s/a.c\"\n";
-    assert!(rt; prints(alloc, &PLAIN, "linetab lookup F --addresses A", lines, Status::No));
+    let lines =
+        b"0x1005,0 unit 0 file 1 line 4 column 0 stmt 1 path \"/s/a.c\"\nbad \"x\"\n0x1000,0 unit 0 file 1 line 3 column 0 stmt 1 path \"/s/a.c\"\n";
+    assert!(rt;
+        prints(
+            alloc,
+            &PLAIN,
+            "linetab lookup F --addresses A",
+            lines,
+            Status::No
+        )
+    );
     let files = b"unit,file,path,md5\n0,0,/s/a.c,d41d8cd98f00b204e9800998ecf8427e\n";
     assert!(rt; prints(alloc, &LISTED, "linetab files F", files, Status::Done));
     let sum = b"unit 0 file 0 differs 900150983cd24fb0d6963f7d28e17f72 \"/s/a.c\"\n";

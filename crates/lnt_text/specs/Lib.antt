@@ -1,2 +1,3 @@
 pub mod Notes
+pub mod Quotes
 pub mod Texts

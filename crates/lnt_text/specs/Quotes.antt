@@ -1,0 +1,16 @@
+-- Texts between quotes.
+use Rattle.std.specs.Prelude.{ℕ, List, [], ◌∷◌, ◌++◌, ◌==◌, ◌||◌, ◌/◌, ◌%◌, Bool, codes, false, if◌then◌else◌, nat_lt}
+use Rattle.std.specs.List.{flat_map}
+use Rattle.std.specs.Fmt.{digits}
+
+-- whether a byte is written by its digits: it isn't printable, or it is a quote or a backslash
+abbrev pub is_escaped : ℕ → Bool
+is_escaped byte = nat_lt byte 32 || (nat_lt 126 byte || ((byte == 34) || (byte == 92)))
+
+-- a byte between the quotes
+abbrev pub quoted_byte : ℕ → List ℕ
+quoted_byte byte = if is_escaped byte then codes "\\x" ++ (digits 16 false (byte / 16) ++ digits 16 false (byte % 16)) else byte ∷ []
+
+-- a text with its quotes
+abbrev pub quoted_text : List ℕ → List ℕ
+quoted_text bytes = codes "\"" ++ (flat_map quoted_byte bytes ++ codes "\"")
