@@ -69,3 +69,8 @@ joined_all version pushed given None j o = rw (j.0, j.1) (record { in_order = tt
 joined_all version pushed given (Some last) j o =
     let all : AreInOrder (pushed ++ []) = subst AreInOrder (sym (append-nil pushed)) o in
     (record { in_order = j.order [] all; differ = j.differ }, λ p. j.same [] all p ∙ ap (λ (list : List Span). version_answer version list p) (append-nil pushed))
+
+-- what was given and what is kept, as a call tells them
+pub joined_so : (version : Version) (pushed given : List Span) (one result last kept : Option Span) → result ≡ one → last ≡ kept → HasJoined version pushed (given ++ cons_option one []) kept
+    → HasJoined version pushed (given ++ cons_option result []) last
+joined_so version pushed given one result last kept e f h = rw (e, f) h

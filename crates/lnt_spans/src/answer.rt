@@ -50,9 +50,21 @@ impl Answer {
     pub fn in_version(self, version: Version) -> Answer
         ensures { result ≡ in_version version self }
     {
-        match version {
-            Version::One => self.narrow(),
-            Version::Two => self,
+        // Field by field: a copy of the whole would copy what lies between the fields too, which costs as much again.
+        let more = match (version, self.more) {
+            (Version::Two, Some(more)) => Some(More {
+                isa: more.isa,
+                discriminator: more.discriminator,
+            }),
+            _ => None,
+        };
+        Answer {
+            unit: self.unit,
+            file: self.file,
+            line: self.line,
+            column: self.column,
+            is_stmt: self.is_stmt,
+            more,
         }
     }
 }

@@ -24,8 +24,9 @@ impl Span {
         ensures { result ≡ span_in_version version self }
     {
         Span {
+            low: self.low,
+            high: self.high,
             answer: self.answer.in_version(version),
-            ..self
         }
     }
 }
