@@ -67,7 +67,8 @@ impl<'a> Spans<'a> {
         next_span(self.unit, rows, &mut self.last)
     }
 
-    // Begins the next sequence, if there is one.
+    // Begins the next sequence, if there is one. It is in line, so that the state of a walk needn't lie in memory.
+    #[inline(always)]
     fn begin(&mut self) -> bool
         ensures same { (self.new.units ≡ self.old.units) × (self.new.programs ≡ self.old.programs) }
         ensures fewer { result ≡ true → most_left self.new < room_for (room_of self.old.programs) self.old.entries }
