@@ -53,6 +53,19 @@ impl<'a> Machine<'a> {
         }
     }
 
+    // Another machine that stands where this one does.
+    #[inline(always)]
+    pub(crate) fn fork(&self) -> Machine<'a>
+        ensures { result ≡ self.now }
+    {
+        Machine {
+            header: self.header,
+            registers: self.registers,
+            reciprocal: self.reciprocal,
+            count: self.count,
+        }
+    }
+
     /// Does an operation that the header admits, and gives the row that it makes.
     ///
     /// Whatever list of operations the machine stood after, it then stands after that list with this operation added,

@@ -72,7 +72,6 @@ impl<'a> Iterator for SequenceRows<'a> {
 }
 
 // The next row that the machine makes of the operations.
-#[tactic(auto, using(crate::proofs::WalkingLemmas::may_step))]
 #[inline(always)]
 fn next_row(machine: &mut Machine<'_>, ops: &mut Ops<'_>) -> Option<Row>
     requires { machine.old.header ≡ ops.old.header }
@@ -83,6 +82,24 @@ fn next_row(machine: &mut Machine<'_>, ops: &mut Ops<'_>) -> Option<Row>
     if let Some(row) = short_row(machine, ops) {
         return Some(row);
     }
+    // The machine and the walk aren't lent, so that they needn't lie in memory.
+    let mut own = machine.fork();
+    let mut ahead = ops.fork();
+    let row = any_row(&mut own, &mut ahead);
+    *machine = own;
+    *ops = ahead;
+    row
+}
+
+// The same, whatever operations come.
+#[tactic(auto, using(crate::proofs::WalkingLemmas::may_step))]
+#[inline(never)]
+fn any_row(machine: &mut Machine<'_>, ops: &mut Ops<'_>) -> Option<Row>
+    requires { machine.old.header ≡ ops.old.header }
+    ensures same { machine.new.header ≡ ops.new.header }
+    ensures shorter { IfSome result (λ row. length ops.new.at.rest < length ops.old.at.rest) }
+    ensures gives { (h : HeaderParts) (rows : List spec.Row) → HasRows h rows machine.old ops.old → GivesNext h rows result machine.new ops.new }
+{
     while let Some(op) = ops.next() {
         let Ok(op) = op else {
             return None;

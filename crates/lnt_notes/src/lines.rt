@@ -4,22 +4,30 @@ use lnt_text::Column;
 use std::alloc::Global;
 use std::io::Read;
 
-// The line of the text, counted from 1, in which a record of it begins. None where it isn't reached.
-pub(crate) fn line_of<R: Read + Drop>(alloc: Global, text: R, record: u64) -> Option<u64> {
+// The line of the text, counted from 1, in which a record of it begins; none where it has fewer records. The error is that
+// it can't be read so far, or that memory ran out.
+pub(crate) fn line_of<R: Read + Drop>(
+    alloc: Global,
+    text: R,
+    record: u64,
+) -> Result<Option<u64>, csv::Error> {
     let mut reader = ReaderBuilder::new()
         .has_headers(false)
         .flexible(true)
         .from_reader(alloc, text);
     let mut row = ByteRecord::new(alloc);
     for _ in 0..record {
-        if !reader.read_byte_record(&mut row).ok()? {
-            return None;
+        if !reader.read_byte_record(&mut row)? {
+            return Ok(None);
         }
     }
-    if !reader.read_byte_record(&mut row).ok()? {
-        return None;
+    if !reader.read_byte_record(&mut row)? {
+        return Ok(None);
     }
-    Some(row.position()?.line())
+    match row.position() {
+        Some(position) => Ok(Some(position.line())),
+        None => Ok(None),
+    }
 }
 
 // The column with an index, counted from 0.

@@ -231,7 +231,7 @@ pub fn tell_agreed<O: Opener, N: Write>(
 ) -> io::Result<()> {
     if let Some(reader) = opener.reader_again(table) {
         // A table without a span answers nothing.
-        if line_of(alloc, reader, 1).is_none() {
+        if let Ok(None) = line_of(alloc, reader, 1) {
             print_note(Note::HoldsNothing, notes)?;
         }
     }
@@ -261,5 +261,5 @@ pub fn tell_table<O: Opener, N: Write>(
 }
 
 fn line_again<O: Opener>(alloc: Global, record: u64, table: &str, opener: &mut O) -> Option<u64> {
-    line_of(alloc, opener.reader_again(table)?, record)
+    line_of(alloc, opener.reader_again(table)?, record).ok()?
 }

@@ -78,6 +78,19 @@ impl<'a> Ops<'a> {
         Ops::new(header, rest, place + skipped as u64)
     }
 
+    /// Another walk at the same place. A call that isn't in line works on it, so that this one needn't lie in memory.
+    #[inline(always)]
+    pub fn fork(&self) -> Ops<'a>
+        ensures { result ≡ self.now }
+    {
+        Ops {
+            header: self.header,
+            rest: self.rest,
+            end: self.end,
+            failed: self.failed,
+        }
+    }
+
     /// How many bytes are left.
     #[inline(always)]
     pub fn left(&self) -> usize
