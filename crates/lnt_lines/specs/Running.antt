@@ -32,7 +32,7 @@ are_some (row ∷ rows) = true
 -- What was run so far: the operations that the walk has given, whose rows the watch has seen. Those of sequences that have
 -- ended stand in sequences, of which the places are known. It is run by a header that needn't have its files: so many there are.
 pub record RanSoFar (dead : Option ℕ) (view : View) (files : ℕ) (old now : Collected) (walk : Walk) (machine : State) (watch : Watch) (is_open : Bool)
-  (places : List ℕ) (place : ℕ) : Type 0 where
+    (places : List ℕ) (place : ℕ) : Type 0 where
   pub ops : List Op
   pub given : HasGiven view ops walk
   pub few : length ops + length walk.at.rest ≤ length view.program
