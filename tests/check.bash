@@ -18,7 +18,7 @@ expect() {
   local name=$1 status=$2 out=$3 err=$4
   shift 4
   "$@" >"$work/out" 2>"$work/all"
-  compare "$name" "$status" "$?" "$out" "$err" <(sed '/^linetab: note: /d' "$work/all")
+  is_written "$name" "$status" "$?" "$out" "$err" <(sed '/^linetab: note: /d' "$work/all")
 }
 
 # expect_notes NAME STATUS STDOUT STDERR COMMAND..: the same with the notes, which are in STDERR too.
@@ -26,11 +26,11 @@ expect_notes() {
   local name=$1 status=$2 out=$3 err=$4
   shift 4
   "$@" >"$work/out" 2>"$work/all"
-  compare "$name" "$status" "$?" "$out" "$err" "$work/all"
+  is_written "$name" "$status" "$?" "$out" "$err" "$work/all"
 }
 
-# compare NAME STATUS GIVEN STDOUT STDERR FILE: what was written, STDERR to the file, and the status that was given.
-compare() {
+# is_written NAME STATUS GIVEN STDOUT STDERR FILE: what was written, STDERR to the file, and the status that was given.
+is_written() {
   local name=$1 status=$2 given=$3 out=$4 err=$5
   cat "$6" >"$work/err"
   printf '%s' "$out" >"$work/out.wanted"

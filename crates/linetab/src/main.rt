@@ -22,7 +22,7 @@ fn main(rt: HostRuntime) -> ExitCode {
             _ => rt.eprintln(stop),
         };
     }
-    let _ = rt.stderr().write_all(&notes);
+    let _ = rt.stderr().write_all(whole_lines(&notes));
     ExitCode::from(match ended {
         Ok(Status::Done) => 0,
         Ok(Status::No) => 1,
@@ -46,6 +46,15 @@ fn run_words(rt: &HostRuntime, notes: &mut Vec<u8>) -> Result<Status, CliStop> {
         return Err(CliStop::Write);
     }
     ended
+}
+
+// The lines that were written whole: want of memory may have cut the last one.
+fn whole_lines(notes: &[u8]) -> &[u8] {
+    let mut end = notes.len();
+    while end > 0 && notes[end - 1] != b'\n' {
+        end -= 1;
+    }
+    &notes[..end]
 }
 
 // The words of the process, which have to be UTF-8.

@@ -18,7 +18,8 @@ pub struct Span {
 }
 
 impl Span {
-    // The span with its answer as a version of the address table tells it.
+    /// The span with its answer as a version of the address table tells it: a table of the first version tells neither the
+    /// instruction set nor the discriminator.
     #[inline(always)]
     pub fn in_version(self, version: Version) -> Span
         ensures { result ≡ span_in_version version self }
