@@ -7,11 +7,12 @@ cd "$(dirname "$0")/.." || exit 1
 top=$PWD
 there=$work/there
 
-# A tool that a command needs isn't here.
+# A tool that a command needs, or that makes the file which it reads, isn't here.
 lacks() { # COMMAND
   local tool
   for tool in parallel make python3; do
-    [[ " $1" == *" $tool "* || $tool == python3 && $1 == *linetab-object* ]] && ! command -v "$tool" >/dev/null &&
+    [[ " $1" == *" $tool "* || $tool == python3 && $1 == *linetab-object* || $tool == parallel && $1 == *tables.log* ]] &&
+      ! command -v "$tool" >/dev/null &&
       echo "skipped: $tool isn't here: $1" && return
   done
   return 1
