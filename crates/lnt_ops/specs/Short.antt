@@ -1,9 +1,10 @@
 -- The operation that bytes begin with.
-use Rattle.std.specs.Prelude.{◌≡◌, ℕ, ◌≤◌, ℤ, pos, neg_ℤ, ◌≤ℤ◌, ◌<ℤ◌, List, [], ◌∷◌, length, take}
+use Rattle.std.specs.Prelude.{◌≡◌, ◌⊎◌, ℕ, ◌<◌, ◌≤◌, ℤ, pos, neg_ℤ, ◌≤ℤ◌, ◌<ℤ◌, List, [], ◌∷◌, get_or, length, take}
 use Rattle.lnt_wire.specs.Leb128.{signed_groups}
 use Rattle.lnt_header.specs.declared.header.HeaderParts.{HeaderParts}
 use Rattle.lnt_header.specs.declared.op.Op.{Op}
 use Rattle.lnt_header.specs.declared.view.OpView.{OpView}
+use Rattle.lnt_header.specs.declared.view.OpView.TheVariants.{Special, Copy, AdvancePc, AdvanceLine, SetFile, SetColumn, NegateStmt, ConstAddPc, SetDiscriminator}
 use Rattle.lnt_header.specs.OpRules.{Admits}
 use Rattle.lnt_header.specs.OpViews.{StandsFor}
 use Rattle.lnt_ops.specs.OpBytes.{OpBytes}
@@ -15,6 +16,37 @@ pub record IsFront (h : HeaderParts) (view : OpView) (size : ℕ) (bytes : List 
   pub admitted : Admits h op
   pub within : size ≤ length bytes
   pub spelled : OpBytes h op (take size bytes)
+
+-- An operation of a frequent kind whose operand is short takes so many bytes: one for the operand, or two where that is signed.
+abbrev pub IsShort : OpView → ℕ → Type 0
+IsShort (Special opcode) size = size ≡ 1
+IsShort Copy size = size ≡ 1
+IsShort (AdvancePc n) size = size ≡ 2
+IsShort (AdvanceLine z) size = (size ≡ 2) ⊎ (size ≡ 3)
+IsShort (SetFile n) size = size ≡ 2
+IsShort (SetColumn n) size = size ≡ 2
+IsShort NegateStmt size = size ≡ 1
+IsShort ConstAddPc size = size ≡ 1
+IsShort (SetDiscriminator n) size = size ≡ 4
+IsShort view size = ⊥
+
+-- No such operation begins the bytes.
+abbrev pub NoneShort : HeaderParts → List ℕ → Type 0
+NoneShort h bytes = (view : OpView) (size : ℕ) → IsShort view size → IsFront h view size bytes → ⊥
+
+-- ---- operands that aren't short
+
+-- no byte is there, or one that isn't the last of a number
+abbrev pub NoByte : List ℕ → Type 0
+NoByte operand = 0 < length operand → 128 ≤ get_or operand 0 0
+
+-- neither the first byte nor the second is there as the last of a number
+abbrev pub NoTwoBytes : List ℕ → Type 0
+NoTwoBytes operand = NoByte operand × (1 < length operand → 128 ≤ get_or operand 1 0)
+
+-- what follows isn't the length 2, the code 4 and a number of one byte
+pub record NoDiscriminator (operand : List ℕ) : Type 0 where
+  pub none : (n : ℕ) → n < 128 → take 3 operand ≡ 2 ∷ 4 ∷ n ∷ [] → ⊥
 
 -- a byte below 128 in two's complement of seven bits
 pub record IsGroup (byte : ℕ) (z : ℤ) : Type 0 where

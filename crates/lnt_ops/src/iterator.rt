@@ -41,6 +41,7 @@ impl<'a> Ops<'a> {
     ghost use Rattle.std.specs.Prelude.{◌≡◌, IfNone, IfSome};
     ghost use Rattle.lnt_header.specs.HeaderRules.{IsHeader};
     ghost use Rattle.lnt_ops.specs.Walks.{Steps};
+    ghost use Rattle.lnt_ops.specs.Short.{NoneShort};
 
     /// The operations of a program in a unit with this header. The program's first byte stands at the offset `place`
     /// of the section, and the offset behind its last byte is below 2^64.
@@ -100,12 +101,14 @@ impl<'a> Ops<'a> {
     }
 
     /// The next operation, where it is of a frequent kind and its operand is short: one that `next` would give now. It is
-    /// read in line, for loops that do many. None says nothing of the program, and leaves the walk as it was: `next` tells.
+    /// read in line, for loops that do many. None where no such operation comes next, or one was refused; then the walk is
+    /// as it was, and `next` tells what comes.
     #[inline(always)]
     #[tactic(auto, using(crate::proofs::ShortLemmas::steps_short))]
     pub fn next_short(&mut self) -> Option<OpView<'a>>
         ensures steps { IfSome result (λ view. Steps view self.old self.new) }
         ensures unchanged { IfNone result (self.new ≡ self.old) }
+        ensures none { IfNone result (self.old.failed ≡ false → NoneShort self.old.header self.old.at.rest) }
     {
         if self.failed {
             return None;

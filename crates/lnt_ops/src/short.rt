@@ -1,16 +1,17 @@
 //! Frequent operations with short operands, read in line (DWARF 5, section 6.2.5).
-ghost use Rattle.std.specs.Prelude.{◌≡◌, ◌<◌, ◌≤◌, length, take, [], ◌∷◌, IfSome};
+ghost use Rattle.std.specs.Prelude.{◌≡◌, ◌<◌, ◌≤◌, length, take, [], ◌∷◌, IfNone, IfSome};
 ghost use Rattle.lnt_wire.specs.Leb128.{SignedLeb, UnsignedLeb};
-ghost use Rattle.lnt_ops.specs.Short.{IsFront, IsGroup};
+ghost use Rattle.lnt_ops.specs.Short.{IsFront, IsGroup, NoByte, NoDiscriminator, NoneShort, NoTwoBytes};
 
 use lnt_header::{Header, OpView};
 
 /// The operation that the bytes begin with, and how many of them spell it, where it is of a frequent kind and its operand
-/// is short. None says nothing of the bytes.
+/// is short. None where no such operation begins them.
 #[inline(always)]
-#[tactic(auto, using(crate::proofs::ShortLemmas::front_special, crate::proofs::ShortLemmas::front_copy, crate::proofs::ShortLemmas::front_advance_pc, crate::proofs::ShortLemmas::front_advance_line, crate::proofs::ShortLemmas::front_set_file, crate::proofs::ShortLemmas::front_set_column, crate::proofs::ShortLemmas::front_negate_stmt, crate::proofs::ShortLemmas::front_const_add_pc, crate::proofs::ShortLemmas::front_discriminator))]
+#[tactic(auto, using(crate::proofs::ShortLemmas::front_special, crate::proofs::ShortLemmas::front_copy, crate::proofs::ShortLemmas::front_advance_pc, crate::proofs::ShortLemmas::front_advance_line, crate::proofs::ShortLemmas::front_set_file, crate::proofs::ShortLemmas::front_set_column, crate::proofs::ShortLemmas::front_negate_stmt, crate::proofs::ShortLemmas::front_const_add_pc, crate::proofs::ShortLemmas::front_discriminator, crate::proofs::ShortLemmas::none_empty, crate::proofs::ShortLemmas::none_discriminator, crate::proofs::ShortLemmas::none_advance_pc, crate::proofs::ShortLemmas::none_advance_line, crate::proofs::ShortLemmas::none_set_file, crate::proofs::ShortLemmas::none_set_column, crate::proofs::ShortLemmas::none_other))]
 pub(crate) fn short_op<'a>(bytes: &'a [u8], header: &Header) -> Option<(OpView<'a>, usize)>
-    ensures { IfSome result (λ found. IsFront header.now found.0 found.1 bytes.now) }
+    ensures some { IfSome result (λ found. IsFront header.now found.0 found.1 bytes.now) }
+    ensures none { IfNone result (NoneShort header.now bytes.now) }
 {
     if bytes.is_empty() {
         return None;
@@ -40,7 +41,8 @@ pub(crate) fn short_op<'a>(bytes: &'a [u8], header: &Header) -> Option<(OpView<'
 #[inline(always)]
 #[tactic(auto, using(crate::proofs::ShortLemmas::one_unsigned))]
 fn short_number(bytes: &[u8]) -> Option<u64>
-    ensures { IfSome result (λ n. (1 ≤ length bytes.now) × UnsignedLeb n (take 1 bytes.now)) }
+    ensures some { IfSome result (λ n. (1 ≤ length bytes.now) × UnsignedLeb n (take 1 bytes.now)) }
+    ensures none { IfNone result (NoByte bytes.now) }
 {
     if !bytes.is_empty() && bytes[0] < 128 {
         return Some(u64::from(bytes[0]));
@@ -50,9 +52,10 @@ fn short_number(bytes: &[u8]) -> Option<u64>
 
 // The discriminator that one byte spells, behind the length 2 and the code 4.
 #[inline(always)]
-#[tactic(auto, using(crate::proofs::ShortLemmas::discriminator_taken))]
+#[tactic(auto, using(crate::proofs::ShortLemmas::discriminator_taken, crate::proofs::ShortLemmas::no_discriminator_here))]
 fn short_discriminator(bytes: &[u8]) -> Option<u64>
-    ensures { IfSome result (λ n. (3 ≤ length bytes.now) × (n < 128) × (take 3 bytes.now ≡ 2 ∷ 4 ∷ n ∷ [])) }
+    ensures some { IfSome result (λ n. (3 ≤ length bytes.now) × (n < 128) × (take 3 bytes.now ≡ 2 ∷ 4 ∷ n ∷ [])) }
+    ensures none { IfNone result (NoDiscriminator bytes.now) }
 {
     if bytes.len() >= 3 && bytes[0] == 2 && bytes[1] == 4 && bytes[2] < 128 {
         return Some(u64::from(bytes[2]));
@@ -64,7 +67,8 @@ fn short_discriminator(bytes: &[u8]) -> Option<u64>
 #[inline(always)]
 #[tactic(auto, using(crate::proofs::ShortLemmas::one_signed, crate::proofs::ShortLemmas::two_signed))]
 fn short_signed(bytes: &[u8]) -> Option<(i64, usize)>
-    ensures { IfSome result (λ found. (found.1 ≤ length bytes.now) × SignedLeb found.0 (take found.1 bytes.now)) }
+    ensures some { IfSome result (λ found. (found.1 ≤ length bytes.now) × SignedLeb found.0 (take found.1 bytes.now)) }
+    ensures none { IfNone result (NoTwoBytes bytes.now) }
 {
     if bytes.is_empty() {
         return None;
