@@ -1,6 +1,6 @@
 """Makes good sections of shapes that cost a careless reader much, and looks up an address in each. A section of twice the size
-has to take at most about twice the processor time, and the memory has to stay within four times the bytes that are given and
-8 MB. The last line is 'N passed, M failed'."""
+has to take at most about twice the processor time. The memory of each word has to stay within four times the bytes that are
+given and 8 MB. The last line is 'N passed, M failed'."""
 
 import os
 import subprocess
@@ -92,49 +92,89 @@ SHAPES = {
 }
 
 
+# The words that read no strings, and those that do, with an address at which no sequence begins as that of discarded code.
+BARE = ["units", "dump --ops --rows", "convert --format 32 --order big"]
+WITH_STRINGS = ["verify", "files", "md5", "table", "verify --dead 0x7", "lookup 0x1000 0x7 --dead 0x7", "check TABLE", "check TABLE --dead 0x7"]
+
+
+class Given:
+    """A section of a shape and its strings, in files."""
+
+    def __init__(self, shape, size, folder):
+        make, strings_of, _ = SHAPES[shape]
+        contents = {"line": make(size), "strings": strings_of(size) if strings_of else b""}
+        self.bytes = sum(map(len, contents.values()))
+        self.names = {kind: os.path.join(folder, "%s%d" % (kind, size)) for kind in [*contents, "table"]}
+        for kind, content in contents.items():
+            with open(self.names[kind], "wb") as file:
+                file.write(content)
+
+    def words(self, text):
+        """A word's own words, with the names of the files."""
+        word, *rest = [self.names["table"] if it == "TABLE" else it for it in text.split()]
+        return [word, self.names["line"], *rest, *([] if text in BARE else ["--line-str", self.names["strings"]])]
+
+    def table(self):
+        """Writes the section's table, and gives how many bytes it has."""
+        with open(self.names["table"], "wb") as file:
+            subprocess.run([PROGRAM, *self.words("table")], stdout=file, check=True)
+        return os.path.getsize(self.names["table"])
+
+
 def taken(measured, words):
-    """The status, processor seconds and bytes of memory of a lookup."""
-    run = subprocess.run([measured, PROGRAM, "lookup", words[0], "0x1000", *words[1:]], capture_output=True, text=True)
+    """The status, processor seconds and bytes of memory of the program with these words."""
+    run = subprocess.run([measured, PROGRAM, *words], capture_output=True, text=True)
     seconds, kilobytes = run.stdout.split()
     return run.returncode, float(seconds), int(kilobytes) << 10
 
 
-def fault_of(shape, measured, folder):
-    """What is wrong with how a shape is looked up in, if anything."""
-    make, strings_of, count = SHAPES[shape]
-    runs = []
-    for size in (count, 2 * count):
-        line, strings = os.path.join(folder, "line%d" % size), os.path.join(folder, "strings%d" % size)
-        data, text = make(size), strings_of(size) if strings_of else b""
-        for name, content in ((line, data), (strings, text)):
-            with open(name, "wb") as file:
-                file.write(content)
-        runs.append(([line, "--line-str", strings], len(data) + len(text)))
+def memory_fault(status, memory, given):
+    if status != 0:
+        return "status %d" % status
+    if memory > MOST_COPIES * given + OWN_MEMORY:
+        return "%d bytes of memory for %d given" % (memory, given)
+    return None
+
+
+def faults_of_lookup(measured, small, large):
+    """What is wrong with the time and memory of a lookup, if anything."""
     least = [None, None]
     for _ in range(TURNS):
-        for which, (words, given) in enumerate(runs):
-            status, seconds, memory = taken(measured, words)
-            if status != 0:
-                return "status %d" % status
-            if memory > MOST_COPIES * given + OWN_MEMORY:
-                return "%d bytes of memory for %d given" % (memory, given)
+        for which, given in enumerate((small, large)):
+            status, seconds, memory = taken(measured, given.words("lookup 0x1000"))
+            fault = memory_fault(status, memory, given.bytes)
+            if fault:
+                return fault
             least[which] = seconds if least[which] is None else min(least[which], seconds)
     if least[1] > MOST_GROWTH * least[0] + TICKS:
         return "%.3f s, and %.3f s for twice the size" % tuple(least)
     return None
 
 
+def faults_of(shape, measured, folder):
+    """What each word does wrong with a shape: pairs of the word and the fault, or None."""
+    count = SHAPES[shape][2]
+    small, large = Given(shape, count, folder), Given(shape, 2 * count, folder)
+    yield "lookup 0x1000", faults_of_lookup(measured, small, large)
+    table = small.table()
+    for text in BARE + WITH_STRINGS:
+        status, _, memory = taken(measured, small.words(text))
+        yield text, memory_fault(status, memory, small.bytes + (table if "TABLE" in text else 0))
+
+
 def main():
-    failed = 0
+    passed = failed = 0
     with tempfile.TemporaryDirectory() as folder:
         measured = os.path.join(folder, "measured")
         subprocess.run(["cc", "-O2", "-o", measured, "bench/peers/measured.c"], check=True)
         for shape in SHAPES:
-            fault = fault_of(shape, measured, folder)
-            if fault:
-                failed += 1
-                print("failed: %s: %s" % (shape, fault))
-    print("%d passed, %d failed" % (len(SHAPES) - failed, failed))
+            for text, fault in faults_of(shape, measured, folder):
+                if fault:
+                    failed += 1
+                    print("failed: %s: %s: %s" % (text, shape, fault))
+                else:
+                    passed += 1
+    print("%d passed, %d failed" % (passed, failed))
     return 1 if failed else 0
 
 

@@ -4,7 +4,7 @@ ghost use Rattle.std.specs.Prelude.{◌-◌, ◌^◌, ◌<◌};
 use crate::marks::is_mark;
 use lnt_machine::{Machine, Row};
 use lnt_stream::{SectionReader, UnitBuffer};
-use lnt_unit::UnitView;
+use lnt_unit::UnitInPlace;
 use lnt_wire::{Order, Source};
 use std::alloc::Global;
 
@@ -47,9 +47,9 @@ impl Survey {
 
     // Sees the sequences of a unit. None where its program doesn't run.
     #[tactic(auto, using(lnt_machine::specs::Laws::Walks::step_allowed))]
-    fn see_unit(&mut self, unit: &UnitView<'_>) -> Option<()> {
-        let address_size = unit.header().address_size();
-        let mut machine = Machine::new(unit.header());
+    fn see_unit(&mut self, unit: &UnitInPlace<'_>) -> Option<()> {
+        let numbers = unit.numbers();
+        let mut machine = Machine::new(numbers);
         let mut open = false;
         for op in unit.ops() {
             let Ok(op) = op else {
@@ -61,7 +61,7 @@ impl Survey {
                 Err(_) => return None,
             };
             if !open {
-                self.see(&row, address_size);
+                self.see(&row, numbers.address_size());
             }
             open = !row.end_sequence;
         }
@@ -94,5 +94,5 @@ pub(crate) fn survey_of<R: Source>(
 }
 
 fn see_buffer(alloc: Global, buffer: &UnitBuffer, survey: &mut Survey) -> Option<()> {
-    survey.see_unit(&UnitView::over(alloc, buffer).ok()?)
+    survey.see_unit(&UnitInPlace::over(alloc, buffer).ok()?)
 }
