@@ -36,10 +36,10 @@ looks() { # NAME DIGITS STDOUT TEXT: what looks so, to words that judge a sectio
 zeros=$(printf '%048d' 0)
 malformed='no 25 malformed at 0x0: truncated'
 looks 'an ELF file' "7f454c4602010100$zeros" "$malformed" \
-  'this looks like an ELF file; objcopy --decompress-debug-sections --dump-section .debug_line=FILE takes its section out'
+  'this looks like an ELF file; linetab-object takes its sections out, and does the word'
 looks 'a PE file' "4d5a900003000000$zeros" "$malformed" \
-  'this looks like a PE file; objcopy --dump-section .debug_line=FILE takes its section out'
-macho='this looks like a Mach-O file; llvm-objcopy --dump-section __DWARF,__debug_line=FILE takes its section out'
+  'this looks like a PE file; linetab-object takes its sections out, and does the word'
+macho='this looks like a Mach-O file; linetab-object takes its sections out, and does the word'
 for magic in feedface feedfacf cefaedfe cffaedfe cafebabe; do
   put section "$magic$zeros"
   notes "a Mach-O file, $magic" 1 "$truncated" '' "$macho" verify "$work/section"
@@ -58,11 +58,11 @@ for head in 02000000000000009c00000000000000010000000000000028b52ffd 010000009c0
 done
 printf 'void f(void);\n' >"$work/text"
 notes 'text' 1 "$truncated" '' 'this looks like text; a section is the raw bytes of .debug_line' verify "$work/text"
-notes 'a program' 1 "$truncated" '' 'this looks like an ELF file; objcopy --decompress-debug-sections --dump-section .debug_line=FILE takes its section out' \
+notes 'a program' 1 "$truncated" '' 'this looks like an ELF file; linetab-object takes its sections out, and does the word' \
   check "$program" examples/hello.csv
 input=$program
 notes 'a program on standard input' 1 "$truncated" '' \
-  'this looks like an ELF file; objcopy --decompress-debug-sections --dump-section .debug_line=FILE takes its section out' units -
+  'this looks like an ELF file; linetab-object takes its sections out, and does the word' units -
 input=/dev/null
 notes 'a little-endian section taken as big-endian' 1 "$truncated" '' \
   'its length fits where the section is little-endian; leave out --big' verify "${hello[@]}" --big

@@ -23,9 +23,9 @@ argument_text argument.Order = codes "--order is little or big"
 
 -- what bytes look like, and what to do
 abbrev pub look_text : Look → List ℕ
-look_text Elf = codes "this looks like an ELF file; objcopy --decompress-debug-sections --dump-section .debug_line=FILE takes its section out"
-look_text Pe = codes "this looks like a PE file; objcopy --dump-section .debug_line=FILE takes its section out"
-look_text MachO = codes "this looks like a Mach-O file; llvm-objcopy --dump-section __DWARF,__debug_line=FILE takes its section out"
+look_text Elf = codes "this looks like an ELF file; linetab-object takes its sections out, and does the word"
+look_text Pe = codes "this looks like a PE file; linetab-object takes its sections out, and does the word"
+look_text MachO = codes "this looks like a Mach-O file; linetab-object takes its sections out, and does the word"
 look_text Gzip = codes "this looks like a file that gzip compressed; decompress it first"
 look_text Zstd = codes "this looks like a file that zstd compressed; decompress it first"
 look_text CompressedSection = codes "this looks like a compressed section; objcopy --decompress-debug-sections, with --dump-section, decompresses it"

@@ -182,15 +182,15 @@ impl fmt::Display for LookText {
         match self.0 {
             Look::Elf => write!(
                 f,
-                "this looks like an ELF file; objcopy --decompress-debug-sections --dump-section .debug_line=FILE takes its section out"
+                "this looks like an ELF file; linetab-object takes its sections out, and does the word"
             ),
             Look::Pe => write!(
                 f,
-                "this looks like a PE file; objcopy --dump-section .debug_line=FILE takes its section out"
+                "this looks like a PE file; linetab-object takes its sections out, and does the word"
             ),
             Look::MachO => write!(
                 f,
-                "this looks like a Mach-O file; llvm-objcopy --dump-section __DWARF,__debug_line=FILE takes its section out"
+                "this looks like a Mach-O file; linetab-object takes its sections out, and does the word"
             ),
             Look::Gzip => write!(
                 f,
