@@ -42,12 +42,12 @@ touch "$work/no_header"
 expect 'a crate that others wait for is not proved' 126 '' $'linetab: proving and building the program, which takes some minutes the first time\nlinetab: proved lnt_wire (1 of '"$all"$'), N s\n== lnt_wire\nlinetab: the program isn\'t proved\n' \
   plainly with_rt "$tree/linetab" units "$section"
 mv "$work/no_header" "$work/broken"
-expect 'a crate that is not proved' 126 '' $'linetab: proving and building the program, which takes some minutes the first time\nlinetab: proved lnt_wire (1 of '"$all"$'), N s\nlinetab: proved lnt_header (2 of '"$all"$'), N s\nlinetab: proved linetab (3 of '"$all"$'), N s\n== lnt_wire\n== lnt_header\n== lnt_wire\n== lnt_header\n== linetab\n== summary\nlinetab: the program isn\'t proved\n' \
+expect 'a crate that is not proved' 126 '' $'linetab: proving and building the program, which takes some minutes the first time\nlinetab: proved lnt_wire (1 of '"$all"$'), N s\nlinetab: proved lnt_header (2 of '"$all"$'), N s\nlinetab: proved lnt_header_bytes (3 of '"$all"$'), N s\nlinetab: proved lnt_ops (4 of '"$all"$'), N s\nlinetab: proved linetab (5 of '"$all"$'), N s\n== lnt_wire\n== lnt_header\n== lnt_header_bytes\n== lnt_ops\n== lnt_wire\n== lnt_header\n== linetab\n== summary\nlinetab: the program isn\'t proved\n' \
   plainly with_rt "$tree/linetab" units "$section"
 rm "$work/broken" "$work/asked"
-expect 'the first build' 0 $'0x0 32 156\n' $'linetab: proving and building the program, which takes some minutes the first time\nlinetab: proved lnt_wire (1 of '"$all"$'), N s\nlinetab: proved lnt_header (2 of '"$all"$'), N s\nlinetab: proved linetab (3 of '"$all"$'), N s\nlinetab: built in N s\n' \
+expect 'the first build' 0 $'0x0 32 156\n' $'linetab: proving and building the program, which takes some minutes the first time\nlinetab: proved lnt_wire (1 of '"$all"$'), N s\nlinetab: proved lnt_header (2 of '"$all"$'), N s\nlinetab: proved lnt_header_bytes (3 of '"$all"$'), N s\nlinetab: proved lnt_ops (4 of '"$all"$'), N s\nlinetab: proved linetab (5 of '"$all"$'), N s\nlinetab: built in N s\n' \
   plainly with_rt "$tree/linetab" units "$section"
-expect 'once built, nothing is asked of the toolchain' 0 $'lib\nlib\nall\nrun\n' '' cat "$work/asked"
+expect 'once built, nothing is asked of the toolchain' 0 $'lib\nlib\nlib\nlib\nall\nrun\n' '' cat "$work/asked"
 expect 'it runs without one' 0 $'0x0 32 156\n' '' without_rt "$tree/linetab" units "$section"
 cp -r "$tree" "$work/copy"
 find "$work/copy" -name '*.rt' -exec touch {} +
@@ -57,5 +57,5 @@ touch -d 2000-01-01 "$tree/crates/lnt_wire/src/lib.rt"
 rm "$work/asked"
 expect 'a changed source, and two that ask at once' 0 $'0x0 64 172\n' '' \
   env PATH="$work/bin:$work/without" bash -c '"$0" convert "$1" --format 64 --order little 2>/dev/null | "$0" units - 2>/dev/null' "$tree/linetab" "$section"
-expect 'are one build' 0 $'lib\nlib\nall\nrun\n' '' cat "$work/asked"
+expect 'are one build' 0 $'lib\nlib\nlib\nlib\nall\nrun\n' '' cat "$work/asked"
 finish

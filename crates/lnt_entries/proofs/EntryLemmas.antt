@@ -13,9 +13,9 @@ use Rattle.lnt_wire.specs.declared.form.Form.TheVariants.{LineStrp, Udata, Data1
 use Rattle.lnt_wire.specs.declared.form.FormValue.{FormValue}
 use Rattle.lnt_wire.specs.declared.format.Format.{Format}
 use Rattle.lnt_wire.specs.declared.view.ValueView.{ValueView}
-use Rattle.lnt_header.specs.Layouts.{forms_of, entry_of}
-use Rattle.lnt_header.specs.Laws.Values.{AreReadTo, read_none, read_more, entry_read, no_entry}
-use Rattle.lnt_header.specs.TableBytes.{EntryBytes}
+use Rattle.lnt_header_bytes.specs.Layouts.{forms_of, entry_of}
+use Rattle.lnt_header_bytes.specs.Laws.Values.{AreReadTo, read_none, read_more, entry_read, no_entry}
+use Rattle.lnt_header_bytes.specs.TableBytes.{EntryBytes}
 use Rattle.lnt_header.specs.declared.header.Pair.{Pair}
 use Rattle.lnt_entries.specs.Contents.{content_path, content_directory_index, content_md5}
 use Rattle.lnt_entries.specs.declared.components.Places.{Places}

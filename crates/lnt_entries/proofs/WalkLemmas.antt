@@ -4,10 +4,10 @@ use Rattle.lnt_wire.specs.At.{At}
 use Rattle.lnt_wire.specs.Bytes.{NoneSpelled}
 use Rattle.lnt_wire.specs.declared.format.Format.{Format}
 use Rattle.lnt_wire.specs.declared.format.Order.{Order}
-use Rattle.lnt_header.specs.Borrowed.{first_entries, BorrowedTable, AreEntryBytes}
+use Rattle.lnt_header_bytes.specs.Borrowed.{first_entries, BorrowedTable, AreEntryBytes}
 use Rattle.lnt_header.specs.Joins.{Each}
-use Rattle.lnt_header.specs.Laws.Borrowed.{all_found, first_found, others_spelled}
-use Rattle.lnt_header.specs.TableBytes.{EntryBytes}
+use Rattle.lnt_header_bytes.specs.Laws.Borrowed.{all_found, first_found, others_spelled}
+use Rattle.lnt_header_bytes.specs.TableBytes.{EntryBytes}
 use Rattle.lnt_header.specs.declared.header.Entry.{Entry}
 use Rattle.lnt_header.specs.declared.header.Pair.{Pair}
 use Rattle.lnt_entries.specs.declared.components.Places.{Places}

@@ -1,7 +1,7 @@
 -- Entries of a table that a walk has seen.
 use Rattle.std.specs.Prelude.{◌≡◌, ℕ, ◌<◌, Bool, true, false, List, ◌++◌, length, Option, Some, None}
 use Rattle.std.specs.List.{AllByRecursion, slice_get}
-use Rattle.lnt_header.specs.Borrowed.{BorrowedTable}
+use Rattle.lnt_header_bytes.specs.Borrowed.{BorrowedTable}
 use Rattle.lnt_header.specs.HeaderTests.{IsFirstNot}
 use Rattle.lnt_header.specs.declared.header.Entry.{Entry}
 use Rattle.lnt_header.specs.declared.header.Pair.{Pair}

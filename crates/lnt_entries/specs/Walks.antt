@@ -10,9 +10,9 @@ use Rattle.lnt_wire.specs.declared.form.Form.TheVariants.{LineStrp, Udata, Data1
 use Rattle.lnt_wire.specs.declared.form.FormValue.{FormValue}
 use Rattle.lnt_wire.specs.declared.format.Format.{Format}
 use Rattle.lnt_wire.specs.declared.view.ValueView.{ValueView}
-use Rattle.lnt_header.specs.Borrowed.{BorrowedTable, borrowed_table, AreEntryBytes}
-use Rattle.lnt_header.specs.Layouts.{forms_of}
-use Rattle.lnt_header.specs.TableBytes.{EntryBytes}
+use Rattle.lnt_header_bytes.specs.Borrowed.{BorrowedTable, borrowed_table, AreEntryBytes}
+use Rattle.lnt_header_bytes.specs.Layouts.{forms_of}
+use Rattle.lnt_header_bytes.specs.TableBytes.{EntryBytes}
 use Rattle.lnt_header.specs.declared.header.Entry.{Entry}
 use Rattle.lnt_header.specs.declared.header.Pair.{Pair}
 use Rattle.lnt_entries.specs.declared.components.Places.{Places}

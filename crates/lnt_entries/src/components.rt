@@ -1,6 +1,6 @@
 //! The components of an entry that matter, read where they lie.
 ghost use Rattle.std.specs.Prelude.{◌≡◌, ◌↔◌, IsTrue, ◌++◌, ◌∷◌, [], ℕ, List, length, IfOk, IfErr};
-ghost use Rattle.lnt_header.specs.TableBytes.{EntryBytes};
+ghost use Rattle.lnt_header_bytes.specs.TableBytes.{EntryBytes};
 ghost use Rattle.lnt_wire.specs.Borrowed.{value_of};
 ghost use Rattle.lnt_wire.specs.Bytes.{NoneSpelled};
 ghost use Rattle.lnt_wire.specs.declared.form.FormValue.{FormValue};

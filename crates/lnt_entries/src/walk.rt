@@ -3,7 +3,7 @@ ghost use Rattle.std.specs.Prelude.{◌≡◌, ◌↔◌, IsTrue};
 ghost use Rattle.lnt_entries.specs.Walks.{EntryStep};
 
 use crate::components::{Places, Usual, places_of, read_entry, usual_of};
-use lnt_header::TableView;
+use lnt_header_bytes::TableView;
 use lnt_wire::{Cursor, ValueView};
 use std::marker::Model;
 
@@ -32,7 +32,7 @@ pub struct Entries<'t> {
 }
 
 impl<'t> Model for Entries<'t> {
-    ghost use Rattle.lnt_header.specs.Borrowed.{BorrowedTable};
+    ghost use Rattle.lnt_header_bytes.specs.Borrowed.{BorrowedTable};
     ghost use Rattle.lnt_entries.specs.Walks.{IsWalk, left_of};
 
     ghost Value = { BorrowedTable };

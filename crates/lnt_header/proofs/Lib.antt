@@ -1,17 +1,1 @@
-pub mod Allowed
-pub mod DecodeLemmas
-pub mod EncodeLemmas
-pub mod HeaderFrames
-pub mod HeaderReaders
-pub mod KeptLemmas
-pub mod LargeLemmas
-pub mod PassLemmas
-pub mod Places
-pub mod ShortLemmas
-pub mod SpelledHeaders
-pub mod StartReaders
-pub mod TableReaders
 pub mod TestLemmas
-pub mod ViewLemmas
-pub mod WrongTables
-pub mod ViewPutLemmas

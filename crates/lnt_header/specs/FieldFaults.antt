@@ -1,7 +1,7 @@
 -- What is wrong where a field isn't there whole, or is out of range.
 --     before   the bytes up to the place of the fault
 --     left     the bytes from the place on up to the limit of the field
-use Rattle.std.specs.Prelude.{◌≡◌, ℕ, ◌<◌, ◌≤◌, ◌⊎◌, List, ◌∷◌, ◌++◌, length}
+use Rattle.std.specs.Prelude.{◌≡◌, ◌≢◌, ℕ, ◌<◌, ◌≤◌, ◌⊎◌, List, [], ◌∷◌, ◌++◌, length}
 use Rattle.lnt_wire.specs.FormBytes.{HasNoZero}
 use Rattle.lnt_wire.specs.declared.format.Order.{Order}
 use Rattle.lnt_wire.specs.Numbers.{NumberBytes}
@@ -19,3 +19,15 @@ pub data IsCutField (before left : List ℕ) : Type 0 where
 -- a whole LEB128 whose value no field of its kind has
 abbrev pub IsLargeLeb : List ℕ → Type 0
 IsLargeLeb left = (spelling : List ℕ) × (rest : List ℕ) × IsLeb spelling × (left ≡ spelling ++ rest) × (IsLargeUnsigned spelling ⊎ IsLargeSigned spelling)
+
+-- What follows an extended operation's length is no operand of its code.
+abbrev pub IsWrongOperand : ℕ → List ℕ → Type 0
+IsWrongOperand address_size [] = Unit {0}
+IsWrongOperand address_size (code ∷ operand) =
+    ((code ≡ 1) × (operand ≢ [])) ⊎ ((code ≡ 2) × (length operand ≢ address_size)) ⊎ ((code ≡ 4) × (IsLeb operand → ⊥))
+
+-- the length of an extended operation, and bytes that don't fit it
+abbrev pub IsWrongLength : ℕ → List ℕ → Type 0
+IsWrongLength address_size left =
+    (spelling : List ℕ) × (operation : List ℕ) × (rest : List ℕ) × UnsignedLeb (length operation) spelling
+    × (left ≡ spelling ++ operation ++ rest) × IsWrongOperand address_size operation

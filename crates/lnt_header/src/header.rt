@@ -3,8 +3,8 @@ ghost use Rattle.std.specs.Prelude.{◌≡◌, ◌<◌, IfOk, IfErr};
 
 use crate::fault::UnitFault;
 use crate::tested::parts_fault;
-use lnt_lists::ShortList;
-use lnt_wire::{Form, FormValue, Format, Items, Order};
+use lnt_lists::{Items, ShortList};
+use lnt_wire::{Form, FormValue, Format, Order};
 use std::marker::Model;
 
 /// A part of an entry's format: a content type, and the form of its values.
@@ -63,6 +63,24 @@ pub struct HeaderParts {
     pub files: Items<Entry>,
     /// The bytes between the file table and the program.
     pub extra: Items<u8>,
+}
+
+impl HeaderParts {
+    ghost use Rattle.lnt_header.specs.HeaderRules.{six_bytes};
+
+    /// The fields of one byte before the standard lengths, in the order of a unit (DWARF 5, section 6.2.4).
+    pub fn single_fields(&self) -> [u8; 6]
+        ensures { result ≡ six_bytes self.now }
+    {
+        [
+            self.minimum_instruction_length,
+            self.max_ops,
+            self.default_is_stmt,
+            self.line_base.cast_unsigned(),
+            self.line_range,
+            self.opcode_base,
+        ]
+    }
 }
 
 /// A header that a reader can have read. Contracts see its parts.
@@ -127,16 +145,16 @@ impl Header {
         }
     }
 
-    // The header of parts that a reader can have read.
-    pub(crate) fn of(parts: HeaderParts) -> Header
+    /// The header of parts that a reader can have read. It takes no memory, and tests nothing again.
+    pub fn of(parts: HeaderParts) -> Header
         requires { IsHeader parts }
         ensures { result ≡ parts }
     {
         Header { parts }
     }
 
-    // What the header is made of.
-    pub(crate) fn parts(&self) -> &HeaderParts
+    /// What the header is made of.
+    pub fn parts(&self) -> &HeaderParts
         ensures value { result.now ≡ self.now }
         ensures header { IsHeader self.now }
     {

@@ -1,6 +1,6 @@
 //! The operations of a line number program (DWARF 5, sections 6.2.5 and 7.22).
 use crate::view::{OpView, Operands};
-use lnt_wire::Items;
+use lnt_lists::Items;
 
 /// An operation that owns its operands.
 #[derive(Debug, Drop, PartialEq, Eq)]

@@ -2,12 +2,11 @@
 ghost use Rattle.std.specs.Prelude.{◌≡◌, ◌↔◌, ◌<◌, FitsSigned, IsTrue, MatchOption, length, slice_index};
 ghost use Rattle.std.specs.Int.{w8};
 ghost use Rattle.std.specs.List.{AllByRecursion};
-ghost use Rattle.lnt_header.specs.HeaderRules.{six_bytes, AreStandardLengths, HasHeaderNumbers, IsHeader};
+ghost use Rattle.lnt_header.specs.HeaderRules.{AreStandardLengths, HasHeaderNumbers, IsAddressSize, IsHeader};
 ghost use Rattle.lnt_header.specs.HeaderTests.{FitsItsForm, FitsPair, HoldsNoZero, IsFormat, IsOfFormat, HasSoundTexts, IsFirstNot, HasNumbersAndFormats, IsPartsFault};
 
 use crate::fault::UnitFault;
 use crate::header::{Entry, HeaderParts, Pair, Which};
-use crate::start::is_address_size;
 use lnt_wire::FormValue;
 
 // How many operands each of the known opcodes 1 to 12 has.
@@ -51,23 +50,16 @@ fn has_numbers(parts: &HeaderParts) -> bool
 {
     let lengths = parts.standard_lengths.as_slice();
     is_address_size(parts.address_size)
-        && has_no_zero_number(&single_fields(parts), parts.line_base)
+        && has_no_zero_number(&parts.single_fields(), parts.line_base)
         && usize::from(parts.opcode_base) == lengths.len() + 1
         && are_standard_lengths(lengths)
 }
 
-/// The fields of one byte before the standard lengths.
-pub(crate) fn single_fields(parts: &HeaderParts) -> [u8; 6]
-    ensures { result ≡ six_bytes parts.now }
+/// Whether addresses may have so many bytes: 2, 4 or 8.
+pub fn is_address_size(size: u8) -> bool
+    ensures { IsTrue result ↔ IsAddressSize size }
 {
-    [
-        parts.minimum_instruction_length,
-        parts.max_ops,
-        parts.default_is_stmt,
-        parts.line_base.cast_unsigned(),
-        parts.line_range,
-        parts.opcode_base,
-    ]
+    size == 2 || size == 4 || size == 8
 }
 
 // Whether max_ops and line_range aren't 0, among these fields.

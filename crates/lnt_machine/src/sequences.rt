@@ -7,8 +7,8 @@ ghost use Rattle.lnt_machine.specs.declared.row.Row.{Row};
 use crate::fault::RunFault;
 use crate::machine::Machine;
 use crate::row::{Row, Sequence};
+use lnt_lists::Items;
 use lnt_unit::Unit;
-use lnt_wire::Items;
 use std::alloc::Global;
 use std::mem;
 

@@ -10,7 +10,7 @@ use Rattle.lnt_header.specs.declared.header.HeaderParts.{HeaderParts}
 use Rattle.lnt_header.specs.declared.op.Op.TheVariants as ops
 use Rattle.lnt_header.specs.declared.view.OpView.{OpView}
 use Rattle.lnt_header.specs.declared.view.OpView.TheVariants as views
-use Rattle.lnt_header.specs.Laws.Tables.{one_digit}
+use Rattle.lnt_header.specs.Laws.Bytes.{one_digit}
 use Rattle.lnt_ops.specs.Laws.Ops.{op_is_some}
 use Rattle.lnt_ops.specs.OpBytes.{OpBytes}
 use Rattle.lnt_ops.specs.OpFaults.{IsOpFault, IsFirstFault}

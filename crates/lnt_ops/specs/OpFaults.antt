@@ -6,8 +6,7 @@ use Rattle.lnt_wire.specs.declared.fault.Reason.{Reason}
 use Rattle.lnt_wire.specs.declared.fault.Reason.TheVariants.{Truncated, LebTooLarge, ExtendedLength}
 use Rattle.lnt_wire.specs.Leb128.{IsLeb, UnsignedLeb, IsLargeUnsigned, IsLargeSigned, IsLebFault}
 use Rattle.lnt_header.specs.declared.header.HeaderParts.{HeaderParts}
-use Rattle.lnt_header.specs.Broken.{IsWrongLength}
-use Rattle.lnt_header.specs.FieldFaults.{IsCutField, IsLargeLeb}
+use Rattle.lnt_header.specs.FieldFaults.{IsCutField, IsLargeLeb, IsWrongLength}
 use Rattle.lnt_header.specs.Joins.{Each}
 use Rattle.lnt_header.specs.OpRules.{standard_length}
 

@@ -3,7 +3,7 @@ ghost use Rattle.std.specs.Prelude.{◌≡◌, ◌↔◌, ◌+◌, ◌^◌, ◌<
 ghost use Rattle.lnt_wire.specs.Leb128.{IsLeb};
 ghost use Rattle.lnt_wire.specs.Numbers.{NumberBytes};
 ghost use Rattle.lnt_wire.specs.Reading.{Refuses};
-ghost use Rattle.lnt_header.specs.Broken.{IsWrongOperand};
+ghost use Rattle.lnt_header.specs.FieldFaults.{IsWrongOperand};
 ghost use Rattle.lnt_ops.specs.OpSteps.{BehindBytes, IsFaultBehind, GivesBehind, IsRightOperand, GivesCounted, IsCountedFault};
 
 use lnt_header::{Header, OpView};

@@ -7,7 +7,8 @@ ghost use Rattle.lnt_ops.specs.OperandLists.{IsOperands, SpellsNumbers};
 ghost use Rattle.lnt_ops.specs.Programs.{IsView};
 
 use lnt_header::{Op, OpView, Operands};
-use lnt_wire::{Cursor, Items, Order};
+use lnt_lists::Items;
+use lnt_wire::{Cursor, Order};
 use std::alloc::{AllocError, Global};
 
 /// The operation that the view stands for. The only error is that memory ran out.

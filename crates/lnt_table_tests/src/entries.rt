@@ -2,7 +2,7 @@
 use crate::lines::STRINGS;
 use crate::worked::PLAIN;
 use lnt_entries::{StringEnds, in_place};
-use lnt_header::{KeptHeader, decode_header, view_header};
+use lnt_header_bytes::{KeptHeader, decode_header, view_header};
 use lnt_wire::{Cursor, Order, take_frame};
 use std::alloc::Global;
 

@@ -10,7 +10,7 @@ use Rattle.lnt_wire.specs.Reading.{Reads, Refuses}
 use Rattle.lnt_wire.specs.declared.fault.Fault.{Fault}
 use Rattle.lnt_wire.specs.declared.format.Order.{Order}
 use Rattle.lnt_wire.specs.declared.frame.Frame.{Frame}
-use Rattle.lnt_header.specs.HeaderBytes.{unit_body, HeaderBytesIn}
+use Rattle.lnt_header_bytes.specs.HeaderBytes.{unit_body, HeaderBytesIn}
 use Rattle.lnt_header.specs.declared.header.HeaderParts.{HeaderParts}
 use Rattle.lnt_unit.specs.BrokenUnits.{BrokenUnit}
 use Rattle.lnt_unit.specs.UnitBytes.{UnitBytesIn}

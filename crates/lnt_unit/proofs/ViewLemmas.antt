@@ -5,7 +5,7 @@ use Rattle.lnt_wire.specs.FrameBytes.{frame_bytes}
 use Rattle.lnt_wire.specs.declared.fault.Fault.{Fault}
 use Rattle.lnt_wire.specs.declared.format.Order.{Order}
 use Rattle.lnt_wire.specs.declared.frame.Frame.{Frame}
-use Rattle.lnt_header.specs.Broken.{BrokenHeader}
+use Rattle.lnt_header_bytes.specs.Broken.{BrokenHeader}
 use Rattle.lnt_header.specs.declared.op.Op.{Op}
 use Rattle.lnt_header.specs.declared.view.OpView.{OpView}
 use Rattle.lnt_ops.specs.Walks.{Walk, Ends, Steps}

@@ -4,8 +4,8 @@ use Rattle.lnt_wire.specs.Bytes.{NoneSpelled}
 use Rattle.lnt_wire.specs.declared.format.Order.{Order}
 use Rattle.lnt_wire.specs.declared.fault.Fault.{Fault}
 use Rattle.lnt_header.specs.declared.header.HeaderParts.{HeaderParts}
-use Rattle.lnt_header.specs.Broken.{Broken, IsFirstField}
-use Rattle.lnt_header.specs.HeaderBytes.{HeaderBytesIn}
+use Rattle.lnt_header_bytes.specs.Broken.{Broken, IsFirstField}
+use Rattle.lnt_header_bytes.specs.HeaderBytes.{HeaderBytesIn}
 use Rattle.lnt_ops.specs.Programs.{BrokenProgram}
 use Rattle.lnt_unit.specs.declared.unit.Parts.{Parts}
 use Rattle.lnt_unit.specs.UnitBytes.{UnitBytesIn, SectionBytes}

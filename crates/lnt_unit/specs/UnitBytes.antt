@@ -4,7 +4,7 @@ use Rattle.lnt_wire.specs.declared.format.Order.{Order}
 use Rattle.lnt_unit.specs.declared.unit.Parts.{Parts}
 use Rattle.lnt_header.specs.Joins.{Each}
 use Rattle.lnt_ops.specs.OpBytes.{OpBytes}
-use Rattle.lnt_header.specs.HeaderBytes.{HeaderBytes}
+use Rattle.lnt_header_bytes.specs.HeaderBytes.{HeaderBytes}
 
 -- The bytes of a unit: its header, and one spelling of each operation in order.
 pub record UnitBytes (unit : Parts) (bytes : List ℕ) : Type 0 where

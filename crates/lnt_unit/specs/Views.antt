@@ -1,9 +1,9 @@
 -- A unit that lies in a buffer: its header with its program, and how far its operations were read.
 use Rattle.std.specs.Prelude.{◌≡◌, ℕ, ◌+◌, ◌^◌, ◌<◌, List, length, false}
-use Rattle.lnt_header.specs.Borrowed.{without_entries}
+use Rattle.lnt_header_bytes.specs.Borrowed.{without_entries}
 use Rattle.lnt_header.specs.declared.header.HeaderParts.{HeaderParts}
 use Rattle.lnt_header.specs.declared.op.Op.{Op}
-use Rattle.lnt_header.specs.HeaderBytes.{HeaderBytesIn}
+use Rattle.lnt_header_bytes.specs.HeaderBytes.{HeaderBytesIn}
 use Rattle.lnt_ops.specs.Programs.{OpsSoFar}
 use Rattle.lnt_ops.specs.Walks.{Walk}
 use Rattle.lnt_stream.specs.Units.{UnitBytes}

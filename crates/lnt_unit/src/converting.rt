@@ -5,7 +5,7 @@ ghost use Rattle.lnt_unit.specs.BrokenUnits.{BrokenUnit};
 ghost use Rattle.lnt_unit.specs.ConvertedUnits.{ConvertsBytes, ConvertsUnit, IsNextStop, IsToldAs, IsUnitStop, JudgesUnit};
 
 use crate::convert::ConvertFault;
-use lnt_header::{put_header_view, view_header};
+use lnt_header_bytes::{put_header_view, view_header};
 use lnt_ops::convert_ops;
 use lnt_wire::{Cursor, EncodeFault, Fault, Format, Frame, Order, Reason, take_frame};
 use std::alloc::Global;

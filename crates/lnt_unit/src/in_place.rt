@@ -1,9 +1,10 @@
 //! A unit that lies in a buffer with its directories and files, and its operations one by one.
 ghost use Rattle.std.specs.Prelude.{◌≡◌, ◌≢◌, ◌≤◌, length, drop, IfOk, IfErr, false};
-ghost use Rattle.lnt_header.specs.Broken.{BrokenHeader};
+ghost use Rattle.lnt_header_bytes.specs.Broken.{BrokenHeader};
 ghost use Rattle.lnt_unit.specs.BrokenUnits.{BrokenUnit};
 
-use lnt_header::{Header, HeaderInPlace, HeaderView, view_header};
+use lnt_header::Header;
+use lnt_header_bytes::{HeaderInPlace, HeaderView, view_header};
 use lnt_ops::Ops;
 use lnt_stream::UnitBuffer;
 use lnt_wire::{Fault, Reason};
@@ -34,7 +35,7 @@ impl<'a> Model for UnitInPlace<'a> {
 }
 
 impl<'a> UnitInPlace<'a> {
-    ghost use Rattle.lnt_header.specs.Borrowed.{without_entries};
+    ghost use Rattle.lnt_header_bytes.specs.Borrowed.{without_entries};
     ghost use Rattle.lnt_header.specs.HeaderRules.{IsHeader};
     ghost use Rattle.lnt_unit.specs.Views.{IsView, HasCount};
 

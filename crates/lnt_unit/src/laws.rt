@@ -21,7 +21,7 @@ pub fn one_section()
 pub fn allowed_is_spelled()
     ensures { AllowedIsSpelled }
 {
-    lnt_header::laws::allowed_is_spelled();
+    lnt_header_bytes::laws::allowed_is_spelled();
     lnt_ops::laws::allowed_ops_are_spelled();
 }
 

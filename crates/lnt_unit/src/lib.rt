@@ -16,9 +16,9 @@ pub use decode::{decode_section, decode_unit};
 pub use encode::encode_unit;
 pub use in_place::UnitInPlace;
 pub use lnt_header::{
-    Entry, Header, HeaderInPlace, HeaderParts, HeaderView, KeptHeader, Op, OpView, Operands, Pair,
-    ShortList, UnitFault, Which, decode_header, encode_header,
+    Entry, Header, HeaderParts, Op, OpView, Operands, Pair, ShortList, UnitFault, Which,
 };
+pub use lnt_header_bytes::{HeaderInPlace, HeaderView, KeptHeader, decode_header, encode_header};
 pub use lnt_ops::Ops;
 pub use lnt_stream::{SectionReader, SectionStop, UnitBuffer};
 pub use unit::{Parts, Unit};

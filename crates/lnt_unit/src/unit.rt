@@ -5,7 +5,8 @@ ghost use Rattle.lnt_header.specs.HeaderTests.{IsFirstNot};
 ghost use Rattle.lnt_header.specs.OpRules.{Admits};
 
 use lnt_header::{Header, HeaderParts, Op, UnitFault};
-use lnt_wire::{Format, Items, Order};
+use lnt_lists::Items;
+use lnt_wire::{Format, Order};
 use std::marker::Model;
 
 /// What a unit is made of.

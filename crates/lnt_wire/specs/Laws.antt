@@ -1,5 +1,5 @@
 -- What is spelled is read again, whatever follows: of each kind of spelling none is the front of another, and each spells one value.
-use Rattle.std.specs.Prelude.{◌≡◌, ℕ, ◌^◌, ◌<◌, List, ℤ, FitsSigned}
+use Rattle.std.specs.Prelude.{ℕ, ◌^◌, ◌<◌, List, ℤ, FitsSigned}
 use Rattle.std.specs.Int.{w64}
 use Rattle.lnt_wire.specs.declared.format.Order.{Order}
 use Rattle.lnt_wire.specs.declared.format.Format.{Format}

@@ -1,9 +1,9 @@
 //! The forms that values have in the tables of directories and files (DWARF 5, sections 6.2.4.1 and 7.5.6).
 ghost use Rattle.std.specs.Prelude.{◌≡◌, ◌↔◌, IsTrue, MatchOption};
-ghost use Rattle.lnt_wire.specs.FormBytes.{form_code, form_of, IsUnknownForm, HasNoZero, HasSpelling};
+ghost use Rattle.lnt_wire.specs.FormBytes.{form_code, form_of, IsUnknownForm, HasSpelling};
 
-use crate::items::Items;
 use crate::strings::text_size;
+use lnt_lists::Items;
 
 /// A form that a value of a table may have. A table with values in any other form is refused, with `UnknownForm`.
 #[derive(Clone, Copy, Debug, PartialEq, Eq)]
@@ -134,20 +134,13 @@ impl FormValue {
         ensures { IsTrue result ↔ HasSpelling self.now }
     {
         match self {
-            FormValue::Text(text) => has_no_zero(text.as_slice()),
+            FormValue::Text(text) => text_size(text.as_slice()).is_none(),
             FormValue::Block1(block) => block.as_slice().len() < 1 << 8,
             FormValue::Block2(block) => block.as_slice().len() < 1 << 16,
             FormValue::Block4(block) => block.as_slice().len() < 1 << 32,
             _ => true,
         }
     }
-}
-
-// Whether no byte is zero.
-fn has_no_zero(bytes: &[u8]) -> bool
-    ensures { IsTrue result ↔ HasNoZero bytes.now }
-{
-    text_size(bytes).is_none()
 }
 
 // How the length of a block is spelled: as an unsigned LEB128 number, or in 1, 2 or 4 bytes.

@@ -4,7 +4,7 @@ ghost use Rattle.lnt_wire.specs.Borrowed.{value_of};
 
 use crate::fault::{Fault, Reason};
 use crate::form::FormValue;
-use crate::items::Items;
+use lnt_lists::Items;
 use std::alloc::Global;
 
 /// A value in one of the forms. Its bytes are those of the section, which aren't copied; `FormValue` has bytes of its own.

@@ -8,7 +8,8 @@ ghost use Rattle.lnt_entries.specs.Tables.{HasUsableFormat, HasPath, AreUsableTa
 use crate::ends::StringEnds;
 use crate::tables::{TableFault, is_usable_format};
 use crate::walk::Entries;
-use lnt_header::{HeaderView, TableView, Which};
+use lnt_header::Which;
+use lnt_header_bytes::{HeaderView, TableView};
 
 /// What is wrong with the directories and files of the header, if its tables aren't usable (DWARF 5, section 6.2.4.1).
 /// The first of these is told, each of the directories before the files: `EntryFormat`, `StringOutside`,

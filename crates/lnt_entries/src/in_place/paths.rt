@@ -11,7 +11,7 @@ ghost use Rattle.lnt_entries.specs.Walks.{Says};
 use crate::contents::{MD5, place_of};
 use crate::paths::{Pieces, add_pieces, begins_with_slash};
 use crate::walk::{Entries, EntryView};
-use lnt_header::{HeaderView, TableView};
+use lnt_header_bytes::{HeaderView, TableView};
 use lnt_wire::Strings;
 use std::alloc::{AllocError, Global};
 

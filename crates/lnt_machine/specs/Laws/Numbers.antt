@@ -2,7 +2,7 @@
 use Rattle.std.proofs.Common.{◌≡◌, ℕ, ◌+◌, ◌%◌, ◌<◌, ◌≤◌, List, [], ◌∷◌, length, refl, sym, ap, subst, ◌∙◌}
 use Rattle.std.specs.Prelude.{true, false, ℤ, pos, ◌+ℤ◌, unsigned_abs, Option, Some, reverse, slice_index_or}
 use Rattle.std.specs.List.{cons_option}
-use Rattle.lnt_header.specs.Borrowed.{without_entries}
+use Rattle.lnt_header_bytes.specs.Borrowed.{without_entries}
 use Rattle.lnt_header.specs.declared.header.HeaderParts.{HeaderParts}
 use Rattle.lnt_header.specs.declared.op.Op.{Op}
 use Rattle.lnt_header.specs.declared.op.Op.TheVariants.{Special, Copy, AdvanceLine, FixedAdvancePc, EndSequence, SetAddress}

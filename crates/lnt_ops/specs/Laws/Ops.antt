@@ -11,7 +11,7 @@ use Rattle.lnt_header.specs.declared.op.Op.TheVariants.{Special, Copy, AdvancePc
 use Rattle.lnt_header.specs.HeaderRules.{IsAddressSize, HasHeaderNumbers}
 use Rattle.lnt_header.specs.Joins.{Each}
 use Rattle.lnt_header.specs.Laws.Lists.{same_each}
-use Rattle.lnt_header.specs.Laws.Tables.{byte_code}
+use Rattle.lnt_header.specs.Laws.Bytes.{byte_code}
 use Rattle.lnt_header.specs.OpRules.{standard_length}
 use Rattle.lnt_ops.specs.Laws.{OneProgram}
 use Rattle.lnt_ops.specs.OpBytes.{Standard, Extended, OpBytes}

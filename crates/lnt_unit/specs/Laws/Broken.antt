@@ -15,13 +15,13 @@ use Rattle.lnt_wire.specs.declared.fault.Reason.TheVariants.{Truncated, Reserved
 use Rattle.lnt_wire.specs.declared.format.Format.{Format}
 use Rattle.lnt_wire.specs.declared.format.Order.{Order}
 use Rattle.lnt_wire.specs.declared.format.Order.TheVariants.{Little, Big}
-use Rattle.lnt_header.specs.Broken.{Broken, IsAt, IsWrongLength, BrokenHeader}
-use Rattle.lnt_header.specs.Broken.IsFirstField.{frame}
-use Rattle.lnt_header.specs.FieldFaults.{IsCutField}
+use Rattle.lnt_header_bytes.specs.Broken.{Broken, IsAt, BrokenHeader}
+use Rattle.lnt_header_bytes.specs.Broken.IsFirstField.{frame}
+use Rattle.lnt_header.specs.FieldFaults.{IsCutField, IsWrongLength}
 use Rattle.lnt_header.specs.FieldFaults.IsCutField.{number}
-use Rattle.lnt_header.specs.HeaderBytes.{unit_body, HeaderBytes, HeaderBytesIn}
+use Rattle.lnt_header_bytes.specs.HeaderBytes.{unit_body, HeaderBytes, HeaderBytesIn}
 use Rattle.lnt_header.specs.Joins.{Each}
-use Rattle.lnt_header.specs.Laws.Headers.{same_header}
+use Rattle.lnt_header_bytes.specs.Laws.Headers.{same_header}
 use Rattle.lnt_header.specs.Laws.Readers.{cut_later}
 use Rattle.lnt_header.specs.declared.header.HeaderParts.{HeaderParts}
 use Rattle.lnt_ops.specs.OpBytes.{OpBytes}

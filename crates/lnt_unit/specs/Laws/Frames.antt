@@ -11,10 +11,10 @@ use Rattle.lnt_wire.specs.Bytes.{NoneSpelled}
 use Rattle.lnt_wire.specs.FrameFaults.{InFrame, IsCutFrame, IsReserved, IsFrameFault}
 use Rattle.lnt_wire.proofs.FrameLaws.{frame_code, frame_not_cut}
 use Rattle.lnt_wire.specs.Numbers.{number_bytes, offset_size}
-use Rattle.lnt_header.specs.Broken.{InHeader, UpToLimit, IsAt, IsFirstField}
-use Rattle.lnt_header.specs.Broken.IsFirstField.{frame, start, counted}
-use Rattle.lnt_header.specs.HeaderBytes.{unit_body, HeaderBytesIn}
-use Rattle.lnt_header.specs.Laws.Headers.{regroup}
+use Rattle.lnt_header_bytes.specs.Broken.{InHeader, UpToLimit, IsAt, IsFirstField}
+use Rattle.lnt_header_bytes.specs.Broken.IsFirstField.{frame, start, counted}
+use Rattle.lnt_header_bytes.specs.HeaderBytes.{unit_body, HeaderBytesIn}
+use Rattle.lnt_header_bytes.specs.Laws.Headers.{regroup}
 use Rattle.lnt_header.specs.declared.header.HeaderParts.{HeaderParts}
 use Rattle.lnt_unit.specs.declared.unit.Parts.{Parts}
 use Rattle.lnt_unit.specs.BrokenUnits.{BeginsWithHeader, BrokenUnit}

@@ -2,14 +2,14 @@
 use Rattle.std.proofs.Common.{ℕ, List, [], ◌∷◌}
 use Rattle.lnt_wire.specs.declared.fault.Fault.{Fault}
 use Rattle.lnt_wire.specs.declared.fault.Reason.{Reason}
-use Rattle.lnt_header.specs.Borrowed.{without_entries}
+use Rattle.lnt_header_bytes.specs.Borrowed.{without_entries}
 use Rattle.lnt_header.specs.declared.header.HeaderParts.{HeaderParts}
 use Rattle.lnt_header.specs.declared.op.Op.{Op}
 use Rattle.lnt_header.specs.declared.op.Op.TheVariants.{Special, Copy, AdvancePc, AdvanceLine, SetFile, SetColumn, NegateStmt, SetBasicBlock, ConstAddPc, FixedAdvancePc, SetPrologueEnd, SetEpilogueBegin, SetIsa, UnknownStandard, EndSequence, SetAddress, SetDiscriminator, UnknownExtended}
 use Rattle.lnt_header.specs.HeaderRules.{IsHeader}
 use Rattle.lnt_header.specs.Joins.{Each}
 use Rattle.lnt_header.specs.OpRules.{Admits}
-use Rattle.lnt_header.specs.Laws.Borrowed.{header_without_entries}
+use Rattle.lnt_header_bytes.specs.Laws.Borrowed.{header_without_entries}
 use Rattle.lnt_ops.specs.Laws.Programs.{walk_done, walk_broken}
 use Rattle.lnt_ops.specs.OpBytes.{OpBytes}
 use Rattle.lnt_ops.specs.OpFaults.{IsFirstFault}

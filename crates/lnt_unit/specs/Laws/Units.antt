@@ -8,9 +8,9 @@ use Rattle.lnt_wire.specs.InitialLength.{initial_length}
 use Rattle.lnt_wire.proofs.LengthLaws.{same_rest, length-initial}
 use Rattle.lnt_header.specs.declared.header.HeaderParts.{HeaderParts}
 use Rattle.lnt_header.specs.declared.op.Op.{Op}
-use Rattle.lnt_header.specs.HeaderBytes.{unit_body, HeaderBytesIn}
+use Rattle.lnt_header_bytes.specs.HeaderBytes.{unit_body, HeaderBytesIn}
 use Rattle.lnt_header.specs.Joins.{Each}
-use Rattle.lnt_header.specs.Laws.Headers.{same_header}
+use Rattle.lnt_header_bytes.specs.Laws.Headers.{same_header}
 use Rattle.lnt_ops.specs.Laws.Ops.{same_program}
 use Rattle.lnt_ops.specs.OpBytes.{OpBytes}
 use Rattle.lnt_unit.specs.declared.unit.Parts.{Parts}

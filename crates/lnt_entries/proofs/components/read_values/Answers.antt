@@ -1,7 +1,7 @@
 use Rattle.std.proofs.Common.{arith}
 use Rattle.std.proofs.lemmas.Result.{err_from_is_err_and}
 use Rattle.lnt_wire.specs.Bytes.{NoneSpelled}
-use Rattle.lnt_header.specs.TableBytes.{EntryBytes}
+use Rattle.lnt_header_bytes.specs.TableBytes.{EntryBytes}
 use Rattle.lnt_entries.proofs.EntryLemmas.{all_read, none_there}
 use Rattle.lnt_entries.proofs.components.read_values.Goals as goal
 

@@ -2,7 +2,7 @@ use Rattle.std.proofs.Common.{◌≡◌, ◌≢◌, ◌+◌, ◌-◌, length, re
 use Rattle.lnt_wire.specs.Bytes.{Appends}
 use Rattle.lnt_header.specs.Conversion.{in_format}
 use Rattle.lnt_header.specs.Encoding.{RefusedPut}
-use Rattle.lnt_header.specs.HeaderBytes.{HeaderBytesIn}
+use Rattle.lnt_header_bytes.specs.HeaderBytes.{HeaderBytesIn}
 use Rattle.lnt_header.specs.declared.header.HeaderParts.{HeaderParts}
 use Rattle.lnt_wire.specs.FrameBytes.{frame_bytes}
 use Rattle.lnt_wire.specs.declared.fault.Reason.TheVariants.{Memory}

@@ -1,5 +1,5 @@
 use Rattle.std.proofs.Common.{◌-◌, subst}
-use Rattle.lnt_header.specs.Borrowed.{BorrowedTable}
+use Rattle.lnt_header_bytes.specs.Borrowed.{BorrowedTable}
 use Rattle.lnt_entries.specs.Walks.{GivesEntry, left_of}
 use Rattle.lnt_entries.proofs.WalkLemmas.{in_table, none_in_table, walk_steps, walk_goes_on, walk_never_stops}
 use Rattle.lnt_entries.proofs.walk.Entries.next_entry.Goals as goal

@@ -1,7 +1,0 @@
-use Rattle.std.proofs.Common.{take}
-use Rattle.lnt_wire.specs.Reading.{Reads}
-use Rattle.lnt_header.specs.TableBytes.{ValuesBytes}
-use Rattle.lnt_header.proofs.table.read_values.Given as goal
-
-abbrev pub invariant-loop-pair : goal.invariant-loop-pair
-invariant-loop-pair l = Reads (ValuesBytes l.fn.format l.fn.cursor.order (take l.pair-index l.fn.pairs)) l.values l.fn.cursor l.cursor

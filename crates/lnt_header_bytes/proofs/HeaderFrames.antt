@@ -1,0 +1,271 @@
+-- Headers in the frames that they stand in: what was found, and why none is there.
+use Rattle.std.proofs.Common.{◌≡◌, ℕ, ◌+◌, ◌^◌, ◌<◌, ◌≤◌, List, [], ◌∷◌, ◌++◌, length, refl, sym, ap, subst, ◌∙◌, append_assoc, arith}
+use Rattle.std.proofs.lemmas.List.{append_cancel_left, append-nil, length-append}
+use Rattle.std.specs.Int.{w8, cast_unsigned}
+use Rattle.lnt_wire.specs.At.{At}
+use Rattle.lnt_wire.specs.Bytes.{NoneSpelled}
+use Rattle.lnt_wire.specs.FrameBytes.{version_five, frame_bytes}
+use Rattle.lnt_wire.specs.FrameFaults.{InFrame}
+use Rattle.lnt_wire.specs.InitialLength.{initial_length, LengthFits}
+use Rattle.lnt_wire.proofs.LengthLaws.{same_front, same_length, length-number_bytes}
+use Rattle.lnt_wire.proofs.ValueLaws.{offset_width}
+use Rattle.lnt_wire.specs.Numbers.{number_bytes, offset_size}
+use Rattle.lnt_wire.specs.Reading.{Reads, Refuses}
+use Rattle.lnt_wire.specs.declared.fault.Fault.{Fault}
+use Rattle.lnt_wire.specs.declared.format.Format.{Format}
+use Rattle.lnt_wire.specs.declared.format.Order.{Order}
+use Rattle.lnt_header.specs.declared.header.HeaderParts.{HeaderParts}
+use Rattle.lnt_header_bytes.specs.declared.numbers.Singles.{Singles}
+use Rattle.lnt_header_bytes.specs.Broken.{InHeader, sound_start, IsFirstField, BrokenHeader}
+use Rattle.lnt_header_bytes.specs.Broken.IsFirstField.{start}
+use Rattle.lnt_header_bytes.specs.FieldsBytes.{FieldsBytes, IsHeaderFault}
+use Rattle.lnt_header_bytes.specs.HeaderBytes.{HeaderFieldsBytes, unit_body, HeaderBytesIn}
+use Rattle.lnt_header_bytes.specs.HeaderReading.{standing, IsBehindVersion, HasFields}
+use Rattle.lnt_header.specs.HeaderRules.{IsAddressSize}
+use Rattle.lnt_header_bytes.specs.Laws.Headers.{laid, regroup, same_laid, below, length-laid}
+use Rattle.lnt_header_bytes.specs.StartBytes.{StartBytes, IsStartFault}
+use Rattle.lnt_header_bytes.specs.TableBytes.{TableOf}
+use Rattle.lnt_header_bytes.proofs.Places.{at_header, at_start}
+
+-- ---- a header and a program in a frame
+
+pub record Candidate (order : Order) (format : Format) (body : List ℕ) (unit : HeaderParts × List ℕ) : Type 0 where
+  pub fields : List ℕ
+  pub counted : HeaderFieldsBytes unit.0 fields
+  pub format_is : unit.0.format ≡ format
+  pub order_is : unit.0.order ≡ order
+  pub body_is : body ≡ laid order (offset_size format) unit.0.address_size fields unit.1
+  pub small : length fields < 256 ^ offset_size format
+
+candidate : (order : Order) (format : Format) (body : List ℕ) → LengthFits format (length body) → (unit : HeaderParts × List ℕ) (x more : List ℕ) → HeaderBytesIn order unit x → x ++ more ≡ frame_bytes order format body
+    → Candidate order format body unit
+candidate order format body fits unit x more p e =
+    let h = unit.0 in
+    let s = p.spelled in
+    let whole = unit_body h s.fields unit.1 in
+    let spread : initial_length h.format order (length whole) ++ (whole ++ more) ≡ initial_length format order (length body) ++ body =
+    ap (λ (o : Order). initial_length h.format o (length whole) ++ (whole ++ more)) (sym p.order_is)
+    ∙ sym (append_assoc (initial_length h.format h.order (length whole)) whole more) ∙ ap (λ (z : List ℕ). z ++ more) (sym s.joined) ∙ e in
+    let lengths = same_length order h.format format (length whole) (length body) (whole ++ more) body s.fits fits spread in
+    let wholes : whole ≡ body = same_front whole body more [] lengths.number (lengths.behind ∙ sym (append-nil body)) in
+    let over : whole ≡ laid order (offset_size format) h.address_size s.fields unit.1 =
+    ap (λ (o : Order). laid o (offset_size h.format) h.address_size s.fields unit.1) p.order_is ∙ ap (λ (f : Format). laid order (offset_size f) h.address_size s.fields unit.1) lengths.format in
+    let small : length s.fields < 256 ^ offset_size h.format = below h.format (length whole) (length s.fields) s.fits (length-laid h.order (offset_size h.format) h.address_size s.fields unit.1) in
+    record {
+      fields = s.fields;
+      counted = s.counted;
+      format_is = lengths.format;
+      order_is = p.order_is;
+      body_is = sym wholes ∙ over;
+      small = subst (λ (f : Format). length s.fields < 256 ^ offset_size f) lengths.format small;
+    }
+
+-- what stands behind the version
+behind_laid : (order : Order) (size a : ℕ) (fields program rest : List ℕ) → version_five order ++ rest ≡ laid order size a fields program
+    → rest ≡ (a ∷ 0 ∷ []) ++ (number_bytes order size (length fields) ++ (fields ++ program))
+behind_laid order size a fields program rest e =
+    append_cancel_left (version_five order) rest ((a ∷ 0 ∷ []) ++ (number_bytes order size (length fields) ++ (fields ++ program)))
+    (e ∙ regroup (version_five order) (a ∷ 0 ∷ []) (number_bytes order size (length fields)) fields program)
+
+-- ---- the start
+
+no_start : (order : Order) (format : Format) (body rest : List ℕ) (unit : HeaderParts × List ℕ) → body ≡ version_five order ++ rest → NoneSpelled (StartBytes format order) rest → Candidate order format body unit → ⊥
+no_start order format body rest unit joined none c =
+    let a = unit.0.address_size in
+    let number = number_bytes order (offset_size format) (length c.fields) in
+    let behind = behind_laid order (offset_size format) a c.fields unit.1 rest (sym joined ∙ c.body_is) in
+    none (a, (0, c.fields)) (a ∷ 0 ∷ (number ++ c.fields)) unit.1
+    (record {
+      front = a ∷ [];
+      back = 0 ∷ (number ++ c.fields);
+      first = (c.counted.numbers.address_size, refl);
+      second = record {
+        front = 0 ∷ [];
+        back = number ++ c.fields;
+        first = (refl, refl);
+        second = record { front = number; back = c.fields; first = record { fits = c.small; spelled = refl }; second = refl; joined = refl };
+        joined = refl;
+      };
+      joined = refl;
+    })
+    (ap (λ (z : List ℕ). a ∷ 0 ∷ z) (append_assoc number c.fields unit.1) ∙ sym behind)
+
+-- the bytes of a frame up to behind its version
+head_of : Order → Format → List ℕ → List ℕ
+head_of order format body = initial_length format order (length body) ++ version_five order
+
+length-head : (order : Order) (format : Format) (body : List ℕ) → length (head_of order format body) ≡ length (initial_length format order (length body)) + 2
+unfolding head_of
+length-head order format body = length-append (initial_length format order (length body)) (version_five order) ∙ ap (λ (n : ℕ). length (initial_length format order (length body)) + n) (length-number_bytes order 2 5)
+
+pub refuses_start : (order : Order) (format : Format) (offset : ℕ) (body : List ℕ) (old : At) (fault : Fault) → LengthFits format (length body) → IsBehindVersion order format offset body old
+    → Refuses (IsStartFault format old.order) (StartBytes format old.order) old fault → BrokenHeader order fault offset (frame_bytes order format body)
+unfolding head_of
+refuses_start order format offset body old fault fits b there =
+    let r : Refuses (IsStartFault format order) (StartBytes format order) old fault = subst (λ (o : Order). Refuses (IsStartFault format o) (StartBytes format o) old fault) b.order_is there in
+    let initial = initial_length format order (length body) in
+    let version = version_five order in
+    let body_is : body ≡ (version ++ r.before) ++ r.left = b.joined ∙ ap (λ (z : List ℕ). version ++ z) r.split ∙ sym (append_assoc version r.before r.left) in
+    let in_frame : InFrame order format (version ++ r.before) r.left ((initial ++ version) ++ r.before) r.left = record {
+      more = [];
+      fits = subst (λ (z : List ℕ). LengthFits format (length z)) body_is fits;
+      before_is = append_assoc initial version r.before ∙ ap (λ (z : List ℕ). initial_length format order (length z) ++ (version ++ r.before)) body_is;
+      from_is = sym (append-nil r.left);
+    } in
+    let long = length-head order format body in
+    let some : 0 < length ((initial ++ version) ++ r.before) = omega (arith, length-append (initial ++ version) r.before, long) in
+    record {
+      broken = record {
+        none = λ unit x more p e. no_start order format body old.rest unit b.joined r.none (candidate order format body fits unit x more p e);
+        before = (initial ++ version) ++ r.before;
+        from = r.left;
+        split = ap (λ (z : List ℕ). initial ++ z) body_is ∙ sym (append_assoc initial (version ++ r.before) r.left) ∙ ap (λ (z : List ℕ). z ++ r.left) (sym (append_assoc initial version r.before));
+        place = omega (arith, r.place, b.place_is, length-append (initial ++ version) r.before, long);
+        reason = at_start order format fault.reason (initial ++ version) r.before r.left r.left in_frame some r.reason;
+      };
+      first = start format r.before r.left in_frame r.reason;
+    }
+
+-- ---- what header_length counts
+
+-- where the bytes that header_length counts stand
+record Counted (order : Order) (format : Format) (offset : ℕ) (body : List ℕ) (size : ℕ) (counted program : List ℕ) (place : ℕ) : Type 0 where
+  address_size : IsAddressSize size
+  laid_out : body ≡ laid order (offset_size format) size counted program
+  small : length counted < 256 ^ offset_size format
+  place_is : place ≡ offset + length (initial_length format order (length body)) + 4 + offset_size format
+
+counted_by : (order : Order) (format : Format) (offset : ℕ) (body : List ℕ) (size zero_size place : ℕ) (counted : List ℕ) (old new : At) → IsBehindVersion order format offset body old
+    → Reads (StartBytes format old.order) (size, (zero_size, counted)) old new → place + length counted ≡ new.place → Counted order format offset body size counted new.rest place
+counted_by order format offset body size zero_size place counted old new b there placed =
+    let r : Reads (StartBytes format order) (size, (zero_size, counted)) old new = subst (λ (o : Order). Reads (StartBytes format o) (size, (zero_size, counted)) old new) b.order_is there in
+    let p1 = r.spelled in
+    let p2 = p1.second in
+    let p3 = p2.second in
+    let number = number_bytes order (offset_size format) (length counted) in
+    let tail : p3.front ++ p3.back ≡ number ++ counted = ap (λ (z : List ℕ). z ++ p3.back) p3.first.spelled ∙ ap (λ (z : List ℕ). number ++ z) p3.second in
+    let spelling : r.spelling ≡ size ∷ 0 ∷ (number ++ counted) =
+    p1.joined ∙ ap (λ (z : List ℕ). z ++ p1.back) p1.first.1 ∙ ap (λ (z : List ℕ). size ∷ z) (p2.joined ∙ ap (λ (z : List ℕ). z ++ p2.back) p2.first.1)
+    ∙ ap (λ (z : List ℕ). size ∷ 0 ∷ z) (p3.joined ∙ tail) in
+    let rest : old.rest ≡ (size ∷ 0 ∷ []) ++ (number ++ (counted ++ new.rest)) =
+    r.whole ∙ ap (λ (z : List ℕ). z ++ new.rest) spelling ∙ ap (λ (z : List ℕ). size ∷ 0 ∷ z) (append_assoc number counted new.rest) in
+    let long : length number ≡ offset_size format = length-number_bytes order (offset_size format) (length counted) in
+    record {
+      address_size = p1.first.0;
+      laid_out = b.joined ∙ ap (λ (z : List ℕ). version_five order ++ z) rest ∙ sym (regroup (version_five order) (size ∷ 0 ∷ []) number counted new.rest);
+      small = p3.first.fits;
+      place_is = omega (arith, placed, r.place, b.place_is, ap length spelling, length-append number counted, long);
+    }
+
+pub counted_before : (order : Order) (format : Format) (size zero_size : ℕ) (counted : List ℕ) (old new : At) → Reads (StartBytes format order) (size, (zero_size, counted)) old new → length counted ≤ new.place
+counted_before order format size zero_size counted old new r =
+    let p1 = r.spelled in
+    let p2 = p1.second in
+    let p3 = p2.second in
+    omega (arith, r.place, ap length p1.joined, length-append p1.front p1.back, ap length p2.joined, length-append p2.front p2.back, ap length p3.joined, length-append p3.front p3.back, ap length p3.second)
+
+singles_of : HeaderParts → Singles
+singles_of h = record {
+  minimum_instruction_length = h.minimum_instruction_length;
+  max_ops = h.max_ops;
+  default_is_stmt = h.default_is_stmt;
+  line_base = cast_unsigned w8 h.line_base;
+  line_range = h.line_range;
+  opcode_base = h.opcode_base;
+}
+
+six_of : HeaderParts → List ℕ
+six_of h = h.minimum_instruction_length ∷ h.max_ops ∷ h.default_is_stmt ∷ cast_unsigned w8 h.line_base ∷ h.line_range ∷ h.opcode_base ∷ []
+
+nest : (a b c d e : List ℕ) → (a ++ (b ++ (c ++ d))) ++ e ≡ (a ++ b) ++ c ++ d ++ e
+nest a b c d e = simp append_assoc
+
+no_fields : (order : Order) (format : Format) (body : List ℕ) (size : ℕ) (counted program : List ℕ) (offset place : ℕ) (unit : HeaderParts × List ℕ) → Counted order format offset body size counted program place
+    → NoneSpelled (FieldsBytes format order) counted → Candidate order format body unit → ⊥
+unfolding singles_of six_of
+no_fields order format body size counted program offset place unit at none c =
+    let h = unit.0 in
+    let p = c.counted in
+    let same = same_laid order (offset_size format) (offset_width format) size h.address_size counted c.fields program unit.1 at.small c.small (sym at.laid_out ∙ c.body_is) in
+    let directories : TableOf format order (h.directory_format, h.directories) p.directories =
+    subst (λ (f : Format). TableOf f order (h.directory_format, h.directories) p.directories) c.format_is (subst (λ (o : Order). TableOf h.format o (h.directory_format, h.directories) p.directories) c.order_is p.directory_table) in
+    let files : TableOf format order (h.file_format, h.files) p.files =
+    subst (λ (f : Format). TableOf f order (h.file_format, h.files) p.files) c.format_is (subst (λ (o : Order). TableOf h.format o (h.file_format, h.files) p.files) c.order_is p.file_table) in
+    none (singles_of h, (h.standard_lengths, ((h.directory_format, h.directories), (h.file_format, h.files)))) (six_of h ++ (h.standard_lengths ++ (p.directories ++ p.files))) h.extra
+    (record {
+      front = six_of h;
+      back = h.standard_lengths ++ (p.directories ++ p.files);
+      first = record { spelled = refl; max_ops = p.numbers.max_ops; line_range = p.numbers.line_range; opcode_base = omega (arith, p.numbers.opcode_base) };
+      second = record {
+        front = h.standard_lengths;
+        back = p.directories ++ p.files;
+        first = (p.numbers.opcode_base, p.numbers.lengths, refl);
+        second = record { front = p.directories; back = p.files; first = directories; second = files; joined = refl };
+        joined = refl;
+      };
+      joined = refl;
+    })
+    (nest (six_of h) h.standard_lengths p.directories p.files h.extra ∙ sym p.joined ∙ sym same.header)
+
+pub refuses_fields : (order : Order) (format : Format) (offset : ℕ) (body : List ℕ) (size zero_size place : ℕ) (counted : List ℕ) (old new : At) (fault : Fault) → LengthFits format (length body)
+    → IsBehindVersion order format offset body old → Reads (StartBytes format old.order) (size, (zero_size, counted)) old new → place + length counted ≡ new.place
+    → Refuses (IsHeaderFault format order) (FieldsBytes format order) (standing place counted order) fault → BrokenHeader order fault offset (frame_bytes order format body)
+refuses_fields order format offset body size zero_size place counted old new fault fits b there placed r =
+    let at = counted_by order format offset body size zero_size place counted old new b there placed in
+    let initial = initial_length format order (length body) in
+    let start_bytes = sound_start order size in
+    let number = number_bytes order (offset_size format) (length counted) in
+    let head = initial ++ (start_bytes ++ number) in
+    let number_is : number ≡ number_bytes order (offset_size format) (length (r.before ++ r.left)) = ap (λ (z : List ℕ). number_bytes order (offset_size format) (length z)) r.split in
+    let fields = start_bytes ++ number_bytes order (offset_size format) (length (r.before ++ r.left)) ++ r.before in
+    let fields_are : (start_bytes ++ number) ++ r.before ≡ fields = ap (λ (z : List ℕ). start_bytes ++ z ++ r.before) number_is in
+    let body_is : body ≡ fields ++ (r.left ++ new.rest) =
+    at.laid_out ∙ ap (λ (z : List ℕ). start_bytes ++ number ++ z ++ new.rest) r.split ∙ shift start_bytes number r.before r.left new.rest ∙ ap (λ (z : List ℕ). z ++ (r.left ++ new.rest)) fields_are in
+    let in_frame : InFrame order format fields (r.left ++ new.rest) (head ++ r.before) (r.left ++ new.rest) = record {
+      more = [];
+      fits = subst (λ (z : List ℕ). LengthFits format (length z)) body_is fits;
+      before_is = append_assoc initial (start_bytes ++ number) r.before ∙ ap (λ (z : List ℕ). initial_length format order (length z) ++ ((start_bytes ++ number) ++ r.before)) body_is
+          ∙ ap (λ (z : List ℕ). initial_length format order (length (fields ++ (r.left ++ new.rest))) ++ z) fields_are;
+      from_is = sym (append-nil (r.left ++ new.rest));
+    } in
+    let in_header : InHeader order r.before r.left (head ++ r.before) (r.left ++ new.rest) =
+    record { format = format; address_size = size; program = new.rest; address_size_is = at.address_size; in_frame = in_frame } in
+    let long_start : length start_bytes ≡ 4 = length-append (version_five order) (size ∷ 0 ∷ []) ∙ ap (λ (n : ℕ). n + 2) (length-number_bytes order 2 5) in
+    let long_number : length number ≡ offset_size format = length-number_bytes order (offset_size format) (length counted) in
+    let long : length head ≡ length initial + 4 + offset_size format = omega (arith, length-append initial (start_bytes ++ number), length-append start_bytes number, long_start, long_number) in
+    record {
+      broken = record {
+        none = λ unit x more p e. no_fields order format body size counted new.rest offset place unit at r.none (candidate order format body fits unit x more p e);
+        before = head ++ r.before;
+        from = r.left ++ new.rest;
+        split = ap (λ (z : List ℕ). initial ++ z) (body_is ∙ ap (λ (z : List ℕ). z ++ (r.left ++ new.rest)) (sym fields_are))
+            ∙ sym (append_assoc initial ((start_bytes ++ number) ++ r.before) (r.left ++ new.rest)) ∙ ap (λ (z : List ℕ). z ++ (r.left ++ new.rest)) (sym (append_assoc initial (start_bytes ++ number) r.before));
+        place = omega (arith, r.place, at.place_is, length-append head r.before, long);
+        reason = at_header order format fault.reason head r.before r.left (r.left ++ new.rest) in_header (omega (arith, length-append head r.before, long)) r.reason;
+      };
+      first = IsFirstField.counted r.before r.left in_header r.reason;
+    }
+  where
+    shift : (a b c d e : List ℕ) → a ++ b ++ (c ++ d) ++ e ≡ ((a ++ b) ++ c) ++ (d ++ e)
+    shift a b c d e = simp append_assoc
+
+-- ---- the whole header
+
+pub header_found : (order : Order) (format : Format) (offset : ℕ) (body : List ℕ) (size zero_size place : ℕ) (counted program : List ℕ) (old new : At) (h : HeaderParts) → LengthFits format (length body)
+    → IsBehindVersion order format offset body old → Reads (StartBytes format old.order) (size, (zero_size, counted)) old new → place + length counted ≡ new.place → program ≡ new.rest
+    → HasFields format order size counted h → HeaderBytesIn order (h, program) (frame_bytes order format body)
+header_found order format offset body size zero_size place counted program old new h fits b there placed program_is has =
+    let at = counted_by order format offset body size zero_size place counted old new b there placed in
+    let body_is : body ≡ unit_body h counted program =
+    at.laid_out ∙ ap (λ (z : List ℕ). laid order (offset_size format) size counted z) (sym program_is) ∙ ap (λ (o : Order). laid o (offset_size format) size counted program) (sym has.order_is)
+    ∙ ap (λ (f : Format). laid h.order (offset_size f) size counted program) (sym has.format_is) ∙ ap (λ (n : ℕ). laid h.order (offset_size h.format) n counted program) (sym has.size_is) in
+    record {
+      order_is = has.order_is;
+      spelled = record {
+        fields = counted;
+        counted = has.fields;
+        fits = subst (λ (f : Format). LengthFits f (length (unit_body h counted program))) (sym has.format_is) (subst (λ (z : List ℕ). LengthFits format (length z)) body_is fits);
+        joined = ap (λ (z : List ℕ). frame_bytes order format z) body_is ∙ ap (λ (o : Order). frame_bytes o format (unit_body h counted program)) (sym has.order_is)
+            ∙ ap (λ (f : Format). frame_bytes h.order f (unit_body h counted program)) (sym has.format_is);
+      };
+    }

@@ -1,0 +1,50 @@
+-- What is wrong where the fields of one byte of a header aren't read.
+use Rattle.std.specs.Prelude.{◌≡◌, ◌≢◌, ℕ, ◌+◌, ◌<◌, ◌≤◌, List, [], ◌∷◌, length, slice_index}
+use Rattle.lnt_wire.specs.declared.fault.Reason.{Reason}
+use Rattle.lnt_wire.specs.declared.fault.Reason.TheVariants.{Truncated, MaxOpsZero, LineRangeZero, OpcodeBaseZero, StandardLength}
+use Rattle.lnt_header_bytes.specs.declared.numbers.Singles.{Singles}
+use Rattle.lnt_header.specs.HeaderRules.{known_lengths, AreStandardLengths}
+
+-- The bytes of the six fields before the standard opcode lengths.
+pub record SinglesBytes (s : Singles) (bytes : List ℕ) : Type 0 where
+  pub spelled : bytes ≡ s.minimum_instruction_length ∷ s.max_ops ∷ s.default_is_stmt ∷ s.line_base ∷ s.line_range ∷ s.opcode_base ∷ []
+  pub max_ops : 0 < s.max_ops
+  pub line_range : 0 < s.line_range
+  pub opcode_base : 0 < s.opcode_base
+
+-- Fewer than six bytes are left, and those that may not be 0 aren't.
+pub record AreCutSingles (before left : List ℕ) : Type 0 where
+  pub ends : left ≡ []
+  pub few : length before < 6
+  pub max_ops : 1 < length before → 0 < slice_index before 1
+  pub line_range : 4 < length before → 0 < slice_index before 4
+
+-- the reasons for which these six aren't read
+abbrev pub IsSinglesFault : Reason → List ℕ → List ℕ → Type 0
+IsSinglesFault Truncated before left = AreCutSingles before left
+IsSinglesFault MaxOpsZero before left = (minimum : ℕ) × (more : List ℕ) × (before ≡ minimum ∷ []) × (left ≡ 0 ∷ more)
+IsSinglesFault LineRangeZero before left =
+    (minimum max_ops default_is_stmt line_base : ℕ) × (more : List ℕ) × (0 < max_ops)
+    × (before ≡ minimum ∷ max_ops ∷ default_is_stmt ∷ line_base ∷ []) × (left ≡ 0 ∷ more)
+IsSinglesFault OpcodeBaseZero before left =
+    (minimum max_ops default_is_stmt line_base line_range : ℕ) × (more : List ℕ) × (0 < max_ops) × (0 < line_range)
+    × (before ≡ minimum ∷ max_ops ∷ default_is_stmt ∷ line_base ∷ line_range ∷ []) × (left ≡ 0 ∷ more)
+IsSinglesFault _ before left = ⊥
+
+-- The bytes of the standard opcode lengths.
+abbrev pub LengthsBytes : ℕ → List ℕ → List ℕ → Type 0
+LengthsBytes opcode_base lengths bytes = (opcode_base ≡ length lengths + 1) × AreStandardLengths lengths × (bytes ≡ lengths)
+
+-- Fewer are left than there are to be, and those are standard ones.
+pub record AreCutLengths (opcode_base : ℕ) (before left : List ℕ) : Type 0 where
+  pub ends : left ≡ []
+  pub few : length before + 1 < opcode_base
+  pub standard : AreStandardLengths before
+
+-- the reasons for which these aren't read
+abbrev pub IsLengthsFault : ℕ → Reason → List ℕ → List ℕ → Type 0
+IsLengthsFault opcode_base Truncated before left = AreCutLengths opcode_base before left
+IsLengthsFault opcode_base (StandardLength opcode given) before left =
+    (more : List ℕ) × AreStandardLengths before × (opcode ≡ length before + 1) × (opcode < opcode_base) × (opcode ≤ 12)
+    × (given ≢ slice_index known_lengths (length before)) × (left ≡ given ∷ more)
+IsLengthsFault opcode_base _ before left = ⊥

@@ -1,0 +1,35 @@
+-- What is written of a header whose entries stay where they lie.
+use Rattle.std.specs.Prelude.{◌≡◌, ℕ, List, [], ◌∷◌, ◌++◌, length}
+use Rattle.lnt_wire.specs.At.{At}
+use Rattle.lnt_wire.specs.Bytes.{Appends}
+use Rattle.lnt_wire.specs.FrameBytes.{version_five, frame_bytes}
+use Rattle.lnt_wire.specs.InitialLength.{LengthFits}
+use Rattle.lnt_wire.specs.Numbers.{number_bytes, offset_size}
+use Rattle.lnt_wire.specs.Reading.{Reads}
+use Rattle.lnt_wire.specs.declared.format.Format.{Format}
+use Rattle.lnt_wire.specs.declared.format.Order.{Order}
+use Rattle.lnt_wire.specs.declared.put.EncodeFault.{EncodeFault}
+use Rattle.lnt_wire.specs.declared.put.EncodeFault.TheVariants.{TooLarge}
+use Rattle.lnt_header.specs.Encoding.{EntryParts, NoSpelling}
+use Rattle.lnt_header_bytes.specs.TableBytes.{EntryBytes}
+use Rattle.lnt_header.specs.declared.header.Entry.{Entry}
+use Rattle.lnt_header.specs.declared.header.Pair.{Pair}
+
+-- what unit_length counts, around these fields and this program
+abbrev pub around : Order → Format → ℕ → List ℕ → List ℕ → List ℕ
+around order format size fields program = version_five order ++ (size ∷ 0 ∷ []) ++ number_bytes order (offset_size format) (length fields) ++ fields ++ program
+
+-- The bytes of a unit of these fields and this program were added.
+pub record AddsAround (order : Order) (format : Format) (size : ℕ) (fields program old new : List ℕ) : Type 0 where
+  pub fits : LengthFits format (length (around order format size fields program))
+  pub joined : new ≡ old ++ frame_bytes order format (around order format size fields program)
+
+-- The read moved past the bytes of an entry, and the shortest spelling of its values in this format and order was added.
+pub record AddsEntry (from : Format) (pairs : List Pair) (format : Format) (order : Order) (old new : At) (text_old text_new : List ℕ) : Type 0 where
+  pub entry : Entry
+  pub read : Reads (EntryBytes from old.order pairs) entry old new
+  pub put : Appends (EntryParts format order) entry text_old text_new
+
+-- The fault is TooLarge only where an entry that begins the bytes has no spelling in this format and order.
+pub record RefusesEntry (from : Format) (pairs : List Pair) (format : Format) (order : Order) (at : At) (fault : EncodeFault) : Type 0 where
+  pub none : fault ≡ TooLarge → (entry : Entry) (x more : List ℕ) → EntryBytes from at.order pairs entry x → at.rest ≡ x ++ more → NoSpelling (EntryParts format order) entry

@@ -1,0 +1,14 @@
+pub mod Borrowed
+pub mod Broken
+pub mod FieldsBytes
+pub mod HeaderBytes
+pub mod HeaderFaults
+pub mod HeaderPuts
+pub mod HeaderReading
+pub mod Large
+pub mod Laws
+pub mod Layouts
+pub mod Spelled
+pub mod StartBytes
+pub mod TableBytes
+pub mod TableFaults

@@ -1,0 +1,34 @@
+-- Which headers have bytes, and in which format (DWARF 5, sections 6.2.4 and 7.4).
+use Rattle.std.specs.Prelude.{ℕ, ◌^◌, ◌<◌, List, length}
+use Rattle.std.specs.List.{AllByRecursion}
+use Rattle.lnt_wire.specs.declared.format.Format.{Format}
+use Rattle.lnt_wire.specs.Bytes.{IsShortest}
+use Rattle.lnt_wire.specs.FormBytes.{IsTooLarge}
+use Rattle.lnt_wire.specs.InitialLength.{LengthFits}
+use Rattle.lnt_wire.specs.Spelled.{FitsForm}
+use Rattle.lnt_header.specs.declared.header.Entry.{Entry}
+use Rattle.lnt_header.specs.declared.header.HeaderParts.{HeaderParts}
+use Rattle.lnt_header.specs.declared.header.Pair.{Pair}
+use Rattle.lnt_header_bytes.specs.HeaderBytes.{HeaderFieldsBytes, unit_body}
+
+-- The numbers of a table are ones that its fields can say in the 64-bit format. The fields of `Pair` and `FormValue` hold no others.
+pub record FitsTable (pairs : List Pair) (entries : List Entry) : Type 0 where
+  pub contents : AllByRecursion (λ (pair : Pair). pair.content < 2 ^ 64) pairs
+  pub count : length entries < 2 ^ 64
+  pub values : AllByRecursion (λ (entry : Entry). AllByRecursion FitsForm entry.values) entries
+
+pub record FitsFields (h : HeaderParts) : Type 0 where
+  pub directories : FitsTable h.directory_format h.directories
+  pub files : FitsTable h.file_format h.files
+
+-- The format can say each offset among the values. The 64-bit format can say all.
+abbrev pub OffsetsFit : Format → List Entry → Type 0
+OffsetsFit format entries = AllByRecursion (λ (entry : Entry). AllByRecursion (λ value. IsTooLarge format value → ⊥) entry.values) entries
+
+pub record HasSmallOffsets (h : HeaderParts) : Type 0 where
+  pub directories : OffsetsFit h.format h.directories
+  pub files : OffsetsFit h.format h.files
+
+-- The unit's length, with the shortest fields and this program, is one that the format can say.
+abbrev pub LengthsFit : HeaderParts → List ℕ → Type 0
+LengthsFit h program = (fields : List ℕ) → IsShortest HeaderFieldsBytes h fields → LengthFits h.format (length (unit_body h fields program))

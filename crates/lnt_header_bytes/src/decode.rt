@@ -1,0 +1,63 @@
+//! Headers, read from the bytes of their units.
+ghost use Rattle.std.specs.Prelude.{◌≡◌, ◌≢◌, IfOk, IfErr};
+ghost use Rattle.lnt_wire.specs.FrameBytes.{frame_bytes, IsPlacedFrame};
+ghost use Rattle.lnt_header_bytes.specs.Broken.{BrokenHeader};
+ghost use Rattle.lnt_header_bytes.specs.HeaderBytes.{HeaderBytesIn};
+ghost use Rattle.lnt_header_bytes.specs.HeaderReading.{IsBehindVersion};
+
+use crate::in_place::view_header;
+use lnt_header::Header;
+use lnt_lists::Items;
+use lnt_wire::{Cursor, Fault, Format, Frame, Order, Reason};
+use std::alloc::Global;
+
+/// The header of a frame, and the bytes of its program (DWARF 5, section 6.2.4).
+///
+/// It refuses with `Memory`, and else only where no header with a program is the frame's bytes. The fault is that of
+/// the first field that isn't there whole, or has a value that none may have, and its place is the field's first byte;
+/// where the fields of one byte end too early, that is where they end.
+pub fn decode_header<'a>(
+    alloc: Global,
+    frame: &Frame<'a>,
+    order: Order,
+) -> Result<(Header, &'a [u8]), Fault>
+    requires { IsPlacedFrame order frame.now }
+    ensures ok { IfOk result (λ found. HeaderBytesIn order (found.0, found.1.now) (frame_bytes order frame.now.format frame.now.body.now)) }
+    ensures err { IfErr result (λ fault. fault.reason ≢ Reason.Memory → BrokenHeader order fault frame.now.offset (frame_bytes order frame.now.format frame.now.body.now)) }
+{
+    let (header, program) = view_header(alloc, frame, order)?;
+    match header.view().to_header(alloc) {
+        Ok(header) => Ok((header, program)),
+        Err(_) => Err(Fault {
+            place: frame.offset,
+            reason: Reason::Memory,
+        }),
+    }
+}
+
+/// A cursor behind the version.
+pub(crate) fn behind_version<'a>(frame: &Frame<'a>, order: Order) -> Cursor<'a>
+    requires { IsPlacedFrame order frame.now }
+    ensures { IsBehindVersion order frame.now.format frame.now.offset frame.now.body.now result }
+{
+    let initial_size = match frame.format {
+        Format::D32 => 4,
+        Format::D64 => 12,
+    };
+    let (_, behind) = frame.body.split_at(2);
+    Cursor::new(behind, frame.offset + initial_size + 2, order)
+}
+
+/// A copy of the bytes.
+pub(crate) fn copied(alloc: Global, bytes: &[u8], place: u64) -> Result<Items<u8>, Fault>
+    ensures ok { IfOk result (λ items. items ≡ bytes.now) }
+    ensures err { IfErr result (λ fault. fault.reason ≡ Reason.Memory) }
+{
+    match Vec::from_slice(alloc, bytes) {
+        Ok(values) => Ok(Items::new(values)),
+        Err(_) => Err(Fault {
+            place,
+            reason: Reason::Memory,
+        }),
+    }
+}

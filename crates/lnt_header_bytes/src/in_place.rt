@@ -1,0 +1,196 @@
+//! Headers whose entries stay where they lie, read from the bytes of their units.
+ghost use Rattle.std.specs.Prelude.{◌≡◌, ◌≢◌, ◌+◌, ◌^◌, ◌<◌, length, IfOk, IfErr};
+ghost use Rattle.lnt_wire.specs.FrameBytes.{frame_bytes, IsPlacedFrame};
+ghost use Rattle.lnt_wire.specs.Reading.{RefusesOr};
+ghost use Rattle.lnt_header_bytes.specs.Borrowed.{without_entries, AreFieldsRead, ArePlain};
+ghost use Rattle.lnt_header_bytes.specs.Broken.{BrokenHeader};
+ghost use Rattle.lnt_header_bytes.specs.FieldsBytes.{FieldsBytes, IsHeaderFault};
+ghost use Rattle.lnt_header_bytes.specs.HeaderBytes.{HeaderBytesIn};
+ghost use Rattle.lnt_header_bytes.specs.HeaderReading.{HasFields, standing};
+ghost use Rattle.lnt_header.specs.HeaderRules.{IsAddressSize, IsHeader};
+
+use crate::decode::{behind_version, copied};
+use crate::header_view::HeaderView;
+use crate::numbers::{Singles, read_lengths, read_singles};
+use crate::read_table::{EntriesInPlace, TableRead, read_table};
+use crate::start::read_start;
+use lnt_header::{Header, HeaderParts, Pair};
+use lnt_lists::Items;
+use lnt_wire::{Cursor, Fault, Format, Frame, Order, Reason};
+use std::alloc::Global;
+use std::marker::Model;
+
+/// A header whose directories and files stay where they lie, and are lent by the bytes that it was read from. It takes
+/// no memory for them.
+///
+/// Contracts see the parts of the whole header, as those of `Header` do.
+#[derive(Drop)]
+pub struct HeaderInPlace<'a> {
+    // The numbers and the formats, in a header without entries.
+    pub(crate) numbers: Header,
+    pub(crate) directories: EntriesInPlace<'a>,
+    pub(crate) files: EntriesInPlace<'a>,
+    pub(crate) extra: &'a [u8],
+}
+
+impl<'a> Model for HeaderInPlace<'a> {
+    ghost use Rattle.lnt_header.specs.declared.header.HeaderParts.{HeaderParts};
+    ghost use Rattle.lnt_header_bytes.specs.Borrowed.{header_over, IsHeaderOver};
+
+    ghost Value = { HeaderParts };
+
+    ghost view = { λ h. header_over h.numbers h.directories.count h.directories.bytes.now h.files.count h.files.bytes.now h.extra.now };
+
+    ghost invariant = { λ h. IsHeaderOver h.numbers h.directories.count h.directories.bytes.now h.files.count h.files.bytes.now h.extra.now };
+}
+
+impl<'a> HeaderInPlace<'a> {
+    /// The header, as it is seen by what needs no more than its numbers and a look at its entries.
+    pub fn view(&self) -> HeaderView<'_>
+        ensures { result ≡ self.now }
+    {
+        HeaderView::of(&self.numbers, self.directories, self.files, self.extra)
+    }
+
+    /// The numbers and the formats of the header: a header that has them, and no entries.
+    pub fn numbers(&self) -> &Header
+        ensures numbers { result.now ≡ without_entries self.now }
+        ensures header { IsHeader self.now }
+    {
+        &self.numbers
+    }
+}
+
+/// The header of a frame, whose entries stay where they lie, and the bytes of its program (DWARF 5, section 6.2.4).
+///
+/// It refuses with `Memory`, and else only where no header with a program is the frame's bytes. The fault is that of
+/// the first field that isn't there whole, or has a value that none may have, and its place is the field's first byte;
+/// where the fields of one byte end too early, that is where they end. It takes memory for the formats of the entries
+/// and the standard opcode lengths alone.
+#[tactic(auto, using(crate::proofs::HeaderFrames::refuses_start, crate::proofs::HeaderFrames::refuses_fields, crate::proofs::HeaderFrames::header_found))]
+pub fn view_header<'a>(
+    alloc: Global,
+    frame: &Frame<'a>,
+    order: Order,
+) -> Result<(HeaderInPlace<'a>, &'a [u8]), Fault>
+    requires { IsPlacedFrame order frame.now }
+    ensures ok { IfOk result (λ found. HeaderBytesIn order (found.0, found.1.now) (frame_bytes order frame.now.format frame.now.body.now)) }
+    ensures err { IfErr result (λ fault. fault.reason ≢ Reason.Memory → BrokenHeader order fault frame.now.offset (frame_bytes order frame.now.format frame.now.body.now)) }
+{
+    let mut cursor = behind_version(frame, order);
+    let start = read_start(&mut cursor, frame.format)?;
+    let place = cursor.place() - start.header.len() as u64;
+    let header = view_parts(
+        alloc,
+        start.header,
+        place,
+        order,
+        frame.format,
+        start.address_size,
+    )?;
+    Ok((header, cursor.rest()))
+}
+
+// A header, from the bytes that header_length counts, which stand at the place.
+fn view_parts<'a>(
+    alloc: Global,
+    header: &'a [u8],
+    place: u64,
+    order: Order,
+    format: Format,
+    address_size: u8,
+) -> Result<HeaderInPlace<'a>, Fault>
+    requires size { IsAddressSize address_size }
+    requires room { place + length header.now < 2 ^ 64 }
+    ensures ok { IfOk result (λ h. HasFields format order address_size header.entry.now h) }
+    ensures err { IfErr result (λ fault. RefusesOr (IsHeaderFault format order) (FieldsBytes format order) (standing place header.entry.now order) fault) }
+{
+    let mut cursor = Cursor::new(header, place, order);
+    let FieldsRead {
+        singles,
+        lengths,
+        directories,
+        files,
+    } = read_fields(alloc, &mut cursor, format)?;
+    let lengths = copied(alloc, lengths, place)?;
+    let (lying_directories, lying_files) = (directories.entries, files.entries);
+    let formats = (directories.pairs, files.pairs);
+    let numbers = plain_parts(
+        alloc,
+        singles,
+        lengths,
+        formats,
+        order,
+        format,
+        address_size,
+    );
+    Ok(HeaderInPlace {
+        numbers: Header::of(numbers),
+        directories: lying_directories,
+        files: lying_files,
+        extra: cursor.rest(),
+    })
+}
+
+// The parts of a header of these numbers and of the formats of directories and files, without entries.
+fn plain_parts(
+    alloc: Global,
+    singles: Singles,
+    lengths: Items<u8>,
+    formats: (Vec<Pair>, Vec<Pair>),
+    order: Order,
+    format: Format,
+    address_size: u8,
+) -> HeaderParts
+    ensures { ArePlain format order address_size singles lengths formats.0.items formats.1.items result }
+{
+    let (directories, files) = formats;
+    HeaderParts {
+        format,
+        order,
+        address_size,
+        minimum_instruction_length: singles.minimum_instruction_length,
+        max_ops: singles.max_ops,
+        default_is_stmt: singles.default_is_stmt,
+        line_base: singles.line_base.cast_signed(),
+        line_range: singles.line_range,
+        opcode_base: singles.opcode_base,
+        standard_lengths: lengths,
+        directory_format: Items::new(directories),
+        directories: Items::new(Vec::new(alloc)),
+        file_format: Items::new(files),
+        files: Items::new(Vec::new(alloc)),
+        extra: Items::new(Vec::new(alloc)),
+    }
+}
+
+// What is read of a header before its last bytes.
+#[derive(Drop)]
+struct FieldsRead<'a> {
+    singles: Singles,
+    lengths: &'a [u8],
+    directories: TableRead<'a>,
+    files: TableRead<'a>,
+}
+
+// The fields up to the file table.
+#[tactic(auto, using(crate::proofs::HeaderReaders::refuses_singles, crate::proofs::HeaderReaders::refuses_lengths, crate::proofs::HeaderReaders::refuses_directories, crate::proofs::HeaderReaders::refuses_files, crate::proofs::ViewLemmas::fields_read))]
+fn read_fields<'a>(
+    alloc: Global,
+    cursor: &mut Cursor<'a>,
+    format: Format,
+) -> Result<FieldsRead<'a>, Fault>
+    ensures ok { IfOk result (λ f. AreFieldsRead format f.singles f.lengths.now f.directories f.files cursor.old cursor.new) }
+    ensures err { IfErr result (λ fault. RefusesOr (IsHeaderFault format cursor.old.order) (FieldsBytes format cursor.old.order) cursor.old fault) }
+{
+    let singles = read_singles(cursor)?;
+    let lengths = read_lengths(cursor, singles.opcode_base)?;
+    let directories = read_table(alloc, cursor, format)?;
+    let files = read_table(alloc, cursor, format)?;
+    Ok(FieldsRead {
+        singles,
+        lengths,
+        directories,
+        files,
+    })
+}

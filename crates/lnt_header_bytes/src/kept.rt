@@ -1,0 +1,175 @@
+//! Headers that are kept without the bytes of their units.
+ghost use Rattle.std.specs.Prelude.{◌≡◌, ◌++◌, IsTrue, IfOk};
+ghost use Rattle.lnt_header_bytes.specs.Borrowed.{without_entries, HasSameForm, HasSameNumbers};
+ghost use Rattle.lnt_header.specs.HeaderRules.{IsHeader};
+
+use crate::header_view::HeaderView;
+use crate::in_place::HeaderInPlace;
+use crate::read_table::EntriesInPlace;
+use lnt_header::{Header, Pair};
+use std::alloc::{AllocError, Global};
+use std::marker::Model;
+use std::rc::Rc;
+
+/// A header that is kept, with its directories and files as the bytes that spell them. Its numbers and the formats of its
+/// tables are shared by headers that have the same ones.
+///
+/// Contracts see the parts of the whole header, as those of `Header` do.
+#[derive(Drop)]
+pub struct KeptHeader {
+    // The numbers and the formats, in a header without entries.
+    numbers: Rc<Header>,
+    directories: u64,
+    files: u64,
+    // Those of the directories, those of the files, and those between the file table and the program.
+    bytes: Vec<u8>,
+    directory_size: usize,
+    file_size: usize,
+}
+
+impl Model for KeptHeader {
+    ghost use Rattle.lnt_header.specs.declared.header.HeaderParts.{HeaderParts};
+    ghost use Rattle.lnt_header_bytes.specs.Borrowed.{header_in_bytes, IsHeaderInBytes};
+
+    ghost Value = { HeaderParts };
+
+    ghost view = { λ h. header_in_bytes h.numbers.value h.directories h.files h.bytes.items h.directory_size h.file_size };
+
+    ghost invariant = { λ h. IsHeaderInBytes h.numbers.value h.directories h.files h.bytes.items h.directory_size h.file_size };
+}
+
+impl KeptHeader {
+    /// The header, as it is seen by what needs no more than its numbers and a look at its entries. It takes no memory.
+    pub fn view(&self) -> HeaderView<'_>
+        ensures { result ≡ self.now }
+    {
+        let (directories, rest) = self.bytes.split_at(self.directory_size);
+        let (files, extra) = rest.split_at(self.file_size);
+        HeaderView::of(
+            self.numbers.as_ref(),
+            EntriesInPlace {
+                count: self.directories,
+                bytes: directories,
+            },
+            EntriesInPlace {
+                count: self.files,
+                bytes: files,
+            },
+            extra,
+        )
+    }
+
+    /// The numbers and the formats of the header: a header that has them, and no entries.
+    #[inline(always)]
+    pub fn numbers(&self) -> &Header
+        ensures numbers { result.now ≡ without_entries self.now }
+        ensures header { IsHeader self.now }
+    {
+        self.numbers.as_ref()
+    }
+}
+
+impl<'a> HeaderInPlace<'a> {
+    /// The header, kept without the bytes that it was read from. It shares its numbers and formats with the other one,
+    /// if that has the same. It refuses only where memory runs out.
+    pub fn keep(self, alloc: Global, other: Option<&KeptHeader>) -> Result<KeptHeader, AllocError>
+        ensures { IfOk result (λ kept. kept ≡ self.entry) }
+    {
+        let HeaderInPlace {
+            numbers,
+            directories,
+            files,
+            extra,
+        } = self;
+        let bytes = joined(alloc, directories.bytes, files.bytes, extra)?;
+        let numbers = shared(alloc, numbers, other)?;
+        Ok(KeptHeader {
+            numbers,
+            directories: directories.count,
+            files: files.count,
+            bytes,
+            directory_size: directories.bytes.len(),
+            file_size: files.bytes.len(),
+        })
+    }
+}
+
+// These bytes, one behind the other.
+fn joined(alloc: Global, first: &[u8], second: &[u8], third: &[u8]) -> Result<Vec<u8>, AllocError>
+    ensures { IfOk result (λ bytes. bytes.items ≡ first.now ++ (second.now ++ third.now)) }
+{
+    let size = first
+        .len()
+        .saturating_add(second.len())
+        .saturating_add(third.len());
+    let mut bytes = Vec::with_capacity(alloc, size)?;
+    bytes.extend_from_slice(first)?;
+    bytes.extend_from_slice(second)?;
+    bytes.extend_from_slice(third)?;
+    Ok(bytes)
+}
+
+// These numbers and formats: those of the other header, if they are the same.
+fn shared(
+    alloc: Global,
+    numbers: Header,
+    other: Option<&KeptHeader>,
+) -> Result<Rc<Header>, AllocError>
+    requires { numbers ≡ without_entries numbers }
+    ensures { IfOk result (λ shared. shared.value ≡ numbers) }
+{
+    if let Some(other) = other {
+        if are_same(&numbers, other.numbers()) {
+            return other.numbers.clone();
+        }
+    }
+    match Rc::new(alloc, numbers) {
+        Ok(shared) => Ok(shared),
+        Err(_) => Err(AllocError),
+    }
+}
+
+// Whether the headers, without entries, are the same.
+#[tactic(auto, using(crate::proofs::KeptLemmas::same_header))]
+fn are_same(one: &Header, other: &Header) -> bool
+    requires one { one.now ≡ without_entries one.now }
+    requires other { other.now ≡ without_entries other.now }
+    ensures { IsTrue result → one.now ≡ other.now }
+{
+    are_forms_same(one, other)
+        && are_numbers_same(one, other)
+        && are_bytes_same(one.standard_lengths(), other.standard_lengths())
+        && are_pairs_same(one.directory_format(), other.directory_format())
+        && are_pairs_same(one.file_format(), other.file_format())
+}
+
+fn are_forms_same(one: &Header, other: &Header) -> bool
+    ensures { IsTrue result → HasSameForm one.now other.now }
+{
+    one.format() == other.format()
+        && one.order() == other.order()
+        && one.address_size() == other.address_size()
+}
+
+fn are_numbers_same(one: &Header, other: &Header) -> bool
+    ensures { IsTrue result → HasSameNumbers one.now other.now }
+{
+    one.minimum_instruction_length() == other.minimum_instruction_length()
+        && one.max_ops() == other.max_ops()
+        && one.default_is_stmt() == other.default_is_stmt()
+        && one.line_base() == other.line_base()
+        && one.line_range() == other.line_range()
+        && one.opcode_base() == other.opcode_base()
+}
+
+fn are_bytes_same(one: &[u8], other: &[u8]) -> bool
+    ensures { IsTrue result → one.now ≡ other.now }
+{
+    one == other
+}
+
+fn are_pairs_same(one: &[Pair], other: &[Pair]) -> bool
+    ensures { IsTrue result → one.now ≡ other.now }
+{
+    one == other
+}

@@ -1,0 +1,25 @@
+//! The headers of DWARF 5 line number units as bytes: read, also with their entries left where they lie, kept, and written.
+#![tactic(auto)]
+
+mod decode;
+mod encode;
+mod header_view;
+mod in_place;
+mod kept;
+pub mod laws;
+mod numbers;
+mod pass;
+mod read_table;
+mod start;
+mod table;
+mod table_view;
+mod view_encode;
+
+pub use decode::decode_header;
+pub use encode::encode_header;
+pub use header_view::HeaderView;
+pub use in_place::{HeaderInPlace, view_header};
+pub use kept::KeptHeader;
+pub use read_table::EntriesInPlace;
+pub use table_view::TableView;
+pub use view_encode::put_header_view;

@@ -1,0 +1,109 @@
+//! The fields of one byte of a header.
+ghost use Rattle.std.specs.Prelude.{◌≡◌, ◌≢◌, ◌-◌, ◌+◌, ◌<◌, ◌≤◌, ◌^◌, ℕ, length, take, slice_index, IfOk, IfErr};
+ghost use Rattle.lnt_wire.specs.Reading.{Reads, Refuses};
+ghost use Rattle.lnt_header.specs.HeaderRules.{known_lengths};
+ghost use Rattle.lnt_header_bytes.specs.HeaderFaults.{SinglesBytes, IsSinglesFault, LengthsBytes, IsLengthsFault};
+
+use lnt_wire::{Cursor, Fault, Reason};
+
+/// The fields of one byte up to the standard opcode lengths.
+#[derive(Clone, Copy)]
+pub(crate) struct Singles {
+    pub minimum_instruction_length: u8,
+    pub max_ops: u8,
+    pub default_is_stmt: u8,
+    pub line_base: u8,
+    pub line_range: u8,
+    pub opcode_base: u8,
+}
+
+/// The six fields.
+#[tactic(auto, using(crate::proofs::HeaderReaders::max_ops_zero, crate::proofs::HeaderReaders::line_range_zero, crate::proofs::HeaderReaders::opcode_base_zero, crate::proofs::HeaderReaders::cut_singles, crate::proofs::HeaderReaders::reads_singles))]
+pub(crate) fn read_singles(cursor: &mut Cursor<'_>) -> Result<Singles, Fault>
+    ensures ok { IfOk result (λ s. Reads SinglesBytes s cursor.old cursor.new) }
+    ensures err { IfErr result (λ fault. Refuses IsSinglesFault SinglesBytes cursor.old fault) }
+{
+    let bytes = cursor.rest();
+    let place = cursor.place();
+    if bytes.len() > 1 && bytes[1] == 0 {
+        return Err(Fault {
+            place: place + 1,
+            reason: Reason::MaxOpsZero,
+        });
+    }
+    if bytes.len() > 4 && bytes[4] == 0 {
+        return Err(Fault {
+            place: place + 4,
+            reason: Reason::LineRangeZero,
+        });
+    }
+    if bytes.len() > 5 && bytes[5] == 0 {
+        return Err(Fault {
+            place: place + 5,
+            reason: Reason::OpcodeBaseZero,
+        });
+    }
+    match cursor.take(6) {
+        Ok(six) => Ok(Singles {
+            minimum_instruction_length: six[0],
+            max_ops: six[1],
+            default_is_stmt: six[2],
+            line_base: six[3],
+            line_range: six[4],
+            opcode_base: six[5],
+        }),
+        Err(_) => Err(Fault {
+            place: place + bytes.len() as u64,
+            reason: Reason::Truncated,
+        }),
+    }
+}
+
+/// How many operands a known opcode has.
+fn known_length(opcode: u8) -> u8
+    requires low { 1 ≤ opcode }
+    requires high { opcode ≤ 12 }
+    ensures { result ≡ slice_index known_lengths (opcode - 1) }
+{
+    match opcode {
+        2 | 3 | 4 | 5 | 9 | 12 => 1,
+        _ => 0,
+    }
+}
+
+/// The first opcode that isn't both standard and known.
+fn known_end(opcode_base: u8) -> u8
+    ensures low { result ≤ opcode_base }
+    ensures high { result ≤ 13 }
+    ensures whole { result < 13 → result ≡ opcode_base }
+{
+    if opcode_base < 13 { opcode_base } else { 13 }
+}
+
+/// The lengths of the standard opcodes.
+#[tactic(auto, using(crate::proofs::HeaderReaders::refuses_length, crate::proofs::HeaderReaders::cut_lengths, crate::proofs::HeaderReaders::reads_lengths))]
+pub(crate) fn read_lengths<'a>(cursor: &mut Cursor<'a>, opcode_base: u8) -> Result<&'a [u8], Fault>
+    requires { 0 < opcode_base }
+    ensures ok { IfOk result (λ lengths. Reads (LengthsBytes opcode_base) lengths.now cursor.old cursor.new) }
+    ensures err { IfErr result (λ fault. Refuses (IsLengthsFault opcode_base) (LengthsBytes opcode_base) cursor.old fault) }
+{
+    let bytes = cursor.rest();
+    let place = cursor.place();
+    let known = known_end(opcode_base);
+    for opcode in 1..known {
+        let i = opcode as usize - 1;
+        if i < bytes.len() && bytes[i] != known_length(opcode) {
+            return Err(Fault {
+                place: place + i as u64,
+                reason: Reason::StandardLength(opcode, bytes[i]),
+            });
+        }
+    }
+    match cursor.take(opcode_base as usize - 1) {
+        Ok(lengths) => Ok(lengths),
+        Err(_) => Err(Fault {
+            place: place + bytes.len() as u64,
+            reason: Reason::Truncated,
+        }),
+    }
+}

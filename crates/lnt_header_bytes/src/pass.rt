@@ -1,0 +1,104 @@
+//! Entries of a table that are passed: read where they lie, and kept nowhere.
+ghost use Rattle.std.specs.Prelude.{OnOk, IfOk, IfErr};
+ghost use Rattle.lnt_header_bytes.specs.Borrowed.{Passes, PassesAll};
+ghost use Rattle.lnt_header.specs.Joins.{Several};
+ghost use Rattle.lnt_header_bytes.specs.Layouts.{IsLayout};
+ghost use Rattle.lnt_header_bytes.specs.TableBytes.{ValuesBytes, EntryBytes};
+ghost use Rattle.lnt_header_bytes.specs.TableFaults.{IsEntryFault, IsEntriesFault};
+ghost use Rattle.lnt_wire.specs.Reading.{Refuses};
+
+use crate::table::{Layout, layout_of};
+use lnt_header::Pair;
+use lnt_wire::{Cursor, Fault, Form, Format};
+
+/// The bytes of as many entries as the count says. It takes no memory.
+#[tactic(auto, using(crate::proofs::PassLemmas::none_passed, crate::proofs::PassLemmas::one_more_passed, crate::proofs::PassLemmas::all_passed, crate::proofs::PassLemmas::refuses_passed))]
+pub(crate) fn pass_entries<'a>(
+    cursor: &mut Cursor<'a>,
+    format: Format,
+    pairs: &[Pair],
+    count: u64,
+) -> Result<&'a [u8], Fault>
+    ensures ok { IfOk result (λ bytes. PassesAll count (EntryBytes format cursor.old.order pairs.now) bytes.now cursor.old cursor.new) }
+    ensures err { IfErr result (λ fault. Refuses (IsEntriesFault format cursor.old.order pairs.now count) (Several count (EntryBytes format cursor.old.order pairs.now)) cursor.old fault) }
+{
+    let all = cursor.rest();
+    let layout = layout_of(pairs);
+    for _ in 0..count {
+        pass_entry(cursor, format, pairs, layout)?;
+    }
+    let (bytes, _) = all.split_at(all.len() - cursor.rest().len());
+    Ok(bytes)
+}
+
+// Passes the next entry.
+#[inline(always)]
+fn pass_entry(
+    cursor: &mut Cursor<'_>,
+    format: Format,
+    pairs: &[Pair],
+    layout: Layout,
+) -> Result<(), Fault>
+    requires { IsLayout layout pairs.now }
+    ensures ok { OnOk result (Passes (EntryBytes format cursor.old.order pairs.now) cursor.old cursor.new) }
+    ensures err { IfErr result (λ fault. Refuses (IsEntryFault format cursor.old.order pairs.now) (EntryBytes format cursor.old.order pairs.now) cursor.old fault) }
+{
+    match layout {
+        Layout::Path => pass_path(cursor, format, pairs),
+        Layout::IndexedPath => pass_indexed_path(cursor, format, pairs),
+        Layout::SummedPath => pass_summed_path(cursor, format, pairs),
+        Layout::Other => pass_values(cursor, format, pairs),
+    }
+}
+
+// Passes the next path.
+#[inline(always)]
+#[tactic(auto, using(crate::proofs::PassLemmas::path_passed, crate::proofs::ShortLemmas::first_refused))]
+fn pass_path(cursor: &mut Cursor<'_>, format: Format, pairs: &[Pair]) -> Result<(), Fault>
+    requires { IsLayout Layout.Path pairs.now }
+    ensures ok { OnOk result (Passes (EntryBytes format cursor.old.order pairs.now) cursor.old cursor.new) }
+    ensures err { IfErr result (λ fault. Refuses (IsEntryFault format cursor.old.order pairs.now) (EntryBytes format cursor.old.order pairs.now) cursor.old fault) }
+{
+    cursor.value(Form::LineStrp, format)?;
+    Ok(())
+}
+
+// Passes the next path and the index of its directory.
+#[inline(always)]
+#[tactic(auto, using(crate::proofs::PassLemmas::indexed_path_passed, crate::proofs::ShortLemmas::first_refused, crate::proofs::ShortLemmas::second_refused))]
+fn pass_indexed_path(cursor: &mut Cursor<'_>, format: Format, pairs: &[Pair]) -> Result<(), Fault>
+    requires { IsLayout Layout.IndexedPath pairs.now }
+    ensures ok { OnOk result (Passes (EntryBytes format cursor.old.order pairs.now) cursor.old cursor.new) }
+    ensures err { IfErr result (λ fault. Refuses (IsEntryFault format cursor.old.order pairs.now) (EntryBytes format cursor.old.order pairs.now) cursor.old fault) }
+{
+    cursor.value(Form::LineStrp, format)?;
+    cursor.value(Form::Udata, format)?;
+    Ok(())
+}
+
+// Passes the next path, the index of its directory and its MD5 sum.
+#[inline(always)]
+#[tactic(auto, using(crate::proofs::PassLemmas::summed_path_passed, crate::proofs::ShortLemmas::first_refused, crate::proofs::ShortLemmas::second_refused, crate::proofs::ShortLemmas::third_refused))]
+fn pass_summed_path(cursor: &mut Cursor<'_>, format: Format, pairs: &[Pair]) -> Result<(), Fault>
+    requires { IsLayout Layout.SummedPath pairs.now }
+    ensures ok { OnOk result (Passes (EntryBytes format cursor.old.order pairs.now) cursor.old cursor.new) }
+    ensures err { IfErr result (λ fault. Refuses (IsEntryFault format cursor.old.order pairs.now) (EntryBytes format cursor.old.order pairs.now) cursor.old fault) }
+{
+    cursor.value(Form::LineStrp, format)?;
+    cursor.value(Form::Udata, format)?;
+    cursor.value(Form::Data16, format)?;
+    Ok(())
+}
+
+// Passes the next entry, whatever its forms.
+#[inline(never)]
+#[tactic(auto, using(crate::proofs::PassLemmas::values_begun, crate::proofs::PassLemmas::values_next_passed, crate::proofs::PassLemmas::values_passed, crate::proofs::PassLemmas::refuses_value_passed))]
+fn pass_values(cursor: &mut Cursor<'_>, format: Format, pairs: &[Pair]) -> Result<(), Fault>
+    ensures ok { OnOk result (Passes (EntryBytes format cursor.old.order pairs.now) cursor.old cursor.new) }
+    ensures err { IfErr result (λ fault. Refuses (IsEntryFault format cursor.old.order pairs.now) (EntryBytes format cursor.old.order pairs.now) cursor.old fault) }
+{
+    for pair in pairs {
+        cursor.value(pair.form, format)?;
+    }
+    Ok(())
+}

@@ -1,0 +1,53 @@
+//! Tables of a header, read with their entries passed over.
+ghost use Rattle.std.specs.Prelude.{◌≡◌, IfOk, IfErr};
+ghost use Rattle.lnt_wire.specs.Reading.{RefusesOr};
+ghost use Rattle.lnt_header_bytes.specs.Borrowed.{IsTableRead};
+ghost use Rattle.lnt_header_bytes.specs.TableBytes.{TableOf};
+ghost use Rattle.lnt_header_bytes.specs.TableFaults.{IsTableFault};
+
+use crate::pass::pass_entries;
+use crate::table::read_pairs;
+use lnt_header::Pair;
+use lnt_wire::{Cursor, Fault, Format, Reason};
+use std::alloc::Global;
+
+/// Entries that lie one behind the other: how many there are, and their bytes.
+#[derive(Clone, Copy, Debug)]
+pub struct EntriesInPlace<'a> {
+    /// How many there are.
+    pub count: u64,
+    /// Their bytes, and no others.
+    pub bytes: &'a [u8],
+}
+
+/// What was read of a table: its format, and where its entries lie.
+#[derive(Drop)]
+pub(crate) struct TableRead<'a> {
+    pub pairs: Vec<Pair>,
+    pub entries: EntriesInPlace<'a>,
+}
+
+/// A format, and its entries, which are passed.
+#[tactic(auto, using(crate::proofs::TableReaders::refuses_count, crate::proofs::TableReaders::refuses_kinds, crate::proofs::TableReaders::refuses_size, crate::proofs::TableReaders::refuses_empty, crate::proofs::TableReaders::refuses_rest, crate::proofs::ViewLemmas::table_read))]
+pub(crate) fn read_table<'a>(
+    alloc: Global,
+    cursor: &mut Cursor<'a>,
+    format: Format,
+) -> Result<TableRead<'a>, Fault>
+    ensures ok { IfOk result (λ table. IsTableRead format table cursor.old cursor.new) }
+    ensures err { IfErr result (λ fault. RefusesOr (IsTableFault format cursor.old.order) (TableOf format cursor.old.order) cursor.old fault) }
+{
+    let count = cursor.u8()?;
+    let pairs = read_pairs(alloc, cursor, count)?;
+    let place = cursor.place();
+    let size = cursor.uleb()?;
+    if count == 0 && size > 0 {
+        return Err(Fault {
+            place,
+            reason: Reason::EmptyFormat,
+        });
+    }
+    let bytes = pass_entries(cursor, format, &pairs, size)?;
+    let entries = EntriesInPlace { count: size, bytes };
+    Ok(TableRead { pairs, entries })
+}

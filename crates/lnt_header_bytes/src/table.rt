@@ -1,0 +1,273 @@
+//! The two tables of a header.
+ghost use Rattle.std.specs.Prelude.{◌≡◌, ◌∷◌, ◌++◌, [], length, IfOk, IfErr};
+ghost use Rattle.lnt_header.specs.Joins.{Several};
+ghost use Rattle.lnt_wire.specs.Reading.{Reads, Refuses, RefusesOr};
+ghost use Rattle.lnt_header_bytes.specs.Layouts.{IsLayout, ReadsNext, entry_of};
+ghost use Rattle.lnt_header_bytes.specs.TableBytes.{PairBytes, ValuesBytes, EntryBytes};
+ghost use Rattle.lnt_header_bytes.specs.TableFaults.{IsPairFault, IsPairsFault, IsEntryFault, IsEntriesFault};
+
+use lnt_header::{Entry, Pair};
+use lnt_lists::ShortList;
+use lnt_wire::{Cursor, Fault, Form, FormValue, Format, Reason};
+use std::alloc::Global;
+
+// A content type and a form code.
+#[tactic(auto, using(crate::proofs::TableReaders::reads_pair, crate::proofs::TableReaders::refuses_pair_content, crate::proofs::TableReaders::refuses_pair_form, crate::proofs::TableReaders::refuses_unknown))]
+fn read_pair(cursor: &mut Cursor<'_>) -> Result<Pair, Fault>
+    ensures ok { IfOk result (λ pair. Reads PairBytes pair cursor.old cursor.new) }
+    ensures err { IfErr result (λ fault. Refuses IsPairFault PairBytes cursor.old fault) }
+{
+    let content = cursor.uleb()?;
+    let place = cursor.place();
+    let code = cursor.uleb()?;
+    match Form::of(code) {
+        Some(form) => Ok(Pair { content, form }),
+        None => Err(Fault {
+            place,
+            reason: Reason::UnknownForm(code),
+        }),
+    }
+}
+
+/// As many pairs as the count says.
+#[tactic(auto, using(crate::proofs::TableReaders::pairs_none, crate::proofs::TableReaders::pairs_more, crate::proofs::TableReaders::refuses_pairs))]
+pub(crate) fn read_pairs(
+    alloc: Global,
+    cursor: &mut Cursor<'_>,
+    count: u8,
+) -> Result<Vec<Pair>, Fault>
+    ensures ok { IfOk result (λ pairs. Reads (Several count PairBytes) pairs.items cursor.old cursor.new) }
+    ensures err { IfErr result (λ fault. RefusesOr (IsPairsFault count) (Several count PairBytes) cursor.old fault) }
+{
+    let Ok(mut pairs) = Vec::with_capacity(alloc, usize::from(count)) else {
+        return Err(no_memory(cursor));
+    };
+    for _ in 0..count {
+        let pair = read_pair(cursor)?;
+        if pairs.push(pair).is_err() {
+            return Err(no_memory(cursor));
+        }
+    }
+    Ok(pairs)
+}
+
+// One value for each pair.
+#[tactic(auto, using(crate::specs::Laws::Values::values_none, crate::specs::Laws::Values::values_next, crate::proofs::TableReaders::refuses_values_at))]
+fn read_values(
+    alloc: Global,
+    cursor: &mut Cursor<'_>,
+    format: Format,
+    pairs: &[Pair],
+) -> Result<ShortList<FormValue>, Fault>
+    ensures ok { IfOk result (λ values. Reads (ValuesBytes format cursor.old.order pairs.now) values cursor.old cursor.new) }
+    ensures err { IfErr result (λ fault. RefusesOr (IsEntryFault format cursor.old.order pairs.now) (ValuesBytes format cursor.old.order pairs.now) cursor.old fault) }
+{
+    let mut values = ShortList::new();
+    for pair in pairs {
+        let value = cursor.form(alloc, pair.form, format)?;
+        if values.push(alloc, value).is_err() {
+            return Err(no_memory(cursor));
+        }
+    }
+    Ok(values)
+}
+
+/// As many entries as the count says.
+#[tactic(auto, using(crate::proofs::TableReaders::entries_none, crate::proofs::TableReaders::refuses_entries))]
+pub(crate) fn read_entries(
+    alloc: Global,
+    cursor: &mut Cursor<'_>,
+    format: Format,
+    pairs: &[Pair],
+    count: u64,
+) -> Result<Vec<Entry>, Fault>
+    ensures ok { IfOk result (λ entries. Reads (Several count (EntryBytes format cursor.old.order pairs.now)) entries.items cursor.old cursor.new) }
+    ensures err { IfErr result (λ fault. RefusesOr (IsEntriesFault format cursor.old.order pairs.now count) (Several count (EntryBytes format cursor.old.order pairs.now)) cursor.old fault) }
+{
+    let Ok(mut entries) = Vec::with_capacity(alloc, first_room(cursor, count)) else {
+        return Err(no_memory(cursor));
+    };
+    let layout = layout_of(pairs);
+    for _ in 0..count {
+        read_entry(alloc, cursor, format, pairs, layout, &mut entries)?;
+    }
+    Ok(entries)
+}
+
+// How many of so many entries get room before they are read: a few, and no more than there are bytes left.
+fn first_room(cursor: &Cursor<'_>, count: u64) -> usize {
+    cursor.rest().len().min(count.min(32) as usize)
+}
+
+// What the values of an entry are. For those that compilers write there are functions that make the entry where it
+// stays.
+#[derive(Clone, Copy)]
+pub(crate) enum Layout {
+    // A path in `.debug_line_str`.
+    Path,
+    // The same, and the index of a directory.
+    IndexedPath,
+    // The same, and an MD5 sum.
+    SummedPath,
+    Other,
+}
+
+// The layout of a table's entries.
+pub(crate) fn layout_of(pairs: &[Pair]) -> Layout
+    ensures { IsLayout result pairs.now }
+{
+    match pairs {
+        [
+            Pair {
+                form: Form::LineStrp,
+                ..
+            },
+        ] => Layout::Path,
+        [
+            Pair {
+                form: Form::LineStrp,
+                ..
+            },
+            Pair {
+                form: Form::Udata,
+                ..
+            },
+        ] => Layout::IndexedPath,
+        [
+            Pair {
+                form: Form::LineStrp,
+                ..
+            },
+            Pair {
+                form: Form::Udata,
+                ..
+            },
+            Pair {
+                form: Form::Data16,
+                ..
+            },
+        ] => Layout::SummedPath,
+        _ => Layout::Other,
+    }
+}
+
+// The next entry, which is put behind those before it.
+#[inline(always)]
+fn read_entry(
+    alloc: Global,
+    cursor: &mut Cursor<'_>,
+    format: Format,
+    pairs: &[Pair],
+    layout: Layout,
+    entries: &mut Vec<Entry>,
+) -> Result<(), Fault>
+    requires { IsLayout layout pairs.now }
+    ensures ok { IfOk result (λ _. ReadsNext (EntryBytes format cursor.old.order pairs.now) entries.old.items entries.new.items cursor.old cursor.new) }
+    ensures err { IfErr result (λ fault. RefusesOr (IsEntryFault format cursor.old.order pairs.now) (EntryBytes format cursor.old.order pairs.now) cursor.old fault) }
+{
+    match layout {
+        Layout::Path => read_path(alloc, cursor, format, pairs, entries),
+        Layout::IndexedPath => read_indexed_path(alloc, cursor, format, pairs, entries),
+        Layout::SummedPath => read_summed_path(alloc, cursor, format, pairs, entries),
+        Layout::Other => read_other_entry(alloc, cursor, format, pairs, entries),
+    }
+}
+
+// The next path, which is put behind those before it.
+#[inline(always)]
+#[tactic(auto, using(crate::proofs::ShortLemmas::path_entry, crate::proofs::ShortLemmas::first_refused))]
+fn read_path(
+    alloc: Global,
+    cursor: &mut Cursor<'_>,
+    format: Format,
+    pairs: &[Pair],
+    entries: &mut Vec<Entry>,
+) -> Result<(), Fault>
+    requires { IsLayout Layout.Path pairs.now }
+    ensures ok { IfOk result (λ _. ReadsNext (EntryBytes format cursor.old.order pairs.now) entries.old.items entries.new.items cursor.old cursor.new) }
+    ensures err { IfErr result (λ fault. RefusesOr (IsEntryFault format cursor.old.order pairs.now) (EntryBytes format cursor.old.order pairs.now) cursor.old fault) }
+{
+    let path = cursor.form(alloc, Form::LineStrp, format)?;
+    push_entry(cursor, entries, ShortList::one(path))
+}
+
+// The next path and the index of its directory, which are put behind those before them.
+#[inline(always)]
+#[tactic(auto, using(crate::proofs::ShortLemmas::indexed_path_entry, crate::proofs::ShortLemmas::first_refused, crate::proofs::ShortLemmas::second_refused))]
+fn read_indexed_path(
+    alloc: Global,
+    cursor: &mut Cursor<'_>,
+    format: Format,
+    pairs: &[Pair],
+    entries: &mut Vec<Entry>,
+) -> Result<(), Fault>
+    requires { IsLayout Layout.IndexedPath pairs.now }
+    ensures ok { IfOk result (λ _. ReadsNext (EntryBytes format cursor.old.order pairs.now) entries.old.items entries.new.items cursor.old cursor.new) }
+    ensures err { IfErr result (λ fault. RefusesOr (IsEntryFault format cursor.old.order pairs.now) (EntryBytes format cursor.old.order pairs.now) cursor.old fault) }
+{
+    let path = cursor.form(alloc, Form::LineStrp, format)?;
+    let directory = cursor.form(alloc, Form::Udata, format)?;
+    push_entry(cursor, entries, ShortList::two(path, directory))
+}
+
+// The next path, the index of its directory and its MD5 sum, which are put behind those before them.
+#[inline(always)]
+#[tactic(auto, using(crate::proofs::ShortLemmas::summed_path_entry, crate::proofs::ShortLemmas::first_refused, crate::proofs::ShortLemmas::second_refused, crate::proofs::ShortLemmas::third_refused))]
+fn read_summed_path(
+    alloc: Global,
+    cursor: &mut Cursor<'_>,
+    format: Format,
+    pairs: &[Pair],
+    entries: &mut Vec<Entry>,
+) -> Result<(), Fault>
+    requires { IsLayout Layout.SummedPath pairs.now }
+    ensures ok { IfOk result (λ _. ReadsNext (EntryBytes format cursor.old.order pairs.now) entries.old.items entries.new.items cursor.old cursor.new) }
+    ensures err { IfErr result (λ fault. RefusesOr (IsEntryFault format cursor.old.order pairs.now) (EntryBytes format cursor.old.order pairs.now) cursor.old fault) }
+{
+    let path = cursor.form(alloc, Form::LineStrp, format)?;
+    let directory = cursor.form(alloc, Form::Udata, format)?;
+    let sum = cursor.form(alloc, Form::Data16, format)?;
+    push_entry(cursor, entries, ShortList::three(path, directory, sum))
+}
+
+// The next entry, whatever its forms, which is put behind those before it.
+#[inline(never)]
+fn read_other_entry(
+    alloc: Global,
+    cursor: &mut Cursor<'_>,
+    format: Format,
+    pairs: &[Pair],
+    entries: &mut Vec<Entry>,
+) -> Result<(), Fault>
+    ensures ok { IfOk result (λ _. ReadsNext (EntryBytes format cursor.old.order pairs.now) entries.old.items entries.new.items cursor.old cursor.new) }
+    ensures err { IfErr result (λ fault. RefusesOr (IsEntryFault format cursor.old.order pairs.now) (EntryBytes format cursor.old.order pairs.now) cursor.old fault) }
+{
+    let values = read_values(alloc, cursor, format, pairs)?;
+    push_entry(cursor, entries, values)
+}
+
+// Puts an entry of the values behind those before it.
+#[inline(always)]
+fn push_entry(
+    cursor: &Cursor<'_>,
+    entries: &mut Vec<Entry>,
+    values: ShortList<FormValue>,
+) -> Result<(), Fault>
+    ensures ok { IfOk result (λ _. entries.new.items ≡ entries.old.items ++ entry_of values ∷ []) }
+    ensures err { IfErr result (λ fault. fault.reason ≡ Reason.Memory) }
+{
+    if entries.push(Entry { values }).is_err() {
+        return Err(no_memory(cursor));
+    }
+    Ok(())
+}
+
+// That memory ran out where the cursor stands.
+fn no_memory(cursor: &Cursor<'_>) -> Fault
+    ensures { result.reason ≡ Reason.Memory }
+{
+    Fault {
+        place: cursor.place(),
+        reason: Reason::Memory,
+    }
+}
