@@ -1,6 +1,9 @@
 pub mod Allowed
 pub mod DecodeLemmas
 pub mod EncodeLemmas
+pub mod FieldsFaultLaws
+pub mod FirstFaultLaws
+pub mod FirstFieldLaws
 pub mod HeaderFrames
 pub mod HeaderReaders
 pub mod KeptLemmas
@@ -10,6 +13,8 @@ pub mod Places
 pub mod ShortLemmas
 pub mod SpelledHeaders
 pub mod StartReaders
+pub mod StartFaultLaws
+pub mod TableFaultLaws
 pub mod TableReaders
 pub mod TestLemmas
 pub mod ViewLemmas
