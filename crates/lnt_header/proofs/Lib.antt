@@ -1,1 +1,2 @@
+pub mod FirstFaultLaws
 pub mod TestLemmas

@@ -1,6 +1,8 @@
 pub mod Allowed
 pub mod DecodeLemmas
 pub mod EncodeLemmas
+pub mod FieldsFaultLaws
+pub mod FirstFieldLaws
 pub mod HeaderFrames
 pub mod HeaderReaders
 pub mod KeptLemmas
@@ -9,7 +11,9 @@ pub mod PassLemmas
 pub mod Places
 pub mod ShortLemmas
 pub mod SpelledHeaders
+pub mod StartFaultLaws
 pub mod StartReaders
+pub mod TableFaultLaws
 pub mod TableReaders
 pub mod ViewLemmas
 pub mod ViewPutLemmas

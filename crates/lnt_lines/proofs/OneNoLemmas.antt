@@ -1,5 +1,5 @@
 -- Of a section one thing is wrong first.
-use Rattle.std.proofs.Common.{◌≡◌, ◌⊎◌, ℕ, ◌+◌, List, [], ◌∷◌, ◌++◌, length, refl, sym, ap, subst, ◌∙◌, append_assoc, inl, inr}
+use Rattle.std.proofs.Common.{◌≡◌, ℕ, ◌+◌, List, [], ◌∷◌, ◌++◌, length, refl, sym, ap, subst, ◌∙◌, append_assoc}
 use Rattle.std.specs.Prelude.{Option}
 use Rattle.std.specs.List.{AllByRecursion}
 use Rattle.lnt_wire.specs.Bytes.{NoneSpelled}
@@ -7,6 +7,7 @@ use Rattle.lnt_wire.specs.declared.fault.Fault.{Fault}
 use Rattle.lnt_wire.specs.declared.format.Order.{Order}
 use Rattle.lnt_wire.proofs.LengthLaws.{same_rest}
 use Rattle.lnt_unit.specs.declared.unit.Parts.{Parts}
+use Rattle.lnt_unit.specs.Laws.{OneTrueFault}
 use Rattle.lnt_unit.specs.Laws.Units.{one_section, one_spelling}
 use Rattle.lnt_unit.specs.UnitBytes.{UnitBytesIn, UnitsFrom}
 use Rattle.lnt_rows.specs.declared.extent.Overlap.{Overlap}
@@ -17,7 +18,7 @@ use Rattle.lnt_lines.specs.declared.no.No.{No}
 use Rattle.lnt_lines.specs.declared.no.No.TheVariants as no
 use Rattle.lnt_lines.specs.declared.options.Options.{Options}
 use Rattle.lnt_lines.specs.Good.{IsSound}
-use Rattle.lnt_lines.specs.Laws.{AreMalformed, OneNo}
+use Rattle.lnt_lines.specs.Laws.{OneNo}
 use Rattle.lnt_lines.specs.Nos.{IsFirstFlaw, IsFlaw, IsMalformed, IsOverlap, IsTrueNo}
 use Rattle.lnt_lines.proofs.DraftLemmas.{distinct}
 use Rattle.lnt_lines.proofs.FlawLemmas.{all_at, same_pair, sound_well, units_begin}
@@ -116,21 +117,22 @@ two_flaws falls missing text general options section r s f g =
     let same : f.unit ≡ g.unit = same_flawed falls missing text general options.dead options.order 0 f.units g.units f.unit g.unit f.front g.front f.rest g.rest r s f.spelled g.spelled (sym f.split ∙ g.split) f.sound g.sound f.flaw g.flaw in
     one_flaw missing text general options.dead g.unit r s (subst (λ (unit : ℕ × Parts). IsFlaw text general options.dead unit r) same f.flaw) g.flaw
 
-by_kinds : FallIsNotOrdered → MissingFileIsNotThere → (text general : List ℕ) (options : Options) (section : List ℕ) (r s : No) → Kind text general options section r → Kind text general options section s
-    → (r ≡ s) ⊎ AreMalformed r s
-by_kinds falls missing text general options section r s (malformed f e m) (malformed g e' n) = inr (f, g, e, e')
-by_kinds falls missing text general options section r s (malformed f e m) (overlaps o e' q) = absurd (m.broken.none q.units q.spelled)
-by_kinds falls missing text general options section r s (malformed f e m) (flawed g) = absurd (flaw_and_malformed falls missing text general options section s f g m)
-by_kinds falls missing text general options section r s (overlaps o e q) (malformed g e' n) = absurd (n.broken.none q.units q.spelled)
-by_kinds falls missing text general options section r s (overlaps o e q) (overlaps o' e' q') =
-    inl (e ∙ ap (λ (overlap : Overlap). no.Overlap overlap.first overlap.second overlap.position) (two_overlaps text general options section o o' q q') ∙ sym e')
-by_kinds falls missing text general options section r s (overlaps o e q) (flawed g) = absurd (flaw_and_overlap falls missing text general options section s o g q)
-by_kinds falls missing text general options section r s (flawed f) (malformed g e' n) = absurd (flaw_and_malformed falls missing text general options section r g f n)
-by_kinds falls missing text general options section r s (flawed f) (overlaps o e' q) = absurd (flaw_and_overlap falls missing text general options section r o f q)
-by_kinds falls missing text general options section r s (flawed f) (flawed g) = inl (two_flaws falls missing text general options section r s f g)
+by_kinds : FallIsNotOrdered → MissingFileIsNotThere → OneTrueFault → (text general : List ℕ) (options : Options) (section : List ℕ) (r s : No) → Kind text general options section r
+    → Kind text general options section s → r ≡ s
+by_kinds falls missing faults text general options section r s (malformed f e m) (malformed g e' n) =
+    e ∙ ap no.Malformed (faults.fault options.order section f g m.broken.true_fault n.broken.true_fault) ∙ sym e'
+by_kinds falls missing faults text general options section r s (malformed f e m) (overlaps o e' q) = absurd (m.broken.none q.units q.spelled)
+by_kinds falls missing faults text general options section r s (malformed f e m) (flawed g) = absurd (flaw_and_malformed falls missing text general options section s f g m)
+by_kinds falls missing faults text general options section r s (overlaps o e q) (malformed g e' n) = absurd (n.broken.none q.units q.spelled)
+by_kinds falls missing faults text general options section r s (overlaps o e q) (overlaps o' e' q') =
+    e ∙ ap (λ (overlap : Overlap). no.Overlap overlap.first overlap.second overlap.position) (two_overlaps text general options section o o' q q') ∙ sym e'
+by_kinds falls missing faults text general options section r s (overlaps o e q) (flawed g) = absurd (flaw_and_overlap falls missing text general options section s o g q)
+by_kinds falls missing faults text general options section r s (flawed f) (malformed g e' n) = absurd (flaw_and_malformed falls missing text general options section r g f n)
+by_kinds falls missing faults text general options section r s (flawed f) (overlaps o e' q) = absurd (flaw_and_overlap falls missing text general options section r o f q)
+by_kinds falls missing faults text general options section r s (flawed f) (flawed g) = two_flaws falls missing text general options section r s f g
 
-pub one_no : FallIsNotOrdered → MissingFileIsNotThere → OneNo
-one_no falls missing = record {
+pub one_no : FallIsNotOrdered → MissingFileIsNotThere → OneTrueFault → OneNo
+one_no falls missing faults = record {
   one = λ text general options section r s h k.
-      by_kinds falls missing text general options section r s (kind_of text general options section r h) (kind_of text general options section s k);
+      by_kinds falls missing faults text general options section r s (kind_of text general options section r h) (kind_of text general options section s k);
 }

@@ -1,9 +1,8 @@
 -- What the laws of judged sections say.
 --     line, general   the bytes of .debug_line_str and of .debug_str
 --     dead            the address at which sequences of dead code begin, where one is given
-use Rattle.std.specs.Prelude.{◌≡◌, ◌≢◌, ◌⊎◌, ℕ, List, length, None, Option, Some}
+use Rattle.std.specs.Prelude.{◌≡◌, ◌≢◌, ℕ, List, length, None, Option, Some}
 use Rattle.std.specs.List.{All, Contains}
-use Rattle.lnt_wire.specs.declared.fault.Fault.{Fault}
 use Rattle.lnt_wire.specs.declared.format.Order.{Order}
 use Rattle.lnt_unit.specs.declared.unit.Parts.{Parts}
 use Rattle.lnt_unit.specs.UnitBytes.{SectionBytes}
@@ -13,7 +12,6 @@ use Rattle.lnt_rows.specs.Laws.{IsLastAt}
 use Rattle.lnt_rows.specs.Sequences.{answer_of, Holds, line_answer, live_sequences, Placed}
 use Rattle.lnt_entries.specs.Paths.{listed_sum, path_bytes}
 use Rattle.lnt_lines.specs.declared.no.No.{No}
-use Rattle.lnt_lines.specs.declared.no.No.TheVariants.{Malformed}
 use Rattle.lnt_lines.specs.declared.options.Options.{Options}
 use Rattle.lnt_lines.specs.Contents.{Contents, count_in, files_of, path_in, sum_in, TellsOf}
 use Rattle.lnt_lines.specs.Good.{IsGood}
@@ -56,13 +54,8 @@ pub record AnswersAsHolder : Type 0 where
   pub none : (dead : Option ℕ) (units : List (ℕ × Parts)) (p : Position)
       → ((placed : Placed) → Contains (live_sequences dead units) placed → Holds placed.rows p → ⊥) → line_answer dead units p ≡ None
 
--- Both reasons tell a fault of the section's bytes.
-abbrev pub AreMalformed : No → No → Type 0
-AreMalformed one other = (fault : Fault) × (other_fault : Fault) × (one ≡ Malformed fault) × (other ≡ Malformed other_fault)
-
--- Of one section, under one choice of options, at most one reason is true; but which fault is told of bytes in which no unit was found
--- isn't said.
+-- Of one section, under one choice of options, at most one reason is true. Where the bytes are malformed, that is one fault, at one
+-- place.
 pub record OneNo : Type 0 where
   pub one : (line general : List ℕ) (options : Options) (section : List ℕ) (one other : No) → IsTrueNo line general options section one
-      → IsTrueNo line general options section other
-      → (one ≡ other) ⊎ AreMalformed one other
+      → IsTrueNo line general options section other → one ≡ other

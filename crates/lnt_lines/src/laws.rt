@@ -36,11 +36,12 @@ pub fn answers_as_holder()
 }
 
 /// Of one section at most one reason is true, and so one is told: the first flaw of the first unit that has one, or the first
-/// overlap, or that the bytes are malformed. Which fault is told of malformed bytes isn't said here.
+/// overlap, or that the bytes are malformed, with the one fault that is true of them and its place.
 #[tactic(auto, using(crate::proofs::OneNoLemmas::one_no))]
 pub fn one_no()
     ensures { OneNo }
 {
     lnt_rows::laws::fall_is_not_ordered();
     lnt_rows::laws::missing_file_is_not_there();
+    lnt_unit::laws::one_true_fault();
 }

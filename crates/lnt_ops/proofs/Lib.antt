@@ -1,6 +1,7 @@
 pub mod ConvertedLemmas
 pub mod ExtendedReaders
 pub mod LebSizes
+pub mod OpFaultLaws
 pub mod OpPutLemmas
 pub mod OpReaders
 pub mod OwnedLemmas

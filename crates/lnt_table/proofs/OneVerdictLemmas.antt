@@ -1,5 +1,5 @@
 -- Of a section and a table one verdict is true.
-use Rattle.std.proofs.Common.{◌≡◌, ◌⊎◌, ◌∙◌, ℕ, List, Option, refl, sym, ap, subst, inl, inr}
+use Rattle.std.proofs.Common.{◌≡◌, ◌∙◌, ℕ, List, Option, refl, sym, ap, subst, inl, inr}
 use Rattle.lnt_unit.specs.declared.unit.Parts.{Parts}
 use Rattle.lnt_unit.specs.Laws.Units.{same_units}
 use Rattle.lnt_spans.specs.declared.answer.Answer.{Answer}
@@ -17,14 +17,13 @@ use Rattle.lnt_records.specs.declared.fault.TableFault.TheVariants as fault
 use Rattle.lnt_records.specs.Laws.{NoFault, OneFault, OneTable}
 use Rattle.lnt_lines.specs.declared.no.No as section
 use Rattle.lnt_lines.specs.declared.options.Options.{Options}
-use Rattle.lnt_lines.specs.Laws as lines
 use Rattle.lnt_lines.specs.Laws.{GoodHasNoFlaw, OneNo}
 use Rattle.lnt_lines.specs.Nos.{IsTrueNo}
 use Rattle.lnt_table.specs.declared.verdict.TableNo.TheVariants as no
 use Rattle.lnt_table.specs.declared.verdict.Verdict.{Verdict}
 use Rattle.lnt_table.specs.declared.verdict.Verdict.TheVariants.{Yes, No}
 use Rattle.lnt_table.specs.Headline.{AnswersOtherwise, AnswersRight, IsFaultyTable, IsTrueVerdict, told_answer}
-use Rattle.lnt_table.specs.Laws.{AreMalformed, OneVerdict, OnlyYes}
+use Rattle.lnt_table.specs.Laws.{OneVerdict, OnlyYes}
 use Rattle.lnt_table.specs.Verdicts.{verdict_of}
 
 -- ---- the least difference
@@ -76,33 +75,29 @@ kind_of line general options bytes table (No (no.Number k i)) v = faulty (fault.
 kind_of line general options bytes table (No (no.Order k)) v = faulty (fault.Order k) refl v
 kind_of line general options bytes table (No (no.Differs position by_table by_section)) v = differs (record { position = position; by_table = by_table; by_section = by_section }) refl v
 
-both_bad : (v w : Verdict) (r s : section.No) → v ≡ No (no.Section r) → w ≡ No (no.Section s) → (r ≡ s) ⊎ lines.AreMalformed r s → (v ≡ w) ⊎ AreMalformed v w
-both_bad v w r s e e' (inl same) = inl (e ∙ ap (λ (reason : section.No). No (no.Section reason)) same ∙ sym e')
-both_bad v w r s e e' (inr m) =
-    inr (m.0, m.1, e ∙ ap (λ (reason : section.No). No (no.Section reason)) m.2, e' ∙ ap (λ (reason : section.No). No (no.Section reason)) m.3)
-
 by_kinds : OnlyYes → GoodHasNoFlaw → OneNo → OneTable → NoFault → OneFault → (line general : List ℕ) (options : Options) (bytes table : List ℕ) (v w : Verdict)
     → IsTrueVerdict line general options bytes table v → IsTrueVerdict line general options bytes table w → Kind line general options bytes table v → Kind line general options bytes table w
-    → (v ≡ w) ⊎ AreMalformed v w
+    → v ≡ w
 by_kinds only flawless reasons one none faults line general options bytes table v w h k (right a) other =
-    inl (only line general options bytes table v a h ∙ sym (only line general options bytes table w a k))
+    only line general options bytes table v a h ∙ sym (only line general options bytes table w a k)
 by_kinds only flawless reasons one none faults line general options bytes table v w h k (bad r e is) (right b) =
-    inl (only line general options bytes table v b h ∙ sym (only line general options bytes table w b k))
-by_kinds only flawless reasons one none faults line general options bytes table v w h k (bad r e is) (bad s e' is') = both_bad v w r s e e' (reasons.one line general options bytes r s is is')
+    only line general options bytes table v b h ∙ sym (only line general options bytes table w b k)
+by_kinds only flawless reasons one none faults line general options bytes table v w h k (bad r e is) (bad s e' is') =
+    e ∙ ap (λ (reason : section.No). No (no.Section reason)) (reasons.one line general options bytes r s is is') ∙ sym e'
 by_kinds only flawless reasons one none faults line general options bytes table v w h k (bad r e is) (faulty t e' is') = absurd (flawless line general options bytes is'.units r is'.good is)
 by_kinds only flawless reasons one none faults line general options bytes table v w h k (bad r e is) (differs d e' is') = absurd (flawless line general options bytes is'.units r is'.good is)
 by_kinds only flawless reasons one none faults line general options bytes table v w h k (faulty t e is) (right b) =
-    inl (only line general options bytes table v b h ∙ sym (only line general options bytes table w b k))
+    only line general options bytes table v b h ∙ sym (only line general options bytes table w b k)
 by_kinds only flawless reasons one none faults line general options bytes table v w h k (faulty t e is) (bad s e' is') = absurd (flawless line general options bytes is.units s is.good is')
 by_kinds only flawless reasons one none faults line general options bytes table v w h k (faulty t e is) (faulty u e' is') =
-    inl (e ∙ ap (λ (told : TableFault). verdict_of (Fault told)) (faults table t u is.faulty is'.faulty) ∙ sym e')
+    e ∙ ap (λ (told : TableFault). verdict_of (Fault told)) (faults table t u is.faulty is'.faulty) ∙ sym e'
 by_kinds only flawless reasons one none faults line general options bytes table v w h k (faulty t e is) (differs d e' is') = absurd (none table is'.version is'.spans t is'.is_table is.faulty)
 by_kinds only flawless reasons one none faults line general options bytes table v w h k (differs d e is) (right b) =
-    inl (only line general options bytes table v b h ∙ sym (only line general options bytes table w b k))
+    only line general options bytes table v b h ∙ sym (only line general options bytes table w b k)
 by_kinds only flawless reasons one none faults line general options bytes table v w h k (differs d e is) (bad s e' is') = absurd (flawless line general options bytes is.units s is.good is')
 by_kinds only flawless reasons one none faults line general options bytes table v w h k (differs d e is) (faulty u e' is') = absurd (none table is.version is.spans u is.is_table is'.faulty)
 by_kinds only flawless reasons one none faults line general options bytes table v w h k (differs d e is) (differs f e' is') =
-    inl (e ∙ ap (λ (difference : Difference). No (no.Differs difference.position difference.by_table difference.by_section)) (two_differences line general options bytes table d f one is is') ∙ sym e')
+    e ∙ ap (λ (difference : Difference). No (no.Differs difference.position difference.by_table difference.by_section)) (two_differences line general options bytes table d f one is is') ∙ sym e'
 
 pub one_verdict : OnlyYes → GoodHasNoFlaw → OneNo → OneTable → NoFault → OneFault → OneVerdict
 one_verdict only flawless reasons one none faults = record {

@@ -1,16 +1,13 @@
 -- What the laws of verdicts say.
-use Rattle.std.specs.Prelude.{◌≡◌, ◌⊎◌, ℕ, List}
-use Rattle.lnt_wire.specs.declared.fault.Fault.{Fault}
+use Rattle.std.specs.Prelude.{◌≡◌, ℕ, List}
 use Rattle.lnt_unit.specs.declared.unit.Parts.{Parts}
 use Rattle.lnt_spans.specs.declared.answer.Version.{Version}
-use Rattle.lnt_lines.specs.declared.no.No.TheVariants.{Malformed}
 use Rattle.lnt_lines.specs.declared.options.Options.{Options}
 use Rattle.lnt_lines.specs.Contents.{Contents}
 use Rattle.lnt_lines.specs.Drafts.{AreLinesOf}
 use Rattle.lnt_lines.specs.Good.{IsGood}
 use Rattle.lnt_table.specs.declared.verdict.Verdict.{Verdict}
-use Rattle.lnt_table.specs.declared.verdict.TableNo.TheVariants.{Section}
-use Rattle.lnt_table.specs.declared.verdict.Verdict.TheVariants.{No, Yes}
+use Rattle.lnt_table.specs.declared.verdict.Verdict.TheVariants.{Yes}
 use Rattle.lnt_table.specs.Headline.{AnswersRight, IsTrueVerdict}
 use Rattle.lnt_table.specs.Written.{IsTableOfLines, IsTableOfUnits}
 
@@ -19,16 +16,10 @@ abbrev pub OnlyYes : Type 0
 OnlyYes = (line general : List ℕ) (options : Options) (section table : List ℕ) (verdict : Verdict) → AnswersRight line general options section table
     → IsTrueVerdict line general options section table verdict → verdict ≡ Yes
 
--- Both verdicts tell a fault of the section's bytes.
-abbrev pub AreMalformed : Verdict → Verdict → Type 0
-AreMalformed one other = (fault : Fault) × (other_fault : Fault) × (one ≡ No (Section (Malformed fault))) × (other ≡ No (Section (Malformed other_fault)))
-
--- Of one section, table and choice of options at most one verdict is true; but which fault is told of bytes in which no unit was found
--- isn't said.
+-- Of one section, table and choice of options at most one verdict is true.
 pub record OneVerdict : Type 0 where
   pub one : (line general : List ℕ) (options : Options) (section table : List ℕ) (one other : Verdict)
-      → IsTrueVerdict line general options section table one
-      → IsTrueVerdict line general options section table other → (one ≡ other) ⊎ AreMalformed one other
+      → IsTrueVerdict line general options section table one → IsTrueVerdict line general options section table other → one ≡ other
 
 -- Of a good section, and a table that was written of its lines, no verdict is true but Yes.
 abbrev pub OwnTable : Type 0

@@ -21,8 +21,8 @@ pub fn only_yes()
     lnt_records::laws::no_fault();
 }
 
-/// Of one section, table and choice of options at most one verdict is true, so where nothing stops it, `check` has no choice.
-/// Which fault is told of malformed bytes isn't said here.
+/// Of one section, table and choice of options at most one verdict is true, so where nothing stops it, `check` has no choice: not
+/// even of the fault that it tells of malformed bytes, nor of its place.
 #[tactic(auto, using(crate::proofs::OneVerdictLemmas::one_verdict))]
 pub fn one_verdict()
     ensures { OneVerdict }

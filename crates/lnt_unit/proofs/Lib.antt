@@ -1,5 +1,6 @@
 pub mod InPlaceLemmas
 pub mod ConvertedLemmas
+pub mod OneFaultLemmas
 pub mod SectionLemmas
 pub mod JudgeLemmas
 pub mod UnitLemmas

@@ -38,6 +38,13 @@ pub record OneSection : Type 0 where
   pub units : (order : Order) (us vs : List (ℕ × Parts)) (bytes : List ℕ) → SectionBytes order us bytes → SectionBytes order vs bytes → us ≡ vs
   pub fault : (order : Order) (fault : Fault) (units : List (ℕ × Parts)) (bytes : List ℕ) → IsTrueFault order fault bytes → SectionBytes order units bytes → ⊥
 
+-- Of one section at most one fault is true, at one place and for one reason; and it stands behind the same units.
+pub record OneTrueFault : Type 0 where
+  pub fault : (order : Order) (section : List ℕ) (fault other : Fault) → IsTrueFault order fault section → IsTrueFault order other section
+      → fault ≡ other
+  pub units : (order : Order) (section : List ℕ) (fault other : Fault) → (one : IsTrueFault order fault section)
+      → (two : IsTrueFault order other section) → one.units ≡ two.units
+
 -- ---- what is allowed is spelled
 
 -- A unit that `Unit::new` allows is spelled by some bytes exactly where its format can say its offsets and its length. In the 64-bit

@@ -1,5 +1,5 @@
 //! Laws of the format, each the contract of a function without parameters that does nothing.
-ghost use Rattle.lnt_unit.specs.Laws.{AllowedIsSpelled, FaultOfSection, OneSection, OneSpelling, WholeWalk};
+ghost use Rattle.lnt_unit.specs.Laws.{AllowedIsSpelled, FaultOfSection, OneSection, OneSpelling, OneTrueFault, WholeWalk};
 
 /// Under one byte order no unit begins another's bytes, and each spells one unit (DWARF 5, section 6.2.4). So
 /// decoding what was encoded gives it back, whatever follows.
@@ -12,6 +12,13 @@ pub fn one_spelling()
 #[tactic(auto, using(crate::specs::Laws::Units::one_section))]
 pub fn one_section()
     ensures { OneSection }
+{}
+
+/// Of one section at most one fault is true, and so one is told: the units before it are those that the section begins with
+/// until no further unit follows, and of the bytes behind them one field is the first that isn't there.
+#[tactic(auto, using(crate::proofs::OneFaultLemmas::one_true_fault))]
+pub fn one_true_fault()
+    ensures { OneTrueFault }
 {}
 
 /// Parts that `Unit::new` allows are spelled by some bytes exactly where their format can say each offset and the unit's

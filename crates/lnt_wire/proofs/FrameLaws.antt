@@ -33,7 +33,7 @@ cut_none order format n behind bytes fits le e (too_long f m rest fits' g lt) =
     omega (arith, found.number, ap length found.behind)
 
 -- a reserved length begins no frame
-reserved_none : (order : Order) (format : Format) (n : ℕ) (behind bytes : List ℕ) → LengthFits format n
+pub reserved_none : (order : Order) (format : Format) (n : ℕ) (behind bytes : List ℕ) → LengthFits format n
     → initial_length format order n ++ behind ≡ bytes → IsReserved order bytes → ⊥
 reserved_none order D32 n behind bytes fits e r =
     let found = same_number_front order 4 width_4 n r.n behind r.rest (omega arith) (omega (arith, r.high)) (e ∙ r.joined) in

@@ -1,5 +1,7 @@
 pub mod CodeLaws
+pub mod FieldFaultLaws
 pub mod FirstValueLaws
+pub mod FrameFaultLaws
 pub mod FrameLaws
 pub mod FrameLemmas
 pub mod FrameListLemmas

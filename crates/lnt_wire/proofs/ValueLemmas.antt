@@ -17,7 +17,7 @@ use Rattle.lnt_wire.proofs.ValueLaws.{length_code}
 
 -- ---- texts
 
-no_text : (bytes text more : List ℕ) → HasNoZero bytes → (text ++ 0 ∷ []) ++ more ≡ bytes → ⊥
+pub no_text : (bytes text more : List ℕ) → HasNoZero bytes → (text ++ 0 ∷ []) ++ more ≡ bytes → ⊥
 no_text [] [] more h e = cc
 no_text [] (b ∷ text) more h e = cc
 no_text (a ∷ bytes) [] more h e = let heads : 0 ≡ a = cc in omega (arith, h.0)

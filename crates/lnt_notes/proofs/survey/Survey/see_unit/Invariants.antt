@@ -1,4 +1,4 @@
-use Rattle.lnt_header.specs.Borrowed.{without_entries}
+use Rattle.lnt_header_bytes.specs.Borrowed.{without_entries}
 use Rattle.lnt_machine.specs.Laws.Walks.{HaveHeader}
 use Rattle.lnt_notes.proofs.survey.Survey.see_unit.Given as goal
 

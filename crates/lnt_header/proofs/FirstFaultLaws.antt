@@ -1,0 +1,152 @@
+-- Where what is joined from parts has a fault, it isn't spelled, and its first fault is one. Crates above cite these.
+use Rattle.std.proofs.Common.{◌≡◌, ℕ, List, [], ◌∷◌, ◌++◌, sym, ap, subst, ◌∙◌, append_assoc}
+use Rattle.lnt_wire.specs.Bytes.{IsCode, NoneSpelled}
+use Rattle.lnt_wire.specs.declared.fault.Reason.{Reason}
+use Rattle.lnt_wire.proofs.CodeLaws.{peel}
+use Rattle.lnt_wire.proofs.FieldFaultLaws.{IsOneFieldFault}
+use Rattle.lnt_wire.proofs.LengthLaws.{same_rest}
+use Rattle.lnt_header.specs.FirstFaults.{FirstOf, FirstOfSeveral}
+use Rattle.lnt_header.specs.FirstFaults.FirstOf.{first, second}
+use Rattle.lnt_header.specs.FirstFaults.FirstOfSeveral.{next}
+use Rattle.lnt_header.specs.Joins.{Both, Each, Several}
+use Rattle.lnt_header.specs.Laws.Readers.{none_first, none_second, none_several}
+
+-- Faults that say no two things of the same bytes: one reason, at one place.
+abbrev pub AreOne : (Reason → List ℕ → List ℕ → Type 0) → Type 0
+AreOne IsSo =
+    (reason other : Reason) (before before' left left' : List ℕ) → IsSo reason before left → IsSo other before' left'
+    → before ++ left ≡ before' ++ left'
+    → (reason ≡ other) × (before ≡ before')
+
+-- The same, and no value begins bytes that have such a fault.
+pub record IsOneFault {X : Type 0} (Spells : X → List ℕ → Type 0) (IsSo : Reason → List ℕ → List ℕ → Type 0) : Type 0 where
+  pub none : (reason : Reason) (before left : List ℕ) → IsSo reason before left → NoneSpelled Spells (before ++ left)
+  pub one : AreOne IsSo
+
+-- the fault of a field, which stands where the field begins
+abbrev pub IsHere : (Reason → List ℕ → Type 0) → Reason → List ℕ → List ℕ → Type 0
+IsHere IsSo reason before left = (before ≡ []) × IsSo reason left
+
+pub field_fault : {X : Type 0} (Spells : X → List ℕ → Type 0) (IsSo : Reason → List ℕ → Type 0) → IsOneFieldFault Spells IsSo
+    → IsOneFault Spells (IsHere IsSo)
+field_fault Spells IsSo field = record {
+  none = λ reason before left h x spelling more p e. field.none reason left h.1 x spelling more p (e ∙ ap (λ (z : List ℕ). z ++ left) h.0);
+  one = λ reason other before before' left left' h k e.
+      let same : left ≡ left' = ap (λ (z : List ℕ). z ++ left) (sym h.0) ∙ e ∙ ap (λ (z : List ℕ). z ++ left') k.0 in
+      (field.one reason other left h.1 (subst (IsSo other) (sym same) k.1), h.0 ∙ sym k.0);
+}
+
+-- the same fault by another name
+pub fault_as : {X : Type 0} (P : X → List ℕ → Type 0) (IsSo IsAlso : Reason → List ℕ → List ℕ → Type 0)
+    → ((reason : Reason) (before left : List ℕ) → IsAlso reason before left → IsSo reason before left) → IsOneFault P IsSo
+    → IsOneFault P IsAlso
+fault_as P IsSo IsAlso is fault = record {
+  none = λ reason before left h. fault.none reason before left (is reason before left h);
+  one =
+      λ reason other before before' left left' h k e. fault.one reason other before before' left left' (is reason before left h)
+      (is other before' left' k) e;
+}
+
+-- no value of one kind, since there is none of another that each such value has
+pub fault_of_part : {X Y : Type 0} (P : X → List ℕ → Type 0) (Q : Y → List ℕ → Type 0) (IsSo : Reason → List ℕ → List ℕ → Type 0)
+    (part : Y → X)
+    → ((y : Y) (x : List ℕ) → Q y x → P (part y) x) → IsOneFault P IsSo → IsOneFault Q IsSo
+fault_of_part P Q IsSo part is fault =
+    record { none = λ reason before left h y x more q e. fault.none reason before left h (part y) x more (is y x q) e; one = fault.one }
+
+-- ---- a value, and then one whose kind it decides
+
+module _ {X : Type 0} (P : X → List ℕ → Type 0) (OfFirst : Reason → List ℕ → List ℕ → Type 0)
+    (OfSecond : X → Reason → List ℕ → List ℕ → Type 0) (code : IsCode P) where
+  -- a fault of the first where the first is there, and the second has a fault
+  abbrev pub AreApart : Type 0
+  AreApart =
+      (reason other : Reason) (x : X) (before left front behind left' : List ℕ) → OfFirst reason before left → P x front
+      → OfSecond x other behind left'
+      → before ++ left ≡ front ++ (behind ++ left') → ⊥
+
+  behind_first : (before front behind left : List ℕ) → before ≡ front ++ behind → before ++ left ≡ front ++ (behind ++ left)
+  behind_first before front behind left e = ap (λ (z : List ℕ). z ++ left) e ∙ append_assoc front behind left
+
+  -- the first fault is one
+  pub first_one : AreOne OfFirst → AreApart → ((x : X) → AreOne (OfSecond x)) → AreOne (FirstOf P OfFirst OfSecond)
+  first_one firsts apart seconds reason other before before' left left' (first h) (first k) e =
+      firsts reason other before before' left left' h k e
+  first_one firsts apart seconds reason other before before' left left' (first h) (second x front behind p joined k) e =
+      absurd (apart reason other x before left front behind left' h p k (e ∙ behind_first before' front behind left' joined))
+  first_one firsts apart seconds reason other before before' left left' (second x front behind p joined h) (first k) e =
+      absurd (apart other reason x before' left' front behind left k p h (sym e ∙ behind_first before front behind left joined))
+  first_one firsts apart seconds reason other before before' left left' (second x front behind p joined h)
+      (second y front' behind' q joined' k) e =
+      let all : front ++ (behind ++ left) ≡ front' ++ (behind' ++ left') =
+      sym (behind_first before front behind left joined) ∙ e ∙ behind_first before' front' behind' left' joined' in
+      let found = code.one x y front front' (behind ++ left) (behind' ++ left') p q all in
+      let rest = same_rest front front' (behind ++ left) (behind' ++ left') found.1 all in
+      let same = seconds y reason other behind behind' left left' (subst (λ (z : X). OfSecond z reason behind left) found.0 h) k rest in
+      (same.0, joined ∙ ap (λ (z : List ℕ). z ++ behind) found.1 ∙ ap (λ (z : List ℕ). front' ++ z) same.1 ∙ sym joined')
+
+  -- where the first part's faults leave none of it spelled
+  pub first_of : {Y : Type 0} (Q : X → Y → List ℕ → Type 0) → IsOneFault P OfFirst → ((x : X) → IsOneFault (Q x) (OfSecond x))
+      → IsOneFault (Both P Q) (FirstOf P OfFirst OfSecond)
+  first_of Q one_first one_second = record {
+    none = λ reason before left h. elim h [
+      | first k ↦ none_first P Q (before ++ left) (one_first.none reason before left k)
+      | second x front behind p joined k ↦
+          none_second P Q code x front (before ++ left) (behind ++ left) p (behind_first before front behind left joined)
+          ((one_second x).none reason behind left k)
+    ];
+    one = first_one one_first.one
+        (λ reason other x before left front behind left' h p k e. one_first.none reason before left h x front (behind ++ left') p (sym e))
+        (λ x. (one_second x).one);
+  }
+
+-- ---- values of one kind
+
+module _ {X : Type 0} (P : X → List ℕ → Type 0) (IsSo : Reason → List ℕ → List ℕ → Type 0) (code : IsCode P) (one : IsOneFault P IsSo) where
+  -- no value stands where there is a fault of one
+  none_here : (y : X) (ys : List X) (front rest before left : List ℕ) (reason : Reason) → IsSo reason before left → Each P (y ∷ ys) front
+      → before ++ left ≡ front ++ rest → ⊥
+  none_here y ys front rest before left reason h q e =
+      one.none reason before left h y q.front (q.back ++ rest) q.first
+      (sym (append_assoc q.front q.back rest) ∙ ap (λ (z : List ℕ). z ++ rest) (sym q.joined) ∙ sym e)
+
+  -- behind values that are there the fault of the next is one
+  pub each_one : (xs ys : List X) (reason other : Reason) (front front' behind behind' left left' : List ℕ) → Each P xs front
+      → Each P ys front' → IsSo reason behind left → IsSo other behind' left'
+      → front ++ (behind ++ left) ≡ front' ++ (behind' ++ left') → (reason ≡ other) × (front ++ behind ≡ front' ++ behind')
+  each_one [] [] reason other front front' behind behind' left left' p q h k e =
+      let found =
+      one.one reason other behind behind' left left' h k
+      (ap (λ (z : List ℕ). z ++ (behind ++ left)) (sym p) ∙ e ∙ ap (λ (z : List ℕ). z ++ (behind' ++ left')) q) in
+      (found.0, ap (λ (z : List ℕ). z ++ behind) p ∙ found.1 ∙ ap (λ (z : List ℕ). z ++ behind') (sym q))
+  each_one [] (y ∷ ys) reason other front front' behind behind' left left' p q h k e =
+      absurd (none_here y ys front' (behind' ++ left') behind left reason h q (ap (λ (z : List ℕ). z ++ (behind ++ left)) (sym p) ∙ e))
+  each_one (x ∷ xs) [] reason other front front' behind behind' left left' p q h k e =
+      absurd (none_here x xs front (behind ++ left) behind' left' other k p (ap (λ (z : List ℕ). z ++ (behind' ++ left')) (sym q) ∙ sym e))
+  each_one (x ∷ xs) (y ∷ ys) reason other front front' behind behind' left left' p q h k e =
+      let head = peel code x y front front' (behind ++ left) (behind' ++ left') p q e in
+      let rest = each_one xs ys reason other p.back q.back behind behind' left left' p.second q.second h k head.behind in
+      let before : front ++ behind ≡ p.front ++ (p.back ++ behind) =
+      ap (λ (z : List ℕ). z ++ behind) p.joined ∙ append_assoc p.front p.back behind in
+      let before' : front' ++ behind' ≡ q.front ++ (q.back ++ behind') =
+      ap (λ (z : List ℕ). z ++ behind') q.joined ∙ append_assoc q.front q.back behind' in
+      (rest.0, before ∙ ap (λ (z : List ℕ). z ++ (p.back ++ behind)) head.bytes ∙ ap (λ (z : List ℕ). q.front ++ z) rest.1 ∙ sym before')
+
+  -- the same of as many values as a count says
+  several_one : (n : ℕ) → AreOne (FirstOfSeveral n P IsSo)
+  several_one n reason other before before' left left' (next xs front behind lt each joined h) (next ys front' behind' lt' each' joined' k)
+      e =
+      let found = each_one xs ys reason other front front' behind behind' left left' each each' h k
+      (sym (ap (λ (z : List ℕ). z ++ left) joined ∙ append_assoc front behind left) ∙ e ∙ ap (λ (z : List ℕ). z ++ left') joined'
+      ∙ append_assoc front' behind' left') in
+      (found.0, joined ∙ found.1 ∙ sym joined')
+
+  pub several_of : (n : ℕ) → IsOneFault (Several n P) (FirstOfSeveral n P IsSo)
+  several_of n = record {
+    none = λ reason before left h. elim h [
+      | next xs front behind lt each joined k ↦
+          none_several P n xs front (behind ++ left) (before ++ left) code each lt
+          (ap (λ (z : List ℕ). z ++ left) joined ∙ append_assoc front behind left) (one.none reason behind left k)
+    ];
+    one = several_one n;
+  }

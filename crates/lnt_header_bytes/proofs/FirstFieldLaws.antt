@@ -1,0 +1,221 @@
+-- The first field of a header that isn't there is one, wherever it lies in the unit. Crates above cite these.
+use Rattle.std.proofs.Common.{◌≡◌, ℕ, ◌^◌, ◌<◌, ◌≤◌, List, [], ◌∷◌, ◌++◌, length, refl, sym, ap, subst, ◌∙◌, append_assoc, arith}
+use Rattle.std.proofs.lemmas.List.{append_cancel_left, length-append}
+use Rattle.lnt_wire.specs.FrameBytes.{version_five}
+use Rattle.lnt_wire.specs.FrameFaults.{InFrame}
+use Rattle.lnt_wire.specs.InitialFaults.{IsVersionFault}
+use Rattle.lnt_wire.specs.Numbers.{number_bytes, offset_size}
+use Rattle.lnt_wire.specs.declared.fault.Reason.{Reason}
+use Rattle.lnt_wire.specs.declared.format.Format.{Format}
+use Rattle.lnt_wire.specs.declared.format.Order.{Order}
+use Rattle.lnt_wire.proofs.FrameFaultLaws.{frame_fault_at, IsFrameFaultAt, IsOutside, outside_none, outside_one, same_frame, same_place}
+use Rattle.lnt_wire.proofs.FrameFaultLaws.{version_none, version_one}
+use Rattle.lnt_wire.proofs.FrameFaultLaws.IsFrameFaultAt.{outside_frame, in_version}
+use Rattle.lnt_wire.proofs.LengthLaws.{same_front, same_number_front}
+use Rattle.lnt_wire.proofs.ValueLaws.{offset_width}
+use Rattle.lnt_header_bytes.specs.Broken.{InHeader, IsFirstField, sound_start}
+use Rattle.lnt_header_bytes.specs.Broken.IsFirstField.{frame, start, counted}
+use Rattle.lnt_header_bytes.specs.FieldsBytes.{IsHeaderFault}
+use Rattle.lnt_header.specs.HeaderRules.{IsAddressSize}
+use Rattle.lnt_header_bytes.specs.Laws.Headers.{below}
+use Rattle.lnt_header_bytes.specs.StartBytes.{IsStartFault}
+use Rattle.lnt_header.proofs.FirstFaultLaws.{AreOne}
+use Rattle.lnt_header_bytes.proofs.FieldsFaultLaws.{fields_fault}
+use Rattle.lnt_header_bytes.proofs.StartFaultLaws.{start_fault}
+
+-- ---- the body of a unit
+
+-- the fields behind the version, up to a place among those that header_length counts
+abbrev up_to : Format → Order → ℕ → ℕ → List ℕ → List ℕ
+up_to format order size count behind = size ∷ 0 ∷ (number_bytes order (offset_size format) count ++ behind)
+
+-- What is wrong with a body: its version, a field up to header_length, or one of those that this counts.
+data IsBodyFault (order : Order) (format : Format) (reason : Reason) (fields left : List ℕ) : Type 0 where
+  of_version : fields ≡ [] → IsVersionFault order reason left → IsBodyFault order format reason fields left
+  of_start : (behind : List ℕ) → fields ≡ version_five order ++ behind → IsStartFault format order reason behind left
+      → IsBodyFault order format reason fields left
+  of_counted : (size : ℕ) (behind later program : List ℕ) → IsAddressSize size → length (behind ++ later) < 256 ^ offset_size format
+      → fields ≡ version_five order ++ up_to format order size (length (behind ++ later)) behind → left ≡ later ++ program
+      → IsHeaderFault format order reason behind later
+      → IsBodyFault order format reason fields left
+
+-- what stands behind the version
+behind_version : (order : Order) (fields behind left : List ℕ) → fields ≡ version_five order ++ behind
+    → fields ++ left ≡ version_five order ++ (behind ++ left)
+behind_version order fields behind left e = ap (λ (z : List ℕ). z ++ left) e ∙ append_assoc (version_five order) behind left
+
+same_behind : (order : Order) (fields fields' behind behind' left left' : List ℕ) → fields ≡ version_five order ++ behind
+    → fields' ≡ version_five order ++ behind' → fields ++ left ≡ fields' ++ left'
+    → behind ++ left ≡ behind' ++ left'
+same_behind order fields fields' behind behind' left left' p q e =
+    append_cancel_left (version_five order) (behind ++ left) (behind' ++ left')
+    (sym (behind_version order fields behind left p) ∙ e ∙ behind_version order fields' behind' left' q)
+
+version_apart : (order : Order) (reason : Reason) (fields left fields' behind left' : List ℕ) → fields ≡ []
+    → IsVersionFault order reason left → fields' ≡ version_five order ++ behind
+    → fields ++ left ≡ fields' ++ left' → ⊥
+version_apart order reason fields left fields' behind left' nothing h joined e =
+    version_none order reason left (behind ++ left') h
+    (ap (λ (z : List ℕ). z ++ left) (sym nothing) ∙ e ∙ behind_version order fields' behind left' joined)
+
+-- header_length, and what it counts
+counted_on : (format : Format) (order : Order) (size count : ℕ) (behind left later program : List ℕ) → left ≡ later ++ program
+    → up_to format order size count behind ++ left ≡ size ∷ 0 ∷
+    (number_bytes order (offset_size format) count ++ ((behind ++ later) ++ program))
+counted_on format order size count behind left later program e =
+    let number = number_bytes order (offset_size format) count in
+    let tail : (number ++ behind) ++ left ≡ number ++ ((behind ++ later) ++ program) =
+    append_assoc number behind left ∙ ap (λ (z : List ℕ). number ++ (behind ++ z)) e
+    ∙ ap (λ (z : List ℕ). number ++ z) (sym (append_assoc behind later program)) in
+    ap (λ (z : List ℕ). size ∷ 0 ∷ z) tail
+
+-- a field up to header_length isn't at fault where all of them are there
+start_apart : (format : Format) (order : Order) (reason : Reason) (size : ℕ) (fields left behind later program : List ℕ)
+    → IsStartFault format order reason fields left → IsAddressSize size
+    → length (behind ++ later) < 256 ^ offset_size format
+    → fields ++ left ≡ size ∷ 0 ∷ (number_bytes order (offset_size format) (length (behind ++ later)) ++ ((behind ++ later) ++ program)) → ⊥
+start_apart format order reason size fields left behind later program h is fits e =
+    let number = number_bytes order (offset_size format) (length (behind ++ later)) in
+    let all : (size ∷ 0 ∷ (number ++ (behind ++ later))) ++ program ≡ fields ++ left =
+    ap (λ (z : List ℕ). size ∷ 0 ∷ z) (append_assoc number (behind ++ later) program) ∙ sym e in
+    (start_fault format order).none reason fields left h (size, (0, behind ++ later)) (size ∷ 0 ∷ (number ++ (behind ++ later))) program
+    (record {
+      front = size ∷ [];
+      back = 0 ∷ (number ++ (behind ++ later));
+      first = (is, refl);
+      second = record {
+        front = 0 ∷ [];
+        back = number ++ (behind ++ later);
+        first = (refl, refl);
+        second = record
+            { front = number; back = behind ++ later; first = record { fits = fits; spelled = refl }; second = refl; joined = refl };
+        joined = refl;
+      };
+      joined = refl;
+    })
+    all
+
+counted_one_body : (format : Format) (order : Order) (reason other : Reason) (size size' : ℕ)
+    (behind behind' later later' program program' : List ℕ) → length (behind ++ later) < 256 ^ offset_size format
+    → length (behind' ++ later') < 256 ^ offset_size format → IsHeaderFault format order reason behind later
+    → IsHeaderFault format order other behind' later'
+    → size ∷ 0 ∷ (number_bytes order (offset_size format) (length (behind ++ later)) ++ ((behind ++ later) ++ program))
+    ≡ size' ∷ 0 ∷ (number_bytes order (offset_size format) (length (behind' ++ later')) ++ ((behind' ++ later') ++ program'))
+    → (reason ≡ other) ×
+    (up_to format order size (length (behind ++ later)) behind ≡ up_to format order size' (length (behind' ++ later')) behind')
+counted_one_body format order reason other size size' behind behind' later later' program program' fits fits' h k e =
+    let n = length (behind ++ later) in
+    let m = length (behind' ++ later') in
+    let sizes : size ≡ size' = cc in
+    let tails : number_bytes order (offset_size format) n ++ ((behind ++ later) ++ program) ≡ number_bytes order (offset_size format) m ++
+    ((behind' ++ later') ++ program') = cc in
+    let numbers =
+    same_number_front order (offset_size format) (offset_width format) n m ((behind ++ later) ++ program) ((behind' ++ later') ++ program')
+    fits fits' tails in
+    let bytes : behind ++ later ≡ behind' ++ later' =
+    same_front (behind ++ later) (behind' ++ later') program program' numbers.0 numbers.1 in
+    let found = (fields_fault format order).one reason other behind behind' later later' h k bytes in (
+      found.0,
+      ap (λ (s : ℕ). up_to format order s n behind) sizes ∙ ap (λ (c : ℕ). up_to format order size' c behind) numbers.0
+          ∙ ap (up_to format order size' m) found.1,
+    )
+
+body_one : (order : Order) (format : Format) → AreOne (IsBodyFault order format)
+body_one order format reason other fields fields' left left' (of_version nothing h) (of_version nothing' k) e =
+    let same : left ≡ left' = ap (λ (z : List ℕ). z ++ left) (sym nothing) ∙ e ∙ ap (λ (z : List ℕ). z ++ left') nothing' in
+    (version_one order reason other left h (subst (IsVersionFault order other) (sym same) k), nothing ∙ sym nothing')
+body_one order format reason other fields fields' left left' (of_version nothing h) (of_start behind joined k) e =
+    absurd (version_apart order reason fields left fields' behind left' nothing h joined e)
+body_one order format reason other fields fields' left left' (of_version nothing h)
+    (of_counted size behind later program is fits joined rest k) e =
+    absurd (version_apart order reason fields left fields' (up_to format order size (length (behind ++ later)) behind) left' nothing h
+    joined e)
+body_one order format reason other fields fields' left left' (of_start behind joined h) (of_version nothing k) e =
+    absurd (version_apart order other fields' left' fields behind left nothing k joined (sym e))
+body_one order format reason other fields fields' left left' (of_start behind joined h) (of_start behind' joined' k) e =
+    let found =
+    (start_fault format order).one reason other behind behind' left left' h k
+    (same_behind order fields fields' behind behind' left left' joined joined' e) in
+    (found.0, joined ∙ ap (λ (z : List ℕ). version_five order ++ z) found.1 ∙ sym joined')
+body_one order format reason other fields fields' left left' (of_start before joined h)
+    (of_counted size behind later program is fits joined' rest k) e =
+    absurd (start_apart format order reason size before left behind later program h is fits
+    (same_behind order fields fields' before (up_to format order size (length (behind ++ later)) behind) left left' joined joined' e
+    ∙ counted_on format order size (length (behind ++ later)) behind left' later program rest))
+body_one order format reason other fields fields' left left' (of_counted size behind later program is fits joined rest h)
+    (of_version nothing k) e =
+    absurd (version_apart order other fields' left' fields (up_to format order size (length (behind ++ later)) behind) left nothing k joined
+    (sym e))
+body_one order format reason other fields fields' left left' (of_counted size behind later program is fits joined rest h)
+    (of_start before joined' k) e =
+    absurd (start_apart format order other size before left' behind later program k is fits
+    (same_behind order fields' fields before (up_to format order size (length (behind ++ later)) behind) left' left joined' joined (sym e)
+    ∙ counted_on format order size (length (behind ++ later)) behind left later program rest))
+body_one order format reason other fields fields' left left' (of_counted size behind later program is fits joined rest h)
+    (of_counted size' behind' later' program' is' fits' joined' rest' k) e =
+    let all = sym (counted_on format order size (length (behind ++ later)) behind left later program rest)
+    ∙ same_behind order fields fields' (up_to format order size (length (behind ++ later)) behind)
+    (up_to format order size' (length (behind' ++ later')) behind') left left' joined joined' e
+    ∙ counted_on format order size' (length (behind' ++ later')) behind' left' later' program' rest' in
+    let found = counted_one_body format order reason other size size' behind behind' later later' program program' fits fits' h k all in
+    (found.0, joined ∙ ap (λ (z : List ℕ). version_five order ++ z) found.1 ∙ sym joined')
+
+-- ---- the first field
+
+-- A fault of a header lies outside of any frame, or in the body of one.
+data IsPlaced (order : Order) (reason : Reason) (before from : List ℕ) : Type 0 where
+  outside : IsOutside order reason before from → IsPlaced order reason before from
+  inside : (format : Format) (fields left : List ℕ) → InFrame order format fields left before from
+      → IsBodyFault order format reason fields left → IsPlaced order reason before from
+
+placed_in_frame : (order : Order) (reason : Reason) (before from : List ℕ) → IsFrameFaultAt order reason before from
+    → IsPlaced order reason before from
+placed_in_frame order reason before from (outside_frame h) = outside h
+placed_in_frame order reason before from (in_version format body w h) = inside format [] body w (of_version refl h)
+
+placed_in_header : (order : Order) (reason : Reason) (fields left before from : List ℕ) → (w : InHeader order fields left before from)
+    → IsHeaderFault w.format order reason fields left
+    → IsPlaced order reason before from
+placed_in_header order reason fields left before from w h =
+    let number = number_bytes order (offset_size w.format) (length (fields ++ left)) in
+    let whole = sound_start order w.address_size ++ number ++ fields in
+    let few : length (fields ++ left) ≤ length (whole ++ (left ++ w.program)) = omega (
+      arith,
+      length-append whole (left ++ w.program),
+      length-append (sound_start order w.address_size ++ number) fields,
+      length-append left w.program,
+      length-append fields left,
+    ) in
+    let fits : length (fields ++ left) < 256 ^ offset_size w.format =
+    below w.format (length (whole ++ (left ++ w.program))) (length (fields ++ left)) w.in_frame.fits few in
+    let joined : whole ≡ version_five order ++ up_to w.format order w.address_size (length (fields ++ left)) fields =
+    append_assoc (sound_start order w.address_size) number fields
+    ∙ append_assoc (version_five order) (w.address_size ∷ 0 ∷ []) (number ++ fields) in
+    inside w.format whole (left ++ w.program) w.in_frame
+    (of_counted w.address_size fields left w.program w.address_size_is fits joined refl h)
+
+placed : (order : Order) (reason : Reason) (before from : List ℕ) → IsFirstField order reason before from
+    → IsPlaced order reason before from
+placed order reason before from (frame h) = placed_in_frame order reason before from (frame_fault_at order reason before from h)
+placed order reason before from (start format fields left w h) =
+    inside format (version_five order ++ fields) left w (of_start fields refl h)
+placed order reason before from (counted fields left w h) = placed_in_header order reason fields left before from w h
+
+placed_one : (order : Order) → AreOne (IsPlaced order)
+placed_one order reason other before before' from from' (outside h) (outside k) e =
+    outside_one order reason other before before' from from' h k e
+placed_one order reason other before before' from from' (outside h) (inside format fields left w k) e =
+    absurd (outside_none order reason format before from fields left before' from' h w e)
+placed_one order reason other before before' from from' (inside format fields left w h) (outside k) e =
+    absurd (outside_none order other format before' from' fields left before from k w (sym e))
+placed_one order reason other before before' from from' (inside f fields left w h) (inside g fields' left' v k) e =
+    let found = same_frame order f g fields left before from fields' left' before' from' w v e in
+    let same =
+    body_one order g reason other fields fields' left left' (subst (λ (r : Format). IsBodyFault order r reason fields left) found.0 h) k
+    found.1 in
+    (same.0, same_place order f g fields left before from fields' left' before' from' w v found.0 found.1 same.1)
+
+-- the first field of a header that isn't there is one
+pub first_field_one : (order : Order) → AreOne (IsFirstField order)
+first_field_one order reason other before before' from from' h k e =
+    placed_one order reason other before before' from from' (placed order reason before from h) (placed order other before' from' k) e

@@ -1,0 +1,455 @@
+-- Where no operation begins some bytes, its first fault is one; and so is that of a program. Crates above cite these.
+use Rattle.std.proofs.Common.{◌≡◌, ℕ, ◌+◌, ◌<◌, ◌≤◌, List, [], ◌∷◌, ◌++◌, length, get_or, refl, sym, ap, subst, ◌∙◌, append_assoc, arith}
+use Rattle.std.proofs.Common.{inl, inr}
+use Rattle.std.proofs.lemmas.List.{append-nil, get_or_past, length-append}
+use Rattle.lnt_wire.specs.Bytes.{Exactly, NoneSpelled}
+use Rattle.lnt_wire.specs.Leb128.{IsLeb, UnsignedLeb, SignedLeb, IsLargeUnsigned, IsLargeSigned, IsLebFault}
+use Rattle.lnt_wire.specs.Numbers.{NumberBytes}
+use Rattle.lnt_wire.specs.Reading.{IsCutShort}
+use Rattle.lnt_wire.specs.declared.fault.Fault.{Fault}
+use Rattle.lnt_wire.specs.declared.fault.Reason.{Reason}
+use Rattle.lnt_wire.specs.declared.fault.Reason.TheVariants.{ExtendedLength, LebTooLarge, Truncated}
+use Rattle.lnt_wire.proofs.CodeLaws.{unsigned_code}
+use Rattle.lnt_wire.proofs.FieldFaultLaws.{number_fault, signed_fault, unsigned_fault}
+use Rattle.lnt_wire.proofs.LengthLaws.{length-number_bytes, same_front, same_rest}
+use Rattle.lnt_header.specs.FieldFaults.{IsWrongOperand}
+use Rattle.lnt_header.specs.FirstFaults.{FirstOfSeveral}
+use Rattle.lnt_header.specs.FirstFaults.FirstOfSeveral.{next}
+use Rattle.lnt_header.specs.HeaderRules.{HasHeaderNumbers}
+use Rattle.lnt_header.specs.Joins.{Each, Several}
+use Rattle.lnt_header.specs.OpRules.{standard_length}
+use Rattle.lnt_header.specs.declared.header.HeaderParts.{HeaderParts}
+use Rattle.lnt_header.specs.declared.op.Op.{Op}
+use Rattle.lnt_header.specs.declared.op.Op.TheVariants.{Special, Copy, AdvancePc, AdvanceLine, SetFile, SetColumn, NegateStmt}
+use Rattle.lnt_header.specs.declared.op.Op.TheVariants.{SetBasicBlock, ConstAddPc, FixedAdvancePc, SetPrologueEnd, SetEpilogueBegin, SetIsa}
+use Rattle.lnt_header.specs.declared.op.Op.TheVariants.{UnknownStandard, EndSequence, SetAddress, SetDiscriminator, UnknownExtended}
+use Rattle.lnt_header.proofs.FirstFaultLaws.{AreOne, each_one, field_fault, IsHere, IsOneFault, several_of}
+use Rattle.lnt_ops.specs.Laws.Ops.{op_code, op_is_some}
+use Rattle.lnt_ops.specs.OpBytes.{Extended, OpBytes, Standard}
+use Rattle.lnt_ops.specs.OpFaults.{IsFirstFault, TakesUnsigned}
+use Rattle.lnt_ops.specs.OpFaults.IsFirstFault.{no_opcode, unsigned_operand, signed_operand, fixed_operand, unknown_operand, no_length}
+use Rattle.lnt_ops.specs.OpFaults.IsFirstFault.{cut_counted, wrong_counted, large_counted}
+use Rattle.lnt_ops.specs.OpSteps.{IsRightOperand}
+use Rattle.lnt_ops.specs.Programs.{BrokenProgram, IsFirstIn}
+
+-- ---- behind a zero byte
+
+-- The length isn't there; or it is, and what it counts is cut, or is no operation.
+data IsExtendedFault (address_size : ℕ) (reason : Reason) (behind left : List ℕ) : Type 0 where
+  missing : behind ≡ [] → IsLebFault IsLargeUnsigned reason left → IsExtendedFault address_size reason behind left
+  short : (n : ℕ) (spelling : List ℕ) → reason ≡ Truncated → UnsignedLeb n spelling → behind ≡ spelling → length left < n
+      → IsExtendedFault address_size reason behind left
+  wrong : (spelling operation rest : List ℕ) → reason ≡ ExtendedLength → behind ≡ [] → UnsignedLeb (length operation) spelling
+      → left ≡ spelling ++ (operation ++ rest)
+      → IsWrongOperand address_size operation → IsExtendedFault address_size reason behind left
+  large : (spelling operand rest : List ℕ) → reason ≡ LebTooLarge → UnsignedLeb (length operand + 1) spelling → behind ≡ spelling ++ 4 ∷ []
+      → left ≡ operand ++ rest → IsLeb operand
+      → IsLargeUnsigned operand → IsExtendedFault address_size reason behind left
+
+-- what stands from the length on
+short_joined : (spelling behind left : List ℕ) → behind ≡ spelling → behind ++ left ≡ spelling ++ left
+short_joined spelling behind left e = ap (λ (z : List ℕ). z ++ left) e
+
+wrong_joined : (spelling operation rest behind left : List ℕ) → behind ≡ [] → left ≡ spelling ++ (operation ++ rest)
+    → behind ++ left ≡ spelling ++ (operation ++ rest)
+wrong_joined spelling operation rest behind left nothing e = ap (λ (z : List ℕ). z ++ left) nothing ∙ e
+
+large_joined : (spelling operand rest behind left : List ℕ) → behind ≡ spelling ++ 4 ∷ [] → left ≡ operand ++ rest
+    → behind ++ left ≡ spelling ++ ((4 ∷ operand) ++ rest)
+large_joined spelling operand rest behind left e f =
+    ap (λ (z : List ℕ). z ++ left) e ∙ append_assoc spelling (4 ∷ []) left ∙ ap (λ (z : List ℕ). spelling ++ 4 ∷ z) f
+
+-- the same length in front, and what follows it
+record SameCount (m n : ℕ) (x y r s : List ℕ) : Type 0 where
+  count : m ≡ n
+  bytes : x ≡ y
+  behind : r ≡ s
+
+same_count : (m n : ℕ) (x y r s : List ℕ) → UnsignedLeb m x → UnsignedLeb n y → x ++ r ≡ y ++ s → SameCount m n x y r s
+same_count m n x y r s p q e =
+    let found = unsigned_code.one m n x y r s p q e in record { count = found.0; bytes = found.1; behind = same_rest x y r s found.1 e }
+
+-- a number that is too large fills no operation wrongly
+not_wrong : (address_size : ℕ) (operation operand : List ℕ) → operation ≡ 4 ∷ operand → IsLeb operand
+    → IsWrongOperand address_size operation → ⊥
+not_wrong address_size operation operand e shape w = elim (subst (IsWrongOperand address_size) e w) [
+  | inl h ↦ omega (arith, h.0)
+  | inr (inl h) ↦ omega (arith, h.0)
+  | inr (inr h) ↦ h.1 shape
+]
+
+extended_one : (address_size : ℕ) → AreOne (IsExtendedFault address_size)
+extended_one size reason other behind behind' left left' (missing nothing h) (missing nothing' k) e =
+    (field_fault UnsignedLeb (IsLebFault IsLargeUnsigned) unsigned_fault).one reason other behind behind' left left' (nothing, h)
+    (nothing', k) e
+extended_one size reason other behind behind' left left' (missing nothing h) (short n x is p joined lt) e =
+    absurd (unsigned_fault.none reason left h n x left' p
+    (sym (ap (λ (z : List ℕ). z ++ left) (sym nothing) ∙ e ∙ short_joined x behind' left' joined)))
+extended_one size reason other behind behind' left left' (missing nothing h) (wrong x op rest is nothing' p joined w) e =
+    absurd (unsigned_fault.none reason left h (length op) x (op ++ rest) p
+    (sym (ap (λ (z : List ℕ). z ++ left) (sym nothing) ∙ e ∙ wrong_joined x op rest behind' left' nothing' joined)))
+extended_one size reason other behind behind' left left' (missing nothing h) (large x o rest is p joined joined' shape much) e =
+    absurd (unsigned_fault.none reason left h (length o + 1) x ((4 ∷ o) ++ rest) p
+    (sym (ap (λ (z : List ℕ). z ++ left) (sym nothing) ∙ e ∙ large_joined x o rest behind' left' joined joined')))
+extended_one size reason other behind behind' left left' (short n x is p joined lt) (missing nothing k) e =
+    absurd (unsigned_fault.none other left' k n x left p
+    (sym (ap (λ (z : List ℕ). z ++ left') (sym nothing) ∙ sym e ∙ short_joined x behind left joined)))
+extended_one size reason other behind behind' left left' (short n x is p joined lt) (short n' x' is' p' joined' lt') e =
+    let found =
+    same_count n n' x x' left left' p p' (sym (short_joined x behind left joined) ∙ e ∙ short_joined x' behind' left' joined') in
+    (is ∙ sym is', joined ∙ found.bytes ∙ sym joined')
+extended_one size reason other behind behind' left left' (short n x is p joined lt) (wrong x' op rest is' nothing p' joined' w) e =
+    let found =
+    same_count n (length op) x x' left (op ++ rest) p p'
+    (sym (short_joined x behind left joined) ∙ e ∙ wrong_joined x' op rest behind' left' nothing joined') in
+    absurd (omega (arith, lt, found.count, ap length found.behind, length-append op rest))
+extended_one size reason other behind behind' left left' (short n x is p joined lt) (large x' o rest is' p' joined' f shape much) e =
+    let found =
+    same_count n (length o + 1) x x' left ((4 ∷ o) ++ rest) p p'
+    (sym (short_joined x behind left joined) ∙ e ∙ large_joined x' o rest behind' left' joined' f) in
+    absurd (omega (arith, lt, found.count, ap length found.behind, length-append o rest))
+extended_one size reason other behind behind' left left' (wrong x op rest is nothing p joined w) (missing nothing' k) e =
+    absurd (unsigned_fault.none other left' k (length op) x (op ++ rest) p
+    (sym (ap (λ (z : List ℕ). z ++ left') (sym nothing') ∙ sym e ∙ wrong_joined x op rest behind left nothing joined)))
+extended_one size reason other behind behind' left left' (wrong x op rest is nothing p joined w) (short n x' is' p' joined' lt) e =
+    let found =
+    same_count (length op) n x x' (op ++ rest) left' p p'
+    (sym (wrong_joined x op rest behind left nothing joined) ∙ e ∙ short_joined x' behind' left' joined') in
+    absurd (omega (arith, lt, found.count, ap length found.behind, length-append op rest))
+extended_one size reason other behind behind' left left' (wrong x op rest is nothing p joined w)
+    (wrong x' op' rest' is' nothing' p' joined' w') e = (is ∙ sym is', nothing ∙ sym nothing')
+extended_one size reason other behind behind' left left' (wrong x op rest is nothing p joined w)
+    (large x' o rest' is' p' joined' f shape much) e =
+    let found =
+    same_count (length op) (length o + 1) x x' (op ++ rest) ((4 ∷ o) ++ rest') p p'
+    (sym (wrong_joined x op rest behind left nothing joined) ∙ e ∙ large_joined x' o rest' behind' left' joined' f) in
+    let same : op ≡ 4 ∷ o = same_front op (4 ∷ o) rest rest' (omega (arith, found.count)) found.behind in
+    absurd (not_wrong size op o same shape w)
+extended_one size reason other behind behind' left left' (large x o rest is p joined f shape much) (missing nothing k) e =
+    absurd (unsigned_fault.none other left' k (length o + 1) x ((4 ∷ o) ++ rest) p
+    (sym (ap (λ (z : List ℕ). z ++ left') (sym nothing) ∙ sym e ∙ large_joined x o rest behind left joined f)))
+extended_one size reason other behind behind' left left' (large x o rest is p joined f shape much) (short n x' is' p' joined' lt) e =
+    let found =
+    same_count (length o + 1) n x x' ((4 ∷ o) ++ rest) left' p p'
+    (sym (large_joined x o rest behind left joined f) ∙ e ∙ short_joined x' behind' left' joined') in
+    absurd (omega (arith, lt, found.count, ap length found.behind, length-append o rest))
+extended_one size reason other behind behind' left left' (large x o rest is p joined f shape much)
+    (wrong x' op rest' is' nothing p' joined' w) e =
+    let found =
+    same_count (length o + 1) (length op) x x' ((4 ∷ o) ++ rest) (op ++ rest') p p'
+    (sym (large_joined x o rest behind left joined f) ∙ e ∙ wrong_joined x' op rest' behind' left' nothing joined') in
+    let same : op ≡ 4 ∷ o = same_front op (4 ∷ o) rest' rest (omega (arith, found.count)) (sym found.behind) in
+    absurd (not_wrong size op o same shape w)
+extended_one size reason other behind behind' left left' (large x o rest is p joined f shape much)
+    (large x' o' rest' is' p' joined' f' shape' much') e =
+    let found =
+    same_count (length o + 1) (length o' + 1) x x' ((4 ∷ o) ++ rest) ((4 ∷ o') ++ rest') p p'
+    (sym (large_joined x o rest behind left joined f) ∙ e ∙ large_joined x' o' rest' behind' left' joined' f') in
+    (is ∙ sym is', joined ∙ ap (λ (z : List ℕ). z ++ 4 ∷ []) found.bytes ∙ sym joined')
+
+-- no right operation has such a fault: one whose operand fits its code, and whose discriminator is in range
+extended_none : (address_size : ℕ) (reason : Reason) (behind left : List ℕ) (code : ℕ) (operand spelling more : List ℕ)
+    → IsExtendedFault address_size reason behind left
+    → UnsignedLeb (length (code ∷ operand)) spelling → IsRightOperand address_size (code ∷ operand)
+    → (code ≡ 4 → IsLargeUnsigned operand → ⊥)
+    → spelling ++ ((code ∷ operand) ++ more) ≡ behind ++ left → ⊥
+extended_none size reason behind left code operand spelling more (missing nothing h) p right small e =
+    unsigned_fault.none reason left h (length (code ∷ operand)) spelling ((code ∷ operand) ++ more) p
+    (e ∙ ap (λ (z : List ℕ). z ++ left) nothing)
+extended_none size reason behind left code operand spelling more (short n x is q joined lt) p right small e =
+    let found =
+    same_count (length (code ∷ operand)) n spelling x ((code ∷ operand) ++ more) left p q (e ∙ short_joined x behind left joined) in
+    omega (arith, lt, found.count, ap length found.behind, length-append operand more)
+extended_none size reason behind left code operand spelling more (wrong x op rest is nothing q joined w) p right small e =
+    let found =
+    same_count (length (code ∷ operand)) (length op) spelling x ((code ∷ operand) ++ more) (op ++ rest) p q
+    (e ∙ wrong_joined x op rest behind left nothing joined) in
+    let same : op ≡ code ∷ operand = same_front op (code ∷ operand) rest more (sym found.count) (sym found.behind) in
+    elim (subst (IsWrongOperand size) same w) [
+      | inl h ↦ h.1 (right.0 h.0)
+      | inr (inl h) ↦ h.1 (right.1 h.0)
+      | inr (inr h) ↦ h.1 (right.2 h.0)
+    ]
+extended_none size reason behind left code operand spelling more (large x o rest is q joined f shape much) p right small e =
+    let found =
+    same_count (length (code ∷ operand)) (length o + 1) spelling x ((code ∷ operand) ++ more) ((4 ∷ o) ++ rest) p q
+    (e ∙ large_joined x o rest behind left joined f) in
+    let same : code ∷ operand ≡ 4 ∷ o = same_front (code ∷ operand) (4 ∷ o) more rest (omega (arith, found.count)) found.behind in
+    let codes : code ≡ 4 = cc in
+    let operands : o ≡ operand = cc in
+    small codes (subst IsLargeUnsigned operands much)
+
+-- ---- operands, by their opcodes
+
+-- What stands behind an opcode: a length and as many bytes, a number, no operand, or as many numbers as the header lists.
+data Operand : Type 0 where
+  counted : Operand
+  unsigned : Operand
+  signed : Operand
+  fixed : Operand
+  bare : Operand
+  listed : Operand
+
+abbrev operand_of : ℕ → Operand
+operand_of code =
+    get_or (counted ∷ bare ∷ unsigned ∷ signed ∷ unsigned ∷ unsigned ∷ bare ∷ bare ∷ bare ∷ fixed ∷ bare ∷ bare ∷ unsigned ∷ []) code listed
+
+abbrev OfOperand : HeaderParts → ℕ → Operand → Reason → List ℕ → List ℕ → Type 0
+OfOperand h code counted reason behind left = IsExtendedFault h.address_size reason behind left
+OfOperand h code unsigned reason behind left = IsHere (IsLebFault IsLargeUnsigned) reason behind left
+OfOperand h code signed reason behind left = IsHere (IsLebFault IsLargeSigned) reason behind left
+OfOperand h code fixed reason behind left = IsHere (IsCutShort 2) reason behind left
+OfOperand h code bare reason behind left = ⊥
+OfOperand h code listed reason behind left =
+    FirstOfSeveral (standard_length h code) UnsignedLeb (IsHere (IsLebFault IsLargeUnsigned)) reason behind left
+
+unsigned_here : IsOneFault UnsignedLeb (IsHere (IsLebFault IsLargeUnsigned))
+unsigned_here = field_fault UnsignedLeb (IsLebFault IsLargeUnsigned) unsigned_fault
+
+signed_here : IsOneFault SignedLeb (IsHere (IsLebFault IsLargeSigned))
+signed_here = field_fault SignedLeb (IsLebFault IsLargeSigned) signed_fault
+
+fixed_here : (h : HeaderParts) → IsOneFault (NumberBytes h.order 2) (IsHere (IsCutShort 2))
+fixed_here h = field_fault (NumberBytes h.order 2) (IsCutShort 2) (number_fault h.order 2)
+
+listed_here : (n : ℕ) → IsOneFault (Several n UnsignedLeb) (FirstOfSeveral n UnsignedLeb (IsHere (IsLebFault IsLargeUnsigned)))
+listed_here n = several_of UnsignedLeb (IsHere (IsLebFault IsLargeUnsigned)) unsigned_code unsigned_here n
+
+operand_one : (h : HeaderParts) (code : ℕ) (kind : Operand) → AreOne (OfOperand h code kind)
+operand_one h code counted reason other before before' left left' p q e =
+    extended_one h.address_size reason other before before' left left' p q e
+operand_one h code unsigned reason other before before' left left' p q e = unsigned_here.one reason other before before' left left' p q e
+operand_one h code signed reason other before before' left left' p q e = signed_here.one reason other before before' left left' p q e
+operand_one h code fixed reason other before before' left left' p q e = (fixed_here h).one reason other before before' left left' p q e
+operand_one h code bare reason other before before' left left' p q e = absurd p
+operand_one h code listed reason other before before' left left' p q e =
+    (listed_here (standard_length h code)).one reason other before before' left left' p q e
+
+-- the fault of an operand stands behind an opcode that isn't special
+record IsOperandFault (h : HeaderParts) (reason : Reason) (before left : List ℕ) : Type 0 where
+  code : ℕ
+  behind : List ℕ
+  within : code < h.opcode_base
+  joined : before ≡ code ∷ behind
+  fault : OfOperand h code (operand_of code) reason behind left
+
+data IsOpcodeFault (h : HeaderParts) (reason : Reason) (before left : List ℕ) : Type 0 where
+  nothing : reason ≡ Truncated → before ≡ [] → left ≡ [] → IsOpcodeFault h reason before left
+  operand : IsOperandFault h reason before left → IsOpcodeFault h reason before left
+
+takes_unsigned : (code : ℕ) → TakesUnsigned code → operand_of code ≡ unsigned
+takes_unsigned code (inl e) = ap operand_of e
+takes_unsigned code (inr (inl e)) = ap operand_of e
+takes_unsigned code (inr (inr (inl e))) = ap operand_of e
+takes_unsigned code (inr (inr (inr e))) = ap operand_of e
+
+takes_listed : (code : ℕ) → 13 ≤ code → operand_of code ≡ listed
+takes_listed code le =
+    get_or_past (counted ∷ bare ∷ unsigned ∷ signed ∷ unsigned ∷ unsigned ∷ bare ∷ bare ∷ bare ∷ fixed ∷ bare ∷ bare ∷ unsigned ∷ []) code
+    listed le
+
+opcode_fault : (h : HeaderParts) (reason : Reason) (before left : List ℕ) → 0 < h.opcode_base → IsFirstFault h reason before left
+    → IsOpcodeFault h reason before left
+opcode_fault h reason before left some (no_opcode e b l) = nothing e b l
+opcode_fault h reason before left some (unsigned_operand k takes lt b p) =
+    operand (record {
+      code = k;
+      behind = [];
+      within = lt;
+      joined = b;
+      fault = subst (λ (kind : Operand). OfOperand h k kind reason [] left)
+          (sym (takes_unsigned k takes)) (refl, p);
+    })
+opcode_fault h reason before left some (signed_operand lt b p) =
+    operand (record { code = 3; behind = []; within = lt; joined = b; fault = (refl, p) })
+opcode_fault h reason before left some (fixed_operand e lt b cut) =
+    operand (record { code = 9; behind = []; within = lt; joined = b; fault = (refl, record { reason_is = e; short = cut }) })
+opcode_fault h reason before left some (unknown_operand k numbers spelling le lt each fewer b p) =
+    operand (record {
+      code = k;
+      behind = spelling;
+      within = lt;
+      joined = b;
+      fault = subst (λ (kind : Operand). OfOperand h k kind reason spelling left) (sym (takes_listed k le))
+          (next numbers spelling [] fewer each (sym (append-nil spelling)) (refl, p));
+    })
+opcode_fault h reason before left some (no_length b p) =
+    operand (record { code = 0; behind = []; within = some; joined = b; fault = missing refl p })
+opcode_fault h reason before left some (cut_counted n spelling e p b cut) =
+    operand (record { code = 0; behind = spelling; within = some; joined = b; fault = short n spelling e p refl cut })
+opcode_fault h reason before left some (wrong_counted e b w) =
+    operand (record
+    { code = 0; behind = []; within = some; joined = b; fault = wrong w.0 w.1 w.2 e refl w.3 (w.4 ∙ append_assoc w.0 w.1 w.2) w.5 })
+opcode_fault h reason before left some (large_counted spelling o rest e p b l shape much) =
+    operand (record
+    { code = 0; behind = spelling ++ 4 ∷ []; within = some; joined = b; fault = large spelling o rest e p refl l shape much })
+
+opcode_one : (h : HeaderParts) → AreOne (IsOpcodeFault h)
+opcode_one h reason other before before' left left' (nothing is b l) (nothing is' b' l') e = (is ∙ sym is', b ∙ sym b')
+opcode_one h reason other before before' left left' (nothing is b l) (operand f) e =
+    absurd (omega
+    (arith, ap length e, length-append before left, length-append before' left', ap length b, ap length l, ap length f.joined))
+opcode_one h reason other before before' left left' (operand f) (nothing is b l) e =
+    absurd (omega
+    (arith, ap length e, length-append before left, length-append before' left', ap length b, ap length l, ap length f.joined))
+opcode_one h reason other before before' left left' (operand f) (operand g) e =
+    let all : f.code ∷ (f.behind ++ left) ≡ g.code ∷ (g.behind ++ left') =
+    ap (λ (z : List ℕ). z ++ left) (sym f.joined) ∙ e ∙ ap (λ (z : List ℕ). z ++ left') g.joined in
+    let codes : f.code ≡ g.code = cc in
+    let tails : f.behind ++ left ≡ g.behind ++ left' = cc in
+    let here : OfOperand h g.code (operand_of g.code) reason f.behind left =
+    subst (λ (c : ℕ). OfOperand h c (operand_of c) reason f.behind left) codes f.fault in
+    let found = operand_one h g.code (operand_of g.code) reason other f.behind g.behind left left' here g.fault tails in
+    (found.0, f.joined ∙ ap (λ (c : ℕ). c ∷ f.behind) codes ∙ ap (λ (z : List ℕ). g.code ∷ z) found.1 ∙ sym g.joined)
+
+-- ---- operations that are there
+
+-- the operand of a standard operation, and the fault that would be its own
+record StandardAt (h : HeaderParts) (k : ℕ) (OfOpcode : List ℕ → Type 0) (reason : Reason) (more behind left : List ℕ) : Type 0 where
+  bytes : List ℕ
+  spelled : OfOpcode bytes
+  joined : bytes ++ more ≡ behind ++ left
+  fault : OfOperand h k (operand_of k) reason behind left
+
+standard_at : (h : HeaderParts) (k : ℕ) (OfOpcode : List ℕ → Type 0) (reason : Reason) (before left x more : List ℕ)
+    → (f : IsOperandFault h reason before left) → Standard h k OfOpcode x
+    → x ++ more ≡ before ++ left → StandardAt h k OfOpcode reason more f.behind left
+standard_at h k OfOpcode reason before left x more f p e =
+    let whole : x ≡ k ∷ p.1.back = p.1.joined ∙ ap (λ (z : List ℕ). z ++ p.1.back) p.1.first in
+    let all : k ∷ (p.1.back ++ more) ≡ f.code ∷ (f.behind ++ left) =
+    ap (λ (z : List ℕ). z ++ more) (sym whole) ∙ e ∙ ap (λ (z : List ℕ). z ++ left) f.joined in
+    let codes : f.code ≡ k = cc in
+    let tails : p.1.back ++ more ≡ f.behind ++ left = cc in
+    record {
+      bytes = p.1.back;
+      spelled = p.1.second;
+      joined = tails;
+      fault = subst
+          (λ (c : ℕ). OfOperand h c (operand_of c) reason f.behind left) codes f.fault;
+    }
+
+extended_at : (h : HeaderParts) (code : ℕ) (OfCode : List ℕ → Type 0) (reason : Reason) (before left x more : List ℕ)
+    → IsOperandFault h reason before left → Extended code OfCode x
+    → x ++ more ≡ before ++ left
+    → ((bytes : List ℕ) → OfCode bytes → IsRightOperand h.address_size (code ∷ bytes) × (code ≡ 4 → IsLargeUnsigned bytes → ⊥)) → ⊥
+extended_at h code OfCode reason before left x more f p e right =
+    let bytes = p.1.back in
+    let rest : p.0 ≡ code ∷ bytes = p.1.joined ∙ ap (λ (z : List ℕ). z ++ bytes) p.1.first in
+    let inner = p.2.second in
+    let back : p.2.back ≡ inner.front ++ (code ∷ bytes) = inner.joined ∙ ap (λ (z : List ℕ). inner.front ++ z) (inner.second ∙ rest) in
+    let whole : x ≡ 0 ∷ (inner.front ++ (code ∷ bytes)) =
+    p.2.joined ∙ ap (λ (z : List ℕ). z ++ p.2.back) p.2.first ∙ ap (λ (z : List ℕ). 0 ∷ z) back in
+    let all : 0 ∷ ((inner.front ++ (code ∷ bytes)) ++ more) ≡ f.code ∷ (f.behind ++ left) =
+    ap (λ (z : List ℕ). z ++ more) (sym whole) ∙ e ∙ ap (λ (z : List ℕ). z ++ left) f.joined in
+    let codes : f.code ≡ 0 = cc in
+    let tails : (inner.front ++ (code ∷ bytes)) ++ more ≡ f.behind ++ left = cc in
+    let fault : IsExtendedFault h.address_size reason f.behind left =
+    subst (λ (c : ℕ). OfOperand h c (operand_of c) reason f.behind left) codes f.fault in
+    let spelled : UnsignedLeb (length (code ∷ bytes)) inner.front =
+    subst (λ (z : List ℕ). UnsignedLeb (length z) inner.front) rest inner.first in
+    let is = right bytes p.1.second in
+    extended_none h.address_size reason f.behind left code bytes inner.front more fault spelled is.0 is.1
+    (sym (append_assoc inner.front (code ∷ bytes) more) ∙ tails)
+
+-- no operation stands where an operand has a fault
+operand_none : (h : HeaderParts) (reason : Reason) (before left : List ℕ) (op : Op) (x more : List ℕ) → IsOperandFault h reason before left
+    → OpBytes h op x → x ++ more ≡ before ++ left → ⊥
+operand_none h reason before left (Special c) x more f p e =
+    let all : c ∷ more ≡ f.code ∷ (f.behind ++ left) =
+    ap (λ (z : List ℕ). z ++ more) (sym p.2) ∙ e ∙ ap (λ (z : List ℕ). z ++ left) f.joined in
+    let codes : c ≡ f.code = cc in
+    omega (arith, codes, p.0, f.within)
+operand_none h reason before left Copy x more f p e = (standard_at h 1 (Exactly []) reason before left x more f p e).fault
+operand_none h reason before left (AdvancePc n) x more f p e =
+    let s =
+    standard_at h 2 (UnsignedLeb n) reason before left x more f p e in unsigned_here.none reason f.behind left s.fault n s.bytes more
+    s.spelled s.joined
+operand_none h reason before left (AdvanceLine z) x more f p e =
+    let s =
+    standard_at h 3 (SignedLeb z) reason before left x more f p e in signed_here.none reason f.behind left s.fault z s.bytes more s.spelled
+    s.joined
+operand_none h reason before left (SetFile n) x more f p e =
+    let s =
+    standard_at h 4 (UnsignedLeb n) reason before left x more f p e in unsigned_here.none reason f.behind left s.fault n s.bytes more
+    s.spelled s.joined
+operand_none h reason before left (SetColumn n) x more f p e =
+    let s =
+    standard_at h 5 (UnsignedLeb n) reason before left x more f p e in unsigned_here.none reason f.behind left s.fault n s.bytes more
+    s.spelled s.joined
+operand_none h reason before left NegateStmt x more f p e = (standard_at h 6 (Exactly []) reason before left x more f p e).fault
+operand_none h reason before left SetBasicBlock x more f p e = (standard_at h 7 (Exactly []) reason before left x more f p e).fault
+operand_none h reason before left ConstAddPc x more f p e = (standard_at h 8 (Exactly []) reason before left x more f p e).fault
+operand_none h reason before left (FixedAdvancePc n) x more f p e =
+    let s =
+    standard_at h 9 (NumberBytes h.order 2 n) reason before left x more f p e in (fixed_here h).none reason f.behind left s.fault n s.bytes
+    more s.spelled s.joined
+operand_none h reason before left SetPrologueEnd x more f p e = (standard_at h 10 (Exactly []) reason before left x more f p e).fault
+operand_none h reason before left SetEpilogueBegin x more f p e = (standard_at h 11 (Exactly []) reason before left x more f p e).fault
+operand_none h reason before left (SetIsa n) x more f p e =
+    let s =
+    standard_at h 12 (UnsignedLeb n) reason before left x more f p e in unsigned_here.none reason f.behind left s.fault n s.bytes more
+    s.spelled s.joined
+operand_none h reason before left (UnknownStandard k numbers) x more f p e =
+    let s = standard_at h k (Each UnsignedLeb numbers) reason before left x more f p.2 e in
+    let fault : OfOperand h k listed reason f.behind left =
+    subst (λ (kind : Operand). OfOperand h k kind reason f.behind left) (takes_listed k p.0) s.fault in
+    (listed_here (standard_length h k)).none reason f.behind left fault numbers s.bytes more (p.1, s.spelled) s.joined
+operand_none h reason before left EndSequence x more f p e =
+    extended_at h 1 (Exactly []) reason before left x more f p e
+    (λ bytes q. ((λ _. q, λ two. absurd (omega (arith, two)), λ four. absurd (omega (arith, four))), λ four. omega (arith, four)))
+operand_none h reason before left (SetAddress address) x more f p e =
+    extended_at h 2 (NumberBytes h.order h.address_size address) reason before left x more f p e (λ bytes q. (
+      (
+        λ one. absurd (omega (arith, one)),
+        λ _. ap length q.spelled
+            ∙ length-number_bytes h.order h.address_size address,
+        λ four. absurd (omega (arith, four)),
+      ),
+      λ four. omega (arith, four),
+    ))
+operand_none h reason before left (SetDiscriminator n) x more f p e =
+    extended_at h 4 (UnsignedLeb n) reason before left x more f p e (λ bytes q. (
+      (λ one. absurd (omega (arith, one)), λ two. absurd (omega (arith, two)), λ _. q.shape),
+      λ _ much. omega (arith, much, q.value, q.fits),
+    ))
+operand_none h reason before left (UnknownExtended code taken) x more f p e =
+    extended_at h code (Exactly taken) reason before left x more f p.4 e (λ bytes q. (
+      (λ one. absurd (p.0 one), λ two. absurd (p.1 two), λ four. absurd (p.2 four)),
+      λ four. absurd (p.2 four),
+    ))
+
+opcode_none : (h : HeaderParts) (reason : Reason) (before left : List ℕ) → IsOpcodeFault h reason before left
+    → NoneSpelled (OpBytes h) (before ++ left)
+opcode_none h reason before left (nothing is b l) op x more p e =
+    omega (arith, op_is_some h op x p, ap length e, length-append x more, length-append before left, ap length b, ap length l)
+opcode_none h reason before left (operand f) op x more p e = operand_none h reason before left op x more f p e
+
+-- ---- operations, and programs
+
+pub first_fault : (h : HeaderParts) → HasHeaderNumbers h → IsOneFault (OpBytes h) (IsFirstFault h)
+first_fault h numbers =
+    let some : 0 < h.opcode_base = omega (arith, numbers.opcode_base) in
+    record {
+      none = λ reason before left f. opcode_none h reason before left (opcode_fault h reason before left some f);
+      one = λ reason other before before' left left' f g e.
+          opcode_one h reason other before before' left left' (opcode_fault h reason before left some f)
+          (opcode_fault h other before' left' some g) e;
+    }
+
+first_in_one : (h : HeaderParts) → HasHeaderNumbers h → AreOne (IsFirstIn h)
+first_in_one h numbers reason other before before' left left' f g e =
+    let all : f.front ++ (f.fields ++ left) ≡ g.front ++ (g.fields ++ left') =
+    sym (ap (λ (z : List ℕ). z ++ left) f.joined ∙ append_assoc f.front f.fields left) ∙ e ∙ ap (λ (z : List ℕ). z ++ left') g.joined
+    ∙ append_assoc g.front g.fields left' in
+    let found =
+    each_one (OpBytes h) (IsFirstFault h) (op_code h numbers) (first_fault h numbers) f.ops g.ops reason other f.front g.front f.fields
+    g.fields left left' f.sound g.sound f.fault g.fault all in
+    (found.0, f.joined ∙ found.1 ∙ sym g.joined)
+
+-- a program has one fault
+pub program_one : (h : HeaderParts) (place : ℕ) (program : List ℕ) (fault other : Fault) → HasHeaderNumbers h
+    → BrokenProgram h place program fault → BrokenProgram h place program other
+    → (fault.place ≡ other.place) × (fault.reason ≡ other.reason)
+program_one h place program fault other numbers f g =
+    let found = first_in_one h numbers fault.reason other.reason f.before g.before f.left g.left f.first g.first (sym f.split ∙ g.split) in
+    (omega (arith, f.place_is, g.place_is, ap length found.1), found.0)

@@ -1,0 +1,168 @@
+-- Where a field has a fault, no value of it is spelled, and no other fault of it is so of the same bytes. Crates above cite these.
+use Rattle.std.proofs.Common.{◌≡◌, ℕ, List, ◌++◌, length, refl, sym, ap, subst, ◌∙◌, append_assoc, arith}
+use Rattle.std.specs.Prelude.{FitsSigned}
+use Rattle.std.specs.Int.{w64}
+use Rattle.std.proofs.lemmas.List.{length-append}
+use Rattle.lnt_wire.specs.declared.fault.Reason.{Reason}
+use Rattle.lnt_wire.specs.declared.fault.Reason.TheVariants.{Truncated, LebTooLarge}
+use Rattle.lnt_wire.specs.declared.form.Form.{Form}
+use Rattle.lnt_wire.specs.declared.form.Form.TheVariants as forms
+use Rattle.lnt_wire.specs.declared.form.FormValue.{FormValue}
+use Rattle.lnt_wire.specs.declared.form.FormValue.TheVariants.{Text, LineStrp, Strp, Udata, Data1, Data2, Data4, Data8, Data16}
+use Rattle.lnt_wire.specs.declared.form.FormValue.TheVariants.{Block, Block1, Block2, Block4}
+use Rattle.lnt_wire.specs.declared.format.Format.{Format}
+use Rattle.lnt_wire.specs.declared.format.Order.{Order}
+use Rattle.lnt_wire.specs.Bytes.{IsCode, NoneSpelled, TakenBytes}
+use Rattle.lnt_wire.specs.FormBytes.{BlockBytes, form_of, FormBytes, TextBytes, ValueBytes}
+use Rattle.lnt_wire.specs.FormFaults.{IsBlockFault, IsCutText, IsValueFault}
+use Rattle.lnt_wire.specs.FormFaults.IsBlockFault.{no_length, cut_block}
+use Rattle.lnt_wire.specs.Leb128.{groups, signed_groups, UnsignedLeb, SignedLeb, IsLargeUnsigned, IsLargeSigned, IsLebFault}
+use Rattle.lnt_wire.specs.Numbers.{NumberBytes, offset_size}
+use Rattle.lnt_wire.specs.Reading.{IsCutShort}
+use Rattle.lnt_wire.proofs.CodeLaws.{number_code, same_leb, unsigned_code}
+use Rattle.lnt_wire.proofs.LebLemmas.{no_leb}
+use Rattle.lnt_wire.proofs.ValueLemmas.{no_text}
+use Rattle.lnt_wire.proofs.LengthLaws.{length-number_bytes, same_rest, width_1, width_2, width_4}
+
+-- What is so of a field: where it has a fault, the bytes begin with no value of it, and the reason is one.
+pub record IsOneFieldFault {X : Type 0} (Spells : X → List ℕ → Type 0) (IsSo : Reason → List ℕ → Type 0) : Type 0 where
+  pub none : (reason : Reason) (bytes : List ℕ) → IsSo reason bytes → NoneSpelled Spells bytes
+  pub one : (reason other : Reason) (bytes : List ℕ) → IsSo reason bytes → IsSo other bytes → reason ≡ other
+
+-- ---- numbers of fixed width, and bytes that stand for themselves
+
+-- each value has as many bytes
+pub short_fault : {X : Type 0} (Spells : X → List ℕ → Type 0) (size : ℕ) → ((x : X) (bytes : List ℕ) → Spells x bytes → length bytes ≡ size)
+    → IsOneFieldFault Spells (IsCutShort size)
+short_fault Spells size long = record {
+  none = λ reason bytes h x spelling more p e. omega (arith, h.short, long x spelling p, ap length e, length-append spelling more);
+  one = λ reason other bytes h k. h.reason_is ∙ sym k.reason_is;
+}
+
+pub number_fault : (order : Order) (size : ℕ) → IsOneFieldFault (NumberBytes order size) (IsCutShort size)
+number_fault order size = short_fault (NumberBytes order size) size (λ n bytes p. ap length p.spelled ∙ length-number_bytes order size n)
+
+taken_fault : (size : ℕ) → IsOneFieldFault (TakenBytes size) (IsCutShort size)
+taken_fault size = short_fault (TakenBytes size) size (λ taken bytes p. p.count_is)
+
+-- ---- LEB128 numbers
+
+-- one reason, whatever is too large
+leb_one : (IsLarge : List ℕ → Type 0) (reason other : Reason) (bytes : List ℕ) → IsLebFault IsLarge reason bytes
+    → IsLebFault IsLarge other bytes → reason ≡ other
+leb_one IsLarge Truncated Truncated bytes h k = refl
+leb_one IsLarge Truncated LebTooLarge bytes h k = absurd (no_leb k.0 k.1 bytes k.2 (sym k.4) h)
+leb_one IsLarge Truncated other bytes h k = absurd k
+leb_one IsLarge LebTooLarge Truncated bytes h k = absurd (no_leb h.0 h.1 bytes h.2 (sym h.4) k)
+leb_one IsLarge LebTooLarge LebTooLarge bytes h k = refl
+leb_one IsLarge LebTooLarge other bytes h k = absurd k
+leb_one IsLarge reason other bytes h k = absurd h
+
+unsigned_none : (reason : Reason) (bytes : List ℕ) → IsLebFault IsLargeUnsigned reason bytes → NoneSpelled UnsignedLeb bytes
+unsigned_none Truncated bytes h n x more p e = no_leb x more bytes p.shape e h
+unsigned_none LebTooLarge bytes h n x more p e =
+    let same : x ≡ h.0 = same_leb x h.0 more h.1 p.shape h.2 (e ∙ h.4) in omega (arith, p.value, p.fits, ap groups same, h.3)
+unsigned_none reason bytes h n x more p e = absurd h
+
+pub unsigned_fault : IsOneFieldFault UnsignedLeb (IsLebFault IsLargeUnsigned)
+unsigned_fault = record { none = unsigned_none; one = leb_one IsLargeUnsigned }
+
+signed_none : (reason : Reason) (bytes : List ℕ) → IsLebFault IsLargeSigned reason bytes → NoneSpelled SignedLeb bytes
+signed_none Truncated bytes h z x more p e = no_leb x more bytes p.shape e h
+signed_none LebTooLarge bytes h z x more p e =
+    let same : x ≡ h.0 = same_leb x h.0 more h.1 p.shape h.2 (e ∙ h.4) in
+    h.3 (subst (λ (b : List ℕ). FitsSigned w64 (signed_groups b)) same (subst (FitsSigned w64) p.value p.fits))
+signed_none reason bytes h z x more p e = absurd h
+
+pub signed_fault : IsOneFieldFault SignedLeb (IsLebFault IsLargeSigned)
+signed_fault = record { none = signed_none; one = leb_one IsLargeSigned }
+
+-- ---- texts
+
+text_fault : IsOneFieldFault TextBytes IsCutText
+text_fault = record {
+  none = λ reason bytes h text x more p e. no_text bytes text more h.no_zero (ap (λ (z : List ℕ). z ++ more) (sym p.joined) ∙ e);
+  one = λ reason other bytes h k. h.reason_is ∙ sym k.reason_is;
+}
+
+-- ---- blocks
+
+module _ (Length : ℕ → List ℕ → Type 0) (IsLengthFault : Reason → List ℕ → Type 0) (code : IsCode Length)
+    (field : IsOneFieldFault Length IsLengthFault) where
+  block_none : (reason : Reason) (bytes : List ℕ) → IsBlockFault Length IsLengthFault reason bytes → NoneSpelled (BlockBytes Length) bytes
+  block_none reason bytes (no_length h) block x more p e =
+      field.none reason bytes h (length block) p.front (p.back ++ more) p.first
+      (sym (append_assoc p.front p.back more) ∙ ap (λ (z : List ℕ). z ++ more) (sym p.joined) ∙ e)
+  block_none reason bytes (cut_block size y rest is q f lt) block x more p e =
+      let all : p.front ++ (p.back ++ more) ≡ y ++ rest =
+      sym (append_assoc p.front p.back more) ∙ ap (λ (z : List ℕ). z ++ more) (sym p.joined) ∙ e ∙ f in
+      let found = code.one (length block) size p.front y (p.back ++ more) rest p.first q all in
+      let behind : p.back ++ more ≡ rest = same_rest p.front y (p.back ++ more) rest found.1 all in
+      omega (arith, lt, found.0, ap length behind, length-append p.back more, ap length p.second)
+
+  block_one : (reason other : Reason) (bytes : List ℕ) → IsBlockFault Length IsLengthFault reason bytes
+      → IsBlockFault Length IsLengthFault other bytes → reason ≡ other
+  block_one reason other bytes (no_length h) (no_length k) = field.one reason other bytes h k
+  block_one reason other bytes (no_length h) (cut_block size y rest is q f lt) = absurd (field.none reason bytes h size y rest q (sym f))
+  block_one reason other bytes (cut_block size y rest is q f lt) (no_length k) = absurd (field.none other bytes k size y rest q (sym f))
+  block_one reason other bytes (cut_block size y rest is q f lt) (cut_block size' y' rest' is' q' f' lt') = is ∙ sym is'
+
+  block_fault : IsOneFieldFault (BlockBytes Length) (IsBlockFault Length IsLengthFault)
+  block_fault = record { none = block_none; one = block_one }
+
+leb_block : IsOneFieldFault (BlockBytes UnsignedLeb) (IsBlockFault UnsignedLeb (IsLebFault IsLargeUnsigned))
+leb_block = block_fault UnsignedLeb (IsLebFault IsLargeUnsigned) unsigned_code unsigned_fault
+
+block_1 : (order : Order) → IsOneFieldFault (BlockBytes (NumberBytes order 1)) (IsBlockFault (NumberBytes order 1) (IsCutShort 1))
+block_1 order = block_fault (NumberBytes order 1) (IsCutShort 1) (number_code order 1 width_1) (number_fault order 1)
+
+block_2 : (order : Order) → IsOneFieldFault (BlockBytes (NumberBytes order 2)) (IsBlockFault (NumberBytes order 2) (IsCutShort 2))
+block_2 order = block_fault (NumberBytes order 2) (IsCutShort 2) (number_code order 2 width_2) (number_fault order 2)
+
+block_4 : (order : Order) → IsOneFieldFault (BlockBytes (NumberBytes order 4)) (IsBlockFault (NumberBytes order 4) (IsCutShort 4))
+block_4 order = block_fault (NumberBytes order 4) (IsCutShort 4) (number_code order 4 width_4) (number_fault order 4)
+
+-- ---- values of a form
+
+value_none : (format : Format) (order : Order) (value : FormValue) (reason : Reason) (bytes x more : List ℕ)
+    → IsValueFault format order (form_of value) reason bytes
+    → FormBytes format order value x → x ++ more ≡ bytes → ⊥
+value_none format order (Text text) reason bytes x more h p e = text_fault.none reason bytes h text x more p e
+value_none format order (LineStrp n) reason bytes x more h p e = (number_fault order (offset_size format)).none reason bytes h n x more p e
+value_none format order (Strp n) reason bytes x more h p e = (number_fault order (offset_size format)).none reason bytes h n x more p e
+value_none format order (Udata n) reason bytes x more h p e = unsigned_fault.none reason bytes h n x more p e
+value_none format order (Data1 n) reason bytes x more h p e = (number_fault order 1).none reason bytes h n x more p e
+value_none format order (Data2 n) reason bytes x more h p e = (number_fault order 2).none reason bytes h n x more p e
+value_none format order (Data4 n) reason bytes x more h p e = (number_fault order 4).none reason bytes h n x more p e
+value_none format order (Data8 n) reason bytes x more h p e = (number_fault order 8).none reason bytes h n x more p e
+value_none format order (Data16 taken) reason bytes x more h p e = (taken_fault 16).none reason bytes h taken x more p e
+value_none format order (Block block) reason bytes x more h p e = leb_block.none reason bytes h block x more p e
+value_none format order (Block1 block) reason bytes x more h p e = (block_1 order).none reason bytes h block x more p e
+value_none format order (Block2 block) reason bytes x more h p e = (block_2 order).none reason bytes h block x more p e
+value_none format order (Block4 block) reason bytes x more h p e = (block_4 order).none reason bytes h block x more p e
+
+value_one : (format : Format) (order : Order) (form : Form) (reason other : Reason) (bytes : List ℕ)
+    → IsValueFault format order form reason bytes
+    → IsValueFault format order form other bytes → reason ≡ other
+value_one format order forms.Text reason other bytes h k = text_fault.one reason other bytes h k
+value_one format order forms.LineStrp reason other bytes h k = (number_fault order (offset_size format)).one reason other bytes h k
+value_one format order forms.Strp reason other bytes h k = (number_fault order (offset_size format)).one reason other bytes h k
+value_one format order forms.Udata reason other bytes h k = unsigned_fault.one reason other bytes h k
+value_one format order forms.Data1 reason other bytes h k = (number_fault order 1).one reason other bytes h k
+value_one format order forms.Data2 reason other bytes h k = (number_fault order 2).one reason other bytes h k
+value_one format order forms.Data4 reason other bytes h k = (number_fault order 4).one reason other bytes h k
+value_one format order forms.Data8 reason other bytes h k = (number_fault order 8).one reason other bytes h k
+value_one format order forms.Data16 reason other bytes h k = (taken_fault 16).one reason other bytes h k
+value_one format order forms.Block reason other bytes h k = leb_block.one reason other bytes h k
+value_one format order forms.Block1 reason other bytes h k = (block_1 order).one reason other bytes h k
+value_one format order forms.Block2 reason other bytes h k = (block_2 order).one reason other bytes h k
+value_one format order forms.Block4 reason other bytes h k = (block_4 order).one reason other bytes h k
+
+pub value_fault : (format : Format) (order : Order) (form : Form)
+    → IsOneFieldFault (ValueBytes format order form) (IsValueFault format order form)
+value_fault format order form = record {
+  none = λ reason bytes h value x more p e.
+      value_none format order value reason bytes x more (subst (λ (f : Form). IsValueFault format order f reason bytes) (sym p.form_is) h)
+      p.spelled e;
+  one = value_one format order form;
+}
