@@ -190,6 +190,35 @@ written_more radix n end old text start left w some =
       after = drop-set-lt end text (start - 1) code lt ∙ w.after;
     }
 
+-- two digits more
+pub two_digits_more : (n end : ℕ) (old text : List ℕ) (start left : ℕ) → Written Ten n end old text start left → 10 ≤ left
+    → Written Ten n end old (slice_set (slice_set text (start - 1) (digit_code (left % 100 % 10))) (start - 2) (digit_code (left % 100 / 10))) (start - 2) (left / 100)
+two_digits_more n end old text start left w some =
+    let one = written_more Ten n end old text start left w (omega (arith, some)) in
+    let two = written_more Ten n end old (slice_set text (start - 1) (digit_code (left % 10))) (start - 1) (left / 10) one (omega (arith, some)) in
+    let last : left % 10 ≡ left % 100 % 10 = omega arith in
+    let first : left / 10 % 10 ≡ left % 100 / 10 = omega arith in
+    let place : start - 1 - 1 ≡ start - 2 = omega arith in
+    let rest : left / 10 / 10 ≡ left / 100 = omega arith in
+    let placed : Written Ten n end old (slice_set (slice_set text (start - 1) (digit_code (left % 10))) (start - 2) (digit_code (left / 10 % 10))) (start - 2) (left / 100) = rw (place, rest) at two in
+    rw (← last, ← first) placed
+
+pub two_digits_room : (n end : ℕ) (old text : List ℕ) (start left : ℕ) → Written Ten n end old text start left → 10 ≤ left → 2 ≤ start
+two_digits_room n end old text start left w some =
+    let one = written_more Ten n end old text start left w (omega (arith, some)) in
+    let before = written_some Ten n end old text start left w (omega (arith, some)) in
+    let more = written_some Ten n end old (slice_set text (start - 1) (digit_code (left % 10))) (start - 1) (left / 10) one (omega (arith, some)) in
+    omega (arith, before, more)
+
+-- the first digit, behind others
+pub first_digit : (n end : ℕ) (old text : List ℕ) (start left : ℕ) → Written Ten n end old text start left → 0 < left → left < 10
+    → Written Ten n end old (slice_set text (start - 1) (digit_code left)) (start - 1) 0
+first_digit n end old text start left w some few =
+    let one = written_more Ten n end old text start left w some in
+    let last : left % 10 ≡ left = omega (arith, few) in
+    let rest : left / 10 ≡ 0 = omega (arith, few) in
+    rw (last, rest) at one
+
 pub written_all : (radix : Radix) (n end : ℕ) (old text : List ℕ) (start left : ℕ) → n < 2 ^ 64 → Written radix n end old text start left → left ≡ 0
     → IsPlain radix (drop start (take end text)) n
 written_all radix n end old text start left fits w e = stands_all radix n end (take end text) start left fits w.stands e

@@ -1,8 +1,9 @@
 //! Numbers written as text.
 ghost use Rattle.std.specs.Prelude.{◌≡◌, ℕ, ◌+◌, ◌++◌, ◌<◌, ◌≤◌, List, drop, length, take, OnOk, OnErr};
+ghost use Rattle.lnt_digits.specs.declared.radix.Radix.TheVariants.{Ten, Sixteen};
 ghost use Rattle.lnt_digits.specs.Digits.{IsPlain, IsPlainAddress, IsPlainDecimal, Puts, most_digits};
 
-use crate::radix::{Radix, digit_byte};
+use crate::radix::{Radix, decimal_byte, digit_byte};
 use std::alloc::AllocError;
 
 // As many digits as a number below 2^64 may have.
@@ -85,14 +86,56 @@ fn digits_before(text: &mut [u8], end: usize, n: u64, radix: Radix) -> usize
     ensures before { (k : ℕ) → k ≤ result → take k text.new ≡ take k text.old }
     ensures after { drop end text.new ≡ drop end text.old }
 {
-    let base = radix.base();
+    match radix {
+        Radix::Ten => decimal_digits_before(text, end, n),
+        Radix::Sixteen => hexadecimal_digits_before(text, end, n),
+    }
+}
+
+// The same of decimal digits: two for each division behind the first, since each division waits for the one before it.
+#[inline(always)]
+fn decimal_digits_before(text: &mut [u8], end: usize, n: u64) -> usize
+    requires { (20 ≤ end) × (end ≤ length text.old) }
+    ensures within { result < end }
+    ensures room { end ≤ result + 20 }
+    ensures written { IsPlain Ten (drop result (take end text.new)) n }
+    ensures before { (k : ℕ) → k ≤ result → take k text.new ≡ take k text.old }
+    ensures after { drop end text.new ≡ drop end text.old }
+{
     let mut start = end - 1;
-    text[start] = digit_byte(n % base);
-    let mut left = n / base;
+    text[start] = decimal_byte(n % 10);
+    let mut left = n / 10;
+    while left >= 10 {
+        let pair = left % 100;
+        text[start - 1] = decimal_byte(pair % 10);
+        text[start - 2] = decimal_byte(pair / 10);
+        start -= 2;
+        left /= 100;
+    }
+    if left == 0 {
+        return start;
+    }
+    text[start - 1] = decimal_byte(left);
+    start - 1
+}
+
+// The same of hexadecimal digits.
+#[inline(always)]
+fn hexadecimal_digits_before(text: &mut [u8], end: usize, n: u64) -> usize
+    requires { (16 ≤ end) × (end ≤ length text.old) }
+    ensures within { result < end }
+    ensures room { end ≤ result + 16 }
+    ensures written { IsPlain Sixteen (drop result (take end text.new)) n }
+    ensures before { (k : ℕ) → k ≤ result → take k text.new ≡ take k text.old }
+    ensures after { drop end text.new ≡ drop end text.old }
+{
+    let mut start = end - 1;
+    text[start] = digit_byte(n % 16);
+    let mut left = n / 16;
     while left > 0 {
         start -= 1;
-        text[start] = digit_byte(left % base);
-        left /= base;
+        text[start] = digit_byte(left % 16);
+        left /= 16;
     }
     start
 }

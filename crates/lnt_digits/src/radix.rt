@@ -103,9 +103,14 @@ pub(crate) fn digit_byte(digit: u64) -> u8
     requires { digit < 16 }
     ensures { result ≡ digit_code digit }
 {
-    if digit < 10 {
-        b'0' + digit as u8
-    } else {
-        b'a' + (digit as u8 - 10)
-    }
+    b"0123456789abcdef"[digit as usize]
+}
+
+// The decimal digit that is worth so much.
+#[inline(always)]
+pub(crate) fn decimal_byte(digit: u64) -> u8
+    requires { digit < 10 }
+    ensures { result ≡ digit_code digit }
+{
+    b'0' + digit as u8
 }

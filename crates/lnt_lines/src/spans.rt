@@ -92,14 +92,14 @@ impl<'a> SpanSource for Spans<'a> {
 
     #[inline(always)]
     fn next_span(&mut self) -> Option<Span> {
-        if let Some(span) = self.next_here() {
-            return Some(span);
-        }
-        while self.begin() {
+        // One call in one place, so that the walk is in line where its spans are used.
+        loop {
             if let Some(span) = self.next_here() {
                 return Some(span);
             }
+            if !self.begin() {
+                return None;
+            }
         }
-        None
     }
 }

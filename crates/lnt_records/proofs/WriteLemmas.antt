@@ -12,107 +12,24 @@ use Rattle.csv.specs.declared.parser.State.TheVariants as st
 use Rattle.csv.proofs.RoundTrip.{read-write, rows_text}
 use Rattle.lnt_digits.specs.Digits.{IsPlainAddress, IsPlainDecimal}
 use Rattle.lnt_digits.specs.Laws.Texts.{FromZero, address_from_zero, decimal_from_zero, plain_address}
-use Rattle.lnt_spans.specs.declared.answer.Answer.{Answer}
-use Rattle.lnt_spans.specs.declared.answer.More.{More}
 use Rattle.lnt_spans.specs.declared.answer.Version.{Version}
 use Rattle.lnt_spans.specs.declared.answer.Version.TheVariants.{One, Two}
 use Rattle.lnt_spans.specs.declared.span.Span.{Span}
 use Rattle.lnt_spans.specs.Spans.{AreInOrder}
-use Rattle.lnt_records.specs.Table.{AreMore, Fields, IsFlag, Kind, RecordsOf, column_count, column_names}
-use Rattle.lnt_records.specs.Written.{AddsAnswer, AddsFlag, AddsMore, AddsNumber, AddsPosition, AddsRecord, AddsRecords, ArePlain, IsOfVersion, IsPlainRecord, IsWrittenTable, following, line_text, lines_text}
+use Rattle.lnt_records.specs.Table.{Fields, IsFlag, Kind, RecordsOf, column_count, column_names}
+use Rattle.lnt_records.specs.Lines.{IsPlainLine}
+use Rattle.lnt_records.specs.Written.{AddsRecord, AddsRecords, IsPlainRecord, IsWrittenTable, following, line_text, lines_text}
 use Rattle.lnt_records.proofs.SaidLemmas.{each_holds, records_plain}
-
--- ---- fields behind each other
-
-following_append : (xs ys : Fields) → following (xs ++ ys) ≡ following xs ++ following ys
-following_append [] ys = refl
-following_append (x ∷ xs) ys = ap (λ (t : List ℕ). 44 ∷ x ++ t) (following_append xs ys) ∙ sym (append_assoc (44 ∷ x) (following xs) (following ys))
-
-adds_both : (a b c : List ℕ) (xs ys : Fields) → b ≡ a ++ following xs → c ≡ b ++ following ys → c ≡ a ++ following (xs ++ ys)
-adds_both a b c xs ys e f = f ∙ ap (λ (t : List ℕ). t ++ following ys) e ∙ append_assoc a (following xs) (following ys) ∙ ap (λ (t : List ℕ). a ++ t) (sym (following_append xs ys))
-
-pub no_more_put : (old : List ℕ) → AddsMore None old old
-no_more_put old = record { fields = []; joined = sym (append-nil old); fields_are = refl }
-
-pub flag_put : (on : Bool) (s0 s1 s2 text : List ℕ) → s1 ≡ s0 ++ 44 ∷ [] → s2 ≡ s1 ++ text → IsFlag text on → AddsFlag on s0 s2
-flag_put on s0 s1 s2 text e f is = record {
-  text = text;
-  joined = f ∙ ap (λ (t : List ℕ). t ++ text) e ∙ append_assoc s0 (44 ∷ []) text ∙ ap (λ (t : List ℕ). s0 ++ 44 ∷ t) (sym (append-nil text));
-  text_is = is;
-}
-
-pub more_put : (more : More) (s0 s1 s2 : List ℕ) → AddsNumber more.isa s0 s1 → AddsNumber more.discriminator s1 s2 → AddsMore (Some more) s0 s2
-more_put more s0 s1 s2 a b = record {
-  fields = a.text ∷ b.text ∷ [];
-  joined = adds_both s0 s1 s2 (a.text ∷ []) (b.text ∷ []) a.joined b.joined;
-  fields_are = (a.text, b.text, refl, a.text_is, b.text_is);
-}
-
-pub answer_put : (answer : Answer) (s0 s1 s2 s3 s4 s5 s6 : List ℕ) → AddsNumber answer.unit s0 s1 → AddsNumber answer.file s1 s2 → AddsNumber answer.line s2 s3
-    → AddsNumber answer.column s3 s4 → AddsFlag answer.is_stmt s4 s5 → AddsMore answer.more s5 s6 → AddsAnswer answer s0 s6
-answer_put answer s0 s1 s2 s3 s4 s5 s6 unit file line column is_stmt more = record {
-  unit = unit.text;
-  file = file.text;
-  line = line.text;
-  column = column.text;
-  is_stmt = is_stmt.text;
-  more = more.fields;
-  joined =
-      adds_both s0 s1 s6 (unit.text ∷ []) (file.text ∷ line.text ∷ column.text ∷ is_stmt.text ∷ more.fields) unit.joined
-      (adds_both s1 s2 s6 (file.text ∷ []) (line.text ∷ column.text ∷ is_stmt.text ∷ more.fields) file.joined
-      (adds_both s2 s3 s6 (line.text ∷ []) (column.text ∷ is_stmt.text ∷ more.fields) line.joined
-      (adds_both s3 s4 s6 (column.text ∷ []) (is_stmt.text ∷ more.fields) column.joined
-      (adds_both s4 s5 s6 (is_stmt.text ∷ []) more.fields is_stmt.joined more.joined))));
-  unit_is = unit.text_is;
-  file_is = file.text_is;
-  line_is = line.text_is;
-  column_is = column.text_is;
-  is_stmt_is = is_stmt.text_is;
-  more_are = more.fields_are;
-}
 
 -- ---- a line
 
-plain_more : (version : Version) (answer : Answer) (m : Fields) (a b c d e f g h i : List ℕ) → IsOfVersion version answer → ArePlain answer.more m
-    → (length (a ∷ b ∷ c ∷ d ∷ e ∷ f ∷ g ∷ h ∷ i ∷ m) ≡ column_count version)
-    × AreMore IsPlainDecimal version (a ∷ b ∷ c ∷ d ∷ e ∷ f ∷ g ∷ h ∷ i ∷ m) answer.more
-plain_more One answer m a b c d e f g h i is p = let none = rw is at p in rw none (refl, is)
-plain_more Two answer m a b c d e f g h i is p = let some = rw is.1 at p in rw (is.1, some.2) (refl, (some.3, some.4))
-
--- the text of a line, from its parts
-line_joined : (s0 s1 s2 s3 s4 s5 first second third fourth : List ℕ) (rest : Fields) → s1 ≡ s0 ++ first ++ following (second ∷ []) → s2 ≡ s1 ++ 44 ∷ []
-    → s3 ≡ s2 ++ third ++ following (fourth ∷ []) → s4 ≡ s3 ++ following rest → s5 ≡ s4 ++ 10 ∷ [] → s5 ≡ s0 ++ line_text (first ∷ second ∷ third ∷ fourth ∷ rest)
-line_joined s0 s1 s2 s3 s4 s5 first second third fourth rest e1 e2 e3 e4 e5 =
-    let last : List ℕ = following (fourth ∷ []) in
-    let high : s3 ≡ s1 ++ following (third ∷ fourth ∷ []) =
-    e3 ∙ ap (λ (t : List ℕ). t ++ third ++ last) e2 ∙ append_assoc (s1 ++ 44 ∷ []) third last ∙ append_assoc s1 (44 ∷ []) (third ++ last) in
-    let behind : s4 ≡ s1 ++ following (third ∷ fourth ∷ rest) = adds_both s1 s3 s4 (third ∷ fourth ∷ []) rest high e4 in
-    let fields : List ℕ = following (second ∷ third ∷ fourth ∷ rest) in
-    let all : s4 ≡ s0 ++ first ++ fields = adds_both (s0 ++ first) s1 s4 (second ∷ []) (third ∷ fourth ∷ rest) e1 behind in
-    e5 ∙ ap (λ (t : List ℕ). t ++ 10 ∷ []) (all ∙ append_assoc s0 first fields) ∙ append_assoc s0 (first ++ fields) (10 ∷ [])
-
-pub span_put : (span : Span) (s0 s1 s2 s3 s4 s5 : List ℕ) → AddsPosition span.low s0 s1 → s2 ≡ s1 ++ 44 ∷ [] → AddsPosition span.high s2 s3 → AddsAnswer span.answer s3 s4
-    → s5 ≡ s4 ++ 10 ∷ [] → (version : Version) → IsOfVersion version span.answer → AddsRecord version span s0 s5
-span_put span s0 s1 s2 s3 s4 s5 low comma high answer feed version is =
-    let more = plain_more version span.answer answer.more low.address low.op high.address high.op answer.unit answer.file answer.line answer.column answer.is_stmt is answer.more_are in
-    record {
-      fields = low.address ∷ low.op ∷ high.address ∷ high.op ∷ answer.unit ∷ answer.file ∷ answer.line ∷ answer.column ∷ answer.is_stmt ∷ answer.more;
-      joined = line_joined s0 s1 s2 s3 s4 s5 low.address low.op high.address high.op (answer.unit ∷ answer.file ∷ answer.line ∷ answer.column ∷ answer.is_stmt ∷ answer.more)
-          low.joined comma high.joined answer.joined feed;
-      plain = record {
-        count = more.0;
-        low = low.address_is;
-        low_op = low.op_is;
-        high = high.address_is;
-        high_op = high.op_is;
-        unit = answer.unit_is;
-        file = answer.file_is;
-        line = answer.line_is;
-        column = answer.column_is;
-        is_stmt = answer.is_stmt_is;
-        more = more.1;
-      };
-    }
+-- what was added is a line
+pub line_put : (version : Version) (span : Span) (old new line : List ℕ) → new ≡ old ++ line → IsPlainLine version span line [] → AddsRecord version span old new
+line_put version span old new line e is = record {
+  fields = is.fields;
+  joined = e ∙ ap (λ (t : List ℕ). old ++ t) (is.joined ∙ append-nil (line_text is.fields));
+  plain = is.says;
+}
 
 -- ---- plain fields need no quotes
 

@@ -1,13 +1,13 @@
 -- A table that is read line by line. The bodies of this crate use it among themselves.
 use Rattle.std.specs.Prelude.{◌≡◌, ℕ, Bool, List, [], ◌∷◌, ◌++◌, Option, Some, None}
-use Rattle.lnt_digits.specs.Digits.{IsAddress, IsDecimal}
+use Rattle.lnt_digits.specs.Digits.{IsAddress, IsDecimal, IsPlainAddress, IsPlainDecimal}
 use Rattle.lnt_spans.specs.declared.answer.Answer.{Answer}
 use Rattle.lnt_spans.specs.declared.answer.More.{More}
 use Rattle.lnt_spans.specs.declared.answer.Version.{Version}
 use Rattle.lnt_spans.specs.declared.answer.Version.TheVariants.{One, Two}
 use Rattle.lnt_spans.specs.declared.position.Position.{Position}
 use Rattle.lnt_spans.specs.declared.span.Span.{Span}
-use Rattle.lnt_records.specs.Table.{Fields, IsFlag, IsSpanRecord}
+use Rattle.lnt_records.specs.Table.{Fields, IsFlag, SaysSpan}
 use Rattle.lnt_records.specs.Written.{following, line_text}
 
 -- ---- what the bytes begin with, and what is behind it
@@ -18,13 +18,13 @@ pub record Begins (Spells : List ℕ → ℕ → Type 0) (text : List ℕ) (n en
   pub joined : text ≡ front ++ end ∷ rest
   pub spells : Spells front n
 
--- two fields that say a position, each with a comma behind it
-pub record IsPosition (position : Position) (bytes rest : List ℕ) : Type 0 where
+-- two fields that say a position, each with a comma behind it, where addresses and numbers are written in these ways
+pub record IsPosition (Address Number : List ℕ → ℕ → Type 0) (position : Position) (bytes rest : List ℕ) : Type 0 where
   pub address : List ℕ
   pub op : List ℕ
   pub joined : bytes ≡ address ++ 44 ∷ (op ++ 44 ∷ rest)
-  pub address_is : IsAddress address position.address
-  pub op_is : IsDecimal op position.op
+  pub address_is : Address address position.address
+  pub op_is : Number op position.op
 
 -- 0 or 1
 pub record IsFlagBefore (on : Bool) (bytes rest : List ℕ) : Type 0 where
@@ -33,20 +33,20 @@ pub record IsFlagBefore (on : Bool) (bytes rest : List ℕ) : Type 0 where
   pub text_is : IsFlag text on
 
 -- the fields that say what a version has more
-abbrev pub AreMoreFields : Version → Fields → Option More → Type 0
-AreMoreFields One fields more = (fields ≡ []) × (more ≡ None)
-AreMoreFields Two fields None = ⊥
-AreMoreFields Two fields (Some more) =
-    (isa : List ℕ) × (discriminator : List ℕ) × (fields ≡ isa ∷ discriminator ∷ []) × IsDecimal isa more.isa × IsDecimal discriminator more.discriminator
+abbrev pub AreMoreFields : (List ℕ → ℕ → Type 0) → Version → Fields → Option More → Type 0
+AreMoreFields Number One fields more = (fields ≡ []) × (more ≡ None)
+AreMoreFields Number Two fields None = ⊥
+AreMoreFields Number Two fields (Some more) =
+    (isa : List ℕ) × (discriminator : List ℕ) × (fields ≡ isa ∷ discriminator ∷ []) × Number isa more.isa × Number discriminator more.discriminator
 
 -- those fields, each with a comma before it, and the end of the line
-pub record IsMore (version : Version) (more : Option More) (bytes rest : List ℕ) : Type 0 where
+pub record IsMore (Number : List ℕ → ℕ → Type 0) (version : Version) (more : Option More) (bytes rest : List ℕ) : Type 0 where
   pub fields : Fields
   pub joined : bytes ≡ following fields ++ 10 ∷ rest
-  pub fields_are : AreMoreFields version fields more
+  pub fields_are : AreMoreFields Number version fields more
 
 -- the fields that say an answer, with a comma between them, and the end of the line
-pub record IsAnswer (version : Version) (answer : Answer) (bytes rest : List ℕ) : Type 0 where
+pub record IsAnswer (Number : List ℕ → ℕ → Type 0) (version : Version) (answer : Answer) (bytes rest : List ℕ) : Type 0 where
   pub unit : List ℕ
   pub file : List ℕ
   pub line : List ℕ
@@ -54,15 +54,23 @@ pub record IsAnswer (version : Version) (answer : Answer) (bytes rest : List ℕ
   pub is_stmt : List ℕ
   pub more : Fields
   pub joined : 44 ∷ bytes ≡ following (unit ∷ file ∷ line ∷ column ∷ is_stmt ∷ more) ++ 10 ∷ rest
-  pub unit_is : IsDecimal unit answer.unit
-  pub file_is : IsDecimal file answer.file
-  pub line_is : IsDecimal line answer.line
-  pub column_is : IsDecimal column answer.column
+  pub unit_is : Number unit answer.unit
+  pub file_is : Number file answer.file
+  pub line_is : Number line answer.line
+  pub column_is : Number column answer.column
   pub is_stmt_is : IsFlag is_stmt answer.is_stmt
-  pub more_are : AreMoreFields version more answer.more
+  pub more_are : AreMoreFields Number version more answer.more
 
--- a line that says a span
-pub record IsLine (version : Version) (span : Span) (bytes rest : List ℕ) : Type 0 where
+-- a line that says a span, in these ways
+pub record SaysLine (Address Number : List ℕ → ℕ → Type 0) (version : Version) (span : Span) (bytes rest : List ℕ) : Type 0 where
   pub fields : Fields
   pub joined : bytes ≡ line_text fields ++ rest
-  pub says : IsSpanRecord version fields span
+  pub says : SaysSpan Address Number version fields span
+
+-- a line that says a span
+abbrev pub IsLine : Version → Span → List ℕ → List ℕ → Type 0
+IsLine version span bytes rest = SaysLine IsAddress IsDecimal version span bytes rest
+
+-- the same, its numbers without leading zeros and its letters in lower case
+abbrev pub IsPlainLine : Version → Span → List ℕ → List ℕ → Type 0
+IsPlainLine version span bytes rest = SaysLine IsPlainAddress IsPlainDecimal version span bytes rest

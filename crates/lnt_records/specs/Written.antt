@@ -1,5 +1,5 @@
 -- A table as it is written.
-use Rattle.std.specs.Prelude.{◌≡◌, ℕ, List, [], ◌∷◌, ◌++◌, Bool, Option, Some, None}
+use Rattle.std.specs.Prelude.{◌≡◌, ℕ, List, [], ◌∷◌, ◌++◌, Some, None}
 use Rattle.std.specs.List.{AllZip}
 use Rattle.lnt_digits.specs.Digits.{IsPlainAddress, IsPlainDecimal}
 use Rattle.lnt_spans.specs.declared.answer.Answer.{Answer}
@@ -9,7 +9,7 @@ use Rattle.lnt_spans.specs.declared.answer.Version.TheVariants.{One, Two}
 use Rattle.lnt_spans.specs.declared.position.Position.{Position}
 use Rattle.lnt_spans.specs.declared.span.Span.{Span}
 use Rattle.lnt_spans.specs.Spans.{IsCanonical, span_answer, version_answer}
-use Rattle.lnt_records.specs.Table.{Fields, IsFlag, IsTableOf, SaysSpan, column_names}
+use Rattle.lnt_records.specs.Table.{Fields, IsTableOf, SaysSpan, column_names}
 
 -- The answer tells what the version tells, and no more.
 abbrev pub IsOfVersion : Version → Answer → Type 0
@@ -56,54 +56,7 @@ pub record IsCanonicalTable (version : Version) (given : List Span) (bytes : Lis
   pub same : (p : Position) → span_answer spans p ≡ version_answer version given p
   pub written : IsWrittenTable version bytes spans
 
--- ---- parts of a line. The bodies of this crate use them among themselves.
-
--- an address, and a number behind a comma
-pub record AddsPosition (position : Position) (old new : List ℕ) : Type 0 where
-  pub address : List ℕ
-  pub op : List ℕ
-  pub joined : new ≡ old ++ address ++ following (op ∷ [])
-  pub address_is : IsPlainAddress address position.address
-  pub op_is : IsPlainDecimal op position.op
-
--- a number behind a comma
-pub record AddsNumber (n : ℕ) (old new : List ℕ) : Type 0 where
-  pub text : List ℕ
-  pub joined : new ≡ old ++ following (text ∷ [])
-  pub text_is : IsPlainDecimal text n
-
--- 0 or 1 behind a comma
-pub record AddsFlag (on : Bool) (old new : List ℕ) : Type 0 where
-  pub text : List ℕ
-  pub joined : new ≡ old ++ following (text ∷ [])
-  pub text_is : IsFlag text on
-
--- instruction set and discriminator, if there are such
-abbrev pub ArePlain : Option More → Fields → Type 0
-ArePlain None fields = fields ≡ []
-ArePlain (Some more) fields = (isa : List ℕ) × (discriminator : List ℕ) × (fields ≡ isa ∷ discriminator ∷ [])
-    × IsPlainDecimal isa more.isa × IsPlainDecimal discriminator more.discriminator
-
-pub record AddsMore (more : Option More) (old new : List ℕ) : Type 0 where
-  pub fields : Fields
-  pub joined : new ≡ old ++ following fields
-  pub fields_are : ArePlain more fields
-
--- the fields of an answer, each behind a comma
-pub record AddsAnswer (answer : Answer) (old new : List ℕ) : Type 0 where
-  pub unit : List ℕ
-  pub file : List ℕ
-  pub line : List ℕ
-  pub column : List ℕ
-  pub is_stmt : List ℕ
-  pub more : Fields
-  pub joined : new ≡ old ++ following (unit ∷ file ∷ line ∷ column ∷ is_stmt ∷ more)
-  pub unit_is : IsPlainDecimal unit answer.unit
-  pub file_is : IsPlainDecimal file answer.file
-  pub line_is : IsPlainDecimal line answer.line
-  pub column_is : IsPlainDecimal column answer.column
-  pub is_stmt_is : IsFlag is_stmt answer.is_stmt
-  pub more_are : ArePlain answer.more more
+-- ---- lines that are added. The bodies of this crate use them among themselves.
 
 -- a line
 pub record AddsRecord (version : Version) (span : Span) (old new : List ℕ) : Type 0 where

@@ -8,6 +8,7 @@ ghost use Rattle.lnt_spans.specs.Spans.{AreInOrder};
 ghost use Rattle.lnt_records.specs.Written.{AddsRecords, IsCanonicalTable, IsOfVersion, TellsAll};
 
 use crate::fault::WriteStop;
+use crate::text::ROOM;
 use crate::write::{put_header, put_span, send, send_full};
 use lnt_spans::{Joiner, Span, SpanSource, Version};
 use std::alloc::{AllocError, Global};
@@ -36,22 +37,27 @@ pub fn write_canonical<S: SpanSource + Drop, W: Write>(
     let mut joiner = Joiner::new(version);
     let mut block = Vec::new(alloc);
     put_header(&mut block, version)?;
+    let mut room = [0; ROOM];
     while let Some(span) = spans.next_span() {
         let joined = joiner.push(&span);
-        put_some(&mut block, joined)?;
+        put_some(&mut block, &mut room, joined)?;
         send_full(&mut block, out)?;
     }
-    put_some(&mut block, joiner.finish())?;
+    put_some(&mut block, &mut room, joiner.finish())?;
     send(&mut block, out)
 }
 
 // Adds the line of a span, if there is one.
 #[inline(always)]
-fn put_some(block: &mut Vec<u8>, span: Option<Span>) -> Result<(), AllocError>
+fn put_some(
+    block: &mut Vec<u8>,
+    room: &mut [u8; ROOM],
+    span: Option<Span>,
+) -> Result<(), AllocError>
     ensures { (version : Version) → IfSome span (λ span. IsOfVersion version span.answer) → OnOk result (AddsRecords version (cons_option span []) block.old.items block.new.items) }
 {
     match &span {
-        Some(span) => put_span(block, span),
+        Some(span) => put_span(block, room, span),
         None => Ok(()),
     }
 }

@@ -1,6 +1,7 @@
 //! Tables read line by line: each record on a line of its own that ends in a line feed, and nothing in quotes, as
 //! `write_spans` writes them. Each record is read in one pass over its bytes.
 ghost use Rattle.std.specs.Prelude.{◌≡◌, ◌≢◌, ◌+◌, ◌-◌, ◌^◌, ◌<◌, ◌++◌, ℕ, List, drop, length, IfSome, IsErrOf, MatchOption, OnOk};
+ghost use Rattle.lnt_digits.specs.Digits.{IsAddress, IsDecimal};
 ghost use Rattle.lnt_spans.specs.declared.span.Span as spec;
 ghost use Rattle.lnt_spans.specs.Comparing.{Compares};
 ghost use Rattle.lnt_records.specs.Lines.{IsAnswer, IsFlagBefore, IsLine, IsMore, IsPosition};
@@ -75,7 +76,7 @@ fn span_at(table: &[u8], at: usize, version: Version) -> Option<(Span, usize)>
 // The position that two fields from a place on say.
 #[inline(always)]
 fn position_at(table: &[u8], at: usize) -> Option<(Position, usize)>
-    ensures { IfSome result (λ found. IsPosition found.0 (drop at table.now) (drop found.1 table.now)) }
+    ensures { IfSome result (λ found. IsPosition IsAddress IsDecimal found.0 (drop at table.now) (drop found.1 table.now)) }
 {
     let (address, at) = address_before(table, at, b',')?;
     let (op, at) = decimal_before(table, at, b',')?;
@@ -85,7 +86,7 @@ fn position_at(table: &[u8], at: usize) -> Option<(Position, usize)>
 // The answer that the fields from a place on say, up to the end of the line.
 #[inline(always)]
 fn answer_at(table: &[u8], at: usize, version: Version) -> Option<(Answer, usize)>
-    ensures { IfSome result (λ found. IsAnswer version found.0 (drop at table.now) (drop found.1 table.now)) }
+    ensures { IfSome result (λ found. IsAnswer IsDecimal version found.0 (drop at table.now) (drop found.1 table.now)) }
 {
     let (unit, at) = decimal_before(table, at, b',')?;
     let (file, at) = decimal_before(table, at, b',')?;
@@ -120,7 +121,7 @@ fn flag_at(table: &[u8], at: usize) -> Option<(bool, usize)>
 #[inline(always)]
 #[tactic(auto, using(crate::proofs::LineLemmas::no_more_taken))]
 fn more_at(table: &[u8], at: usize, version: Version) -> Option<(Option<More>, usize)>
-    ensures { IfSome result (λ found. IsMore version found.0 (drop at table.now) (drop found.1 table.now)) }
+    ensures { IfSome result (λ found. IsMore IsDecimal version found.0 (drop at table.now) (drop found.1 table.now)) }
 {
     match version {
         Version::One => {

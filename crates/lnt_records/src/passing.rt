@@ -5,11 +5,12 @@ ghost use Rattle.lnt_spans.specs.declared.span.Span as spec;
 ghost use Rattle.lnt_spans.specs.Spans.{AreInOrder};
 ghost use Rattle.lnt_records.specs.Lines.{IsLine};
 ghost use Rattle.lnt_records.specs.Passing.{LeavesOff, Passes};
+ghost use Rattle.lnt_records.specs.Written.{IsOfVersion};
 
 use crate::remaining::Remaining;
 use crate::text::{ROOM, line_of};
 use crate::window::Window;
-use lnt_spans::{Joiner, Merge, Position, Span, SpanSource, Version};
+use lnt_spans::{Answer, Joiner, Merge, Position, Span, SpanSource, Version};
 use lnt_wire::{Source, SourceStop};
 use std::alloc::Global;
 
@@ -78,8 +79,20 @@ pub(crate) fn pass_spans<S: SpanSource + Drop, T: Source>(
 fn pass_line(window: &mut Window, room: &mut [u8; ROOM], span: &Span, version: Version) -> bool
     ensures { MatchBool result (IsLine version span.now window.old window.new) (window.new ≡ window.old) }
 {
-    let Some(start) = line_of(room, span, version) else {
+    if !tells(&span.answer, version) {
         return false;
-    };
+    }
+    let start = line_of(room, span);
     window.pass_text(&room[start..])
+}
+
+// Whether an answer tells what a version tells, and no more.
+#[inline(always)]
+fn tells(answer: &Answer, version: Version) -> bool
+    ensures { MatchBool result (IsOfVersion version answer.now) (IsOfVersion version answer.now → ⊥) }
+{
+    match version {
+        Version::One => answer.more.is_none(),
+        Version::Two => answer.more.is_some(),
+    }
 }

@@ -4,13 +4,13 @@ ghost use Rattle.std.specs.Io.KnownBytes.{Appends};
 ghost use Rattle.std.specs.List.{All};
 ghost use Rattle.lnt_spans.specs.declared.answer.Version.{Version};
 ghost use Rattle.lnt_spans.specs.Spans.{AreInOrder};
-ghost use Rattle.lnt_records.specs.Table.{IsFlag, column_names};
-ghost use Rattle.lnt_records.specs.Written.{AddsAnswer, AddsFlag, AddsMore, AddsNumber, AddsPosition, AddsRecord, IsOfVersion, IsWrittenTable, line_text};
+ghost use Rattle.lnt_records.specs.Table.{column_names};
+ghost use Rattle.lnt_records.specs.Written.{AddsRecord, IsOfVersion, IsWrittenTable, line_text};
 
 use crate::fault::WriteStop;
 use crate::header::header_line;
-use lnt_digits::{put_address, put_decimal};
-use lnt_spans::{Answer, More, Position, Span, Version};
+use crate::text::{ROOM, line_of};
+use lnt_spans::{Span, Version};
 use std::alloc::{AllocError, Global};
 use std::io::Write;
 
@@ -38,8 +38,9 @@ pub fn write_spans<W: Write>(
 {
     let mut block = Vec::new(alloc);
     put_header(&mut block, version)?;
+    let mut room = [0; ROOM];
     for span in spans {
-        put_span(&mut block, span)?;
+        put_span(&mut block, &mut room, span)?;
         send_full(&mut block, out)?;
     }
     send(&mut block, out)
@@ -74,71 +75,16 @@ pub(crate) fn put_header(block: &mut Vec<u8>, version: Version) -> Result<(), Al
     block.extend_from_slice(header_line(version))
 }
 
-// Adds the line of a span.
-#[tactic(auto, using(crate::proofs::WriteLemmas::span_put))]
-pub(crate) fn put_span(block: &mut Vec<u8>, span: &Span) -> Result<(), AllocError>
+// Adds the line of a span, which is written in the room first.
+#[inline(always)]
+pub(crate) fn put_span(
+    block: &mut Vec<u8>,
+    room: &mut [u8; ROOM],
+    span: &Span,
+) -> Result<(), AllocError>
     ensures { (version : Version) → IsOfVersion version span.now.answer → OnOk result (AddsRecord version span.now block.old.items block.new.items) }
 {
-    put_position(block, span.low)?;
-    block.push(b',')?;
-    put_position(block, span.high)?;
-    put_answer(block, &span.answer)?;
-    block.push(b'\n')?;
+    let start = line_of(room, span);
+    block.extend_from_slice(&room[start..])?;
     Ok(())
-}
-
-// Adds an address, and an operation index behind a comma.
-fn put_position(block: &mut Vec<u8>, position: Position) -> Result<(), AllocError>
-    ensures { OnOk result (AddsPosition position block.old.items block.new.items) }
-{
-    put_address(block, position.address)?;
-    put_next(block, position.op)
-}
-
-// Adds the fields of an answer, each behind a comma.
-#[tactic(auto, using(crate::proofs::WriteLemmas::answer_put))]
-fn put_answer(block: &mut Vec<u8>, answer: &Answer) -> Result<(), AllocError>
-    ensures { OnOk result (AddsAnswer answer.now block.old.items block.new.items) }
-{
-    put_next(block, answer.unit)?;
-    put_next(block, answer.file)?;
-    put_next(block, answer.line)?;
-    put_next(block, answer.column)?;
-    put_flag(block, answer.is_stmt)?;
-    put_more(block, answer.more)
-}
-
-// Adds what version 2 has more, if the answer has it.
-#[tactic(auto, using(crate::proofs::WriteLemmas::more_put, crate::proofs::WriteLemmas::no_more_put))]
-fn put_more(block: &mut Vec<u8>, more: Option<More>) -> Result<(), AllocError>
-    ensures { OnOk result (AddsMore more block.old.items block.new.items) }
-{
-    let Some(more) = more else {
-        return Ok(());
-    };
-    put_next(block, more.isa)?;
-    put_next(block, more.discriminator)
-}
-
-// Adds a decimal number behind a comma.
-fn put_next(block: &mut Vec<u8>, n: u64) -> Result<(), AllocError>
-    ensures { OnOk result (AddsNumber n block.old.items block.new.items) }
-{
-    block.push(b',')?;
-    put_decimal(block, n)
-}
-
-// Adds `0` or `1` behind a comma.
-#[tactic(auto, using(crate::proofs::WriteLemmas::flag_put))]
-fn put_flag(block: &mut Vec<u8>, on: bool) -> Result<(), AllocError>
-    ensures { OnOk result (AddsFlag on block.old.items block.new.items) }
-{
-    block.push(b',')?;
-    block.extend_from_slice(flag_text(on))
-}
-
-fn flag_text(on: bool) -> &'static [u8]
-    ensures { IsFlag result.now on }
-{
-    if on { b"1" } else { b"0" }
 }

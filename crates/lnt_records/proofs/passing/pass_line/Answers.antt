@@ -1,12 +1,13 @@
-use Rattle.std.proofs.Common.{◌-◌, ◌≤◌, arith, drop, length, length-drop, take}
-use Rattle.std.proofs.lemmas.List.{take_all}
+use Rattle.std.proofs.Common.{◌-◌, [], drop, take}
 use Rattle.lnt_records.proofs.PassingLemmas.{line_passed}
+use Rattle.lnt_records.proofs.TextLemmas.{line_said, room_from}
 use Rattle.lnt_records.proofs.passing.pass_line.Goals as goal
 
 pub returns : goal.returns
 returns c =
-    let start = c.in-Some.start in
-    let room = c.line_of.new.room in
-    let few : length (drop start room) ≤ 256 - start = omega (arith, length-drop start room, c.line_of.array_long) in
+    let put = c.line_of-start in
+    let start = put.result in
+    let room = put.new.room in
+    let is = rw c.if-not-tells.false at c.tells.ensures in
     line_passed c.pass_text.result c.args.version c.args.span.now (take (256 - start) (drop start room)) (drop start room) c.args.window.now c.pass_text.new.self c.pass_text.ensures
-    (take_all (256 - start) (drop start room) few) c.in-Some.ensures
+    (room_from room start put.array_long) (line_said c.args.version c.args.span.now (drop start room) [] (put.ensures.written c.args.version is))

@@ -1,5 +1,5 @@
 use Rattle.std.proofs.Common.{arith, ◌≡◌, length}
-use Rattle.lnt_digits.specs.Digits.{IsDecimal}
+use Rattle.lnt_digits.specs.Digits.{IsPlainDecimal}
 use Rattle.lnt_records.proofs.TextLemmas.{put_before}
 use Rattle.lnt_records.proofs.text.number_before.Goals as goal
 
@@ -7,4 +7,4 @@ pub returns-clause-written : goal.returns-clause-written
 returns-clause-written c =
     let put = c.decimal_before in
     let long : length put.new.text ≡ 256 = omega (arith, put.auto.text, c.told-room) in
-    put_before IsDecimal c.args.room.now put.new.text put.result c.args.end c.args.n c.args.behind c.told-room long put.ensures.begins.0 c.requires.1 put.ensures.written.number put.ensures.after
+    put_before IsPlainDecimal c.args.room.now put.new.text put.result c.args.end c.args.n c.args.behind c.told-room long put.ensures.begins.0 c.requires.1 put.ensures.written put.ensures.after

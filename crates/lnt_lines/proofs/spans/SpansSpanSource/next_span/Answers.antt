@@ -4,6 +4,7 @@ use Rattle.lnt_spans.specs.Coming.{GivesFirst}
 use Rattle.lnt_lines.specs.Cursors.{AreToCome}
 use Rattle.lnt_lines.proofs.spans.SpansSpanSource.next_span.Goals as goal
 
-pub returns-clause-gives : goal.returns-clause-gives
-returns-clause-gives c spans come =
-    subst (λ (list : List Span). GivesFirst (AreToCome c.begin.new.self) list None) (sym (c.loop-self-test.ensures.begins spans (c.loop-self.invariant.1 spans come))) tt
+pub returns-then-not-begin-clause-gives : goal.returns-then-not-begin-clause-gives
+returns-then-not-begin-clause-gives c spans come =
+    let later = c.in_default.ensures.gives spans (c.loop-span.invariant.1 spans come) in
+    subst (λ (list : List Span). GivesFirst (AreToCome c.begin.new.self) list None) (sym (c.if-not-begin.ensures.begins spans later)) tt
