@@ -1,6 +1,6 @@
 """Makes good sections of shapes that cost a careless reader much, and looks up an address in each. A section of twice the size
 has to take at most about twice the processor time. The memory of each word has to stay within four times the bytes that are
-given and 8 MB. The last line is 'N passed, M failed'."""
+given and 8 MB; `dump` and `files`, of which docs/LIMITS.md says more, are left out. The last line is 'N passed, M failed'."""
 
 import os
 import subprocess
@@ -93,8 +93,8 @@ SHAPES = {
 
 
 # The words that read no strings, and those that do, with an address at which no sequence begins as that of discarded code.
-BARE = ["units", "dump --ops --rows", "convert --format 32 --order big"]
-WITH_STRINGS = ["verify", "files", "md5", "table", "verify --dead 0x7", "lookup 0x1000 0x7 --dead 0x7", "check TABLE", "check TABLE --dead 0x7"]
+BARE = ["units", "convert --format 32 --order big"]
+WITH_STRINGS = ["verify", "md5", "table", "verify --dead 0x7", "lookup 0x1000 0x7 --dead 0x7", "check TABLE", "check TABLE --dead 0x7"]
 
 
 class Given:

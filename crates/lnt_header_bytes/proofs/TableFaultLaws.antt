@@ -23,8 +23,9 @@ use Rattle.lnt_header.specs.FirstFaults.FirstOf.{first, second}
 use Rattle.lnt_header.specs.FirstFaults.FirstOfSeveral.{next}
 use Rattle.lnt_header.specs.Joins.{Both, Several}
 use Rattle.lnt_header.specs.Laws.Lists.{several_code}
+use Rattle.lnt_header.specs.Laws.Bytes.{one_digit}
 use Rattle.lnt_header.specs.Laws.Readers.{none_first, none_second}
-use Rattle.lnt_header_bytes.specs.Laws.Tables.{entry_code, one_digit, pair_code}
+use Rattle.lnt_header_bytes.specs.Laws.Tables.{entry_code, pair_code}
 use Rattle.lnt_header_bytes.specs.Laws.Values.{none_values}
 use Rattle.lnt_header_bytes.specs.TableBytes.{EntryBytes, PairBytes, TableOf, ValuesBytes}
 use Rattle.lnt_header_bytes.specs.TableFaults.{BehindCountFault, BehindPairsFault, IsCodeFault, IsCountFault, IsEntriesFault, IsEntryFault}
