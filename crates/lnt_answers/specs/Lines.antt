@@ -1,5 +1,5 @@
 -- What is printed of a section's lines.
-use Rattle.std.specs.Prelude.{◌≡◌, ◌==◌, ◌+◌, ℕ, List, ◌++◌, drop, take, if◌then◌else◌, None, Option, Some, codes, decimal}
+use Rattle.std.specs.Prelude.{◌≡◌, ◌==◌, ◌+◌, Bool, ℕ, List, ◌++◌, drop, take, if◌then◌else◌, None, Option, Some, codes, decimal}
 use Rattle.std.specs.List.{position}
 use Rattle.std.specs.Io.KnownBytes.{Appends, Keeps}
 use Rattle.lnt_files.specs.declared.halt.Halt.{Halt}
@@ -60,9 +60,9 @@ abbrev pub answer_line : Indexed → Position → Option Answer → List ℕ
 answer_line index position None = none_text position
 answer_line index position (Some answer) = (place_text position answer ++ row_text answer) ++ path_text (file_path_in index answer.unit answer.file)
 
--- the line of what live sequences answer at a position
-abbrev pub lookup_line : Indexed → Option ℕ → List (ℕ × Parts) → Position → List ℕ
-lookup_line index dead units position = answer_line index position (line_answer dead units position)
+-- the line of what kept sequences answer at a position
+abbrev pub lookup_line : Indexed → Option ℕ → Bool → List (ℕ × Parts) → Position → List ℕ
+lookup_line index dead skip units position = answer_line index position (line_answer dead skip units position)
 
 -- What a line with its first comma at such a place tells: an address, and behind the comma an operation index. Without a
 -- comma it tells an address, and the operation index is that of all such lines.

@@ -24,6 +24,7 @@ fn options_of(from: &Judging<'_>) -> Options {
     Options {
         order: from.order,
         dead: from.dead,
+        skip_copies: from.skip_copies,
     }
 }
 
@@ -33,6 +34,7 @@ fn given_of<'a>(from: &Judging<'a>) -> Given<'a> {
         section: from.section,
         order: from.order,
         dead: from.dead,
+        skip_copies: from.skip_copies,
         has_line_strings: from.line_strings.is_some(),
         has_strings: from.strings.is_some(),
     }

@@ -1,5 +1,5 @@
 //! The subcommands that read and write address tables: `table` and `check`.
-ghost use Rattle.std.specs.Prelude.{◌≡◌, ◌++◌, ◌-◌, ◌^◌, ◌<◌, ℕ, List, Option, IfOk, IfSome, OnOk, codes};
+ghost use Rattle.std.specs.Prelude.{◌≡◌, ◌++◌, ◌-◌, ◌^◌, ◌<◌, Bool, ℕ, List, Option, IfOk, IfSome, OnOk, codes};
 ghost use Rattle.std.specs.Io.KnownBytes.{Appends};
 ghost use Rattle.lnt_files.specs.declared.status.Status.TheVariants.{Done};
 ghost use Rattle.lnt_table.specs.Headline.{IsTrueVerdict};
@@ -27,7 +27,7 @@ pub(crate) fn print_table<W: Write>(
 ) -> Result<Status, Halt>
     ensures done { IfOk result (λ status. status ≡ Done) }
     ensures table { OnOk result ((bytes : List ℕ) × Appends (W.contents out.old) (W.contents out.new) bytes
-        × ((dead : Option ℕ) (units : List (ℕ × Parts)) → IsIndexOf dead units index.now → IsTableOfUnits version dead units bytes)) }
+        × ((dead : Option ℕ) (skip : Bool) (units : List (ℕ × Parts)) → IsIndexOf dead skip units index.now → IsTableOfUnits version dead skip units bytes)) }
 {
     match write_index(alloc, index, version, out) {
         Ok(()) => Ok(Status::Done),

@@ -1,5 +1,5 @@
 -- The spans of an index, one after another.
-use Rattle.std.proofs.Common.{◌≡◌, ◌∙◌, ℕ, ◌+◌, ◌<◌, List, [], ◌∷◌, ◌++◌, Option, Some, None, refl, sym, ap, subst, arith, length}
+use Rattle.std.proofs.Common.{◌≡◌, ◌∙◌, Bool, ℕ, ◌+◌, ◌<◌, List, [], ◌∷◌, ◌++◌, Option, Some, None, refl, sym, ap, subst, arith, length}
 use Rattle.std.specs.Prelude.{IfSome, IsSomeAnd}
 use Rattle.std.specs.List.{AllZip}
 use Rattle.lnt_unit.specs.declared.unit.Parts.{Parts}
@@ -10,8 +10,9 @@ use Rattle.lnt_spans.specs.Coming.{GivesFirst}
 use Rattle.lnt_rows.specs.declared.extent.Extent.{Extent}
 use Rattle.lnt_rows.specs.declared.sequence.SeqId.{SeqId}
 use Rattle.lnt_rows.specs.InTurn.{EntriesInTurn, IsEntryOf}
+use Rattle.lnt_rows.specs.Laws.Kept.{kept_ordered}
 use Rattle.lnt_rows.specs.RowSpans.{row_spans, spans_of}
-use Rattle.lnt_rows.specs.Sequences.{live_sequences, Placed}
+use Rattle.lnt_rows.specs.Sequences.{kept_sequences, live_sequences, Placed}
 use Rattle.lnt_rows.specs.Spanning.{GivesSpan, HasSpans, rows_left}
 use Rattle.lnt_lines.specs.Cursors.{AreToCome, ComeLater, Cursor, GivesAllOf, GivesHere, room_for, room_of, rows_here}
 use Rattle.lnt_lines.specs.Indexed.{Indexed, IsIndexOf, IsSequenceIn}
@@ -105,30 +106,30 @@ begun_fewer programs all entries entry (Some walk) is left = rw is (omega (arith
 
 -- ---- all of them
 
-entries_found : (dead : Option ℕ) (units : List (ℕ × Parts)) (index : Indexed) (entries : List Extent) (in_turn : List Placed) → IsIndexOf dead units index
-    → AllZip (IsEntryOf (live_sequences dead units)) entries in_turn → AllZip (IsEntry index.units index.programs) entries in_turn
-entries_found dead units index [] [] is each = tt
-entries_found dead units index [] (placed ∷ in_turn) is each = absurd each
-entries_found dead units index (entry ∷ entries) [] is each = absurd each
-entries_found dead units index (entry ∷ entries) (placed ∷ in_turn) is each =
-    ((each.0.id_is, sequence_in dead units index entry.id placed is each.0.contained each.0.id_is), entries_found dead units index entries in_turn is each.1)
+entries_found : (dead : Option ℕ) (skip : Bool) (units : List (ℕ × Parts)) (index : Indexed) (entries : List Extent) (in_turn : List Placed) → IsIndexOf dead skip units index
+    → AllZip (IsEntryOf (kept_sequences dead skip units)) entries in_turn → AllZip (IsEntry index.units index.programs) entries in_turn
+entries_found dead skip units index [] [] is each = tt
+entries_found dead skip units index [] (placed ∷ in_turn) is each = absurd each
+entries_found dead skip units index (entry ∷ entries) [] is each = absurd each
+entries_found dead skip units index (entry ∷ entries) (placed ∷ in_turn) is each =
+    ((each.0.id_is, sequence_in dead skip units index entry.id placed is each.0.contained each.0.id_is), entries_found dead skip units index entries in_turn is each.1)
 
-pub gives_all : (dead : Option ℕ) (units : List (ℕ × Parts)) (index : Indexed) → EntriesInTurn → IsIndexOf dead units index
-    → GivesAllOf dead units (length index.entries) (record { units = index.units; programs = index.programs; entries = index.entries; unit = 0; rows = None; last = None })
-gives_all dead units index law is =
-    let all = law (live_sequences dead units) index.entries is.settled is.entries is.apart is.ordered in
+pub gives_all : (dead : Option ℕ) (skip : Bool) (units : List (ℕ × Parts)) (index : Indexed) → EntriesInTurn → IsIndexOf dead skip units index
+    → GivesAllOf dead skip units (length index.entries) (record { units = index.units; programs = index.programs; entries = index.entries; unit = 0; rows = None; last = None })
+gives_all dead skip units index law is =
+    let all = law (kept_sequences dead skip units) index.entries is.settled is.entries is.apart (kept_ordered skip (live_sequences dead units) is.ordered) in
     record {
       spans = spans_of all.in_turn;
       to_come = record {
         here = [];
         later = spans_of all.in_turn;
         come_here = refl;
-        come_later = record { sequences = all.in_turn; each = entries_found dead units index index.entries all.in_turn is all.each; spans_are = refl };
+        come_later = record { sequences = all.in_turn; each = entries_found dead skip units index index.entries all.in_turn is all.each; spans_are = refl };
         spans_are = refl;
       };
       spans_are = all.permuted;
       in_order = all.in_order;
       answers = all.answers;
-      whole = whole_spans dead units (spans_of all.in_turn) all.in_order all.answers;
+      whole = whole_spans dead skip units (spans_of all.in_turn) all.in_order all.answers;
       enough = all.count;
     }

@@ -1,5 +1,5 @@
 -- Units added to a draft, one at a time.
-use Rattle.std.proofs.Common.{◌≡◌, ℕ, ◌+◌, ◌<◌, ◌≤◌, List, [], ◌∷◌, ◌++◌, map, length, refl, sym, ap, subst, ◌∙◌, arith}
+use Rattle.std.proofs.Common.{◌≡◌, Bool, ℕ, ◌+◌, ◌<◌, ◌≤◌, List, [], ◌∷◌, ◌++◌, map, length, refl, sym, ap, subst, ◌∙◌, arith}
 use Rattle.std.specs.Prelude.{Option}
 use Rattle.std.specs.List.{All, AllByRecursion, AllZip}
 use Rattle.std.proofs.lemmas.List.Elements.{All-cons, All-nil, All-weaker}
@@ -15,7 +15,7 @@ use Rattle.std.specs.List.Sorted.{IsPermutation}
 use Rattle.lnt_rows.specs.declared.extent.Extent.{Extent}
 use Rattle.lnt_rows.specs.Extents.{AreSettled, extents_of}
 use Rattle.lnt_rows.specs.Rules.{AreApart, AreDistinct, AreOrdered}
-use Rattle.lnt_rows.specs.Sequences.{live_in, live_sequences}
+use Rattle.lnt_rows.specs.Sequences.{kept_sequences, live_in, live_sequences}
 use Rattle.lnt_spans.specs.Laws.EachTwo.{pairs_cons, pairs_nil}
 use Rattle.lnt_lines.specs.declared.draft.Draft.{Draft}
 use Rattle.lnt_lines.specs.Contents.{AreRising}
@@ -88,10 +88,10 @@ usable_tables : (text general : List ℕ) (dead : Option ℕ) (units : List (ℕ
 usable_tables text general dead [] all = tt
 usable_tables text general dead (unit ∷ units) all = (all.0.well_formed.tables, usable_tables text general dead units all.1)
 
-pub index_of_draft : (text general : List ℕ) (dead : Option ℕ) (units : List (ℕ × Parts)) (draft : Draft) (entries : List Extent) → IsDraftOf text general dead units draft → AreRising draft.units.items
-    → AreSettled entries → IsPermutation (extents_of (live_sequences dead units)) entries → AreApart (live_sequences dead units)
-    → IsIndexOf dead units (record { line = text; general = general; entries = entries; units = draft.units.items; programs = draft.programs.items })
-index_of_draft text general dead units draft entries d rising settled permuted apart = record {
+pub index_of_draft : (text general : List ℕ) (dead : Option ℕ) (skip : Bool) (units : List (ℕ × Parts)) (draft : Draft) (entries : List Extent) → IsDraftOf text general dead units draft → AreRising draft.units.items
+    → AreSettled entries → IsPermutation (extents_of (kept_sequences dead skip units)) entries → AreApart (kept_sequences dead skip units)
+    → IsIndexOf dead skip units (record { line = text; general = general; entries = entries; units = draft.units.items; programs = draft.programs.items })
+index_of_draft text general dead skip units draft entries d rising settled permuted apart = record {
   settled = settled;
   entries = permuted;
   apart = apart;

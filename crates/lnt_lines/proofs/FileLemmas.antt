@@ -1,5 +1,5 @@
 -- The files that are held of a unit.
-use Rattle.std.proofs.Common.{◌≡◌, ◌≢◌, ℕ, zero, suc, ◌==◌, ◌<◌, false, List, [], ◌∷◌, map, length, get_or, refl, sym, ap, subst, ◌∙◌, arith}
+use Rattle.std.proofs.Common.{◌≡◌, ◌≢◌, Bool, ℕ, zero, suc, ◌==◌, ◌<◌, false, List, [], ◌∷◌, map, length, get_or, refl, sym, ap, subst, ◌∙◌, arith}
 use Rattle.std.specs.Prelude.{None, Option, Some}
 use Rattle.std.specs.List.{All, AllZip, Contains, position, position_or_len, slice_get}
 use Rattle.std.specs.Option.{option_and_then, option_map, option_map_or}
@@ -44,9 +44,9 @@ abbrev FilesOf : List ℕ → List ℕ → ℕ × Parts → List KeptFile → Ty
 FilesOf text general unit files = AreFilesOf text general unit.1.header files
 
 -- its files are held
-held : (text general : List ℕ) (dead : Option ℕ) (order : Order) (section : List ℕ) (units : List (ℕ × Parts)) (contents : Contents) (unit : ℕ × Parts)
-    → SectionBytes order units section → TellsOf text general dead units contents → Contains units unit → (files : List KeptFile) × (files_of contents unit.0 ≡ Some files) × AreFilesOf text general unit.1.header files
-held text general dead order section units contents unit spelled tells (k, lt, same) =
+held : (text general : List ℕ) (dead : Option ℕ) (skip : Bool) (order : Order) (section : List ℕ) (units : List (ℕ × Parts)) (contents : Contents) (unit : ℕ × Parts)
+    → SectionBytes order units section → TellsOf text general dead skip units contents → Contains units unit → (files : List KeptFile) × (files_of contents unit.0 ≡ Some files) × AreFilesOf text general unit.1.header files
+held text general dead skip order section units contents unit spelled tells (k, lt, same) =
     let offsets : List ℕ = map (λ (u : ℕ × Parts). u.0) units in
     let at = zip_at (FilesOf text general) units contents.files k unit tells.files_are lt in
     let few : k < length offsets = omega (arith, lt, as_many units) in
@@ -57,10 +57,10 @@ held text general dead order section units contents unit spelled tells (k, lt, s
     ∙ ap (λ (o : Option ℕ). option_and_then (slice_get contents.files) o) (sym place) ∙ at.there in
     (at.y, there, subst (λ (u : ℕ × Parts). AreFilesOf text general u.1.header at.y) same at.related)
 
-listed : (text general : List ℕ) (dead : Option ℕ) (order : Order) (section : List ℕ) (units : List (ℕ × Parts)) (contents : Contents) (unit : ℕ × Parts)
-    → SectionBytes order units section → TellsOf text general dead units contents → Contains units unit → ListsFilesOf text general unit contents
-listed text general dead order section units contents unit spelled tells within =
-    let found = held text general dead order section units contents unit spelled tells within in
+listed : (text general : List ℕ) (dead : Option ℕ) (skip : Bool) (order : Order) (section : List ℕ) (units : List (ℕ × Parts)) (contents : Contents) (unit : ℕ × Parts)
+    → SectionBytes order units section → TellsOf text general dead skip units contents → Contains units unit → ListsFilesOf text general unit contents
+listed text general dead skip order section units contents unit spelled tells within =
+    let found = held text general dead skip order section units contents unit spelled tells within in
     let files = found.2 in
     record {
       count = ap (λ (o : Option (List KeptFile)). option_map_or length o 0) found.1 ∙ files.count;
@@ -84,8 +84,8 @@ no_place units offset all =
 
 pub files_of_units : FilesOfUnits
 files_of_units = record {
-  listed = λ text general dead order section units contents unit spelled tells within. listed text general dead order section units contents unit spelled tells within;
-  none = λ text general dead units contents offset tells all.
+  listed = λ text general dead skip order section units contents unit spelled tells within. listed text general dead skip order section units contents unit spelled tells within;
+  none = λ text general dead skip units contents offset tells all.
       ap (λ (list : List ℕ). files_at list contents.files offset) tells.units_are
       ∙ ap (λ (o : Option ℕ). option_and_then (slice_get contents.files) o) (no_place units offset all);
 }
@@ -95,8 +95,8 @@ files_of_units = record {
 abbrev say_header : Option Kept → Option HeaderParts
 say_header found = option_map (λ (kept : Kept). kept.header) found
 
-header_found : (dead : Option ℕ) (units : List (ℕ × Parts)) (index : Indexed) (unit : ℕ × Parts) → IsIndexOf dead units index → Contains units unit → header_in index unit.0 ≡ Some unit.1.header
-header_found dead units index unit is (k, lt, same) =
+header_found : (dead : Option ℕ) (skip : Bool) (units : List (ℕ × Parts)) (index : Indexed) (unit : ℕ × Parts) → IsIndexOf dead skip units index → Contains units unit → header_in index unit.0 ≡ Some unit.1.header
+header_found dead skip units index unit is (k, lt, same) =
     let offsets : List ℕ = map (λ (u : ℕ × Parts). u.0) units in
     let at = zip_at (λ (u : ℕ × Parts) (kept : Kept). Keeps kept u.1) units index.programs k unit is.programs lt in
     let few : k < length offsets = omega (arith, lt, as_many units) in
@@ -110,7 +110,7 @@ header_found dead units index unit is (k, lt, same) =
 pub headers_of_units : HeadersOfUnits
 headers_of_units = record {
   found = header_found;
-  none = λ dead units index offset is all.
+  none = λ dead skip units index offset is all.
       ap (λ (list : List ℕ). say_header (option_and_then (slice_get index.programs) (position (λ (n : ℕ). n == offset) list))) is.offsets
       ∙ ap (λ (o : Option ℕ). say_header (option_and_then (slice_get index.programs) o)) (no_place units offset all);
 }

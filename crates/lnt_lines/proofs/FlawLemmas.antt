@@ -19,7 +19,7 @@ use Rattle.lnt_entries.specs.declared.tables.TableFault.TheVariants as table
 use Rattle.lnt_entries.specs.Tables.{AreUsableTables, IsTablesFault}
 use Rattle.lnt_rows.specs.Laws.{FallIsNotOrdered, MissingFileIsNotThere, OverlapIsNotApart}
 use Rattle.lnt_rows.specs.Rules.{AreApart}
-use Rattle.lnt_rows.specs.Sequences.{live_sequences, placed_in}
+use Rattle.lnt_rows.specs.Sequences.{kept_sequences, placed_in}
 use Rattle.lnt_lines.specs.declared.no.No.{No}
 use Rattle.lnt_lines.specs.declared.no.No.TheVariants as no
 use Rattle.lnt_lines.specs.declared.options.Options.{Options}
@@ -87,8 +87,8 @@ pub no_flaw : FallIsNotOrdered → MissingFileIsNotThere → OverlapIsNotApart �
 no_flaw falls missing overlaps text general options section units (no.Malformed fault) good f = f.broken.none units good.spelled
 no_flaw falls missing overlaps text general options section units (no.Overlap first second position) good f =
     let same : f.units ≡ units = one_section.units options.order f.units units section f.spelled good.spelled in
-    overlaps (live_sequences options.dead f.units) (record { first = first; second = second; position = position }) f.first
-    (subst (λ (list : List (ℕ × Parts)). AreApart (live_sequences options.dead list)) (sym same) good.apart)
+    overlaps (kept_sequences options.dead options.skip_copies f.units) (record { first = first; second = second; position = position }) f.first
+    (subst (λ (list : List (ℕ × Parts)). AreApart (kept_sequences options.dead options.skip_copies list)) (sym same) good.apart)
 no_flaw falls missing overlaps text general options section units (no.Run unit fault) good f = no_first_flaw falls missing text general options section units (no.Run unit fault) good f
 no_flaw falls missing overlaps text general options section units (no.EntryFormat unit which) good f = no_first_flaw falls missing text general options section units (no.EntryFormat unit which) good f
 no_flaw falls missing overlaps text general options section units (no.StringOutside unit which entry) good f =

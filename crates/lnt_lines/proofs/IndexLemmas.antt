@@ -17,7 +17,8 @@ use Rattle.lnt_rows.specs.declared.extent.Extent.{Extent}
 use Rattle.lnt_rows.specs.declared.sequence.SeqId.{SeqId}
 use Rattle.lnt_rows.specs.Extents.{HolderAnswers, IsHolder, NoneHolds}
 use Rattle.lnt_rows.specs.Laws.Found.{live_placed}
-use Rattle.lnt_rows.specs.Sequences.{answer_of, line_answer, live_sequences, Placed, row_at}
+use Rattle.lnt_rows.specs.Laws.Kept.{kept_live}
+use Rattle.lnt_rows.specs.Sequences.{answer_of, kept_sequences, line_answer, live_sequences, Placed, row_at}
 use Rattle.lnt_rows.specs.Spanning.{rows_left}
 use Rattle.lnt_lines.specs.Cursors.{room_of}
 use Rattle.lnt_lines.specs.Indexed.{Indexed, IsIndexOf, IsSequenceIn}
@@ -34,10 +35,10 @@ zip_at R (u ∷ xs) [] k x y all few = absurd all
 zip_at R (u ∷ xs) (v ∷ ys) zero x y all few = (all.0, omega arith)
 zip_at R (u ∷ xs) (v ∷ ys) (suc k) x y all few = let more = zip_at R xs ys k x y all.1 (omega arith) in (more.0, omega (arith, more.1))
 
-pub sequence_in : (dead : Option ℕ) (units : List (ℕ × Parts)) (index : Indexed) (id : SeqId) (placed : Placed) → IsIndexOf dead units index → Contains (live_sequences dead units) placed → placed.id ≡ id
+pub sequence_in : (dead : Option ℕ) (skip : Bool) (units : List (ℕ × Parts)) (index : Indexed) (id : SeqId) (placed : Placed) → IsIndexOf dead skip units index → Contains (kept_sequences dead skip units) placed → placed.id ≡ id
     → IsSequenceIn index.units index.programs id placed.rows
-sequence_in dead units index id placed is contained same =
-    let one = live_placed dead units placed contained in
+sequence_in dead skip units index id placed is contained same =
+    let one = live_placed dead units placed (kept_live skip (live_sequences dead units) placed contained) in
     let at = offset_at units one.place one.unit one.within in
     let offset : get_or index.units one.place 0 ≡ id.unit =
     ap (λ (list : List ℕ). get_or list one.place 0) is.offsets ∙ at.0 ∙ ap (λ (u : ℕ × Parts). u.0) (one.unit_at one.unit) ∙ sym one.unit_is ∙ ap (λ (i : SeqId). i.unit) same in
@@ -55,23 +56,23 @@ sequence_in dead units index id placed is contained same =
     }
 
 -- The sequence with this id has rows that answer.
-pub record Answers (dead : Option ℕ) (units : List (ℕ × Parts)) (index : Indexed) (p : spans.Position) (id : SeqId) : Type 0 where
+pub record Answers (dead : Option ℕ) (skip : Bool) (units : List (ℕ × Parts)) (index : Indexed) (p : spans.Position) (id : SeqId) : Type 0 where
   pub rows : List Row
   pub sequence_is : IsSequenceIn index.units index.programs id rows
-  pub answer_is : line_answer dead units p ≡ option_map (answer_of id.unit) (row_at p rows)
+  pub answer_is : line_answer dead skip units p ≡ option_map (answer_of id.unit) (row_at p rows)
 
-pub found_answer : (dead : Option ℕ) (units : List (ℕ × Parts)) (index : Indexed) (p : spans.Position) (extent : Extent) → HolderAnswers → IsIndexOf dead units index
-    → IsHolder index.entries p extent → Answers dead units index p extent.id
-found_answer dead units index p extent law is holder =
-    let answers = law.some (live_sequences dead units) index.entries p extent is.entries is.apart holder in
+pub found_answer : (dead : Option ℕ) (skip : Bool) (units : List (ℕ × Parts)) (index : Indexed) (p : spans.Position) (extent : Extent) → HolderAnswers → IsIndexOf dead skip units index
+    → IsHolder index.entries p extent → Answers dead skip units index p extent.id
+found_answer dead skip units index p extent law is holder =
+    let answers = law.some (kept_sequences dead skip units) index.entries p extent is.entries is.apart holder in
     record {
       rows = answers.placed.rows;
-      sequence_is = sequence_in dead units index extent.id answers.placed is answers.contained answers.id_is;
+      sequence_is = sequence_in dead skip units index extent.id answers.placed is answers.contained answers.id_is;
       answer_is = answers.answer_is ∙ ap (λ (i : SeqId). option_map (answer_of i.unit) (row_at p answers.placed.rows)) answers.id_is;
     }
 
-pub found_none : (dead : Option ℕ) (units : List (ℕ × Parts)) (index : Indexed) (p : spans.Position) → HolderAnswers → IsIndexOf dead units index → NoneHolds index.entries p → None ≡ line_answer dead units p
-found_none dead units index p law is none = sym (law.none (live_sequences dead units) index.entries p is.entries none)
+pub found_none : (dead : Option ℕ) (skip : Bool) (units : List (ℕ × Parts)) (index : Indexed) (p : spans.Position) → HolderAnswers → IsIndexOf dead skip units index → NoneHolds index.entries p → None ≡ line_answer dead skip units p
+found_none dead skip units index p law is none = sym (law.none (kept_sequences dead skip units) index.entries p is.entries none)
 
 -- ---- the rows of a sequence
 

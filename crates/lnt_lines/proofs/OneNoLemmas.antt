@@ -13,7 +13,8 @@ use Rattle.lnt_unit.specs.UnitBytes.{UnitBytesIn, UnitsFrom}
 use Rattle.lnt_rows.specs.declared.extent.Overlap.{Overlap}
 use Rattle.lnt_rows.specs.Extents.{IsFirstOverlap}
 use Rattle.lnt_rows.specs.Laws.{FallIsNotOrdered, MissingFileIsNotThere}
-use Rattle.lnt_rows.specs.Sequences.{live_sequences}
+use Rattle.lnt_rows.specs.Laws.Kept.{kept_distinct}
+use Rattle.lnt_rows.specs.Sequences.{kept_sequences, live_sequences}
 use Rattle.lnt_lines.specs.declared.no.No.{No}
 use Rattle.lnt_lines.specs.declared.no.No.TheVariants as no
 use Rattle.lnt_lines.specs.declared.options.Options.{Options}
@@ -108,8 +109,9 @@ flaw_and_malformed falls missing text general options section reason fault f m =
 two_overlaps : (text general : List ℕ) (options : Options) (section : List ℕ) (a b : Overlap) → IsOverlap text general options section a → IsOverlap text general options section b → a ≡ b
 two_overlaps text general options section a b o q =
     let same : q.units ≡ o.units = one_section.units options.order q.units o.units section q.spelled o.spelled in
-    one_overlap (live_sequences options.dead o.units) a b (distinct options.order options.dead o.units section o.spelled) o.first
-    (subst (λ (units : List (ℕ × Parts)). IsFirstOverlap (live_sequences options.dead units) b) same q.first)
+    one_overlap (kept_sequences options.dead options.skip_copies o.units) a b
+    (kept_distinct options.skip_copies (live_sequences options.dead o.units) (distinct options.order options.dead o.units section o.spelled)) o.first
+    (subst (λ (units : List (ℕ × Parts)). IsFirstOverlap (kept_sequences options.dead options.skip_copies units) b) same q.first)
 
 two_flaws : FallIsNotOrdered → MissingFileIsNotThere → (text general : List ℕ) (options : Options) (section : List ℕ) (r s : No) → IsFirstFlaw text general options section r
     → IsFirstFlaw text general options section s → r ≡ s

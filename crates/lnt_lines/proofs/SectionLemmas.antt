@@ -21,7 +21,7 @@ use Rattle.lnt_unit.specs.Laws.Frames.{broken_more}
 use Rattle.lnt_unit.specs.Laws.Units.{no_section, units_push}
 use Rattle.lnt_unit.specs.UnitBytes.{SectionBytes, UnitBytesIn}
 use Rattle.lnt_rows.specs.Rules.{AreApart}
-use Rattle.lnt_rows.specs.Sequences.{live_sequences, Placed}
+use Rattle.lnt_rows.specs.Sequences.{kept_of, live_sequences, Placed}
 use Rattle.lnt_rows.specs.Watching.{Collects}
 use Rattle.lnt_lines.specs.declared.draft.Draft.{Draft}
 use Rattle.lnt_lines.specs.declared.no.No.{No}
@@ -189,8 +189,8 @@ whole_draft text general options section draft all = record {
 }
 
 pub indexed : (text general : List ℕ) (options : Options) (section : Option (List ℕ)) (draft : Draft) (index : Indexed) → IsDraftOfSection text general options section draft
-    → ((sequences : List Placed) → Collects draft.collected sequences → AreApart sequences)
-    → ((dead : Option ℕ) (units : List (ℕ × Parts)) → IsDraftOf text general dead units draft → IsIndexOf dead units index) → index.line ≡ text → index.general ≡ general
+    → ((sequences : List Placed) → Collects draft.collected sequences → AreApart (kept_of options.skip_copies sequences))
+    → ((dead : Option ℕ) (units : List (ℕ × Parts)) → IsDraftOf text general dead units draft → IsIndexOf dead options.skip_copies units index) → index.line ≡ text → index.general ≡ general
     → IfSome section (λ bytes. IsIndexOfSection text general options bytes index)
 indexed text general options section draft index all apart is line_is general_is =
     weaker section (λ bytes. all.bytes ≡ bytes) (λ bytes. IsIndexOfSection text general options bytes index)

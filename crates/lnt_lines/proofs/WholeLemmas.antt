@@ -1,5 +1,5 @@
 -- What rows answer tells everything, so the spans that answer as they do hold whole answers.
-use Rattle.std.proofs.Common.{◌≡◌, ◌∙◌, ℕ, List, [], ◌∷◌, Option, Some, None, refl, sym, subst}
+use Rattle.std.proofs.Common.{◌≡◌, ◌∙◌, Bool, ℕ, List, [], ◌∷◌, Option, Some, None, refl, sym, subst}
 use Rattle.std.specs.List.{find}
 use Rattle.std.specs.Option.{option_map, option_and_then}
 use Rattle.lnt_machine.specs.declared.row.Row.{Row}
@@ -12,7 +12,7 @@ use Rattle.lnt_spans.specs.Laws.Positions.{at_most_itself, at_most_trans, below_
 use Rattle.lnt_spans.specs.Positions.{IsAtMost}
 use Rattle.lnt_spans.specs.Spans.{AreInOrder, span_answer}
 use Rattle.lnt_unit.specs.declared.unit.Parts.{Parts}
-use Rattle.lnt_rows.specs.Sequences.{answer_of, holds, line_answer, live_sequences, Placed, row_at}
+use Rattle.lnt_rows.specs.Sequences.{answer_of, holds, kept_sequences, line_answer, Placed, row_at}
 use Rattle.lnt_lines.specs.Contents.{AreWhole}
 
 abbrev IsWhole : Answer → Type 0
@@ -57,7 +57,7 @@ all_are_whole : (spans : List Span) (answers : Position → Option Answer) → A
 all_are_whole [] answers o h same = tt
 all_are_whole (span ∷ spans) answers o h same = each_is_whole span spans answers o h (λ p k. same p)
 
-pub whole_spans : (dead : Option ℕ) (units : List (ℕ × Parts)) (spans : List Span) → AreInOrder spans → ((p : Position) → span_answer spans p ≡ line_answer dead units p) → AreWhole spans
-whole_spans dead units spans o answers =
-    all_are_whole spans (line_answer dead units) o
-    (λ p. found_is_whole p (find (λ (placed : Placed). holds p placed.rows) (live_sequences dead units))) answers
+pub whole_spans : (dead : Option ℕ) (skip : Bool) (units : List (ℕ × Parts)) (spans : List Span) → AreInOrder spans → ((p : Position) → span_answer spans p ≡ line_answer dead skip units p) → AreWhole spans
+whole_spans dead skip units spans o answers =
+    all_are_whole spans (line_answer dead skip units) o
+    (λ p. found_is_whole p (find (λ (placed : Placed). holds p placed.rows) (kept_sequences dead skip units))) answers

@@ -1,12 +1,12 @@
 -- What is held of a good section, and what it answers.
-use Rattle.std.specs.Prelude.{◌≡◌, ◌<◌, ℕ, ◌==◌, List, map, length, Option, Some}
+use Rattle.std.specs.Prelude.{◌≡◌, ◌<◌, Bool, ℕ, ◌==◌, List, map, length, Option, Some}
 use Rattle.std.specs.List.{AllByRecursion, AllPairs, AllZip, position, slice_get}
 use Rattle.std.specs.List.Sorted.{IsPermutation}
 use Rattle.std.specs.Option.{option_and_then, option_map_or}
 use Rattle.lnt_unit.specs.declared.unit.Parts.{Parts}
 use Rattle.lnt_entries.specs.Files.{AreFilesOf, KeptFile, kept_path, kept_sum}
 use Rattle.lnt_rows.specs.RowSpans.{spans_of}
-use Rattle.lnt_rows.specs.Sequences.{line_answer, live_sequences}
+use Rattle.lnt_rows.specs.Sequences.{kept_sequences, line_answer}
 use Rattle.lnt_spans.specs.declared.answer.More.{More}
 use Rattle.lnt_spans.specs.declared.position.Position.{Position}
 use Rattle.lnt_spans.specs.declared.span.Span.{Span}
@@ -52,11 +52,11 @@ path_in contents unit file = option_and_then (λ files. kept_path files file) (f
 abbrev pub sum_in : Contents → ℕ → ℕ → Option (List ℕ)
 sum_in contents unit file = option_and_then (λ files. kept_sum files file) (files_of contents unit)
 
--- What is held is of the units: the spans of their live sequences, each once, in order, which answer as their rows do at each
+-- What is held is of the units: the spans of their kept sequences, each once, in order, which answer as their rows do at each
 -- position; their offsets; and their files.
-pub record TellsOf (line general : List ℕ) (dead : Option ℕ) (units : List (ℕ × Parts)) (contents : Contents) : Type 0 where
-  pub spans_are : IsPermutation (spans_of (live_sequences dead units)) contents.spans
+pub record TellsOf (line general : List ℕ) (dead : Option ℕ) (skip : Bool) (units : List (ℕ × Parts)) (contents : Contents) : Type 0 where
+  pub spans_are : IsPermutation (spans_of (kept_sequences dead skip units)) contents.spans
   pub in_order : AreInOrder contents.spans
-  pub answers : (p : Position) → span_answer contents.spans p ≡ line_answer dead units p
+  pub answers : (p : Position) → span_answer contents.spans p ≡ line_answer dead skip units p
   pub units_are : contents.units ≡ map (λ unit. unit.0) units
   pub files_are : AllZip (λ unit files. AreFilesOf line general unit.1.header files) units contents.files

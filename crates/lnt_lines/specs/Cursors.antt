@@ -1,5 +1,5 @@
 -- All spans of an index, one after another: a sequence is decoded where its spans come next.
-use Rattle.std.specs.Prelude.{◌≡◌, ℕ, ◌+◌, ◌≤◌, List, [], ◌∷◌, ◌++◌, length, Option, Some, None}
+use Rattle.std.specs.Prelude.{◌≡◌, Bool, ℕ, ◌+◌, ◌≤◌, List, [], ◌∷◌, ◌++◌, length, Option, Some, None}
 use Rattle.std.specs.List.{AllZip}
 use Rattle.std.specs.List.Sorted.{IsPermutation}
 use Rattle.lnt_unit.specs.declared.unit.Parts.{Parts}
@@ -11,7 +11,7 @@ use Rattle.lnt_spans.specs.Coming.{GivesFirst}
 use Rattle.lnt_spans.specs.Spans.{AreInOrder, span_answer}
 use Rattle.lnt_rows.specs.declared.extent.Extent.{Extent}
 use Rattle.lnt_rows.specs.RowSpans.{spans_of}
-use Rattle.lnt_rows.specs.Sequences.{line_answer, live_sequences, Placed}
+use Rattle.lnt_rows.specs.Sequences.{kept_sequences, line_answer, Placed}
 use Rattle.lnt_rows.specs.Spanning.{HasSpans, rows_left}
 use Rattle.lnt_lines.specs.Contents.{AreWhole}
 use Rattle.lnt_lines.specs.Indexed.{IsSequenceIn}
@@ -50,14 +50,14 @@ abbrev pub GivesHere : Cursor → List Span → Option Span → Type 0
 GivesHere new spans None = ComeLater spans new
 GivesHere new spans (Some given) = GivesFirst (AreToCome new) spans (Some given)
 
--- What is to come are the spans of the live sequences of these units, each once: they are in order, answer as the rows do at
+-- What is to come are the spans of the kept sequences of these units, each once: they are in order, answer as the rows do at
 -- every position, tell everything, and are no fewer than so many.
-pub record GivesAllOf (dead : Option ℕ) (units : List (ℕ × Parts)) (count : ℕ) (cursor : Cursor) : Type 0 where
+pub record GivesAllOf (dead : Option ℕ) (skip : Bool) (units : List (ℕ × Parts)) (count : ℕ) (cursor : Cursor) : Type 0 where
   pub spans : List Span
   pub to_come : AreToCome cursor spans
-  pub spans_are : IsPermutation (spans_of (live_sequences dead units)) spans
+  pub spans_are : IsPermutation (spans_of (kept_sequences dead skip units)) spans
   pub in_order : AreInOrder spans
-  pub answers : (p : Position) → span_answer spans p ≡ line_answer dead units p
+  pub answers : (p : Position) → span_answer spans p ≡ line_answer dead skip units p
   pub whole : AreWhole spans
   pub enough : count ≤ length spans
 

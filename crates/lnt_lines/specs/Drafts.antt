@@ -56,13 +56,13 @@ pub record HasAdded (line general : List ℕ) (dead : Option ℕ) (buffer : Unit
 pub record AreLinesOf (line general : List ℕ) (options : Options) (section : List ℕ) (lines : Contents) : Type 0 where
   pub units : List (ℕ × Parts)
   pub good : IsGood line general options section units
-  pub tells : TellsOf line general options.dead units lines
+  pub tells : TellsOf line general options.dead options.skip_copies units lines
 
 -- The section is good, and this is the index of its units.
 pub record IsIndexOfSection (line general : List ℕ) (options : Options) (section : List ℕ) (index : Indexed) : Type 0 where
   pub units : List (ℕ × Parts)
   pub good : IsGood line general options section units
-  pub index_is : IsIndexOf options.dead units index
+  pub index_is : IsIndexOf options.dead options.skip_copies units index
   pub line_is : index.line ≡ line
   pub general_is : index.general ≡ general
 

@@ -8,7 +8,7 @@ use Rattle.lnt_unit.specs.UnitBytes.{SectionBytes}
 use Rattle.lnt_machine.specs.Matrix.{Runs}
 use Rattle.lnt_entries.specs.Tables.{AreUsableTables}
 use Rattle.lnt_rows.specs.Rules.{AreApart, AreOrdered, HaveFiles}
-use Rattle.lnt_rows.specs.Sequences.{live_in, live_sequences}
+use Rattle.lnt_rows.specs.Sequences.{kept_sequences, live_in}
 use Rattle.lnt_lines.specs.declared.options.Options.{Options}
 
 -- A unit whose program runs, and whose tables are usable: each file's directory is there, and the text of each path.
@@ -23,8 +23,9 @@ pub record IsSound (line general : List ℕ) (dead : Option ℕ) (unit : ℕ × 
   pub files : HaveFiles (length unit.1.header.files) (live_in dead unit)
   pub ordered : AreOrdered (live_in dead unit)
 
--- The section is the bytes of these units. Each of them is sound, and no position is held by two of their live sequences.
+-- The section is the bytes of these units. Each of them is sound, and no position is held by two of their kept sequences: of
+-- the live ones, less the copies where these are skipped.
 pub record IsGood (line general : List ℕ) (options : Options) (section : List ℕ) (units : List (ℕ × Parts)) : Type 0 where
   pub spelled : SectionBytes options.order units section
   pub sound : AllByRecursion (IsSound line general options.dead) units
-  pub apart : AreApart (live_sequences options.dead units)
+  pub apart : AreApart (kept_sequences options.dead options.skip_copies units)

@@ -1,6 +1,6 @@
 -- What is kept of a good section by its sequences: where each lies, the programs of the units that they are in, and the
 -- string sections.
-use Rattle.std.specs.Prelude.{◌≡◌, ◌<◌, ◌==◌, ℕ, List, length, map, get_or, Option, Some}
+use Rattle.std.specs.Prelude.{◌≡◌, ◌<◌, ◌==◌, Bool, ℕ, List, length, map, get_or, Option, Some}
 use Rattle.std.specs.List.{AllByRecursion, AllZip, position, slice_get}
 use Rattle.std.specs.List.Sorted.{IsPermutation}
 use Rattle.std.specs.Option.{option_and_then, option_map, option_map_or}
@@ -16,7 +16,7 @@ use Rattle.lnt_rows.specs.declared.extent.Extent.{Extent}
 use Rattle.lnt_rows.specs.declared.sequence.SeqId.{SeqId}
 use Rattle.lnt_rows.specs.Extents.{AreSettled, extents_of}
 use Rattle.lnt_rows.specs.Rules.{AreApart, AreOrdered}
-use Rattle.lnt_rows.specs.Sequences.{live_sequences}
+use Rattle.lnt_rows.specs.Sequences.{kept_sequences, live_sequences}
 use Rattle.lnt_lines.specs.Contents.{AreRising}
 
 -- the bytes of .debug_line_str and of .debug_str, an entry for each sequence that holds something, and the offset and the
@@ -28,12 +28,12 @@ pub record Indexed : Type 0 where
   pub units : List ℕ
   pub programs : List Kept
 
--- It is that of the live sequences of these units, whose positions never fall, and no two of which hold one position. The
+-- It is that of the kept sequences of these units, no two of which hold one position. In no live sequence positions fall. The
 -- units stand in order, and the tables of each are usable.
-pub record IsIndexOf (dead : Option ℕ) (units : List (ℕ × Parts)) (index : Indexed) : Type 0 where
+pub record IsIndexOf (dead : Option ℕ) (skip : Bool) (units : List (ℕ × Parts)) (index : Indexed) : Type 0 where
   pub settled : AreSettled index.entries
-  pub entries : IsPermutation (extents_of (live_sequences dead units)) index.entries
-  pub apart : AreApart (live_sequences dead units)
+  pub entries : IsPermutation (extents_of (kept_sequences dead skip units)) index.entries
+  pub apart : AreApart (kept_sequences dead skip units)
   pub ordered : AreOrdered (live_sequences dead units)
   pub rising : AreRising index.units
   pub offsets : index.units ≡ map (λ unit. unit.0) units
@@ -43,8 +43,9 @@ pub record IsIndexOf (dead : Option ℕ) (units : List (ℕ × Parts)) (index : 
 -- it is that of some units
 pub record IsIndex (index : Indexed) : Type 0 where
   pub dead : Option ℕ
+  pub skip : Bool
   pub units : List (ℕ × Parts)
-  pub index_is : IsIndexOf dead units index
+  pub index_is : IsIndexOf dead skip units index
 
 -- ---- the files of units
 

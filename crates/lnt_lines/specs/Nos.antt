@@ -15,7 +15,7 @@ use Rattle.lnt_rows.specs.declared.extent.Overlap.{Overlap}
 use Rattle.lnt_rows.specs.Evidence.{IsFirstFall, IsFirstMissingFile}
 use Rattle.lnt_rows.specs.Extents.{IsFirstOverlap}
 use Rattle.lnt_rows.specs.Rules.{HaveFiles}
-use Rattle.lnt_rows.specs.Sequences.{live_in, live_sequences, placed_in}
+use Rattle.lnt_rows.specs.Sequences.{kept_sequences, live_in, placed_in}
 use Rattle.lnt_lines.specs.declared.no.No.{No}
 use Rattle.lnt_lines.specs.declared.no.No.TheVariants as no
 use Rattle.lnt_lines.specs.declared.options.Options.{Options}
@@ -53,12 +53,12 @@ pub record IsMalformed (line general : List ℕ) (options : Options) (section : 
   pub broken : BrokenSection options.order fault section
   pub sound : AllByRecursion (IsSound line general options.dead) broken.true_fault.units
 
--- The section is the bytes of sound units, and of their live sequences these are the first that overlap.
+-- The section is the bytes of sound units, and of their kept sequences these are the first that overlap.
 pub record IsOverlap (line general : List ℕ) (options : Options) (section : List ℕ) (overlap : Overlap) : Type 0 where
   pub units : List (ℕ × Parts)
   pub spelled : SectionBytes options.order units section
   pub sound : AllByRecursion (IsSound line general options.dead) units
-  pub first : IsFirstOverlap (live_sequences options.dead units) overlap
+  pub first : IsFirstOverlap (kept_sequences options.dead options.skip_copies units) overlap
 
 -- What is told is wrong with the section, and it is the first thing that is.
 abbrev pub IsTrueNo : List ℕ → List ℕ → Options → List ℕ → No → Type 0

@@ -3,7 +3,7 @@ ghost use Rattle.std.specs.Prelude.{◌≡◌, ◌≤◌, ℕ, List, [], length,
 ghost use Rattle.lnt_unit.specs.declared.unit.Parts.{Parts};
 ghost use Rattle.lnt_rows.specs.Extents.{IsFirstOverlap};
 ghost use Rattle.lnt_rows.specs.Rules.{AreApart};
-ghost use Rattle.lnt_rows.specs.Sequences.{Placed};
+ghost use Rattle.lnt_rows.specs.Sequences.{Placed, kept_of};
 ghost use Rattle.lnt_rows.specs.Watching.{Collects};
 ghost use Rattle.lnt_lines.specs.Drafts.{HasAdded, IsDraftOf, IsWholeDraft};
 ghost use Rattle.lnt_lines.specs.Indexed.{IsIndexOf};
@@ -73,21 +73,25 @@ impl Draft {
         Ok(taken.room)
     }
 
-    /// The index, after the last unit, or the first overlap. The strings are those that the units were judged by.
-    pub(crate) fn index<'a>(self, strings: &Strings<'a>) -> Result<Index<'a>, Overlap>
+    /// The index, after the last unit, or the first overlap, of the live sequences or of all of them but copies. The strings are those that the units were judged by.
+    pub(crate) fn index<'a>(
+        self,
+        strings: &Strings<'a>,
+        skip_copies: bool,
+    ) -> Result<Index<'a>, Overlap>
         requires { IsWholeDraft strings.now.line.now strings.now.general.now self }
-        ensures index { IfOk result (λ index. (dead : Option ℕ) (units : List (ℕ × Parts)) → IsDraftOf strings.now.line.now strings.now.general.now dead units self → IsIndexOf dead units index) }
+        ensures index { IfOk result (λ index. (dead : Option ℕ) (units : List (ℕ × Parts)) → IsDraftOf strings.now.line.now strings.now.general.now dead units self → IsIndexOf dead skip_copies units index) }
         ensures line { IfOk result (λ index. index.line ≡ strings.now.line.now) }
         ensures general { IfOk result (λ index. index.general ≡ strings.now.general.now) }
-        ensures apart { OnOk result ((sequences : List Placed) → Collects self.collected sequences → AreApart sequences) }
-        ensures overlap { IfErr result (λ overlap. (sequences : List Placed) → Collects self.collected sequences → IsFirstOverlap sequences overlap) }
+        ensures apart { OnOk result ((sequences : List Placed) → Collects self.collected sequences → AreApart (kept_of skip_copies sequences)) }
+        ensures overlap { IfErr result (λ overlap. (sequences : List Placed) → Collects self.collected sequences → IsFirstOverlap (kept_of skip_copies sequences) overlap) }
     {
         let Draft {
             collected,
             units,
             programs,
         } = self;
-        let entries = collected.entries()?;
+        let entries = collected.entries(skip_copies)?;
         Ok(Index::of(strings, entries, units, programs))
     }
 }

@@ -1,5 +1,5 @@
 //! The lines of an index, with all spans and paths at hand.
-ghost use Rattle.std.specs.Prelude.{◌≡◌, ℕ, List, Option, IfOk, IfErr};
+ghost use Rattle.std.specs.Prelude.{◌≡◌, Bool, ℕ, List, Option, IfOk, IfErr};
 ghost use Rattle.lnt_unit.specs.declared.unit.Parts.{Parts};
 ghost use Rattle.lnt_lines.specs.declared.stop.Stop.TheVariants.{Memory};
 ghost use Rattle.lnt_lines.specs.Contents.{TellsOf};
@@ -13,7 +13,7 @@ use std::alloc::Global;
 
 // The lines of the units that the index is of. It refuses only where memory runs out.
 pub(crate) fn lines_of(alloc: Global, index: &Index<'_>) -> Result<Lines, Stop>
-    ensures lines { IfOk result (λ lines. (dead : Option ℕ) (units : List (ℕ × Parts)) → IsIndexOf dead units index.now → TellsOf index.now.line index.now.general dead units lines) }
+    ensures lines { IfOk result (λ lines. (dead : Option ℕ) (skip : Bool) (units : List (ℕ × Parts)) → IsIndexOf dead skip units index.now → TellsOf index.now.line index.now.general dead skip units lines) }
     ensures err { IfErr result (λ stop. stop ≡ Memory) }
 {
     let Ok(spans) = collect(alloc, index.spans()) else {

@@ -1,5 +1,5 @@
 //! What a good section answers, with its rows decoded again where they are asked for.
-ghost use Rattle.std.specs.Prelude.{◌≡◌, ◌+◌, ◌-◌, ◌^◌, ◌<◌, ◌≤◌, ℕ, List, length, Option, IfNone, IfOk, IfErr, IfSome, IsSomeAnd};
+ghost use Rattle.std.specs.Prelude.{◌≡◌, ◌+◌, ◌-◌, ◌^◌, ◌<◌, ◌≤◌, Bool, ℕ, List, length, Option, IfNone, IfOk, IfErr, IfSome, IsSomeAnd};
 ghost use Rattle.std.specs.List.{All, AllZip};
 ghost use Rattle.std.specs.Option.{option_map};
 ghost use Rattle.lnt_unit.specs.declared.unit.Parts.{Parts};
@@ -70,14 +70,14 @@ impl<'a> Index<'a> {
         }
     }
 
-    /// What is answered at the position: what the last row says that isn't above it, in the live sequence that holds it;
+    /// What is answered at the position: what the last row says that isn't above it, in the kept sequence that holds it;
     /// none where none does. The rows of that sequence are decoded, and no others. It takes no memory.
     ///
     /// It compares the position with at most as many sequences as the number of those that hold anything has binary
     /// digits: `probes` rises by the comparisons. The caller sees to it that `probes` stands at 2^63 or below.
     pub fn lookup(&self, position: Position, probes: &mut Probes) -> Option<Answer>
         requires { probes.old ≤ 2 ^ 63 }
-        ensures answer { (dead : Option ℕ) (units : List (ℕ × Parts)) → IsIndexOf dead units self.now → result ≡ line_answer dead units position }
+        ensures answer { (dead : Option ℕ) (skip : Bool) (units : List (ℕ × Parts)) → IsIndexOf dead skip units self.now → result ≡ line_answer dead skip units position }
         ensures rises { probes.old ≤ probes.new }
         ensures counted { (digits : ℕ) → length self.now.entries < 2 ^ digits → probes.new ≤ probes.old + digits }
     {
@@ -91,13 +91,13 @@ impl<'a> Index<'a> {
         answer_at(extent.id.unit, rows, position)
     }
 
-    /// All spans, one after another: one for each two rows of a live sequence that follow one another at different
+    /// All spans, one after another: one for each two rows of a kept sequence that follow one another at different
     /// positions. They are in order, none is empty, and each answer tells the instruction set and the discriminator too.
     /// A sequence is decoded where its spans come next, and there are no fewer spans than sequences that hold anything. It
     /// takes no memory.
     pub fn spans(&self) -> Spans<'_>
         ensures is_index { IsIndex self.now }
-        ensures gives { (dead : Option ℕ) (units : List (ℕ × Parts)) → IsIndexOf dead units self.now → GivesAllOf dead units (length self.now.entries) result }
+        ensures gives { (dead : Option ℕ) (skip : Bool) (units : List (ℕ × Parts)) → IsIndexOf dead skip units self.now → GivesAllOf dead skip units (length self.now.entries) result }
     {
         lnt_rows::laws::entries_in_turn();
         Spans::of(&self.units, &self.programs, &self.entries)

@@ -26,7 +26,7 @@ pub fn headers_of_units()
     ensures { HeadersOfUnits }
 {}
 
-/// Of the live sequences of a good section at most one holds a position, and the section answers there what the last of
+/// Of the kept sequences of a good section at most one holds a position, and the section answers there what the last of
 /// its rows says, in their order, that stands at or before it. It answers nothing where none holds it.
 #[tactic(auto, using(crate::proofs::GoodLemmas::answers_as_holder))]
 pub fn answers_as_holder()

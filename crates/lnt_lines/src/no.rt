@@ -39,8 +39,8 @@ pub enum No {
         /// Its index.
         row: u64,
     },
-    /// 32: the first two live sequences, by their first positions and then by their places in the section, that hold one
-    /// position. No lower one is held by two.
+    /// 32: the first two kept sequences, by their first positions and then by their places in the section, that hold one
+    /// position. No lower one is held by two. Kept are the live ones, less the copies where these are skipped.
     Overlap {
         /// The one that comes first.
         first: SeqId,

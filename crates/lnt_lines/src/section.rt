@@ -39,7 +39,8 @@ pub enum JudgedIndex<'a> {
 /// lie in these string sections.
 ///
 /// It is good where its bytes are those of units one after another, and nothing else, whose programs run, whose tables
-/// are usable and whose live sequences name files that are there, never fall, and share no position. Its lines answer
+/// are usable and whose live sequences name files that are there, never fall, and share no position, but for copies where
+/// these are skipped. Its lines answer
 /// at each position what the last row says that isn't behind the position, in the live sequence that holds it. Else the
 /// first thing that is wrong is told (`No`). Units are taken from the source one at a time, so what is wrong with one is
 /// told before later bytes are asked for.
@@ -109,7 +110,7 @@ fn judge_section<'a, R: Source>(
 {
     let mut reader = SectionReader::new(section, options.order);
     let draft = judge_units(alloc, &mut reader, strings, options)?;
-    Ok(draft.index(strings)?)
+    Ok(draft.index(strings, options.skip_copies)?)
 }
 
 // Judges the units that the reader has to give, up to the end of the section, or to the first that isn't sound.

@@ -5,6 +5,7 @@
 //! where such a note is near, and only into files that can be read again.
 #![tactic(auto)]
 
+mod ends;
 mod lines;
 mod look;
 mod marks;

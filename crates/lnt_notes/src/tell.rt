@@ -3,6 +3,7 @@ ghost use Rattle.std.specs.Prelude.{OnOk};
 ghost use Rattle.std.specs.Io.KnownBytes.{Appends};
 ghost use Rattle.lnt_text.specs.Notes.{note_line};
 
+use crate::ends::end_alike;
 use crate::lines::{column_at, line_of};
 use crate::look::look_of;
 use crate::marks::may_be_mark;
@@ -13,6 +14,7 @@ use lnt_files::{Opener, source_of};
 use lnt_header::Which;
 use lnt_lines::{Index, No};
 use lnt_records::TableFault;
+use lnt_rows::SeqId;
 use lnt_spans::{Position, Probes, SpanSource};
 use lnt_text::{Note, StringSection};
 use lnt_wire::Order;
@@ -28,6 +30,8 @@ pub struct Given<'a> {
     pub order: Order,
     /// The address at which sequences of dead code begin, where one is told.
     pub dead: Option<u64>,
+    /// Whether copies are skipped.
+    pub skip_copies: bool,
     /// Whether `.debug_line_str` is given.
     pub has_line_strings: bool,
     /// Whether `.debug_str` is given.
@@ -116,9 +120,14 @@ pub fn tell_bad<O: Opener, N: Write>(
         No::FileNumber { .. } | No::Falls { .. } => {
             tell_dead(alloc, None, true, given, opener, notes)
         }
-        No::Overlap { position, .. } => {
+        No::Overlap {
+            first,
+            second,
+            position,
+        } => {
             let address = Some(position.address).filter(|address| may_be_mark(*address));
-            tell_dead(alloc, address, true, given, opener, notes)
+            tell_dead(alloc, address, true, given, opener, notes)?;
+            tell_copies(alloc, first, second, given, opener, notes)
         }
         _ => Ok(()),
     }
@@ -219,6 +228,33 @@ fn survey_again<O: Opener>(
     let reader = opener.reader_again(given.section)?;
     let mut source = source_of(alloc, reader).ok()?;
     survey_of(alloc, &mut source, given.order, given.dead, all)
+}
+
+// Prints that copies can be skipped, where the two sequences that overlap hold the same positions.
+fn tell_copies<O: Opener, N: Write>(
+    alloc: Global,
+    first: SeqId,
+    second: SeqId,
+    given: &Given<'_>,
+    opener: &mut O,
+    notes: &mut N,
+) -> io::Result<()> {
+    if given.skip_copies || alike_again(alloc, first, second, given, opener) != Some(true) {
+        return Ok(());
+    }
+    print_note(Note::Copies, notes)
+}
+
+fn alike_again<O: Opener>(
+    alloc: Global,
+    first: SeqId,
+    second: SeqId,
+    given: &Given<'_>,
+    opener: &mut O,
+) -> Option<bool> {
+    let reader = opener.reader_again(given.section)?;
+    let mut source = source_of(alloc, reader).ok()?;
+    end_alike(alloc, &mut source, given.order, first, second)
 }
 
 /// Prints the notes to a table that answers as a good section does, in the file of this name.

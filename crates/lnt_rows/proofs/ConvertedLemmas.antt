@@ -1,6 +1,6 @@
 -- Sections whose units stand one for one, with the same rows, answer alike.
-use Rattle.std.proofs.Common.{◌≡◌, ℕ, suc, ◌+◌, Bool, true, false, cond, List, [], ◌∷◌, ◌++◌, map, Option, Some, None, refl, sym, ap, ◌∙◌, subst, arith}
-use Rattle.std.specs.List.{AllZip, filter, find}
+use Rattle.std.proofs.Common.{◌≡◌, ℕ, suc, ◌+◌, Bool, true, false, not, ◌||◌, cond, List, [], ◌∷◌, ◌++◌, map, Option, Some, None, refl, sym, ap, ◌∙◌, subst, arith, append_assoc}
+use Rattle.std.specs.List.{AllPairs, AllZip, filter, find, list_any}
 use Rattle.std.specs.Option.{option_and_then, option_map}
 use Rattle.lnt_wire.specs.declared.format.Format.{Format}
 use Rattle.lnt_wire.specs.declared.format.Order.{Order}
@@ -12,8 +12,10 @@ use Rattle.lnt_machine.specs.Laws.{SameMatrix}
 use Rattle.lnt_machine.specs.Matrix.{sequences}
 use Rattle.lnt_spans.specs.declared.position.Position.{Position}
 use Rattle.lnt_rows.specs.Laws.{AreAlike, ConvertedAnswers, StandAlike}
+use Rattle.lnt_rows.specs.Laws.Kept.{copy_by_look_back, IsBefore, rising_sequences}
+use Rattle.lnt_rows.specs.Laws.Units.{offsets_rise}
 use Rattle.lnt_rows.specs.Laws.Walks.{placed_from}
-use Rattle.lnt_rows.specs.Sequences.{answer_of, are_live, holds, is_live, live_in, live_sequences, Placed, placed_in, row_at}
+use Rattle.lnt_rows.specs.Sequences.{answer_of, are_live, hold_alike, holds, is_copy, is_live, kept_of, kept_sequences, live_in, live_sequences, Placed, placed_in, row_at}
 
 -- ---- lists, element for element
 
@@ -111,6 +113,51 @@ section_twins law dead format order (unit ∷ units) (other ∷ others) e =
     (zip_to (AreTwins units others) (AreTwins (unit ∷ units) (other ∷ others)) (later_twins unit other units others) (live_sequences dead units) (live_sequences dead others)
     (section_twins law dead format order units others tails))
 
+-- ---- those that are kept
+
+abbrev SameRows : Placed → Placed → Type 0
+SameRows one two = one.rows ≡ two.rows
+
+any_alike : (rows others : List Row) (seen found : List Placed) → rows ≡ others → AllZip SameRows seen found
+    → list_any (λ (e : Placed). hold_alike rows e.rows) seen ≡ list_any (λ (e : Placed). hold_alike others e.rows) found
+any_alike rows others [] [] same z = refl
+any_alike rows others [] (t ∷ found) same z = absurd z
+any_alike rows others (s ∷ seen) [] same z = absurd z
+any_alike rows others (s ∷ seen) (t ∷ found) same z =
+    ap (λ (list : List Row). hold_alike list s.rows || list_any (λ (e : Placed). hold_alike rows e.rows) seen) same
+    ∙ ap (λ (list : List Row). hold_alike others list || list_any (λ (e : Placed). hold_alike rows e.rows) seen) z.0
+    ∙ ap (λ (b : Bool). hold_alike others t.rows || b) (any_alike rows others seen found same z.1)
+
+-- lists with the same rows, element for element, each in the order of its section: those behind the ones seen
+kept_twins : (R : Placed → Placed → Type 0) → ((s t : Placed) → R s t → SameRows s t) → (all others seen found ss ts : List Placed) → all ≡ seen ++ ss → others ≡ found ++ ts
+    → AllPairs IsBefore all → AllPairs IsBefore others → AllZip SameRows seen found → AllZip R ss ts
+    → AllZip R (filter (λ (s : Placed). not (is_copy all s)) ss) (filter (λ (t : Placed). not (is_copy others t)) ts)
+kept_twins R rows all others seen found [] [] are are' order order' before z = tt
+kept_twins R rows all others seen found [] (t ∷ ts) are are' order order' before z = absurd z
+kept_twins R rows all others seen found (s ∷ ss) [] are are' order order' before z = absurd z
+kept_twins R rows all others seen found (s ∷ ss) (t ∷ ts) are are' order order' before z =
+    let left : is_copy all s ≡ list_any (λ (e : Placed). hold_alike s.rows e.rows) seen =
+    ap (λ (list : List Placed). is_copy list s) are ∙ copy_by_look_back seen s ss (subst (AllPairs IsBefore) are order) in
+    let right : is_copy others t ≡ list_any (λ (e : Placed). hold_alike t.rows e.rows) found =
+    ap (λ (list : List Placed). is_copy list t) are' ∙ copy_by_look_back found t ts (subst (AllPairs IsBefore) are' order') in
+    let same : is_copy all s ≡ is_copy others t = left ∙ any_alike s.rows t.rows seen found (rows s t z.0) before ∙ sym right in
+    by_test (not (is_copy all s)) (not (is_copy others t)) (ap not same)
+    (kept_twins R rows all others (seen ++ s ∷ []) (found ++ t ∷ []) ss ts (are ∙ sym (append_assoc seen (s ∷ []) ss)) (are' ∙ sym (append_assoc found (t ∷ []) ts)) order order'
+    (zip_append SameRows seen found (s ∷ []) (t ∷ []) before (rows s t z.0, tt)) z.1)
+  where
+    by_test : (a b : Bool) → a ≡ b → AllZip R (filter (λ (s : Placed). not (is_copy all s)) ss) (filter (λ (t : Placed). not (is_copy others t)) ts)
+        → AllZip R (cond a (s ∷ filter (λ (s : Placed). not (is_copy all s)) ss) (filter (λ (s : Placed). not (is_copy all s)) ss))
+        (cond b (t ∷ filter (λ (t : Placed). not (is_copy others t)) ts) (filter (λ (t : Placed). not (is_copy others t)) ts))
+    by_test true true e rest = (z.0, rest)
+    by_test true false e rest = absurd cc
+    by_test false true e rest = absurd cc
+    by_test false false e rest = rest
+
+kept_alike : (R : Placed → Placed → Type 0) → ((s t : Placed) → R s t → SameRows s t) → (skip : Bool) (ss ts : List Placed) → AllPairs IsBefore ss → AllPairs IsBefore ts → AllZip R ss ts
+    → AllZip R (kept_of skip ss) (kept_of skip ts)
+kept_alike R rows false ss ts order order' z = z
+kept_alike R rows true ss ts order order' z = kept_twins R rows ss ts [] [] ss ts refl refl order order' tt z
+
 -- ---- answers
 
 row_alike : (units others : List (ℕ × Parts)) (unit other : ℕ) (row : Option Row) → StandAlike units others unit other → AreAlike units others (option_map (answer_of unit) row) (option_map (answer_of other) row)
@@ -128,7 +175,10 @@ said_alike units others p (Some one) (Some two) t =
     (row_alike units others one.id.unit two.id.unit (row_at p one.rows) t.stand)
 
 pub converted_answers : SameMatrix → ConvertedAnswers
-converted_answers law order section format to result c dead p =
-    said_alike c.units c.others p (find (λ (s : Placed). holds p s.rows) (live_sequences dead c.units)) (find (λ (s : Placed). holds p s.rows) (live_sequences dead c.others))
+converted_answers law order section format to result c dead skip p =
+    said_alike c.units c.others p (find (λ (s : Placed). holds p s.rows) (kept_sequences dead skip c.units)) (find (λ (s : Placed). holds p s.rows) (kept_sequences dead skip c.others))
     (zip_find (AreTwins c.units c.others) (λ (s : Placed). holds p s.rows) (λ (s : Placed). holds p s.rows) (λ one two t. ap (holds p) t.rows_are)
-    (live_sequences dead c.units) (live_sequences dead c.others) (section_twins law dead format to c.units c.others c.same))
+    (kept_sequences dead skip c.units) (kept_sequences dead skip c.others)
+    (kept_alike (AreTwins c.units c.others) (λ one two t. t.rows_are) skip (live_sequences dead c.units) (live_sequences dead c.others)
+    (rising_sequences dead c.units (offsets_rise order 0 c.units section c.sound)) (rising_sequences dead c.others (offsets_rise to 0 c.others result c.spelled))
+    (section_twins law dead format to c.units c.others c.same)))

@@ -1,6 +1,6 @@
 -- The sequences of a section, and what their rows answer.
-use Rattle.std.specs.Prelude.{◌≡◌, ℕ, Bool, true, false, not, ◌&&◌, ◌==◌, List, [], ◌∷◌, map, reverse, Option, Some, None}
-use Rattle.std.specs.List.{enumerate_from, filter, find, flat_map}
+use Rattle.std.specs.Prelude.{◌≡◌, ℕ, Bool, true, false, not, ◌&&◌, ◌||◌, ◌==◌, nat_lt, List, [], ◌∷◌, map, reverse, Option, Some, None}
+use Rattle.std.specs.List.{enumerate_from, filter, find, flat_map, list_any}
 use Rattle.std.specs.Option.{option_map, option_and_then}
 use Rattle.lnt_unit.specs.declared.unit.Parts.{Parts}
 use Rattle.lnt_machine.specs.declared.row.Row.{Row}
@@ -81,6 +81,39 @@ holds p rows = elim (first_row rows) [
   | Some first ↦ elim (last_row rows) [ None ↦ false | Some last ↦ is_at_most (position_of first) p && is_below p (position_of last) ]
 ]
 
+-- ---- copies
+
+-- whether a sequence stands before another: in an earlier unit, or earlier in the same one
+abbrev pub stands_before : SeqId → SeqId → Bool
+stands_before one other = nat_lt one.unit other.unit || (one.unit == other.unit && nat_lt one.index other.index)
+
+-- whether two positions are one
+abbrev pub is_same : Position → Position → Bool
+is_same p q = p.address == q.address && p.op == q.op
+
+-- whether what begins and ends with the first two rows holds a position, and begins and ends where the other two do
+abbrev pub ends_alike : Option Row → Option Row → Option Row → Option Row → Bool
+ends_alike (Some first) (Some last) (Some other) (Some other_last) =
+    is_below (position_of first) (position_of last) && (is_same (position_of first) (position_of other) && is_same (position_of last) (position_of other_last))
+ends_alike _ _ _ _ = false
+
+-- whether two sequences hold a position, and begin and end at the same ones
+abbrev pub hold_alike : List Row → List Row → Bool
+hold_alike rows others = ends_alike (first_row rows) (last_row rows) (first_row others) (last_row others)
+
+-- A sequence that holds a position is a copy where one that stands before it begins and ends at the same positions.
+abbrev pub is_copy : List Placed → Placed → Bool
+is_copy sequences placed = list_any (λ (earlier : Placed). stands_before earlier.id placed.id && hold_alike placed.rows earlier.rows) sequences
+
+-- the sequences that are kept of these: all, or all but the copies where these are skipped
+abbrev pub kept_of : Bool → List Placed → List Placed
+kept_of false sequences = sequences
+kept_of true sequences = filter (λ placed. not (is_copy sequences placed)) sequences
+
+-- the kept sequences of a section, of the live ones
+abbrev pub kept_sequences : Option ℕ → Bool → List (ℕ × Parts) → List Placed
+kept_sequences dead skip units = kept_of skip (live_sequences dead units)
+
 -- ---- what rows answer
 
 -- what a row says, in the unit at this offset
@@ -103,6 +136,6 @@ abbrev pub answer_in : List Placed → Position → Option Answer
 answer_in sequences p =
     option_and_then (λ (placed : Placed). option_map (answer_of placed.id.unit) (row_at p placed.rows)) (find (λ placed. holds p placed.rows) sequences)
 
--- What the rows of a section answer at p.
-abbrev pub line_answer : Option ℕ → List (ℕ × Parts) → Position → Option Answer
-line_answer dead units p = answer_in (live_sequences dead units) p
+-- What the rows of a section answer at p: those of its kept sequences.
+abbrev pub line_answer : Option ℕ → Bool → List (ℕ × Parts) → Position → Option Answer
+line_answer dead skip units p = answer_in (kept_sequences dead skip units) p

@@ -1,7 +1,7 @@
 //! Laws of what rows say of positions, each the contract of a function without parameters that does nothing.
 ghost use Rattle.lnt_rows.specs.Extents.{HolderAnswers};
 ghost use Rattle.lnt_rows.specs.InTurn.{EntriesInTurn, SpansInTurn};
-ghost use Rattle.lnt_rows.specs.Laws.{AnswersAsHolder, CollectedUnit, ConvertedAnswers, DistinctSequences, FallIsNotOrdered, MissingFileIsNotThere, OverlapIsNotApart, SequenceSpans, SpansAnswer};
+ghost use Rattle.lnt_rows.specs.Laws.{AnswersAsHolder, CollectedUnit, ConvertedAnswers, DistinctSequences, FallIsNotOrdered, KeptSequences, MissingFileIsNotThere, OverlapIsNotApart, SequenceSpans, SpansAnswer};
 
 /// The spans of sequences whose positions never fall answer at every position as their rows do.
 #[tactic(auto, using(crate::proofs::RowLemmas::spans_answer))]
@@ -39,6 +39,12 @@ pub fn collected_unit()
 /// The live sequences of units at different offsets have different ids.
 pub fn distinct_sequences()
     ensures { DistinctSequences }
+{}
+
+/// The kept sequences are the live ones, less the copies where these are skipped: then no two of them begin and end at the
+/// same positions, where they hold one.
+pub fn kept_sequences()
+    ensures { KeptSequences }
 {}
 
 /// Where no position is held by two sequences, what they answer is what the rows of the sequence say whose extent holds the

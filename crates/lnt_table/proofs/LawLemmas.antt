@@ -22,9 +22,9 @@ difference_none : (line general : List ℕ) (options : Options) (bytes table : L
 difference_none line general options bytes table difference one h d =
     let tables = one table d.version h.version d.spans h.spans d.is_table h.is_table in
     let units = same_units options.order 0 d.units h.units bytes d.good.spelled h.good.spelled in
-    let in_version = subst (λ (v : Version). IsLeastDifference (told_answer v options.dead d.units) (span_answer d.spans) difference) tables.0 d.least in
-    let of_table = subst (λ (xs : List Span). IsLeastDifference (told_answer h.version options.dead d.units) (span_answer xs) difference) tables.1 in_version in
-    let here = subst (λ (us : List (ℕ × Parts)). IsLeastDifference (told_answer h.version options.dead us) (span_answer h.spans) difference) units of_table in
+    let in_version = subst (λ (v : Version). IsLeastDifference (told_answer v options.dead options.skip_copies d.units) (span_answer d.spans) difference) tables.0 d.least in
+    let of_table = subst (λ (xs : List Span). IsLeastDifference (told_answer h.version options.dead options.skip_copies d.units) (span_answer xs) difference) tables.1 in_version in
+    let here = subst (λ (us : List (ℕ × Parts)). IsLeastDifference (told_answer h.version options.dead options.skip_copies us) (span_answer h.spans) difference) units of_table in
     here.differ (here.table ∙ h.answers difference.position ∙ sym here.section)
 
 pub only_yes : GoodHasNoFlaw → OneTable → NoFault → OnlyYes
@@ -45,4 +45,4 @@ own_table_of_units only line general options bytes table units version verdict g
 pub own_table : OwnTableOfUnits → OwnTable
 own_table own line general options bytes table lines version verdict l w v =
     own line general options bytes table l.units version verdict l.good
-    (record { spans = w.spans; canonical = w.canonical; same = λ p. w.same p ∙ told_so version options.dead l.units lines.spans l.tells.answers p; written = w.written }) v
+    (record { spans = w.spans; canonical = w.canonical; same = λ p. w.same p ∙ told_so version options.dead options.skip_copies l.units lines.spans l.tells.answers p; written = w.written }) v

@@ -52,10 +52,10 @@ two_differences : (line general : List ℕ) (options : Options) (bytes table : L
 two_differences line general options bytes table a b one d h =
     let tables = one table d.version h.version d.spans h.spans d.is_table h.is_table in
     let units = same_units options.order 0 d.units h.units bytes d.good.spelled h.good.spelled in
-    let in_version = subst (λ (v : Version). IsLeastDifference (told_answer v options.dead d.units) (span_answer d.spans) a) tables.0 d.least in
-    let of_table = subst (λ (xs : List Span). IsLeastDifference (told_answer h.version options.dead d.units) (span_answer xs) a) tables.1 in_version in
-    let here = subst (λ (us : List (ℕ × Parts)). IsLeastDifference (told_answer h.version options.dead us) (span_answer h.spans) a) units of_table in
-    one_difference (told_answer h.version options.dead h.units) (span_answer h.spans) a b here h.least
+    let in_version = subst (λ (v : Version). IsLeastDifference (told_answer v options.dead options.skip_copies d.units) (span_answer d.spans) a) tables.0 d.least in
+    let of_table = subst (λ (xs : List Span). IsLeastDifference (told_answer h.version options.dead options.skip_copies d.units) (span_answer xs) a) tables.1 in_version in
+    let here = subst (λ (us : List (ℕ × Parts)). IsLeastDifference (told_answer h.version options.dead options.skip_copies us) (span_answer h.spans) a) units of_table in
+    one_difference (told_answer h.version options.dead options.skip_copies h.units) (span_answer h.spans) a b here h.least
 
 -- ---- verdicts, by their kinds
 

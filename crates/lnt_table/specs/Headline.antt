@@ -27,8 +27,8 @@ use Rattle.lnt_table.specs.declared.verdict.Verdict.{Verdict}
 use Rattle.lnt_table.specs.declared.verdict.Verdict.TheVariants.{Yes, No}
 
 -- what the rows of a section answer at a position, as a version of the address table tells answers
-abbrev pub told_answer : Version → Option ℕ → List (ℕ × Parts) → Position → Option Answer
-told_answer version dead units p = option_map (in_version version) (line_answer dead units p)
+abbrev pub told_answer : Version → Option ℕ → Bool → List (ℕ × Parts) → Position → Option Answer
+told_answer version dead skip units p = option_map (in_version version) (line_answer dead skip units p)
 
 -- The section is good. The table is one of a version, and at every position its answer is that of the section's rows.
 pub record AnswersRight (line general : List ℕ) (options : Options) (section table : List ℕ) : Type 0 where
@@ -37,7 +37,7 @@ pub record AnswersRight (line general : List ℕ) (options : Options) (section t
   pub version : Version
   pub spans : List Span
   pub is_table : IsTableOf version table spans
-  pub answers : (p : Position) → span_answer spans p ≡ told_answer version options.dead units p
+  pub answers : (p : Position) → span_answer spans p ≡ told_answer version options.dead options.skip_copies units p
 
 -- The section is good. The first faulty record of the table is as told.
 pub record IsFaultyTable (line general : List ℕ) (options : Options) (section table : List ℕ) (told : TableFault) : Type 0 where
@@ -52,7 +52,7 @@ pub record AnswersOtherwise (line general : List ℕ) (options : Options) (secti
   pub version : Version
   pub spans : List Span
   pub is_table : IsTableOf version table spans
-  pub least : IsLeastDifference (told_answer version options.dead units) (span_answer spans) difference
+  pub least : IsLeastDifference (told_answer version options.dead options.skip_copies units) (span_answer spans) difference
 
 -- What is told is so, and it is the first thing that is wrong.
 abbrev pub IsTrueTableNo : List ℕ → List ℕ → Options → List ℕ → List ℕ → TableNo → Type 0

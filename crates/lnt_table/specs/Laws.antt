@@ -29,4 +29,4 @@ OwnTable = (line general : List ℕ) (options : Options) (section table : List �
 -- The same of a table that was written of its index.
 abbrev pub OwnTableOfUnits : Type 0
 OwnTableOfUnits = (line general : List ℕ) (options : Options) (section table : List ℕ) (units : List (ℕ × Parts)) (version : Version) (verdict : Verdict)
-    → IsGood line general options section units → IsTableOfUnits version options.dead units table → IsTrueVerdict line general options section table verdict → verdict ≡ Yes
+    → IsGood line general options section units → IsTableOfUnits version options.dead options.skip_copies units table → IsTrueVerdict line general options section table verdict → verdict ≡ Yes

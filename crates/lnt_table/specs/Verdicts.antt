@@ -1,5 +1,5 @@
 -- What a comparison of a table with a good section makes of the two. The bodies of this crate use it among themselves.
-use Rattle.std.specs.Prelude.{◌≡◌, ℕ, List, Option}
+use Rattle.std.specs.Prelude.{◌≡◌, Bool, ℕ, List, Option}
 use Rattle.lnt_unit.specs.declared.unit.Parts.{Parts}
 use Rattle.lnt_spans.specs.declared.position.Position.{Position}
 use Rattle.lnt_spans.specs.declared.span.Span.{Span}
@@ -22,7 +22,7 @@ verdict_of (Fault (fault.Order k)) = No (no.Order k)
 verdict_of (Differs difference) = No (no.Differs difference.position difference.by_table difference.by_section)
 
 -- It is what a comparison of the table with spans tells that answer as the rows of the units.
-pub record IsComparedWith (dead : Option ℕ) (units : List (ℕ × Parts)) (table : List ℕ) (compared : Compared) : Type 0 where
+pub record IsComparedWith (dead : Option ℕ) (skip : Bool) (units : List (ℕ × Parts)) (table : List ℕ) (compared : Compared) : Type 0 where
   pub spans : List Span
-  pub answers : (p : Position) → span_answer spans p ≡ line_answer dead units p
+  pub answers : (p : Position) → span_answer spans p ≡ line_answer dead skip units p
   pub comparison : IsComparison table spans compared

@@ -1,5 +1,5 @@
 -- The table that is written of a section's lines.
-use Rattle.std.specs.Prelude.{◌≡◌, ℕ, List, Option}
+use Rattle.std.specs.Prelude.{◌≡◌, Bool, ℕ, List, Option}
 use Rattle.lnt_unit.specs.declared.unit.Parts.{Parts}
 use Rattle.lnt_spans.specs.declared.answer.Version.{Version}
 use Rattle.lnt_spans.specs.declared.position.Position.{Position}
@@ -17,8 +17,8 @@ pub record IsTableOfLines (version : Version) (section : List Span) (bytes : Lis
   pub written : IsWrittenTable version bytes spans
 
 -- The same of the canonical spans that answer as the rows of some units do.
-pub record IsTableOfUnits (version : Version) (dead : Option ℕ) (units : List (ℕ × Parts)) (bytes : List ℕ) : Type 0 where
+pub record IsTableOfUnits (version : Version) (dead : Option ℕ) (skip : Bool) (units : List (ℕ × Parts)) (bytes : List ℕ) : Type 0 where
   pub spans : List Span
   pub canonical : IsCanonical spans
-  pub same : (p : Position) → span_answer spans p ≡ told_answer version dead units p
+  pub same : (p : Position) → span_answer spans p ≡ told_answer version dead skip units p
   pub written : IsWrittenTable version bytes spans

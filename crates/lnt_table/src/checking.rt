@@ -1,5 +1,5 @@
 //! A section checked against an address table.
-ghost use Rattle.std.specs.Prelude.{◌≡◌, ◌≢◌, ◌+◌, ◌-◌, ◌^◌, ◌<◌, ◌⊎◌, ℕ, List, Option, IfOk, IfErr, IfSome, IsErrOf};
+ghost use Rattle.std.specs.Prelude.{◌≡◌, ◌≢◌, ◌+◌, ◌-◌, ◌^◌, ◌<◌, ◌⊎◌, Bool, ℕ, List, Option, IfOk, IfErr, IfSome, IsErrOf};
 ghost use Rattle.lnt_lines.specs.declared.no.No.{No as SectionNo};
 ghost use Rattle.lnt_lines.specs.declared.stop.Stop.TheVariants.{Memory, Read, TooLong};
 ghost use Rattle.lnt_unit.specs.declared.unit.Parts.{Parts};
@@ -29,6 +29,7 @@ use std::alloc::Global;
 /// - *well-formed*: `IsWellFormed` of `lnt_lines`: the program runs, and the tables are usable;
 /// - *never fall*: `AreOrdered` of `lnt_rows`; equal positions are allowed;
 /// - *live*: `live_sequences` of `lnt_rows`: not begun at the address of dead code, where the options give one;
+///   copies, where these are skipped, are live but neither held by two nor answer (`kept_sequences`);
 /// - *held*, *held by two*: `Holds` and `AreApart` of `lnt_rows`: from the position of a sequence's first row up to that
 ///   of its end row, which is not held;
 /// - *file number used*: `HaveFiles` of `lnt_rows`, of each row of a live sequence but end rows;
@@ -81,7 +82,7 @@ fn compare_index<T: Source>(
     index: &Index<'_>,
 ) -> Result<Compared, Stop>
     requires { T.failures table.old < 2 ^ 64 - 1 }
-    ensures ok { IfOk result (λ compared. (dead : Option ℕ) (units : List (ℕ × Parts)) → IsIndexOf dead units index.now → IfSome (T.remaining table.old) (λ text. IsComparedWith dead units text compared)) }
+    ensures ok { IfOk result (λ compared. (dead : Option ℕ) (skip : Bool) (units : List (ℕ × Parts)) → IsIndexOf dead skip units index.now → IfSome (T.remaining table.old) (λ text. IsComparedWith dead skip units text compared)) }
     ensures read { IsErrOf result Stop.Read → T.failures table.new ≡ T.failures table.old + 1 }
     ensures no_failure { result ≢ Err Stop.Read → T.failures table.new ≡ T.failures table.old }
     ensures too_long { IsErrOf result Stop.TooLong → IsTooLong (T.too_long table.new) (T.remaining table.old) (T.left table.old) }

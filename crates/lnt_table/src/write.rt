@@ -1,5 +1,5 @@
 //! The table of a section's lines, written.
-ghost use Rattle.std.specs.Prelude.{ℕ, List, Option, OnOk};
+ghost use Rattle.std.specs.Prelude.{Bool, ℕ, List, Option, OnOk};
 ghost use Rattle.std.specs.Io.KnownBytes.{Appends};
 ghost use Rattle.lnt_unit.specs.declared.unit.Parts.{Parts};
 ghost use Rattle.lnt_lines.specs.Indexed.{IsIndexOf};
@@ -47,7 +47,7 @@ pub fn write_index<W: Write>(
     out: &mut W,
 ) -> Result<(), WriteStop>
     ensures { OnOk result ((bytes : List ℕ) × Appends (W.contents out.old) (W.contents out.new) bytes
-        × ((dead : Option ℕ) (units : List (ℕ × Parts)) → IsIndexOf dead units index.now → IsTableOfUnits version dead units bytes)) }
+        × ((dead : Option ℕ) (skip : Bool) (units : List (ℕ × Parts)) → IsIndexOf dead skip units index.now → IsTableOfUnits version dead skip units bytes)) }
 {
     write_canonical(alloc, index.spans(), version, out)
 }

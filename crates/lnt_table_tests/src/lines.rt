@@ -14,6 +14,7 @@ pub(crate) const STRINGS: Strings<'static> = Strings {
 pub(crate) const OPTIONS: Options = Options {
     order: Order::Little,
     dead: None,
+    skip_copies: false,
 };
 
 // What a section is judged to be, of a source that gives at most so many bytes.

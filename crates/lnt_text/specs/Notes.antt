@@ -8,7 +8,7 @@ use Rattle.lnt_text.specs.declared.note.Column.TheVariants as column
 use Rattle.lnt_text.specs.declared.note.Look.{Look}
 use Rattle.lnt_text.specs.declared.note.Look.TheVariants.{Elf, Pe, MachO, Gzip, Zstd, CompressedSection, Text, InOrder}
 use Rattle.lnt_text.specs.declared.note.Note.{Note}
-use Rattle.lnt_text.specs.declared.note.Note.TheVariants.{Word, NotRaw, NoStrings, MaybeDead, NoneDead, HoldsNothing, NoSums, TableHeader, TableFields, TableNumber, TableOrder}
+use Rattle.lnt_text.specs.declared.note.Note.TheVariants.{Word, NotRaw, NoStrings, MaybeDead, NoneDead, Copies, HoldsNothing, NoSums, TableHeader, TableFields, TableNumber, TableOrder}
 use Rattle.lnt_text.specs.declared.note.StringSection.{StringSection}
 use Rattle.lnt_text.specs.declared.note.StringSection.TheVariants.{Line, General}
 use Rattle.lnt_text.specs.Texts.{hexadecimal}
@@ -80,6 +80,7 @@ note_text (NotRaw look) = look_text look
 note_text (NoStrings section) = strings_text section
 note_text (MaybeDead count address) = codes "sequences begin at " ++ (hexadecimal address ++ (codes ", where linkers leave discarded code" ++ (count_text count ++ advice_text address)))
 note_text (NoneDead address) = codes "no sequence begins at " ++ (hexadecimal address ++ codes ", so --dead leaves nothing out")
+note_text Copies = codes "the two hold the same positions, as where a linker kept one of several copies of some code; --skip-copies leaves out the others"
 note_text HoldsNothing = codes "no sequence holds a position, so the section's table is empty; a relocatable object has to be linked first"
 note_text NoSums = codes "the section lists no MD5 sum, so nothing was compared"
 note_text TableHeader = codes "the table has to begin with low,low_op,high,high_op,unit,file,line,column,is_stmt or with this and ,isa,discriminator"

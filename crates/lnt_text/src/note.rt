@@ -18,6 +18,8 @@ pub enum Note {
     MaybeDead(Option<u64>, u64),
     /// No sequence begins at the address that was told to be that of discarded code.
     NoneDead(u64),
+    /// The two sequences that overlap hold the same positions, and copies weren't skipped.
+    Copies,
     /// No sequence of the good section holds a position.
     HoldsNothing,
     /// The good section lists no MD5 sum.
@@ -122,6 +124,10 @@ impl fmt::Display for Note {
             Note::NoneDead(address) => write!(
                 f,
                 "no sequence begins at 0x{address:x}, so --dead leaves nothing out"
+            ),
+            Note::Copies => write!(
+                f,
+                "the two hold the same positions, as where a linker kept one of several copies of some code; --skip-copies leaves out the others"
             ),
             Note::HoldsNothing => write!(
                 f,

@@ -14,7 +14,7 @@ const NUMBERS: &str = "Lines that begin with no, and the document that says more
   29  the directory of a file isn't there (docs/LINES.md)
   30  a row names a file that isn't there (docs/LINES.md)
   31  a row's position is below that of the row before it, in one sequence (docs/LINES.md)
-  32  two sequences hold one position; --dead leaves discarded code out (docs/LINES.md)
+  32  two sequences hold one position; --dead and --skip-copies leave out what a linker left (docs/LINES.md)
   36  the table doesn't begin with the names of its columns (docs/TABLES.md)
   37  a record of the table has too few or too many fields (docs/TABLES.md)
   38  a field of the table is no number of its kind (docs/TABLES.md)
@@ -181,6 +181,11 @@ fn with_judging<'a>(alloc: Global, command: Command<'a>) -> Result<Command<'a>, 
             "dead",
             "ADDRESS",
             "Where sequences of discarded code begin: they answer nothing",
+        ))?
+        .arg(flag(
+            alloc,
+            "skip-copies",
+            "Leaves out sequences that begin and end at the same positions as one before them",
         ))
 }
 

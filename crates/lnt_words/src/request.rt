@@ -54,6 +54,8 @@ pub struct Judging<'a> {
     pub order: Order,
     /// The address at which sequences of dead code begin, where one is told.
     pub dead: Option<u64>,
+    /// Whether copies are skipped.
+    pub skip_copies: bool,
 }
 
 /// How a section is read whose lines aren't judged.

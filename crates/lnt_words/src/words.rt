@@ -159,7 +159,7 @@ fn convert_in<'a>(alloc: Global, words: &ArgMatches<'a>) -> Result<Request<'a>, 
     read_in(words, Reading::Convert { format, to })
 }
 
-// A section that is judged, with its strings and the marker of dead code.
+// A section that is judged, with its strings, the marker of dead code, and what becomes of copies.
 fn judging_in<'a>(alloc: Global, words: &ArgMatches<'a>) -> Result<Judging<'a>, WordsStop> {
     let dead = match words.get_str("dead") {
         Some(word) => Some(address_of(alloc, words, word, Argument::Dead)?),
@@ -171,6 +171,7 @@ fn judging_in<'a>(alloc: Global, words: &ArgMatches<'a>) -> Result<Judging<'a>, 
         strings: words.get_str("str"),
         order: order_in(words),
         dead,
+        skip_copies: words.get_flag("skip-copies"),
     })
 }
 

@@ -80,11 +80,11 @@ collects_more dead units unit collected runs few c =
 abbrev IdDiffers : Placed → Placed → Type 0
 IdDiffers one other = one.id ≢ other.id
 
-record IsFrom (unit index : ℕ) (placed : Placed) : Type 0 where
-  unit_is : placed.id.unit ≡ unit
-  index_from : index ≤ placed.id.index
+pub record IsFrom (unit index : ℕ) (placed : Placed) : Type 0 where
+  pub unit_is : placed.id.unit ≡ unit
+  pub index_from : index ≤ placed.id.index
 
-all_from : (unit index : ℕ) (ss : List Sequence) → All (IsFrom unit index) (placed_from unit index ss)
+pub all_from : (unit index : ℕ) (ss : List Sequence) → All (IsFrom unit index) (placed_from unit index ss)
 all_from unit index [] = All-nil (IsFrom unit index)
 all_from unit index (s ∷ ss) =
     All-cons (IsFrom unit index) (record { id = record { unit = unit; index = index }; rows = s.rows }) (placed_from unit (index + 1) ss)
@@ -108,10 +108,10 @@ distinct_all dead unit all = AllPairs-filter IdDiffers (is_live dead) (placed_ro
 pub distinct_in : (dead : Option ℕ) (unit : ℕ × Parts) → AreDistinct (live_in dead unit)
 distinct_in dead unit = distinct_all dead unit.0 (rows unit.1)
 
-abbrev IsOf : ℕ → Placed → Type 0
+abbrev pub IsOf : ℕ → Placed → Type 0
 IsOf unit placed = placed.id.unit ≡ unit
 
-all_of : (dead : Option ℕ) (unit : ℕ × Parts) → All (IsOf unit.0) (live_in dead unit)
+pub all_of : (dead : Option ℕ) (unit : ℕ × Parts) → All (IsOf unit.0) (live_in dead unit)
 all_of dead unit =
     All-filter (is_live dead) (IsOf unit.0) (placed_in unit)
     (All-weaker (IsFrom unit.0 0) (IsOf unit.0) (λ placed f. f.unit_is) (placed_in unit) (all_from unit.0 0 (sequences_of (rows unit.1))))
@@ -177,3 +177,14 @@ offsets_differ order offset (unit ∷ units) bytes h =
     (All-weaker (λ (other : ℕ × Parts). offset + length h.0 ≤ other.0) (λ (other : ℕ × Parts). unit.0 ≢ other.0) (λ other le same. omega arith) units
     (offsets_from order (offset + length h.0) units h.1 h.5))
     (offsets_differ order (offset + length h.0) units h.1 h.5)
+
+pub offsets_rise : (order : Order) (offset : ℕ) (units : List (ℕ × Parts)) (bytes : List ℕ) → UnitsFrom order offset units bytes
+    → AllPairs (λ (one : ℕ × Parts) (other : ℕ × Parts). one.0 < other.0) units
+offsets_rise order offset [] bytes h = pairs_nil (λ (one : ℕ × Parts) (other : ℕ × Parts). one.0 < other.0)
+offsets_rise order offset (unit ∷ units) bytes h =
+    let at = h.2 in
+    let some = some_bytes order unit.1 h.0 h.3 in
+    pairs_cons (λ (one : ℕ × Parts) (other : ℕ × Parts). one.0 < other.0) unit units
+    (All-weaker (λ (other : ℕ × Parts). offset + length h.0 ≤ other.0) (λ (other : ℕ × Parts). unit.0 < other.0) (λ other le. omega arith) units
+    (offsets_from order (offset + length h.0) units h.1 h.5))
+    (offsets_rise order (offset + length h.0) units h.1 h.5)

@@ -4,7 +4,7 @@ use Rattle.lnt_spans.specs.declared.position.Position.{Position}
 use Rattle.lnt_spans.specs.Spans.{AreInOrder, span_answer}
 use Rattle.std.specs.List.Sorted.{IsPermutation}
 use Rattle.lnt_rows.specs.RowSpans.{spans_of}
-use Rattle.lnt_rows.specs.Sequences.{line_answer, live_sequences}
+use Rattle.lnt_rows.specs.Sequences.{kept_sequences, line_answer}
 use Rattle.lnt_lines.specs.Contents.{AreRising, AreWhole}
 use Rattle.lnt_lines.proofs.IndexLemmas.{files_zip, same_number}
 use Rattle.lnt_lines.proofs.gather.lines_of.Goals as goal
@@ -12,13 +12,13 @@ use Rattle.lnt_lines.proofs.gather.lines_of.Goals as goal
 pub of-requires-clause-in_order : goal.of-requires-clause-in_order
 of-requires-clause-in_order c =
     let known = c.spans.ensures.is_index in
-    let all = c.spans.ensures.gives known.dead known.units known.index_is in
+    let all = c.spans.ensures.gives known.dead known.skip known.units known.index_is in
     subst AreInOrder (sym (c.in-Ok.ensures all.spans all.to_come)) all.in_order
 
 pub of-requires-clause-whole : goal.of-requires-clause-whole
 of-requires-clause-whole c =
     let known = c.spans.ensures.is_index in
-    let all = c.spans.ensures.gives known.dead known.units known.index_is in
+    let all = c.spans.ensures.gives known.dead known.skip known.units known.index_is in
     subst AreWhole (sym (c.in-Ok.ensures all.spans all.to_come)) all.whole
 
 pub of-requires-clause-rising : goal.of-requires-clause-rising
@@ -31,13 +31,13 @@ of-requires-clause-each c =
     ap length (c.in-Ok-from_slice.ensures.items ∙ c.units.ensures ∙ known.index_is.offsets) ∙ same_number c.args.index.now.line c.args.index.now.general known.units c.in-Ok-files.files.items files
 
 pub returns-clause-lines : goal.returns-clause-lines
-returns-clause-lines c dead units is =
-    let all = c.spans.ensures.gives dead units is in
+returns-clause-lines c dead skip units is =
+    let all = c.spans.ensures.gives dead skip units is in
     let spans = c.in-Ok.ensures all.spans all.to_come in
     rw c.of.ensures (record {
-      spans_are = subst (IsPermutation (spans_of (live_sequences dead units))) (sym spans) all.spans_are;
+      spans_are = subst (IsPermutation (spans_of (kept_sequences dead skip units))) (sym spans) all.spans_are;
       in_order = subst AreInOrder (sym spans) all.in_order;
-      answers = subst (λ (list : List Span). (p : Position) → span_answer list p ≡ line_answer dead units p) (sym spans) all.answers;
+      answers = subst (λ (list : List Span). (p : Position) → span_answer list p ≡ line_answer dead skip units p) (sym spans) all.answers;
       units_are = c.in-Ok-from_slice.ensures.items ∙ c.units.ensures ∙ is.offsets;
       files_are = files_zip c.args.index.now.line c.args.index.now.general units c.args.index.now.programs c.in-Ok-files.files.items is.programs c.in-Ok-files.ensures;
     })

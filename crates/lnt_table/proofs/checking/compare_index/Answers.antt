@@ -4,10 +4,10 @@ use Rattle.lnt_table.proofs.checking.compare_index.Goals as goal
 pub compare_table-requires-clause-spans : goal.compare_table-requires-clause-spans
 compare_table-requires-clause-spans g c =
     let known = c.spans.ensures.is_index in
-    let all = c.spans.ensures.gives known.dead known.units known.index_is in
+    let all = c.spans.ensures.gives known.dead known.skip known.units known.index_is in
     (all.spans, all.to_come, all.in_order)
 
 pub returns-in-Ok-clause-ok : goal.returns-in-Ok-clause-ok
-returns-in-Ok-clause-ok g c dead units is =
-    let all = c.spans.ensures.gives dead units is in
-    found_with (g.T.Source.remaining c.args.table.now) dead units all.spans c.in-Ok.compared all.answers (c.in-Ok.ensures.ok all.spans all.to_come all.in_order)
+returns-in-Ok-clause-ok g c dead skip units is =
+    let all = c.spans.ensures.gives dead skip units is in
+    found_with (g.T.Source.remaining c.args.table.now) dead skip units all.spans c.in-Ok.compared all.answers (c.in-Ok.ensures.ok all.spans all.to_come all.in_order)

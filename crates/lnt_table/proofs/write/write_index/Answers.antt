@@ -6,7 +6,7 @@ use Rattle.lnt_table.proofs.write.write_index.Goals as goal
 pub write_canonical-requires : goal.write_canonical-requires
 write_canonical-requires g c =
     let known = c.spans.ensures.is_index in
-    let all = c.spans.ensures.gives known.dead known.units known.index_is in
+    let all = c.spans.ensures.gives known.dead known.skip known.units known.index_is in
     (all.spans, all.to_come, all.in_order, all.whole)
 
 pub returns : goal.returns
@@ -15,13 +15,13 @@ returns g c =
     (λ done. (
       done.0,
       done.1,
-      λ dead units is.
-          let all = c.spans.ensures.gives dead units is in
+      λ dead skip units is.
+          let all = c.spans.ensures.gives dead skip units is in
           let table = done.2 all.spans all.to_come all.in_order in
           record {
             spans = table.spans;
             canonical = table.canonical;
-            same = λ p. table.same p ∙ told_so c.args.version dead units all.spans all.answers p;
+            same = λ p. table.same p ∙ told_so c.args.version dead skip units all.spans all.answers p;
             written = table.written;
           },
     ))

@@ -1,0 +1,5 @@
+use Rattle.lnt_machine.specs.Laws.Walks.{HaveHeader}
+use Rattle.lnt_notes.proofs.ends.ends_of.Given as goal
+
+abbrev pub invariant-loop-op : goal.invariant-loop-op
+invariant-loop-op l = HaveHeader l.unit.header l.machine l.op-iterator

@@ -1,0 +1,84 @@
+//! Where sequences of a section begin and end.
+ghost use Rattle.std.specs.Prelude.{◌-◌, ◌^◌, ◌<◌};
+
+use lnt_machine::Machine;
+use lnt_rows::SeqId;
+use lnt_spans::Position;
+use lnt_stream::{SectionReader, UnitBuffer};
+use lnt_unit::UnitView;
+use lnt_wire::{Order, Source};
+use std::alloc::Global;
+
+// Where a sequence begins and where it ends.
+#[derive(Clone, Copy, PartialEq, Eq)]
+struct Ends {
+    first: Position,
+    last: Position,
+}
+
+// Whether two sequences of the section that the source has to give begin and end at the same positions. None where the
+// section isn't read as far as both.
+pub(crate) fn end_alike<R: Source>(
+    alloc: Global,
+    source: &mut R,
+    order: Order,
+    one: SeqId,
+    other: SeqId,
+) -> Option<bool>
+    requires { R.failures source.old < 2 ^ 64 - 1 }
+{
+    let mut of_one = None;
+    let mut of_other = None;
+    let mut reader = SectionReader::new(source, order);
+    let mut room = Vec::new(alloc);
+    while let Some(buffer) = reader.next_unit_in(room).ok()? {
+        if buffer.offset() == one.unit {
+            of_one = ends_in(alloc, &buffer, one.index);
+        }
+        if buffer.offset() == other.unit {
+            of_other = ends_in(alloc, &buffer, other.index);
+        }
+        if let (Some(one), Some(other)) = (of_one, of_other) {
+            return Some(one == other);
+        }
+        room = buffer.into_bytes();
+    }
+    None
+}
+
+// Where the sequence with this index of the unit in the buffer begins and ends.
+fn ends_in(alloc: Global, buffer: &UnitBuffer, index: u64) -> Option<Ends> {
+    ends_of(&UnitView::over(alloc, buffer).ok()?, index)
+}
+
+// The same of a unit. None where its program doesn't run as far.
+#[tactic(auto, using(lnt_machine::specs::Laws::Walks::step_allowed))]
+fn ends_of(unit: &UnitView<'_>, index: u64) -> Option<Ends> {
+    let mut machine = Machine::new(unit.header());
+    let mut ended: u64 = 0;
+    let mut begun = None;
+    for op in unit.ops() {
+        let Ok(op) = op else {
+            return None;
+        };
+        let row = match machine.step(&op) {
+            Ok(Some(row)) => row,
+            Ok(None) => continue,
+            Err(_) => return None,
+        };
+        let last = Position {
+            address: row.address,
+            op: row.op_index,
+        };
+        let first = begun.unwrap_or(last);
+        begun = Some(first);
+        if row.end_sequence {
+            if ended == index {
+                return Some(Ends { first, last });
+            }
+            ended = ended.saturating_add(1);
+            begun = None;
+        }
+    }
+    None
+}
