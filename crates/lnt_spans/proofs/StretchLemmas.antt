@@ -11,13 +11,16 @@ use Rattle.lnt_spans.specs.declared.position.Position.{Position}
 use Rattle.lnt_spans.specs.declared.span.Span.{Span}
 use Rattle.lnt_spans.specs.Answers.{in_version}
 use Rattle.lnt_spans.specs.Ahead.{BeginsWith, count_ahead, gap_before, IsAhead}
-use Rattle.lnt_spans.specs.Differing.{AreToldBelow, IsBefore, IsOpen, IsRun, IsSide, IsUpTo, run_end, runs_left}
+use Rattle.lnt_spans.specs.Comparing.{IsTold, end_of}
+use Rattle.lnt_spans.specs.Differing.{AreToldBelow, HasTold, IsBefore, IsOpen, IsRun, IsSide, IsUpTo, run_end, runs_left}
 use Rattle.lnt_spans.specs.Positions.{IsBelow, IsAtMost, is_below}
 use Rattle.lnt_spans.specs.Scanning.{EndsBehind}
-use Rattle.lnt_spans.specs.Spans.{AreInOrder, version_answer}
+use Rattle.lnt_spans.specs.Spans.{AreInOrder, span_answer, version_answer}
 use Rattle.lnt_spans.specs.Stretches.{AreAnswers, AreRising, AreStretches, BeginsStretch, IsInOne, IsInStretch, Stay}
-use Rattle.lnt_spans.specs.Laws.Answering.{answer_behind, answer_in, first_holds, none_before, rest_in_order}
+use Rattle.lnt_spans.specs.Laws.Answering.{answer_behind, answer_in, answer_same, back_in_order, first_holds, front_in_order, none_before, rest_in_order, rest_none}
 use Rattle.lnt_spans.specs.Laws.Positions.{at_most_below, at_most_itself, at_most_trans, below_at_most, below_is_at_most, not_both, order_cases, test_below, test_not_below}
+use Rattle.lnt_spans.specs.Laws.{FirstStretch}
+use Rattle.lnt_spans.specs.Laws.Told.{told, told_answer}
 use Rattle.lnt_spans.proofs.ScanLemmas.{begins_with, first_is, next_behind, no_first}
 
 -- ---- one side
@@ -293,3 +296,86 @@ step_known f g at end s t s' t' told b m (inr same) = rw (same.0, same.1) (told_
 pub both_fewer : (a b a' b' : ℕ) {P Q : Type 0} → (a' ≤ a) × (P → a' < a) → (b' ≤ b) × (Q → b' < b) → P ⊎ Q → a' + b' < a + b
 both_fewer a b a' b' h k (inl p) = omega (arith, h.1 p, k.0)
 both_fewer a b a' b' h k (inr q) = omega (arith, h.0, k.1 q)
+
+-- ---- where nothing is told
+
+origin_first : (p : Position) → IsAtMost (record { address = 0; op = 0 }) p
+origin_first p = record { address = omega arith; op = λ e. omega arith }
+
+-- what comes behind some spans ends behind them
+ends_behind : (passed more : List Span) → AreInOrder (passed ++ more) → EndsBehind (end_of passed) more
+ends_behind [] [] o = tt
+ends_behind [] (span ∷ more) o = at_most_below (origin_first span.low) (first_holds span more o)
+ends_behind (span ∷ []) more o = next_behind span more o
+ends_behind (span ∷ next ∷ passed) more o = ends_behind (next ∷ passed) more o.2
+
+end_above : (span : Span) (passed : List Span) → AreInOrder (span ∷ passed) → IsAtMost span.high (end_of (span ∷ passed))
+end_above span [] o = at_most_itself span.high
+end_above span (next ∷ passed) o = at_most_trans o.1 (at_most_trans (below_is_at_most (first_holds next passed o.2)) (end_above next passed o.2))
+
+answer_below : (passed more : List Span) (p : Position) → AreInOrder (passed ++ more) → IsBelow p (end_of passed) → span_answer (passed ++ more) p ≡ span_answer passed p
+answer_below [] more p o h = absurd (not_both h (origin_first p))
+answer_below (span ∷ []) more p o h = answer_same span more [] p (rest_none span more p o h)
+answer_below (span ∷ next ∷ passed) more p o h = answer_same span (next ∷ (passed ++ more)) (next ∷ passed) p (answer_below (next ∷ passed) more p o.2 h)
+
+answer_from : (passed more : List Span) (p : Position) → AreInOrder (passed ++ more) → IsAtMost (end_of passed) p → span_answer (passed ++ more) p ≡ span_answer more p
+answer_from [] more p o h = refl
+answer_from (span ∷ []) more p o h = answer_behind span more p h
+answer_from (span ∷ next ∷ passed) more p o h =
+    answer_behind span (next ∷ (passed ++ more)) p (at_most_trans (end_above span (next ∷ passed) (front_in_order (span ∷ next ∷ passed) more o)) h) ∙ answer_from (next ∷ passed) more p o.2 h
+
+told_are : (version : Version) (spans : List Span) → AllByRecursion (IsTold version) spans → told version spans ≡ spans
+told_are version [] h = refl
+told_are version (span ∷ spans) h = let first = h.0 in let rest = told_are version spans h.1 in cc
+
+told_same : (version : Version) (spans : List Span) (p : Position) → AllByRecursion (IsTold version) spans → version_answer version spans p ≡ span_answer spans p
+told_same version spans p h = sym (told_answer version spans p) ∙ ap (λ (xs : List Span). span_answer xs p) (told_are version spans h)
+
+told_front : (version : Version) (passed more : List Span) → AllByRecursion (IsTold version) (passed ++ more) → AllByRecursion (IsTold version) passed
+told_front version [] more h = tt
+told_front version (span ∷ passed) more h = (h.0, told_front version passed more h.1)
+
+told_back : (version : Version) (passed more : List Span) → AllByRecursion (IsTold version) (passed ++ more) → AllByRecursion (IsTold version) more
+told_back version [] more h = h
+told_back version (span ∷ passed) more h = told_back version passed more h.1
+
+pub told_behind : {S T : Type 0} (of_section : S → List Span → Type 0) (of_table : T → List Span → Type 0) (section : Ahead S) (table : Ahead T) (version : Version) (at : Position) (f : Position → Option Answer)
+    (passed spans records : List Span) → IsAhead of_section section spans → IsAhead of_table table records → AreInOrder (passed ++ spans) → AreInOrder (passed ++ records)
+    → AllByRecursion (IsTold version) (passed ++ records) → at ≡ end_of passed → ((p : Position) → version_answer version (passed ++ spans) p ≡ f p)
+    → HasTold of_section of_table (record { version = version; section = section; table = table; at = at; by_section = None; by_table = None }) f (span_answer (passed ++ records)) []
+told_behind of_section of_table section table version at f passed spans records a b o o' t e same = rw e (record {
+  section = record {
+    rest = spans;
+    coming = a;
+    order = back_in_order passed spans o;
+    behind = ends_behind passed spans o;
+    same = λ p h. sym (ap (option_map (in_version version)) (answer_from passed spans p o h)) ∙ same p;
+  };
+  table = record {
+    rest = records;
+    coming = b;
+    order = back_in_order passed records o';
+    behind = ends_behind passed records o';
+    same = λ p h. told_same version records p (told_back version passed records t) ∙ sym (answer_from passed records p o' h);
+  };
+  below = told_none f (span_answer (passed ++ records)) (end_of passed)
+      (λ p h.
+      sym (same p) ∙ ap (option_map (in_version version)) (answer_below passed spans p o h) ∙ told_same version passed p (told_front version passed records t)
+      ∙ sym (answer_below passed records p o' h));
+})
+
+-- ---- the first stretch
+
+not_earlier : (f g : Position → Option Answer) (d : Difference) (list : List Difference) (p : Position) → AreRising (d ∷ list) → IsInOne f g (d ∷ list) p → IsAtMost d.position p
+not_earlier f g d list p rising (inl h) = h.behind
+not_earlier f g d [] p rising (inr h) = absurd h
+not_earlier f g d (e ∷ list) p rising (inr h) = at_most_trans (below_is_at_most rising.0) (not_earlier f g e list p rising.1 h)
+
+pub first_stretch : FirstStretch
+first_stretch f g [] h = λ p. elim (h.all p) [ | inl same ↦ same | inr one ↦ absurd one ]
+first_stretch f g (d ∷ list) h = record {
+  section = sym h.each.0.here.section;
+  table = sym h.each.0.here.table;
+  differ = h.each.0.differ;
+  least = λ p below. elim (h.all p) [ | inl same ↦ same | inr one ↦ absurd (not_both below (not_earlier f g d list p h.rising one)) ];
+}

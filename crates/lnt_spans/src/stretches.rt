@@ -1,6 +1,7 @@
 //! All stretches of positions at which a section and a table answer differently, one after another.
 ghost use Rattle.std.specs.Prelude.{◌≡◌, ◌≢◌, ◌⊎◌, ◌+◌, ◌<◌, ◌≤◌, List, [], ◌∷◌, ◌++◌, None, Option, Some, MatchOption, IfSome};
 ghost use Rattle.std.specs.Bool.{MatchBool};
+ghost use Rattle.std.specs.List.{AllByRecursion};
 ghost use Rattle.lnt_spans.specs.declared.answer.Answer as spec_answer;
 ghost use Rattle.lnt_spans.specs.declared.answer.Version as spec_version;
 ghost use Rattle.lnt_spans.specs.declared.difference.Difference as spec_difference;
@@ -8,10 +9,11 @@ ghost use Rattle.lnt_spans.specs.declared.position.Position as spec_position;
 ghost use Rattle.lnt_spans.specs.declared.span.Span as spec;
 ghost use Rattle.lnt_spans.specs.declared.stretches.Step.TheVariants as step;
 ghost use Rattle.lnt_spans.specs.Ahead.{BeginsWith};
+ghost use Rattle.lnt_spans.specs.Comparing.{IsTold, end_of};
 ghost use Rattle.lnt_spans.specs.Differing.{HasTold, IsRun, IsSide, IsUpTo, Steps, run_end, runs_left};
 ghost use Rattle.lnt_spans.specs.Positions.{IsBelow, IsAtMost};
 ghost use Rattle.lnt_spans.specs.Scanning.{EndsBehind};
-ghost use Rattle.lnt_spans.specs.Spans.{AreInOrder, version_answer};
+ghost use Rattle.lnt_spans.specs.Spans.{AreInOrder, span_answer, version_answer};
 ghost use Rattle.lnt_spans.specs.Stretches.{AreStretches};
 
 use crate::ahead::Ahead;
@@ -58,15 +60,14 @@ enum Step {
 }
 
 impl<S: SpanSource, T: SpanSource> Differences<S, T> {
-    /// No stretch is told. The caller sees to it that the section and the table answer alike below the position, and as the
-    /// spans of the sources from there on, in this version; that these are in order, and none is empty or ends before it.
+    /// No stretch is told of a section and a table that begin with the same spans, which end at a position, and of which the
+    /// sources have those behind them. The caller sees to it that the spans of both are in order, none is empty, and those
+    /// of the table answer as the version tells answers. With no span before them the position is the origin.
     pub fn behind(section: S, table: T, version: Version, at: Position) -> Differences<S, T>
-        ensures { (by_section by_table : spec_position.Position → Option spec_answer.Answer) (spans records : List spec.Span) → S.to_come section spans → T.to_come table records
-            → AreInOrder spans → AreInOrder records → EndsBehind at spans → EndsBehind at records
-            → ((p : spec_position.Position) → IsBelow p at → by_section p ≡ by_table p)
-            → ((p : spec_position.Position) → IsAtMost at p → version_answer version spans p ≡ by_section p)
-            → ((p : spec_position.Position) → IsAtMost at p → version_answer version records p ≡ by_table p)
-            → HasTold S.to_come T.to_come result by_section by_table [] }
+        ensures { (by_section : spec_position.Position → Option spec_answer.Answer) (passed spans records : List spec.Span) → S.to_come section spans → T.to_come table records
+            → AreInOrder (passed ++ spans) → AreInOrder (passed ++ records) → AllByRecursion (IsTold version) (passed ++ records) → at ≡ end_of passed
+            → ((p : spec_position.Position) → version_answer version (passed ++ spans) p ≡ by_section p)
+            → HasTold S.to_come T.to_come result by_section (span_answer (passed ++ records)) [] }
     {
         Differences {
             version,
