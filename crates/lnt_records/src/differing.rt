@@ -1,9 +1,11 @@
 //! A table compared with the spans of a section at every position.
-ghost use Rattle.std.specs.Prelude.{◌≡◌, ◌≢◌, ◌+◌, ◌-◌, ◌^◌, ◌<◌, ℕ, List, [], ◌∷◌, IfOk, IfSome, IsErrOf, IsTrue};
+ghost use Rattle.std.specs.Prelude.{◌≡◌, ◌≢◌, ◌+◌, ◌-◌, ◌^◌, ◌<◌, ℕ, List, Option, IfOk, IfSome, IsErrOf, IsTrue};
 ghost use Rattle.lnt_spans.specs.declared.span.Span.{Span};
-ghost use Rattle.lnt_spans.specs.Spans.{AreInOrder};
+ghost use Rattle.lnt_spans.specs.declared.answer.Answer.{Answer};
+ghost use Rattle.lnt_spans.specs.declared.position.Position.{Position as Place};
+ghost use Rattle.lnt_spans.specs.Spans.{AreInOrder, span_answer};
 ghost use Rattle.lnt_wire.specs.Pulling.{HasMoreThan};
-ghost use Rattle.lnt_records.specs.Differing.{IsDiffering};
+ghost use Rattle.lnt_records.specs.Differing.{GoesOn, IsDiffering, IsGathered};
 
 use crate::comparison::header_of;
 use crate::fault::{TableFault, TableStop};
@@ -44,8 +46,8 @@ pub fn compare_all<S: SpanSource + Drop, T: Source>(
 ) -> Result<Differing<S>, SourceStop>
     requires failures { T.failures table.old < 2 ^ 64 - 1 }
     requires spans { (list : List Span) × S.to_come spans list × AreInOrder list }
-    ensures ok { IfOk result (λ differing. (list : List Span) → S.to_come spans list → AreInOrder list
-        → IfSome (T.remaining table.old) (λ bytes. IsDiffering ⟦<Remaining<S> as SpanSource>⟧.to_come ⟦<SpanList as SpanSource>⟧.to_come bytes list differing)) }
+    ensures ok { IfOk result (λ differing. (list : List Span) (section : Place → Option Answer) → S.to_come spans list → AreInOrder list → ((p : Place) → span_answer list p ≡ section p)
+        → IfSome (T.remaining table.old) (λ bytes. IsDiffering ⟦<Remaining<S> as SpanSource>⟧.to_come ⟦<SpanList as SpanSource>⟧.to_come bytes section differing)) }
     ensures read { IsErrOf result SourceStop.Read → T.failures table.new ≡ T.failures table.old + 1 }
     ensures no_failure { result ≢ Err SourceStop.Read → T.failures table.new ≡ T.failures table.old }
     ensures too_long { IsErrOf result SourceStop.TooLong → IsTrue (T.too_long table.new) }
@@ -73,8 +75,8 @@ fn compare_text<S: SpanSource + Drop>(
     spans: S,
 ) -> Result<Differing<S>, TableStop>
     requires { (list : List Span) × S.to_come spans list × AreInOrder list }
-    ensures { IfOk result (λ differing. (list : List Span) → S.to_come spans list → AreInOrder list
-        → IsDiffering ⟦<Remaining<S> as SpanSource>⟧.to_come ⟦<SpanList as SpanSource>⟧.to_come text.now list differing) }
+    ensures { IfOk result (λ differing. (list : List Span) (section : Place → Option Answer) → S.to_come spans list → AreInOrder list → ((p : Place) → span_answer list p ≡ section p)
+        → IsDiffering ⟦<Remaining<S> as SpanSource>⟧.to_come ⟦<SpanList as SpanSource>⟧.to_come text.now section differing) }
 {
     let Some(version) = header_of(alloc, text)? else {
         return Ok(Differing::Fault(TableFault::Header));
@@ -89,4 +91,35 @@ fn compare_text<S: SpanSource + Drop>(
         version,
     };
     differ_behind(gathered, all, version, Position { address: 0, op: 0 })
+}
+
+// What was gathered of a table's records, compared with the spans that come behind those that both begin with.
+fn differ_behind<S: SpanSource + Drop>(
+    gathered: Result<Gathered, TableStop>,
+    spans: Remaining<S>,
+    version: Version,
+    at: Position,
+) -> Result<Differing<S>, TableStop>
+    ensures { IfOk result (λ differing. (bytes : List ℕ) (section : Place → Option Answer) (table rest : List Span) → IfOk gathered (IsGathered bytes version table) → GoesOn version section table rest at
+        → ⟦<Remaining<S> as SpanSource>⟧.to_come spans rest → IsDiffering ⟦<Remaining<S> as SpanSource>⟧.to_come ⟦<SpanList as SpanSource>⟧.to_come bytes section differing) }
+{
+    match gathered? {
+        Gathered::Fault(fault) => Ok(Differing::Fault(fault)),
+        Gathered::Spans(records) => {
+            let records = SpanList::of(records);
+            Ok(Differing::Table(Differences::behind(spans, records, version, at)))
+        }
+    }
+}
+
+// What a comparison of bytes in memory tells.
+fn told<S>(compared: Result<Differing<S>, TableStop>) -> Result<Differing<S>, SourceStop>
+    ensures ok { IfOk result (λ it. compared ≡ Ok it) }
+    ensures not_read { IsErrOf result SourceStop.Read → ⊥ }
+    ensures not_long { IsErrOf result SourceStop.TooLong → ⊥ }
+{
+    match compared {
+        Ok(compared) => Ok(compared),
+        Err(TableStop::Memory) => Err(SourceStop::Memory),
+    }
 }

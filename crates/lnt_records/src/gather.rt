@@ -48,14 +48,13 @@ pub(crate) fn gather_behind<S: SpanSource + Drop>(
     };
     let mut spans = Vec::new(alloc);
     while read_next(&mut reader, &mut row)? {
-        match comparison.take_span(&row) {
-            Ok(span) => {
-                if spans.push(span).is_err() {
-                    return Err(TableStop::Memory);
-                }
-            }
+        let span = match comparison.take_span(&row) {
+            Ok(span) => span,
             Err(fault) => return Ok(Gathered::Fault(fault)),
-        }
+        };
+        let Ok(()) = spans.push(span) else {
+            return Err(TableStop::Memory);
+        };
     }
     Ok(Gathered::Spans(spans))
 }
