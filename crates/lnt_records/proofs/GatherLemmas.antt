@@ -13,9 +13,13 @@ use Rattle.lnt_spans.specs.Comparing.{Compares, IsTold, Merging, end_of}
 use Rattle.lnt_spans.specs.Laws.Answering.{front_in_order}
 use Rattle.lnt_spans.specs.Laws.Told.{told, told_answer, told_order}
 use Rattle.lnt_spans.specs.Spans.{AreInOrder, span_answer, span_in_version, version_answer}
+use Rattle.lnt_spans.specs.declared.listed.SpanList.{SpanList}
+use Rattle.lnt_records.specs.declared.differing.Differing.{Differing}
+use Rattle.lnt_records.specs.declared.differing.Differing.TheVariants.{Fault, Table}
 use Rattle.lnt_records.specs.declared.fault.TableStop.{TableStop}
 use Rattle.lnt_records.specs.declared.gather.Gathered.{Gathered}
-use Rattle.lnt_records.specs.Differing.{GoesOn, IsGathered}
+use Rattle.lnt_records.specs.declared.remaining.Remaining.{Remaining}
+use Rattle.lnt_records.specs.Differing.{GoesOn, IsDiffering, IsGathered, IsStarted}
 use Rattle.lnt_records.specs.declared.comparison.Comparison.{Comparison}
 use Rattle.lnt_records.specs.Passing.{IsCut, LeavesOff}
 use Rattle.lnt_records.specs.Progress.{BytesReader, HasRead, Judges}
@@ -135,3 +139,9 @@ pub all_to_come : (version : Version) (list : List Span) (section : Position →
     → GoesOn version section [] (map (span_in_version version) list) (record { address = 0; op = 0 })
 all_to_come version list section order answers =
     goes_on version list [] (told version list) section (record { address = 0; op = 0 }) (told_order version list order) (λ p. version_same version (told version list) list p (told_answer version list p)) refl answers
+
+-- no stretch is told of a table
+pub started : {S : Type 0} (of_section : Remaining S → List Span → Type 0) (of_table : SpanList → List Span → Type 0) (bytes : List ℕ) (section : Position → Option Answer) (differing : Differing S)
+    → IsDiffering of_section of_table bytes section differing → IsStarted of_section of_table differing
+started of_section of_table bytes section (Fault told) h = tt
+started of_section of_table bytes section (Table differences) h = (_, _, h.told)

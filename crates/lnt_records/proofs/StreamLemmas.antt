@@ -149,11 +149,11 @@ whole_told to_come merge version section a d la ld names window text all count c
     told_bytes a (p.given ++ ends.given) (λ (bytes : List ℕ). IsComparison bytes section compared) (whole_bytes a d p.given ends.given p.pulls ends.whole)
     (compare h.follows.spans section records (p.given ++ ends.given) (judges_passed to_come merge version section text count h) cut_both h.follows.same)
 
--- what is so of all bytes of which the rest, behind the names of the columns, is a text with lines cut out
-pub whole_cut : (version : Version) (a d : Option (List ℕ)) (la ld : ℕ) (names window text all : List ℕ) (table : List Span) (count : ℕ) (P : List ℕ → Type 0)
-    → names ≡ line_text (column_names version) → Passes a d la ld [] window (line_text (column_names version) ++ text) → Ends d ld (names ++ window) all → (lines : AreLines version text table count)
-    → ((bytes : List ℕ) → IsCut version all bytes lines.records → P bytes) → IfSome a P
-whole_cut version a d la ld names window text all table count P e p ends lines h =
+-- the bytes of which the rest, behind the names of the columns, is a text with lines cut out
+pub rest_cut : (version : Version) (a d : Option (List ℕ)) (la ld : ℕ) (names window text all : List ℕ) (table : List Span) (count : ℕ) → names ≡ line_text (column_names version)
+    → (p : Passes a d la ld [] window (line_text (column_names version) ++ text)) → (ends : Ends d ld (names ++ window) all) → (lines : AreLines version text table count)
+    → IsCut version all (p.given ++ ends.given) lines.records
+rest_cut version a d la ld names window text all table count e p ends lines =
     let line : List ℕ = line_text (column_names version) in
     let rest : List ℕ = window ++ ends.given in
     let given : p.given ++ ends.given ≡ line ++ (lines_text lines.records ++ rest) =
@@ -161,8 +161,14 @@ whole_cut version a d la ld names window text all table count P e p ends lines h
     let cut = cut_lines version lines.records table rest lines.each in
     let cut_all : IsCut version all (line ++ (lines_text lines.records ++ rest)) lines.records =
     subst (λ (t : List ℕ). IsCut version t (line ++ (lines_text lines.records ++ rest)) lines.records) (sym (rest_is version names window ends.given all e ends.joined).joined) cut in
-    told_bytes a (p.given ++ ends.given) P (whole_bytes a d p.given ends.given p.pulls ends.whole)
-    (h (p.given ++ ends.given) (subst (λ (t : List ℕ). IsCut version all t lines.records) (sym given) cut_all))
+    subst (λ (t : List ℕ). IsCut version all t lines.records) (sym given) cut_all
+
+-- what is so of them
+pub whole_cut : (version : Version) (a d : Option (List ℕ)) (la ld : ℕ) (names window text all : List ℕ) (table : List Span) (count : ℕ) (P : List ℕ → Type 0)
+    → names ≡ line_text (column_names version) → Passes a d la ld [] window (line_text (column_names version) ++ text) → Ends d ld (names ++ window) all → (lines : AreLines version text table count)
+    → ((bytes : List ℕ) → IsCut version all bytes lines.records → P bytes) → IfSome a P
+whole_cut version a d la ld names window text all table count P e p ends lines h =
+    told_bytes a (p.given ++ ends.given) P (whole_bytes a d p.given ends.given p.pulls ends.whole) (h (p.given ++ ends.given) (rest_cut version a d la ld names window text all table count e p ends lines))
 
 -- what is so of a text that is all bytes
 pub all_bytes : (a b : Option (List ℕ)) (la lb : ℕ) (w0 w1 w2 all : List ℕ) (P : List ℕ → Type 0) → w0 ≡ [] → Passes a b la lb w0 w1 [] → w2 ≡ w1 → Ends b lb w2 all → P all → IfSome a P

@@ -32,6 +32,12 @@ abbrev pub IsDiffering : {S : Type 0} → (Remaining S → List Span → Type 0)
 IsDiffering of_section of_table bytes section (differing.Fault told) = IsFault bytes told
 IsDiffering of_section of_table bytes section (differing.Table differences) = DiffersAlong of_section of_table bytes section differences
 
+-- Where it is a table, no stretch is told yet.
+abbrev pub IsStarted : {S : Type 0} → (Remaining S → List Span → Type 0) → (SpanList → List Span → Type 0) → Differing S → Type 0
+IsStarted of_section of_table (differing.Fault told) = Unit {0}
+IsStarted of_section of_table (differing.Table differences) =
+    (by_section : Position → Option Answer) × (by_table : Position → Option Answer) × HasTold of_section of_table differences by_section by_table []
+
 -- Behind the records of these spans the bytes have records of these others, or a fault. The bodies of this crate use it
 -- among themselves.
 abbrev pub IsGathered : List ℕ → Version → List Span → Gathered → Type 0

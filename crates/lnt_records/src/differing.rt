@@ -5,7 +5,7 @@ ghost use Rattle.lnt_spans.specs.declared.answer.Answer.{Answer};
 ghost use Rattle.lnt_spans.specs.declared.position.Position.{Position as Place};
 ghost use Rattle.lnt_spans.specs.Spans.{AreInOrder, span_answer};
 ghost use Rattle.lnt_wire.specs.Pulling.{HasMoreThan};
-ghost use Rattle.lnt_records.specs.Differing.{GoesOn, IsDiffering, IsGathered};
+ghost use Rattle.lnt_records.specs.Differing.{GoesOn, IsDiffering, IsGathered, IsStarted};
 
 use crate::comparison::header_of;
 use crate::fault::{TableFault, TableStop};
@@ -48,6 +48,7 @@ pub fn compare_all<S: SpanSource + Drop, T: Source>(
     requires spans { (list : List Span) × S.to_come spans list × AreInOrder list }
     ensures ok { IfOk result (λ differing. (list : List Span) (section : Place → Option Answer) → S.to_come spans list → AreInOrder list → ((p : Place) → span_answer list p ≡ section p)
         → IfSome (T.remaining table.old) (λ bytes. IsDiffering ⟦<Remaining<S> as SpanSource>⟧.to_come ⟦<SpanList as SpanSource>⟧.to_come bytes section differing)) }
+    ensures started { IfOk result (λ differing. IsStarted ⟦<Remaining<S> as SpanSource>⟧.to_come ⟦<SpanList as SpanSource>⟧.to_come differing) }
     ensures read { IsErrOf result SourceStop.Read → T.failures table.new ≡ T.failures table.old + 1 }
     ensures no_failure { result ≢ Err SourceStop.Read → T.failures table.new ≡ T.failures table.old }
     ensures too_long { IsErrOf result SourceStop.TooLong → IsTrue (T.too_long table.new) }
@@ -75,7 +76,8 @@ fn compare_text<S: SpanSource + Drop>(
     spans: S,
 ) -> Result<Differing<S>, TableStop>
     requires { (list : List Span) × S.to_come spans list × AreInOrder list }
-    ensures { IfOk result (λ differing. (list : List Span) (section : Place → Option Answer) → S.to_come spans list → AreInOrder list → ((p : Place) → span_answer list p ≡ section p)
+    ensures started { IfOk result (λ differing. IsStarted ⟦<Remaining<S> as SpanSource>⟧.to_come ⟦<SpanList as SpanSource>⟧.to_come differing) }
+    ensures differing { IfOk result (λ differing. (list : List Span) (section : Place → Option Answer) → S.to_come spans list → AreInOrder list → ((p : Place) → span_answer list p ≡ section p)
         → IsDiffering ⟦<Remaining<S> as SpanSource>⟧.to_come ⟦<SpanList as SpanSource>⟧.to_come text.now section differing) }
 {
     let Some(version) = header_of(alloc, text)? else {
