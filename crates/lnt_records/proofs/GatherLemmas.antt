@@ -48,9 +48,11 @@ gathered_all to_come reader text bytes version old new spans list passed h j sam
     subst (λ (v : Version). IsTable v (column_names version ∷ (passed ++ h.compared.more)) now.table) h.compared.version_is now.is_table in
     let before : IsTable version (column_names version ∷ passed) j.table = subst (λ (v : Version). IsTable v (column_names version ∷ passed) j.table) same j.is_table in
     let spans_are = one_spans version (passed ++ h.compared.more) now.table (j.table ++ spans) table.1.each
-    (zip_both (IsSpanRecord version) passed h.compared.more j.table spans before.1.each h.each) in
-    (column_names version ∷ (passed ++ h.compared.more), all_behind text bytes version passed h.compared.more cut rest,
-    subst (IsTable version (column_names version ∷ (passed ++ h.compared.more))) spans_are table)
+    (zip_both (IsSpanRecord version) passed h.compared.more j.table spans before.1.each h.each) in (
+      column_names version ∷ (passed ++ h.compared.more),
+      all_behind text bytes version passed h.compared.more cut rest,
+      subst (IsTable version (column_names version ∷ (passed ++ h.compared.more))) spans_are table,
+    )
 
 pub gathered_more : {S : Type 0} (to_come : S → List Span → Type 0) (before after : BytesReader) (text : List ℕ) (version : Version) (first old new : Comparison S) (fields : Fields) (spans : List Span) (span : Span)
     → (h : HasGathered to_come before text version first old spans) → HasRead after text (column_names version ∷ (h.compared.more ++ fields ∷ [])) → new.version ≡ old.version → Judged to_come old new fields
@@ -99,23 +101,29 @@ version_order version bytes table t = by_records t.0 t.2
 pub judges_off : {S : Type 0} (to_come : S → List Span → Type 0) (P : List Span → Type 0) (merge : Merging S) (version : Version) (section : List Span) (text : List ℕ) (count : ℕ) (end : Position)
     → (off : LeavesOff P version section text count end) → merge.version ≡ version → Compares to_come merge (off.table ++ []) off.table
     → (j : Judges to_come (record { merge = merge; version = version; count = count }) (off.table ++ []) (column_names version ∷ off.lines.records)) × (j.table ≡ off.table)
-judges_off to_come P merge version section text count end off same compares = (record {
-  table = off.table;
-  is_table = (refl, record { each = off.lines.each; in_order = front_in_order off.table off.rest off.order });
-  count = omega (arith, off.lines.count_is);
-  version = same;
-  compares = compares;
-}, refl)
+judges_off to_come P merge version section text count end off same compares = (
+  record {
+    table = off.table;
+    is_table = (refl, record { each = off.lines.each; in_order = front_in_order off.table off.rest off.order });
+    count = omega (arith, off.lines.count_is);
+    version = same;
+    compares = compares;
+  },
+  refl,
+)
 
 pub judges_none : {S : Type 0} (to_come : S → List Span → Type 0) (merge : Merging S) (version : Version) → merge.version ≡ version → Compares to_come merge [] []
     → (j : Judges to_come (record { merge = merge; version = version; count = 1 }) [] (column_names version ∷ [])) × (j.table ≡ [])
-judges_none to_come merge version same compares = (record {
-  table = [];
-  is_table = (refl, record { each = tt; in_order = tt });
-  count = refl;
-  version = same;
-  compares = compares;
-}, refl)
+judges_none to_come merge version same compares = (
+  record {
+    table = [];
+    is_table = (refl, record { each = tt; in_order = tt });
+    count = refl;
+    version = same;
+    compares = compares;
+  },
+  refl,
+)
 
 -- the order of the first spans alone
 pub order_alone : (table rest : List Span) → AreInOrder (table ++ rest) → AreInOrder (table ++ [])

@@ -180,7 +180,7 @@ last_answers f g at end s t lt stay p h = elim (order_cases p at) [
 ]
 
 stay_on : (f g : Position → Option Answer) (s t : Option Answer) (at end p : Position) → Stay f g s t at end → Stay f g s t end p → Stay f g s t at p
-stay_on f g s t at end p one two q h k = elim (order_cases q end) [ | inl early ↦ one q h early | inr late ↦ two q late k ]
+stay_on f g s t at end p one two q h k = elim (order_cases q end) [ inl early ↦ one q h early | inr late ↦ two q late k ]
 
 -- a position of the run, where the last stretch goes on
 pub told_on : (f g : Position → Option Answer) (at end : Position) (s t : Option Answer) (told : List Difference) → AreToldBelow f g at s t told → IsBelow at end → Stay f g s t at end
@@ -189,7 +189,7 @@ told_on f g at end s t told b lt stay = record {
   each = b.each;
   rising = b.rising;
   below = all_below told at end (below_is_at_most lt) b.below;
-  all = λ p h. elim (order_cases p at) [ | inl early ↦ b.all p early | inr late ↦ here p late h b.going ];
+  all = λ p h. elim (order_cases p at) [ inl early ↦ b.all p early | inr late ↦ here p late h b.going ];
   going = later b.going;
   last = last_answers f g at end s t lt stay;
 }
@@ -209,7 +209,7 @@ told_alike f g at end s t s' t' told b lt stay same = record {
   each = b.each;
   rising = b.rising;
   below = all_below told at end (below_is_at_most lt) b.below;
-  all = λ p h. elim (order_cases p at) [ | inl early ↦ b.all p early | inr late ↦ let a = stay p late h in inl (a.section ∙ same ∙ sym a.table) ];
+  all = λ p h. elim (order_cases p at) [ inl early ↦ b.all p early | inr late ↦ let a = stay p late h in inl (a.section ∙ same ∙ sym a.table) ];
   going = inl same;
   last = last_answers f g at end s' t' lt stay;
 }
@@ -224,7 +224,7 @@ told_new f g at end s t s' t' told b lt stay differ other =
       rising = rising_push told d b.rising b.below;
       below = all_push (λ (e : Difference). IsBelow e.position end) told d (all_below told at end (below_is_at_most lt) b.below) lt;
       all = λ p h. elim (order_cases p at) [
-        | inl early ↦ elim (b.all p early) [ | inl same ↦ inl same | inr one ↦ inr (in_one_more f g told (d ∷ []) p one) ]
+        | inl early ↦ elim (b.all p early) [ inl same ↦ inl same | inr one ↦ inr (in_one_more f g told (d ∷ []) p one) ]
         | inr late ↦ inr (in_last f g told d p (record { behind = late; stay = λ q k l. stay q k (below_at_most l (below_is_at_most h)); here = stay p late h }))
       ];
       going = inr (λ p h more is. in_last f g told d p (record { behind = at_most_trans (below_is_at_most lt) h; stay = stay_on f g s' t' at end p stay more; here = is }));
@@ -246,7 +246,7 @@ pub told_all : (f g : Position → Option Answer) (at : Position) (s t : Option 
 told_all f g at s t told b none none' = record {
   each = b.each;
   rising = b.rising;
-  all = λ p. elim (order_cases p at) [ | inl early ↦ b.all p early | inr late ↦ inl (none p late ∙ sym (none' p late)) ];
+  all = λ p. elim (order_cases p at) [ inl early ↦ b.all p early | inr late ↦ inl (none p late ∙ sym (none' p late)) ];
 }
 
 -- where both answer alike up to there
@@ -284,7 +284,7 @@ pub record Moves (f g : Position → Option Answer) (at end : Position) (s t : O
 pub moves : (f g : Position → Option Answer) (at end : Position) (s t : Option Answer) (one other : Option Position) → IsRun f at s one → IsRun g at t other → IsUpTo end one → IsUpTo end other
     → (one ≡ Some end) ⊎ (other ≡ Some end) → Moves f g at end s t
 moves f g at end s t one other a b up up' is = record {
-  below = elim is [ | inl e ↦ subst (IsBefore at) e a.behind | inr e ↦ subst (IsBefore at) e b.behind ];
+  below = elim is [ inl e ↦ subst (IsBefore at) e a.behind | inr e ↦ subst (IsBefore at) e b.behind ];
   stay = λ p h k. record { section = a.says p h (before_end p end one k up); table = b.says p h (before_end p end other k up') };
 }
 
@@ -372,10 +372,10 @@ not_earlier f g d [] p rising (inr h) = absurd h
 not_earlier f g d (e ∷ list) p rising (inr h) = at_most_trans (below_is_at_most rising.0) (not_earlier f g e list p rising.1 h)
 
 pub first_stretch : FirstStretch
-first_stretch f g [] h = λ p. elim (h.all p) [ | inl same ↦ same | inr one ↦ absurd one ]
+first_stretch f g [] h = λ p. elim (h.all p) [ inl same ↦ same | inr one ↦ absurd one ]
 first_stretch f g (d ∷ list) h = record {
   section = sym h.each.0.here.section;
   table = sym h.each.0.here.table;
   differ = h.each.0.differ;
-  least = λ p below. elim (h.all p) [ | inl same ↦ same | inr one ↦ absurd (not_both below (not_earlier f g d list p h.rising one)) ];
+  least = λ p below. elim (h.all p) [ inl same ↦ same | inr one ↦ absurd (not_both below (not_earlier f g d list p h.rising one)) ];
 }

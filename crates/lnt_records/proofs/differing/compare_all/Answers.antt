@@ -44,9 +44,11 @@ gather_behind-gathered-requires-clause-judged g c =
     let spans = c.in_ok-passed.ensures.ok in
     let known = c.requires.spans in
     let off = spans.2 known.0 known.1 known.2 in
-    let compares = c.behind-merge.ensures.compares off.table [] c.of.ensures (order_alone off.table off.rest off.order) off.told off.end_is in
-    (off.table ++ [], off.lines.records,
-    (judges_off _ _ c.behind-merge.result version known.0 spans.0 c.in_ok-passed.passed.count c.in_ok-passed.passed.end off c.behind-merge.ensures.version compares).0)
+    let compares = c.behind-merge.ensures.compares off.table [] c.of.ensures (order_alone off.table off.rest off.order) off.told off.end_is in (
+      off.table ++ [],
+      off.lines.records,
+      (judges_off _ _ c.behind-merge.result version known.0 spans.0 c.in_ok-passed.passed.count c.in_ok-passed.passed.end off c.behind-merge.ensures.version compares).0,
+    )
 
 pub returns-clause-ok : goal.returns-clause-ok
 returns-clause-ok g c =
