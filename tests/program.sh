@@ -34,7 +34,7 @@ stop 'closed standard input and strings' 3 $'linetab: cannot read -\n' bash -c '
 stop 'closed standard streams' 3 '' bash -c './linetab check - examples/hello.csv --line-str examples/hello.debug_line_str <&- >&- 2>&-'
 stop 'a full device' 3 $'linetab: cannot write\n' bash -c './linetab units examples/hello.debug_line >/dev/full'
 stop 'a closed standard output' 3 $'linetab: cannot write\n' bash -c './linetab units examples/hello.debug_line >&-'
-stop 'a closed pipe' 3 $'linetab: cannot write\n' bash -c '{ sleep 0.2; ./linetab units examples/hello.debug_line; echo $? >"$0/status"; } | true; exit "$(cat "$0/status")"' "$work"
+stop 'a closed pipe' 3 '' bash -c '{ sleep 0.2; ./linetab units examples/hello.debug_line; echo $? >"$0/status"; } | true; exit "$(cat "$0/status")"' "$work"
 expect 'a stack of 100 kB' 0 $'yes\n' '' bash -c 'ulimit -s 100; exec crates/linetab/out/linetab check examples/hello.debug_line examples/hello.csv --line-str examples/hello.debug_line_str'
 # The limit holds for the file that standard error goes to as well.
 stop 'a file size of no bytes' 3 '' bash -c 'trap "" XFSZ; ulimit -f 0; crates/linetab/out/linetab units examples/hello.debug_line >"$0/none"' "$work"

@@ -1,9 +1,11 @@
 //! The program `linetab`: the words, the files and the streams of the process, and its exit status.
 #![tactic(auto)]
 
+mod output;
 mod system;
 
 use lnt_cli::{CliStop, Status, run};
+use output::Output;
 use std::alloc::Global;
 use std::cell::Cell;
 use std::env;
@@ -14,15 +16,12 @@ use system::{System, hold_standard_places};
 fn main(rt: HostRuntime) -> ExitCode {
     let _held = hold_standard_places(&rt);
     let mut notes = Vec::new(rt.alloc());
-    let ended = run_words(&rt, &mut notes);
-    if let Err(stop) = &ended {
-        let _ = match stop {
-            // A text of usage ends in a line feed by itself.
-            CliStop::Usage(text) => rt.eprint(text),
-            _ => rt.eprintln(stop),
-        };
+    let is_unread = Cell::new(false);
+    let ended = run_words(&rt, &is_unread, &mut notes);
+    // Whoever closed the pipe has what was wanted of it.
+    if !(is_unread.get() && matches!(&ended, Err(CliStop::Write))) {
+        tell(&rt, &ended, &notes);
     }
-    let _ = rt.stderr().write_all(whole_lines(&notes));
     ExitCode::from(match ended {
         Ok(Status::Done) => 0,
         Ok(Status::No) => 1,
@@ -32,11 +31,28 @@ fn main(rt: HostRuntime) -> ExitCode {
     })
 }
 
-// Runs the command of the process's words, and gathers its notes. What was written before a stop goes out too.
-fn run_words(rt: &HostRuntime, notes: &mut Vec<u8>) -> Result<Status, CliStop> {
+// Tells why the run was stopped, if it was, and its notes.
+fn tell(rt: &HostRuntime, ended: &Result<Status, CliStop>, notes: &[u8]) {
+    if let Err(stop) = ended {
+        let _ = match stop {
+            // A text of usage ends in a line feed by itself.
+            CliStop::Usage(text) => rt.eprint(text),
+            _ => rt.eprintln(stop),
+        };
+    }
+    let _ = rt.stderr().write_all(whole_lines(notes));
+}
+
+// Runs the command of the process's words, and gathers its notes. What was written before a stop goes out too. Where the
+// output is a pipe that nobody reads any more, `is_unread` says so.
+fn run_words(
+    rt: &HostRuntime,
+    is_unread: &Cell<bool>,
+    notes: &mut Vec<u8>,
+) -> Result<Status, CliStop> {
     let alloc = rt.alloc();
     let words = words_of(rt, alloc)?;
-    let Ok(mut out) = BufWriter::new(alloc, io::writer(rt)) else {
+    let Ok(mut out) = BufWriter::new(alloc, Output::new(io::writer(rt), is_unread)) else {
         return Err(CliStop::Memory);
     };
     let reason = Cell::new(None);

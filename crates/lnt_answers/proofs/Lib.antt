@@ -1,2 +1,3 @@
 pub mod CommaLemmas
+pub mod DifferenceLemmas
 pub mod FileLemmas

@@ -1,3 +1,4 @@
+pub mod DifferenceLines
 pub mod FileLines
 pub mod Lines
 pub mod Texts

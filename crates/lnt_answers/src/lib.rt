@@ -2,10 +2,12 @@
 //!
 //! [`judge_section`] prints the line of a section that isn't good, and gives the index of one that is; [`print_verdict`]
 //! prints `yes` of it too. Of the index [`print_lookups`] and [`print_addresses`] print the answers at positions,
-//! [`print_files`] the files, and [`print_sums`] whether these have the sums that are listed.
+//! [`print_files`] the files, and [`print_sums`] whether these have the sums that are listed. [`print_differences`] prints
+//! where a table answers otherwise.
 #![tactic(auto)]
 
 mod addresses;
+mod differences;
 mod files;
 mod judge;
 mod lookup;
@@ -13,6 +15,7 @@ mod no;
 mod sums;
 
 pub use addresses::print_addresses;
+pub use differences::{DifferenceLine, print_differences};
 pub use files::print_files;
 pub use judge::{halt_of, judge_section, print_verdict};
 pub use lookup::{print_lookup, print_lookups};

@@ -4,6 +4,7 @@ ghost use Rattle.lnt_cli.specs.Stops.{IsUsage};
 
 use crate::session::{Session, of_file};
 use crate::stop::CliStop;
+use crate::stretches::{Stretches, print_stretches};
 use crate::table::{print_check, print_table};
 use lnt_answers::{
     judge_section, lists_sums, print_addresses, print_files, print_lookups, print_sums,
@@ -127,6 +128,33 @@ impl<O: Opener, W: Write, N: Write> Session<'_, '_, '_, O, W, N> {
     }
 }
 
+// All places where a table answers otherwise.
+impl<O: Opener, W: Write, N: Write> Session<'_, '_, '_, O, W, N> {
+    // Tells all places where the table of this name answers otherwise than the section, or that there is none.
+    pub(crate) fn check_all(&mut self, from: &Judging<'_>, table: &str) -> Result<Status, CliStop>
+        ensures { IfErr result (λ stop. IsUsage stop → ⊥) }
+    {
+        let texts = self.read_texts(from)?;
+        let strings = texts.strings();
+        let options = options_of(from);
+        let seen = Cell::new(Seen::nothing());
+        let opened = self.open_section(from.section, &seen);
+        let mut section = of_file(self.alloc, from.section, opened)?;
+        let mut records = self.open(table)?;
+        let judged = judge_section(self.alloc, &mut section, &strings, &options, self.out);
+        let index = match of_file(self.alloc, from.section, judged)? {
+            JudgedIndex::Good(index) => index,
+            JudgedIndex::Bad(no) => return Ok(self.tell_bad(&no, &seen.get(), from)),
+        };
+        let printed = print_stretches(self.alloc, &mut records, &index, self.out);
+        match of_file(self.alloc, table, printed)? {
+            Stretches::Faulty(fault) => Ok(self.tell_fault(fault, table)),
+            Stretches::Told(Status::Done) => Ok(self.tell_agreed(from, table)),
+            Stretches::Told(Status::No) => Ok(Status::No),
+        }
+    }
+}
+
 // What a good section gives notes occasion for, where this was asked.
 fn hints_to(index: &Index<'_>, question: &Question<'_>) -> Hints {
     let hints = hints_of(index);
@@ -173,15 +201,24 @@ impl<O: Opener, W: Write, N: Write> Session<'_, '_, '_, O, W, N> {
         let no = match verdict {
             Verdict::No(TableNo::Section(no)) => return self.tell_bad(no, seen, from),
             Verdict::No(no) => no,
-            Verdict::Yes => {
-                if !self.quiet {
-                    let given = given_of(from);
-                    let _ = tell_agreed(self.alloc, &given, table, self.opener, self.notes);
-                }
-                return Status::Done;
-            }
+            Verdict::Yes => return self.tell_agreed(from, table),
         };
-        if let (Some(fault), false) = (fault_of(no), self.quiet) {
+        match fault_of(no) {
+            Some(fault) => self.tell_fault(fault, table),
+            None => Status::No,
+        }
+    }
+
+    fn tell_agreed(&mut self, from: &Judging<'_>, table: &str) -> Status {
+        if !self.quiet {
+            let given = given_of(from);
+            let _ = tell_agreed(self.alloc, &given, table, self.opener, self.notes);
+        }
+        Status::Done
+    }
+
+    fn tell_fault(&mut self, fault: TableFault, table: &str) -> Status {
+        if !self.quiet {
             let _ = tell_table(self.alloc, fault, table, self.opener, self.notes);
         }
         Status::No

@@ -8,6 +8,7 @@ mod judge;
 mod program;
 mod session;
 mod stop;
+mod stretches;
 mod table;
 mod verdict;
 

@@ -81,7 +81,16 @@ impl<O: Opener, W: Write, N: Write> Session<'_, '_, '_, O, W, N> {
                 of_file(self.alloc, section, ended)
             }
             Request::Judge { from, question } => self.answer_question(from, question),
-            Request::Check { from, table } => self.check_table(from, table),
+            Request::Check {
+                from,
+                table,
+                all: false,
+            } => self.check_table(from, table),
+            Request::Check {
+                from,
+                table,
+                all: true,
+            } => self.check_all(from, table),
         }
     }
 

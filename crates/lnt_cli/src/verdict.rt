@@ -1,7 +1,7 @@
 //! How the evidence against a table is printed.
-use lnt_answers::NoLine;
+use lnt_answers::{DifferenceLine, NoLine};
+use lnt_spans::Difference;
 use lnt_table::TableNo;
-use lnt_text::{AnswerText, PositionText};
 use std::fmt;
 
 // The line that says why a table isn't one, or doesn't answer as the section does, without its line feed.
@@ -22,13 +22,14 @@ impl fmt::Display for TableNoLine {
                 position,
                 by_table,
                 by_section,
-            } => write!(
-                f,
-                "no 40 differs at {} table {} section {}",
-                PositionText(position),
-                AnswerText(by_table),
-                AnswerText(by_section)
-            ),
+            } => {
+                let difference = Difference {
+                    position,
+                    by_table,
+                    by_section,
+                };
+                write!(f, "{}", DifferenceLine(difference))
+            }
         }
     }
 }

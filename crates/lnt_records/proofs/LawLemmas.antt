@@ -71,7 +71,7 @@ one_version Two Two e = refl
 one_version One Two e = let lengths : 9 ≡ 11 = ap length e in absurd (omega (arith, lengths))
 one_version Two One e = let lengths : 11 ≡ 9 = ap length e in absurd (omega (arith, lengths))
 
-one_spans : (version : Version) (records : List Fields) (xs ys : List Span) → AllZip (IsSpanRecord version) records xs → AllZip (IsSpanRecord version) records ys → xs ≡ ys
+pub one_spans : (version : Version) (records : List Fields) (xs ys : List Span) → AllZip (IsSpanRecord version) records xs → AllZip (IsSpanRecord version) records ys → xs ≡ ys
 one_spans version [] [] [] a b = refl
 one_spans version [] (x ∷ xs) ys a b = absurd a
 one_spans version [] [] (y ∷ ys) a b = absurd b

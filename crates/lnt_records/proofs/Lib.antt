@@ -13,3 +13,4 @@ pub mod TextLemmas
 pub mod WriteLemmas
 pub mod JoinedLemmas
 pub mod OneFaultLemmas
+pub mod GatherLemmas

@@ -125,7 +125,7 @@ told_twice version None = refl
 told_twice One (Some answer) = refl
 told_twice Two (Some answer) = refl
 
-version_same : (version : Version) (xs ys : List Span) (p : Position) → span_answer xs p ≡ version_answer version ys p → version_answer version xs p ≡ version_answer version ys p
+pub version_same : (version : Version) (xs ys : List Span) (p : Position) → span_answer xs p ≡ version_answer version ys p → version_answer version xs p ≡ version_answer version ys p
 version_same version xs ys p e = ap (option_map (in_version version)) e ∙ told_twice version (span_answer ys p)
 
 -- ---- canonical spans whose lines were passed

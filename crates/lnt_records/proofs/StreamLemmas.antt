@@ -148,3 +148,31 @@ whole_told to_come merge version section a d la ld names window text all count c
     let cut_both : IsCut version all (p.given ++ ends.given) records = subst (λ (t : List ℕ). IsCut version all t records) (sym given) cut_all in
     told_bytes a (p.given ++ ends.given) (λ (bytes : List ℕ). IsComparison bytes section compared) (whole_bytes a d p.given ends.given p.pulls ends.whole)
     (compare h.follows.spans section records (p.given ++ ends.given) (judges_passed to_come merge version section text count h) cut_both h.follows.same)
+
+-- the bytes of which the rest, behind the names of the columns, is a text with lines cut out
+pub rest_cut : (version : Version) (a d : Option (List ℕ)) (la ld : ℕ) (names window text all : List ℕ) (table : List Span) (count : ℕ) → names ≡ line_text (column_names version)
+    → (p : Passes a d la ld [] window (line_text (column_names version) ++ text)) → (ends : Ends d ld (names ++ window) all) → (lines : AreLines version text table count)
+    → IsCut version all (p.given ++ ends.given) lines.records
+rest_cut version a d la ld names window text all table count e p ends lines =
+    let line : List ℕ = line_text (column_names version) in
+    let rest : List ℕ = window ++ ends.given in
+    let given : p.given ++ ends.given ≡ line ++ (lines_text lines.records ++ rest) =
+    ap (λ (t : List ℕ). t ++ ends.given) p.joined ∙ append_assoc (line ++ text) window ends.given ∙ append_assoc line text rest ∙ ap (λ (t : List ℕ). line ++ (t ++ rest)) lines.text_is in
+    let cut = cut_lines version lines.records table rest lines.each in
+    let cut_all : IsCut version all (line ++ (lines_text lines.records ++ rest)) lines.records =
+    subst (λ (t : List ℕ). IsCut version t (line ++ (lines_text lines.records ++ rest)) lines.records) (sym (rest_is version names window ends.given all e ends.joined).joined) cut in
+    subst (λ (t : List ℕ). IsCut version all t lines.records) (sym given) cut_all
+
+-- what is so of them
+pub whole_cut : (version : Version) (a d : Option (List ℕ)) (la ld : ℕ) (names window text all : List ℕ) (table : List Span) (count : ℕ) (P : List ℕ → Type 0)
+    → names ≡ line_text (column_names version) → Passes a d la ld [] window (line_text (column_names version) ++ text) → Ends d ld (names ++ window) all → (lines : AreLines version text table count)
+    → ((bytes : List ℕ) → IsCut version all bytes lines.records → P bytes) → IfSome a P
+whole_cut version a d la ld names window text all table count P e p ends lines h =
+    told_bytes a (p.given ++ ends.given) P (whole_bytes a d p.given ends.given p.pulls ends.whole) (h (p.given ++ ends.given) (rest_cut version a d la ld names window text all table count e p ends lines))
+
+-- what is so of a text that is all bytes
+pub all_bytes : (a b : Option (List ℕ)) (la lb : ℕ) (w0 w1 w2 all : List ℕ) (P : List ℕ → Type 0) → w0 ≡ [] → Passes a b la lb w0 w1 [] → w2 ≡ w1 → Ends b lb w2 all → P all → IfSome a P
+all_bytes a b la lb w0 w1 w2 all P none p same ends h =
+    let given : w1 ≡ p.given = sym p.joined ∙ ap (λ (t : List ℕ). t ++ p.given) none in
+    let whole : p.given ++ ends.given ≡ all = sym (ends.joined ∙ ap (λ (t : List ℕ). t ++ ends.given) (same ∙ given)) in
+    told_bytes a (p.given ++ ends.given) P (whole_bytes a b p.given ends.given p.pulls ends.whole) (subst P (sym whole) h)

@@ -1,3 +1,4 @@
+pub mod Differing
 pub mod Faults
 pub mod Laws
 pub mod Lines

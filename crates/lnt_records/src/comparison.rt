@@ -1,5 +1,5 @@
 //! A table compared with the spans of a section, record by record.
-ghost use Rattle.std.specs.Prelude.{◌≡◌, ◌+◌, ◌^◌, ◌<◌, ℕ, List, [], ◌∷◌, ◌++◌, length, IfOk, MatchOption};
+ghost use Rattle.std.specs.Prelude.{◌≡◌, ◌+◌, ◌^◌, ◌<◌, ℕ, List, [], ◌∷◌, ◌++◌, length, IfErr, IfOk, MatchOption, OnOk};
 ghost use Rattle.csv.specs.Records.{fields_of};
 ghost use Rattle.lnt_spans.specs.declared.span.Span.{Span};
 ghost use Rattle.lnt_spans.specs.declared.position.Position.{Position};
@@ -7,7 +7,7 @@ ghost use Rattle.lnt_spans.specs.Spans.{AreInOrder, version_answer};
 ghost use Rattle.lnt_records.specs.Faults.{IsComparison, IsFaulty};
 ghost use Rattle.lnt_records.specs.Passing.{IsCut};
 ghost use Rattle.lnt_records.specs.Progress.{Judges};
-ghost use Rattle.lnt_records.specs.Table.{BeginsWith, Fields, IsTable, column_names};
+ghost use Rattle.lnt_records.specs.Table.{BeginsWith, Fields, IsSpanRecord, IsTable, column_names};
 
 use crate::fault::{TableFault, TableStop};
 use crate::reading::{read_header, read_next, reader_of};
@@ -58,7 +58,7 @@ pub(crate) fn compare_records<S: SpanSource + Drop>(
 }
 
 // The version whose columns record 0 names, if it is a header.
-fn header_of(alloc: Global, table: &[u8]) -> Result<Option<Version>, TableStop>
+pub(crate) fn header_of(alloc: Global, table: &[u8]) -> Result<Option<Version>, TableStop>
     ensures { IfOk result (λ found. MatchOption found ((v : Version) → BeginsWith table.now (column_names v ∷ []) → ⊥) (λ v. BeginsWith table.now (column_names v ∷ []))) }
 {
     let mut reader = reader_of(alloc, table);
@@ -102,11 +102,11 @@ pub(crate) fn compare_behind<S: SpanSource + Drop>(
 
 // The spans of a section, compared with the records of a table so far.
 #[derive(Drop)]
-struct Comparison<S> {
-    merge: Merge<S>,
-    version: Version,
+pub(crate) struct Comparison<S> {
+    pub(crate) merge: Merge<S>,
+    pub(crate) version: Version,
     // how many records there were, with the header
-    count: u64,
+    pub(crate) count: u64,
 }
 
 impl<S: SpanSource + Drop> Comparison<S> {
@@ -118,18 +118,33 @@ impl<S: SpanSource + Drop> Comparison<S> {
             → MatchOption result (Judges S.to_come self.new section (records ++ fields_of row.now ∷ []))
             (λ fault. (table : List Span) × IsTable self.old.version records table × IsFaulty self.old.version table (length records) (fields_of row.now) fault) }
     {
+        match self.take_span(row) {
+            Ok(_) => None,
+            Err(fault) => Some(fault),
+        }
+    }
+
+    // The same, and the span that it says.
+    pub(crate) fn take_span(&mut self, row: &ByteRecord) -> Result<Span, TableFault>
+        requires { (section : List Span) × (records : List Fields) × Judges S.to_come self.old section records × (length records + 1 < 2 ^ 64) }
+        ensures version { self.new.version ≡ self.old.version }
+        ensures says { IfOk result (λ span. IsSpanRecord self.old.version (fields_of row.now) span) }
+        ensures taken { OnOk result ((section : List Span) (records : List Fields) → Judges S.to_come self.old section records → Judges S.to_come self.new section (records ++ fields_of row.now ∷ [])) }
+        ensures faulty { IfErr result (λ fault. (section : List Span) (records : List Fields) → Judges S.to_come self.old section records
+            → (table : List Span) × IsTable self.old.version records table × IsFaulty self.old.version table (length records) (fields_of row.now) fault) }
+    {
         let span = match span_of(row, self.version) {
             Ok(span) => span,
-            Err(RecordFault::Fields) => return Some(TableFault::Fields(self.count)),
+            Err(RecordFault::Fields) => return Err(TableFault::Fields(self.count)),
             Err(RecordFault::Number(column)) => {
-                return Some(TableFault::Number(self.count, column));
+                return Err(TableFault::Number(self.count, column));
             }
         };
         if !self.merge.takes(&span) {
-            return Some(TableFault::Order(self.count));
+            return Err(TableFault::Order(self.count));
         }
         self.merge.push(&span);
         self.count += 1;
-        None
+        Ok(span)
     }
 }

@@ -10,8 +10,10 @@
 mod canonical;
 mod column;
 mod comparison;
+mod differing;
 mod fault;
 mod front;
+mod gather;
 mod header;
 pub mod laws;
 mod lines;
@@ -26,6 +28,8 @@ mod write;
 
 pub use canonical::write_canonical;
 pub use comparison::{Compared, compare};
+pub use differing::{Differing, compare_all};
 pub use fault::{TableFault, TableStop, WriteStop};
+pub use remaining::Remaining;
 pub use stream::compare_table;
 pub use write::write_spans;

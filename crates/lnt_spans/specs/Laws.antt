@@ -6,11 +6,15 @@ pub mod EachTwo
 pub mod Positions
 pub mod Told
 -- What the laws of spans say.
-use Rattle.std.specs.Prelude.{◌≡◌, List, [], ◌∷◌}
+use Rattle.std.specs.Prelude.{◌≡◌, List, [], ◌∷◌, Option}
 use Rattle.std.specs.List.{AllByRecursion}
+use Rattle.lnt_spans.specs.declared.answer.Answer.{Answer}
+use Rattle.lnt_spans.specs.declared.difference.Difference.{Difference}
 use Rattle.lnt_spans.specs.declared.position.Position.{Position}
 use Rattle.lnt_spans.specs.declared.span.Span.{Span}
+use Rattle.lnt_spans.specs.Differences.{Agree, IsLeastDifference}
 use Rattle.lnt_spans.specs.Spans.{AreInOrder, IsCanonical, span_answer}
+use Rattle.lnt_spans.specs.Stretches.{AreStretches}
 
 -- Both lists answer the same at p.
 abbrev pub AgreeAt : List Span → List Span → Position → Type 0
@@ -32,3 +36,12 @@ Borders = (xs ys : List Span) → AreInOrder xs → AreInOrder ys
 -- Canonical lists that answer alike everywhere are the same list.
 abbrev pub OneCanonical : Type 0
 OneCanonical = (xs ys : List Span) → IsCanonical xs → IsCanonical ys → AgreeEverywhere xs ys → xs ≡ ys
+
+-- the least difference, where there is one
+abbrev pub IsFirst : (Position → Option Answer) → (Position → Option Answer) → List Difference → Type 0
+IsFirst by_section by_table [] = Agree by_section by_table
+IsFirst by_section by_table (first ∷ differences) = IsLeastDifference by_section by_table first
+
+-- The first stretch begins with the least difference, and with none the two answer alike.
+abbrev pub FirstStretch : Type 0
+FirstStretch = (by_section by_table : Position → Option Answer) (differences : List Difference) → AreStretches by_section by_table differences → IsFirst by_section by_table differences

@@ -96,7 +96,7 @@ pub(crate) fn scan<S: SpanSource>(
 
 // Whether two answers are the same.
 #[inline(always)]
-fn is_same(one: Option<Answer>, other: Option<Answer>) -> bool
+pub(crate) fn is_same(one: Option<Answer>, other: Option<Answer>) -> bool
     ensures { MatchBool result (one ≡ other) (one ≢ other) }
 {
     one == other
@@ -104,7 +104,7 @@ fn is_same(one: Option<Answer>, other: Option<Answer>) -> bool
 
 // The earlier of two positions.
 #[inline(always)]
-fn earlier(p: Position, q: Position) -> Position
+pub(crate) fn earlier(p: Position, q: Position) -> Position
     ensures { (IsBelow q p × (result ≡ q)) ⊎ (IsAtMost p q × (result ≡ p)) }
 {
     if q.is_below(p) { q } else { p }

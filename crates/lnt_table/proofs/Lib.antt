@@ -1,4 +1,5 @@
 mod CheckLemmas
 mod LawLemmas
+mod StretchLemmas
 mod WriteLemmas
 pub mod OneVerdictLemmas

@@ -1,4 +1,5 @@
 pub mod Headline
 pub mod Laws
+pub mod Stretches
 pub mod Verdicts
 pub mod Written

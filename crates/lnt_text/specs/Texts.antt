@@ -1,11 +1,13 @@
 -- The texts that are printed.
-use Rattle.std.specs.Prelude.{ℕ, List, ◌++◌, codes, decimal, false}
+use Rattle.std.specs.Prelude.{ℕ, List, [], ◌++◌, Option, Some, None, if◌then◌else◌, codes, decimal, false}
 use Rattle.std.specs.Fmt.{digits}
 use Rattle.lnt_wire.specs.declared.fault.Fault.{Fault}
 use Rattle.lnt_wire.specs.declared.fault.Reason.{Reason}
 use Rattle.lnt_wire.specs.declared.fault.Reason.TheVariants.{Truncated, ReservedLength, VersionNotFive, AddressSize, SegmentSelector, HeaderLength, MaxOpsZero, LineRangeZero, OpcodeBaseZero, StandardLength, UnknownForm, EmptyFormat, LebTooLarge, ExtendedLength, Memory}
 use Rattle.lnt_machine.specs.declared.fault.RunFault.{RunFault}
 use Rattle.lnt_machine.specs.declared.fault.RunFault.TheVariants.{LineOutOfRange, OpenSequence, Memory as RunMemory}
+use Rattle.lnt_spans.specs.declared.answer.Answer.{Answer}
+use Rattle.lnt_spans.specs.declared.answer.More.{More}
 use Rattle.lnt_spans.specs.declared.position.Position.{Position}
 
 -- a number by its hexadecimal digits, in lower case and without leading zeros
@@ -15,6 +17,17 @@ hexadecimal n = codes "0x" ++ digits 16 false n
 -- a position
 abbrev pub position_text : Position → List ℕ
 position_text position = hexadecimal position.address ++ codes "," ++ decimal position.op
+
+-- what version 2 of the address table tells above version 1, each behind a comma
+abbrev pub more_text : Option More → List ℕ
+more_text None = []
+more_text (Some more) = codes "," ++ (decimal more.isa ++ (codes "," ++ decimal more.discriminator))
+
+-- what is answered, as the fields of a table's record behind its positions
+abbrev pub answer_text : Option Answer → List ℕ
+answer_text None = codes "none"
+answer_text (Some answer) =
+    decimal answer.unit ++ (codes "," ++ (decimal answer.file ++ (codes "," ++ (decimal answer.line ++ (codes "," ++ (decimal answer.column ++ (codes "," ++ (decimal (if answer.is_stmt then 1 else 0) ++ more_text answer.more))))))))
 
 -- why bytes are refused
 abbrev pub reason_text : Reason → List ℕ

@@ -1,5 +1,8 @@
 //! How answers are printed.
-use lnt_spans::Answer;
+ghost use Rattle.std.specs.Prelude.{Some};
+ghost use Rattle.lnt_text.specs.Texts.{answer_text, more_text};
+
+use lnt_spans::{Answer, More};
 use std::fmt;
 
 /// What is answered, as the fields of a table's record behind its positions, or `none`.
@@ -7,17 +10,28 @@ use std::fmt;
 pub struct AnswerText(pub Option<Answer>);
 
 impl fmt::Display for AnswerText {
+    ghost output = { λ text. Some (answer_text text.0) };
+
     fn fmt<W: fmt::Write>(&self, f: &mut fmt::Formatter<W>) -> fmt::Result {
         let Some(answer) = self.0 else {
             return write!(f, "none");
         };
+        let (unit, file, line, column) = (answer.unit, answer.file, answer.line, answer.column);
         let stmt = u8::from(answer.is_stmt);
-        write!(
-            f,
-            "{},{},{},{},{stmt}",
-            answer.unit, answer.file, answer.line, answer.column
-        )?;
-        match answer.more {
+        let more = MoreText(answer.more);
+        write!(f, "{unit},{file},{line},{column},{stmt}{more}")
+    }
+}
+
+// What version 2 of the address table tells above version 1, each behind a comma.
+#[derive(Clone, Copy)]
+struct MoreText(Option<More>);
+
+impl fmt::Display for MoreText {
+    ghost output = { λ text. Some (more_text text.0) };
+
+    fn fmt<W: fmt::Write>(&self, f: &mut fmt::Formatter<W>) -> fmt::Result {
+        match self.0 {
             Some(more) => write!(f, ",{},{}", more.isa, more.discriminator),
             None => Ok(()),
         }

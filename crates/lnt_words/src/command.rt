@@ -67,6 +67,11 @@ fn check_command<'a>(alloc: Global) -> Result<Command<'a>, AllocError> {
             alloc,
             "TABLE",
             "The file with the address table, or - for standard input",
+        ))?
+        .arg(flag(
+            alloc,
+            "all",
+            "Tells every place where the two answer differently, and not the first alone",
         ))?;
     with_judging(alloc, command)
 }

@@ -38,6 +38,8 @@ pub enum Request<'a> {
         from: Judging<'a>,
         /// The file of the table.
         table: &'a str,
+        /// Whether every place is told where it doesn't.
+        all: bool,
     },
 }
 

@@ -82,6 +82,7 @@ fn request_in<'a>(
         "check" => Ok(Request::Check {
             from: judging_in(alloc, words)?,
             table: word_in(words, "TABLE")?,
+            all: words.get_flag("all"),
         }),
         "lookup" => lookup_in(alloc, words),
         "files" => judge_in(alloc, words, Question::Files),

@@ -1,0 +1,25 @@
+-- What is printed where a table answers otherwise than a section.
+use Rattle.std.specs.Prelude.{ℕ, List, [], ◌∷◌, ◌++◌, codes}
+use Rattle.std.specs.List.{flat_map}
+use Rattle.lnt_files.specs.declared.status.Status.{Status}
+use Rattle.lnt_files.specs.declared.status.Status.TheVariants.{Done, No}
+use Rattle.lnt_spans.specs.declared.difference.Difference.{Difference}
+use Rattle.lnt_text.specs.Texts.{answer_text, position_text}
+
+-- that it does so at a position, with both answers
+abbrev pub difference_text : Difference → List ℕ
+difference_text difference =
+    codes "no 40 differs at " ++ (position_text difference.position ++ (codes " table " ++ (answer_text difference.by_table ++ (codes " section " ++ answer_text difference.by_section))))
+
+abbrev pub difference_line : Difference → List ℕ
+difference_line difference = difference_text difference ++ codes "\n"
+
+-- a line for each stretch, or that there is none
+abbrev pub stretches_text : List Difference → List ℕ
+stretches_text [] = codes "yes\n"
+stretches_text (first ∷ differences) = flat_map difference_line (first ∷ differences)
+
+-- how a run ends that tells them
+abbrev pub stretches_status : List Difference → Status
+stretches_status [] = Done
+stretches_status (first ∷ differences) = No

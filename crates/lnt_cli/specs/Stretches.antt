@@ -1,0 +1,32 @@
+-- What `check` prints where it tells all places at which a table answers otherwise than a good section.
+use Rattle.std.specs.Prelude.{◌≡◌, ℕ, List, Option}
+use Rattle.std.specs.Io.KnownBytes.{Appends}
+use Rattle.lnt_unit.specs.declared.unit.Parts.{Parts}
+use Rattle.lnt_spans.specs.declared.answer.Version.{Version}
+use Rattle.lnt_spans.specs.declared.difference.Difference.{Difference}
+use Rattle.lnt_spans.specs.declared.span.Span.{Span}
+use Rattle.lnt_spans.specs.Spans.{span_answer}
+use Rattle.lnt_spans.specs.Stretches.{AreStretches}
+use Rattle.lnt_records.specs.Faults.{IsFault}
+use Rattle.lnt_records.specs.Table.{IsTableOf}
+use Rattle.lnt_table.specs.Headline.{told_answer}
+use Rattle.lnt_answers.specs.DifferenceLines.{stretches_status, stretches_text}
+use Rattle.lnt_cli.specs.declared.stretches.Stretches.{Stretches}
+use Rattle.lnt_cli.specs.declared.stretches.Stretches.TheVariants.{Faulty, Told}
+use Rattle.lnt_files.specs.declared.status.Status.{Status}
+
+-- The bytes are a table. These are exactly the stretches at which it answers otherwise than the rows of the units, as far as
+-- its version tells, and a writer that held these bytes has gained their lines, or `yes` where there is none.
+pub record AreToldOf (dead : Option ℕ) (units : List (ℕ × Parts)) (table : List ℕ) (old new : Option (List ℕ)) (status : Status) : Type 0 where
+  pub version : Version
+  pub spans : List Span
+  pub is_table : IsTableOf version table spans
+  pub differences : List Difference
+  pub are_stretches : AreStretches (told_answer version dead units) (span_answer spans) differences
+  pub printed : Appends old new (stretches_text differences)
+  pub status_is : status ≡ stretches_status differences
+
+-- That, or the first fault of the bytes.
+abbrev pub AreStretchesOf : Option ℕ → List (ℕ × Parts) → List ℕ → Option (List ℕ) → Option (List ℕ) → Stretches → Type 0
+AreStretchesOf dead units table old new (Faulty told) = IsFault table told
+AreStretchesOf dead units table old new (Told status) = AreToldOf dead units table old new status

@@ -1,0 +1,60 @@
+//! The subcommand `check` where it tells all places.
+ghost use Rattle.std.specs.Prelude.{◌≡◌, ◌-◌, ◌^◌, ◌<◌, ◌+◌, ℕ, List, Option, IfOk, IfSome, IsErrOf};
+ghost use Rattle.lnt_cli.specs.Stretches.{AreStretchesOf};
+ghost use Rattle.lnt_lines.specs.Indexed.{IsIndexOf};
+ghost use Rattle.lnt_unit.specs.declared.unit.Parts.{Parts};
+
+use crate::verdict::TableNoLine;
+use lnt_answers::{halt_of, print_differences};
+use lnt_files::{Halt, Status};
+use lnt_lines::Index;
+use lnt_records::TableFault;
+use lnt_table::{Differing, TableNo, differences};
+use lnt_wire::Source;
+use std::alloc::Global;
+use std::io::Write;
+
+// What was told of a table that is compared with a good section at every position.
+#[derive(Drop)]
+pub(crate) enum Stretches {
+    // It is no table, for this reason.
+    Faulty(TableFault),
+    // It is one, and the places were told where it answers otherwise: `Done` where there is none.
+    Told(Status),
+}
+
+// Prints the No line of each stretch at which the table answers otherwise than a good section, in rising order, or `yes`
+// where there is none; or the line of what is wrong with the table.
+pub(crate) fn print_stretches<T: Source, W: Write>(
+    alloc: Global,
+    table: &mut T,
+    index: &Index<'_>,
+    out: &mut W,
+) -> Result<Stretches, Halt>
+    requires { T.failures table.old < 2 ^ 64 - 1 }
+    ensures told { IfOk result (λ told. (dead : Option ℕ) (units : List (ℕ × Parts)) → IsIndexOf dead units index.now
+        → IfSome (T.remaining table.old) (λ text. AreStretchesOf dead units text (W.contents out.old) (W.contents out.new) told)) }
+    ensures read { IsErrOf result Halt.Read → T.failures table.new ≡ T.failures table.old + 1 }
+{
+    match differences(alloc, table, index) {
+        Ok(Differing::Table(differences)) => {
+            let status = print_differences(differences, out)?;
+            Ok(Stretches::Told(status))
+        }
+        Ok(Differing::Fault(fault)) => {
+            writeln!(out, "{}", TableNoLine(no_of(fault)))?;
+            Ok(Stretches::Faulty(fault))
+        }
+        Err(stop) => Err(halt_of(stop)),
+    }
+}
+
+// The same as a reason.
+fn no_of(fault: TableFault) -> TableNo {
+    match fault {
+        TableFault::Header => TableNo::Header,
+        TableFault::Fields(record) => TableNo::Fields(record),
+        TableFault::Number(record, column) => TableNo::Number { record, column },
+        TableFault::Order(record) => TableNo::Order(record),
+    }
+}

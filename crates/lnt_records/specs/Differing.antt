@@ -1,0 +1,52 @@
+-- A table compared with a section's spans at every position.
+use Rattle.std.specs.Prelude.{◌≡◌, ℕ, List, [], ◌++◌, Option}
+use Rattle.std.specs.Option.{option_map}
+use Rattle.lnt_spans.specs.declared.answer.Answer.{Answer}
+use Rattle.lnt_spans.specs.declared.answer.Version.{Version}
+use Rattle.lnt_spans.specs.declared.listed.SpanList.{SpanList}
+use Rattle.lnt_spans.specs.declared.position.Position.{Position}
+use Rattle.lnt_spans.specs.declared.span.Span.{Span}
+use Rattle.lnt_spans.specs.declared.stretches.Differences.{Differences}
+use Rattle.lnt_spans.specs.Answers.{in_version}
+use Rattle.lnt_spans.specs.Comparing.{end_of}
+use Rattle.lnt_spans.specs.Differing.{HasTold}
+use Rattle.lnt_spans.specs.Spans.{AreInOrder, span_answer, version_answer}
+use Rattle.lnt_records.specs.declared.differing.Differing.{Differing}
+use Rattle.lnt_records.specs.declared.differing.Differing.TheVariants as differing
+use Rattle.lnt_records.specs.declared.remaining.Remaining.{Remaining}
+use Rattle.lnt_records.specs.declared.gather.Gathered.{Gathered}
+use Rattle.lnt_records.specs.declared.gather.Gathered.TheVariants as gathered
+use Rattle.lnt_records.specs.Faults.{IsFault}
+use Rattle.lnt_records.specs.Table.{IsTableOf}
+
+-- The bytes are a table, and the stretches at which it answers otherwise than a section, as far as its version tells, come
+-- one after another.
+pub record DiffersAlong {S T : Type 0} (of_section : S → List Span → Type 0) (of_table : T → List Span → Type 0) (bytes : List ℕ) (section : Position → Option Answer) (differences : Differences S T) : Type 0 where
+  pub version : Version
+  pub table : List Span
+  pub is_table : IsTableOf version bytes table
+  pub told : HasTold of_section of_table differences (λ p. option_map (in_version version) (section p)) (span_answer table) []
+
+-- That, or the first fault of the bytes.
+abbrev pub IsDiffering : {S : Type 0} → (Remaining S → List Span → Type 0) → (SpanList → List Span → Type 0) → List ℕ → (Position → Option Answer) → Differing S → Type 0
+IsDiffering of_section of_table bytes section (differing.Fault told) = IsFault bytes told
+IsDiffering of_section of_table bytes section (differing.Table differences) = DiffersAlong of_section of_table bytes section differences
+
+-- Where it is a table, no stretch is told yet.
+abbrev pub IsStarted : {S : Type 0} → (Remaining S → List Span → Type 0) → (SpanList → List Span → Type 0) → Differing S → Type 0
+IsStarted of_section of_table (differing.Fault told) = Unit {0}
+IsStarted of_section of_table (differing.Table differences) =
+    (by_section : Position → Option Answer) × (by_table : Position → Option Answer) × HasTold of_section of_table differences by_section by_table []
+
+-- Behind the records of these spans the bytes have records of these others, or a fault. The bodies of this crate use it
+-- among themselves.
+abbrev pub IsGathered : List ℕ → Version → List Span → Gathered → Type 0
+IsGathered bytes version table (gathered.Fault told) = IsFault bytes told
+IsGathered bytes version table (gathered.Spans spans) = IsTableOf version bytes (table ++ spans.items)
+
+-- Behind these first spans of a list in order, which end at the position, the others are to come, and it answers as the
+-- section does, as the version tells answers.
+pub record GoesOn (version : Version) (section : Position → Option Answer) (table rest : List Span) (at : Position) : Type 0 where
+  pub order : AreInOrder (table ++ rest)
+  pub same : (p : Position) → version_answer version (table ++ rest) p ≡ option_map (in_version version) (section p)
+  pub end_is : at ≡ end_of table

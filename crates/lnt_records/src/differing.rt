@@ -1,0 +1,127 @@
+//! A table compared with the spans of a section at every position.
+ghost use Rattle.std.specs.Prelude.{◌≡◌, ◌≢◌, ◌+◌, ◌-◌, ◌^◌, ◌<◌, ℕ, List, Option, IfOk, IfSome, IsErrOf, IsTrue};
+ghost use Rattle.lnt_spans.specs.declared.span.Span.{Span};
+ghost use Rattle.lnt_spans.specs.declared.answer.Answer.{Answer};
+ghost use Rattle.lnt_spans.specs.declared.position.Position.{Position as Place};
+ghost use Rattle.lnt_spans.specs.Spans.{AreInOrder, span_answer};
+ghost use Rattle.lnt_wire.specs.Pulling.{HasMoreThan};
+ghost use Rattle.lnt_records.specs.Differing.{GoesOn, IsDiffering, IsGathered, IsStarted};
+
+use crate::comparison::header_of;
+use crate::fault::{TableFault, TableStop};
+use crate::gather::{Gathered, gather_behind};
+use crate::header::header_line;
+use crate::lines::pass_header;
+use crate::passing::pass_spans;
+use crate::remaining::Remaining;
+use crate::window::Window;
+use lnt_spans::{Differences, Merge, Position, SpanList, SpanSlice, SpanSource, Version};
+use lnt_wire::{Source, SourceStop};
+use std::alloc::Global;
+
+/// What a comparison at every position found.
+#[derive(Drop)]
+pub enum Differing<S> {
+    /// The bytes are no table: this is the first fault.
+    Fault(TableFault),
+    /// The bytes are a table, and the stretches at which it answers otherwise than the spans come one after another.
+    Table(Differences<Remaining<S>, SpanList>),
+}
+
+/// Compares the table that a source has to give with the spans of a section, at every position.
+///
+/// `Fault`: the bytes are no table, as `compare_table` tells. `Table`: they are one, and the stretches at which the two
+/// answer otherwise, as the table's version tells answers, come one after another.
+///
+/// As long as the table's lines are those that `write_canonical` writes of the spans, they are compared as text, and
+/// neither read nor held, as `compare_table` does. The records from there on are read by `csv`, of bytes held at once, and
+/// their spans are held: whether all records are well formed is known only at the end of the table.
+///
+/// The caller sees to it that the spans are in order and none is empty, and that the number of the source's failures is
+/// below `u64::MAX`. It stops as `compare_table` does.
+pub fn compare_all<S: SpanSource + Drop, T: Source>(
+    alloc: Global,
+    table: &mut T,
+    spans: S,
+) -> Result<Differing<S>, SourceStop>
+    requires failures { T.failures table.old < 2 ^ 64 - 1 }
+    requires spans { (list : List Span) × S.to_come spans list × AreInOrder list }
+    ensures ok { IfOk result (λ differing. (list : List Span) (section : Place → Option Answer) → S.to_come spans list → AreInOrder list → ((p : Place) → span_answer list p ≡ section p)
+        → IfSome (T.remaining table.old) (λ bytes. IsDiffering ⟦<Remaining<S> as SpanSource>⟧.to_come ⟦<SpanList as SpanSource>⟧.to_come bytes section differing)) }
+    ensures started { IfOk result (λ differing. IsStarted ⟦<Remaining<S> as SpanSource>⟧.to_come ⟦<SpanList as SpanSource>⟧.to_come differing) }
+    ensures read { IsErrOf result SourceStop.Read → T.failures table.new ≡ T.failures table.old + 1 }
+    ensures no_failure { result ≢ Err SourceStop.Read → T.failures table.new ≡ T.failures table.old }
+    ensures too_long { IsErrOf result SourceStop.TooLong → IsTrue (T.too_long table.new) }
+    ensures more { IsErrOf result SourceStop.TooLong → HasMoreThan (T.remaining table.old) (T.left table.old) }
+{
+    // A table has no more records than its source may give bytes, and their number fits.
+    let _may_give = table.left();
+    let mut window = Window::new(alloc);
+    window.fill(alloc, table)?;
+    let Some(version) = pass_header(&mut window) else {
+        let text = window.rest_behind(alloc, &[], table)?;
+        return told(compare_text(alloc, &text, spans));
+    };
+    let passed = pass_spans(alloc, spans, version, table, &mut window)?;
+    let text = window.rest_behind(alloc, header_line(version), table)?;
+    let merge = Merge::behind(SpanSlice::of(&[]), version, passed.end);
+    let gathered = gather_behind(alloc, &text, merge, version, passed.count);
+    told(differ_behind(gathered, passed.spans, version, passed.end))
+}
+
+// The same of a table in memory.
+fn compare_text<S: SpanSource + Drop>(
+    alloc: Global,
+    text: &[u8],
+    spans: S,
+) -> Result<Differing<S>, TableStop>
+    requires { (list : List Span) × S.to_come spans list × AreInOrder list }
+    ensures started { IfOk result (λ differing. IsStarted ⟦<Remaining<S> as SpanSource>⟧.to_come ⟦<SpanList as SpanSource>⟧.to_come differing) }
+    ensures differing { IfOk result (λ differing. (list : List Span) (section : Place → Option Answer) → S.to_come spans list → AreInOrder list → ((p : Place) → span_answer list p ≡ section p)
+        → IsDiffering ⟦<Remaining<S> as SpanSource>⟧.to_come ⟦<SpanList as SpanSource>⟧.to_come text.now section differing) }
+{
+    let Some(version) = header_of(alloc, text)? else {
+        return Ok(Differing::Fault(TableFault::Header));
+    };
+    let merge = Merge::new(SpanSlice::of(&[]), version);
+    let gathered = gather_behind(alloc, text, merge, version, 1);
+    let all = Remaining {
+        first: None,
+        second: None,
+        spans,
+        is_ended: false,
+        version,
+    };
+    differ_behind(gathered, all, version, Position { address: 0, op: 0 })
+}
+
+// What was gathered of a table's records, compared with the spans that come behind those that both begin with.
+fn differ_behind<S: SpanSource + Drop>(
+    gathered: Result<Gathered, TableStop>,
+    spans: Remaining<S>,
+    version: Version,
+    at: Position,
+) -> Result<Differing<S>, TableStop>
+    ensures { IfOk result (λ differing. (bytes : List ℕ) (section : Place → Option Answer) (table rest : List Span) → IfOk gathered (IsGathered bytes version table) → GoesOn version section table rest at
+        → ⟦<Remaining<S> as SpanSource>⟧.to_come spans rest → IsDiffering ⟦<Remaining<S> as SpanSource>⟧.to_come ⟦<SpanList as SpanSource>⟧.to_come bytes section differing) }
+{
+    match gathered? {
+        Gathered::Fault(fault) => Ok(Differing::Fault(fault)),
+        Gathered::Spans(records) => {
+            let records = SpanList::of(records);
+            Ok(Differing::Table(Differences::behind(spans, records, version, at)))
+        }
+    }
+}
+
+// What a comparison of bytes in memory tells.
+fn told<S>(compared: Result<Differing<S>, TableStop>) -> Result<Differing<S>, SourceStop>
+    ensures ok { IfOk result (λ it. compared ≡ Ok it) }
+    ensures not_read { IsErrOf result SourceStop.Read → ⊥ }
+    ensures not_long { IsErrOf result SourceStop.TooLong → ⊥ }
+{
+    match compared {
+        Ok(compared) => Ok(compared),
+        Err(TableStop::Memory) => Err(SourceStop::Memory),
+    }
+}

@@ -1,0 +1,82 @@
+-- How far the stretches of a section and a table are told.
+use Rattle.std.specs.Prelude.{◌≡◌, ◌≢◌, ◌⊎◌, ℕ, ◌+◌, List, [], ◌∷◌, ◌++◌, Option, Some, None, cond}
+use Rattle.std.specs.List.{AllByRecursion}
+use Rattle.lnt_spans.specs.declared.answer.Answer.{Answer}
+use Rattle.lnt_spans.specs.declared.answer.Version.{Version}
+use Rattle.lnt_spans.specs.declared.difference.Difference.{Difference}
+use Rattle.lnt_spans.specs.declared.position.Position.{Position}
+use Rattle.lnt_spans.specs.declared.span.Span.{Span}
+use Rattle.lnt_spans.specs.declared.stretches.Differences.{Differences}
+use Rattle.lnt_spans.specs.declared.stretches.Step.{Step}
+use Rattle.lnt_spans.specs.declared.stretches.Step.TheVariants.{Ended, Known, Told}
+use Rattle.lnt_spans.specs.declared.ahead.Ahead.{Ahead}
+use Rattle.lnt_spans.specs.Ahead.{count_ahead, gap_before, IsAhead}
+use Rattle.lnt_spans.specs.Positions.{IsBelow, IsAtMost, is_below}
+use Rattle.lnt_spans.specs.Scanning.{EndsBehind}
+use Rattle.lnt_spans.specs.Spans.{AreInOrder, version_answer}
+use Rattle.lnt_spans.specs.Stretches.{AreAnswers, AreRising, AreStretches, BeginsStretch, IsInOne, Stay}
+
+-- ---- one side
+
+-- These spans are still to come, and from the position on they answer as the function does, as the version tells answers.
+pub record IsSide {S : Type 0} (to_come : S → List Span → Type 0) (version : Version) (ahead : Ahead S) (at : Position) (answers : Position → Option Answer) : Type 0 where
+  pub rest : List Span
+  pub coming : IsAhead to_come ahead rest
+  pub order : AreInOrder rest
+  pub behind : EndsBehind at rest
+  pub same : (p : Position) → IsAtMost at p → version_answer version rest p ≡ answers p
+
+-- The position isn't behind the end, where there is one.
+abbrev pub IsUpTo : Position → Option Position → Type 0
+IsUpTo p None = Unit {0}
+IsUpTo p (Some end) = IsAtMost p end
+
+-- It is below the end, where there is one.
+abbrev pub IsBefore : Position → Option Position → Type 0
+IsBefore p None = Unit {0}
+IsBefore p (Some end) = IsBelow p end
+
+-- From a position on up to the end, which is behind it, or at all of them, this is answered.
+pub record IsRun (answers : Position → Option Answer) (at : Position) (answer : Option Answer) (end : Option Position) : Type 0 where
+  pub behind : IsBefore at end
+  pub says : (p : Position) → IsAtMost at p → IsBefore p end → answers p ≡ answer
+
+-- where the answer at a position may end, if this span is next
+abbrev pub run_end : Position → Option Span → Option Position
+run_end at None = None
+run_end at (Some span) = Some (cond (is_below at span.low) span.low span.high)
+
+-- so many runs are left at most, where the source has at most `left` spans
+abbrev pub runs_left : Position → Option Span → ℕ → ℕ
+runs_left at next left = count_ahead next left + count_ahead next left + gap_before at next
+
+-- ---- both sides
+
+-- From the position on, as long as these two answers stay, one of the stretches holds them.
+abbrev pub IsOpen : (Position → Option Answer) → (Position → Option Answer) → Position → Option Answer → Option Answer → List Difference → Type 0
+IsOpen by_section by_table at section table told =
+    (p : Position) → IsAtMost at p → Stay by_section by_table section table at p → AreAnswers by_section by_table section table p → IsInOne by_section by_table told p
+
+-- What is told so far of the stretches below a position.
+pub record AreToldBelow (by_section by_table : Position → Option Answer) (at : Position) (section table : Option Answer) (told : List Difference) : Type 0 where
+  pub each : AllByRecursion (BeginsStretch by_section by_table) told
+  pub rising : AreRising told
+  pub below : AllByRecursion (λ difference. IsBelow difference.position at) told
+  pub all : (p : Position) → IsBelow p at → (by_section p ≡ by_table p) ⊎ IsInOne by_section by_table told p
+  -- these two were the last answers: if they differ, the last stretch goes on as long as they stay
+  pub going : (section ≡ table) ⊎ IsOpen by_section by_table at section table told
+  -- right below the position the two answer so, or alike
+  pub last : (p : Position) → IsBelow p at
+      → (q : Position) × IsAtMost p q × IsBelow q at × ((by_section q ≡ by_table q) ⊎ AreAnswers by_section by_table section table q)
+
+-- Of the stretches these are told, and the sources have the spans to come from there on.
+pub record HasTold {S T : Type 0} (of_section : S → List Span → Type 0) (of_table : T → List Span → Type 0) (differences : Differences S T) (by_section by_table : Position → Option Answer) (told : List Difference) : Type 0 where
+  pub section : IsSide of_section differences.version differences.section differences.at by_section
+  pub table : IsSide of_table differences.version differences.table differences.at by_table
+  pub below : AreToldBelow by_section by_table differences.at differences.by_section differences.by_table told
+
+-- what one step brings
+abbrev pub Steps : {S T : Type 0} → (S → List Span → Type 0) → (T → List Span → Type 0) → Differences S T → (Position → Option Answer) → (Position → Option Answer) → List Difference → Step → Type 0
+Steps of_section of_table differences by_section by_table told Ended = AreStretches by_section by_table told
+Steps of_section of_table differences by_section by_table told Known = HasTold of_section of_table differences by_section by_table told
+Steps of_section of_table differences by_section by_table told (Told difference) = HasTold of_section of_table differences by_section by_table (told ++ difference ∷ [])

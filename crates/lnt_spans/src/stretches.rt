@@ -1,0 +1,202 @@
+//! All stretches of positions at which a section and a table answer differently, one after another.
+ghost use Rattle.std.specs.Prelude.{◌≡◌, ◌≢◌, ◌⊎◌, ◌+◌, ◌<◌, ◌≤◌, List, [], ◌∷◌, ◌++◌, None, Option, Some, MatchOption, IfSome};
+ghost use Rattle.std.specs.Bool.{MatchBool};
+ghost use Rattle.std.specs.List.{AllByRecursion};
+ghost use Rattle.lnt_spans.specs.declared.answer.Answer as spec_answer;
+ghost use Rattle.lnt_spans.specs.declared.answer.Version as spec_version;
+ghost use Rattle.lnt_spans.specs.declared.difference.Difference as spec_difference;
+ghost use Rattle.lnt_spans.specs.declared.position.Position as spec_position;
+ghost use Rattle.lnt_spans.specs.declared.span.Span as spec;
+ghost use Rattle.lnt_spans.specs.declared.stretches.Step.TheVariants as step;
+ghost use Rattle.lnt_spans.specs.Ahead.{BeginsWith};
+ghost use Rattle.lnt_spans.specs.Comparing.{IsTold, end_of};
+ghost use Rattle.lnt_spans.specs.Differing.{HasTold, IsRun, IsSide, IsUpTo, Steps, run_end, runs_left};
+ghost use Rattle.lnt_spans.specs.Positions.{IsBelow, IsAtMost};
+ghost use Rattle.lnt_spans.specs.Scanning.{EndsBehind};
+ghost use Rattle.lnt_spans.specs.Spans.{AreInOrder, span_answer, version_answer};
+ghost use Rattle.lnt_spans.specs.Stretches.{AreStretches};
+
+use crate::ahead::Ahead;
+use crate::answer::{Answer, Version};
+use crate::difference::Difference;
+use crate::position::Position;
+use crate::scan::{earlier, is_same};
+use crate::source::SpanSource;
+use crate::span::Span;
+
+/// The stretches of positions at which a section and a table answer differently and stay the same two, as the spans of
+/// both come, each from a source of its own.
+///
+/// Contracts see which of the stretches were told (`HasTold`). No list of them is held: only the next span of each side,
+/// and the last two answers. It takes no memory.
+#[derive(Drop)]
+pub struct Differences<S, T> {
+    version: Version,
+    section: Ahead<S>,
+    table: Ahead<T>,
+    // all stretches that begin below it are told
+    at: Position,
+    // what was answered up to there
+    by_section: Option<Answer>,
+    by_table: Option<Answer>,
+}
+
+// What is answered up to an end, if there is one.
+#[derive(Clone, Copy)]
+struct Run {
+    answer: Option<Answer>,
+    end: Option<Position>,
+}
+
+// What is known where both answers were followed to where one of them ends.
+#[derive(Clone, Copy)]
+enum Step {
+    // They never end: both sides are through.
+    Ended,
+    // No stretch begins there.
+    Known,
+    // This one does.
+    Told(Difference),
+}
+
+impl<S: SpanSource, T: SpanSource> Differences<S, T> {
+    /// No stretch is told of a section and a table that begin with the same spans, which end at a position, and of which the
+    /// sources have those behind them. The caller sees to it that the spans of both are in order, none is empty, and those
+    /// of the table answer as the version tells answers. With no span before them the position is the origin.
+    pub fn behind(section: S, table: T, version: Version, at: Position) -> Differences<S, T>
+        ensures { (by_section : spec_position.Position → Option spec_answer.Answer) (passed spans records : List spec.Span) → S.to_come section spans → T.to_come table records
+            → AreInOrder (passed ++ spans) → AreInOrder (passed ++ records) → AllByRecursion (IsTold version) (passed ++ records) → at ≡ end_of passed
+            → ((p : spec_position.Position) → version_answer version (passed ++ spans) p ≡ by_section p)
+            → HasTold S.to_come T.to_come result by_section (span_answer (passed ++ records)) [] }
+    {
+        Differences {
+            version,
+            section: Ahead::of(section),
+            table: Ahead::of(table),
+            at,
+            by_section: None,
+            by_table: None,
+        }
+    }
+
+    /// The next stretch: its first position, and the two answers. None where all are told, and these are then exactly the
+    /// stretches, in rising order.
+    pub fn next_difference(&mut self) -> Option<Difference>
+        requires { (by_section : spec_position.Position → Option spec_answer.Answer) × (by_table : spec_position.Position → Option spec_answer.Answer) × (told : List spec_difference.Difference)
+            × HasTold S.to_come T.to_come self.old by_section by_table told }
+        ensures told { (by_section by_table : spec_position.Position → Option spec_answer.Answer) (told : List spec_difference.Difference) → HasTold S.to_come T.to_come self.old by_section by_table told
+            → MatchOption result (AreStretches by_section by_table told) (λ difference. HasTold S.to_come T.to_come self.new by_section by_table (told ++ difference ∷ [])) }
+        ensures fewer { IfSome result (λ _. runs_left self.new.at self.new.section.next (S.left self.new.section.spans) + runs_left self.new.at self.new.table.next (T.left self.new.table.spans)
+            < runs_left self.old.at self.old.section.next (S.left self.old.section.spans) + runs_left self.old.at self.old.table.next (T.left self.old.table.spans)) }
+    {
+        loop {
+            match self.step() {
+                Step::Ended => return None,
+                Step::Known => {}
+                Step::Told(difference) => return Some(difference),
+            }
+        }
+    }
+
+    // Goes on to where one of the two answers ends.
+    fn step(&mut self) -> Step
+        requires { (by_section : spec_position.Position → Option spec_answer.Answer) × (by_table : spec_position.Position → Option spec_answer.Answer) × (told : List spec_difference.Difference)
+            × HasTold S.to_come T.to_come self.old by_section by_table told }
+        ensures told { (by_section by_table : spec_position.Position → Option spec_answer.Answer) (told : List spec_difference.Difference) → HasTold S.to_come T.to_come self.old by_section by_table told
+            → Steps S.to_come T.to_come self.new by_section by_table told result }
+        ensures fewer { result ≢ step.Ended → runs_left self.new.at self.new.section.next (S.left self.new.section.spans) + runs_left self.new.at self.new.table.next (T.left self.new.table.spans)
+            < runs_left self.old.at self.old.section.next (S.left self.old.section.spans) + runs_left self.old.at self.old.table.next (T.left self.old.table.spans) }
+    {
+        let at = self.at;
+        let section = run_at(self.version, self.section.next, at);
+        let table = run_at(self.version, self.table.next, at);
+        let Some(end) = earlier_end(section.end, table.end) else {
+            return Step::Ended;
+        };
+        let is_known = is_known(section.answer, table.answer, self.by_section, self.by_table);
+        pass_to(&mut self.section, end);
+        pass_to(&mut self.table, end);
+        self.at = end;
+        self.by_section = section.answer;
+        self.by_table = table.answer;
+        if is_known {
+            return Step::Known;
+        }
+        Step::Told(Difference {
+            position: at,
+            by_table: table.answer,
+            by_section: section.answer,
+        })
+    }
+}
+
+// What is answered from a position on, as a version tells answers, and where that ends, if it does.
+fn run_at(version: Version, next: Option<Span>, at: Position) -> Run
+    ensures end { result.end ≡ run_end at next }
+    ensures run { (spans : List spec.Span) → BeginsWith next spans → AreInOrder spans → EndsBehind at spans → IsRun (version_answer version spans) at result.answer result.end }
+{
+    let Some(span) = next else {
+        return Run {
+            answer: None,
+            end: None,
+        };
+    };
+    if at.is_below(span.low) {
+        return Run {
+            answer: None,
+            end: Some(span.low),
+        };
+    }
+    Run {
+        answer: Some(span.answer.in_version(version)),
+        end: Some(span.high),
+    }
+}
+
+// The earlier of two ends, where there is one.
+fn earlier_end(one: Option<Position>, other: Option<Position>) -> Option<Position>
+    ensures { MatchOption result ((one ≡ None) × (other ≡ None)) (λ end. IsUpTo end one × IsUpTo end other × ((one ≡ Some end) ⊎ (other ≡ Some end))) }
+{
+    let Some(first) = one else {
+        return other;
+    };
+    let Some(second) = other else {
+        return one;
+    };
+    Some(earlier(first, second))
+}
+
+// Goes on past the next span, if it ends there.
+fn pass_to<S: SpanSource>(ahead: &mut Ahead<S>, end: Position)
+    ensures side { (version : spec_version.Version) (at : spec_position.Position) (answers : spec_position.Position → Option spec_answer.Answer) → IsSide S.to_come version ahead.old at answers → IsAtMost at end → IsUpTo end (run_end at ahead.old.next)
+        → IsSide S.to_come version ahead.new end answers }
+    ensures fewer { (at : spec_position.Position) → IsAtMost at end → IsUpTo end (run_end at ahead.old.next)
+        → (runs_left end ahead.new.next (S.left ahead.new.spans) ≤ runs_left at ahead.old.next (S.left ahead.old.spans))
+        × (run_end at ahead.old.next ≡ Some end → runs_left end ahead.new.next (S.left ahead.new.spans) < runs_left at ahead.old.next (S.left ahead.old.spans)) }
+{
+    let Some(span) = ahead.next else {
+        return;
+    };
+    if !end.is_below(span.high) {
+        ahead.pass();
+    }
+}
+
+// Whether two answers are alike, or both as they were.
+fn is_known(
+    section: Option<Answer>,
+    table: Option<Answer>,
+    section_before: Option<Answer>,
+    table_before: Option<Answer>,
+) -> bool
+    ensures { MatchBool result ((section ≡ table) ⊎ (section ≡ section_before) × (table ≡ table_before))
+        ((table ≢ section) × (section ≡ section_before → table ≡ table_before → ⊥)) }
+{
+    if is_same(section, table) {
+        return true;
+    }
+    if !is_same(section, section_before) {
+        return false;
+    }
+    is_same(table, table_before)
+}

@@ -1,0 +1,28 @@
+-- All places where a table answers otherwise than a section's rows.
+use Rattle.std.specs.Prelude.{ℕ, List, [], Option}
+use Rattle.lnt_unit.specs.declared.unit.Parts.{Parts}
+use Rattle.lnt_spans.specs.declared.answer.Version.{Version}
+use Rattle.lnt_spans.specs.declared.listed.SpanList.{SpanList}
+use Rattle.lnt_spans.specs.declared.span.Span.{Span}
+use Rattle.lnt_spans.specs.declared.stretches.Differences.{Differences}
+use Rattle.lnt_spans.specs.Differing.{HasTold}
+use Rattle.lnt_spans.specs.Spans.{span_answer}
+use Rattle.lnt_records.specs.declared.differing.Differing.{Differing}
+use Rattle.lnt_records.specs.declared.differing.Differing.TheVariants.{Fault, Table}
+use Rattle.lnt_records.specs.declared.remaining.Remaining.{Remaining}
+use Rattle.lnt_records.specs.Faults.{IsFault}
+use Rattle.lnt_records.specs.Table.{IsTableOf}
+use Rattle.lnt_table.specs.Headline.{told_answer}
+
+-- The bytes are a table, and the stretches at which it answers otherwise than the rows of the units, as far as its version
+-- tells, come one after another: no stretch is told yet.
+pub record DiffersFromUnits {S T : Type 0} (of_section : S → List Span → Type 0) (of_table : T → List Span → Type 0) (dead : Option ℕ) (units : List (ℕ × Parts)) (table : List ℕ) (differences : Differences S T) : Type 0 where
+  pub version : Version
+  pub spans : List Span
+  pub is_table : IsTableOf version table spans
+  pub told : HasTold of_section of_table differences (told_answer version dead units) (span_answer spans) []
+
+-- That, or the first fault of the bytes.
+abbrev pub IsDifferingFrom : {S : Type 0} → (Remaining S → List Span → Type 0) → (SpanList → List Span → Type 0) → Option ℕ → List (ℕ × Parts) → List ℕ → Differing S → Type 0
+IsDifferingFrom of_section of_table dead units table (Fault told) = IsFault table told
+IsDifferingFrom of_section of_table dead units table (Table differences) = DiffersFromUnits of_section of_table dead units table differences
