@@ -1,5 +1,5 @@
 -- What `check` prints where it tells all places at which a table answers otherwise than a good section.
-use Rattle.std.specs.Prelude.{◌≡◌, ℕ, List, Option}
+use Rattle.std.specs.Prelude.{◌≡◌, Bool, ℕ, List, Option}
 use Rattle.std.specs.Io.KnownBytes.{Appends}
 use Rattle.lnt_unit.specs.declared.unit.Parts.{Parts}
 use Rattle.lnt_spans.specs.declared.answer.Version.{Version}
@@ -17,16 +17,16 @@ use Rattle.lnt_files.specs.declared.status.Status.{Status}
 
 -- The bytes are a table. These are exactly the stretches at which it answers otherwise than the rows of the units, as far as
 -- its version tells, and a writer that held these bytes has gained their lines, or `yes` where there is none.
-pub record AreToldOf (dead : Option ℕ) (units : List (ℕ × Parts)) (table : List ℕ) (old new : Option (List ℕ)) (status : Status) : Type 0 where
+pub record AreToldOf (dead : Option ℕ) (skip : Bool) (units : List (ℕ × Parts)) (table : List ℕ) (old new : Option (List ℕ)) (status : Status) : Type 0 where
   pub version : Version
   pub spans : List Span
   pub is_table : IsTableOf version table spans
   pub differences : List Difference
-  pub are_stretches : AreStretches (told_answer version dead units) (span_answer spans) differences
+  pub are_stretches : AreStretches (told_answer version dead skip units) (span_answer spans) differences
   pub printed : Appends old new (stretches_text differences)
   pub status_is : status ≡ stretches_status differences
 
 -- That, or the first fault of the bytes.
 abbrev pub AreStretchesOf : Option ℕ → List (ℕ × Parts) → List ℕ → Option (List ℕ) → Option (List ℕ) → Stretches → Type 0
-AreStretchesOf dead units table old new (Faulty told) = IsFault table told
-AreStretchesOf dead units table old new (Told status) = AreToldOf dead units table old new status
+AreStretchesOf dead skip units table old new (Faulty told) = IsFault table told
+AreStretchesOf dead skip units table old new (Told status) = AreToldOf dead skip units table old new status

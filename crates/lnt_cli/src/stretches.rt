@@ -1,5 +1,5 @@
 //! The subcommand `check` where it tells all places.
-ghost use Rattle.std.specs.Prelude.{◌≡◌, ◌-◌, ◌^◌, ◌<◌, ◌+◌, ℕ, List, Option, IfOk, IfSome, IsErrOf};
+ghost use Rattle.std.specs.Prelude.{◌≡◌, ◌-◌, ◌^◌, ◌<◌, ◌+◌, Bool, ℕ, List, Option, IfOk, IfSome, IsErrOf};
 ghost use Rattle.lnt_cli.specs.Stretches.{AreStretchesOf};
 ghost use Rattle.lnt_lines.specs.Indexed.{IsIndexOf};
 ghost use Rattle.lnt_unit.specs.declared.unit.Parts.{Parts};
@@ -32,8 +32,8 @@ pub(crate) fn print_stretches<T: Source, W: Write>(
     out: &mut W,
 ) -> Result<Stretches, Halt>
     requires { T.failures table.old < 2 ^ 64 - 1 }
-    ensures told { IfOk result (λ told. (dead : Option ℕ) (units : List (ℕ × Parts)) → IsIndexOf dead units index.now
-        → IfSome (T.remaining table.old) (λ text. AreStretchesOf dead units text (W.contents out.old) (W.contents out.new) told)) }
+    ensures told { IfOk result (λ told. (dead : Option ℕ) (skip : Bool) (units : List (ℕ × Parts)) → IsIndexOf dead skip units index.now
+        → IfSome (T.remaining table.old) (λ text. AreStretchesOf dead skip units text (W.contents out.old) (W.contents out.new) told)) }
     ensures read { IsErrOf result Halt.Read → T.failures table.new ≡ T.failures table.old + 1 }
 {
     match differences(alloc, table, index) {

@@ -1,5 +1,5 @@
 //! A table compared with a good section at every position.
-ghost use Rattle.std.specs.Prelude.{◌≡◌, ◌≢◌, ◌+◌, ◌-◌, ◌^◌, ◌<◌, ℕ, List, Option, IfOk, IfSome, IsErrOf};
+ghost use Rattle.std.specs.Prelude.{◌≡◌, ◌≢◌, ◌+◌, ◌-◌, ◌^◌, ◌<◌, Bool, ℕ, List, Option, IfOk, IfSome, IsErrOf};
 ghost use Rattle.lnt_lines.specs.Indexed.{IsIndexOf};
 ghost use Rattle.lnt_lines.specs.declared.stop.Stop.TheVariants.{Read, TooLong};
 ghost use Rattle.lnt_records.specs.Differing.{IsStarted};
@@ -28,8 +28,8 @@ pub fn differences<'i, T: Source>(
     index: &'i Index<'_>,
 ) -> Result<Differing<Spans<'i>>, Stop>
     requires { T.failures table.old < 2 ^ 64 - 1 }
-    ensures ok { IfOk result (λ differing. (dead : Option ℕ) (units : List (ℕ × Parts)) → IsIndexOf dead units index.entry.now → IfSome (T.remaining table.old) (λ text.
-        IsDifferingFrom ⟦<Remaining<Spans<'i>> as SpanSource>⟧.to_come ⟦<SpanList as SpanSource>⟧.to_come dead units text differing)) }
+    ensures ok { IfOk result (λ differing. (dead : Option ℕ) (skip : Bool) (units : List (ℕ × Parts)) → IsIndexOf dead skip units index.entry.now → IfSome (T.remaining table.old) (λ text.
+        IsDifferingFrom ⟦<Remaining<Spans<'i>> as SpanSource>⟧.to_come ⟦<SpanList as SpanSource>⟧.to_come dead skip units text differing)) }
     ensures started { IfOk result (λ differing. IsStarted ⟦<Remaining<Spans<'i>> as SpanSource>⟧.to_come ⟦<SpanList as SpanSource>⟧.to_come differing) }
     ensures read { IsErrOf result Stop.Read → T.failures table.new ≡ T.failures table.old + 1 }
     ensures no_failure { result ≢ Err Stop.Read → T.failures table.new ≡ T.failures table.old }

@@ -5,10 +5,10 @@ use Rattle.lnt_table.proofs.stretches.differences.Goals as goal
 pub compare_all-requires-clause-spans : goal.compare_all-requires-clause-spans
 compare_all-requires-clause-spans g c =
     let known = c.spans.ensures.is_index in
-    let all = c.spans.ensures.gives known.dead known.units known.index_is in
+    let all = c.spans.ensures.gives known.dead known.skip known.units known.index_is in
     (all.spans, all.to_come, all.in_order)
 
 pub returns-in-Ok-clause-ok : goal.returns-in-Ok-clause-ok
-returns-in-Ok-clause-ok g c dead units is =
-    let all = c.spans.ensures.gives dead units is in
-    from_units _ _ dead units (g.T.Source.remaining c.args.table.now) c.in-Ok.differing (c.in-Ok.ensures.ok all.spans (line_answer dead units) all.to_come all.in_order all.answers)
+returns-in-Ok-clause-ok g c dead skip units is =
+    let all = c.spans.ensures.gives dead skip units is in
+    from_units _ _ dead skip units (g.T.Source.remaining c.args.table.now) c.in-Ok.differing (c.in-Ok.ensures.ok all.spans (line_answer dead skip units) all.to_come all.in_order all.answers)
