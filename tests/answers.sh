@@ -383,6 +383,9 @@ is_bad 'sequences that overlap, of which one is not the next' 'no 32 overlap 0x0
   "$(program "${at_1000}010206$end${at_2000}010201$end${at_1005}010203$end${at_1005}010201$end")"
 same=$(program "010204${end}0202${end}$(at 0000000000000008)010204${end}010204$end")
 is_bad 'one sequence twice, and two between' 'no 32 overlap 0x0:0 0x0:3 at 0x0,0' "$same"
+agrees 'one sequence twice, skipped, and two between' "$same" "$names"$'0x0,0,0x4,0,0,1,1,0,1\n0x8,0,0xc,0,0,1,1,0,1\n' --skip-copies
+is_bad 'sequences that overlap, and are no copies' 'no 32 overlap 0x0:0 0x0:1 at 0x1005,0' \
+  "$(program "${at_1000}010206$end${at_1005}010201$end")" --skip-copies
 agrees 'one sequence twice, dead, and two between' "$same" "$names"$'0x8,0,0xc,0,0,1,1,0,1\n' --dead 0x0
 
 # ---- tables written

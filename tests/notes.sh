@@ -88,12 +88,15 @@ notes 'no general strings, with others' 1 $'no 28 string outside unit 0x0 direct
 
 # ---- discarded code
 
+# Sequences of one size that begin at 0 hold the same positions too.
+copies='the two hold the same positions, as where a linker kept one of several copies of some code; --skip-copies leaves out the others'
 sections=(examples/gc-sections.debug_line --line-str examples/gc-sections.debug_line_str)
 count=$("$program" dump --rows examples/gc-sections.debug_line |
   awk '$1 == "unit" { begins = 1 } $1 == "row" { if (begins && $3 == "0x0") n++; begins = $9 ~ /e/ } END { print n }')
 overlap=$("$program" verify "${sections[@]}" --quiet)
 notes 'discarded code' 1 "$overlap"$'\n' '' \
-  "sequences begin at 0x0, where linkers leave discarded code ($count of them); --dead 0x0 leaves them out" verify "${sections[@]}"
+  "sequences begin at 0x0, where linkers leave discarded code ($count of them); --dead 0x0 leaves them out"$'\n'"linetab: note: $copies" \
+  verify "${sections[@]}"
 input=examples/gc-sections.debug_line
 notes 'discarded code on standard input' 1 "$overlap"$'\n' '' \
   'sequences begin at 0x0, where linkers leave discarded code; --dead 0x0 leaves them out' verify - "${sections[@]:1}"
@@ -113,6 +116,17 @@ notes 'a good section with code at the end' 0 $'yes\n' '' \
 put falls "4300000005000800 29000000 010101fb0e0d 000101010100000001000001 01010801 2f7300 020108020b02612e630000612e630000 000902ffffffffffffffff 144b0202 000101"
 notes 'code that passes the end' 1 $'no 31 falls unit 0x0 row 1\n' '' \
   'sequences begin at 0xffffffffffffffff, where linkers leave discarded code (1 of them); --dead 0xffffffffffffffff leaves them out' verify "$work/falls"
+
+# ---- copies
+
+cat examples/hello.debug_line examples/hello.debug_line >"$work/twice"
+twice=("$work/twice" --line-str examples/hello.debug_line_str)
+for word in verify files table md5 'lookup 0x1137' 'check examples/hello.csv'; do
+  set -- $word
+  notes "copies: $1" 1 $'no 32 overlap 0x0:0 0xa0:0 at 0x1129,0\n' '' "$copies" "$1" "${twice[@]:0:1}" "${@:2}" "${twice[@]:1}"
+done
+silent 'copies that are skipped' 0 $'yes\n' verify "${twice[@]}" --skip-copies
+silent 'copies on standard input' 1 $'no 32 overlap 0x0:0 0xa0:0 at 0x1129,0\n' verify - "${twice[@]:1}" <"$work/twice"
 
 # ---- nothing held, no sums
 

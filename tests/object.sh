@@ -167,7 +167,8 @@ for version in (2, 3, 4):
 END
   local rust='rustc takes -C dwarf-version=5, and -O -C lto=fat for its standard library, which is of version 4'
   local copies='GNU ld and gold resolve the line numbers of a discarded copy of an inline function to the copy that they kept, '
-  copies+='and --icf folds functions into one; link by lld or mold without --icf, or compile with -flto'
+  copies+='and --icf folds functions into one; --skip-copies leaves such copies out; or link by lld or mold without --icf, '
+  copies+='or compile with -flto'
   local version order
   for order in '' -big; do
     for version in 2 3; do
@@ -196,6 +197,7 @@ END
   expect 'two copies' 1 $'no 32 overlap 0x0:0 0xa0:0 at 0x1129,0\n' \
     "$says note: two sequences hold 0x1129: $copies"$'\n' \
     object table "$work/unit"
+  expect 'two copies, one skipped' 0 $'yes\n' '' object verify "$work/unit" --skip-copies
 }
 
 apart() {
