@@ -35,6 +35,11 @@ stop 'closed standard streams' 3 '' bash -c './linetab check - examples/hello.cs
 stop 'a full device' 3 $'linetab: cannot write\n' bash -c './linetab units examples/hello.debug_line >/dev/full'
 stop 'a closed standard output' 3 $'linetab: cannot write\n' bash -c './linetab units examples/hello.debug_line >&-'
 stop 'a closed pipe' 3 '' bash -c '{ sleep 0.2; ./linetab units examples/hello.debug_line; echo $? >"$0/status"; } | true; exit "$(cat "$0/status")"' "$work"
+cp examples/hello.debug_line "$work/many"
+for _ in $(seq 14); do
+  cat "$work/many" "$work/many" >"$work/more" && mv "$work/more" "$work/many"
+done
+expect_notes 'what head leaves' 0 $'0x0 32 156\n' '' bash -c './linetab units "$0" | head -n 1' "$work/many"
 expect 'a stack of 100 kB' 0 $'yes\n' '' bash -c 'ulimit -s 100; exec crates/linetab/out/linetab check examples/hello.debug_line examples/hello.csv --line-str examples/hello.debug_line_str'
 # The limit holds for the file that standard error goes to as well.
 stop 'a file size of no bytes' 3 '' bash -c 'trap "" XFSZ; ulimit -f 0; crates/linetab/out/linetab units examples/hello.debug_line >"$0/none"' "$work"

@@ -27,6 +27,6 @@ pub record AreToldOf (dead : Option ℕ) (skip : Bool) (units : List (ℕ × Par
   pub status_is : status ≡ stretches_status differences
 
 -- That, or the first fault of the bytes.
-abbrev pub AreStretchesOf : Option ℕ → List (ℕ × Parts) → List ℕ → Option (List ℕ) → Option (List ℕ) → Stretches → Type 0
+abbrev pub AreStretchesOf : Option ℕ → Bool → List (ℕ × Parts) → List ℕ → Option (List ℕ) → Option (List ℕ) → Stretches → Type 0
 AreStretchesOf dead skip units table old new (Faulty told) = IsFault table told
 AreStretchesOf dead skip units table old new (Told status) = AreToldOf dead skip units table old new status

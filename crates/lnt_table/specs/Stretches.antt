@@ -23,6 +23,6 @@ pub record DiffersFromUnits {S T : Type 0} (of_section : S → List Span → Typ
   pub told : HasTold of_section of_table differences (told_answer version dead skip units) (span_answer spans) []
 
 -- That, or the first fault of the bytes.
-abbrev pub IsDifferingFrom : {S : Type 0} → (Remaining S → List Span → Type 0) → (SpanList → List Span → Type 0) → Option ℕ → List (ℕ × Parts) → List ℕ → Differing S → Type 0
+abbrev pub IsDifferingFrom : {S : Type 0} → (Remaining S → List Span → Type 0) → (SpanList → List Span → Type 0) → Option ℕ → Bool → List (ℕ × Parts) → List ℕ → Differing S → Type 0
 IsDifferingFrom of_section of_table dead skip units table (Fault told) = IsFault table told
 IsDifferingFrom of_section of_table dead skip units table (Table differences) = DiffersFromUnits of_section of_table dead skip units table differences
