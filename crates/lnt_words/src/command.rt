@@ -96,7 +96,8 @@ fn lookup_command<'a>(alloc: Global) -> Result<Command<'a>, AllocError> {
             .required(false)
             .required_unless_present("addresses")?
             .conflicts_with("addresses")?
-            .num_args(1..),
+            .num_args(1..)
+            .action(ArgAction::Append),
         )?
         .arg(valued(
             alloc,
