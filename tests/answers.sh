@@ -412,6 +412,11 @@ says 'a wide table with a discriminator' 0 "$wide_marks" table --wide "$work/sec
 greatest=ffffffffffffffffff01
 put section "$(program "$(at 0000000000000000)05802003090c${greatest}000b04${greatest}01$(at ffffffffffffffff)$end")"
 says 'the greatest numbers' 0 "$wide_names"$'0x0,0,0xffffffffffffffff,0,0,1,10,4096,1,18446744073709551615,18446744073709551615\n' table --wide "$work/section"
+put section "$plain"
+says 'a table by path' 0 $'low,high,path,line,column\n0x1000,0x1004,/s/a.c,3,0\n0x1004,0x1006,/s/a.c,4,0\n' table --paths "$work/section"
+says 'a table by path without columns' 0 $'low,high,path,line\n0x1000,0x1004,/s/a.c,3\n0x1004,0x1006,/s/a.c,4\n' table "$work/section" --lines
+put section "$three_operations"
+says 'a table by path of a part of an instruction' 1 $'no 43 operation index at 0x2010,1\n' table --paths "$work/section"
 
 # A good section, its own table of each version, and the section cut after each number of bytes.
 has_tables() { # NAME UNIT [OPTION..]

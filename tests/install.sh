@@ -25,7 +25,7 @@ same() { # NAME WANTED GIVEN
 }
 
 expect 'a prefix' 0 '' '' ./install "$prefix"
-expect 'no prefix' 2 '' $'usage: ./install PREFIX\n' ./install
+expect 'no prefix' 2 '' $'usage: ./install [--library] PREFIX\n' ./install
 expect 'the program' 0 $'yes\n' '' "$linetab" check "${hello[@]}"
 python3 tests/images.py elf64 "$work/app" .debug_line=examples/hello.debug_line .debug_line_str=examples/hello.debug_line_str
 expect 'linetab-object beside it' 0 $'yes\n' '' "$prefix/bin/linetab-object" check "$work/app" examples/hello.csv

@@ -1,10 +1,12 @@
 -- Texts of items, one after another.
-use Rattle.std.proofs.Common.{◌≡◌, ◌∙◌, ℕ, ◌+◌, ◌<◌, ◌≤◌, List, [], ◌∷◌, ◌++◌, append-nil, length, get_or, take, Option, ap, append_assoc, sym, subst}
+use Rattle.std.proofs.Common.{◌≡◌, ◌∙◌, ℕ, ◌+◌, ◌<◌, ◌≤◌, suc, List, [], ◌∷◌, ◌++◌, append-nil, length, get_or, take, Option, ap, append_assoc, sym, subst, arith}
 use Rattle.std.specs.List.{flat_map}
 use Rattle.std.specs.Io.KnownBytes.{Appends}
-use Rattle.std.proofs.KnownBytes.{Appends-trans}
+use Rattle.std.proofs.KnownBytes.{Appends-nil, Appends-trans}
 use Rattle.std.proofs.lemmas.List.{take_all, take_more}
 use Rattle.std.proofs.lemmas.List.Concat.{flat_map-append}
+use Rattle.lnt_lines.specs.Indexed.{Indexed}
+use Rattle.lnt_answers.specs.FileLines.{file_record, records_below}
 
 -- with one item more, its text is added
 text_of_more : {X : Type 0} (f : X → List ℕ) (items : List X) (i : ℕ) (d : X) → i < length items → flat_map f (take (i + 1) items) ≡ flat_map f (take i items) ++ f (get_or items i d)
@@ -21,3 +23,14 @@ gained_more f head items i d a b c lt before here =
 -- all items
 pub gained_all : {X : Type 0} (f : X → List ℕ) (head : List ℕ) (items : List X) (i : ℕ) (a b : Option (List ℕ)) → length items ≤ i → Appends a b (head ++ flat_map f (take i items)) → Appends a b (head ++ flat_map f items)
 gained_all f head items i a b le gained = subst (λ all. Appends a b (head ++ flat_map f all)) (take_all i items le) gained
+
+-- ---- the records of a unit's files
+
+pub records_none : (index : Indexed) (unit : ℕ) (a : Option (List ℕ)) → Appends a a (records_below index unit 0)
+records_none index unit a = Appends-nil a
+
+-- with one record more
+pub records_more : (index : Indexed) (unit file : ℕ) (a b c : Option (List ℕ)) → Appends a b (records_below index unit file) → Appends b c (file_record index unit file) → Appends a c (records_below index unit (file + 1))
+records_more index unit file a b c before here =
+    let next : suc file ≡ file + 1 = omega arith in
+    subst (λ (n : ℕ). Appends a c (records_below index unit n)) next (Appends-trans a b c (records_below index unit file) (file_record index unit file) before here)

@@ -2,12 +2,8 @@
 use Rattle.std.specs.Prelude.{◌≡◌, ◌==◌, ◌+◌, Bool, ℕ, List, ◌++◌, drop, take, if◌then◌else◌, None, Option, Some, codes, decimal}
 use Rattle.std.specs.List.{position}
 use Rattle.std.specs.Io.KnownBytes.{Appends, Keeps}
-use Rattle.lnt_files.specs.declared.halt.Halt.{Halt}
-use Rattle.lnt_files.specs.declared.halt.Halt.TheVariants.{Memory, Read, TooLong}
 use Rattle.lnt_spans.specs.declared.answer.Answer.{Answer}
 use Rattle.lnt_spans.specs.declared.position.Position.{Position}
-use Rattle.lnt_lines.specs.declared.stop.Stop.{Stop}
-use Rattle.lnt_lines.specs.declared.stop.Stop.TheVariants as stop
 use Rattle.lnt_lines.specs.declared.section.JudgedIndex.{JudgedIndex}
 use Rattle.lnt_lines.specs.declared.section.JudgedIndex.TheVariants.{Good, Bad}
 use Rattle.lnt_unit.specs.declared.unit.Parts.{Parts}
@@ -17,12 +13,6 @@ use Rattle.lnt_digits.specs.Digits.{IsAddress, IsDecimal}
 use Rattle.lnt_text.specs.Quotes.{quoted_text}
 use Rattle.lnt_text.specs.Texts.{position_text}
 use Rattle.lnt_answers.specs.Texts.{no_text}
-
--- the same of the work on a file
-abbrev pub same_halt : Stop → Halt
-same_halt stop.Memory = Memory
-same_halt stop.Read = Read
-same_halt stop.TooLong = TooLong
 
 -- the index of a good section was given
 abbrev pub IsIndexGiven : JudgedIndex → Type 0

@@ -5,7 +5,8 @@ use Rattle.lnt_header.specs.declared.header.Which.TheVariants.{Directories, File
 use Rattle.lnt_rows.specs.declared.sequence.SeqId.{SeqId}
 use Rattle.lnt_lines.specs.declared.no.No.{No}
 use Rattle.lnt_lines.specs.declared.no.No.TheVariants.{Malformed, Run, EntryFormat, StringOutside, DirectoryNumber, FileNumber, Falls, Overlap}
-use Rattle.lnt_text.specs.Texts.{hexadecimal, malformed_text, position_text, run_text}
+use Rattle.lnt_wire.specs.FaultTexts.{hexadecimal}
+use Rattle.lnt_text.specs.Texts.{malformed_text, position_text, run_text}
 
 -- a sequence, by its unit and its index in it
 abbrev pub sequence_text : SeqId → List ℕ

@@ -32,6 +32,7 @@ pub fn print_files<W: Write>(alloc: Global, index: &Index<'_>, out: &mut W) -> R
 }
 
 // Prints the records of the files of a unit.
+#[tactic(auto, using(crate::proofs::FileLemmas::records_none, crate::proofs::FileLemmas::records_more))]
 fn print_unit_files<W: Write>(
     alloc: Global,
     index: &Index<'_>,
@@ -41,10 +42,25 @@ fn print_unit_files<W: Write>(
     ensures err { IfErr result IsPrinting }
     ensures records { OnOk result (Appends (W.contents out.old) (W.contents out.new) (unit_records index.now unit)) }
 {
-    let mut records = Writer::from_writer(Vec::new(alloc));
     for file in 0..index.file_count(unit) {
-        put_file(alloc, index, unit, file, &mut records)?;
+        print_file(alloc, index, unit, file, out)?;
     }
+    Ok(())
+}
+
+// Prints the record of a file. No more than one of them is held.
+fn print_file<W: Write>(
+    alloc: Global,
+    index: &Index<'_>,
+    unit: u64,
+    file: u64,
+    out: &mut W,
+) -> Result<(), Halt>
+    ensures err { IfErr result IsPrinting }
+    ensures record { OnOk result (Appends (W.contents out.old) (W.contents out.new) (file_record index.now unit file)) }
+{
+    let mut records = Writer::from_writer(Vec::new(alloc));
+    put_file(alloc, index, unit, file, &mut records)?;
     let Ok(bytes) = records.into_inner() else {
         return Err(Halt::Memory);
     };

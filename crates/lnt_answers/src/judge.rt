@@ -1,25 +1,14 @@
 //! A section that is judged.
 ghost use Rattle.std.specs.Prelude.{◌≡◌, ◌+◌, ◌-◌, ◌^◌, ◌<◌, IfOk, IfSome, IsErrOf, IsTrue};
 ghost use Rattle.lnt_lines.specs.Drafts.{IsJudgedIndex};
-ghost use Rattle.lnt_answers.specs.Lines.{IsIndexGiven, IsTold, IsVerdict, same_halt};
+ghost use Rattle.lnt_answers.specs.Lines.{IsIndexGiven, IsTold, IsVerdict};
 
 use crate::no::NoLine;
 use lnt_files::Halt;
-use lnt_lines::{JudgedIndex, Options, Stop, index_section};
+use lnt_lines::{JudgedIndex, Options, index_section};
 use lnt_wire::{Source, Strings};
 use std::alloc::Global;
 use std::io::Write;
-
-/// The same of the work on a file.
-pub fn halt_of(stop: Stop) -> Halt
-    ensures { result ≡ same_halt stop }
-{
-    match stop {
-        Stop::Memory => Halt::Memory,
-        Stop::Read => Halt::Read,
-        Stop::TooLong => Halt::TooLong,
-    }
-}
 
 /// Judges the section that the source has to give, and prints the line of one that isn't good.
 ///
@@ -48,7 +37,7 @@ pub fn judge_section<'s, R: Source, W: Write>(
             writeln!(out, "{}", NoLine(no))?;
             Ok(JudgedIndex::Bad(no))
         }
-        Err(stop) => Err(halt_of(stop)),
+        Err(stop) => Err(Halt::from(stop)),
     }
 }
 

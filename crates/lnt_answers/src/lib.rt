@@ -17,7 +17,7 @@ mod sums;
 pub use addresses::print_addresses;
 pub use differences::{DifferenceLine, print_differences};
 pub use files::print_files;
-pub use judge::{halt_of, judge_section, print_verdict};
+pub use judge::{judge_section, print_verdict};
 pub use lookup::{print_lookup, print_lookups};
 pub use no::NoLine;
 pub use sums::{lists_sums, print_sums};

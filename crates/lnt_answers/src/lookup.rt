@@ -9,7 +9,6 @@ ghost use Rattle.lnt_files.specs.Halts.{IsPrinting};
 ghost use Rattle.std.specs.List.{flat_map};
 ghost use Rattle.lnt_answers.specs.Lines.{answer_line, lookup_line, place_text, row_text};
 
-use crate::judge::halt_of;
 use lnt_files::{Halt, Status};
 use lnt_lines::Index;
 use lnt_spans::{Answer, Position, Probes};
@@ -53,7 +52,7 @@ fn print_answered<W: Write>(
     match index.path_of(alloc, answer.unit, answer.file) {
         Ok(Some(path)) => writeln!(out, " path {}", Quoted(&path))?,
         Ok(None) => writeln!(out)?,
-        Err(stop) => return Err(halt_of(stop)),
+        Err(stop) => return Err(Halt::from(stop)),
     }
     Ok(())
 }

@@ -7,11 +7,11 @@ ghost use Rattle.lnt_files.specs.Halts.{IsPrinting};
 
 use lnt_entries::{file_count, listed, path_of};
 use lnt_files::{Halt, LIMIT, Opener, Status};
-use lnt_lines::{Index, Stop};
+use lnt_lines::Index;
 use lnt_sums::{Agreement, md5_agrees};
 use lnt_text::Quoted;
 use lnt_unit::Header;
-use lnt_wire::{Counted, Strings};
+use lnt_wire::{Counted, Stop, Strings};
 use std::alloc::Global;
 use std::io::Write;
 use std::str;

@@ -1,5 +1,5 @@
 -- What `check` prints where it tells all places at which a table answers otherwise than a good section.
-use Rattle.std.specs.Prelude.{◌≡◌, Bool, ℕ, List, Option}
+use Rattle.std.specs.Prelude.{◌≡◌, ◌++◌, Bool, ℕ, List, Option, codes}
 use Rattle.std.specs.Io.KnownBytes.{Appends}
 use Rattle.lnt_unit.specs.declared.unit.Parts.{Parts}
 use Rattle.lnt_spans.specs.declared.answer.Version.{Version}
@@ -13,6 +13,7 @@ use Rattle.lnt_table.specs.Headline.{told_answer}
 use Rattle.lnt_answers.specs.DifferenceLines.{stretches_status, stretches_text}
 use Rattle.lnt_cli.specs.declared.stretches.Stretches.{Stretches}
 use Rattle.lnt_cli.specs.declared.stretches.Stretches.TheVariants.{Faulty, Told}
+use Rattle.lnt_cli.specs.Verdicts.{reason_of, table_no_text}
 use Rattle.lnt_files.specs.declared.status.Status.{Status}
 
 -- The bytes are a table. These are exactly the stretches at which it answers otherwise than the rows of the units, as far as
@@ -30,3 +31,8 @@ pub record AreToldOf (dead : Option ℕ) (skip : Bool) (units : List (ℕ × Par
 abbrev pub AreStretchesOf : Option ℕ → Bool → List (ℕ × Parts) → List ℕ → Option (List ℕ) → Option (List ℕ) → Stretches → Type 0
 AreStretchesOf dead skip units table old new (Faulty told) = IsFault table told
 AreStretchesOf dead skip units table old new (Told status) = AreToldOf dead skip units table old new status
+
+-- A writer that held these bytes has gained the line of what is wrong with the table, where something is.
+abbrev pub IsFaultTold : Stretches → Option (List ℕ) → Option (List ℕ) → Type 0
+IsFaultTold (Faulty told) old new = Appends old new (table_no_text (reason_of told) ++ codes "\n")
+IsFaultTold (Told status) old new = Unit {0}

@@ -1,10 +1,13 @@
 //! The command `linetab`, over an opener of files and a writer.
 //!
 //! [`run`] reads the words of the command, opens the files that they name, and writes the answer, and its notes apart from
-//! it. It reaches nothing of the system itself: a program hands it an [`Opener`] and two writers.
+//! it; [`answer`] does so of what the words ask for. It reaches nothing of the system itself: a program hands it an
+//! [`Opener`] and two writers.
 #![tactic(auto)]
 
+mod inputs;
 mod judge;
+mod path_table;
 mod program;
 mod session;
 mod stop;
@@ -13,5 +16,6 @@ mod table;
 mod verdict;
 
 pub use lnt_files::{Opener, Status};
-pub use program::run;
+pub use lnt_words::Asked;
+pub use program::{answer, run};
 pub use stop::CliStop;

@@ -1,6 +1,7 @@
 //! One run of the command.
-ghost use Rattle.std.specs.Prelude.{◌≡◌, IfErr};
+ghost use Rattle.std.specs.Prelude.{◌≡◌, IfErr, IfOk};
 ghost use Rattle.std.specs.Io.KnownBytes.{Keeps};
+ghost use Rattle.lnt_cli.specs.Answered.{IsAnswered};
 ghost use Rattle.lnt_cli.specs.Stops.{IsUsage};
 
 use crate::session::Session;
@@ -8,7 +9,7 @@ use crate::stop::CliStop;
 use lnt_files::{Opener, Status};
 use lnt_notes::print_note;
 use lnt_text::Note;
-use lnt_words::{WordsStop, request_of};
+use lnt_words::{Asked, WordsStop, request_of};
 use std::alloc::Global;
 use std::io::Write;
 
@@ -16,7 +17,8 @@ use std::io::Write;
 ///
 /// `out` isn't flushed, but where the lines of addresses are answered. A run is stopped by `Usage` before a file is
 /// opened, and `out` has then gained nothing; by `Read` or `TooLong` for a file that the words name; by `Write` where
-/// `out` failed, and then it holds a front of the text; and by `Memory`.
+/// `out` failed, and then it holds a front of the text; and by `Memory`. What the words ask for, by `lnt_words::request_of`,
+/// is answered as [`answer`] does.
 ///
 /// What helps a person is written to `notes`, a line for each note, to be shown behind the answer; nothing, where the
 /// words ask for no notes. A run isn't stopped where `notes` fails.
@@ -36,6 +38,26 @@ pub fn run<O: Opener, W: Write, N: Write>(
             return Err(CliStop::from(stop));
         }
     };
+    answer(alloc, &asked, opener, out, notes)
+}
+
+/// Answers what is asked for, and writes the answer to `out`, and its notes to `notes`.
+///
+/// Where a check of a table is asked for, `out` has gained one line, and nothing else: `yes`, where all that `check` of
+/// `lnt_table` says of Yes is so of the bytes that the opener tells of the files; or the first thing that is wrong, which is
+/// so of them (`AnswersCheck`). It answers `Done` exactly where that line is `yes`, and else `No`. It stops as `run` does, and
+/// never by `Usage`.
+pub fn answer<O: Opener, W: Write, N: Write>(
+    alloc: Global,
+    asked: &Asked<'_>,
+    opener: &mut O,
+    out: &mut W,
+    notes: &mut N,
+) -> Result<Status, CliStop>
+    ensures usage { IfErr result (λ stop. IsUsage stop → ⊥) }
+    ensures answer { IfOk result (λ status.
+        IsAnswered (O.tells opener.old) asked.now.request (W.contents out.old) (W.contents out.new) status) }
+{
     let mut session = Session {
         alloc,
         quiet: asked.quiet,

@@ -1,11 +1,12 @@
 //! The subcommand `check` where it tells all places.
 ghost use Rattle.std.specs.Prelude.{◌≡◌, ◌-◌, ◌^◌, ◌<◌, ◌+◌, Bool, ℕ, List, Option, IfOk, IfSome, IsErrOf};
-ghost use Rattle.lnt_cli.specs.Stretches.{AreStretchesOf};
+ghost use Rattle.lnt_cli.specs.Stretches.{AreStretchesOf, IsFaultTold};
+ghost use Rattle.lnt_cli.specs.Verdicts.{reason_of};
 ghost use Rattle.lnt_lines.specs.Indexed.{IsIndexOf};
 ghost use Rattle.lnt_unit.specs.declared.unit.Parts.{Parts};
 
 use crate::verdict::TableNoLine;
-use lnt_answers::{halt_of, print_differences};
+use lnt_answers::print_differences;
 use lnt_files::{Halt, Status};
 use lnt_lines::Index;
 use lnt_records::TableFault;
@@ -34,6 +35,7 @@ pub(crate) fn print_stretches<T: Source, W: Write>(
     requires { T.failures table.old < 2 ^ 64 - 1 }
     ensures told { IfOk result (λ told. (dead : Option ℕ) (skip : Bool) (units : List (ℕ × Parts)) → IsIndexOf dead skip units index.now
         → IfSome (T.remaining table.old) (λ text. AreStretchesOf dead skip units text (W.contents out.old) (W.contents out.new) told)) }
+    ensures faulty { IfOk result (λ told. IsFaultTold told (W.contents out.old) (W.contents out.new)) }
     ensures read { IsErrOf result Halt.Read → T.failures table.new ≡ T.failures table.old + 1 }
 {
     match differences(alloc, table, index) {
@@ -45,12 +47,14 @@ pub(crate) fn print_stretches<T: Source, W: Write>(
             writeln!(out, "{}", TableNoLine(no_of(fault)))?;
             Ok(Stretches::Faulty(fault))
         }
-        Err(stop) => Err(halt_of(stop)),
+        Err(stop) => Err(Halt::from(stop)),
     }
 }
 
 // The same as a reason.
-fn no_of(fault: TableFault) -> TableNo {
+fn no_of(fault: TableFault) -> TableNo
+    ensures { result ≡ reason_of fault }
+{
     match fault {
         TableFault::Header => TableNo::Header,
         TableFault::Fields(record) => TableNo::Fields(record),

@@ -1,15 +1,14 @@
 //! The subcommands that read and write address tables: `table` and `check`.
-ghost use Rattle.std.specs.Prelude.{◌≡◌, ◌++◌, ◌-◌, ◌^◌, ◌<◌, Bool, ℕ, List, Option, IfOk, IfSome, OnOk, codes};
+ghost use Rattle.std.specs.Prelude.{◌≡◌, ◌++◌, ◌-◌, ◌^◌, ◌<◌, Bool, ℕ, List, Option, IfOk, IfSome, OnOk};
 ghost use Rattle.std.specs.Io.KnownBytes.{Appends};
 ghost use Rattle.lnt_files.specs.declared.status.Status.TheVariants.{Done};
 ghost use Rattle.lnt_table.specs.Headline.{IsTrueVerdict};
 ghost use Rattle.lnt_unit.specs.declared.unit.Parts.{Parts};
 ghost use Rattle.lnt_lines.specs.Indexed.{IsIndexOf};
 ghost use Rattle.lnt_table.specs.Written.{IsTableOfUnits};
-ghost use Rattle.lnt_table.specs.declared.verdict.Verdict.TheVariants.{Yes};
+ghost use Rattle.lnt_cli.specs.Verdicts.{verdict_text};
 
 use crate::verdict::TableNoLine;
-use lnt_answers::halt_of;
 use lnt_files::{Halt, Status};
 use lnt_lines::{Index, Options};
 use lnt_spans::Version;
@@ -36,7 +35,7 @@ pub(crate) fn print_table<W: Write>(
     }
 }
 
-// Judges whether the table answers as the section does, and prints the verdict, which is so.
+// Judges whether the table answers as the section does, and prints the line of the verdict, which is so, and nothing else.
 pub(crate) fn print_check<R: Source, T: Source, W: Write>(
     alloc: Global,
     section: &mut R,
@@ -49,12 +48,9 @@ pub(crate) fn print_check<R: Source, T: Source, W: Write>(
     requires table_fails { T.failures table.old < 2 ^ 64 - 1 }
     ensures verdict { IfOk result (λ verdict. IfSome (R.remaining section.old) (λ bytes. IfSome (T.remaining table.old) (λ text.
         IsTrueVerdict strings.now.line.now strings.now.general.now options.now bytes text verdict))) }
-    ensures line { IfOk result (λ verdict. verdict ≡ Yes → Appends (W.contents out.old) (W.contents out.new) (codes "yes\n")) }
+    ensures line { IfOk result (λ verdict. Appends (W.contents out.old) (W.contents out.new) (verdict_text verdict)) }
 {
-    let verdict = match check(alloc, section, strings, table, options) {
-        Ok(verdict) => verdict,
-        Err(stop) => return Err(halt_of(stop)),
-    };
+    let verdict = check(alloc, section, strings, table, options)?;
     match verdict {
         Verdict::Yes => writeln!(out, "yes")?,
         Verdict::No(no) => writeln!(out, "{}", TableNoLine(no))?,

@@ -1,4 +1,7 @@
 //! How the evidence against a table is printed.
+ghost use Rattle.std.specs.Prelude.{Some};
+ghost use Rattle.lnt_cli.specs.Verdicts.{table_no_text};
+
 use lnt_answers::{DifferenceLine, NoLine};
 use lnt_spans::Difference;
 use lnt_table::TableNo;
@@ -9,6 +12,8 @@ use std::fmt;
 pub(crate) struct TableNoLine(pub(crate) TableNo);
 
 impl fmt::Display for TableNoLine {
+    ghost output = { λ line. Some (table_no_text line.0) };
+
     fn fmt<W: fmt::Write>(&self, f: &mut fmt::Formatter<W>) -> fmt::Result {
         match self.0 {
             TableNo::Section(no) => write!(f, "{}", NoLine(no)),

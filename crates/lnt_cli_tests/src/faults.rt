@@ -1,11 +1,12 @@
 //! Readers and writers that fail.
 use crate::streams::{Files, ran};
-use crate::worked::{DUMP, LISTED, PLAIN, TABLE};
+use crate::worked::DUMP;
 use lnt_cli::{CliStop, Status};
+use lnt_samples::{LISTED, PLAIN, TABLE};
 use std::alloc::Global;
 use std::test::Fail;
 
-// Whether the command on the plain unit is stopped by this file, which fails behind so many bytes, before it writes.
+// Whether the command on the plain unit is stopped by this file, which fails after so many bytes, before it writes.
 fn stops_reading(alloc: Global, line: &str, faulty: &str, good: usize) -> bool {
     let files = Files::failing(&PLAIN, faulty, good);
     let (ended, written) = ran(alloc, files, line, 1000);

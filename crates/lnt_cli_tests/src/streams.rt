@@ -1,11 +1,11 @@
-//! Files, readers and writers, of one byte at a time.
-use crate::worked::TABLE;
+//! Files by their names, and the command over them.
 use lnt_cli::{CliStop, Opener, Status, run};
+use lnt_samples::{Narrow, Reader, TABLE, failing, whole};
 use std::alloc::{AllocError, Global};
-use std::io::{self, Read, Write};
+use std::io;
 
 // Files by their names: a section F, its table T, lines of addresses A, and a source file, which holds `abc`. One of them
-// fails behind so many bytes.
+// fails after so many bytes.
 #[derive(Clone, Copy)]
 pub(crate) struct Files<'a> {
     section: &'a [u8],
@@ -31,31 +31,10 @@ impl<'a> Files<'a> {
     }
 }
 
-// The bytes of a file that are left, given one at a time. It fails behind them, or it ends.
-#[derive(Clone, Copy)]
-pub(crate) struct Bytes<'a> {
-    bytes: &'a [u8],
-    fails: bool,
-}
-
-impl Read for Bytes<'_> {
-    fn read(&mut self, buf: &mut [u8]) -> io::Result<usize> {
-        if self.bytes.is_empty() && self.fails {
-            return Err(io::Error::from(io::ErrorKind::Interrupted));
-        }
-        let (Some((first, rest)), Some(place)) = (self.bytes.split_first(), buf.first_mut()) else {
-            return Ok(0);
-        };
-        *place = *first;
-        self.bytes = rest;
-        Ok(1)
-    }
-}
-
 impl<'a> Opener for Files<'a> {
-    type Reader = Bytes<'a>;
+    type Reader = Reader<'a>;
 
-    fn reader_of(&mut self, name: &str) -> Option<Bytes<'a>> {
+    fn reader_of(&mut self, name: &str) -> Option<Reader<'a>> {
         let bytes = match name {
             "F" => self.section,
             "T" => TABLE,
@@ -64,37 +43,10 @@ impl<'a> Opener for Files<'a> {
             _ => return None,
         };
         if name != self.faulty {
-            return Some(Bytes {
-                bytes,
-                fails: false,
-            });
+            return Some(whole(bytes));
         }
         let (bytes, _) = bytes.split_at(self.good.min(bytes.len()));
-        Some(Bytes { bytes, fails: true })
-    }
-}
-
-// Takes one byte at a time, and so many in all.
-#[derive(Drop)]
-pub(crate) struct Narrow {
-    taken: Vec<u8>,
-    room: usize,
-}
-
-impl Write for Narrow {
-    fn write(&mut self, buf: &[u8]) -> io::Result<usize> {
-        if self.taken.len() >= self.room {
-            return Err(io::Error::from(io::ErrorKind::BrokenPipe));
-        }
-        let Some(first) = buf.first() else {
-            return Ok(0);
-        };
-        self.taken.push(*first)?;
-        Ok(1)
-    }
-
-    fn flush(&mut self) -> io::Result<()> {
-        Ok(())
+        Some(failing(bytes))
     }
 }
 
@@ -113,13 +65,10 @@ pub(crate) fn ran(
     line: &str,
     room: usize,
 ) -> (Result<Status, CliStop>, Vec<u8>) {
-    let mut out = Narrow {
-        taken: Vec::new(alloc),
-        room,
-    };
+    let mut out = Narrow::new(alloc, room);
     let ended = match words(alloc, line) {
         Ok(words) => run(alloc, words, &mut files, &mut out, &mut io::sink()),
         Err(_) => Err(CliStop::Memory),
     };
-    (ended, out.taken)
+    (ended, out.into_taken())
 }

@@ -1,7 +1,8 @@
 //! Each word of the command, with enough memory.
 use crate::streams::{Files, ran};
-use crate::worked::{DUMP, LISTED, PLAIN, TABLE, WIDE};
+use crate::worked::DUMP;
 use lnt_cli::Status;
+use lnt_samples::{LISTED, PLAIN, TABLE, WIDE};
 use std::alloc::Global;
 
 // Whether the command writes this of a section, and ends so.

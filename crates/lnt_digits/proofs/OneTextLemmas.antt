@@ -20,7 +20,8 @@ worth_below Sixteen c (inr (inl h)) = grind (arith, nat_tests)
 worth_below Sixteen c (inr (inr h)) = grind (arith, nat_tests)
 
 -- what a digit is worth tells it
-code_of : (radix : Radix) (c : ℕ) → IsDigit radix c → IsLower c → (c ≡ digit_value c + 48) × (digit_value c < 10) ⊎ (c ≡ digit_value c + 87) × (10 ≤ digit_value c)
+code_of : (radix : Radix) (c : ℕ) → IsDigit radix c → IsLower c → (c ≡ digit_value c + 48) × (digit_value c < 10) ⊎ (c ≡ digit_value c + 87)
+    × (10 ≤ digit_value c)
 code_of Ten c h l = inl (grind (arith, nat_tests), grind (arith, nat_tests))
 code_of Sixteen c (inl h) l = inl (grind (arith, nat_tests), grind (arith, nat_tests))
 code_of Sixteen c (inr (inl h)) (inl l) = absurd (omega (arith, h.0, l))
@@ -28,7 +29,8 @@ code_of Sixteen c (inr (inl h)) (inr l) = absurd (omega (arith, h.1, l))
 code_of Sixteen c (inr (inr h)) l = inr (grind (arith, nat_tests), grind (arith, nat_tests))
 
 same_worth : (a b : ℕ) → (a ≡ digit_value a + 48) × (digit_value a < 10) ⊎ (a ≡ digit_value a + 87) × (10 ≤ digit_value a)
-    → (b ≡ digit_value b + 48) × (digit_value b < 10) ⊎ (b ≡ digit_value b + 87) × (10 ≤ digit_value b) → digit_value a ≡ digit_value b → a ≡ b
+    → (b ≡ digit_value b + 48) × (digit_value b < 10) ⊎ (b ≡ digit_value b + 87) × (10 ≤ digit_value b) → digit_value a ≡ digit_value b
+    → a ≡ b
 same_worth a b (inl h) (inl k) e = omega (arith, h.0, k.0, e)
 same_worth a b (inl h) (inr k) e = absurd (omega (arith, h.1, k.1, e))
 same_worth a b (inr h) (inl k) e = absurd (omega (arith, h.1, k.1, e))
@@ -47,13 +49,15 @@ record Same (s t : List ℕ) (v w : ℕ) : Type 0 where
   text : s ≡ t
   before : v ≡ w
 
-same_length : (radix : Radix) (s t : List ℕ) (v w : ℕ) → AllByRecursion (IsDigit radix) s → AllByRecursion IsLower s → AllByRecursion (IsDigit radix) t → AllByRecursion IsLower t
+same_length : (radix : Radix) (s t : List ℕ) (v w : ℕ) → AllByRecursion (IsDigit radix) s → AllByRecursion IsLower s
+    → AllByRecursion (IsDigit radix) t → AllByRecursion IsLower t
     → length s ≡ length t → digits_value (base radix) v s ≡ digits_value (base radix) w t → Same s t v w
 same_length radix [] [] v w ds ls dt lt n e = record { text = refl; before = e }
 same_length radix [] (b ∷ t) v w ds ls dt lt n e = absurd (omega (arith, n))
 same_length radix (a ∷ s) [] v w ds ls dt lt n e = absurd (omega (arith, n))
 same_length radix (a ∷ s) (b ∷ t) v w ds ls dt lt n e =
-    let rest = same_length radix s t (v * base radix + digit_value a) (w * base radix + digit_value b) ds.1 ls.1 dt.1 lt.1 (omega (arith, n)) e in
+    let rest = same_length radix s t (v * base radix + digit_value a) (w * base radix + digit_value b) ds.1 ls.1 dt.1 lt.1
+    (omega (arith, n)) e in
     let parts = parts_same radix v w (digit_value a) (digit_value b) (worth_below radix a ds.0) (worth_below radix b dt.0) rest.before in
     let first = same_digit radix a b ds.0 ls.0 dt.0 lt.0 parts.1 in
     let text = rest.text in
@@ -62,7 +66,8 @@ same_length radix (a ∷ s) (b ∷ t) v w ds ls dt lt n e =
 -- ---- texts of other lengths
 
 -- the text with so many digits left, and what stands before them
-longer : (radix : Radix) (s t : List ℕ) (v : ℕ) → AllByRecursion (IsDigit radix) s → AllByRecursion IsLower s → AllByRecursion (IsDigit radix) t → AllByRecursion IsLower t
+longer : (radix : Radix) (s t : List ℕ) (v : ℕ) → AllByRecursion (IsDigit radix) s → AllByRecursion IsLower s
+    → AllByRecursion (IsDigit radix) t → AllByRecursion IsLower t
     → length s ≤ length t → 0 < v → digits_value (base radix) 0 s ≡ digits_value (base radix) v t → ⊥
 longer radix s [] v ds ls dt lt n some e =
     let same = same_length radix s [] 0 v ds ls dt lt (omega (arith, n)) e in
@@ -97,7 +102,8 @@ one_plain radix s t n p q = elim (cases_lt (length s) (length t)) [
   | inl lt ↦ absurd (no_longer radix s t n p q lt)
   | inr le ↦ elim (cases_lt (length t) (length s)) [
     | inl lt ↦ absurd (no_longer radix t s n q p lt)
-    | inr ge ↦ (same_length radix s t 0 0 p.number.digits p.lower q.number.digits q.lower (omega (arith, le, ge)) (sym p.number.value ∙ q.number.value)).text
+    | inr ge ↦ (same_length radix s t 0 0 p.number.digits p.lower q.number.digits q.lower (omega (arith, le, ge))
+        (sym p.number.value ∙ q.number.value)).text
   ]
 ]
 
@@ -105,4 +111,5 @@ pub one_decimal : OneDecimal
 one_decimal s t n p q = one_plain Ten s t n p q
 
 pub one_address : OneAddress
-one_address s t n p q = p.written ∙ ap (λ (digits : List ℕ). 48 ∷ 120 ∷ digits) (one_plain Sixteen p.digits q.digits n p.plain q.plain) ∙ sym q.written
+one_address s t n p q =
+    p.written ∙ ap (λ (digits : List ℕ). 48 ∷ 120 ∷ digits) (one_plain Sixteen p.digits q.digits n p.plain q.plain) ∙ sym q.written

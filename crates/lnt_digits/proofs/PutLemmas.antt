@@ -1,13 +1,16 @@
 -- Numbers written from the last digit on.
-use Rattle.std.proofs.Common.{◌≡◌, ◌∙◌, ℕ, zero, suc, ◌+◌, ◌*◌, ◌/◌, ◌%◌, ◌^◌, ◌<◌, ◌≤◌, ◌-◌, add-one, List, [], ◌∷◌, length, drop, take, slice_set, length-drop, refl, sym, ap, subst, arith}
+use Rattle.std.proofs.Common.{◌≡◌, ◌∙◌, ℕ, zero, suc, ◌+◌, ◌*◌, ◌/◌, ◌%◌, ◌^◌, ◌<◌, ◌≤◌, ◌-◌, add-one, List, [], ◌∷◌}
+use Rattle.std.proofs.Common.{length, drop, take, slice_set, length-drop, refl, sym, ap, subst, arith}
 use Rattle.std.proofs.Math.ListN.{length-set}
 use Rattle.std.proofs.Math.Seq.{take-set-lt}
 use Rattle.std.proofs.lemmas.List.{drop-set-lt, drop_all, length-take-le, take_all, take-set-le}
 use Rattle.std.specs.List.{AllByRecursion}
 use Rattle.lnt_digits.specs.declared.radix.Radix.{Radix}
 use Rattle.lnt_digits.specs.declared.radix.Radix.TheVariants.{Ten, Sixteen}
-use Rattle.lnt_digits.specs.Digits.{HasNoLeadingZero, IsDigit, IsLower, IsPlain, IsPlainAddress, base, digit_code, digit_value, digits_value, most_digits}
-use Rattle.lnt_digits.proofs.DigitLemmas.{code_is_digit, code_is_lower, code_not_zero, code_worth, fewer_digits, last_digit, last_digit_below, lone_digit}
+use Rattle.lnt_digits.specs.Digits.{HasNoLeadingZero, IsDigit, IsLower, IsPlain, IsPlainAddress, base, digit_code}
+use Rattle.lnt_digits.specs.Digits.{digit_value, digits_value, most_digits}
+use Rattle.lnt_digits.proofs.DigitLemmas.{code_is_digit, code_is_lower, code_not_zero, code_worth, fewer_digits}
+use Rattle.lnt_digits.proofs.DigitLemmas.{last_digit, last_digit_below, lone_digit}
 
 drop_put_suc : (buf : List ℕ) (i v : ℕ) → i < length buf → drop i (slice_set buf i v) ≡ v ∷ drop (suc i) buf
 drop_put_suc [] i v lt = absurd (omega arith)
@@ -71,7 +74,8 @@ pub record Stands (radix : Radix) (n end : ℕ) (digits : List ℕ) (start left 
   pub bound : left < base radix ^ room
   pub put : IsPut radix n (drop start digits) left
 
-first_bound : (radix : Radix) (n end : ℕ) → n < 2 ^ 64 → 0 < end → (room : ℕ) × (end - 1 + most_digits radix ≡ room + end) × (n / base radix < base radix ^ room)
+first_bound : (radix : Radix) (n end : ℕ) → n < 2 ^ 64 → 0 < end → (room : ℕ) × (end - 1 + most_digits radix ≡ room + end)
+    × (n / base radix < base radix ^ room)
 first_bound Ten n end fits some = (19, omega (arith, some), omega (arith, fits))
 first_bound Sixteen n end fits some = (15, omega (arith, some), omega (arith, fits))
 
@@ -86,7 +90,8 @@ stands_first radix n end digits fits long few =
     let lt : end - 1 < length digits = omega (arith, long, some) in
     let none : drop (end - 1 + 1) digits ≡ [] = drop_all (end - 1 + 1) digits (omega (arith, long)) in
     let code : ℕ = digit_code (n % base radix) in
-    let e : drop (end - 1) (slice_set digits (end - 1) code) ≡ code ∷ [] = drop_put digits (end - 1) code lt ∙ ap (λ (xs : List ℕ). code ∷ xs) none in
+    let e : drop (end - 1) (slice_set digits (end - 1) code) ≡ code ∷ [] = drop_put digits (end - 1) code lt
+    ∙ ap (λ (xs : List ℕ). code ∷ xs) none in
     let b = first_bound radix n end fits some in
     record {
       long = length-set digits (end - 1) code ∙ long;
@@ -132,7 +137,8 @@ stands_more radix n end digits start left s some =
       room = s.room - 1;
       room_is = omega (arith, room, before, s.room_is);
       bound = bound_less radix s.room left s.bound room;
-      put = subst (λ (text : List ℕ). IsPut radix n text (left / base radix)) (sym e) (digit_put radix n (drop start digits) left s.put some);
+      put = subst (λ (text : List ℕ). IsPut radix n text (left / base radix)) (sym e)
+          (digit_put radix n (drop start digits) left s.put some);
     }
 
 stands_all : (radix : Radix) (n end : ℕ) (digits : List ℕ) (start left : ℕ) → n < 2 ^ 64 → Stands radix n end digits start left → left ≡ 0
@@ -174,7 +180,8 @@ written_first radix n end text fits few long =
       after = drop-set-lt end text (end - 1) code lt;
     }
 
-pub written_some : (radix : Radix) (n end : ℕ) (old text : List ℕ) (start left : ℕ) → Written radix n end old text start left → 0 < left → 0 < start
+pub written_some : (radix : Radix) (n end : ℕ) (old text : List ℕ) (start left : ℕ) → Written radix n end old text start left → 0 < left
+    → 0 < start
 written_some radix n end old text start left w some = start_some radix n end (take end text) start left w.stands some
 
 pub written_more : (radix : Radix) (n end : ℕ) (old text : List ℕ) (start left : ℕ) → Written radix n end old text start left → 0 < left
@@ -192,25 +199,30 @@ written_more radix n end old text start left w some =
 
 -- two digits more
 pub two_digits_more : (n end : ℕ) (old text : List ℕ) (start left : ℕ) → Written Ten n end old text start left → 10 ≤ left
-    → Written Ten n end old (slice_set (slice_set text (start - 1) (digit_code (left % 100 % 10))) (start - 2) (digit_code (left % 100 / 10))) (start - 2) (left / 100)
+    → Written Ten n end old (slice_set (slice_set text (start - 1) (digit_code (left % 100 % 10))) (start - 2)
+    (digit_code (left % 100 / 10))) (start - 2) (left / 100)
 two_digits_more n end old text start left w some =
     let one = written_more Ten n end old text start left w (omega (arith, some)) in
-    let two = written_more Ten n end old (slice_set text (start - 1) (digit_code (left % 10))) (start - 1) (left / 10) one (omega (arith, some)) in
+    let two = written_more Ten n end old (slice_set text (start - 1) (digit_code (left % 10))) (start - 1) (left / 10) one
+    (omega (arith, some)) in
     let last : left % 10 ≡ left % 100 % 10 = omega arith in
     let first : left / 10 % 10 ≡ left % 100 / 10 = omega arith in
     let place : start - 1 - 1 ≡ start - 2 = omega arith in
     let rest : left / 10 / 10 ≡ left / 100 = omega arith in
-    let placed : Written Ten n end old (slice_set (slice_set text (start - 1) (digit_code (left % 10))) (start - 2) (digit_code (left / 10 % 10))) (start - 2) (left / 100) = rw (place, rest) at two in
+    let placed : Written Ten n end old
+    (slice_set (slice_set text (start - 1) (digit_code (left % 10))) (start - 2) (digit_code (left / 10 % 10))) (start - 2)
+    (left / 100) = rw (place, rest) at two in
     rw (← last, ← first) placed
 
 pub two_digits_room : (n end : ℕ) (old text : List ℕ) (start left : ℕ) → Written Ten n end old text start left → 10 ≤ left → 2 ≤ start
 two_digits_room n end old text start left w some =
     let one = written_more Ten n end old text start left w (omega (arith, some)) in
     let before = written_some Ten n end old text start left w (omega (arith, some)) in
-    let more = written_some Ten n end old (slice_set text (start - 1) (digit_code (left % 10))) (start - 1) (left / 10) one (omega (arith, some)) in
+    let more = written_some Ten n end old (slice_set text (start - 1) (digit_code (left % 10))) (start - 1) (left / 10) one
+    (omega (arith, some)) in
     omega (arith, before, more)
 
--- the first digit, behind others
+-- the first digit, after others
 pub first_digit : (n end : ℕ) (old text : List ℕ) (start left : ℕ) → Written Ten n end old text start left → 0 < left → left < 10
     → Written Ten n end old (slice_set text (start - 1) (digit_code left)) (start - 1) 0
 first_digit n end old text start left w some few =
@@ -219,22 +231,26 @@ first_digit n end old text start left w some few =
     let rest : left / 10 ≡ 0 = omega (arith, few) in
     rw (last, rest) at one
 
-pub written_all : (radix : Radix) (n end : ℕ) (old text : List ℕ) (start left : ℕ) → n < 2 ^ 64 → Written radix n end old text start left → left ≡ 0
+pub written_all : (radix : Radix) (n end : ℕ) (old text : List ℕ) (start left : ℕ) → n < 2 ^ 64 → Written radix n end old text start left
+    → left ≡ 0
     → IsPlain radix (drop start (take end text)) n
 written_all radix n end old text start left fits w e = stands_all radix n end (take end text) start left fits w.stands e
 
 -- where a text has that length
-pub whole_text : (radix : Radix) (n start : ℕ) (text : List ℕ) → length text ≡ 20 → IsPlain radix (drop start (take 20 text)) n → IsPlain radix (drop start text) n
+pub whole_text : (radix : Radix) (n start : ℕ) (text : List ℕ) → length text ≡ 20 → IsPlain radix (drop start (take 20 text)) n
+    → IsPlain radix (drop start text) n
 whole_text radix n start text long p =
     subst (λ (z : List ℕ). IsPlain radix (drop start z) n) (take_all 20 text (omega (arith, long))) p
 
 -- ---- 0x before the digits of an address
 
-pub address_put : (digits : List ℕ) (start end n : ℕ) → length digits ≡ end → start ≤ end → 2 ≤ start → IsPlain Sixteen (drop start digits) n
+pub address_put : (digits : List ℕ) (start end n : ℕ) → length digits ≡ end → start ≤ end → 2 ≤ start
+    → IsPlain Sixteen (drop start digits) n
     → IsPlainAddress (drop (start - 2) (slice_set (slice_set digits (start - 1) 120) (start - 2) 48)) n
 address_put digits start end n long within room plain =
     let one : start - 1 < length digits = omega (arith, long, within, room) in
-    let two : start - 2 < length (slice_set digits (start - 1) 120) = omega (arith, long, within, room, length-set digits (start - 1) 120) in
+    let two : start - 2 < length (slice_set digits (start - 1) 120) = omega
+    (arith, long, within, room, length-set digits (start - 1) 120) in
     let next : start - 2 + 1 ≡ start - 1 = omega (arith, room) in
     let last : start - 1 + 1 ≡ start = omega (arith, room) in
     record {
@@ -247,20 +263,26 @@ address_put digits start end n long within room plain =
       plain = plain;
     }
 
-pub address_within : (text : List ℕ) (start end n : ℕ) → end ≤ length text → start < end → 2 ≤ start → IsPlain Sixteen (drop start (take end text)) n
+pub address_within : (text : List ℕ) (start end n : ℕ) → end ≤ length text → start < end → 2 ≤ start
+    → IsPlain Sixteen (drop start (take end text)) n
     → IsPlainAddress (drop (start - 2) (take end (slice_set (slice_set text (start - 1) 120) (start - 2) 48))) n
 address_within text start end n long within room plain =
     let one = take-set-lt end text (start - 1) 120 (omega (arith, within, room)) in
     let two = take-set-lt end (slice_set text (start - 1) 120) (start - 2) 48 (omega (arith, within, room)) in
-    let both : take end (slice_set (slice_set text (start - 1) 120) (start - 2) 48) ≡ slice_set (slice_set (take end text) (start - 1) 120) (start - 2) 48 =
+    let both : take end (slice_set (slice_set text (start - 1) 120) (start - 2) 48) ≡ slice_set (slice_set (take end text) (start - 1) 120)
+    (start - 2) 48 =
     two ∙ ap (λ (z : List ℕ). slice_set z (start - 2) 48) one in
     subst (λ (z : List ℕ). IsPlainAddress (drop (start - 2) z) n) (sym both)
     (address_put (take end text) start end n (take_long end text long) (omega (arith, within)) room plain)
 
-pub address_before : (text : List ℕ) (start : ℕ) → 2 ≤ start → take (start - 2) (slice_set (slice_set text (start - 1) 120) (start - 2) 48) ≡ take (start - 2) text
+pub address_before : (text : List ℕ) (start : ℕ) → 2 ≤ start
+    → take (start - 2) (slice_set (slice_set text (start - 1) 120) (start - 2) 48) ≡ take (start - 2) text
 address_before text start room =
-    take-set-le (start - 2) (slice_set text (start - 1) 120) (start - 2) 48 (omega arith) ∙ take-set-le (start - 2) text (start - 1) 120 (omega (arith, room))
+    take-set-le (start - 2) (slice_set text (start - 1) 120) (start - 2) 48 (omega arith)
+    ∙ take-set-le (start - 2) text (start - 1) 120 (omega (arith, room))
 
-pub address_after : (text : List ℕ) (start end : ℕ) → start < end → 2 ≤ start → drop end (slice_set (slice_set text (start - 1) 120) (start - 2) 48) ≡ drop end text
+pub address_after : (text : List ℕ) (start end : ℕ) → start < end → 2 ≤ start
+    → drop end (slice_set (slice_set text (start - 1) 120) (start - 2) 48) ≡ drop end text
 address_after text start end within room =
-    drop-set-lt end (slice_set text (start - 1) 120) (start - 2) 48 (omega (arith, within, room)) ∙ drop-set-lt end text (start - 1) 120 (omega (arith, within, room))
+    drop-set-lt end (slice_set text (start - 1) 120) (start - 2) 48 (omega (arith, within, room))
+    ∙ drop-set-lt end text (start - 1) 120 (omega (arith, within, room))

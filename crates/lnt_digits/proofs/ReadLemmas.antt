@@ -1,5 +1,6 @@
 -- Numbers read from the front.
-use Rattle.std.proofs.Common.{◌≡◌, ◌∙◌, ℕ, zero, suc, ◌+◌, ◌*◌, ◌^◌, ◌<◌, ◌≤◌, List, [], ◌∷◌, ◌++◌, length, get_or, take, drop, refl, sym, ap, subst, arith}
+use Rattle.std.proofs.Common.{◌≡◌, ◌∙◌, ℕ, zero, suc, ◌+◌, ◌*◌, ◌^◌, ◌<◌, ◌≤◌, List, [], ◌∷◌, ◌++◌, length, get_or}
+use Rattle.std.proofs.Common.{take, drop, refl, sym, ap, subst, arith}
 use Rattle.std.proofs.lemmas.List.{drop_all, take_all, take_more, drop_more}
 use Rattle.std.specs.List.{AllByRecursion}
 use Rattle.lnt_digits.specs.declared.radix.Radix.{Radix}
@@ -26,18 +27,22 @@ pub none_read : (radix : Radix) (text : List ℕ) → IsRead radix text 0 0
 none_read radix text = record { digits = tt; value = refl; fits = omega arith }
 
 -- one digit more
-read_digits : (radix : Radix) (text : List ℕ) (i so_far : ℕ) → i < length text → IsRead radix text i so_far → IsDigit radix (get_or text i 0)
+read_digits : (radix : Radix) (text : List ℕ) (i so_far : ℕ) → i < length text → IsRead radix text i so_far
+    → IsDigit radix (get_or text i 0)
     → AllByRecursion (IsDigit radix) (take (i + 1) text)
 read_digits radix text i so_far lt r is =
-    subst (AllByRecursion (IsDigit radix)) (sym (take_more text i 0 lt)) (all_push (IsDigit radix) (take i text) (get_or text i 0) r.digits is)
+    subst (AllByRecursion (IsDigit radix)) (sym (take_more text i 0 lt))
+    (all_push (IsDigit radix) (take i text) (get_or text i 0) r.digits is)
 
-read_value : (radix : Radix) (text : List ℕ) (i so_far d : ℕ) → i < length text → IsRead radix text i so_far → d ≡ digit_value (get_or text i 0)
+read_value : (radix : Radix) (text : List ℕ) (i so_far d : ℕ) → i < length text → IsRead radix text i so_far
+    → d ≡ digit_value (get_or text i 0)
     → digits_value (base radix) 0 text ≡ digits_value (base radix) (so_far * base radix + d) (drop (i + 1) text)
 read_value radix text i so_far d lt r e =
     r.value ∙ ap (digits_value (base radix) so_far) (drop_more text i 0 lt)
     ∙ ap (λ (v : ℕ). digits_value (base radix) (so_far * base radix + v) (drop (i + 1) text)) (sym e)
 
-pub read_more : (radix : Radix) (text : List ℕ) (i so_far d more : ℕ) → i < length text → IsRead radix text i so_far → IsDigit radix (get_or text i 0)
+pub read_more : (radix : Radix) (text : List ℕ) (i so_far d more : ℕ) → i < length text → IsRead radix text i so_far
+    → IsDigit radix (get_or text i 0)
     → d ≡ digit_value (get_or text i 0) → more ≡ so_far * base radix + d → more < 2 ^ 64 → IsRead radix text (i + 1) more
 read_more radix text i so_far d more lt r is e m fits = record {
   digits = read_digits radix text i so_far lt r is;
@@ -46,7 +51,8 @@ read_more radix text i so_far d more lt r is e m fits = record {
 }
 
 -- all digits are read
-pub all_read : (radix : Radix) (text : List ℕ) (i value : ℕ) → 0 < length text → length text ≤ most_digits radix → length text ≤ i → IsRead radix text i value
+pub all_read : (radix : Radix) (text : List ℕ) (i value : ℕ) → 0 < length text → length text ≤ most_digits radix → length text ≤ i
+    → IsRead radix text i value
     → IsNumber radix text value
 all_read radix text i value some few le r = record {
   digits = subst (AllByRecursion (IsDigit radix)) (take_all i text le) r.digits;
@@ -64,11 +70,13 @@ no_number_of_none radix text e n h = omega (arith, e, h.some)
 pub no_number_of_many : (radix : Radix) (text : List ℕ) → most_digits radix < length text → (n : ℕ) → IsNumber radix text n → ⊥
 no_number_of_many radix text lt n h = omega (arith, lt, h.few)
 
-pub no_digit : (radix : Radix) (text : List ℕ) (i : ℕ) → i < length text → (IsDigit radix (get_or text i 0) → ⊥) → (n : ℕ) → IsNumber radix text n → ⊥
+pub no_digit : (radix : Radix) (text : List ℕ) (i : ℕ) → i < length text → (IsDigit radix (get_or text i 0) → ⊥) → (n : ℕ)
+    → IsNumber radix text n → ⊥
 no_digit radix text i lt none n h = none (all_at (IsDigit radix) text i lt h.digits)
 
 -- a number that is too large after a digit stays so
-pub too_large : (radix : Radix) (text : List ℕ) (i so_far d : ℕ) → i < length text → IsRead radix text i so_far → d ≡ digit_value (get_or text i 0)
+pub too_large : (radix : Radix) (text : List ℕ) (i so_far d : ℕ) → i < length text → IsRead radix text i so_far
+    → d ≡ digit_value (get_or text i 0)
     → 2 ^ 64 ≤ so_far * base radix + d → (n : ℕ) → IsNumber radix text n → ⊥
 too_large radix text i so_far d lt r e large n h =
     let value = read_value radix text i so_far d lt r e in

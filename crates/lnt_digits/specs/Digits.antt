@@ -36,7 +36,7 @@ abbrev pub most_digits : Radix → ℕ
 most_digits Ten = 20
 most_digits Sixteen = 16
 
--- the number of some digits behind those of `value`
+-- the number of some digits after those of `value`
 abbrev pub digits_value : ℕ → ℕ → List ℕ → ℕ
 digits_value radix value [] = value
 digits_value radix value (c ∷ text) = digits_value radix (value * radix + digit_value c) text

@@ -92,7 +92,7 @@ fn digits_before(text: &mut [u8], end: usize, n: u64, radix: Radix) -> usize
     }
 }
 
-// The same of decimal digits: two for each division behind the first, since each division waits for the one before it.
+// The same of decimal digits: two for each division after the first, since each division waits for the one before it.
 #[inline(always)]
 fn decimal_digits_before(text: &mut [u8], end: usize, n: u64) -> usize
     requires { (20 ≤ end) × (end ≤ length text.old) }

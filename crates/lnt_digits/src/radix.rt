@@ -13,7 +13,7 @@ pub enum Radix {
 }
 
 impl Radix {
-    // How much more a digit is worth than the one behind it.
+    // How much more a digit is worth than the one after it.
     #[inline(always)]
     pub(crate) fn base(self) -> u64
         ensures value { result ≡ base self }

@@ -6,7 +6,8 @@ use Rattle.lnt_wire.specs.declared.format.Order.{Order}
 use Rattle.lnt_unit.specs.Converting.{IsConvertFault}
 use Rattle.lnt_unit.specs.declared.convert.ConvertFault.{ConvertFault}
 use Rattle.lnt_unit.specs.declared.convert.ConvertFault.TheVariants.{Malformed, TooLarge, Memory}
-use Rattle.lnt_text.specs.Texts.{hexadecimal, malformed_text}
+use Rattle.lnt_wire.specs.FaultTexts.{hexadecimal}
+use Rattle.lnt_text.specs.Texts.{malformed_text}
 
 -- a writer that held these bytes has gained such a text, and nothing else
 abbrev pub IsPrintedIn : (List ℕ → Type 0) → Option (List ℕ) → Option (List ℕ) → Type 0

@@ -8,7 +8,7 @@ use crate::rows::print_rows;
 use crate::units::{Next, next_of};
 use lnt_files::{Halt, Status};
 use lnt_machine::RunFault;
-use lnt_unit::{SectionReader, UnitBuffer, UnitView};
+use lnt_unit::{SectionReader, UnitBuffer, UnitInPlace};
 use lnt_wire::{Fault, Order, Source};
 use std::alloc::{AllocError, Global};
 use std::io::Write;
@@ -90,7 +90,7 @@ fn print_unit<W: Write>(
     page: &mut Page,
     out: &mut W,
 ) -> Result<Status, Halt> {
-    let unit = match UnitView::over(alloc, buffer) {
+    let unit = match UnitInPlace::over(alloc, buffer) {
         Ok(unit) => unit,
         Err(fault) => return print_fault(fault, out),
     };

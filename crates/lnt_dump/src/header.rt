@@ -1,25 +1,33 @@
-//! How headers are printed.
+//! How headers are printed, with their entries read one by one where they lie.
+ghost use Rattle.std.specs.Prelude.{◌≡◌, ◌<◌, OnOk};
+ghost use Rattle.lnt_wire.specs.Bytes.{NoneSpelled};
+ghost use Rattle.lnt_header_bytes.specs.Borrowed.{Passes};
+ghost use Rattle.lnt_header_bytes.specs.TableBytes.{EntryBytes};
+
 use crate::width::width_of;
 use lnt_files::Halt;
+use lnt_header_bytes::TableView;
 use lnt_text::Quoted;
-use lnt_unit::{Entry, Header, Pair};
-use lnt_wire::{FormValue, Frame};
+use lnt_unit::{Header, HeaderView, Pair};
+use lnt_wire::{Cursor, Format, Frame, ValueView};
 use std::alloc::Global;
 use std::io::Write;
+
+// So many bytes of a block are written at once.
+const PIECE: usize = 4096;
 
 // Prints the lines of a unit's header and of its two tables.
 pub(crate) fn print_header<W: Write>(
     alloc: Global,
     frame: &Frame<'_>,
-    header: &Header,
+    header: &HeaderView<'_>,
     out: &mut W,
 ) -> Result<(), Halt> {
     let (offset, width, length) = (frame.offset, width_of(frame.format), frame.length);
     writeln!(out, "unit 0x{offset:x} {width} {length}")?;
-    print_numbers(header, out)?;
-    let directories = header.directories();
-    print_entries(alloc, "dir", header.directory_format(), directories, out)?;
-    print_entries(alloc, "file", header.file_format(), header.files(), out)
+    print_numbers(header.numbers(), out)?;
+    print_entries(alloc, "dir", header.directories(), out)?;
+    print_entries(alloc, "file", header.files(), out)
 }
 
 fn print_numbers<W: Write>(header: &Header, out: &mut W) -> Result<(), Halt> {
@@ -38,28 +46,39 @@ fn print_numbers<W: Write>(header: &Header, out: &mut W) -> Result<(), Halt> {
 }
 
 // Prints a line for each entry of a table.
+#[tactic(auto, using(crate::proofs::Entries::at_first, crate::proofs::Entries::at_next, crate::proofs::Entries::is_there))]
 fn print_entries<W: Write>(
     alloc: Global,
     name: &str,
-    format: &[Pair],
-    entries: &[Entry],
+    table: &TableView<'_>,
     out: &mut W,
 ) -> Result<(), Halt> {
-    for (index, entry) in entries.iter().enumerate() {
+    let (format, pairs) = (table.format(), table.pairs());
+    let mut cursor = table.cursor();
+    for index in 0..table.count() {
         write!(out, "{name} {index}")?;
-        print_components(alloc, format, entry, out)?;
+        print_entry(alloc, format, pairs, &mut cursor, out)?;
         writeln!(out)?;
     }
     Ok(())
 }
 
-fn print_components<W: Write>(
+// Prints the components of the next entry, which is there, and moves behind it.
+#[tactic(auto, using(crate::proofs::Entries::read_none, crate::proofs::Entries::read_more, crate::proofs::Entries::read_all, crate::proofs::Entries::none_there))]
+fn print_entry<W: Write>(
     alloc: Global,
-    format: &[Pair],
-    entry: &Entry,
+    format: Format,
+    pairs: &[Pair],
+    cursor: &mut Cursor<'_>,
     out: &mut W,
-) -> Result<(), Halt> {
-    for (pair, value) in format.iter().zip(entry.values.as_slice()) {
+) -> Result<(), Halt>
+    requires { NoneSpelled (EntryBytes format cursor.old.order pairs.now) cursor.old.rest → ⊥ }
+    ensures { OnOk result (Passes (EntryBytes format cursor.old.order pairs.now) cursor.old cursor.new) }
+{
+    for pair in pairs {
+        let Ok(value) = cursor.value(pair.form, format) else {
+            unreachable!()
+        };
         let content = pair.content;
         write!(out, " {content}=")?;
         print_value(alloc, value, out)?;
@@ -67,22 +86,31 @@ fn print_components<W: Write>(
     Ok(())
 }
 
-fn print_value<W: Write>(alloc: Global, value: &FormValue, out: &mut W) -> Result<(), Halt> {
+fn print_value<W: Write>(alloc: Global, value: ValueView<'_>, out: &mut W) -> Result<(), Halt> {
     match value {
-        FormValue::Text(text) => write!(out, "{}", Quoted(text.as_slice()))?,
-        FormValue::LineStrp(offset) => write!(out, "line_strp:0x{offset:x}")?,
-        FormValue::Strp(offset) => write!(out, "strp:0x{offset:x}")?,
-        FormValue::Udata(n) | FormValue::Data8(n) => write!(out, "{n}")?,
-        FormValue::Data1(n) => write!(out, "{n}")?,
-        FormValue::Data2(n) => write!(out, "{n}")?,
-        FormValue::Data4(n) => write!(out, "{n}")?,
-        FormValue::Data16(bytes) => write!(out, "{}", hex::encode(alloc, bytes.as_slice())?)?,
-        FormValue::Block(bytes)
-        | FormValue::Block1(bytes)
-        | FormValue::Block2(bytes)
-        | FormValue::Block4(bytes) => {
-            write!(out, "block:{}", hex::encode(alloc, bytes.as_slice())?)?;
+        ValueView::Text(text) => write!(out, "{}", Quoted(text))?,
+        ValueView::LineStrp(offset) => write!(out, "line_strp:0x{offset:x}")?,
+        ValueView::Strp(offset) => write!(out, "strp:0x{offset:x}")?,
+        ValueView::Udata(n) | ValueView::Data8(n) => write!(out, "{n}")?,
+        ValueView::Data1(n) => write!(out, "{n}")?,
+        ValueView::Data2(n) => write!(out, "{n}")?,
+        ValueView::Data4(n) => write!(out, "{n}")?,
+        ValueView::Data16(bytes) => write!(out, "{}", hex::encode(alloc, bytes.as_slice())?)?,
+        ValueView::Block(bytes)
+        | ValueView::Block1(bytes)
+        | ValueView::Block2(bytes)
+        | ValueView::Block4(bytes) => {
+            write!(out, "block:")?;
+            print_bytes(alloc, bytes, out)?;
         }
+    }
+    Ok(())
+}
+
+// Prints the hexadecimal digits of the bytes, some bytes at a time.
+fn print_bytes<W: Write>(alloc: Global, bytes: &[u8], out: &mut W) -> Result<(), Halt> {
+    for piece in bytes.chunks(PIECE) {
+        write!(out, "{}", hex::encode(alloc, piece)?)?;
     }
     Ok(())
 }

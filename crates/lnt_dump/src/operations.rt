@@ -18,7 +18,7 @@ pub(crate) fn print_ops<W: Write>(
     out: &mut W,
 ) -> Result<(), Stop> {
     let (unit, runs) = (sheet.unit, sheet.shown.rows);
-    let mut machine = Machine::new(unit.header());
+    let mut machine = Machine::new(unit.numbers());
     let (mut index, mut open) = (0, false);
     for op in unit.ops() {
         let op = op?;

@@ -3,7 +3,7 @@ use crate::dump::{Shown, Stop};
 use crate::header::print_header;
 use crate::run::run;
 use lnt_files::Halt;
-use lnt_unit::{UnitBuffer, UnitView};
+use lnt_unit::{UnitBuffer, UnitInPlace};
 use std::alloc::{AllocError, Global};
 use std::io::Write;
 
@@ -15,7 +15,7 @@ const PAGE: usize = 1 << 16;
 pub(crate) struct Sheet<'a> {
     pub(crate) alloc: Global,
     pub(crate) buffer: &'a UnitBuffer,
-    pub(crate) unit: &'a UnitView<'a>,
+    pub(crate) unit: &'a UnitInPlace<'a>,
     pub(crate) shown: Shown,
 }
 
@@ -75,7 +75,12 @@ pub(crate) fn hand_on<W: Write>(
     out: &mut W,
 ) -> Result<(), Halt> {
     if !page.is_begun {
-        print_header(sheet.alloc, &sheet.buffer.frame(), sheet.unit.header(), out)?;
+        print_header(
+            sheet.alloc,
+            &sheet.buffer.frame(),
+            &sheet.unit.header(),
+            out,
+        )?;
         page.is_begun = true;
     }
     out.write_all(&page.text)?;

@@ -14,7 +14,7 @@ pub(crate) fn print_rows<W: Write>(
     out: &mut W,
 ) -> Result<(), Stop> {
     let unit = sheet.unit;
-    let mut machine = Machine::new(unit.header());
+    let mut machine = Machine::new(unit.numbers());
     let mut room = [0; MOST];
     let (mut index, mut open) = (0, false);
     for op in unit.ops() {

@@ -1,13 +1,13 @@
 //! Whether the program of a unit runs.
 use crate::dump::Stop;
 use lnt_machine::{Machine, RunFault};
-use lnt_unit::UnitView;
+use lnt_unit::UnitInPlace;
 
 // Runs the program of a unit. It refuses with the fault of the first operation that isn't there, and else with that of
 // the run.
 #[tactic(auto, using(lnt_machine::specs::Laws::Walks::step_allowed))]
-pub(crate) fn run(unit: &UnitView<'_>) -> Result<(), Stop> {
-    let mut machine = Machine::new(unit.header());
+pub(crate) fn run(unit: &UnitInPlace<'_>) -> Result<(), Stop> {
+    let mut machine = Machine::new(unit.numbers());
     let mut open = false;
     for op in unit.ops() {
         match machine.step(&op?) {
@@ -20,7 +20,7 @@ pub(crate) fn run(unit: &UnitView<'_>) -> Result<(), Stop> {
 }
 
 // Why a program stops that doesn't run: an operation that isn't there comes first, wherever it would stand.
-pub(crate) fn not_run(unit: &UnitView<'_>, fault: RunFault) -> Stop {
+pub(crate) fn not_run(unit: &UnitInPlace<'_>, fault: RunFault) -> Stop {
     match unit.operation_count() {
         Ok(_) => Stop::NotRun(fault),
         Err(fault) => Stop::Malformed(fault),

@@ -1,10 +1,11 @@
 -- Entries by their numbers.
-use Rattle.std.proofs.Common.{◌≡◌, ℕ, zero, suc, ◌+◌, ◌<◌, ◌≤◌, List, [], ◌∷◌, ◌++◌, length, Option, Some, None, refl, sym, ap, subst, ◌∙◌, arith}
+use Rattle.std.proofs.Common.{◌≡◌, ℕ, zero, suc, ◌+◌, ◌<◌, ◌≤◌, List, [], ◌∷◌, ◌++◌, length, take, take-append-drop, length-take-le, Option, Some, None, refl, sym, ap, subst, ◌∙◌, arith}
 use Rattle.std.specs.Prelude.{IsSome}
 use Rattle.std.specs.List.{slice_get}
 use Rattle.std.specs.Option.{option_and_then}
 use Rattle.std.proofs.lemmas.Option.{slice_get_past}
 use Rattle.lnt_header_bytes.specs.Borrowed.{BorrowedTable}
+use Rattle.lnt_header_bytes.specs.Marks.{from_entry}
 use Rattle.lnt_header.specs.declared.header.Entry.{Entry}
 use Rattle.lnt_header.specs.declared.header.HeaderParts.{HeaderParts}
 use Rattle.lnt_header.specs.declared.header.Pair.{Pair}
@@ -15,15 +16,17 @@ use Rattle.lnt_entries.specs.Seen.{EntryAt, HasSeen}
 use Rattle.lnt_entries.specs.Tables.{AreUsableTables}
 use Rattle.lnt_entries.specs.Walks.{Says, EntryStep}
 use Rattle.lnt_entries.proofs.PathLemmas.{path_there, within}
-use Rattle.lnt_entries.proofs.JudgedLemmas.{seen_none, seen_more, says_in, some_left}
+use Rattle.lnt_entries.proofs.JudgedLemmas.{seen_more, says_in, some_left}
 
 -- a walk stands behind so many entries
 pub record IsBehind (table walk : BorrowedTable) (count : ℕ) : Type 0 where
   pub seen : List Entry
   pub has_seen : HasSeen seen table walk count
 
-pub behind_none : (table walk : BorrowedTable) → walk ≡ table → IsBehind table walk 0
-behind_none table walk e = subst (λ (w : BorrowedTable). IsBehind table w 0) (sym e) (record { seen = []; has_seen = seen_none table })
+pub behind_first : (table walk : BorrowedTable) (first : ℕ) → first ≤ length table.entries → walk ≡ from_entry first table → IsBehind table walk first
+behind_first table walk first le e =
+    subst (λ (w : BorrowedTable). IsBehind table w first) (sym e)
+    (record { seen = take first table.entries; has_seen = record { joined = sym (take-append-drop first table.entries); count_is = length-take-le first table.entries le; pairs_are = refl } })
 
 pub behind_more : (table old new : BorrowedTable) (count : ℕ) (step : Option EntryView) → IsBehind table old count → count < length table.entries → EntryStep old step new → IsBehind table new (count + 1)
 behind_more table old new count (Some view) b lt g = record { seen = b.seen ++ g.entry ∷ []; has_seen = seen_more b.seen table old new count view b.has_seen g }

@@ -1,5 +1,5 @@
 -- Walks over entries.
-use Rattle.std.proofs.Common.{◌≡◌, ◌≢◌, ℕ, suc, ◌-◌, List, [], ◌∷◌, length, refl, sym, ap, subst, ◌∙◌, arith}
+use Rattle.std.proofs.Common.{◌≡◌, ◌≢◌, ℕ, suc, ◌-◌, List, [], ◌∷◌, length, length-drop, refl, sym, ap, subst, ◌∙◌, arith}
 use Rattle.lnt_wire.specs.At.{At}
 use Rattle.lnt_wire.specs.Bytes.{NoneSpelled}
 use Rattle.lnt_wire.specs.declared.format.Format.{Format}
@@ -7,6 +7,7 @@ use Rattle.lnt_wire.specs.declared.format.Order.{Order}
 use Rattle.lnt_header_bytes.specs.Borrowed.{first_entries, BorrowedTable, AreEntryBytes}
 use Rattle.lnt_header.specs.Joins.{Each}
 use Rattle.lnt_header_bytes.specs.Laws.Borrowed.{all_found, first_found, others_spelled}
+use Rattle.lnt_header_bytes.specs.Marks.{from_entry}
 use Rattle.lnt_header_bytes.specs.TableBytes.{EntryBytes}
 use Rattle.lnt_header.specs.declared.header.Entry.{Entry}
 use Rattle.lnt_header.specs.declared.header.Pair.{Pair}
@@ -26,6 +27,15 @@ pub walk_begun : (table : BorrowedTable) (usual : Usual) (places : Places) (left
     → AreEntryBytes table at.rest → IsWalk table usual places left at
 walk_begun table usual places left at is are count order bytes =
     record { usual_is = is; places_are = are; order_is = order; bytes = subst (λ (t : BorrowedTable). AreEntryBytes t at.rest) (sym (begun_is table left at count bytes)) bytes }
+
+-- a walk that begins before a later entry
+pub before_is : (table : BorrowedTable) (first left : ℕ) (at : At) → left ≡ length table.entries - first → AreEntryBytes (from_entry first table) at.rest → left_of table left at ≡ from_entry first table
+before_is table first left at count bytes = begun_is (from_entry first table) left at (count ∙ sym (length-drop first table.entries)) bytes
+
+pub walk_before : (table : BorrowedTable) (usual : Usual) (places : Places) (first left : ℕ) (at : At) → IsUsual usual table.pairs → ArePlaces places table.pairs → left ≡ length table.entries - first → at.order ≡ table.order
+    → AreEntryBytes (from_entry first table) at.rest → IsWalk table usual places left at
+walk_before table usual places first left at is are count order bytes =
+    record { usual_is = is; places_are = are; order_is = order; bytes = subst (λ (t : BorrowedTable). AreEntryBytes t at.rest) (sym (before_is table first left at count bytes)) bytes }
 
 pub walk_ended : (table : BorrowedTable) (left : ℕ) (at : At) → left ≡ 0 → (left_of table left at).entries ≡ []
 walk_ended table left at none = ap (λ (n : ℕ). first_entries table.format table.order table.pairs n at.rest) none

@@ -1,5 +1,6 @@
 //! The entries of a table one after another, each read where it lies.
-ghost use Rattle.std.specs.Prelude.{◌≡◌, ◌↔◌, IsTrue};
+ghost use Rattle.std.specs.Prelude.{◌≡◌, ◌↔◌, ◌<◌, ◌≤◌, IsTrue, length};
+ghost use Rattle.lnt_header_bytes.specs.Marks.{from_entry};
 ghost use Rattle.lnt_entries.specs.Walks.{EntryStep};
 
 use crate::components::{Places, Usual, places_of, read_entry, usual_of};
@@ -56,6 +57,26 @@ impl<'t> Entries<'t> {
             left: table.count(),
             cursor: table.cursor(),
         }
+    }
+
+    /// A walk before the entry of this number or an earlier one, and the number of that entry. It is near where the
+    /// table has marks.
+    #[tactic(auto, using(crate::proofs::WalkLemmas::walk_before, crate::proofs::WalkLemmas::before_is))]
+    pub(crate) fn before(table: &'t TableView<'t>, number: u64) -> (u64, Entries<'t>)
+        requires { number < length table.now.entries }
+        ensures first { result.0 ≤ number }
+        ensures walk { result.1 ≡ from_entry result.0 table.entry.now }
+    {
+        let (first, cursor) = table.cursor_before(number);
+        let pairs = table.pairs();
+        let entries = Entries {
+            table,
+            usual: usual_of(pairs),
+            places: places_of(pairs),
+            left: table.count() - first,
+            cursor,
+        };
+        (first, entries)
     }
 
     /// What the next entry says. None behind the last one.

@@ -1,11 +1,11 @@
 -- Why the work on a file was stopped.
-use Rattle.lnt_wire.specs.declared.source.SourceStop.{SourceStop}
-use Rattle.lnt_wire.specs.declared.source.SourceStop.TheVariants.{Memory as SourceMemory, Read as SourceRead, TooLong as SourceTooLong}
+use Rattle.lnt_wire.specs.declared.stop.Stop.{Stop}
+use Rattle.lnt_wire.specs.declared.stop.Stop.TheVariants.{Memory as SourceMemory, Read as SourceRead, TooLong as SourceTooLong}
 use Rattle.lnt_files.specs.declared.halt.Halt.{Halt}
 use Rattle.lnt_files.specs.declared.halt.Halt.TheVariants.{Memory, Read, TooLong, Write}
 
 -- the same of a source's stop
-abbrev pub halt_of_source : SourceStop → Halt
+abbrev pub halt_of_source : Stop → Halt
 halt_of_source SourceMemory = Memory
 halt_of_source SourceRead = Read
 halt_of_source SourceTooLong = TooLong

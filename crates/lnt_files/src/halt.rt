@@ -1,11 +1,13 @@
 //! Why the work on a file was stopped.
-ghost use Rattle.std.specs.Prelude.{◌≡◌};
+ghost use Rattle.std.specs.Prelude.{◌≡◌, Some};
+ghost use Rattle.lnt_files.specs.FaultTexts.{halt_text};
 ghost use Rattle.lnt_files.specs.Halts.{halt_of_source};
 ghost use Rattle.lnt_files.specs.declared.halt.Halt.TheVariants.{Memory, Write};
 
-use lnt_wire::SourceStop;
+use lnt_wire::Stop;
 use std::alloc::AllocError;
-use std::io;
+use std::error::Error;
+use std::{fmt, io};
 
 /// Why the work on a file was stopped. It judges nothing.
 #[derive(Clone, Copy, Debug, PartialEq, Eq)]
@@ -20,14 +22,29 @@ pub enum Halt {
     Memory,
 }
 
-impl From<SourceStop> for Halt {
+impl fmt::Display for Halt {
+    ghost output = { λ halt. Some (halt_text halt) };
+
+    fn fmt<W: fmt::Write>(&self, f: &mut fmt::Formatter<W>) -> fmt::Result {
+        match self {
+            Halt::Read => write!(f, "cannot read"),
+            Halt::TooLong => write!(f, "too long"),
+            Halt::Write => write!(f, "cannot write"),
+            Halt::Memory => write!(f, "out of memory"),
+        }
+    }
+}
+
+impl Error for Halt {}
+
+impl From<Stop> for Halt {
     ghost from_gives = { λ stop halt. halt ≡ halt_of_source stop };
 
-    fn from(stop: SourceStop) -> Halt {
+    fn from(stop: Stop) -> Halt {
         match stop {
-            SourceStop::Memory => Halt::Memory,
-            SourceStop::Read => Halt::Read,
-            SourceStop::TooLong => Halt::TooLong,
+            Stop::Memory => Halt::Memory,
+            Stop::Read => Halt::Read,
+            Stop::TooLong => Halt::TooLong,
         }
     }
 }

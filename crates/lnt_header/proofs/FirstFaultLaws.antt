@@ -110,7 +110,7 @@ module _ {X : Type 0} (P : X → List ℕ → Type 0) (IsSo : Reason → List �
       one.none reason before left h y q.front (q.back ++ rest) q.first
       (sym (append_assoc q.front q.back rest) ∙ ap (λ (z : List ℕ). z ++ rest) (sym q.joined) ∙ sym e)
 
-  -- behind values that are there the fault of the next is one
+  -- after values that are there the fault of the next is one
   pub each_one : (xs ys : List X) (reason other : Reason) (front front' behind behind' left left' : List ℕ) → Each P xs front
       → Each P ys front' → IsSo reason behind left → IsSo other behind' left'
       → front ++ (behind ++ left) ≡ front' ++ (behind' ++ left') → (reason ≡ other) × (front ++ behind ≡ front' ++ behind')

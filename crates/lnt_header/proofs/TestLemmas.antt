@@ -1,11 +1,13 @@
 -- Tests of a header's parts.
-use Rattle.std.proofs.Common.{◌≡◌, ℕ, zero, suc, ◌+◌, ◌<◌, List, [], ◌∷◌, ◌++◌, length, take, min, refl, sym, ap, subst, ◌∙◌, arith, ◌⊎◌, inl, inr}
+use Rattle.std.proofs.Common.{◌≡◌, ℕ, zero, suc, ◌+◌, ◌<◌, List, [], ◌∷◌, ◌++◌, length, take, min, refl, sym, ap, subst}
+use Rattle.std.proofs.Common.{◌∙◌, arith, ◌⊎◌, inl, inr}
 use Rattle.std.specs.Prelude.{Bool, true, false, IsTrue, ◌≢◌, map, FitsSigned}
 use Rattle.std.specs.Bool.{MatchBool}
 use Rattle.std.specs.List.{AllByRecursion, AllZip}
 use Rattle.std.specs.Int.{w8}
 use Rattle.lnt_wire.specs.declared.form.FormValue.{FormValue}
-use Rattle.lnt_wire.specs.declared.form.FormValue.TheVariants.{Text, LineStrp, Strp, Udata, Data1, Data2, Data4, Data8, Data16, Block, Block1, Block2, Block4}
+use Rattle.lnt_wire.specs.declared.form.FormValue.TheVariants.{Text, LineStrp, Strp, Udata, Data1, Data2, Data4, Data8}
+use Rattle.lnt_wire.specs.declared.form.FormValue.TheVariants.{Data16, Block, Block1, Block2, Block4}
 use Rattle.lnt_wire.specs.FormBytes.{form_of, HasSpelling}
 use Rattle.lnt_header.specs.declared.fault.UnitFault.{UnitFault}
 use Rattle.lnt_header.specs.declared.fault.UnitFault.TheVariants.{HeaderNumber, EntryNotOfFormat, TextHoldsZero, OpNotOfUnit}
@@ -14,7 +16,8 @@ use Rattle.lnt_header.specs.declared.header.HeaderParts.{HeaderParts}
 use Rattle.lnt_header.specs.declared.header.Pair.{Pair}
 use Rattle.lnt_header.specs.declared.header.Which.TheVariants.{Directories, Files}
 use Rattle.lnt_header.specs.Laws.Firsts.{first_is_wrong}
-use Rattle.lnt_header.specs.HeaderRules.{IsAddressSize, AreStandardLengths, known_lengths, six_bytes, HasHeaderNumbers, IsEntryOf, IsTable, IsHeader}
+use Rattle.lnt_header.specs.HeaderRules.{IsAddressSize, AreStandardLengths, known_lengths, six_bytes, HasHeaderNumbers}
+use Rattle.lnt_header.specs.HeaderRules.{IsEntryOf, IsTable, IsHeader}
 use Rattle.lnt_header.specs.HeaderTests.{IsFormat, IsPartsFault, FitsItsForm, HoldsNoZero, FitsPair, IsOfFormat, HasSoundTexts}
 
 -- ---- the standard lengths
@@ -36,7 +39,8 @@ known_is xs m e =
     ap (λ (n : ℕ). take n known_lengths) swapped ∙ taken_capped known_lengths (length xs)
 
 -- a comparison of the known ones
-pub standard_lengths : (xs : List ℕ) (m : ℕ) (r : Bool) → m ≡ min (length xs) 12 → MatchBool r (take m xs ≡ take m known_lengths) (take m xs ≢ take m known_lengths)
+pub standard_lengths : (xs : List ℕ) (m : ℕ) (r : Bool) → m ≡ min (length xs) 12
+    → MatchBool r (take m xs ≡ take m known_lengths) (take m xs ≢ take m known_lengths)
     → (IsTrue r → AreStandardLengths xs) × (AreStandardLengths xs → IsTrue r)
 standard_lengths xs m true e same = ((λ t. sym (front_is xs m e) ∙ same ∙ known_is xs m e), (λ are. refl))
 standard_lengths xs m false e other = ((λ t. absurd cc), (λ are. absurd (other (front_is xs m e ∙ are ∙ sym (known_is xs m e)))))
@@ -49,26 +53,33 @@ pub record ZipLeft {X Y : Type 0} (P : X → Y → Type 0) (xs : List X) (ys : L
   pub to : AllZip P left right → AllZip P xs ys
   pub from : AllZip P xs ys → AllZip P left right
 
-pub zip_start : {X Y : Type 0} (P : X → Y → Type 0) (xs left : List X) (ys right : List Y) → left ≡ xs → right ≡ ys → length ys ≡ length xs → ZipLeft P xs ys left right
+pub zip_start : {X Y : Type 0} (P : X → Y → Type 0) (xs left : List X) (ys right : List Y) → left ≡ xs → right ≡ ys → length ys ≡ length xs
+    → ZipLeft P xs ys left right
 zip_start P xs left ys right same same' long = rw (same, same') (record { as_long = sym long; to = λ h. h; from = λ h. h })
 
-pub zip_more : {X Y : Type 0} (P : X → Y → Type 0) (xs left left' : List X) (ys right right' : List Y) (x : X) (y : Y) → ZipLeft P xs ys left right → left ≡ x ∷ left' → right ≡ y ∷ right' → P x y → ZipLeft P xs ys left' right'
+pub zip_more : {X Y : Type 0} (P : X → Y → Type 0) (xs left left' : List X) (ys right right' : List Y) (x : X) (y : Y)
+    → ZipLeft P xs ys left right → left ≡ x ∷ left' → right ≡ y ∷ right' → P x y → ZipLeft P xs ys left' right'
 zip_more P xs left left' ys right right' x y h is is' p =
-    let k : ZipLeft P xs ys (x ∷ left') (y ∷ right') = subst (λ (z : List _). ZipLeft P xs ys z (y ∷ right')) is (subst (λ (z : List _). ZipLeft P xs ys left z) is' h) in
+    let k : ZipLeft P xs ys (x ∷ left') (y ∷ right') = subst (λ (z : List _). ZipLeft P xs ys z (y ∷ right')) is
+    (subst (λ (z : List _). ZipLeft P xs ys left z) is' h) in
     record { as_long = omega (arith, k.as_long); to = λ all. k.to (p, all); from = λ all. (k.from all).1 }
 
-pub zip_not : {X Y : Type 0} (P : X → Y → Type 0) (xs left left' : List X) (ys right right' : List Y) (x : X) (y : Y) → ZipLeft P xs ys left right → left ≡ x ∷ left' → right ≡ y ∷ right' → (P x y → ⊥) → AllZip P xs ys → ⊥
+pub zip_not : {X Y : Type 0} (P : X → Y → Type 0) (xs left left' : List X) (ys right right' : List Y) (x : X) (y : Y)
+    → ZipLeft P xs ys left right → left ≡ x ∷ left' → right ≡ y ∷ right' → (P x y → ⊥) → AllZip P xs ys → ⊥
 zip_not P xs left left' ys right right' x y h is is' other all =
-    let k : ZipLeft P xs ys (x ∷ left') (y ∷ right') = subst (λ (z : List _). ZipLeft P xs ys z (y ∷ right')) is (subst (λ (z : List _). ZipLeft P xs ys left z) is' h) in
+    let k : ZipLeft P xs ys (x ∷ left') (y ∷ right') = subst (λ (z : List _). ZipLeft P xs ys z (y ∷ right')) is
+    (subst (λ (z : List _). ZipLeft P xs ys left z) is' h) in
     other (k.from all).0
 
-ends : {X Y : Type 0} (P : X → Y → Type 0) (left : List X) (right : List Y) → length left ≡ length right → (left ≡ []) ⊎ (right ≡ []) → AllZip P left right
+ends : {X Y : Type 0} (P : X → Y → Type 0) (left : List X) (right : List Y) → length left ≡ length right → (left ≡ []) ⊎ (right ≡ [])
+    → AllZip P left right
 ends P [] [] e none = tt
 ends P [] (y ∷ right) e none = absurd (omega arith)
 ends P (x ∷ left) [] e none = absurd (omega arith)
 ends P (x ∷ left) (y ∷ right) e none = elim none [ inl a ↦ absurd cc | inr a ↦ absurd cc ]
 
-pub zip_end : {X Y : Type 0} (P : X → Y → Type 0) (xs left : List X) (ys right : List Y) → ZipLeft P xs ys left right → (left ≡ []) ⊎ (right ≡ []) → AllZip P xs ys
+pub zip_end : {X Y : Type 0} (P : X → Y → Type 0) (xs left : List X) (ys right : List Y) → ZipLeft P xs ys left right → (left ≡ [])
+    ⊎ (right ≡ []) → AllZip P xs ys
 zip_end P xs left ys right h none = h.to (ends P left right h.as_long none)
 
 pub other_lengths : {X Y : Type 0} (P : X → Y → Type 0) (xs : List X) (ys : List Y) → (length ys ≡ length xs → ⊥) → AllZip P xs ys → ⊥
@@ -79,12 +90,15 @@ other_lengths P (x ∷ xs) (y ∷ ys) other h = other_lengths P xs ys (λ e. oth
 
 -- ---- the whole
 
-bytes_join : (xs ys : List ℕ) → AllByRecursion (λ byte. byte < 256) xs → AllByRecursion (λ byte. byte < 256) ys → AllByRecursion (λ byte. byte < 256) (xs ++ ys)
+bytes_join : (xs ys : List ℕ) → AllByRecursion (λ byte. byte < 256) xs → AllByRecursion (λ byte. byte < 256) ys
+    → AllByRecursion (λ byte. byte < 256) (xs ++ ys)
 bytes_join [] ys h k = k
 bytes_join (x ∷ xs) ys h k = (h.0, bytes_join xs ys h.1 k)
 
-pub header_numbers : (h : HeaderParts) → IsAddressSize h.address_size → FitsSigned w8 h.line_base → AllByRecursion (λ byte. byte < 256) (six_bytes h) → AllByRecursion (λ byte. byte < 256) h.standard_lengths
-    → 0 < h.max_ops → 0 < h.line_range → h.opcode_base ≡ length h.standard_lengths + 1 → AreStandardLengths h.standard_lengths → HasHeaderNumbers h
+pub header_numbers : (h : HeaderParts) → IsAddressSize h.address_size → FitsSigned w8 h.line_base
+    → AllByRecursion (λ byte. byte < 256) (six_bytes h) → AllByRecursion (λ byte. byte < 256) h.standard_lengths
+    → 0 < h.max_ops → 0 < h.line_range → h.opcode_base ≡ length h.standard_lengths + 1 → AreStandardLengths h.standard_lengths
+    → HasHeaderNumbers h
 header_numbers h size fits six lengths max_ops line_range opcode_base known = record {
   address_size = size;
   line_base = fits;
@@ -114,7 +128,8 @@ record AreValues (pairs : List Pair) (values : List FormValue) : Type 0 where
   forms : map form_of values ≡ map (λ pair. pair.form) pairs
   spelled : AllByRecursion HasSpelling values
 
-are_values : (pairs : List Pair) (values : List FormValue) → AllZip FitsPair pairs values → AllByRecursion HoldsNoZero values → AreValues pairs values
+are_values : (pairs : List Pair) (values : List FormValue) → AllZip FitsPair pairs values → AllByRecursion HoldsNoZero values
+    → AreValues pairs values
 are_values [] [] h z = record { forms = refl; spelled = tt }
 are_values [] (v ∷ values) h z = absurd h
 are_values (pair ∷ pairs) [] h z = absurd h
@@ -124,18 +139,28 @@ are_values (pair ∷ pairs) (v ∷ values) h z =
     let behind = rest.forms in
     record { forms = cc; spelled = (both_tests v h.0.1 z.0, rest.spelled) }
 
-are_entries : (pairs : List Pair) (entries : List Entry) → AllByRecursion (IsOfFormat pairs) entries → AllByRecursion HasSoundTexts entries → AllByRecursion (IsEntryOf pairs) entries
+are_entries : (pairs : List Pair) (entries : List Entry) → AllByRecursion (IsOfFormat pairs) entries → AllByRecursion HasSoundTexts entries
+    → AllByRecursion (IsEntryOf pairs) entries
 are_entries pairs [] h z = tt
 are_entries pairs (entry ∷ entries) h z =
     let one = are_values pairs entry.values h.0 z.0 in
     (record { forms = one.forms; spelled = one.spelled }, are_entries pairs entries h.1 z.1)
 
 pub tests_passed : (h : HeaderParts) → HasHeaderNumbers h → IsFormat h.directory_format h.directories → IsFormat h.file_format h.files
-    → AllByRecursion (IsOfFormat h.directory_format) h.directories → AllByRecursion (IsOfFormat h.file_format) h.files → AllByRecursion HasSoundTexts h.directories → AllByRecursion HasSoundTexts h.files → IsHeader h
+    → AllByRecursion (IsOfFormat h.directory_format) h.directories → AllByRecursion (IsOfFormat h.file_format) h.files
+    → AllByRecursion HasSoundTexts h.directories → AllByRecursion HasSoundTexts h.files → IsHeader h
 tests_passed h numbers d f of_d of_f text_d text_f = record {
   numbers = numbers;
-  directories = record { few_pairs = d.few_pairs; none_without_pairs = d.none_without_pairs; of_format = are_entries h.directory_format h.directories of_d text_d };
-  files = record { few_pairs = f.few_pairs; none_without_pairs = f.none_without_pairs; of_format = are_entries h.file_format h.files of_f text_f };
+  directories = record {
+    few_pairs = d.few_pairs;
+    none_without_pairs = d.none_without_pairs;
+    of_format = are_entries h.directory_format h.directories of_d text_d;
+  };
+  files = record {
+    few_pairs = f.few_pairs;
+    none_without_pairs = f.none_without_pairs;
+    of_format = are_entries h.file_format h.files of_f text_f;
+  };
 }
 
 -- ---- what is refused
@@ -162,7 +187,8 @@ no_zero : (value : FormValue) → HasSpelling value → HoldsNoZero value
 no_zero (Text text) h = h
 no_zero value h = tt
 
-of_format : (pairs : List Pair) (values : List FormValue) → map form_of values ≡ map (λ pair. pair.form) pairs → AllByRecursion HasSpelling values → AllZip FitsPair pairs values
+of_format : (pairs : List Pair) (values : List FormValue) → map form_of values ≡ map (λ pair. pair.form) pairs
+    → AllByRecursion HasSpelling values → AllZip FitsPair pairs values
 of_format [] [] e h = tt
 of_format [] (v ∷ values) e h = absurd cc
 of_format (pair ∷ pairs) [] e h = absurd cc
@@ -175,7 +201,8 @@ sound_texts : (values : List FormValue) → AllByRecursion HasSpelling values �
 sound_texts [] h = tt
 sound_texts (v ∷ values) h = (no_zero v h.0, sound_texts values h.1)
 
-all_of_format : (pairs : List Pair) (entries : List Entry) → AllByRecursion (IsEntryOf pairs) entries → AllByRecursion (IsOfFormat pairs) entries
+all_of_format : (pairs : List Pair) (entries : List Entry) → AllByRecursion (IsEntryOf pairs) entries
+    → AllByRecursion (IsOfFormat pairs) entries
 all_of_format pairs [] h = tt
 all_of_format pairs (entry ∷ entries) h = (of_format pairs entry.values h.0.forms h.0.spelled, all_of_format pairs entries h.1)
 
@@ -185,9 +212,15 @@ all_sound pairs (entry ∷ entries) h = (sound_texts entry.values h.0.spelled, a
 
 pub no_header : (h : HeaderParts) (fault : UnitFault) → IsPartsFault fault h → IsHeader h → ⊥
 no_header h HeaderNumber wrong is =
-    wrong (record { numbers = is.numbers; directories = format_of h.directory_format h.directories is.directories; files = format_of h.file_format h.files is.files })
-no_header h (EntryNotOfFormat Directories index) wrong is = first_is_wrong wrong.1 (all_of_format h.directory_format h.directories is.directories.of_format)
+    wrong (record {
+      numbers = is.numbers;
+      directories = format_of h.directory_format h.directories is.directories;
+      files = format_of h.file_format h.files is.files;
+    })
+no_header h (EntryNotOfFormat Directories index) wrong is =
+    first_is_wrong wrong.1 (all_of_format h.directory_format h.directories is.directories.of_format)
 no_header h (EntryNotOfFormat Files index) wrong is = first_is_wrong wrong.2 (all_of_format h.file_format h.files is.files.of_format)
-no_header h (TextHoldsZero Directories index) wrong is = first_is_wrong wrong.2 (all_sound h.directory_format h.directories is.directories.of_format)
+no_header h (TextHoldsZero Directories index) wrong is =
+    first_is_wrong wrong.2 (all_sound h.directory_format h.directories is.directories.of_format)
 no_header h (TextHoldsZero Files index) wrong is = first_is_wrong wrong.3 (all_sound h.file_format h.files is.files.of_format)
 no_header h (OpNotOfUnit index) wrong is = wrong

@@ -16,6 +16,6 @@ NoSpelling Spells x = (bytes : List ℕ) → Spells x bytes → ⊥
 pub record RefusedPut {X : Type 0} (Spells : X → List ℕ → Type 0) (x : X) (fault : EncodeFault) : Type 0 where
   pub none : fault ≡ TooLarge → NoSpelling Spells x
 
--- the values of an entry, one behind the other
+-- the values of an entry, one after the other
 abbrev pub EntryParts : Format → Order → Entry → List ℕ → Type 0
 EntryParts format order entry bytes = Each (FormBytes format order) entry.values bytes

@@ -7,18 +7,22 @@ use Rattle.lnt_wire.specs.declared.format.Order.{Order}
 use Rattle.lnt_wire.specs.Numbers.{NumberBytes}
 use Rattle.lnt_wire.specs.Leb128.{IsLeb, AreHigh, UnsignedLeb, IsLargeUnsigned, IsLargeSigned}
 
--- The bytes up to the limit don't hold the field whole: a number of a fixed width, a text, a LEB128, a block, or the bytes of an extended operation.
+-- The bytes up to the limit don't hold the field whole: a number of a fixed width, a text, a LEB128, a block, or the bytes of an
+-- extended operation.
 pub data IsCutField (before left : List ℕ) : Type 0 where
   number : (size : ℕ) → size ≤ 16 → length left < size → IsCutField before left
   text : HasNoZero left → IsCutField before left
   leb : AreHigh left → IsCutField before left
   block : (n : ℕ) (spelling rest : List ℕ) → UnsignedLeb n spelling → left ≡ spelling ++ rest → length rest < n → IsCutField before left
-  sized_block : (order : Order) (size n : ℕ) (spelling rest : List ℕ) → size ≤ 4 → NumberBytes order size n spelling → left ≡ spelling ++ rest → length rest < n → IsCutField before left
-  operation : (n : ℕ) (earlier spelling : List ℕ) → UnsignedLeb n spelling → before ≡ earlier ++ 0 ∷ spelling → length left < n → IsCutField before left
+  sized_block : (order : Order) (size n : ℕ) (spelling rest : List ℕ) → size ≤ 4 → NumberBytes order size n spelling
+      → left ≡ spelling ++ rest → length rest < n → IsCutField before left
+  operation : (n : ℕ) (earlier spelling : List ℕ) → UnsignedLeb n spelling → before ≡ earlier ++ 0 ∷ spelling → length left < n
+      → IsCutField before left
 
 -- a whole LEB128 whose value no field of its kind has
 abbrev pub IsLargeLeb : List ℕ → Type 0
-IsLargeLeb left = (spelling : List ℕ) × (rest : List ℕ) × IsLeb spelling × (left ≡ spelling ++ rest) × (IsLargeUnsigned spelling ⊎ IsLargeSigned spelling)
+IsLargeLeb left =
+    (spelling : List ℕ) × (rest : List ℕ) × IsLeb spelling × (left ≡ spelling ++ rest) × (IsLargeUnsigned spelling ⊎ IsLargeSigned spelling)
 
 -- What follows an extended operation's length is no operand of its code.
 abbrev pub IsWrongOperand : ℕ → List ℕ → Type 0

@@ -1,4 +1,5 @@
--- The first part that isn't there of what is joined from several: the parts before it are there, one behind the other, and the fault is its own.
+-- The first part that isn't there of what is joined from several: the parts before it are there, one after the other, and the
+-- fault is its own.
 --     before   the bytes up to the place of the fault
 --     left     the bytes from the place on
 use Rattle.std.specs.Prelude.{◌≡◌, ℕ, ◌<◌, List, ◌++◌, length}
@@ -6,10 +7,14 @@ use Rattle.lnt_wire.specs.declared.fault.Reason.{Reason}
 use Rattle.lnt_header.specs.Joins.{Each}
 
 -- of a value, and then one whose kind it decides
-pub data FirstOf {X : Type 0} (First : X → List ℕ → Type 0) (OfFirst : Reason → List ℕ → List ℕ → Type 0) (OfSecond : X → Reason → List ℕ → List ℕ → Type 0) (reason : Reason) (before left : List ℕ) : Type 0 where
+pub data FirstOf {X : Type 0} (First : X → List ℕ → Type 0) (OfFirst : Reason → List ℕ → List ℕ → Type 0)
+    (OfSecond : X → Reason → List ℕ → List ℕ → Type 0) (reason : Reason) (before left : List ℕ) : Type 0 where
   first : OfFirst reason before left → FirstOf First OfFirst OfSecond reason before left
-  second : (x : X) (front behind : List ℕ) → First x front → before ≡ front ++ behind → OfSecond x reason behind left → FirstOf First OfFirst OfSecond reason before left
+  second : (x : X) (front behind : List ℕ) → First x front → before ≡ front ++ behind → OfSecond x reason behind left
+      → FirstOf First OfFirst OfSecond reason before left
 
 -- of as many values as a count says
-pub data FirstOfSeveral {X : Type 0} (n : ℕ) (Spells : X → List ℕ → Type 0) (OfOne : Reason → List ℕ → List ℕ → Type 0) (reason : Reason) (before left : List ℕ) : Type 0 where
-  next : (xs : List X) (front behind : List ℕ) → length xs < n → Each Spells xs front → before ≡ front ++ behind → OfOne reason behind left → FirstOfSeveral n Spells OfOne reason before left
+pub data FirstOfSeveral {X : Type 0} (n : ℕ) (Spells : X → List ℕ → Type 0) (OfOne : Reason → List ℕ → List ℕ → Type 0) (reason : Reason)
+    (before left : List ℕ) : Type 0 where
+  next : (xs : List X) (front behind : List ℕ) → length xs < n → Each Spells xs front → before ≡ front ++ behind → OfOne reason behind left
+      → FirstOfSeveral n Spells OfOne reason before left

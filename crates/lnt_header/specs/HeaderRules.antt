@@ -20,7 +20,8 @@ AreStandardLengths lengths = take 12 lengths ≡ take (length lengths) known_len
 
 -- the fields of one byte from minimum_instruction_length to opcode_base
 abbrev pub six_bytes : HeaderParts → List ℕ
-six_bytes h = h.minimum_instruction_length ∷ h.max_ops ∷ h.default_is_stmt ∷ cast_unsigned w8 h.line_base ∷ h.line_range ∷ h.opcode_base ∷ []
+six_bytes h =
+    h.minimum_instruction_length ∷ h.max_ops ∷ h.default_is_stmt ∷ cast_unsigned w8 h.line_base ∷ h.line_range ∷ h.opcode_base ∷ []
 
 -- the same, and the standard opcode lengths
 abbrev pub single_bytes : HeaderParts → List ℕ
@@ -36,7 +37,8 @@ pub record HasHeaderNumbers (h : HeaderParts) : Type 0 where
   pub opcode_base : h.opcode_base ≡ length h.standard_lengths + 1
   pub lengths : AreStandardLengths h.standard_lengths
 
--- An entry with one value for each pair, of the pair's form. Each value has a spelling: a text has no zero byte, and a block fits its length.
+-- An entry with one value for each pair, of the pair's form. Each value has a spelling: a text has no zero byte, and a block fits
+-- its length.
 pub record IsEntryOf (pairs : List Pair) (entry : Entry) : Type 0 where
   pub forms : map form_of entry.values ≡ map (λ pair. pair.form) pairs
   pub spelled : AllByRecursion HasSpelling entry.values

@@ -60,9 +60,11 @@ pub record AreOfFormats (h : HeaderParts) : Type 0 where
 -- What is wrong. Whatever is tested earlier is sound.
 abbrev pub IsPartsFault : UnitFault → HeaderParts → Type 0
 IsPartsFault HeaderNumber h = HasNumbersAndFormats h → ⊥
-IsPartsFault (EntryNotOfFormat Directories index) h = HasNumbersAndFormats h × IsFirstNot (IsOfFormat h.directory_format) h.directories index
+IsPartsFault (EntryNotOfFormat Directories index) h =
+    HasNumbersAndFormats h × IsFirstNot (IsOfFormat h.directory_format) h.directories index
 IsPartsFault (EntryNotOfFormat Files index) h =
-    HasNumbersAndFormats h × AllByRecursion (IsOfFormat h.directory_format) h.directories × IsFirstNot (IsOfFormat h.file_format) h.files index
+    HasNumbersAndFormats h × AllByRecursion (IsOfFormat h.directory_format) h.directories
+    × IsFirstNot (IsOfFormat h.file_format) h.files index
 IsPartsFault (TextHoldsZero Directories index) h = HasNumbersAndFormats h × AreOfFormats h × IsFirstNot HasSoundTexts h.directories index
 IsPartsFault (TextHoldsZero Files index) h =
     HasNumbersAndFormats h × AreOfFormats h × AllByRecursion HasSoundTexts h.directories × IsFirstNot HasSoundTexts h.files index

@@ -1,5 +1,6 @@
 pub mod Conversion
 pub mod Encoding
+pub mod FaultTexts
 pub mod FieldFaults
 pub mod FirstFaults
 pub mod HeaderRules

@@ -1,5 +1,10 @@
 //! Why parts are no header and no unit.
+ghost use Rattle.std.specs.Prelude.{Some};
+ghost use Rattle.lnt_header.specs.FaultTexts.{unit_fault_text};
+
 use crate::header::Which;
+use std::error::Error;
+use std::fmt;
 
 /// Why no unit has the parts that are given. Indices count from 0.
 #[derive(Clone, Copy, Debug, PartialEq, Eq)]
@@ -16,3 +21,24 @@ pub enum UnitFault {
     /// The first operation that the header doesn't admit.
     OpNotOfUnit(u64),
 }
+
+impl fmt::Display for UnitFault {
+    ghost output = { λ fault. Some (unit_fault_text fault) };
+
+    fn fmt<W: fmt::Write>(&self, f: &mut fmt::Formatter<W>) -> fmt::Result {
+        match *self {
+            UnitFault::HeaderNumber => write!(f, "number or format that no header has"),
+            UnitFault::EntryNotOfFormat(which, index) => {
+                write!(f, "{which} {index} isn't of its format")
+            }
+            UnitFault::TextHoldsZero(which, index) => {
+                write!(f, "{which} {index} has a text with a zero byte")
+            }
+            UnitFault::OpNotOfUnit(index) => {
+                write!(f, "operation {index} isn't one that the header admits")
+            }
+        }
+    }
+}
+
+impl Error for UnitFault {}

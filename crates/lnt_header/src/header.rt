@@ -1,10 +1,12 @@
 //! The header of a unit (DWARF 5, section 6.2.4).
-ghost use Rattle.std.specs.Prelude.{◌≡◌, ◌<◌, IfOk, IfErr};
+ghost use Rattle.std.specs.Prelude.{◌≡◌, ◌<◌, IfOk, IfErr, Some};
+ghost use Rattle.lnt_header.specs.FaultTexts.{entry_text};
 
 use crate::fault::UnitFault;
 use crate::tested::parts_fault;
 use lnt_lists::{Items, ShortList};
 use lnt_wire::{Form, FormValue, Format, Order};
+use std::fmt;
 use std::marker::Model;
 
 /// A part of an entry's format: a content type, and the form of its values.
@@ -28,6 +30,18 @@ pub struct Entry {
 pub enum Which {
     Directories,
     Files,
+}
+
+/// An entry of the table is printed as `directory` or `file`.
+impl fmt::Display for Which {
+    ghost output = { λ which. Some (entry_text which) };
+
+    fn fmt<W: fmt::Write>(&self, f: &mut fmt::Formatter<W>) -> fmt::Result {
+        match self {
+            Which::Directories => write!(f, "directory"),
+            Which::Files => write!(f, "file"),
+        }
+    }
 }
 
 /// What a header is made of, but for the lengths, which follow from it.

@@ -7,11 +7,9 @@ mod fault;
 mod header;
 mod op;
 mod tested;
-mod view;
 
 pub use fault::UnitFault;
 pub use header::{Entry, Header, HeaderParts, Pair, Which};
 pub use lnt_lists::ShortList;
-pub use op::Op;
+pub use op::{Op, OpView, Operands};
 pub use tested::is_address_size;
-pub use view::{OpView, Operands};

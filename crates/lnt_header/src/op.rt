@@ -1,5 +1,4 @@
-//! The operations of a line number program (DWARF 5, sections 6.2.5 and 7.22).
-use crate::view::{OpView, Operands};
+//! The operations of a line number program (DWARF 5, sections 6.2.5 and 7.22), with operands of their own and with borrowed ones.
 use lnt_lists::Items;
 
 /// An operation that owns its operands.
@@ -41,6 +40,38 @@ pub enum Op {
     SetDiscriminator(u64),
     /// Any other extended opcode, and its bytes. It changes nothing.
     UnknownExtended(u8, Items<u8>),
+}
+
+/// The operands of an unknown standard operation.
+#[derive(Clone, Copy, Debug)]
+pub enum Operands<'a> {
+    /// The bytes of unsigned LEB128 numbers, one after the other.
+    Spelled(&'a [u8]),
+    /// The numbers.
+    Listed(&'a [u64]),
+}
+
+/// An operation as `Op` has it, with the operands of unknown operations borrowed.
+#[derive(Clone, Copy, Debug)]
+pub enum OpView<'a> {
+    Special(u8),
+    Copy,
+    AdvancePc(u64),
+    AdvanceLine(i64),
+    SetFile(u64),
+    SetColumn(u64),
+    NegateStmt,
+    SetBasicBlock,
+    ConstAddPc,
+    FixedAdvancePc(u16),
+    SetPrologueEnd,
+    SetEpilogueBegin,
+    SetIsa(u64),
+    UnknownStandard(u8, Operands<'a>),
+    EndSequence,
+    SetAddress(u64),
+    SetDiscriminator(u64),
+    UnknownExtended(u8, &'a [u8]),
 }
 
 impl Op {

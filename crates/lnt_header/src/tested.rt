@@ -3,7 +3,8 @@ ghost use Rattle.std.specs.Prelude.{◌≡◌, ◌↔◌, ◌<◌, FitsSigned, I
 ghost use Rattle.std.specs.Int.{w8};
 ghost use Rattle.std.specs.List.{AllByRecursion};
 ghost use Rattle.lnt_header.specs.HeaderRules.{AreStandardLengths, HasHeaderNumbers, IsAddressSize, IsHeader};
-ghost use Rattle.lnt_header.specs.HeaderTests.{FitsItsForm, FitsPair, HoldsNoZero, IsFormat, IsOfFormat, HasSoundTexts, IsFirstNot, HasNumbersAndFormats, IsPartsFault};
+ghost use Rattle.lnt_header.specs.HeaderTests.{FitsItsForm, FitsPair, HoldsNoZero, IsFormat, IsOfFormat, HasSoundTexts};
+ghost use Rattle.lnt_header.specs.HeaderTests.{IsFirstNot, HasNumbersAndFormats, IsPartsFault};
 
 use crate::fault::UnitFault;
 use crate::header::{Entry, HeaderParts, Pair, Which};
@@ -89,7 +90,8 @@ fn is_format(pairs: &[Pair], entries: &[Entry]) -> bool
 // The first of the entries that hasn't the format.
 #[tactic(auto, using(crate::specs::Laws::Firsts::all_more, crate::specs::Laws::Firsts::all_taken, crate::specs::Laws::Firsts::first_not))]
 fn first_of_no_format(entries: &[Entry], pairs: &[Pair]) -> Option<u64>
-    ensures { MatchOption result (AllByRecursion (IsOfFormat pairs.now) entries.now) (λ index. IsFirstNot (IsOfFormat pairs.now) entries.now index) }
+    ensures { MatchOption result (AllByRecursion (IsOfFormat pairs.now) entries.now)
+        (λ index. IsFirstNot (IsOfFormat pairs.now) entries.now index) }
 {
     for (index, entry) in entries.iter().enumerate() {
         if !is_of_format(entry, pairs) {

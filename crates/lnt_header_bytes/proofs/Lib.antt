@@ -7,6 +7,7 @@ pub mod HeaderFrames
 pub mod HeaderReaders
 pub mod KeptLemmas
 pub mod LargeLemmas
+pub mod MarkLemmas
 pub mod PassLemmas
 pub mod Places
 pub mod ShortLemmas

@@ -1,5 +1,6 @@
 pub mod Borrowed
 pub mod Headers
+pub mod Passed
 pub mod Programs
 pub mod Tables
 pub mod Values

@@ -8,6 +8,7 @@ pub mod HeaderReading
 pub mod Large
 pub mod Laws
 pub mod Layouts
+pub mod Marks
 pub mod Spelled
 pub mod StartBytes
 pub mod TableBytes

@@ -7,7 +7,6 @@ ghost use Rattle.lnt_header_bytes.specs.HeaderReading.{IsBehindVersion};
 
 use crate::in_place::view_header;
 use lnt_header::Header;
-use lnt_lists::Items;
 use lnt_wire::{Cursor, Fault, Format, Frame, Order, Reason};
 use std::alloc::Global;
 
@@ -46,18 +45,4 @@ pub(crate) fn behind_version<'a>(frame: &Frame<'a>, order: Order) -> Cursor<'a>
     };
     let (_, behind) = frame.body.split_at(2);
     Cursor::new(behind, frame.offset + initial_size + 2, order)
-}
-
-/// A copy of the bytes.
-pub(crate) fn copied(alloc: Global, bytes: &[u8], place: u64) -> Result<Items<u8>, Fault>
-    ensures ok { IfOk result (λ items. items ≡ bytes.now) }
-    ensures err { IfErr result (λ fault. fault.reason ≡ Reason.Memory) }
-{
-    match Vec::from_slice(alloc, bytes) {
-        Ok(values) => Ok(Items::new(values)),
-        Err(_) => Err(Fault {
-            place,
-            reason: Reason::Memory,
-        }),
-    }
 }

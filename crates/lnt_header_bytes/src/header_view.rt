@@ -1,8 +1,10 @@
 //! Headers whose entries stay where they lie.
 ghost use Rattle.std.specs.Prelude.{◌≡◌, IfOk};
 ghost use Rattle.lnt_header_bytes.specs.Borrowed.{without_entries, header_over, IsHeaderOver, IsTableIn};
+ghost use Rattle.lnt_header_bytes.specs.Marks.{AreMarksOver};
 ghost use Rattle.lnt_header.specs.HeaderRules.{IsHeader};
 
+use crate::marks::Marks;
 use crate::read_table::EntriesInPlace;
 use crate::table_view::TableView;
 use lnt_header::{Header, HeaderParts};
@@ -35,20 +37,27 @@ impl<'a> Model for HeaderView<'a> {
 
 impl<'a> HeaderView<'a> {
     /// The header of these numbers and formats, with these entries and these bytes between the file table and the
-    /// program. It takes no memory.
+    /// program; its tables have these marks. It takes no memory.
     pub fn of(
         numbers: &'a Header,
         directories: EntriesInPlace<'a>,
         files: EntriesInPlace<'a>,
         extra: &'a [u8],
+        marks: Marks<'a>,
     ) -> HeaderView<'a>
-        requires { IsHeaderOver numbers.now directories.count directories.bytes.now files.count files.bytes.now extra.now }
+        requires header { IsHeaderOver numbers.now directories.count directories.bytes.now files.count files.bytes.now extra.now }
+        requires marks { AreMarksOver numbers.now directories.count directories.bytes.now files.count files.bytes.now marks.directories.now marks.files.now }
         ensures { result ≡ header_over numbers.entry.now directories.entry.count directories.entry.bytes.now files.entry.count files.entry.bytes.now extra.entry.now }
     {
         HeaderView {
             numbers,
-            directories: TableView::of(numbers, numbers.directory_format(), directories),
-            files: TableView::of(numbers, numbers.file_format(), files),
+            directories: TableView::of(
+                numbers,
+                numbers.directory_format(),
+                directories,
+                marks.directories,
+            ),
+            files: TableView::of(numbers, numbers.file_format(), files, marks.files),
             extra,
         }
     }

@@ -9,14 +9,15 @@ ghost use Rattle.lnt_header_bytes.specs.HeaderBytes.{HeaderBytesIn};
 ghost use Rattle.lnt_header_bytes.specs.HeaderReading.{HasFields, standing};
 ghost use Rattle.lnt_header.specs.HeaderRules.{IsAddressSize, IsHeader};
 
-use crate::decode::{behind_version, copied};
+use crate::decode::behind_version;
 use crate::header_view::HeaderView;
+use crate::marks::Marks;
 use crate::numbers::{Singles, read_lengths, read_singles};
 use crate::read_table::{EntriesInPlace, TableRead, read_table};
 use crate::start::read_start;
 use lnt_header::{Header, HeaderParts, Pair};
 use lnt_lists::Items;
-use lnt_wire::{Cursor, Fault, Format, Frame, Order, Reason};
+use lnt_wire::{Cursor, Fault, Format, Frame, Order, Reason, copied};
 use std::alloc::Global;
 use std::marker::Model;
 
@@ -49,7 +50,13 @@ impl<'a> HeaderInPlace<'a> {
     pub fn view(&self) -> HeaderView<'_>
         ensures { result ≡ self.now }
     {
-        HeaderView::of(&self.numbers, self.directories, self.files, self.extra)
+        HeaderView::of(
+            &self.numbers,
+            self.directories,
+            self.files,
+            self.extra,
+            Marks::none(),
+        )
     }
 
     /// The numbers and the formats of the header: a header that has them, and no entries.

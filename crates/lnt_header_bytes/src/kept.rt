@@ -5,6 +5,7 @@ ghost use Rattle.lnt_header.specs.HeaderRules.{IsHeader};
 
 use crate::header_view::HeaderView;
 use crate::in_place::HeaderInPlace;
+use crate::marks::{Marks, marks_of};
 use crate::read_table::EntriesInPlace;
 use lnt_header::{Header, Pair};
 use std::alloc::{AllocError, Global};
@@ -25,17 +26,21 @@ pub struct KeptHeader {
     bytes: Vec<u8>,
     directory_size: usize,
     file_size: usize,
+    // Where in their bytes some directories and some files begin.
+    directory_marks: Vec<usize>,
+    file_marks: Vec<usize>,
 }
 
 impl Model for KeptHeader {
     ghost use Rattle.lnt_header.specs.declared.header.HeaderParts.{HeaderParts};
-    ghost use Rattle.lnt_header_bytes.specs.Borrowed.{header_in_bytes, IsHeaderInBytes};
+    ghost use Rattle.lnt_header_bytes.specs.Borrowed.{header_in_bytes};
+    ghost use Rattle.lnt_header_bytes.specs.Marks.{IsMarkedHeader};
 
     ghost Value = { HeaderParts };
 
     ghost view = { λ h. header_in_bytes h.numbers.value h.directories h.files h.bytes.items h.directory_size h.file_size };
 
-    ghost invariant = { λ h. IsHeaderInBytes h.numbers.value h.directories h.files h.bytes.items h.directory_size h.file_size };
+    ghost invariant = { λ h. IsMarkedHeader h.numbers.value h.directories h.files h.bytes.items h.directory_size h.file_size h.directory_marks.items h.file_marks.items };
 }
 
 impl KeptHeader {
@@ -56,6 +61,10 @@ impl KeptHeader {
                 bytes: files,
             },
             extra,
+            Marks {
+                directories: &self.directory_marks,
+                files: &self.file_marks,
+            },
         )
     }
 
@@ -81,6 +90,8 @@ impl<'a> HeaderInPlace<'a> {
             files,
             extra,
         } = self;
+        let directory_marks = marks_of(alloc, &numbers, numbers.directory_format(), directories)?;
+        let file_marks = marks_of(alloc, &numbers, numbers.file_format(), files)?;
         let bytes = joined(alloc, directories.bytes, files.bytes, extra)?;
         let numbers = shared(alloc, numbers, other)?;
         Ok(KeptHeader {
@@ -90,6 +101,8 @@ impl<'a> HeaderInPlace<'a> {
             bytes,
             directory_size: directories.bytes.len(),
             file_size: files.bytes.len(),
+            directory_marks,
+            file_marks,
         })
     }
 }

@@ -1,7 +1,9 @@
 //! Tables of a header whose entries stay where they lie.
-ghost use Rattle.std.specs.Prelude.{◌≡◌, length, IfOk};
+ghost use Rattle.std.specs.Prelude.{◌≡◌, ◌≤◌, length, IfOk};
 ghost use Rattle.lnt_header_bytes.specs.Borrowed.{borrowed_table, AreEntryBytes};
+ghost use Rattle.lnt_header_bytes.specs.Marks.{AreMarks, from_entry};
 
+use crate::marks::marked_before;
 use crate::read_table::EntriesInPlace;
 use crate::table::read_entries;
 use lnt_header::{Entry, Header, Pair};
@@ -18,26 +20,31 @@ pub struct TableView<'a> {
     order: Order,
     pairs: &'a [Pair],
     entries: EntriesInPlace<'a>,
+    // Where in their bytes some of them begin.
+    marks: &'a [usize],
 }
 
 impl<'a> Model for TableView<'a> {
-    ghost use Rattle.lnt_header_bytes.specs.Borrowed.{BorrowedTable, borrowed_table, AreEntryBytes};
+    ghost use Rattle.lnt_header_bytes.specs.Borrowed.{BorrowedTable, borrowed_table};
+    ghost use Rattle.lnt_header_bytes.specs.Marks.{IsMarkedTable};
 
     ghost Value = { BorrowedTable };
 
     ghost view = { λ t. borrowed_table t.format t.order t.pairs.now t.entries.count t.entries.bytes.now };
 
-    ghost invariant = { λ t. AreEntryBytes (borrowed_table t.format t.order t.pairs.now t.entries.count t.entries.bytes.now) t.entries.bytes.now };
+    ghost invariant = { λ t. IsMarkedTable (borrowed_table t.format t.order t.pairs.now t.entries.count t.entries.bytes.now) t.entries.bytes.now t.marks.now };
 }
 
 impl<'a> TableView<'a> {
-    /// A table of the header's format and order, whose entries consist of these pairs.
+    /// A table of the header's format and order, whose entries consist of these pairs, with its marks.
     pub(crate) fn of(
         header: &Header,
         pairs: &'a [Pair],
         entries: EntriesInPlace<'a>,
+        marks: &'a [usize],
     ) -> TableView<'a>
-        requires { AreEntryBytes (borrowed_table header.now.format header.now.order pairs.now entries.count entries.bytes.now) entries.bytes.now }
+        requires lies { AreEntryBytes (borrowed_table header.now.format header.now.order pairs.now entries.count entries.bytes.now) entries.bytes.now }
+        requires marks { AreMarks (borrowed_table header.now.format header.now.order pairs.now entries.count entries.bytes.now) entries.bytes.now marks.now }
         ensures { result ≡ borrowed_table header.now.format header.now.order pairs.entry.now entries.entry.count entries.entry.bytes.now }
     {
         TableView {
@@ -45,6 +52,7 @@ impl<'a> TableView<'a> {
             order: header.order(),
             pairs,
             entries,
+            marks,
         }
     }
 
@@ -76,6 +84,21 @@ impl<'a> TableView<'a> {
         ensures rest { AreEntryBytes self.now result.rest }
     {
         Cursor::new(self.entries.bytes, 0, self.order)
+    }
+
+    /// A cursor before the entry of this number or an earlier one, and the number of that entry. Where the table has
+    /// marks, fewer than 64 entries stand between the two.
+    pub fn cursor_before(&self, number: u64) -> (u64, Cursor<'_>)
+        ensures before { result.0 ≤ number }
+        ensures there { result.0 ≤ length self.now.entries }
+        ensures order { result.1.order ≡ self.now.order }
+        ensures rest { AreEntryBytes (from_entry result.0 self.now) result.1.rest }
+    {
+        let Some((first, place)) = marked_before(self.marks, number) else {
+            return (0, self.cursor());
+        };
+        let (_, bytes) = self.entries.bytes.split_at(place);
+        (first, Cursor::new(bytes, 0, self.order))
     }
 
     /// The entries themselves. It refuses only where memory runs out.

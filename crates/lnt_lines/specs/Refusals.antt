@@ -10,7 +10,7 @@ use Rattle.lnt_lines.specs.declared.no.No as no
 use Rattle.lnt_lines.specs.declared.no.No.TheVariants.{Malformed, EntryFormat, StringOutside, DirectoryNumber}
 use Rattle.lnt_lines.specs.declared.refusal.Refusal.{Refusal}
 use Rattle.lnt_lines.specs.declared.refusal.Refusal.TheVariants.{No, Stop}
-use Rattle.lnt_lines.specs.declared.stop.Stop.TheVariants as stop
+use Rattle.lnt_wire.specs.declared.stop.Stop.TheVariants as stop
 
 -- what a fault of a unit makes of the section: bytes that are malformed, or want of memory
 pub data IsFaultRefusal (fault : Fault) (refusal : Refusal) : Type 0 where

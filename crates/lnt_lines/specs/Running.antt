@@ -1,7 +1,7 @@
 -- A unit's program, run operation by operation. Contracts of private functions speak of this.
 use Rattle.std.specs.Prelude.{◌≡◌, ◌≢◌, ℕ, ◌+◌, ◌^◌, ◌<◌, ◌≤◌, Bool, true, false, List, [], ◌∷◌, length, reverse, Option}
 use Rattle.lnt_header.specs.declared.op.Op.{Op}
-use Rattle.lnt_header.specs.declared.view.OpView.{OpView}
+use Rattle.lnt_header.specs.declared.op.OpView.{OpView}
 use Rattle.lnt_ops.specs.Walks as walks
 use Rattle.lnt_ops.specs.Walks.{Walk}
 use Rattle.lnt_unit.specs.Views.{by_numbers, HasGiven, View, with_ops}
@@ -21,7 +21,7 @@ use Rattle.lnt_rows.specs.Watching.{Collects, CollectsRows, HasSeen}
 use Rattle.lnt_lines.specs.declared.refusal.Refusal.{Refusal}
 use Rattle.lnt_lines.specs.declared.refusal.Refusal.TheVariants as refusal
 use Rattle.lnt_lines.specs.declared.run.Run.{Run}
-use Rattle.lnt_lines.specs.declared.stop.Stop.TheVariants as stop
+use Rattle.lnt_wire.specs.declared.stop.Stop.TheVariants as stop
 use Rattle.lnt_lines.specs.Judging.{IsTold}
 
 -- whether there is a row

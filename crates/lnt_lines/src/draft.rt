@@ -12,12 +12,11 @@ ghost use Rattle.lnt_lines.specs.Judging.{IsUnitRefusal};
 use crate::index::Index;
 use crate::judge::judge_unit;
 use crate::refusal::Refusal;
-use crate::stop::Stop;
 use lnt_entries::StringEnds;
 use lnt_machine::Program;
 use lnt_rows::{Collected, Overlap};
 use lnt_stream::UnitBuffer;
-use lnt_wire::Strings;
+use lnt_wire::{Stop, Strings};
 use std::alloc::{AllocError, Global};
 
 /// What is known of the units judged so far, all of which are sound.

@@ -1,14 +1,14 @@
 //! The lines of an index, with all spans and paths at hand.
 ghost use Rattle.std.specs.Prelude.{◌≡◌, Bool, ℕ, List, Option, IfOk, IfErr};
 ghost use Rattle.lnt_unit.specs.declared.unit.Parts.{Parts};
-ghost use Rattle.lnt_lines.specs.declared.stop.Stop.TheVariants.{Memory};
+ghost use Rattle.lnt_wire.specs.declared.stop.Stop.TheVariants.{Memory};
 ghost use Rattle.lnt_lines.specs.Contents.{TellsOf};
 ghost use Rattle.lnt_lines.specs.Indexed.{IsIndexOf};
 
 use crate::index::Index;
 use crate::lines::Lines;
-use crate::stop::Stop;
 use lnt_spans::collect;
+use lnt_wire::Stop;
 use std::alloc::Global;
 
 // The lines of the units that the index is of. It refuses only where memory runs out.

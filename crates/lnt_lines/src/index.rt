@@ -9,14 +9,13 @@ ghost use Rattle.lnt_entries.specs.Files.{AreFilesOf};
 ghost use Rattle.lnt_entries.specs.Tables.{AreUsableTables};
 ghost use Rattle.lnt_rows.specs.Sequences.{line_answer};
 ghost use Rattle.lnt_rows.specs.Spanning.{rows_left};
-ghost use Rattle.lnt_lines.specs.declared.stop.Stop.TheVariants.{Memory};
+ghost use Rattle.lnt_wire.specs.declared.stop.Stop.TheVariants.{Memory};
 ghost use Rattle.lnt_lines.specs.Contents.{AreRising, TellsOf};
 ghost use Rattle.lnt_lines.specs.Cursors.{GivesAllOf, room_of};
 ghost use Rattle.lnt_lines.specs.Indexed.{IsIndex, IsIndexOf, IsSequenceIn, file_count_in, file_path_in, file_sum_in, header_in};
 
 use crate::lines::place_of;
 use crate::spans::Spans;
-use crate::stop::Stop;
 use lnt_entries::Files;
 use lnt_entries::in_place::{file_count, listed, path_of};
 use lnt_machine::{Program, SequenceRows};
@@ -24,7 +23,7 @@ use lnt_rows::laws::holder_answers;
 use lnt_rows::{Extent, SeqId, answer_at, holder};
 use lnt_spans::{Answer, Position, Probes};
 use lnt_unit::{Header, HeaderView};
-use lnt_wire::Strings;
+use lnt_wire::{Stop, Strings};
 use std::alloc::{AllocError, Global};
 use std::marker::Model;
 

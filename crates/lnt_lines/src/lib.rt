@@ -16,12 +16,11 @@ mod refusal;
 mod run;
 mod section;
 mod spans;
-mod stop;
 
 pub use index::Index;
 pub use lines::Lines;
+pub use lnt_wire::Stop;
 pub use no::No;
 pub use options::Options;
 pub use section::{Judged, JudgedIndex, index_section, verify};
 pub use spans::Spans;
-pub use stop::Stop;

@@ -11,10 +11,9 @@ use crate::lines::Lines;
 use crate::no::No;
 use crate::options::Options;
 use crate::refusal::Refusal;
-use crate::stop::Stop;
 use lnt_entries::StringEnds;
 use lnt_stream::SectionReader;
-use lnt_wire::{Source, Strings};
+use lnt_wire::{Source, Stop, Strings};
 use std::alloc::Global;
 
 /// What a section was judged to be.

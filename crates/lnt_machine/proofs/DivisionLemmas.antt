@@ -1,10 +1,12 @@
 -- A byte divided by another one, by a product with a reciprocal.
 use Rattle.std.proofs.Common.{Fits, ◌≡◌, ℕ, ◌+◌, ◌-◌, ◌*◌, ◌/◌, ◌%◌, ◌<◌, ◌≤◌, sym, ap, subst, ◌∙◌, arith}
 use Rattle.std.specs.Int.{w8, w32}
-use Rattle.std.proofs.Math.Nat.{mod-add-div, mod-lt, mod-eq-sub-div-mul, div-le_self, div-mul-le_self, div-eq_of_lt-le, le-div_iff_mul-le, mul-le-mul, mul-le-mul_left, mul-le-mul_right, mul_comm}
+use Rattle.std.proofs.Math.Nat.{mod-add-div, mod-lt, mod-eq-sub-div-mul, div-le_self, div-mul-le_self, div-eq_of_lt-le}
+use Rattle.std.proofs.Math.Nat.{le-div_iff_mul-le, mul-le-mul, mul-le-mul_left, mul-le-mul_right, mul_comm}
 
 -- a product between two multiples of 65536, by its parts
-between : (low mid high qrt qr st s qu tr u t a : ℕ) → mid ≡ qrt + qr + st + s → low ≡ qu + qrt → high ≡ low + 65536 → 65536 ≡ u + tr → qu ≤ qr → st + t ≤ tr → a ≡ s + qr → a < t
+between : (low mid high qrt qr st s qu tr u t a : ℕ) → mid ≡ qrt + qr + st + s → low ≡ qu + qrt → high ≡ low + 65536 → 65536 ≡ u + tr
+    → qu ≤ qr → st + t ≤ tr → a ≡ s + qr → a < t
     → (low ≤ mid) × (mid < high)
 between low mid high qrt qr st s qu tr u t a e f g w x y z lt = (omega arith, omega arith)
 
@@ -27,7 +29,8 @@ exact a r some small byte =
     let sum : (s + 1) * t ≡ s * t + t = grind arith in
     let short : s * t + t ≤ r * t = subst (λ (n : ℕ). n ≤ r * t) sum more in
     let a_is : a ≡ s + q * r = parts ∙ ap (λ (n : ℕ). s + n) (mul_comm r q) in
-    let both = between (q * 65536) (a * (t + 1)) ((q + 1) * 65536) (q * r * t) (q * r) (s * t) s (q * u) (r * t) u t a mid low high whole less short a_is (omega (arith, many, byte)) in
+    let both = between (q * 65536) (a * (t + 1)) ((q + 1) * 65536) (q * r * t) (q * r) (s * t) s (q * u) (r * t) u t a mid low high whole
+    less short a_is (omega (arith, many, byte)) in
     div-eq_of_lt-le 65536 both.0 both.1
 
 pub quotient : (n a r m : ℕ) → n ≡ a → 0 < r → r < 256 → a < 256 → m ≡ 65536 / r + 1 → n * m / 65536 ≡ a / r

@@ -6,7 +6,7 @@ use Rattle.std.proofs.lemmas.List.{append-nil, take_all, take_more}
 use Rattle.lnt_unit.specs.declared.unit.Parts.{Parts}
 use Rattle.lnt_header.specs.declared.header.HeaderParts.{HeaderParts}
 use Rattle.lnt_header.specs.declared.op.Op.{Op}
-use Rattle.lnt_header.specs.declared.view.OpView.{OpView}
+use Rattle.lnt_header.specs.declared.op.OpView.{OpView}
 use Rattle.lnt_header.specs.OpViews.{StandsFor}
 use Rattle.lnt_machine.specs.declared.fault.RunFault.{RunFault}
 use Rattle.lnt_machine.specs.declared.fault.RunFault.TheVariants.{LineOutOfRange, OpenSequence}
@@ -29,14 +29,18 @@ pub record RanSoFar (unit : Parts) (k : ℕ) (machine : State) (sequences : List
 
 -- the rows of the next operation
 next_rows : (unit : Parts) (k : ℕ) (op : Op) → k < length unit.ops
-    → rows_behind unit.header [] (take (k + 1) unit.ops) ≡ rows_behind unit.header [] (take k unit.ops) ++ cons_option (row_made unit.header (done unit.ops k) (get_or unit.ops k op)) []
+    → rows_behind unit.header [] (take (k + 1) unit.ops) ≡ rows_behind unit.header [] (take k unit.ops) ++ cons_option
+    (row_made unit.header (done unit.ops k) (get_or unit.ops k op)) []
 next_rows unit k op more =
     ap (rows_behind unit.header []) (take_more unit.ops k op more)
     ∙ rows_behind-append unit.header [] (take k unit.ops) (get_or unit.ops k op)
-    ∙ ap (λ (back : List Op). rows_behind unit.header [] (take k unit.ops) ++ cons_option (row_made unit.header back (get_or unit.ops k op)) []) (append-nil (done unit.ops k))
+    ∙ ap (λ (back : List Op). rows_behind unit.header [] (take k unit.ops) ++ cons_option (row_made unit.header back (get_or unit.ops k op))
+    []) (append-nil (done unit.ops k))
 
-ran_more : (unit : Parts) (k : ℕ) (old new : State) (ended ended' : List Sequence) (left left' : List Row) (view : OpView) (op : Op) (row : Option Row)
-    → RanSoFar unit k old ended left → k < length unit.ops → k + 1 < 2 ^ 64 → op ≡ get_or unit.ops k op → StandsFor view op → Steps view old new row
+ran_more : (unit : Parts) (k : ℕ) (old new : State) (ended ended' : List Sequence) (left left' : List Row) (view : OpView) (op : Op)
+    (row : Option Row)
+    → RanSoFar unit k old ended left → k < length unit.ops → k + 1 < 2 ^ 64 → op ≡ get_or unit.ops k op → StandsFor view op
+    → Steps view old new row
     → ((all : List Row) → IsCut all ended left → IsCut (all ++ cons_option row []) ended' left')
     → RanSoFar unit (k + 1) new ended' left'
 ran_more unit k old new ended ended' left left' view op row ran more few at v steps cuts =
@@ -61,8 +65,10 @@ at_op : (items ops : List Op) (k : ℕ) (op : Op) → items ≡ ops → op ≡ g
 at_op items ops k op same at = at ∙ ap (λ (list : List Op). get_or list k op) same
 
 -- an operation without a row
-pub ran_quiet : (unit : Parts) (items : List Op) (k : ℕ) (old new : State) (ended : List Sequence) (left : List Row) (view : OpView) (op : Op) (made : Option Row)
-    → RanSoFar unit k old ended left → items ≡ unit.ops → k < length items → k + 1 < 2 ^ 64 → op ≡ get_or items k op → StandsFor view op → Steps view old new made
+pub ran_quiet : (unit : Parts) (items : List Op) (k : ℕ) (old new : State) (ended : List Sequence) (left : List Row) (view : OpView)
+    (op : Op) (made : Option Row)
+    → RanSoFar unit k old ended left → items ≡ unit.ops → k < length items → k + 1 < 2 ^ 64 → op ≡ get_or items k op → StandsFor view op
+    → Steps view old new made
     → ((row : Row) → made ≡ Some row → ⊥) → RanSoFar unit (k + 1) new ended left
 ran_quiet unit items k old new ended left view op (Some row) ran same more few at v steps none = absurd (none row refl)
 ran_quiet unit items k old new ended left view op None ran same more few at v steps none =
@@ -70,45 +76,59 @@ ran_quiet unit items k old new ended left view op None ran same more few at v st
     (λ all cut. subst (λ (rows : List Row). IsCut rows ended left) (sym (append-nil all)) cut)
 
 -- an operation and its row
-pub ran_row : (unit : Parts) (items : List Op) (k : ℕ) (old new : State) (ended ended' : List Sequence) (left left' : List Row) (view : OpView) (op : Op) (made : Option Row) (row : Row)
-    → RanSoFar unit k old ended left → items ≡ unit.ops → k < length items → k + 1 < 2 ^ 64 → op ≡ get_or items k op → StandsFor view op → Steps view old new made
+pub ran_row : (unit : Parts) (items : List Op) (k : ℕ) (old new : State) (ended ended' : List Sequence) (left left' : List Row)
+    (view : OpView) (op : Op) (made : Option Row) (row : Row)
+    → RanSoFar unit k old ended left → items ≡ unit.ops → k < length items → k + 1 < 2 ^ 64 → op ≡ get_or items k op → StandsFor view op
+    → Steps view old new made
     → made ≡ Some row → ((all : List Row) → IsCut all ended left → IsCut (all ++ row ∷ []) ended' left')
     → RanSoFar unit (k + 1) new ended' left'
 ran_row unit items k old new ended ended' left left' view op made row ran same more few at v steps is cuts =
-    ran_more unit k old new ended ended' left left' view op (Some row) ran (rw same at more) few (at_op items unit.ops k op same at) v (subst (Steps view old new) is steps) cuts
+    ran_more unit k old new ended ended' left left' view op (Some row) ran (rw same at more) few (at_op items unit.ops k op same at) v
+    (subst (Steps view old new) is steps) cuts
 
 -- an operation that leads out of the range of lines
-pub ran_out : (unit : Parts) (items : List Op) (k : ℕ) (machine : State) (ended : List Sequence) (left : List Row) (view : OpView) (op : Op) (fault : RunFault)
-    → RanSoFar unit k machine ended left → items ≡ unit.ops → k < length items → op ≡ get_or items k op → StandsFor view op → LeavesRange view machine
+pub ran_out : (unit : Parts) (items : List Op) (k : ℕ) (machine : State) (ended : List Sequence) (left : List Row) (view : OpView) (op : Op)
+    (fault : RunFault)
+    → RanSoFar unit k machine ended left → items ≡ unit.ops → k < length items → op ≡ get_or items k op → StandsFor view op
+    → LeavesRange view machine
     → fault ≡ LineOutOfRange machine.count → IsRunFault unit fault
 ran_out unit items k machine ended left view op fault ran same more' at' v leaves is =
     let more : k < length unit.ops = rw same at more' in
     let at : op ≡ get_or unit.ops k op = at_op items unit.ops k op same at' in
-    let next : done unit.ops (k + 1) ≡ op ∷ done unit.ops k = done-more unit.ops k op more ∙ ap (λ (o : Op). o ∷ done unit.ops k) (sym at) in
+    let next : done unit.ops (k + 1) ≡ op ∷ done unit.ops k = done-more unit.ops k op more
+    ∙ ap (λ (o : Op). o ∷ done unit.ops k) (sym at) in
     let out : IsLine (line unit.header (done unit.ops (k + 1))) → ⊥ =
     λ fits. leaves (done unit.ops k) op ran.stands v
-    (subst (λ (h : HeaderParts). IsLine (line h (op ∷ done unit.ops k))) (sym ran.header) (subst (λ (back : List Op). IsLine (line unit.header back)) next fits)) in
+    (subst (λ (h : HeaderParts). IsLine (line h (op ∷ done unit.ops k))) (sym ran.header)
+    (subst (λ (back : List Op). IsLine (line unit.header back)) next fits)) in
     subst (IsRunFault unit) (sym (is ∙ ap LineOutOfRange ran.count)) (more, ran.lines, out)
 
 -- all operations were done
-module _ (unit : Parts) (k : ℕ) (machine : State) (ended : List Sequence) (left : List Row) (ran : RanSoFar unit k machine ended left) (all : length unit.ops ≤ k) where
+module _ (unit : Parts) (k : ℕ) (machine : State) (ended : List Sequence) (left : List Row) (ran : RanSoFar unit k machine ended left)
+    (all : length unit.ops ≤ k) where
   whole_lines : LinesFit unit (length unit.ops)
   whole_lines j le = ran.lines j (omega arith)
 
   whole_cut : IsCut (rows unit) ended left
   whole_cut = subst (λ (ops : List Op). IsCut (rows_behind unit.header [] ops) ended left) (take_all k unit.ops all) ran.cut
 
-pub ran_sequences : (unit : Parts) (k : ℕ) (machine : State) (ended : List Sequence) (left : List Row) → RanSoFar unit k machine ended left → length unit.ops ≤ k → ended ≡ sequences unit
+pub ran_sequences : (unit : Parts) (k : ℕ) (machine : State) (ended : List Sequence) (left : List Row) → RanSoFar unit k machine ended left
+    → length unit.ops ≤ k → ended ≡ sequences unit
 ran_sequences unit k machine ended left ran all = sym (cut_is (rows unit) left ended (whole_cut unit k machine ended left ran all))
 
-pub ran_whole : (unit : Parts) (k : ℕ) (machine : State) (ended : List Sequence) (left : List Row) → RanSoFar unit k machine ended left → length unit.ops ≤ k → length left ≡ 0 → Runs unit
+pub ran_whole : (unit : Parts) (k : ℕ) (machine : State) (ended : List Sequence) (left : List Row) → RanSoFar unit k machine ended left
+    → length unit.ops ≤ k → length left ≡ 0 → Runs unit
 ran_whole unit k machine ended [] ran all none = record {
   lines = whole_lines unit k machine ended [] ran all;
   closed = cut_closed (rows unit) ended (whole_cut unit k machine ended [] ran all);
 }
 ran_whole unit k machine ended (row ∷ left) ran all none = absurd (omega arith)
 
-pub ran_open : (unit : Parts) (k : ℕ) (machine : State) (ended : List Sequence) (left : List Row) → RanSoFar unit k machine ended left → length unit.ops ≤ k → (left ≡ [] → ⊥) → IsRunFault unit OpenSequence
+pub ran_open : (unit : Parts) (k : ℕ) (machine : State) (ended : List Sequence) (left : List Row) → RanSoFar unit k machine ended left
+    → length unit.ops ≤ k → (left ≡ [] → ⊥) → IsRunFault unit OpenSequence
 ran_open unit k machine ended [] ran all some = absurd (some refl)
-ran_open unit k machine ended (row ∷ left) ran all some =
-    (whole_lines unit k machine ended (row ∷ left) ran all, cut_open (rows unit) left ended row (whole_cut unit k machine ended (row ∷ left) ran all))
+ran_open unit k machine ended (row ∷ left) ran all some = (
+  whole_lines unit k machine ended (row ∷ left) ran all,
+  cut_open (rows unit) left ended row
+      (whole_cut unit k machine ended (row ∷ left) ran all),
+)

@@ -6,12 +6,14 @@ use Rattle.std.proofs.Math.Pow.{pow_pos}
 use Rattle.std.proofs.lemmas.Int.{ints}
 use Rattle.lnt_header.specs.declared.header.HeaderParts.{HeaderParts}
 use Rattle.lnt_header.specs.declared.op.Op.{Op}
-use Rattle.lnt_header.specs.declared.op.Op.TheVariants.{Special, Copy, AdvancePc, AdvanceLine, SetFile, SetColumn, NegateStmt, SetBasicBlock, ConstAddPc, FixedAdvancePc, SetPrologueEnd, SetEpilogueBegin, SetIsa, UnknownStandard, EndSequence, SetAddress, SetDiscriminator, UnknownExtended}
-use Rattle.lnt_header.specs.declared.view.OpView.{OpView}
-use Rattle.lnt_header.specs.declared.view.OpView.TheVariants as views
+use Rattle.lnt_header.specs.declared.op.Op.TheVariants.{Special, AdvancePc, AdvanceLine, ConstAddPc, FixedAdvancePc}
+use Rattle.lnt_header.specs.declared.op.Op.TheVariants.{EndSequence, SetAddress}
+use Rattle.lnt_header.specs.declared.op.OpView.{OpView}
+use Rattle.lnt_header.specs.declared.op.OpView.TheVariants as views
 use Rattle.lnt_header.specs.HeaderRules.{IsHeader}
-use Rattle.lnt_header.specs.OpViews.{StandsFor}
+use Rattle.lnt_header.specs.OpViews.{op_of, operands_of, StandsFor}
 use Rattle.lnt_header.specs.OpRules.{Admits}
+use Rattle.lnt_ops.specs.Laws.Views.{is_op_of}
 use Rattle.lnt_machine.specs.declared.row.Row.{Row}
 use Rattle.lnt_machine.specs.Changes.{changed, Changes, initial_registers, IsAllowed, line_reached, made, plain}
 use Rattle.lnt_machine.specs.Matrix.{row_made}
@@ -22,7 +24,7 @@ use Rattle.lnt_machine.proofs.ChangeLemmas.{changed_after, line_from, line_into,
 
 -- ---- views
 
--- two operations do the same behind `back`
+-- two operations do the same after `back`
 record DoTheSame (h : HeaderParts) (back : List Op) (one other : Op) : Type 0 where
   registers : registers_after h (one ∷ back) ≡ registers_after h (other ∷ back)
   line : line h (one ∷ back) ≡ line h (other ∷ back)
@@ -31,30 +33,15 @@ record DoTheSame (h : HeaderParts) (back : List Op) (one other : Op) : Type 0 wh
 itself : (h : HeaderParts) (back : List Op) (op : Op) → DoTheSame h back op op
 itself h back op = record { registers = refl; line = refl; row = refl }
 
--- the operand makes no difference where it is the same
-same_operand : {X : Type 0} (h : HeaderParts) (back : List Op) (make : X → Op) (x y : X) → x ≡ y → DoTheSame h back (make x) (make y)
-same_operand h back make x y e = subst (λ z. DoTheSame h back (make x) (make z)) e (itself h back (make x))
+-- the operands of an unknown standard operation make no difference
+operands_change_nothing : (h : HeaderParts) (back : List Op) (view : OpView) (operands : List ℕ)
+    → DoTheSame h back (plain view) (op_of view operands)
+operands_change_nothing h back (views.UnknownStandard k spelled) operands = record { registers = refl; line = refl; row = refl }
+operands_change_nothing h back view operands = itself h back (plain view)
 
 does_the_same : (h : HeaderParts) (back : List Op) (view : OpView) (op : Op) → StandsFor view op → DoTheSame h back (plain view) op
-does_the_same h back (views.Special c) (Special d) s = same_operand h back Special c d s
-does_the_same h back views.Copy Copy s = itself h back Copy
-does_the_same h back (views.AdvancePc m) (AdvancePc n) s = same_operand h back AdvancePc m n s
-does_the_same h back (views.AdvanceLine y) (AdvanceLine z) s = same_operand h back AdvanceLine y z s
-does_the_same h back (views.SetFile m) (SetFile n) s = same_operand h back SetFile m n s
-does_the_same h back (views.SetColumn m) (SetColumn n) s = same_operand h back SetColumn m n s
-does_the_same h back views.NegateStmt NegateStmt s = itself h back NegateStmt
-does_the_same h back views.SetBasicBlock SetBasicBlock s = itself h back SetBasicBlock
-does_the_same h back views.ConstAddPc ConstAddPc s = itself h back ConstAddPc
-does_the_same h back (views.FixedAdvancePc m) (FixedAdvancePc n) s = same_operand h back FixedAdvancePc m n s
-does_the_same h back views.SetPrologueEnd SetPrologueEnd s = itself h back SetPrologueEnd
-does_the_same h back views.SetEpilogueBegin SetEpilogueBegin s = itself h back SetEpilogueBegin
-does_the_same h back (views.SetIsa m) (SetIsa n) s = same_operand h back SetIsa m n s
-does_the_same h back (views.UnknownStandard j operands) (UnknownStandard k numbers) s = record { registers = refl; line = refl; row = refl }
-does_the_same h back views.EndSequence EndSequence s = itself h back EndSequence
-does_the_same h back (views.SetAddress m) (SetAddress n) s = same_operand h back SetAddress m n s
-does_the_same h back (views.SetDiscriminator m) (SetDiscriminator n) s = same_operand h back SetDiscriminator m n s
-does_the_same h back (views.UnknownExtended c bytes) (UnknownExtended d operand) s = record { registers = refl; line = refl; row = refl }
-does_the_same h back view op s = absurd s
+does_the_same h back view op s =
+    subst (DoTheSame h back (plain view)) (sym (is_op_of view op s)) (operands_change_nothing h back view (operands_of op))
 
 pub allowed : (h : HeaderParts) (view : OpView) (op : Op) → StandsFor view op → Admits h op → IsAllowed h (plain view)
 allowed h (views.Special c) (Special d) s a = subst (λ x. IsAllowed h (Special x)) (sym s) a
@@ -73,12 +60,17 @@ line_bounded (negsuc n) fits = absurd (omega (arith, ints, fits.0))
 cut : (h : HeaderParts) (n : ℕ) → n % 2 ^ (8 * h.address_size) < 2 ^ (8 * h.address_size)
 cut h n = mod-lt n (pow_pos (8 * h.address_size))
 
-bounded_changed : (h : HeaderParts) (r : Row) (op : Op) → IsBounded h r → IsAllowed h op → IsLine (line_reached h r op) → IsBounded h (changed h r op)
+bounded_changed : (h : HeaderParts) (r : Row) (op : Op) → IsBounded h r → IsAllowed h op → IsLine (line_reached h r op)
+    → IsBounded h (changed h r op)
 bounded_changed h r (Special c) b a fits = record { address = cut h _; op_index = mod-lt _ (omega arith); line = line_bounded _ fits }
 bounded_changed h r (AdvancePc n) b a fits = record { address = cut h _; op_index = mod-lt _ (omega arith); line = b.line }
 bounded_changed h r ConstAddPc b a fits = record { address = cut h _; op_index = mod-lt _ (omega arith); line = b.line }
 bounded_changed h r (FixedAdvancePc n) b a fits = record { address = cut h _; op_index = omega arith; line = b.line }
-bounded_changed h r (SetAddress n) b a fits = record { address = subst (λ (t : ℕ). n < t) (pow_bytes h.address_size) a; op_index = omega arith; line = b.line }
+bounded_changed h r (SetAddress n) b a fits = record {
+  address = subst (λ (t : ℕ). n < t) (pow_bytes h.address_size) a;
+  op_index = omega arith;
+  line = b.line;
+}
 bounded_changed h r (AdvanceLine z) b a fits = record { address = b.address; op_index = b.op_index; line = line_bounded _ fits }
 bounded_changed h r EndSequence b a fits = record { address = pow_pos (8 * h.address_size); op_index = omega arith; line = omega arith }
 bounded_changed h r op b a fits = record { address = b.address; op_index = b.op_index; line = b.line }
@@ -105,9 +97,11 @@ stands_more : (h : HeaderParts) (view : OpView) (old new : Row) (row : Option Ro
 stands_more h view old new row m n back op b a c s v =
     let same = does_the_same h back view op v in
     let some : 0 < h.max_ops = omega arith in
-    let reached : IsLine (line_reached h (registers_after h back) (plain view)) = subst (λ (r : Row). IsLine (line_reached h r (plain view))) s.registers c.line in
+    let reached : IsLine (line_reached h (registers_after h back) (plain view)) = subst
+    (λ (r : Row). IsLine (line_reached h r (plain view))) s.registers c.line in
     record {
-      registers = c.new_is ∙ ap (λ (r : Row). changed h r (plain view)) s.registers ∙ changed_after h back (plain view) some a s.line ∙ same.registers;
+      registers = c.new_is ∙ ap (λ (r : Row). changed h r (plain view)) s.registers ∙ changed_after h back (plain view) some a s.line
+          ∙ same.registers;
       line = subst IsLine same.line (line_into h back (plain view) s.line reached);
     }
 
@@ -116,10 +110,12 @@ row_more : (h : HeaderParts) (view : OpView) (old new : Row) (row : Option Row) 
     → IsBounded h old → Changes h (plain view) old new row → StandsAfter (state h old m) back → StandsFor view op → row ≡ row_made h back op
 row_more h view old new row m back op b c s v =
     let some : 0 < h.max_ops = omega arith in
-    c.row_is ∙ ap (λ (r : Row). made h r (plain view)) s.registers ∙ made_after h back (plain view) some s.line ∙ (does_the_same h back view op v).row
+    c.row_is ∙ ap (λ (r : Row). made h r (plain view)) s.registers ∙ made_after h back (plain view) some s.line
+    ∙ (does_the_same h back view op v).row
 
 pub steps : (machine : State) (h : HeaderParts) (view : OpView) (old new : Row) (row : Option Row) (m n : ℕ) → state h old m ≡ machine
-    → (o : Op) × StandsFor view o × Admits machine.header o → IsBounded h old → Changes h (plain view) old new row → n ≡ min (m + 1) (2 ^ 64 - 1)
+    → (o : Op) × StandsFor view o × Admits machine.header o → IsBounded h old → Changes h (plain view) old new row
+    → n ≡ min (m + 1) (2 ^ 64 - 1)
     → Steps view machine (state h new n) row
 steps machine h view old new row m n e (o, w, admits) b c count =
     let a : IsAllowed h (plain view) = allowed h view o w (subst (λ (x : State). Admits x.header o) (sym e) admits) in
@@ -135,7 +131,8 @@ refused : (h : HeaderParts) (view : OpView) (old : Row) (m : ℕ) (back : List O
     → StandsAfter (state h old m) back → StandsFor view op → IsLine (line h (op ∷ back)) → ⊥
 refused h view old m back op out s v fits =
     let same = does_the_same h back view op v in
-    out (subst (λ (r : Row). IsLine (line_reached h r (plain view))) (sym s.registers) (line_from h back (plain view) s.line (subst IsLine (sym same.line) fits)))
+    out (subst (λ (r : Row). IsLine (line_reached h r (plain view))) (sym s.registers)
+    (line_from h back (plain view) s.line (subst IsLine (sym same.line) fits)))
 
 pub step_refused : (machine : State) (h : HeaderParts) (view : OpView) (old : Row) (m : ℕ) → state h old m ≡ machine
     → (IsLine (line_reached h old (plain view)) → ⊥) → LeavesRange view machine

@@ -6,7 +6,7 @@ use Rattle.std.proofs.lemmas.Bool.{true≢false}
 use Rattle.lnt_wire.specs.declared.fault.Fault.{Fault}
 use Rattle.lnt_header.specs.declared.header.HeaderParts.{HeaderParts}
 use Rattle.lnt_header.specs.declared.op.Op.{Op}
-use Rattle.lnt_header.specs.declared.view.OpView.{OpView}
+use Rattle.lnt_header.specs.declared.op.OpView.{OpView}
 use Rattle.lnt_header.specs.HeaderRules.{IsHeader}
 use Rattle.lnt_header.specs.OpRules.{Admits}
 use Rattle.lnt_header.specs.OpViews.{StandsFor}
@@ -24,8 +24,10 @@ use Rattle.lnt_machine.specs.Walking.{GivesFirst, GivesNext, GivesRow, HasRows, 
 use Rattle.lnt_machine.specs.Walking.WillGive.{none, some}
 
 -- what the machine may do, where its header is that of the walk
-pub may_step : (view : OpView) (machine : State) (old new : Walk) → machine.header ≡ old.header → walks.Steps view old new → (op : Op) × StandsFor view op × Admits machine.header op
-may_step view machine old new same step = (step.gives.op, step.gives.stands, subst (λ (g : HeaderParts). Admits g step.gives.op) (sym same) step.gives.admitted)
+pub may_step : (view : OpView) (machine : State) (old new : Walk) → machine.header ≡ old.header → walks.Steps view old new → (op : Op)
+    × StandsFor view op × Admits machine.header op
+may_step view machine old new same step =
+    (step.gives.op, step.gives.stands, subst (λ (g : HeaderParts). Admits g step.gives.op) (sym same) step.gives.admitted)
 
 -- the rows from the next operation on
 record IsDone (h : HeaderParts) (rows : List Row) (made : Option Row) (machine : State) (walk : Walk) : Type 0 where
@@ -42,7 +44,8 @@ done_one h rows view old new machine machine' made has step steps =
     steps.row_is has.back next.op has.stands next.stands ∙ ap (λ (g : HeaderParts). row_made g has.back next.op) has.header_is in
     record {
       others = rows_behind h (next.op ∷ has.back) next.others;
-      rows_are = has.rows_are ∙ ap (rows_behind h has.back) next.later_is ∙ ap (λ (m : Option Row). cons_option m (rows_behind h (next.op ∷ has.back) next.others)) (sym made_is);
+      rows_are = has.rows_are ∙ ap (rows_behind h has.back) next.later_is
+          ∙ ap (λ (m : Option Row). cons_option m (rows_behind h (next.op ∷ has.back) next.others)) (sym made_is);
       has = record {
         back = next.op ∷ has.back;
         later = next.others;
@@ -57,35 +60,43 @@ done_one h rows view old new machine machine' made has step steps =
 
 -- an operation without a row
 pub next_quiet : (h : HeaderParts) (rows : List Row) (view : OpView) (old new : Walk) (machine machine' : State) (made : Option Row)
-    → HasRows h rows machine old → walks.Steps view old new → Steps view machine machine' made → ((row : Row) → made ≡ Some row → ⊥) → HasRows h rows machine' new
+    → HasRows h rows machine old → walks.Steps view old new → Steps view machine machine' made → ((row : Row) → made ≡ Some row → ⊥)
+    → HasRows h rows machine' new
 next_quiet h rows view old new machine machine' (Some row) has step steps quiet = absurd (quiet row refl)
 next_quiet h rows view old new machine machine' None has step steps quiet =
     let one = done_one h rows view old new machine machine' None has step steps in
     subst (λ (list : List Row). HasRows h list machine' new) (sym one.rows_are) one.has
 
 -- an operation and its row
-pub next_row : (h : HeaderParts) (rows : List Row) (view : OpView) (old new : Walk) (machine machine' : State) (made : Option Row) (row : Row)
-    → HasRows h rows machine old → walks.Steps view old new → Steps view machine machine' made → made ≡ Some row → GivesNext h rows (Some row) machine' new
+pub next_row : (h : HeaderParts) (rows : List Row) (view : OpView) (old new : Walk) (machine machine' : State) (made : Option Row)
+    (row : Row)
+    → HasRows h rows machine old → walks.Steps view old new → Steps view machine machine' made → made ≡ Some row
+    → GivesNext h rows (Some row) machine' new
 next_row h rows view old new machine machine' made row has step steps is =
     let one = done_one h rows view old new machine machine' made has step steps in
-    subst (λ (list : List Row). GivesNext h list (Some row) machine' new) (sym (one.rows_are ∙ ap (λ (m : Option Row). cons_option m one.others) is)) (refl, one.has)
+    subst (λ (list : List Row). GivesNext h list (Some row) machine' new)
+    (sym (one.rows_are ∙ ap (λ (m : Option Row). cons_option m one.others) is)) (refl, one.has)
 
 -- no operation is left
-pub next_ends : (h : HeaderParts) (rows : List Row) (old new : Walk) (machine : State) → HasRows h rows machine old → Ends old new → GivesNext h rows None machine new
+pub next_ends : (h : HeaderParts) (rows : List Row) (old new : Walk) (machine : State) → HasRows h rows machine old → Ends old new
+    → GivesNext h rows None machine new
 next_ends h rows old new machine has ends =
     let empty : rows ≡ [] = has.rows_are ∙ ap (rows_behind h has.back) (left_ends h has.later old new has.left ends) in
     subst (λ (list : List Row). GivesNext h list None machine new) (sym empty) tt
 
 -- no operation is refused
-pub next_fails : (h : HeaderParts) (rows : List Row) (fault : Fault) (old new : Walk) (machine : State) → HasRows h rows machine old → Fails fault old new → ⊥
+pub next_fails : (h : HeaderParts) (rows : List Row) (fault : Fault) (old new : Walk) (machine : State) → HasRows h rows machine old
+    → Fails fault old new → ⊥
 next_fails h rows fault old new machine has fails = left_fails h has.later fault old new has.left fails
 
 -- no line is out of range
-pub next_out : (h : HeaderParts) (rows : List Row) (view : OpView) (old new : Walk) (machine : State) → HasRows h rows machine old → walks.Steps view old new → LeavesRange view machine → ⊥
+pub next_out : (h : HeaderParts) (rows : List Row) (view : OpView) (old new : Walk) (machine : State) → HasRows h rows machine old
+    → walks.Steps view old new → LeavesRange view machine → ⊥
 next_out h rows view old new machine has step leaves =
     let next = left_next h has.later view old new has.valid has.left step in
     let lines : LinesAfter h has.back (next.op ∷ next.others) = subst (LinesAfter h has.back) next.later_is has.lines in
-    leaves has.back next.op has.stands next.stands (subst (λ (g : HeaderParts). IsLine (line g (next.op ∷ has.back))) (sym has.header_is) lines.0)
+    leaves has.back next.op has.stands next.stands
+    (subst (λ (g : HeaderParts). IsLine (line g (next.op ∷ has.back))) (sym has.header_is) lines.0)
 
 -- ---- one sequence
 
@@ -98,24 +109,28 @@ abbrev pub ended_by : Option Row → Bool
 ended_by None = true
 ended_by (Some row) = row.end_sequence
 
-gives_by : (h : HeaderParts) (all rows : List Row) (result : Option Row) (new : SequenceWalk) → GivesNext h all result new.machine new.walk → new.ended ≡ ended_by result
+gives_by : (h : HeaderParts) (all rows : List Row) (result : Option Row) (new : SequenceWalk) → GivesNext h all result new.machine new.walk
+    → new.ended ≡ ended_by result
     → rows ≡ first_sequence all → GivesFirst rows result new
 gives_by h [] rows None new gives ended are = subst (λ (list : List Row). GivesFirst list None new) (sym are) (none ended refl)
 gives_by h [] rows (Some made) new gives ended are = absurd gives
 gives_by h (row ∷ all) rows None new gives ended are = absurd gives
 gives_by h (row ∷ all) rows (Some made) new gives ended are =
-    subst (λ (list : List Row). GivesFirst list (Some made) new) (sym are) (gives.0, by_end row.end_sequence (ended ∙ ap (λ (r : Row). r.end_sequence) gives.0))
+    subst (λ (list : List Row). GivesFirst list (Some made) new) (sym are)
+    (gives.0, by_end row.end_sequence (ended ∙ ap (λ (r : Row). r.end_sequence) gives.0))
   where
     by_end : (t : Bool) → new.ended ≡ t → WillGive (cond t [] (first_sequence all)) new
     by_end true e = none e refl
     by_end false e = some h all e gives.1 refl
 
 pub gives_some : (old new : SequenceWalk) (result : Option Row) → old.ended ≡ false
-    → ((h : HeaderParts) (rows : List Row) → HasRows h rows old.machine old.walk → GivesNext h rows result new.machine new.walk) → new.ended ≡ ended_by result → GivesRow old result new
+    → ((h : HeaderParts) (rows : List Row) → HasRows h rows old.machine old.walk → GivesNext h rows result new.machine new.walk)
+    → new.ended ≡ ended_by result → GivesRow old result new
 gives_some old new result going gives ended rows (none e empty) = absurd (true≢false (sym e ∙ going))
 gives_some old new result going gives ended rows (some h all e has are) = gives_by h all rows result new (gives h all has) ended are
 
-pub has_begun : (h : HeaderParts) (program : List ℕ) (earlier later : List Op) (place : ℕ) (machine : State) (walk : Walk) → IsHeader h → IsSequencePlace h program earlier later place
+pub has_begun : (h : HeaderParts) (program : List ℕ) (earlier later : List Op) (place : ℕ) (machine : State) (walk : Walk) → IsHeader h
+    → IsSequencePlace h program earlier later place
     → machine.header ≡ h → StandsAfter machine [] → walk.header ≡ h → walk.failed ≡ false → walk.at.rest ≡ drop place program
     → HasRows h (rows_behind h (reverse earlier) later) machine walk
 has_begun h program earlier later place machine walk valid is header stands same going rest = record {
@@ -130,8 +145,11 @@ has_begun h program earlier later place machine walk valid is header stands same
 }
 
 -- the rows of a sequence that begins
-pub will_give : (h : HeaderParts) (program : List ℕ) (earlier later : List Op) (place : ℕ) (walk : SequenceWalk) → IsHeader h → IsSequencePlace h program earlier later place
-    → walk.machine.header ≡ h → StandsAfter walk.machine [] → walk.walk.header ≡ h → walk.walk.failed ≡ false → walk.walk.at.rest ≡ drop place program → walk.ended ≡ false
+pub will_give : (h : HeaderParts) (program : List ℕ) (earlier later : List Op) (place : ℕ) (walk : SequenceWalk) → IsHeader h
+    → IsSequencePlace h program earlier later place
+    → walk.machine.header ≡ h → StandsAfter walk.machine [] → walk.walk.header ≡ h → walk.walk.failed ≡ false
+    → walk.walk.at.rest ≡ drop place program → walk.ended ≡ false
     → WillGive (first_sequence (rows_behind h (reverse earlier) later)) walk
 will_give h program earlier later place walk valid is header stands same going rest ended =
-    some h (rows_behind h (reverse earlier) later) ended (has_begun h program earlier later place walk.machine walk.walk valid is header stands same going rest) refl
+    some h (rows_behind h (reverse earlier) later) ended
+    (has_begun h program earlier later place walk.machine walk.walk valid is header stands same going rest) refl

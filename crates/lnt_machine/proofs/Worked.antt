@@ -6,14 +6,17 @@ use Rattle.lnt_wire.specs.declared.format.Order.TheVariants.{Little}
 use Rattle.lnt_wire.specs.declared.format.Format.TheVariants.{D32}
 use Rattle.lnt_unit.specs.declared.unit.Parts.{Parts}
 use Rattle.lnt_header.specs.declared.op.Op.{Op}
-use Rattle.lnt_header.specs.declared.op.Op.TheVariants.{Special, Copy, AdvancePc, AdvanceLine, SetFile, NegateStmt, SetBasicBlock, ConstAddPc, FixedAdvancePc, SetPrologueEnd, UnknownStandard, EndSequence, SetAddress, SetDiscriminator}
+use Rattle.lnt_header.specs.declared.op.Op.TheVariants.{Special, Copy, AdvancePc, AdvanceLine, SetFile, NegateStmt}
+use Rattle.lnt_header.specs.declared.op.Op.TheVariants.{SetBasicBlock, ConstAddPc, FixedAdvancePc, SetPrologueEnd}
+use Rattle.lnt_header.specs.declared.op.Op.TheVariants.{UnknownStandard, EndSequence, SetAddress, SetDiscriminator}
 use Rattle.lnt_header.specs.HeaderRules.{known_lengths}
 use Rattle.lnt_machine.specs.declared.row.Row.{Row}
 use Rattle.lnt_machine.specs.declared.fault.RunFault.TheVariants.{LineOutOfRange}
 use Rattle.lnt_machine.specs.Registers.{line, IsLine}
 use Rattle.lnt_machine.specs.Matrix.{done, IsRunFault, joined_rows, rows, sequences}
 
--- A unit whose header has these numbers: minimum_instruction_length, max_ops, opcode_base and the standard lengths. Rows depend on no table.
+-- A unit whose header has these numbers: minimum_instruction_length, max_ops, opcode_base and the standard lengths. Rows depend
+-- on no table.
 abbrev unit_of : ℕ → ℕ → ℕ → List ℕ → List Op → Parts
 unit_of minimum max_ops opcode_base lengths ops = record {
   header = record {
@@ -56,7 +59,8 @@ plain_sequences = refl
 abbrev two_rows_at_one_address : Parts
 two_rows_at_one_address = simple (SetAddress 0x1000 ∷ Special 20 ∷ AdvanceLine (pos 6) ∷ Copy ∷ AdvancePc 4 ∷ EndSequence ∷ [])
 
-two_rows_at_one_address_rows : map shown (rows two_rows_at_one_address) ≡ (0x1000, 0, 3, false) ∷ (0x1000, 0, 9, false) ∷ (0x1004, 0, 9, true) ∷ []
+two_rows_at_one_address_rows : map shown (rows two_rows_at_one_address) ≡ (0x1000, 0, 3, false) ∷ (0x1000, 0, 9, false) ∷
+    (0x1004, 0, 9, true) ∷ []
 two_rows_at_one_address_rows = refl
 
 -- instructions of 16 bytes
@@ -64,7 +68,8 @@ abbrev three_operations_per_instruction : Parts
 three_operations_per_instruction = unit_of 16 3 13 known_lengths (
     SetAddress 0x2000 ∷ Special 20 ∷ AdvancePc 2 ∷ Copy ∷ AdvancePc 2 ∷ AdvanceLine (pos 1) ∷ Copy ∷ AdvancePc 2 ∷ EndSequence ∷ [])
 
-three_operations_per_instruction_rows : map shown (rows three_operations_per_instruction) ≡ (0x2000, 0, 3, false) ∷ (0x2000, 2, 3, false) ∷ (0x2010, 1, 4, false) ∷ (0x2020, 0, 4, true) ∷ []
+three_operations_per_instruction_rows : map shown (rows three_operations_per_instruction) ≡ (0x2000, 0, 3, false) ∷ (0x2000, 2, 3, false) ∷
+    (0x2010, 1, 4, false) ∷ (0x2020, 0, 4, true) ∷ []
 three_operations_per_instruction_rows = refl
 
 -- the advance of special opcode 255
@@ -76,14 +81,17 @@ const_add_pc_rows = refl
 
 -- an unscaled advance from within an instruction of 4 bytes
 abbrev fixed_advance_pc : Parts
-fixed_advance_pc = unit_of 4 2 13 known_lengths (SetAddress 0x1000 ∷ Special 20 ∷ AdvancePc 1 ∷ FixedAdvancePc 5 ∷ Copy ∷ AdvancePc 2 ∷ EndSequence ∷ [])
+fixed_advance_pc =
+    unit_of 4 2 13 known_lengths (SetAddress 0x1000 ∷ Special 20 ∷ AdvancePc 1 ∷ FixedAdvancePc 5 ∷ Copy ∷ AdvancePc 2 ∷ EndSequence ∷ [])
 
 fixed_advance_pc_rows : map shown (rows fixed_advance_pc) ≡ (0x1000, 0, 3, false) ∷ (0x1005, 0, 3, false) ∷ (0x1009, 0, 3, true) ∷ []
 fixed_advance_pc_rows = refl
 
 -- special opcodes from 10 on
 abbrev opcode_base_10 : Parts
-opcode_base_10 = unit_of 1 1 10 (0 ∷ 1 ∷ 1 ∷ 1 ∷ 1 ∷ 0 ∷ 0 ∷ 0 ∷ 1 ∷ []) (SetAddress 0x1000 ∷ AdvanceLine (pos 9) ∷ Special 10 ∷ AdvancePc 2 ∷ EndSequence ∷ [])
+opcode_base_10 =
+    unit_of 1 1 10 (0 ∷ 1 ∷ 1 ∷ 1 ∷ 1 ∷ 0 ∷ 0 ∷ 0 ∷ 1 ∷ [])
+    (SetAddress 0x1000 ∷ AdvanceLine (pos 9) ∷ Special 10 ∷ AdvancePc 2 ∷ EndSequence ∷ [])
 
 opcode_base_10_rows : map shown (rows opcode_base_10) ≡ (0x1000, 0, 5, false) ∷ (0x1002, 0, 5, true) ∷ []
 opcode_base_10_rows = refl
@@ -129,7 +137,9 @@ address_wraps_rows = refl
 
 -- the marks and the discriminator of the first row are gone in the second
 abbrev marks_and_discriminator : Parts
-marks_and_discriminator = simple (SetAddress 0x1000 ∷ SetDiscriminator 7 ∷ SetBasicBlock ∷ SetPrologueEnd ∷ Special 20 ∷ Special 75 ∷ AdvancePc 2 ∷ EndSequence ∷ [])
+marks_and_discriminator =
+    simple (SetAddress 0x1000 ∷ SetDiscriminator 7 ∷ SetBasicBlock ∷ SetPrologueEnd ∷ Special 20 ∷ Special 75 ∷ AdvancePc 2 ∷ EndSequence ∷
+    [])
 
 -- basic_block, prologue_end, epilogue_begin, discriminator
 abbrev marks : Row → Bool × Bool × Bool × ℕ
@@ -142,7 +152,8 @@ marks_and_discriminator_rows = refl
 -- is_stmt is inverted in the first sequence alone
 abbrev two_sequences : Parts
 two_sequences = simple (
-    SetAddress 0x1000 ∷ NegateStmt ∷ Special 20 ∷ AdvancePc 1 ∷ EndSequence ∷ SetAddress 0x2000 ∷ Special 20 ∷ AdvancePc 1 ∷ EndSequence ∷ [])
+    SetAddress 0x1000 ∷ NegateStmt ∷ Special 20 ∷ AdvancePc 1 ∷ EndSequence ∷ SetAddress 0x2000 ∷ Special 20 ∷ AdvancePc 1 ∷ EndSequence ∷
+    [])
 
 -- address, is_stmt, end_sequence
 abbrev statements : Row → ℕ × Bool × Bool

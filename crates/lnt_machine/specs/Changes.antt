@@ -1,33 +1,20 @@
 -- How an operation changes the registers (DWARF 5, section 6.2.5). Contracts of private functions speak of this, and no others.
-use Rattle.std.specs.Prelude.{◌≡◌, ℕ, ◌+◌, ◌*◌, ◌/◌, ◌%◌, ◌^◌, ◌==◌, ◌<◌, ◌≤◌, true, false, not, [], Option, Some, None, ℤ, pos, ◌+ℤ◌, unsigned_abs}
+use Rattle.std.specs.Prelude.{◌≡◌, ℕ, ◌+◌, ◌*◌, ◌/◌, ◌%◌, ◌^◌, ◌==◌, ◌<◌, ◌≤◌, true, false, not, [], Option, Some, None}
+use Rattle.std.specs.Prelude.{ℤ, pos, ◌+ℤ◌, unsigned_abs}
 use Rattle.lnt_header.specs.declared.header.HeaderParts.{HeaderParts}
 use Rattle.lnt_header.specs.declared.op.Op.{Op}
-use Rattle.lnt_header.specs.declared.op.Op.TheVariants.{Special, Copy, AdvancePc, AdvanceLine, SetFile, SetColumn, NegateStmt, SetBasicBlock, ConstAddPc, FixedAdvancePc, SetPrologueEnd, SetEpilogueBegin, SetIsa, UnknownStandard, EndSequence, SetAddress, SetDiscriminator, UnknownExtended}
-use Rattle.lnt_header.specs.declared.view.OpView.{OpView}
-use Rattle.lnt_header.specs.declared.view.OpView.TheVariants as views
+use Rattle.lnt_header.specs.declared.op.Op.TheVariants.{Special, Copy, AdvancePc, AdvanceLine, SetFile, SetColumn}
+use Rattle.lnt_header.specs.declared.op.Op.TheVariants.{NegateStmt, SetBasicBlock, ConstAddPc, FixedAdvancePc}
+use Rattle.lnt_header.specs.declared.op.Op.TheVariants.{SetPrologueEnd, SetEpilogueBegin, SetIsa}
+use Rattle.lnt_header.specs.declared.op.Op.TheVariants.{EndSequence, SetAddress, SetDiscriminator}
+use Rattle.lnt_header.specs.declared.op.OpView.{OpView}
+use Rattle.lnt_header.specs.OpViews.{op_of}
 use Rattle.lnt_machine.specs.declared.row.Row.{Row}
 use Rattle.lnt_machine.specs.Registers.{IsLine, advance_of_special, line_increment}
 
--- the operation that a view stands for, without the operands of an unknown one, which change nothing
+-- the operation that a view stands for, but for the operands of an unknown standard one, which change nothing
 abbrev pub plain : OpView → Op
-plain (views.Special c) = Special c
-plain views.Copy = Copy
-plain (views.AdvancePc n) = AdvancePc n
-plain (views.AdvanceLine z) = AdvanceLine z
-plain (views.SetFile n) = SetFile n
-plain (views.SetColumn n) = SetColumn n
-plain views.NegateStmt = NegateStmt
-plain views.SetBasicBlock = SetBasicBlock
-plain views.ConstAddPc = ConstAddPc
-plain (views.FixedAdvancePc n) = FixedAdvancePc n
-plain views.SetPrologueEnd = SetPrologueEnd
-plain views.SetEpilogueBegin = SetEpilogueBegin
-plain (views.SetIsa n) = SetIsa n
-plain (views.UnknownStandard k operands) = UnknownStandard k []
-plain views.EndSequence = EndSequence
-plain (views.SetAddress a) = SetAddress a
-plain (views.SetDiscriminator n) = SetDiscriminator n
-plain (views.UnknownExtended code bytes) = UnknownExtended code []
+plain view = op_of view []
 
 -- What is asked of an operation: a special opcode is not below the first one, and an address has the bytes of addresses.
 abbrev pub IsAllowed : HeaderParts → Op → Type 0
@@ -59,7 +46,7 @@ advanced h r n = record r {
   op_index = (r.op_index + n) % h.max_ops;
 }
 
--- the registers behind a row
+-- the registers after a row
 abbrev pub unmarked : Row → Row
 unmarked r = record r { discriminator = 0; basic_block = false; prologue_end = false; epilogue_begin = false }
 

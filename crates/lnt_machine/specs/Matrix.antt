@@ -11,7 +11,7 @@ use Rattle.lnt_machine.specs.declared.row.Row.{Row}
 use Rattle.lnt_machine.specs.declared.row.Sequence.{Sequence}
 use Rattle.lnt_machine.specs.Registers.{registers_after, discriminator, basic_block, prologue_end, epilogue_begin, line, IsLine}
 
--- The row of a Copy or a Special that comes behind `back`: the registers with it, but the marks and the discriminator without it.
+-- The row of a Copy or a Special that comes after `back`: the registers with it, but the marks and the discriminator without it.
 abbrev pub row_of : HeaderParts → List Op → Op → Row
 row_of h back op = record (registers_after h (op ∷ back)) {
   discriminator = discriminator back;
@@ -20,18 +20,18 @@ row_of h back op = record (registers_after h (op ∷ back)) {
   epilogue_begin = epilogue_begin back;
 }
 
--- The row of an EndSequence that comes behind `back`: the registers without it.
+-- The row of an EndSequence that comes after `back`: the registers without it.
 abbrev pub end_row_of : HeaderParts → List Op → Row
 end_row_of h back = record (registers_after h back) { end_sequence = true }
 
--- the row that an operation behind `back` makes, if it makes one
+-- the row that an operation after `back` makes, if it makes one
 abbrev pub row_made : HeaderParts → List Op → Op → Option Row
 row_made h back Copy = Some (row_of h back Copy)
 row_made h back (Special c) = Some (row_of h back (Special c))
 row_made h back EndSequence = Some (end_row_of h back)
 row_made h back _ = None
 
--- the rows of operations that come behind `back`
+-- the rows of operations that come after `back`
 abbrev pub rows_behind : HeaderParts → List Op → List Op → List Row
 rows_behind h back [] = []
 rows_behind h back (op ∷ ops) = cons_option (row_made h back op) (rows_behind h (op ∷ back) ops)
@@ -45,7 +45,7 @@ abbrev pub onto_first : Row → List Sequence → List Sequence
 onto_first row [] = []
 onto_first row (sequence ∷ sequences) = record { rows = row ∷ sequence.rows } ∷ sequences
 
--- The sequences of rows: each is cut behind an end row. Rows behind the last end row belong to none.
+-- The sequences of rows: each is cut after an end row. Rows after the last end row belong to none.
 abbrev pub sequences_of : List Row → List Sequence
 sequences_of [] = []
 sequences_of (row ∷ rows) = cond row.end_sequence (record { rows = row ∷ [] } ∷ sequences_of rows) (onto_first row (sequences_of rows))

@@ -29,6 +29,7 @@ first_sequence (row ∷ rows) = row ∷ cond row.end_sequence [] (first_sequence
 -- The rows of a program of which a front is of whole sequences are the rows of that front, and then those of the rest as
 -- of a program of its own. So are its sequences.
 pub record RowsOfParts : Type 0 where
-  pub rows : (h : HeaderParts) (front rest : List Op) → AreWhole front → rows_of_ops h (front ++ rest) ≡ rows_of_ops h front ++ rows_of_ops h rest
+  pub rows : (h : HeaderParts) (front rest : List Op) → AreWhole front
+      → rows_of_ops h (front ++ rest) ≡ rows_of_ops h front ++ rows_of_ops h rest
   pub sequences : (h : HeaderParts) (front rest : List Op) → AreWhole front
       → sequences_of (rows_of_ops h (front ++ rest)) ≡ sequences_of (rows_of_ops h front) ++ sequences_of (rows_of_ops h rest)

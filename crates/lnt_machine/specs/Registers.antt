@@ -1,11 +1,15 @@
 -- The registers after some operations (DWARF 5, sections 6.2.2 and 6.2.5). There is no machine here: each
 -- register is a sum over operations, or a look back at the last one of a kind.
 -- A list of operations that were done has the newest first: `back` is such a list, and `op ∷ back` is that list and one more.
-use Rattle.std.specs.Prelude.{ℕ, ◌+◌, ◌-◌, ◌*◌, ◌/◌, ◌%◌, ◌^◌, ◌==◌, Bool, true, false, not, cond, List, [], ◌∷◌, Option, Some, None, unwrap_or, ℤ, pos, ◌+ℤ◌, ◌≤ℤ◌, ◌<ℤ◌, unsigned_abs}
+use Rattle.std.specs.Prelude.{ℕ, ◌+◌, ◌-◌, ◌*◌, ◌/◌, ◌%◌, ◌^◌, ◌==◌, Bool, true, false, not, cond, List, [], ◌∷◌}
+use Rattle.std.specs.Prelude.{Option, Some, None, unwrap_or, ℤ, pos, ◌+ℤ◌, ◌≤ℤ◌, ◌<ℤ◌, unsigned_abs}
 use Rattle.std.specs.List.{list_any}
 use Rattle.lnt_header.specs.declared.header.HeaderParts.{HeaderParts}
 use Rattle.lnt_header.specs.declared.op.Op.{Op}
-use Rattle.lnt_header.specs.declared.op.Op.TheVariants.{Special, Copy, AdvancePc, AdvanceLine, SetFile, SetColumn, NegateStmt, SetBasicBlock, ConstAddPc, FixedAdvancePc, SetPrologueEnd, SetEpilogueBegin, SetIsa, EndSequence, SetAddress, SetDiscriminator}
+use Rattle.lnt_header.specs.declared.op.Op.TheVariants.{Special, Copy, AdvancePc, AdvanceLine, SetFile, SetColumn}
+use Rattle.lnt_header.specs.declared.op.Op.TheVariants.{NegateStmt, SetBasicBlock, ConstAddPc, FixedAdvancePc}
+use Rattle.lnt_header.specs.declared.op.Op.TheVariants.{SetPrologueEnd, SetEpilogueBegin, SetIsa, EndSequence}
+use Rattle.lnt_header.specs.declared.op.Op.TheVariants.{SetAddress, SetDiscriminator}
 use Rattle.lnt_machine.specs.declared.row.Row.{Row}
 
 -- ---- looking back
@@ -33,7 +37,7 @@ is_copy_or_special _ = false
 abbrev pub part : List Op → List Op
 part back = since is_end back
 
--- what was done in it behind the last Copy or Special
+-- what was done in it after the last Copy or Special
 abbrev pub behind_row : List Op → List Op
 behind_row back = since is_copy_or_special (part back)
 
@@ -50,7 +54,7 @@ advance_of h (Special c) = advance_of_special h c
 advance_of h ConstAddPc = advance_of_special h 255
 advance_of h _ = 0
 
--- the sum of the advances behind the last SetAddress or FixedAdvancePc of the sequence at hand, or in all of it
+-- the sum of the advances after the last SetAddress or FixedAdvancePc of the sequence at hand, or in all of it
 abbrev pub advances : HeaderParts → List Op → ℕ
 advances h [] = 0
 advances h (EndSequence ∷ back) = 0
@@ -58,7 +62,7 @@ advances h (SetAddress a ∷ back) = 0
 advances h (FixedAdvancePc n ∷ back) = 0
 advances h (op ∷ back) = advance_of h op + advances h back
 
--- the address that so many operations behind an instruction's address stand at
+-- the address that so many operations after an instruction's address stand at
 abbrev pub moved : HeaderParts → ℕ → ℕ → ℕ
 moved h from n = (from + h.minimum_instruction_length * (n / h.max_ops)) % 2 ^ (8 * h.address_size)
 

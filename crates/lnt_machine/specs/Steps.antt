@@ -1,7 +1,7 @@
 -- What a step of a machine does.
 use Rattle.std.specs.Prelude.{◌≡◌, ◌+◌, ◌-◌, ◌^◌, min, List, ◌∷◌, Option}
 use Rattle.lnt_header.specs.declared.op.Op.{Op}
-use Rattle.lnt_header.specs.declared.view.OpView.{OpView}
+use Rattle.lnt_header.specs.declared.op.OpView.{OpView}
 use Rattle.lnt_header.specs.OpViews.{StandsFor}
 use Rattle.lnt_machine.specs.declared.row.Row.{Row}
 use Rattle.lnt_machine.specs.Matrix.{row_made}
@@ -9,7 +9,7 @@ use Rattle.lnt_machine.specs.Registers.{IsLine, line}
 use Rattle.lnt_machine.specs.State.{StandsAfter, State}
 
 -- The operation was done: whatever list the machine stood after, it now stands after that list with this operation added,
--- and the row is the one that this operation makes behind that list. The count rises by 1 up to the greatest.
+-- and the row is the one that this operation makes after that list. The count rises by 1 up to the greatest.
 pub record Steps (view : OpView) (old new : State) (row : Option Row) : Type 0 where
   pub stands : (back : List Op) (op : Op) → StandsAfter old back → StandsFor view op → StandsAfter new (op ∷ back)
   pub row_is : (back : List Op) (op : Op) → StandsAfter old back → StandsFor view op → row ≡ row_made old.header back op

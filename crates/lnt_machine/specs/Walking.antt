@@ -52,7 +52,8 @@ pub record SequenceWalk : Type 0 where
 -- These rows are still to come: those up to the next end row, and with it.
 pub data WillGive (rows : List Row) (walk : SequenceWalk) : Type 0 where
   none : walk.ended ≡ true → rows ≡ [] → WillGive rows walk
-  some : (h : HeaderParts) (all : List Row) → walk.ended ≡ false → HasRows h all walk.machine walk.walk → rows ≡ first_sequence all → WillGive rows walk
+  some : (h : HeaderParts) (all : List Row) → walk.ended ≡ false → HasRows h all walk.machine walk.walk → rows ≡ first_sequence all
+      → WillGive rows walk
 
 abbrev pub GivesFirst : List Row → Option Row → SequenceWalk → Type 0
 GivesFirst [] None new = WillGive [] new

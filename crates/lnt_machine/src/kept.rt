@@ -13,9 +13,10 @@ use std::marker::Model;
 #[derive(Drop)]
 pub struct Program {
     header: KeptHeader,
-    // The program goes to the end of the bytes, and begins after so many.
+    // The program is the end of these bytes, from index `start` on.
     bytes: Vec<u8>,
     start: usize,
+    // The index in the program of the first operation of each sequence.
     places: Vec<usize>,
 }
 
@@ -27,11 +28,13 @@ impl Model for Program {
 
     ghost view = { λ p. record { header = p.header; program = drop p.start p.bytes.items; places = p.places.items } };
 
-    ghost invariant = { λ p. IsKept (record { header = p.header; program = drop p.start p.bytes.items; places = p.places.items }) × (p.start ≤ length p.bytes.items) };
+    ghost invariant = { λ p. IsKept (record { header = p.header; program = drop p.start p.bytes.items; places = p.places.items })
+        × (p.start ≤ length p.bytes.items) };
 }
 
 impl Program {
-    /// The program of a unit, by bytes that it is the end of, after so many, and by the places of its sequences.
+    /// The program of a unit: the end of `bytes`, from index `start` on. `places` are the indices in it at which the first
+    /// operation of each of the unit's sequences begins. It takes no memory.
     pub fn of(header: KeptHeader, bytes: Vec<u8>, start: usize, places: Vec<usize>) -> Program
         requires kept { IsKept (record { header = header; program = drop start bytes.items; places = places.items }) }
         requires within { start ≤ length bytes.items }
@@ -52,7 +55,7 @@ impl Program {
         self.header.view()
     }
 
-    /// The header, as it is kept.
+    /// The header with its directories and files, as they are kept.
     pub fn kept_header(&self) -> &KeptHeader
         ensures { result.now ≡ self.now.header }
     {
@@ -63,7 +66,8 @@ impl Program {
     pub fn sequence(&self, index: usize) -> Option<SequenceRows<'_>>
         ensures none { IfNone result (length self.now.places ≤ index) }
         ensures left { IfSome result (λ walk. length walk.walk.at.rest ≤ length self.now.program) }
-        ensures rows { IfSome result (λ walk. (unit : Parts) (d : spec.Sequence) → Keeps self.now unit → WillGive (slice_index_or (sequences unit) index d).rows walk) }
+        ensures rows { IfSome result (λ walk. (unit : Parts) (d : spec.Sequence) → Keeps self.now unit
+            → WillGive (slice_index_or (sequences unit) index d).rows walk) }
     {
         let place = *self.places.get(index)?;
         let (_, program) = self.bytes.split_at(self.start);

@@ -69,7 +69,7 @@ impl<'a> Machine<'a> {
     /// Does an operation that the header admits, and gives the row that it makes.
     ///
     /// Whatever list of operations the machine stood after, it then stands after that list with this operation added,
-    /// and the row is that of this operation behind them (`Steps`; DWARF 5, section 6.2.5). It refuses exactly where
+    /// and the row is that of this operation after them (`Steps`; DWARF 5, section 6.2.5). It refuses exactly where
     /// the line would be below 0, or 2^32 or more: with `LineOutOfRange` (22) of the count, which is the operation's
     /// index. The machine is then as before. It takes no memory.
     #[inline(always)]

@@ -1,6 +1,7 @@
 //! How operations change the registers (DWARF 5, section 6.2.5).
 ghost use Rattle.std.specs.Prelude.{◌≡◌, ◌+◌, ◌*◌, ◌/◌, ◌%◌, ◌^◌, ◌<◌, ◌≤◌, pos, ◌+ℤ◌, unsigned_abs, IfOk, OnOk, OnErr};
-ghost use Rattle.lnt_machine.specs.Changes.{advanced, Changes, initial_registers, IsAllowed, line_reached, plain, set_by, special_row, unmarked};
+ghost use Rattle.lnt_machine.specs.Changes.{advanced, Changes, initial_registers, IsAllowed, line_reached, plain};
+ghost use Rattle.lnt_machine.specs.Changes.{set_by, special_row, unmarked};
 ghost use Rattle.lnt_machine.specs.Registers.{IsLine};
 ghost use Rattle.lnt_machine.specs.State.{IsBounded};
 ghost use Rattle.lnt_header.specs.HeaderRules.{IsAddressSize};
@@ -36,7 +37,8 @@ pub(crate) fn initial(header: &Header) -> Row
     }
 }
 
-// Changes the registers as an operation says, and makes its row. They stay where the line would be out of range.
+// Does an operation, and gives the row that it appends, if any. Where the line would be below 0, or 2^32 or more, it is
+// refused and the registers stay.
 #[inline(always)]
 pub(crate) fn change(
     registers: &mut Row,
@@ -76,7 +78,7 @@ pub(crate) fn change(
     }
 }
 
-// Changes the registers as an operation says that neither makes a row nor moves the line. Others change nothing here.
+// Does an operation that appends no row and doesn't move the line. Any other changes nothing here.
 #[inline(always)]
 fn set(registers: &mut Row, header: &Header, view: &OpView<'_>)
     requires bounded { IsBounded header.now registers.old }
@@ -105,7 +107,7 @@ fn set(registers: &mut Row, header: &Header, view: &OpView<'_>)
     }
 }
 
-// The number by which special opcodes are divided by the line range without a division.
+// 2^16 divided by the line range, rounded down, and 1: `divided` multiplies by it in place of dividing by the line range.
 #[inline(always)]
 pub(crate) fn reciprocal_of(header: &Header) -> u32
     ensures { result ≡ 65536 / header.now.line_range + 1 }
@@ -113,7 +115,7 @@ pub(crate) fn reciprocal_of(header: &Header) -> u32
     65536 / u32::from(header.line_range()) + 1
 }
 
-// Does a special opcode, and gives its row.
+// Does a special opcode: advances address and line, and gives the row that it appends.
 #[inline(always)]
 fn special(
     registers: &mut Row,
@@ -138,7 +140,8 @@ fn special(
     Ok(append(registers))
 }
 
-// The quotient and the rest of bytes. A reciprocal in units of 2^-16, rounded up, is exact for them.
+// The quotient and the rest of two bytes, by a multiplication: the reciprocal in units of 2^-16, rounded up, gives both
+// exactly.
 #[inline(always)]
 #[tactic(auto, using(crate::proofs::DivisionLemmas::quotient, crate::proofs::DivisionLemmas::rest, crate::proofs::DivisionLemmas::quotient_fits, crate::proofs::DivisionLemmas::product_fits, crate::proofs::DivisionLemmas::product_within, crate::proofs::DivisionLemmas::multiple_fits))]
 fn divided(dividend: u8, divisor: u8, reciprocal: u32) -> (u8, u8)
@@ -151,7 +154,7 @@ fn divided(dividend: u8, divisor: u8, reciprocal: u32) -> (u8, u8)
     (quotient, dividend - quotient * divisor)
 }
 
-// The registers as a row. What a row resets is reset.
+// Gives the registers as a row, and resets what each row resets: the discriminator and the three marks.
 #[inline(always)]
 fn append(registers: &mut Row) -> Row
     ensures row { result ≡ registers.old }
@@ -165,7 +168,7 @@ fn append(registers: &mut Row) -> Row
     row
 }
 
-// Moves the address to the first operation of an instruction.
+// Sets the address, and the operation index to 0.
 #[inline(always)]
 fn set_address(registers: &mut Row, address: u64)
     ensures { registers.new ≡ record registers.old { address = address; op_index = 0 } }
@@ -174,7 +177,7 @@ fn set_address(registers: &mut Row, address: u64)
     registers.op_index = 0;
 }
 
-// Advances the address by so many operations.
+// Advances address and operation index by so many operations (DWARF 5, section 6.2.5.1).
 #[inline(always)]
 #[tactic(auto, using(crate::proofs::AdvanceLemmas::advanced_by_parts))]
 fn advance(registers: &mut Row, header: &Header, by: u64)
@@ -191,7 +194,7 @@ fn advance(registers: &mut Row, header: &Header, by: u64)
     }
 }
 
-// The address so many instructions behind another.
+// The address so many instructions after `from`, cut to the bytes that addresses have.
 #[inline(always)]
 fn moved(header: &Header, from: u64, instructions: u64) -> u64
     ensures { result ≡ (from + header.now.minimum_instruction_length * instructions) % 2 ^ (8 * header.now.address_size) }
@@ -200,7 +203,7 @@ fn moved(header: &Header, from: u64, instructions: u64) -> u64
     within(header, from.wrapping_add(bytes))
 }
 
-// What is left of an address in the bytes that addresses have.
+// The address modulo 2^16, 2^32 or 2^64, as the header's addresses have 2, 4 or 8 bytes.
 #[inline(always)]
 fn within(header: &Header, address: u64) -> u64
     ensures value { result ≡ address % 2 ^ (8 * header.now.address_size) }
@@ -213,7 +216,7 @@ fn within(header: &Header, address: u64) -> u64
     }
 }
 
-// The line so far from another one, if it is in range.
+// The line so far from `from`, if it is at least 0 and below 2^32.
 #[inline(always)]
 fn moved_line(from: u64, by: i64) -> Result<u64, OutOfRange>
     requires { from < 2 ^ 32 }

@@ -24,7 +24,7 @@ pub struct Row {
     pub is_stmt: bool,
     /// Whether a basic block begins.
     pub basic_block: bool,
-    /// Whether the address is the first one behind a sequence.
+    /// Whether the address is the first one after a sequence.
     pub end_sequence: bool,
     /// Whether it is a good place to stop at on entry to a function.
     pub prologue_end: bool,
@@ -32,7 +32,7 @@ pub struct Row {
     pub epilogue_begin: bool,
 }
 
-/// Rows of instructions that lie one behind another.
+/// Rows of instructions that lie one after another.
 #[derive(Debug, Drop, PartialEq, Eq)]
 pub struct Sequence {
     /// The rows in the order in which they were made. The last one ends the sequence, and no other does.

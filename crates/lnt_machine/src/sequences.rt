@@ -39,7 +39,7 @@ pub fn matrix(alloc: Global, unit: &Unit) -> Result<Vec<Sequence>, RunFault>
     }
 }
 
-// Adds a row to those behind the last end row. An end row makes a sequence of them. The only error is `Memory`.
+// Adds a row to those after the last end row. An end row makes a sequence of them. The only error is `Memory`.
 #[tactic(auto, using(crate::specs::Laws::Sequences::cut_more, crate::specs::Laws::Sequences::cut_end))]
 fn add_row(
     alloc: Global,

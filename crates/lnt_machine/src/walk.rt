@@ -33,9 +33,9 @@ impl<'a> Model for SequenceRows<'a> {
 }
 
 impl<'a> SequenceRows<'a> {
-    /// The rows of the sequence that begins at a place of the program, after so many bytes. It takes no memory.
+    /// The rows of the sequence whose first operation begins at the index `place` of the program. It takes no memory.
     ///
-    /// They are the rows of the operations from there on, up to the first end row and with it.
+    /// They are the rows of the operations from there on, up to and with the first end row.
     pub fn at(header: &'a Header, program: &'a [u8], place: usize) -> SequenceRows<'a>
         requires within { place ≤ length program.now }
         ensures left { length result.walk.at.rest ≤ length program.entry.now }
@@ -77,7 +77,8 @@ fn next_row(machine: &mut Machine<'_>, ops: &mut Ops<'_>) -> Option<Row>
     requires { machine.old.header ≡ ops.old.header }
     ensures same { machine.new.header ≡ ops.new.header }
     ensures shorter { IfSome result (λ row. length ops.new.at.rest < length ops.old.at.rest) }
-    ensures gives { (h : HeaderParts) (rows : List spec.Row) → HasRows h rows machine.old ops.old → GivesNext h rows result machine.new ops.new }
+    ensures gives { (h : HeaderParts) (rows : List spec.Row) → HasRows h rows machine.old ops.old
+        → GivesNext h rows result machine.new ops.new }
 {
     if let Some(row) = short_row(machine, ops) {
         return Some(row);
@@ -98,7 +99,8 @@ fn any_row(machine: &mut Machine<'_>, ops: &mut Ops<'_>) -> Option<Row>
     requires { machine.old.header ≡ ops.old.header }
     ensures same { machine.new.header ≡ ops.new.header }
     ensures shorter { IfSome result (λ row. length ops.new.at.rest < length ops.old.at.rest) }
-    ensures gives { (h : HeaderParts) (rows : List spec.Row) → HasRows h rows machine.old ops.old → GivesNext h rows result machine.new ops.new }
+    ensures gives { (h : HeaderParts) (rows : List spec.Row) → HasRows h rows machine.old ops.old
+        → GivesNext h rows result machine.new ops.new }
 {
     while let Some(op) = ops.next() {
         let Ok(op) = op else {
@@ -114,7 +116,7 @@ fn any_row(machine: &mut Machine<'_>, ops: &mut Ops<'_>) -> Option<Row>
     None
 }
 
-// The row that the machine makes of the next operations, where all of them up to it are short. None may come behind some
+// The row that the machine makes of the next operations, where all of them up to it are short. None may come after some
 // that make none.
 #[tactic(auto, using(crate::proofs::WalkingLemmas::may_step))]
 #[inline(always)]
@@ -123,7 +125,8 @@ fn short_row(machine: &mut Machine<'_>, ops: &mut Ops<'_>) -> Option<Row>
     ensures same { machine.new.header ≡ ops.new.header }
     ensures no_longer { length ops.new.at.rest ≤ length ops.old.at.rest }
     ensures shorter { IfSome result (λ row. length ops.new.at.rest < length ops.old.at.rest) }
-    ensures gives { (h : HeaderParts) (rows : List spec.Row) → HasRows h rows machine.old ops.old → ComesNext h rows result machine.new ops.new }
+    ensures gives { (h : HeaderParts) (rows : List spec.Row) → HasRows h rows machine.old ops.old
+        → ComesNext h rows result machine.new ops.new }
 {
     while let Some(op) = ops.next_short() {
         let Ok(made) = machine.step(&op) else {

@@ -1,4 +1,6 @@
 //! What was seen of the bytes of a file while they were read.
+ghost use Rattle.std.specs.Prelude.{◌≡◌};
+
 use std::cell::Cell;
 use std::io::{self, Read};
 
@@ -52,9 +54,11 @@ pub struct Watched<'a, R> {
     seen: &'a Cell<Seen>,
 }
 
-impl<'a, R> Watched<'a, R> {
-    /// The same reader; what is seen of its bytes goes into the cell.
-    pub fn new(reader: R, seen: &'a Cell<Seen>) -> Watched<'a, R> {
+impl<'a, R: Read> Watched<'a, R> {
+    /// The same reader, which has the same bytes to give; what is seen of them goes into the cell.
+    pub fn new(reader: R, seen: &'a Cell<Seen>) -> Watched<'a, R>
+        ensures { ⟦<Watched<'a, R> as Read>⟧.remaining result ≡ R.remaining reader }
+    {
         Watched { reader, seen }
     }
 }

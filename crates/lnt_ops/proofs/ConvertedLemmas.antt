@@ -4,7 +4,7 @@ use Rattle.lnt_wire.specs.Bytes.{Appends}
 use Rattle.lnt_wire.specs.declared.format.Order.{Order}
 use Rattle.lnt_header.specs.declared.header.HeaderParts.{HeaderParts}
 use Rattle.lnt_header.specs.declared.op.Op.{Op}
-use Rattle.lnt_header.specs.declared.view.OpView.{OpView}
+use Rattle.lnt_header.specs.declared.op.OpView.{OpView}
 use Rattle.lnt_header.specs.Joins.{Each}
 use Rattle.lnt_header.specs.OpRules.{Admits}
 use Rattle.lnt_header.specs.Laws.Puts.{each_begun, each_put}
@@ -15,19 +15,28 @@ use Rattle.lnt_ops.specs.Programs.{OpsSoFar}
 use Rattle.lnt_ops.specs.Walks.{Walk, Ends, Steps}
 
 -- the operations that a walk has given so far were added
-pub record ConvertedSoFar (h : HeaderParts) (place : ℕ) (program : List ℕ) (order : Order) (old : List ℕ) (walk : Walk) (new : List ℕ) : Type 0 where
+pub record ConvertedSoFar (h : HeaderParts) (place : ℕ) (program : List ℕ) (order : Order) (old : List ℕ) (walk : Walk)
+    (new : List ℕ) : Type 0 where
   pub header_is : walk.header ≡ h
   pub going : walk.failed ≡ false
   pub ops : List Op
   pub so : OpsSoFar h place program ops walk.at
   pub adds : (other : HeaderParts) → IsLike h order other → Appends (Each (OpBytes other)) ops old new
 
-pub converted_none : (h : HeaderParts) (place : ℕ) (program : List ℕ) (order : Order) (old : List ℕ) (walk : Walk) → walk.header ≡ h → walk.failed ≡ false → walk.at.place ≡ place → walk.at.rest ≡ program → walk.at.order ≡ h.order
+pub converted_none : (h : HeaderParts) (place : ℕ) (program : List ℕ) (order : Order) (old : List ℕ) (walk : Walk) → walk.header ≡ h
+    → walk.failed ≡ false → walk.at.place ≡ place → walk.at.rest ≡ program → walk.at.order ≡ h.order
     → ConvertedSoFar h place program order old walk old
 converted_none h place program order old walk same going placed rest ordered =
-    record { header_is = same; going = going; ops = []; so = ops_none h place program walk.at placed rest ordered; adds = λ other like. each_begun (OpBytes other) old }
+    record {
+      header_is = same;
+      going = going;
+      ops = [];
+      so = ops_none h place program walk.at placed rest ordered;
+      adds = λ other like. each_begun (OpBytes other) old;
+    }
 
-pub converted_more : (h : HeaderParts) (place : ℕ) (program : List ℕ) (order : Order) (size : ℕ) (old middle new : List ℕ) (view : OpView) (walk next : Walk) → ConvertedSoFar h place program order old walk middle → Steps view walk next
+pub converted_more : (h : HeaderParts) (place : ℕ) (program : List ℕ) (order : Order) (size : ℕ) (old middle new : List ℕ) (view : OpView)
+    (walk next : Walk) → ConvertedSoFar h place program order old walk middle → Steps view walk next
     → size ≡ h.address_size → AddsView order size view middle new → ConvertedSoFar h place program order old next new
 converted_more h place program order size old middle new view walk next so step sized put =
     let op = step.gives.op in
@@ -39,13 +48,23 @@ converted_more h place program order size old middle new view walk next so step 
       so = more.2;
       adds = λ other like.
           let admitted = like.admits op (subst (λ (g : HeaderParts). Admits g op) so.header_is step.gives.admitted) in
-          each_put (OpBytes other) so.ops op old middle new (so.adds other like) (put.adds other op like.order_is (like.size_is ∙ sym sized) step.gives.stands admitted);
+          each_put (OpBytes other) so.ops op old middle new (so.adds other like)
+          (put.adds other op like.order_is (like.size_is ∙ sym sized) step.gives.stands admitted);
     }
 
 -- a view that a walk gives is one of the header's
-pub view_of_header : (h : HeaderParts) (size : ℕ) (view : OpView) (walk next : Walk) → walk.header ≡ h → size ≡ h.address_size → Steps view walk next → IsOpOf size view
+pub view_of_header : (h : HeaderParts) (size : ℕ) (view : OpView) (walk next : Walk) → walk.header ≡ h → size ≡ h.address_size
+    → Steps view walk next → IsOpOf size view
 view_of_header h size view walk next same sized step =
-    record { header = walk.header; op = step.gives.op; size_is = ap (λ (g : HeaderParts). g.address_size) same ∙ sym sized; stands = step.gives.stands; admitted = step.gives.admitted }
+    record {
+      header = walk.header;
+      op = step.gives.op;
+      size_is = ap (λ (g : HeaderParts). g.address_size) same ∙ sym sized;
+      stands = step.gives.stands;
+      admitted = step.gives.admitted;
+    }
 
-pub converted_all : (h : HeaderParts) (place : ℕ) (program : List ℕ) (order : Order) (old new : List ℕ) (walk next : Walk) → ConvertedSoFar h place program order old walk new → Ends walk next → AddsOps h program order old new
-converted_all h place program order old new walk next so ends = record { ops = so.ops; spelled = walk_done h place program so.ops walk next so.going so.so ends; adds = so.adds }
+pub converted_all : (h : HeaderParts) (place : ℕ) (program : List ℕ) (order : Order) (old new : List ℕ) (walk next : Walk)
+    → ConvertedSoFar h place program order old walk new → Ends walk next → AddsOps h program order old new
+converted_all h place program order old new walk next so ends =
+    record { ops = so.ops; spelled = walk_done h place program so.ops walk next so.going so.so ends; adds = so.adds }

@@ -39,7 +39,16 @@ ten = 255 ∷ 255 ∷ 255 ∷ 255 ∷ 255 ∷ 255 ∷ 255 ∷ 255 ∷ 255 ∷ 12
 
 ten_leb : IsLeb ten
 unfolding ten
-ten_leb = (omega arith, (omega arith, (omega arith, (omega arith, (omega arith, (omega arith, (omega arith, (omega arith, (omega arith, omega arith)))))))))
+ten_leb = (
+  omega arith,
+  (
+    omega arith,
+    (
+      omega arith,
+      (omega arith, (omega arith, (omega arith, (omega arith, (omega arith, (omega arith, omega arith)))))),
+    ),
+  ),
+)
 
 ten_groups : groups ten ≡ 2 ^ 70 - 1
 unfolding ten
@@ -61,4 +70,7 @@ some (b ∷ bytes) p = omega arith
 
 -- a number below 128 is its own shortest spelling
 pub one_group : (n : ℕ) → n < 128 → IsShortest UnsignedLeb n (n ∷ [])
-one_group n lt = record { spelled = record { shape = lt; value = omega (arith, lt); fits = omega (arith, lt) }; shortest = λ other p. omega (arith, some other p.shape) }
+one_group n lt = record {
+  spelled = record { shape = lt; value = omega (arith, lt); fits = omega (arith, lt) };
+  shortest = λ other p. omega (arith, some other p.shape);
+}

@@ -32,7 +32,7 @@ use Rattle.lnt_ops.specs.OpFaults.IsFirstFault.{cut_counted, wrong_counted, larg
 use Rattle.lnt_ops.specs.OpSteps.{IsRightOperand}
 use Rattle.lnt_ops.specs.Programs.{BrokenProgram, IsFirstIn}
 
--- ---- behind a zero byte
+-- ---- after a zero byte
 
 -- The length isn't there; or it is, and what it counts is cut, or is no operation.
 data IsExtendedFault (address_size : ℕ) (reason : Reason) (behind left : List ℕ) : Type 0 where
@@ -181,7 +181,7 @@ extended_none size reason behind left code operand spelling more (large x o rest
 
 -- ---- operands, by their opcodes
 
--- What stands behind an opcode: a length and as many bytes, a number, no operand, or as many numbers as the header lists.
+-- What stands after an opcode: a length and as many bytes, a number, no operand, or as many numbers as the header lists.
 data Operand : Type 0 where
   counted : Operand
   unsigned : Operand
@@ -225,7 +225,7 @@ operand_one h code bare reason other before before' left left' p q e = absurd p
 operand_one h code listed reason other before before' left left' p q e =
     (listed_here (standard_length h code)).one reason other before before' left left' p q e
 
--- the fault of an operand stands behind an opcode that isn't special
+-- the fault of an operand stands after an opcode that isn't special
 record IsOperandFault (h : HeaderParts) (reason : Reason) (before left : List ℕ) : Type 0 where
   code : ℕ
   behind : List ℕ

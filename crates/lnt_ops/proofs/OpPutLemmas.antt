@@ -1,5 +1,6 @@
 -- What is written of operations.
-use Rattle.std.proofs.Common.{Bor, ◌≡◌, ℕ, suc, ◌+◌, ◌-◌, ◌^◌, ◌<◌, ◌≤◌, List, [], ◌∷◌, ◌++◌, length, take, get_or, refl, sym, ap, subst, ◌∙◌, append_assoc, append-nil, arith}
+use Rattle.std.proofs.Common.{Bor, ◌≡◌, ℕ, suc, ◌+◌, ◌-◌, ◌^◌, ◌<◌, ◌≤◌, List, [], ◌∷◌, ◌++◌, length, take, get_or}
+use Rattle.std.proofs.Common.{refl, sym, ap, subst, ◌∙◌, append_assoc, append-nil, arith}
 use Rattle.std.proofs.lemmas.List.{length-append}
 use Rattle.std.proofs.Math.Seq.{take-append_seam}
 use Rattle.std.specs.Prelude.{ℤ, slice_set, Result, Ok, Err, OnOk, OnErr}
@@ -15,17 +16,20 @@ use Rattle.lnt_wire.specs.Numbers.{NumberBytes}
 use Rattle.lnt_wire.proofs.LengthLaws.{length-number_bytes}
 use Rattle.lnt_header.specs.declared.header.HeaderParts.{HeaderParts}
 use Rattle.lnt_header.specs.declared.op.Op.{Op}
-use Rattle.lnt_header.specs.declared.op.Op.TheVariants.{Special, Copy, AdvancePc, AdvanceLine, SetFile, SetColumn, NegateStmt, SetBasicBlock, ConstAddPc, FixedAdvancePc, SetPrologueEnd, SetEpilogueBegin, SetIsa, UnknownStandard, EndSequence, SetAddress, SetDiscriminator, UnknownExtended}
-use Rattle.lnt_header.specs.declared.view.OpView.{OpView}
-use Rattle.lnt_header.specs.declared.view.OpView.TheVariants as views
-use Rattle.lnt_header.specs.declared.view.Operands.{Operands}
-use Rattle.lnt_header.specs.declared.view.Operands.TheVariants.{Spelled, Listed}
-use Rattle.lnt_header.specs.OpViews.{AreOperands, StandsFor}
+use Rattle.lnt_header.specs.declared.op.Op.TheVariants.{Special, Copy, AdvancePc, AdvanceLine, SetFile, SetColumn}
+use Rattle.lnt_header.specs.declared.op.Op.TheVariants.{NegateStmt, SetBasicBlock, ConstAddPc, FixedAdvancePc}
+use Rattle.lnt_header.specs.declared.op.Op.TheVariants.{SetPrologueEnd, SetEpilogueBegin, SetIsa, UnknownStandard}
+use Rattle.lnt_header.specs.declared.op.Op.TheVariants.{EndSequence, SetAddress, SetDiscriminator, UnknownExtended}
+use Rattle.lnt_header.specs.declared.op.OpView.{OpView}
+use Rattle.lnt_header.specs.declared.op.OpView.TheVariants as views
+use Rattle.lnt_header.specs.declared.op.Operands.{Operands}
+use Rattle.lnt_header.specs.declared.op.Operands.TheVariants.{Spelled, Listed}
+use Rattle.lnt_header.specs.OpViews.{AreOperands, StandsFor, op_of, operands_of}
 use Rattle.lnt_header.specs.Joins.{Each}
 use Rattle.lnt_header.specs.OpRules.{Admits}
 use Rattle.lnt_header.specs.Laws.Puts.{put_as, each_begun, each_put, each_more, each_done}
 use Rattle.lnt_ops.specs.Laws.Ops.{same_whole}
-use Rattle.lnt_ops.specs.Laws.Views.{leb_is_some, op_of, operands_of, is_op_of}
+use Rattle.lnt_ops.specs.Laws.Views.{leb_is_some, is_op_of}
 use Rattle.lnt_ops.specs.OpBytes.{OpBytes, Standard, Extended}
 use Rattle.lnt_ops.specs.OpPuts.{IsOpOf, AddsView, AddsSpelled, AddsOperands}
 use Rattle.lnt_ops.specs.OperandLists.{IsOperands, SpellsNumbers, NumbersSoFar}
@@ -44,7 +48,8 @@ on_err_to (Err e) to p = to p
 
 -- ---- codes and operands
 
-pub coded_put : {X : Type 0} (Operand : X → List ℕ → Type 0) (code : ℕ) (x : X) (old middle new : List ℕ) → middle ≡ old ++ code ∷ [] → Appends Operand x middle new → Appends (Coded code Operand) x old new
+pub coded_put : {X : Type 0} (Operand : X → List ℕ → Type 0) (code : ℕ) (x : X) (old middle new : List ℕ) → middle ≡ old ++ code ∷ []
+    → Appends Operand x middle new → Appends (Coded code Operand) x old new
 coded_put Operand code x old middle new pushed p = record {
   spelling = code ∷ p.spelling;
   spelled = record {
@@ -59,38 +64,56 @@ coded_put Operand code x old middle new pushed p = record {
 pub numbers_begun : (old : List ℕ) → Appends (Each UnsignedLeb) [] old old
 numbers_begun old = each_begun UnsignedLeb old
 
-pub numbers_more : (numbers : List ℕ) (i d : ℕ) (old middle new : List ℕ) → i < length numbers → Appends (Each UnsignedLeb) (take i numbers) old middle → Appends UnsignedLeb (get_or numbers i d) middle new
+pub numbers_more : (numbers : List ℕ) (i d : ℕ) (old middle new : List ℕ) → i < length numbers
+    → Appends (Each UnsignedLeb) (take i numbers) old middle → Appends UnsignedLeb (get_or numbers i d) middle new
     → Appends (Each UnsignedLeb) (take (i + 1) numbers) old new
 numbers_more numbers i d old middle new lt p q = each_more UnsignedLeb numbers i d old middle new lt p q
 
-pub numbers_done : (numbers : List ℕ) (n : ℕ) (old new : List ℕ) → length numbers ≤ n → Appends (Each UnsignedLeb) (take n numbers) old new → Appends (Each UnsignedLeb) numbers old new
+pub numbers_done : (numbers : List ℕ) (n : ℕ) (old new : List ℕ) → length numbers ≤ n → Appends (Each UnsignedLeb) (take n numbers) old new
+    → Appends (Each UnsignedLeb) numbers old new
 numbers_done numbers n old new le p = each_done UnsignedLeb numbers n old new le p
 
 -- ---- extended operations
 
-pub start_put : (code count : ℕ) (old first middle new : List ℕ) → first ≡ old ++ 0 ∷ [] → Appends UnsignedLeb count first middle → new ≡ middle ++ code ∷ [] → Appends (ExtendedStart code) count old new
+pub start_put : (code count : ℕ) (old first middle new : List ℕ) → first ≡ old ++ 0 ∷ [] → Appends UnsignedLeb count first middle
+    → new ≡ middle ++ code ∷ [] → Appends (ExtendedStart code) count old new
 start_put code count old first middle new zero_put p code_put = record {
   spelling = 0 ∷ p.spelling ++ code ∷ [];
   spelled = record {
     spelled = record { number = p.spelling; spelled = p.spelled.spelled; joined = refl };
-    shortest = λ other q. omega (arith, ap length q.joined, length-append p.spelling (code ∷ []), length-append q.number (code ∷ []), p.spelled.shortest q.number q.spelled);
+    shortest = λ other q. omega (
+      arith,
+      ap length q.joined,
+      length-append p.spelling (code ∷ []),
+      length-append q.number (code ∷ []),
+      p.spelled.shortest q.number q.spelled,
+    );
   };
-  joined = code_put ∙ ap (λ (z : List ℕ). z ++ code ∷ []) (p.joined ∙ ap (λ (z : List ℕ). z ++ p.spelling) zero_put) ∙ simp append_assoc refl;
+  joined = code_put ∙ ap (λ (z : List ℕ). z ++ code ∷ []) (p.joined ∙ ap (λ (z : List ℕ). z ++ p.spelling) zero_put)
+      ∙ simp append_assoc refl;
 }
 
 -- the bytes of an extended operation
-extended : {X : Type 0} (Operand : X → List ℕ → Type 0) (code : ℕ) (x : X) (number operand : List ℕ) → UnsignedLeb (suc (length operand)) number → Operand x operand
+extended : {X : Type 0} (Operand : X → List ℕ → Type 0) (code : ℕ) (x : X) (number operand : List ℕ)
+    → UnsignedLeb (suc (length operand)) number → Operand x operand
     → ExtendedCoded code Operand x (0 ∷ number ++ code ∷ operand)
 extended Operand code x number operand p q = record {
   spelled = (
     code ∷ operand,
     record { front = code ∷ []; back = operand; first = refl; second = q; joined = refl },
-    record { front = 0 ∷ []; back = number ++ code ∷ operand; first = refl; second = record { front = number; back = code ∷ operand; first = p; second = refl; joined = refl }; joined = refl },
+    record {
+      front = 0 ∷ [];
+      back = number ++ code ∷ operand;
+      first = refl;
+      second = record { front = number; back = code ∷ operand; first = p; second = refl; joined = refl };
+      joined = refl;
+    },
   );
 }
 
 -- the shortest of them, where the number and the operand are the shortest
-shortest_extended : {X : Type 0} (Operand : X → List ℕ → Type 0) (code : ℕ) (x : X) (number operand : List ℕ) → IsShortest UnsignedLeb (suc (length operand)) number → IsShortest Operand x operand
+shortest_extended : {X : Type 0} (Operand : X → List ℕ → Type 0) (code : ℕ) (x : X) (number operand : List ℕ)
+    → IsShortest UnsignedLeb (suc (length operand)) number → IsShortest Operand x operand
     → IsShortest (ExtendedCoded code Operand) x (0 ∷ number ++ code ∷ operand)
 shortest_extended Operand code x number operand p q = record {
   spelled = extended Operand code x number operand p.spelled q.spelled;
@@ -100,7 +123,8 @@ shortest_extended Operand code x number operand p q = record {
       let whole = t.spelled.2 in
       let behind = whole.second in
       let least = q.shortest body.back body.second in
-      let size : length rest ≡ suc (length body.back) = ap length body.joined ∙ length-append body.front body.back ∙ ap (λ (z : List ℕ). length z + length body.back) body.first ∙ omega arith in
+      let size : length rest ≡ suc (length body.back) = ap length body.joined ∙ length-append body.front body.back
+      ∙ ap (λ (z : List ℕ). length z + length body.back) body.first ∙ omega arith in
       let count = shortest_of_less (suc (length operand)) (length rest) number behind.front (omega (arith, size, least)) p behind.first in
       omega (
         arith,
@@ -117,39 +141,58 @@ shortest_extended Operand code x number operand p q = record {
       );
 }
 
--- an operand behind its start
-extended_behind : {X : Type 0} (Operand : X → List ℕ → Type 0) (code count : ℕ) (x : X) (old middle new : List ℕ) → Appends (ExtendedStart code) count old middle → (p : Appends Operand x middle new)
+-- an operand after its start
+extended_behind : {X : Type 0} (Operand : X → List ℕ → Type 0) (code count : ℕ) (x : X) (old middle new : List ℕ)
+    → Appends (ExtendedStart code) count old middle → (p : Appends Operand x middle new)
     → count ≡ suc (length p.spelling) → Appends (ExtendedCoded code Operand) x old new
 extended_behind Operand code count x old middle new s p is =
     let number = s.spelled.spelled.number in
     let shortest : IsShortest UnsignedLeb (suc (length p.spelling)) number = record {
       spelled = subst (λ (n : ℕ). UnsignedLeb n number) is s.spelled.spelled.spelled;
       shortest = λ other q.
-          let t : ExtendedStart code count (0 ∷ other ++ code ∷ []) = record { number = other; spelled = subst (λ (n : ℕ). UnsignedLeb n other) (sym is) q; joined = refl } in
-          omega (arith, s.spelled.shortest (0 ∷ other ++ code ∷ []) t, ap length s.spelled.spelled.joined, length-append number (code ∷ []), length-append other (code ∷ []));
+          let t : ExtendedStart code count (0 ∷ other ++ code ∷ []) = record {
+            number = other;
+            spelled = subst (λ (n : ℕ). UnsignedLeb n other) (sym is) q;
+            joined = refl;
+          } in
+          omega (
+            arith,
+            s.spelled.shortest (0 ∷ other ++ code ∷ []) t,
+            ap length s.spelled.spelled.joined,
+            length-append number (code ∷ []),
+            length-append other (code ∷ []),
+          );
     } in
     record {
       spelling = 0 ∷ number ++ code ∷ p.spelling;
       spelled = shortest_extended Operand code x number p.spelling shortest p.spelled;
-      joined = p.joined ∙ ap (λ (z : List ℕ). z ++ p.spelling) (s.joined ∙ ap (λ (z : List ℕ). old ++ z) s.spelled.spelled.joined) ∙ simp append_assoc refl;
+      joined = p.joined ∙ ap (λ (z : List ℕ). z ++ p.spelling) (s.joined ∙ ap (λ (z : List ℕ). old ++ z) s.spelled.spelled.joined)
+          ∙ simp append_assoc refl;
     }
 
 exactly_put : (operand old : List ℕ) → Appends Exactly operand old (old ++ operand)
-exactly_put operand old = record { spelling = operand; spelled = record { spelled = refl; shortest = λ other p. omega (arith, ap length p) }; joined = refl }
+exactly_put operand old = record {
+  spelling = operand;
+  spelled = record { spelled = refl; shortest = λ other p. omega (arith, ap length p) };
+  joined = refl;
+}
 
-pub extended_put : (code count : ℕ) (operand old middle new : List ℕ) → Appends (ExtendedStart code) count old middle → new ≡ middle ++ operand → count ≡ length operand + 1 → Appends (ExtendedCoded code Exactly) operand old new
+pub extended_put : (code count : ℕ) (operand old middle new : List ℕ) → Appends (ExtendedStart code) count old middle
+    → new ≡ middle ++ operand → count ≡ length operand + 1 → Appends (ExtendedCoded code Exactly) operand old new
 extended_put code count operand old middle new s put is =
     let p = exactly_put operand middle in
     rw put (extended_behind Exactly code count operand old middle (middle ++ operand) s p (omega (arith, is, ap length p.spelled.spelled)))
 
-pub address_put : (order : Order) (size address count : ℕ) (old middle new : List ℕ) → Appends (ExtendedStart 2) count old middle → count ≡ size + 1 → Appends (NumberBytes order size) address middle new
+pub address_put : (order : Order) (size address count : ℕ) (old middle new : List ℕ) → Appends (ExtendedStart 2) count old middle
+    → count ≡ size + 1 → Appends (NumberBytes order size) address middle new
     → Appends (ExtendedCoded 2 (NumberBytes order size)) address old new
 address_put order size address count old middle new s is p =
-    extended_behind (NumberBytes order size) 2 count address old middle new s p (omega (arith, is, ap length p.spelled.spelled.spelled, length-number_bytes order size address))
+    extended_behind (NumberBytes order size) 2 count address old middle new s p
+    (omega (arith, is, ap length p.spelled.spelled.spelled, length-number_bytes order size address))
 
 -- ---- a discriminator, whose length is written last
 
--- what stands behind some bytes, after its first but one was changed
+-- what stands after some bytes, after its first but one was changed
 second_set : (old : List ℕ) (a b v : ℕ) (behind : List ℕ) → slice_set (old ++ a ∷ b ∷ behind) (length old + 1) v ≡ old ++ a ∷ v ∷ behind
 second_set [] a b v behind = refl
 second_set (x ∷ old) a b v behind =
@@ -157,11 +200,21 @@ second_set (x ∷ old) a b v behind =
     rw at (ap (λ (z : List ℕ). x ∷ z) (second_set old a b v behind))
 
 -- a byte is enough for the length
-pub discriminator_room : (n : ℕ) (old middle new : List ℕ) → middle ≡ old ++ 0 ∷ 0 ∷ 4 ∷ [] → Appends UnsignedLeb n middle new → length new - (length middle - 2) - 1 < 128
+pub discriminator_room : (n : ℕ) (old middle new : List ℕ) → middle ≡ old ++ 0 ∷ 0 ∷ 4 ∷ [] → Appends UnsignedLeb n middle new
+    → length new - (length middle - 2) - 1 < 128
 discriminator_room n old middle new three p =
-    omega (arith, ap length p.joined, length-append middle p.spelling, at_most_ten n p.spelling p.spelled, ap length three, length-append old (0 ∷ 0 ∷ 4 ∷ []))
+    omega (
+      arith,
+      ap length p.joined,
+      length-append middle p.spelling,
+      at_most_ten n p.spelling p.spelled,
+      ap length three,
+      length-append
+          old (0 ∷ 0 ∷ 4 ∷ []),
+    )
 
-pub discriminator_put : (n place size : ℕ) (old middle new : List ℕ) → middle ≡ old ++ 0 ∷ 0 ∷ 4 ∷ [] → Appends UnsignedLeb n middle new → place ≡ length middle - 2 → size ≡ length new - place - 1
+pub discriminator_put : (n place size : ℕ) (old middle new : List ℕ) → middle ≡ old ++ 0 ∷ 0 ∷ 4 ∷ [] → Appends UnsignedLeb n middle new
+    → place ≡ length middle - 2 → size ≡ length new - place - 1
     → Appends (ExtendedCoded 4 UnsignedLeb) n old (slice_set new place size)
 discriminator_put n place size old middle new three p at is =
     let x = p.spelling in
@@ -169,7 +222,8 @@ discriminator_put n place size old middle new three p at is =
     let here : place ≡ length old + 1 = omega (arith, at, ap length three, length-append old (0 ∷ 0 ∷ 4 ∷ [])) in
     let counted : size ≡ suc (length x) = omega (arith, is, here, ap length all, length-append old (0 ∷ 0 ∷ 4 ∷ x)) in
     let low : suc (length x) < 128 = omega (arith, at_most_ten n x p.spelled) in
-    let changed : slice_set new place size ≡ old ++ 0 ∷ suc (length x) ∷ 4 ∷ x = rw (all, here, counted) (second_set old 0 0 (suc (length x)) (4 ∷ x)) in
+    let changed : slice_set new place size ≡ old ++ 0 ∷ suc (length x) ∷ 4 ∷ x = rw (all, here, counted)
+    (second_set old 0 0 (suc (length x)) (4 ∷ x)) in
     record {
       spelling = 0 ∷ suc (length x) ∷ 4 ∷ x;
       spelled = shortest_extended UnsignedLeb 4 n (suc (length x) ∷ []) x (one_group (suc (length x)) low) p.spelled;
@@ -178,15 +232,23 @@ discriminator_put n place size old middle new three p at is =
 
 -- ---- single operations
 
-standard_as : {X : Type 0} (Operand : X → List ℕ → Type 0) (h : HeaderParts) (code : ℕ) (x : X) (op : Op) (old new : List ℕ) → ((y : List ℕ) → Standard h code (Operand x) y → OpBytes h op y)
-    → ((y : List ℕ) → OpBytes h op y → Standard h code (Operand x) y) → code < h.opcode_base → Appends (Coded code Operand) x old new → Appends (OpBytes h) op old new
+standard_as : {X : Type 0} (Operand : X → List ℕ → Type 0) (h : HeaderParts) (code : ℕ) (x : X) (op : Op) (old new : List ℕ)
+    → ((y : List ℕ) → Standard h code (Operand x) y → OpBytes h op y)
+    → ((y : List ℕ) → OpBytes h op y → Standard h code (Operand x) y) → code < h.opcode_base → Appends (Coded code Operand) x old new
+    → Appends (OpBytes h) op old new
 standard_as Operand h code x op old new to from low p =
     put_as (Coded code Operand) (OpBytes h) x op old new
     (λ y t. to y (low, record { front = code ∷ []; back = t.operand; first = refl; second = t.spelled; joined = t.joined }))
-    (λ y t. let s = (from y t).1 in record { operand = s.back; spelled = s.second; joined = s.joined ∙ ap (λ (z : List ℕ). z ++ s.back) s.first }) p
+    (λ y t. let s = (from y t).1 in record {
+      operand = s.back;
+      spelled = s.second;
+      joined = s.joined ∙ ap (λ (z : List ℕ). z ++ s.back) s.first;
+    }) p
 
-extended_as : {X : Type 0} (Operand : X → List ℕ → Type 0) (h : HeaderParts) (code : ℕ) (x : X) (op : Op) (old new : List ℕ) → ((y : List ℕ) → Extended code (Operand x) y → OpBytes h op y)
-    → ((y : List ℕ) → OpBytes h op y → Extended code (Operand x) y) → Appends (ExtendedCoded code Operand) x old new → Appends (OpBytes h) op old new
+extended_as : {X : Type 0} (Operand : X → List ℕ → Type 0) (h : HeaderParts) (code : ℕ) (x : X) (op : Op) (old new : List ℕ)
+    → ((y : List ℕ) → Extended code (Operand x) y → OpBytes h op y)
+    → ((y : List ℕ) → OpBytes h op y → Extended code (Operand x) y) → Appends (ExtendedCoded code Operand) x old new
+    → Appends (OpBytes h) op old new
 extended_as Operand h code x op old new to from p =
     put_as (ExtendedCoded code Operand) (OpBytes h) x op old new (λ y t. to y t.spelled) (λ y t. record { spelled = from y t }) p
 
@@ -194,21 +256,27 @@ extended_as Operand h code x op old new to from p =
 alone : (code : ℕ) (old new : List ℕ) → new ≡ old ++ code ∷ [] → Appends (Coded code Exactly) [] old new
 alone code old new put = record {
   spelling = code ∷ [];
-  spelled = record { spelled = record { operand = []; spelled = refl; joined = refl }; shortest = λ other q. omega (arith, ap length q.joined) };
+  spelled = record {
+    spelled = record { operand = []; spelled = refl; joined = refl };
+    shortest = λ other q. omega (arith, ap length q.joined);
+  };
   joined = put;
 }
 
 -- a standard operation without operands
-plain_as : (h : HeaderParts) (code : ℕ) (op : Op) (old new : List ℕ) → ((y : List ℕ) → Standard h code (Exactly []) y → OpBytes h op y) → ((y : List ℕ) → OpBytes h op y → Standard h code (Exactly []) y) → code < h.opcode_base
+plain_as : (h : HeaderParts) (code : ℕ) (op : Op) (old new : List ℕ) → ((y : List ℕ) → Standard h code (Exactly []) y → OpBytes h op y)
+    → ((y : List ℕ) → OpBytes h op y → Standard h code (Exactly []) y) → code < h.opcode_base
     → new ≡ old ++ code ∷ [] → Appends (OpBytes h) op old new
 plain_as h code op old new to from low put = standard_as Exactly h code [] op old new to from low (alone code old new put)
 
 -- what was put is of the operation that a view stands for
-put_known : (h : HeaderParts) (op known : Op) (old new : List ℕ) → op ≡ known → Admits h op → (Admits h known → Appends (OpBytes h) known old new) → Appends (OpBytes h) op old new
+put_known : (h : HeaderParts) (op known : Op) (old new : List ℕ) → op ≡ known → Admits h op
+    → (Admits h known → Appends (OpBytes h) known old new) → Appends (OpBytes h) op old new
 put_known h op known old new is admits put = subst (λ (o : Op). Appends (OpBytes h) o old new) (sym is) (put (subst (Admits h) is admits))
 
 put_of : (order : Order) (size : ℕ) (view known : OpView) (old new : List ℕ) → view ≡ known
-    → ((h : HeaderParts) (op : Op) → h.order ≡ order → h.address_size ≡ size → StandsFor known op → Admits h (op_of known (operands_of op)) → Appends (OpBytes h) (op_of known (operands_of op)) old new)
+    → ((h : HeaderParts) (op : Op) → h.order ≡ order → h.address_size ≡ size → StandsFor known op → Admits h (op_of known (operands_of op))
+    → Appends (OpBytes h) (op_of known (operands_of op)) old new)
     → AddsView order size view old new
 put_of order size view known old new is put = record {
   adds = λ h op ordered sized stands admits.
@@ -216,97 +284,145 @@ put_of order size view known old new is put = record {
       put_known h op (op_of known (operands_of op)) old new (is_op_of known op s) admits (put h op ordered sized s);
 }
 
-special_as : (h : HeaderParts) (c : ℕ) (old new : List ℕ) → c < 256 → h.opcode_base ≤ c → new ≡ old ++ c ∷ [] → Appends (OpBytes h) (Special c) old new
-special_as h c old new low high put = record { spelling = c ∷ []; spelled = record { spelled = (high, low, refl); shortest = λ other q. omega (arith, ap length q.2) }; joined = put }
+special_as : (h : HeaderParts) (c : ℕ) (old new : List ℕ) → c < 256 → h.opcode_base ≤ c → new ≡ old ++ c ∷ []
+    → Appends (OpBytes h) (Special c) old new
+special_as h c old new low high put = record {
+  spelling = c ∷ [];
+  spelled = record { spelled = (high, low, refl); shortest = λ other q. omega (arith, ap length q.2) };
+  joined = put;
+}
 
-pub special_put : (order : Order) (size : ℕ) (view : OpView) (c : ℕ) (old new : List ℕ) → view ≡ views.Special c → c < 256 → new ≡ old ++ c ∷ [] → AddsView order size view old new
-special_put order size view c old new is low put = put_of order size view (views.Special c) old new is (λ h op o s stands a. special_as h c old new low a put)
+pub special_put : (order : Order) (size : ℕ) (view : OpView) (c : ℕ) (old new : List ℕ) → view ≡ views.Special c → c < 256
+    → new ≡ old ++ c ∷ [] → AddsView order size view old new
+special_put order size view c old new is low put =
+    put_of order size view (views.Special c) old new is (λ h op o s stands a. special_as h c old new low a put)
 
-pub copy_put : (order : Order) (size : ℕ) (view : OpView) (old new : List ℕ) → view ≡ views.Copy → new ≡ old ++ 1 ∷ [] → AddsView order size view old new
-copy_put order size view old new is put = put_of order size view views.Copy old new is (λ h op o s stands a. plain_as h 1 Copy old new (λ y t. t) (λ y t. t) a put)
+pub copy_put : (order : Order) (size : ℕ) (view : OpView) (old new : List ℕ) → view ≡ views.Copy → new ≡ old ++ 1 ∷ []
+    → AddsView order size view old new
+copy_put order size view old new is put =
+    put_of order size view views.Copy old new is (λ h op o s stands a. plain_as h 1 Copy old new (λ y t. t) (λ y t. t) a put)
 
-pub advance_pc_put : (order : Order) (size : ℕ) (view : OpView) (n : ℕ) (old new : List ℕ) → view ≡ views.AdvancePc n → Appends (Coded 2 UnsignedLeb) n old new → AddsView order size view old new
+pub advance_pc_put : (order : Order) (size : ℕ) (view : OpView) (n : ℕ) (old new : List ℕ) → view ≡ views.AdvancePc n
+    → Appends (Coded 2 UnsignedLeb) n old new → AddsView order size view old new
 advance_pc_put order size view n old new is p =
-    put_of order size view (views.AdvancePc n) old new is (λ h op o s stands a. standard_as UnsignedLeb h 2 n (AdvancePc n) old new (λ y t. t) (λ y t. t) a p)
+    put_of order size view (views.AdvancePc n) old new is
+    (λ h op o s stands a. standard_as UnsignedLeb h 2 n (AdvancePc n) old new (λ y t. t) (λ y t. t) a p)
 
-pub advance_line_put : (order : Order) (size : ℕ) (view : OpView) (z : ℤ) (old new : List ℕ) → view ≡ views.AdvanceLine z → Appends (Coded 3 SignedLeb) z old new → AddsView order size view old new
+pub advance_line_put : (order : Order) (size : ℕ) (view : OpView) (z : ℤ) (old new : List ℕ) → view ≡ views.AdvanceLine z
+    → Appends (Coded 3 SignedLeb) z old new → AddsView order size view old new
 advance_line_put order size view z old new is p =
-    put_of order size view (views.AdvanceLine z) old new is (λ h op o s stands a. standard_as SignedLeb h 3 z (AdvanceLine z) old new (λ y t. t) (λ y t. t) a p)
+    put_of order size view (views.AdvanceLine z) old new is
+    (λ h op o s stands a. standard_as SignedLeb h 3 z (AdvanceLine z) old new (λ y t. t) (λ y t. t) a p)
 
-pub set_file_put : (order : Order) (size : ℕ) (view : OpView) (n : ℕ) (old new : List ℕ) → view ≡ views.SetFile n → Appends (Coded 4 UnsignedLeb) n old new → AddsView order size view old new
+pub set_file_put : (order : Order) (size : ℕ) (view : OpView) (n : ℕ) (old new : List ℕ) → view ≡ views.SetFile n
+    → Appends (Coded 4 UnsignedLeb) n old new → AddsView order size view old new
 set_file_put order size view n old new is p =
-    put_of order size view (views.SetFile n) old new is (λ h op o s stands a. standard_as UnsignedLeb h 4 n (SetFile n) old new (λ y t. t) (λ y t. t) a p)
+    put_of order size view (views.SetFile n) old new is
+    (λ h op o s stands a. standard_as UnsignedLeb h 4 n (SetFile n) old new (λ y t. t) (λ y t. t) a p)
 
-pub set_column_put : (order : Order) (size : ℕ) (view : OpView) (n : ℕ) (old new : List ℕ) → view ≡ views.SetColumn n → Appends (Coded 5 UnsignedLeb) n old new → AddsView order size view old new
+pub set_column_put : (order : Order) (size : ℕ) (view : OpView) (n : ℕ) (old new : List ℕ) → view ≡ views.SetColumn n
+    → Appends (Coded 5 UnsignedLeb) n old new → AddsView order size view old new
 set_column_put order size view n old new is p =
-    put_of order size view (views.SetColumn n) old new is (λ h op o s stands a. standard_as UnsignedLeb h 5 n (SetColumn n) old new (λ y t. t) (λ y t. t) a p)
+    put_of order size view (views.SetColumn n) old new is
+    (λ h op o s stands a. standard_as UnsignedLeb h 5 n (SetColumn n) old new (λ y t. t) (λ y t. t) a p)
 
-pub negate_stmt_put : (order : Order) (size : ℕ) (view : OpView) (old new : List ℕ) → view ≡ views.NegateStmt → new ≡ old ++ 6 ∷ [] → AddsView order size view old new
-negate_stmt_put order size view old new is put = put_of order size view views.NegateStmt old new is (λ h op o s stands a. plain_as h 6 NegateStmt old new (λ y t. t) (λ y t. t) a put)
+pub negate_stmt_put : (order : Order) (size : ℕ) (view : OpView) (old new : List ℕ) → view ≡ views.NegateStmt → new ≡ old ++ 6 ∷ []
+    → AddsView order size view old new
+negate_stmt_put order size view old new is put =
+    put_of order size view views.NegateStmt old new is (λ h op o s stands a. plain_as h 6 NegateStmt old new (λ y t. t) (λ y t. t) a put)
 
-pub set_basic_block_put : (order : Order) (size : ℕ) (view : OpView) (old new : List ℕ) → view ≡ views.SetBasicBlock → new ≡ old ++ 7 ∷ [] → AddsView order size view old new
-set_basic_block_put order size view old new is put = put_of order size view views.SetBasicBlock old new is (λ h op o s stands a. plain_as h 7 SetBasicBlock old new (λ y t. t) (λ y t. t) a put)
+pub set_basic_block_put : (order : Order) (size : ℕ) (view : OpView) (old new : List ℕ) → view ≡ views.SetBasicBlock → new ≡ old ++ 7 ∷ []
+    → AddsView order size view old new
+set_basic_block_put order size view old new is put =
+    put_of order size view views.SetBasicBlock old new is
+    (λ h op o s stands a. plain_as h 7 SetBasicBlock old new (λ y t. t) (λ y t. t) a put)
 
-pub const_add_pc_put : (order : Order) (size : ℕ) (view : OpView) (old new : List ℕ) → view ≡ views.ConstAddPc → new ≡ old ++ 8 ∷ [] → AddsView order size view old new
-const_add_pc_put order size view old new is put = put_of order size view views.ConstAddPc old new is (λ h op o s stands a. plain_as h 8 ConstAddPc old new (λ y t. t) (λ y t. t) a put)
+pub const_add_pc_put : (order : Order) (size : ℕ) (view : OpView) (old new : List ℕ) → view ≡ views.ConstAddPc → new ≡ old ++ 8 ∷ []
+    → AddsView order size view old new
+const_add_pc_put order size view old new is put =
+    put_of order size view views.ConstAddPc old new is (λ h op o s stands a. plain_as h 8 ConstAddPc old new (λ y t. t) (λ y t. t) a put)
 
-pub fixed_advance_pc_put : (order : Order) (size : ℕ) (view : OpView) (n : ℕ) (old new : List ℕ) → view ≡ views.FixedAdvancePc n → Appends (Coded 9 (NumberBytes order 2)) n old new → AddsView order size view old new
+pub fixed_advance_pc_put : (order : Order) (size : ℕ) (view : OpView) (n : ℕ) (old new : List ℕ) → view ≡ views.FixedAdvancePc n
+    → Appends (Coded 9 (NumberBytes order 2)) n old new → AddsView order size view old new
 fixed_advance_pc_put order size view n old new is p =
     put_of order size view (views.FixedAdvancePc n) old new is
-    (λ h op o s stands a. standard_as (NumberBytes h.order 2) h 9 n (FixedAdvancePc n) old new (λ y t. t) (λ y t. t) a (subst (λ (w : Order). Appends (Coded 9 (NumberBytes w 2)) n old new) (sym o) p))
+    (λ h op o s stands a. standard_as (NumberBytes h.order 2) h 9 n (FixedAdvancePc n) old new (λ y t. t) (λ y t. t) a
+    (subst (λ (w : Order). Appends (Coded 9 (NumberBytes w 2)) n old new) (sym o) p))
 
-pub set_prologue_end_put : (order : Order) (size : ℕ) (view : OpView) (old new : List ℕ) → view ≡ views.SetPrologueEnd → new ≡ old ++ 10 ∷ [] → AddsView order size view old new
-set_prologue_end_put order size view old new is put = put_of order size view views.SetPrologueEnd old new is (λ h op o s stands a. plain_as h 10 SetPrologueEnd old new (λ y t. t) (λ y t. t) a put)
+pub set_prologue_end_put : (order : Order) (size : ℕ) (view : OpView) (old new : List ℕ) → view ≡ views.SetPrologueEnd
+    → new ≡ old ++ 10 ∷ [] → AddsView order size view old new
+set_prologue_end_put order size view old new is put =
+    put_of order size view views.SetPrologueEnd old new is
+    (λ h op o s stands a. plain_as h 10 SetPrologueEnd old new (λ y t. t) (λ y t. t) a put)
 
-pub set_epilogue_begin_put : (order : Order) (size : ℕ) (view : OpView) (old new : List ℕ) → view ≡ views.SetEpilogueBegin → new ≡ old ++ 11 ∷ [] → AddsView order size view old new
-set_epilogue_begin_put order size view old new is put = put_of order size view views.SetEpilogueBegin old new is (λ h op o s stands a. plain_as h 11 SetEpilogueBegin old new (λ y t. t) (λ y t. t) a put)
+pub set_epilogue_begin_put : (order : Order) (size : ℕ) (view : OpView) (old new : List ℕ) → view ≡ views.SetEpilogueBegin
+    → new ≡ old ++ 11 ∷ [] → AddsView order size view old new
+set_epilogue_begin_put order size view old new is put =
+    put_of order size view views.SetEpilogueBegin old new is
+    (λ h op o s stands a. plain_as h 11 SetEpilogueBegin old new (λ y t. t) (λ y t. t) a put)
 
-pub set_isa_put : (order : Order) (size : ℕ) (view : OpView) (n : ℕ) (old new : List ℕ) → view ≡ views.SetIsa n → Appends (Coded 12 UnsignedLeb) n old new → AddsView order size view old new
+pub set_isa_put : (order : Order) (size : ℕ) (view : OpView) (n : ℕ) (old new : List ℕ) → view ≡ views.SetIsa n
+    → Appends (Coded 12 UnsignedLeb) n old new → AddsView order size view old new
 set_isa_put order size view n old new is p =
-    put_of order size view (views.SetIsa n) old new is (λ h op o s stands a. standard_as UnsignedLeb h 12 n (SetIsa n) old new (λ y t. t) (λ y t. t) a p)
+    put_of order size view (views.SetIsa n) old new is
+    (λ h op o s stands a. standard_as UnsignedLeb h 12 n (SetIsa n) old new (λ y t. t) (λ y t. t) a p)
 
 -- the operands of an unknown standard operation
-are_operands : (k : ℕ) (operands : Operands) (op : Op) → StandsFor (views.UnknownStandard k operands) op → AreOperands operands (operands_of op)
+are_operands : (k : ℕ) (operands : Operands) (op : Op) → StandsFor (views.UnknownStandard k operands) op
+    → AreOperands operands (operands_of op)
 are_operands k operands (UnknownStandard j numbers) p = p.1
 are_operands k operands op p = absurd p
 
-pub unknown_standard_put : (order : Order) (size : ℕ) (view : OpView) (k : ℕ) (operands : Operands) (old new : List ℕ) → view ≡ views.UnknownStandard k operands → AddsOperands k operands old new → AddsView order size view old new
+pub unknown_standard_put : (order : Order) (size : ℕ) (view : OpView) (k : ℕ) (operands : Operands) (old new : List ℕ)
+    → view ≡ views.UnknownStandard k operands → AddsOperands k operands old new → AddsView order size view old new
 unknown_standard_put order size view k operands old new is p =
     put_of order size view (views.UnknownStandard k operands) old new is
     (λ h op o s stands a.
     let numbers = operands_of op in
-    standard_as (Each UnsignedLeb) h k numbers (UnknownStandard k numbers) old new (λ y t. (a.0, a.2, t)) (λ y t. t.2) a.1 (p.adds numbers (are_operands k operands op stands)))
+    standard_as (Each UnsignedLeb) h k numbers (UnknownStandard k numbers) old new (λ y t. (a.0, a.2, t)) (λ y t. t.2) a.1
+    (p.adds numbers (are_operands k operands op stands)))
 
-pub end_sequence_put : (order : Order) (size : ℕ) (view : OpView) (operand : List ℕ) (old new : List ℕ) → view ≡ views.EndSequence → operand ≡ [] → Appends (ExtendedCoded 1 Exactly) operand old new → AddsView order size view old new
+pub end_sequence_put : (order : Order) (size : ℕ) (view : OpView) (operand : List ℕ) (old new : List ℕ) → view ≡ views.EndSequence
+    → operand ≡ [] → Appends (ExtendedCoded 1 Exactly) operand old new → AddsView order size view old new
 end_sequence_put order size view operand old new is none p =
     put_of order size view views.EndSequence old new is
-    (λ h op o s stands a. extended_as Exactly h 1 [] EndSequence old new (λ y t. t) (λ y t. t) (subst (λ (z : List ℕ). Appends (ExtendedCoded 1 Exactly) z old new) none p))
+    (λ h op o s stands a. extended_as Exactly h 1 [] EndSequence old new (λ y t. t) (λ y t. t)
+    (subst (λ (z : List ℕ). Appends (ExtendedCoded 1 Exactly) z old new) none p))
 
-address_as : (h : HeaderParts) (order : Order) (size address : ℕ) (old new : List ℕ) → h.order ≡ order → h.address_size ≡ size → Appends (ExtendedCoded 2 (NumberBytes order size)) address old new → Appends (OpBytes h) (SetAddress address) old new
+address_as : (h : HeaderParts) (order : Order) (size address : ℕ) (old new : List ℕ) → h.order ≡ order → h.address_size ≡ size
+    → Appends (ExtendedCoded 2 (NumberBytes order size)) address old new → Appends (OpBytes h) (SetAddress address) old new
 address_as h order size address old new o s p =
     let here : Appends (ExtendedCoded 2 (NumberBytes h.order h.address_size)) address old new =
-    subst (λ (w : Order). Appends (ExtendedCoded 2 (NumberBytes w h.address_size)) address old new) (sym o) (subst (λ (k : ℕ). Appends (ExtendedCoded 2 (NumberBytes order k)) address old new) (sym s) p) in
+    subst (λ (w : Order). Appends (ExtendedCoded 2 (NumberBytes w h.address_size)) address old new) (sym o)
+    (subst (λ (k : ℕ). Appends (ExtendedCoded 2 (NumberBytes order k)) address old new) (sym s) p) in
     extended_as (NumberBytes h.order h.address_size) h 2 address (SetAddress address) old new (λ y t. t) (λ y t. t) here
 
-pub set_address_put : (order : Order) (size : ℕ) (view : OpView) (address : ℕ) (old new : List ℕ) → view ≡ views.SetAddress address → Appends (ExtendedCoded 2 (NumberBytes order size)) address old new → AddsView order size view old new
-set_address_put order size view address old new is p = put_of order size view (views.SetAddress address) old new is (λ h op o s stands a. address_as h order size address old new o s p)
+pub set_address_put : (order : Order) (size : ℕ) (view : OpView) (address : ℕ) (old new : List ℕ) → view ≡ views.SetAddress address
+    → Appends (ExtendedCoded 2 (NumberBytes order size)) address old new → AddsView order size view old new
+set_address_put order size view address old new is p =
+    put_of order size view (views.SetAddress address) old new is (λ h op o s stands a. address_as h order size address old new o s p)
 
-pub set_discriminator_put : (order : Order) (size : ℕ) (view : OpView) (n : ℕ) (old new : List ℕ) → view ≡ views.SetDiscriminator n → Appends (ExtendedCoded 4 UnsignedLeb) n old new → AddsView order size view old new
+pub set_discriminator_put : (order : Order) (size : ℕ) (view : OpView) (n : ℕ) (old new : List ℕ) → view ≡ views.SetDiscriminator n
+    → Appends (ExtendedCoded 4 UnsignedLeb) n old new → AddsView order size view old new
 set_discriminator_put order size view n old new is p =
-    put_of order size view (views.SetDiscriminator n) old new is (λ h op o s stands a. extended_as UnsignedLeb h 4 n (SetDiscriminator n) old new (λ y t. t) (λ y t. t) p)
+    put_of order size view (views.SetDiscriminator n) old new is
+    (λ h op o s stands a. extended_as UnsignedLeb h 4 n (SetDiscriminator n) old new (λ y t. t) (λ y t. t) p)
 
-pub unknown_extended_put : (order : Order) (size : ℕ) (view : OpView) (code : ℕ) (bytes : Bor (List ℕ)) (old new : List ℕ) → view ≡ views.UnknownExtended code bytes → code < 256 → Appends (ExtendedCoded code Exactly) bytes.now old new
+pub unknown_extended_put : (order : Order) (size : ℕ) (view : OpView) (code : ℕ) (bytes : Bor (List ℕ)) (old new : List ℕ)
+    → view ≡ views.UnknownExtended code bytes → code < 256 → Appends (ExtendedCoded code Exactly) bytes.now old new
     → AddsView order size view old new
 unknown_extended_put order size view code bytes old new is low p =
     put_of order size view (views.UnknownExtended code bytes) old new is
-    (λ h op o s stands a. extended_as Exactly h code bytes.now (UnknownExtended code bytes.now) old new (λ y t. (a.0, a.1, a.2, low, t)) (λ y t. t.4) p)
+    (λ h op o s stands a. extended_as Exactly h code bytes.now (UnknownExtended code bytes.now) old new (λ y t. (a.0, a.1, a.2, low, t))
+    (λ y t. t.4) p)
 
 -- ---- what a view is of
 
 -- an address fits its size
 pub address_of : (size address : ℕ) → IsOpOf size (views.SetAddress address) → address < 256 ^ size
 address_of size address is =
-    let admitted : Admits is.header (SetAddress address) = subst (Admits is.header) (is_op_of (views.SetAddress address) is.op is.stands) is.admitted in
+    let admitted : Admits is.header (SetAddress address) = subst (Admits is.header) (is_op_of (views.SetAddress address) is.op is.stands)
+    is.admitted in
     subst (λ (n : ℕ). address < 256 ^ n) is.size_is admitted
 
 -- the operands of an unknown standard operation are numbers
@@ -314,24 +430,30 @@ pub operands_are : (size k : ℕ) (operands : Operands) → IsOpOf size (views.U
 operands_are size k operands is = record { numbers = operands_of is.op; are = are_operands k operands is.op is.stands }
 
 -- an operation of a header
-pub is_op_of_header : (h : HeaderParts) (op : Op) (view : OpView) (size : ℕ) → Admits h op → StandsFor view op → size ≡ h.address_size → IsOpOf size view
+pub is_op_of_header : (h : HeaderParts) (op : Op) (view : OpView) (size : ℕ) → Admits h op → StandsFor view op → size ≡ h.address_size
+    → IsOpOf size view
 is_op_of_header h op view size admits stands sized = record { header = h; op = op; size_is = sym sized; stands = stands; admitted = admits }
 
-pub op_put : (h : HeaderParts) (op : Op) (view : OpView) (order : Order) (size : ℕ) (old new : List ℕ) → Admits h op → StandsFor view op → order ≡ h.order → size ≡ h.address_size → AddsView order size view old new → Appends (OpBytes h) op old new
+pub op_put : (h : HeaderParts) (op : Op) (view : OpView) (order : Order) (size : ℕ) (old new : List ℕ) → Admits h op → StandsFor view op
+    → order ≡ h.order → size ≡ h.address_size → AddsView order size view old new → Appends (OpBytes h) op old new
 op_put h op view order size old new admits stands ordered sized p = p.adds h op (sym ordered) (sym sized) stands admits
 
 -- ---- operands
 
-pub spelled_put : (code : ℕ) (operands : Operands) (bytes : Bor (List ℕ)) (old middle new : List ℕ) → operands ≡ Spelled bytes → middle ≡ old ++ code ∷ [] → AddsSpelled bytes.now middle new → AddsOperands code operands old new
+pub spelled_put : (code : ℕ) (operands : Operands) (bytes : Bor (List ℕ)) (old middle new : List ℕ) → operands ≡ Spelled bytes
+    → middle ≡ old ++ code ∷ [] → AddsSpelled bytes.now middle new → AddsOperands code operands old new
 spelled_put code operands bytes old middle new is pushed p = record {
-  adds = λ numbers are. coded_put (Each UnsignedLeb) code numbers old middle new pushed (p.adds numbers (subst (λ (o : Operands). AreOperands o numbers) is are));
+  adds = λ numbers are. coded_put (Each UnsignedLeb) code numbers old middle new pushed
+      (p.adds numbers (subst (λ (o : Operands). AreOperands o numbers) is are));
 }
 
-pub listed_put : (code : ℕ) (operands : Operands) (listed : Bor (List ℕ)) (old middle new : List ℕ) → operands ≡ Listed listed → middle ≡ old ++ code ∷ [] → Appends (Each UnsignedLeb) listed.now middle new → AddsOperands code operands old new
+pub listed_put : (code : ℕ) (operands : Operands) (listed : Bor (List ℕ)) (old middle new : List ℕ) → operands ≡ Listed listed
+    → middle ≡ old ++ code ∷ [] → Appends (Each UnsignedLeb) listed.now middle new → AddsOperands code operands old new
 listed_put code operands listed old middle new is pushed p = record {
   adds = λ numbers are.
       let same : listed.now ≡ numbers = subst (λ (o : Operands). AreOperands o numbers) is are in
-      coded_put (Each UnsignedLeb) code numbers old middle new pushed (subst (λ (ns : List ℕ). Appends (Each UnsignedLeb) ns middle new) same p);
+      coded_put (Each UnsignedLeb) code numbers old middle new pushed
+      (subst (λ (ns : List ℕ). Appends (Each UnsignedLeb) ns middle new) same p);
 }
 
 -- the numbers that were read of the bytes so far were added
@@ -343,14 +465,21 @@ pub record SpelledSoFar (bytes old : List ℕ) (at : At) (new : List ℕ) : Type
 pub spelled_begun : (bytes old : List ℕ) (at : At) → at.rest ≡ bytes → SpelledSoFar bytes old at old
 spelled_begun bytes old at rest = record { numbers = []; read = owned.numbers_none bytes at rest; put = each_begun UnsignedLeb old }
 
-pub spelled_more : (bytes old middle new : List ℕ) (n : ℕ) (at next : At) → SpelledSoFar bytes old at middle → Reads UnsignedLeb n at next → Appends UnsignedLeb n middle new → SpelledSoFar bytes old next new
+pub spelled_more : (bytes old middle new : List ℕ) (n : ℕ) (at next : At) → SpelledSoFar bytes old at middle → Reads UnsignedLeb n at next
+    → Appends UnsignedLeb n middle new → SpelledSoFar bytes old next new
 spelled_more bytes old middle new n at next so r p =
-    record { numbers = so.numbers ++ n ∷ []; read = owned.numbers_more bytes so.numbers n at next so.read r; put = each_put UnsignedLeb so.numbers n old middle new so.put p }
+    record {
+      numbers = so.numbers ++ n ∷ [];
+      read = owned.numbers_more bytes so.numbers n at next so.read r;
+      put = each_put UnsignedLeb so.numbers n old middle new so.put p;
+    }
 
-pub spelled_extends : (bytes old : List ℕ) (at : At) (middle new : List ℕ) → SpelledSoFar bytes old at middle → new ≡ middle → Extends old new
+pub spelled_extends : (bytes old : List ℕ) (at : At) (middle new : List ℕ) → SpelledSoFar bytes old at middle → new ≡ middle
+    → Extends old new
 spelled_extends bytes old at middle new so same = record { more = so.put.spelling; joined = same ∙ so.put.joined }
 
-pub spelled_done : (bytes old new : List ℕ) (at : At) (fault : Fault) → SpellsNumbers bytes → SpelledSoFar bytes old at new → RefusesField (IsLebFault IsLargeUnsigned) UnsignedLeb at fault → AddsSpelled bytes old new
+pub spelled_done : (bytes old new : List ℕ) (at : At) (fault : Fault) → SpellsNumbers bytes → SpelledSoFar bytes old at new
+    → RefusesField (IsLebFault IsLargeUnsigned) UnsignedLeb at fault → AddsSpelled bytes old new
 spelled_done bytes old new at fault some so r = record {
   adds = λ numbers each.
       let all : Each UnsignedLeb so.numbers bytes = owned.numbers_done bytes so.numbers at fault some so.read r in
@@ -364,11 +493,13 @@ pub ops_begun : (h : HeaderParts) (old : List ℕ) → Appends (Each (OpBytes h)
 ops_begun h old = each_begun (OpBytes h) old
 
 pub ops_more : (h : HeaderParts) (ops : List Op) (i : ℕ) (op : Op) (old middle new : List ℕ) → i < length ops → op ≡ get_or ops i op
-    → Appends (Each (OpBytes h)) (take i ops) old middle → Appends (OpBytes h) op middle new → Appends (Each (OpBytes h)) (take (i + 1) ops) old new
+    → Appends (Each (OpBytes h)) (take i ops) old middle → Appends (OpBytes h) op middle new
+    → Appends (Each (OpBytes h)) (take (i + 1) ops) old new
 ops_more h ops i op old middle new lt is p q =
     each_more (OpBytes h) ops i op old middle new lt p (subst (λ (o : Op). Appends (OpBytes h) o middle new) is q)
 
-pub ops_done : (h : HeaderParts) (ops : List Op) (n : ℕ) (old new : List ℕ) → length ops ≤ n → Appends (Each (OpBytes h)) (take n ops) old new → Appends (Each (OpBytes h)) ops old new
+pub ops_done : (h : HeaderParts) (ops : List Op) (n : ℕ) (old new : List ℕ) → length ops ≤ n
+    → Appends (Each (OpBytes h)) (take n ops) old new → Appends (Each (OpBytes h)) ops old new
 ops_done h ops n old new le p = each_done (OpBytes h) ops n old new le p
 
 pub appended_extends : {X : Type 0} (Spells : X → List ℕ → Type 0) (x : X) (old new : List ℕ) → Appends Spells x old new → Extends old new
@@ -378,7 +509,10 @@ pub unchanged_extends : (old new : List ℕ) → new ≡ old → Extends old new
 unchanged_extends old new same = record { more = []; joined = same ∙ sym (append-nil old) }
 
 pub extends_more : (old middle new : List ℕ) → Extends old middle → Extends middle new → Extends old new
-extends_more old middle new p q = record { more = p.more ++ q.more; joined = q.joined ∙ ap (λ (z : List ℕ). z ++ q.more) p.joined ∙ append_assoc old p.more q.more }
+extends_more old middle new p q = record {
+  more = p.more ++ q.more;
+  joined = q.joined ∙ ap (λ (z : List ℕ). z ++ q.more) p.joined ∙ append_assoc old p.more q.more;
+}
 
 pub taken_back : (old new : List ℕ) (start : ℕ) → start ≡ length old → Extends old new → take start new ≡ old
 taken_back old new start is e = rw (is, e.joined) (take-append_seam old e.more)

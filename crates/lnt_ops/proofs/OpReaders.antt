@@ -1,4 +1,4 @@
--- An operation by its first byte, and by what stands behind it.
+-- An operation by its first byte, and by what stands after it.
 use Rattle.std.proofs.Common.{◌≡◌, ℕ, ◌≤◌, List, [], ◌∷◌, ◌++◌, length, refl, sym, ap, subst, ◌∙◌, append_assoc, arith}
 use Rattle.std.proofs.lemmas.List.{length-append}
 use Rattle.lnt_wire.specs.At.{At}
@@ -8,8 +8,8 @@ use Rattle.lnt_wire.specs.Numbers.{NumberBytes}
 use Rattle.lnt_wire.specs.Reading.{Reads, RefusesField, Refuses, IsCutShort}
 use Rattle.lnt_header.specs.declared.header.HeaderParts.{HeaderParts}
 use Rattle.lnt_header.specs.declared.op.Op.TheVariants as ops
-use Rattle.lnt_header.specs.declared.view.OpView.{OpView}
-use Rattle.lnt_header.specs.declared.view.OpView.TheVariants as views
+use Rattle.lnt_header.specs.declared.op.OpView.{OpView}
+use Rattle.lnt_header.specs.declared.op.OpView.TheVariants as views
 use Rattle.lnt_header.specs.Laws.Bytes.{one_digit}
 use Rattle.lnt_ops.specs.Laws.Ops.{op_is_some}
 use Rattle.lnt_ops.specs.OpBytes.{OpBytes}
@@ -21,9 +21,17 @@ use Rattle.lnt_ops.specs.OpSteps.{BehindBytes, IsFaultBehind, GivesBehind}
 
 -- ---- a cursor that stands where another does
 
-reads_from : {X : Type 0} (P : X → List ℕ → Type 0) (v : X) (old ahead new : At) → ahead.place ≡ old.place → ahead.rest ≡ old.rest → ahead.order ≡ old.order → Reads P v ahead new → Reads P v old new
+reads_from : {X : Type 0} (P : X → List ℕ → Type 0) (v : X) (old ahead new : At) → ahead.place ≡ old.place → ahead.rest ≡ old.rest
+    → ahead.order ≡ old.order → Reads P v ahead new → Reads P v old new
 reads_from P v old ahead new place rest order r =
-    record { spelling = r.spelling; spelled = r.spelled; whole = sym rest ∙ r.whole; place = omega (arith, r.place, place); order = r.order ∙ order }
+    record {
+      spelling = r.spelling;
+      spelled = r.spelled;
+      whole = sym rest ∙ r.whole;
+      place = omega (arith, r.place, place);
+      order = r.order
+          ∙ order;
+    }
 
 -- ---- the first byte
 
@@ -34,19 +42,33 @@ nothing (b ∷ bytes) e = absurd (omega arith)
 byte_is : (h : HeaderParts) (k : ℕ) (old middle : At) → (r : Reads (NumberBytes old.order 1) k old middle) → r.spelling ≡ k ∷ []
 byte_is h k old middle r = r.spelled.spelled ∙ one_digit old.order k r.spelled.fits
 
-pub gives_special : (h : HeaderParts) (k : ℕ) (old ahead middle : At) → ahead.place ≡ old.place → ahead.rest ≡ old.rest → ahead.order ≡ old.order → Reads (NumberBytes ahead.order 1) k ahead middle
+pub gives_special : (h : HeaderParts) (k : ℕ) (old ahead middle : At) → ahead.place ≡ old.place → ahead.rest ≡ old.rest
+    → ahead.order ≡ old.order → Reads (NumberBytes ahead.order 1) k ahead middle
     → h.opcode_base ≤ k → GivesOp h (views.Special k) old middle
 gives_special h k old ahead middle place rest order r le =
     let spelled : OpBytes h (ops.Special k) r.spelling = (le, r.spelled.fits, byte_is h k ahead middle r) in
-    let read : Reads (OpBytes h) (ops.Special k) ahead middle = record { spelling = r.spelling; spelled = spelled; whole = r.whole; place = r.place; order = r.order } in
-    record { op = ops.Special k; stands = refl; admitted = le; reads = reads_from (OpBytes h) (ops.Special k) old ahead middle place rest order read }
+    let read : Reads (OpBytes h) (ops.Special k) ahead middle = record {
+      spelling = r.spelling;
+      spelled = spelled;
+      whole = r.whole;
+      place = r.place;
+      order = r.order;
+    } in
+    record {
+      op = ops.Special k;
+      stands = refl;
+      admitted = le;
+      reads = reads_from (OpBytes h) (ops.Special k) old ahead middle place rest order read;
+    }
 
-pub gives_behind : (h : HeaderParts) (k : ℕ) (view : OpView) (old ahead middle new : At) → ahead.place ≡ old.place → ahead.rest ≡ old.rest → ahead.order ≡ old.order → Reads (NumberBytes ahead.order 1) k ahead middle
+pub gives_behind : (h : HeaderParts) (k : ℕ) (view : OpView) (old ahead middle new : At) → ahead.place ≡ old.place → ahead.rest ≡ old.rest
+    → ahead.order ≡ old.order → Reads (NumberBytes ahead.order 1) k ahead middle
     → GivesBehind h k view middle new → GivesOp h view old new
 gives_behind h k view old ahead middle new place rest order r g =
     let s = g.reads in
     let first = byte_is h k ahead middle r in
-    let spelled : OpBytes h g.op (r.spelling ++ s.spelling) = subst (λ (x : List ℕ). OpBytes h g.op (x ++ s.spelling)) (sym first) s.spelled.whole in
+    let spelled : OpBytes h g.op (r.spelling ++ s.spelling) = subst (λ (x : List ℕ). OpBytes h g.op (x ++ s.spelling)) (sym first)
+    s.spelled.whole in
     let read : Reads (OpBytes h) g.op ahead new = record {
       spelling = r.spelling ++ s.spelling;
       spelled = spelled;
@@ -57,7 +79,8 @@ gives_behind h k view old ahead middle new place rest order r g =
     record { op = g.op; stands = g.stands; admitted = g.admitted; reads = reads_from (OpBytes h) g.op old ahead new place rest order read }
 
 -- nothing is left, so no operation is
-pub first_opcode : (h : HeaderParts) (old ahead : At) (fault : Fault) → ahead.place ≡ old.place → ahead.rest ≡ old.rest → RefusesField (IsCutShort 1) (NumberBytes ahead.order 1) ahead fault
+pub first_opcode : (h : HeaderParts) (old ahead : At) (fault : Fault) → ahead.place ≡ old.place → ahead.rest ≡ old.rest
+    → RefusesField (IsCutShort 1) (NumberBytes ahead.order 1) ahead fault
     → Refuses (IsFirstFault h) (OpBytes h) old fault
 first_opcode h old ahead fault place rest r = record {
   before = [];
@@ -68,12 +91,14 @@ first_opcode h old ahead fault place rest r = record {
   none = λ op x more p e. omega (arith, op_is_some h op x p, ap length e, length-append x more, r.reason.short, ap length rest);
 }
 
-pub refuses_opcode : (h : HeaderParts) (old ahead : At) (fault : Fault) → ahead.place ≡ old.place → ahead.rest ≡ old.rest → RefusesField (IsCutShort 1) (NumberBytes ahead.order 1) ahead fault
+pub refuses_opcode : (h : HeaderParts) (old ahead : At) (fault : Fault) → ahead.place ≡ old.place → ahead.rest ≡ old.rest
+    → RefusesField (IsCutShort 1) (NumberBytes ahead.order 1) ahead fault
     → Refuses (IsOpFault h.address_size) (OpBytes h) old fault
 refuses_opcode h old ahead fault place rest r = refuses_op h old fault (first_opcode h old ahead fault place rest r)
 
 -- no operation has the first byte, and goes on as its bytes do
-none_behind : (h : HeaderParts) (k : ℕ) (rest bytes : List ℕ) → bytes ≡ k ∷ rest → NoneSpelled (BehindBytes h k) rest → NoneSpelled (OpBytes h) bytes
+none_behind : (h : HeaderParts) (k : ℕ) (rest bytes : List ℕ) → bytes ≡ k ∷ rest → NoneSpelled (BehindBytes h k) rest
+    → NoneSpelled (OpBytes h) bytes
 none_behind h k rest bytes whole none op [] more p e = omega (arith, op_is_some h op [] p)
 none_behind h k rest bytes whole none op (b ∷ x) more p e =
     let all : b ∷ (x ++ more) ≡ k ∷ rest = e ∙ whole in
@@ -81,7 +106,8 @@ none_behind h k rest bytes whole none op (b ∷ x) more p e =
     let behind : x ++ more ≡ rest = cc in
     none op x more (record { whole = subst (λ (a : ℕ). OpBytes h op (a ∷ x)) first p }) behind
 
-pub first_behind : (h : HeaderParts) (k : ℕ) (old ahead middle : At) (fault : Fault) → ahead.place ≡ old.place → ahead.rest ≡ old.rest → Reads (NumberBytes ahead.order 1) k ahead middle
+pub first_behind : (h : HeaderParts) (k : ℕ) (old ahead middle : At) (fault : Fault) → ahead.place ≡ old.place → ahead.rest ≡ old.rest
+    → Reads (NumberBytes ahead.order 1) k ahead middle
     → Refuses (IsFaultBehind h k) (BehindBytes h k) middle fault → Refuses (IsFirstFault h) (OpBytes h) old fault
 first_behind h k old ahead middle fault place rest r s =
     let first = byte_is h k ahead middle r in
@@ -95,6 +121,7 @@ first_behind h k old ahead middle fault place rest r s =
       none = none_behind h k middle.rest old.rest whole s.none;
     }
 
-pub refuses_behind : (h : HeaderParts) (k : ℕ) (old ahead middle : At) (fault : Fault) → ahead.place ≡ old.place → ahead.rest ≡ old.rest → Reads (NumberBytes ahead.order 1) k ahead middle
+pub refuses_behind : (h : HeaderParts) (k : ℕ) (old ahead middle : At) (fault : Fault) → ahead.place ≡ old.place → ahead.rest ≡ old.rest
+    → Reads (NumberBytes ahead.order 1) k ahead middle
     → Refuses (IsFaultBehind h k) (BehindBytes h k) middle fault → Refuses (IsOpFault h.address_size) (OpBytes h) old fault
 refuses_behind h k old ahead middle fault place rest r s = refuses_op h old fault (first_behind h k old ahead middle fault place rest r s)

@@ -12,8 +12,8 @@ use Rattle.lnt_header.specs.Laws.Readers.{each_more}
 use Rattle.lnt_header.specs.OpViews.{StandsFor}
 use Rattle.lnt_header.specs.declared.op.Op.{Op}
 use Rattle.lnt_header.specs.declared.op.Op.TheVariants as ops
-use Rattle.lnt_header.specs.declared.view.OpView.TheVariants as views
-use Rattle.lnt_header.specs.declared.view.Operands.{Operands}
+use Rattle.lnt_header.specs.declared.op.OpView.TheVariants as views
+use Rattle.lnt_header.specs.declared.op.Operands.{Operands}
 use Rattle.lnt_ops.specs.Laws.Programs.{none_filled}
 use Rattle.lnt_ops.specs.Laws.Views.{leb_is_some}
 use Rattle.lnt_ops.specs.OperandLists.{IsOperands, SpellsNumbers, NumbersSoFar}
@@ -27,14 +27,17 @@ pub some_operands : (k : ℕ) (operands : Operands) → IsView (views.UnknownSta
 some_operands k operands v = operands_of k operands v.op v.stands
 
 -- a list that ends where the bytes do
-whole_list : (bytes numbers front rest : List ℕ) → Each UnsignedLeb numbers front → bytes ≡ front ++ rest → NoneSpelled UnsignedLeb rest → (others : List ℕ) → Each UnsignedLeb others bytes → Each UnsignedLeb numbers bytes
+whole_list : (bytes numbers front rest : List ℕ) → Each UnsignedLeb numbers front → bytes ≡ front ++ rest → NoneSpelled UnsignedLeb rest
+    → (others : List ℕ) → Each UnsignedLeb others bytes → Each UnsignedLeb numbers bytes
 whole_list bytes numbers front [] p whole none others q = subst (Each UnsignedLeb numbers) (sym (whole ∙ append-nil front)) p
-whole_list bytes numbers front (b ∷ rest) p whole none others q = absurd (none_filled UnsignedLeb numbers front (b ∷ rest) bytes unsigned_code p (omega arith) whole none others q)
+whole_list bytes numbers front (b ∷ rest) p whole none others q =
+    absurd (none_filled UnsignedLeb numbers front (b ∷ rest) bytes unsigned_code p (omega arith) whole none others q)
 
 pub numbers_none : (bytes : List ℕ) (at : At) → at.rest ≡ bytes → NumbersSoFar bytes [] at
 numbers_none bytes at e = record { front = []; spelled = refl; whole = sym e }
 
-pub numbers_more : (bytes numbers : List ℕ) (n : ℕ) (at new : At) → NumbersSoFar bytes numbers at → Reads UnsignedLeb n at new → NumbersSoFar bytes (numbers ++ n ∷ []) new
+pub numbers_more : (bytes numbers : List ℕ) (n : ℕ) (at new : At) → NumbersSoFar bytes numbers at → Reads UnsignedLeb n at new
+    → NumbersSoFar bytes (numbers ++ n ∷ []) new
 numbers_more bytes numbers n at new so r = record {
   front = so.front ++ r.spelling;
   spelled = each_more UnsignedLeb numbers n so.front r.spelling so.spelled r.spelled;
@@ -42,8 +45,10 @@ numbers_more bytes numbers n at new so r = record {
 }
 
 -- where no number follows, the bytes end
-pub numbers_done : (bytes numbers : List ℕ) (at : At) (fault : Fault) → SpellsNumbers bytes → NumbersSoFar bytes numbers at → RefusesField (IsLebFault IsLargeUnsigned) UnsignedLeb at fault → Each UnsignedLeb numbers bytes
-numbers_done bytes numbers at fault some so r = whole_list bytes numbers so.front at.rest so.spelled so.whole r.none some.numbers some.spelled
+pub numbers_done : (bytes numbers : List ℕ) (at : At) (fault : Fault) → SpellsNumbers bytes → NumbersSoFar bytes numbers at
+    → RefusesField (IsLebFault IsLargeUnsigned) UnsignedLeb at fault → Each UnsignedLeb numbers bytes
+numbers_done bytes numbers at fault some so r =
+    whole_list bytes numbers so.front at.rest so.spelled so.whole r.none some.numbers some.spelled
 
 -- each number shortens the rest
 pub number_long : (n : ℕ) (at new : At) → Reads UnsignedLeb n at new → length new.rest < length at.rest

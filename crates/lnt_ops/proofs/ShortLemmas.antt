@@ -1,5 +1,6 @@
 -- Operations with short operands, at the front of bytes.
-use Rattle.std.proofs.Common.{◌≡◌, ◌≢◌, ℕ, ◌+◌, ◌-◌, ◌*◌, ◌%◌, ◌^◌, ◌<◌, ◌≤◌, Bool, cond, false, List, [], ◌∷◌, ◌++◌, length, take, drop, get_or, add-one, refl, sym, ap, subst, ◌∙◌, arith, ◌⊎◌, inl, inr}
+use Rattle.std.proofs.Common.{◌≡◌, ◌≢◌, ℕ, ◌+◌, ◌-◌, ◌*◌, ◌%◌, ◌^◌, ◌<◌, ◌≤◌, Bool, cond, false, List, [], ◌∷◌, ◌++◌}
+use Rattle.std.proofs.Common.{length, take, drop, get_or, add-one, refl, sym, ap, subst, ◌∙◌, arith, ◌⊎◌, inl, inr}
 use Rattle.std.specs.Prelude.{ℤ, pos, neg_ℤ, ◌+ℤ◌, ◌-ℤ◌, ◌*ℤ◌, ◌≤ℤ◌, ◌<ℤ◌, FitsSigned}
 use Rattle.std.specs.Int.{w64}
 use Rattle.std.proofs.lemmas.Bool.{lt-leb, le-leb, cases_lt}
@@ -11,8 +12,8 @@ use Rattle.lnt_wire.specs.Leb128.{UnsignedLeb, SignedLeb, signed_groups}
 use Rattle.lnt_header.specs.declared.header.HeaderParts.{HeaderParts}
 use Rattle.lnt_header.specs.declared.op.Op.{Op}
 use Rattle.lnt_header.specs.declared.op.Op.TheVariants as ops
-use Rattle.lnt_header.specs.declared.view.OpView.{OpView}
-use Rattle.lnt_header.specs.declared.view.OpView.TheVariants as views
+use Rattle.lnt_header.specs.declared.op.OpView.{OpView}
+use Rattle.lnt_header.specs.declared.op.OpView.TheVariants as views
 use Rattle.lnt_header.specs.OpRules.{Admits}
 use Rattle.lnt_header.specs.OpViews.{StandsFor}
 use Rattle.lnt_ops.proofs.StandardReaders.{standard}
@@ -76,8 +77,10 @@ group_high b z is le lt = record {
 group_fits : (z : ℤ) → neg_ℤ (pos 64) ≤ℤ z → z <ℤ pos 64 → FitsSigned w64 z
 group_fits z least most = omega (arith, ints, least, most)
 
-pub one_signed : (bytes : List ℕ) (b : ℕ) (z : ℤ) → 0 < length bytes → get_or bytes 0 0 ≡ b → b < 128 → IsGroup b z → SignedLeb z (take 1 bytes)
-one_signed bytes b z some is low g = rw (one_taken bytes some, is) (record { shape = low; value = g.value; fits = group_fits z g.least g.most })
+pub one_signed : (bytes : List ℕ) (b : ℕ) (z : ℤ) → 0 < length bytes → get_or bytes 0 0 ≡ b → b < 128 → IsGroup b z
+    → SignedLeb z (take 1 bytes)
+one_signed bytes b z some is low g =
+    rw (one_taken bytes some, is) (record { shape = low; value = g.value; fits = group_fits z g.least g.most })
 
 -- two groups, of which the second one has the sign
 two_groups : (a b : ℕ) → b < 128 → signed_groups (a ∷ b ∷ []) ≡ pos (a % 128) +ℤ pos 128 *ℤ signed_groups (b ∷ [])
@@ -86,84 +89,123 @@ two_groups a b lt = elim (cases_lt b 64) [
   | inr high ↦ rw (le-leb 64 b high) (omega (arith, ints))
 ]
 
-pub two_signed : (bytes : List ℕ) (a b : ℕ) (s z : ℤ) → 2 ≤ length bytes → get_or bytes 0 0 ≡ a → 128 ≤ a → get_or bytes 1 0 ≡ b → b < 128 → IsGroup b s → z ≡ pos (a % 128) +ℤ pos 128 *ℤ s → SignedLeb z (take 2 bytes)
+pub two_signed : (bytes : List ℕ) (a b : ℕ) (s z : ℤ) → 2 ≤ length bytes → get_or bytes 0 0 ≡ a → 128 ≤ a → get_or bytes 1 0 ≡ b → b < 128
+    → IsGroup b s → z ≡ pos (a % 128) +ℤ pos 128 *ℤ s → SignedLeb z (take 2 bytes)
 two_signed bytes a b s z some first high second low g is = rw (two_taken bytes some, first, second) (record {
   shape = (high, low);
   value = is ∙ ap (λ (x : ℤ). pos (a % 128) +ℤ pos 128 *ℤ x) g.value ∙ sym (two_groups a b low);
   fits = rw is (omega (arith, ints, g.least, g.most));
 })
 
-pub discriminator_taken : (bytes : List ℕ) (n : ℕ) → 3 ≤ length bytes → get_or bytes 0 0 ≡ 2 → get_or bytes 1 0 ≡ 4 → get_or bytes 2 0 ≡ n → take 3 bytes ≡ 2 ∷ 4 ∷ n ∷ []
+pub discriminator_taken : (bytes : List ℕ) (n : ℕ) → 3 ≤ length bytes → get_or bytes 0 0 ≡ 2 → get_or bytes 1 0 ≡ 4 → get_or bytes 2 0 ≡ n
+    → take 3 bytes ≡ 2 ∷ 4 ∷ n ∷ []
 discriminator_taken bytes n some first second third = rw (three_taken bytes some, first, second, third) refl
 
 -- ---- operations
 
-front : (h : HeaderParts) (k : ℕ) (view : OpView) (op : Op) (n : ℕ) (bytes operand : List ℕ) → 0 < length bytes → get_or bytes 0 0 ≡ k → operand ≡ drop 1 bytes → n ≤ length operand
+front : (h : HeaderParts) (k : ℕ) (view : OpView) (op : Op) (n : ℕ) (bytes operand : List ℕ) → 0 < length bytes → get_or bytes 0 0 ≡ k
+    → operand ≡ drop 1 bytes → n ≤ length operand
     → StandsFor view op → Admits h op → OpBytes h op (k ∷ take n operand) → IsFront h view (n + 1) bytes
 front h k view op n bytes operand some is same le stands admitted spelled = record {
   op = op;
   stands = stands;
   admitted = admitted;
   within = omega (arith, le, one_less bytes some, ap length same);
-  spelled = subst (OpBytes h op) (sym (behind_one bytes n some ∙ ap (λ (b : ℕ). b ∷ take n (drop 1 bytes)) is ∙ ap (λ (z : List ℕ). k ∷ take n z) (sym same))) spelled;
+  spelled = subst (OpBytes h op) (sym
+      (behind_one bytes n some ∙ ap (λ (b : ℕ). b ∷ take n (drop 1 bytes)) is ∙ ap (λ (z : List ℕ). k ∷ take n z) (sym same))) spelled;
 }
 
-pub front_special : (h : HeaderParts) (k : ℕ) (bytes : List ℕ) → 0 < length bytes → get_or bytes 0 0 ≡ k → h.opcode_base ≤ k → k < 256 → IsFront h (views.Special k) 1 bytes
-front_special h k bytes some is le byte = front h k (views.Special k) (ops.Special k) 0 bytes (drop 1 bytes) some is refl (omega arith) refl le (le, byte, refl)
+pub front_special : (h : HeaderParts) (k : ℕ) (bytes : List ℕ) → 0 < length bytes → get_or bytes 0 0 ≡ k → h.opcode_base ≤ k → k < 256
+    → IsFront h (views.Special k) 1 bytes
+front_special h k bytes some is le byte =
+    front h k (views.Special k) (ops.Special k) 0 bytes (drop 1 bytes) some is refl (omega arith) refl le (le, byte, refl)
 
-pub front_copy : (h : HeaderParts) (k : ℕ) (bytes : List ℕ) → 0 < length bytes → get_or bytes 0 0 ≡ k → k < h.opcode_base → k ≡ 1 → IsFront h views.Copy 1 bytes
-front_copy h k bytes some is lt e = front h k views.Copy ops.Copy 0 bytes (drop 1 bytes) some is refl (omega arith) tt (omega (arith, e, lt)) (standard h k 1 (Exactly []) [] e lt refl)
+pub front_copy : (h : HeaderParts) (k : ℕ) (bytes : List ℕ) → 0 < length bytes → get_or bytes 0 0 ≡ k → k < h.opcode_base → k ≡ 1
+    → IsFront h views.Copy 1 bytes
+front_copy h k bytes some is lt e =
+    front h k views.Copy ops.Copy 0 bytes (drop 1 bytes) some is refl (omega arith) tt (omega (arith, e, lt))
+    (standard h k 1 (Exactly []) [] e lt refl)
 
-pub front_negate_stmt : (h : HeaderParts) (k : ℕ) (bytes : List ℕ) → 0 < length bytes → get_or bytes 0 0 ≡ k → k < h.opcode_base → k ≡ 6 → IsFront h views.NegateStmt 1 bytes
-front_negate_stmt h k bytes some is lt e = front h k views.NegateStmt ops.NegateStmt 0 bytes (drop 1 bytes) some is refl (omega arith) tt (omega (arith, e, lt)) (standard h k 6 (Exactly []) [] e lt refl)
+pub front_negate_stmt : (h : HeaderParts) (k : ℕ) (bytes : List ℕ) → 0 < length bytes → get_or bytes 0 0 ≡ k → k < h.opcode_base → k ≡ 6
+    → IsFront h views.NegateStmt 1 bytes
+front_negate_stmt h k bytes some is lt e =
+    front h k views.NegateStmt ops.NegateStmt 0 bytes (drop 1 bytes) some is refl (omega arith) tt (omega (arith, e, lt))
+    (standard h k 6 (Exactly []) [] e lt refl)
 
-pub front_const_add_pc : (h : HeaderParts) (k : ℕ) (bytes : List ℕ) → 0 < length bytes → get_or bytes 0 0 ≡ k → k < h.opcode_base → k ≡ 8 → IsFront h views.ConstAddPc 1 bytes
-front_const_add_pc h k bytes some is lt e = front h k views.ConstAddPc ops.ConstAddPc 0 bytes (drop 1 bytes) some is refl (omega arith) tt (omega (arith, e, lt)) (standard h k 8 (Exactly []) [] e lt refl)
+pub front_const_add_pc : (h : HeaderParts) (k : ℕ) (bytes : List ℕ) → 0 < length bytes → get_or bytes 0 0 ≡ k → k < h.opcode_base → k ≡ 8
+    → IsFront h views.ConstAddPc 1 bytes
+front_const_add_pc h k bytes some is lt e =
+    front h k views.ConstAddPc ops.ConstAddPc 0 bytes (drop 1 bytes) some is refl (omega arith) tt (omega (arith, e, lt))
+    (standard h k 8 (Exactly []) [] e lt refl)
 
-pub front_advance_pc : (h : HeaderParts) (k n : ℕ) (bytes operand : List ℕ) → 0 < length bytes → get_or bytes 0 0 ≡ k → k < h.opcode_base → k ≡ 2 → operand ≡ drop 1 bytes
+pub front_advance_pc : (h : HeaderParts) (k n : ℕ) (bytes operand : List ℕ) → 0 < length bytes → get_or bytes 0 0 ≡ k → k < h.opcode_base
+    → k ≡ 2 → operand ≡ drop 1 bytes
     → (1 ≤ length operand) × UnsignedLeb n (take 1 operand) → IsFront h (views.AdvancePc n) 2 bytes
 front_advance_pc h k n bytes operand some is lt e same p =
-    front h k (views.AdvancePc n) (ops.AdvancePc n) 1 bytes operand some is same p.0 refl (omega (arith, e, lt)) (standard h k 2 (UnsignedLeb n) (take 1 operand) e lt p.1)
+    front h k (views.AdvancePc n) (ops.AdvancePc n) 1 bytes operand some is same p.0 refl (omega (arith, e, lt))
+    (standard h k 2 (UnsignedLeb n) (take 1 operand) e lt p.1)
 
-pub front_set_file : (h : HeaderParts) (k n : ℕ) (bytes operand : List ℕ) → 0 < length bytes → get_or bytes 0 0 ≡ k → k < h.opcode_base → k ≡ 4 → operand ≡ drop 1 bytes
+pub front_set_file : (h : HeaderParts) (k n : ℕ) (bytes operand : List ℕ) → 0 < length bytes → get_or bytes 0 0 ≡ k → k < h.opcode_base
+    → k ≡ 4 → operand ≡ drop 1 bytes
     → (1 ≤ length operand) × UnsignedLeb n (take 1 operand) → IsFront h (views.SetFile n) 2 bytes
 front_set_file h k n bytes operand some is lt e same p =
-    front h k (views.SetFile n) (ops.SetFile n) 1 bytes operand some is same p.0 refl (omega (arith, e, lt)) (standard h k 4 (UnsignedLeb n) (take 1 operand) e lt p.1)
+    front h k (views.SetFile n) (ops.SetFile n) 1 bytes operand some is same p.0 refl (omega (arith, e, lt))
+    (standard h k 4 (UnsignedLeb n) (take 1 operand) e lt p.1)
 
-pub front_set_column : (h : HeaderParts) (k n : ℕ) (bytes operand : List ℕ) → 0 < length bytes → get_or bytes 0 0 ≡ k → k < h.opcode_base → k ≡ 5 → operand ≡ drop 1 bytes
+pub front_set_column : (h : HeaderParts) (k n : ℕ) (bytes operand : List ℕ) → 0 < length bytes → get_or bytes 0 0 ≡ k → k < h.opcode_base
+    → k ≡ 5 → operand ≡ drop 1 bytes
     → (1 ≤ length operand) × UnsignedLeb n (take 1 operand) → IsFront h (views.SetColumn n) 2 bytes
 front_set_column h k n bytes operand some is lt e same p =
-    front h k (views.SetColumn n) (ops.SetColumn n) 1 bytes operand some is same p.0 refl (omega (arith, e, lt)) (standard h k 5 (UnsignedLeb n) (take 1 operand) e lt p.1)
+    front h k (views.SetColumn n) (ops.SetColumn n) 1 bytes operand some is same p.0 refl (omega (arith, e, lt))
+    (standard h k 5 (UnsignedLeb n) (take 1 operand) e lt p.1)
 
-pub front_advance_line : (h : HeaderParts) (k size : ℕ) (z : ℤ) (bytes operand : List ℕ) → 0 < length bytes → get_or bytes 0 0 ≡ k → k < h.opcode_base → k ≡ 3 → operand ≡ drop 1 bytes
+pub front_advance_line : (h : HeaderParts) (k size : ℕ) (z : ℤ) (bytes operand : List ℕ) → 0 < length bytes → get_or bytes 0 0 ≡ k
+    → k < h.opcode_base → k ≡ 3 → operand ≡ drop 1 bytes
     → (size ≤ length operand) × SignedLeb z (take size operand) → IsFront h (views.AdvanceLine z) (size + 1) bytes
 front_advance_line h k size z bytes operand some is lt e same p =
-    front h k (views.AdvanceLine z) (ops.AdvanceLine z) size bytes operand some is same p.0 refl (omega (arith, e, lt)) (standard h k 3 (SignedLeb z) (take size operand) e lt p.1)
+    front h k (views.AdvanceLine z) (ops.AdvanceLine z) size bytes operand some is same p.0 refl (omega (arith, e, lt))
+    (standard h k 3 (SignedLeb z) (take size operand) e lt p.1)
 
 -- the length 2, the code 4 and a discriminator of one byte
-discriminator : (h : HeaderParts) (k n : ℕ) (operand : List ℕ) → k ≡ 0 → n < 128 → operand ≡ 2 ∷ 4 ∷ n ∷ [] → OpBytes h (ops.SetDiscriminator n) (k ∷ operand)
+discriminator : (h : HeaderParts) (k n : ℕ) (operand : List ℕ) → k ≡ 0 → n < 128 → operand ≡ 2 ∷ 4 ∷ n ∷ []
+    → OpBytes h (ops.SetDiscriminator n) (k ∷ operand)
 discriminator h k n operand e low is =
     let small : n % 128 ≡ n = omega arith in
     rw (e, is) (
       4 ∷ n ∷ [],
-      record { front = 4 ∷ []; back = n ∷ []; first = refl; second = record { shape = low; value = omega (arith, small); fits = omega arith }; joined = refl },
+      record {
+        front = 4 ∷ [];
+        back = n ∷ [];
+        first = refl;
+        second = record { shape = low; value = omega (arith, small); fits = omega arith };
+        joined = refl;
+      },
       record {
         front = 0 ∷ [];
         back = 2 ∷ 4 ∷ n ∷ [];
         first = refl;
-        second = record { front = 2 ∷ []; back = 4 ∷ n ∷ []; first = record { shape = omega arith; value = refl; fits = omega arith }; second = refl; joined = refl };
+        second = record {
+          front = 2 ∷ [];
+          back = 4 ∷ n ∷ [];
+          first = record { shape = omega arith; value = refl; fits = omega arith };
+          second = refl;
+          joined = refl;
+        };
         joined = refl;
       },
     )
 
-pub front_discriminator : (h : HeaderParts) (k n : ℕ) (bytes operand : List ℕ) → 0 < length bytes → get_or bytes 0 0 ≡ k → k ≡ 0 → operand ≡ drop 1 bytes
+pub front_discriminator : (h : HeaderParts) (k n : ℕ) (bytes operand : List ℕ) → 0 < length bytes → get_or bytes 0 0 ≡ k → k ≡ 0
+    → operand ≡ drop 1 bytes
     → (3 ≤ length operand) × (n < 128) × (take 3 operand ≡ 2 ∷ 4 ∷ n ∷ []) → IsFront h (views.SetDiscriminator n) 4 bytes
 front_discriminator h k n bytes operand some is e same p =
-    front h k (views.SetDiscriminator n) (ops.SetDiscriminator n) 3 bytes operand some is same p.0 refl tt (discriminator h k n (take 3 operand) e p.1 p.2)
+    front h k (views.SetDiscriminator n) (ops.SetDiscriminator n) 3 bytes operand some is same p.0 refl tt
+    (discriminator h k n (take 3 operand) e p.1 p.2)
 
 -- ---- steps of a walk
 
-gives_front : (h : HeaderParts) (view : OpView) (size : ℕ) (old new : At) → IsFront h view size old.rest → new.rest ≡ drop size old.rest → new.place ≡ old.place + size → new.order ≡ old.order → GivesOp h view old new
+gives_front : (h : HeaderParts) (view : OpView) (size : ℕ) (old new : At) → IsFront h view size old.rest → new.rest ≡ drop size old.rest
+    → new.place ≡ old.place + size → new.order ≡ old.order → GivesOp h view old new
 gives_front h view size old new f rest place order = record {
   op = f.op;
   stands = f.stands;
@@ -181,19 +223,23 @@ gives_front h view size old new f rest place order = record {
 abbrev pub walk_at : HeaderParts → ℕ → List ℕ → Walk
 walk_at h end rest = record { header = h; at = record { place = end - length rest; rest = rest; order = h.order }; failed = false }
 
-pub steps_short : (h : HeaderParts) (end : ℕ) (view : OpView) (size : ℕ) (rest behind : List ℕ) → length rest ≤ end → IsFront h view size rest → behind ≡ drop size rest → length behind + size ≡ length rest
+pub steps_short : (h : HeaderParts) (end : ℕ) (view : OpView) (size : ℕ) (rest behind : List ℕ) → length rest ≤ end
+    → IsFront h view size rest → behind ≡ drop size rest → length behind + size ≡ length rest
     → Steps view (walk_at h end rest) (walk_at h end behind)
 steps_short h end view size rest behind le f is count =
-    steps_on view (walk_at h end rest) (walk_at h end behind) refl refl refl (gives_front h view size (walk_at h end rest).at (walk_at h end behind).at f is (omega (arith, le, count)) refl)
+    steps_on view (walk_at h end rest) (walk_at h end behind) refl refl refl
+    (gives_front h view size (walk_at h end rest).at (walk_at h end behind).at f is (omega (arith, le, count)) refl)
 
 -- ---- where no such operation begins
 
 -- an opcode and its operand
-opcode_is : (h : HeaderParts) (k n : ℕ) (Operand : List ℕ → Type 0) (bytes : List ℕ) → 0 < length bytes → Standard h k Operand (take (n + 1) bytes)
+opcode_is : (h : HeaderParts) (k n : ℕ) (Operand : List ℕ → Type 0) (bytes : List ℕ) → 0 < length bytes
+    → Standard h k Operand (take (n + 1) bytes)
     → (get_or bytes 0 0 ≡ k) × Operand (take n (drop 1 bytes))
 opcode_is h k n Operand bytes some s =
     let t = s.1 in
-    let same : get_or bytes 0 0 ∷ take n (drop 1 bytes) ≡ k ∷ t.back = sym (behind_one bytes n some) ∙ t.joined ∙ ap (λ (z : List ℕ). z ++ t.back) t.first in
+    let same : get_or bytes 0 0 ∷ take n (drop 1 bytes) ≡ k ∷ t.back = sym (behind_one bytes n some) ∙ t.joined
+    ∙ ap (λ (z : List ℕ). z ++ t.back) t.first in
     (ap (λ (z : List ℕ). get_or z 0 0) same, subst Operand (sym (ap (λ (z : List ℕ). drop 1 z) same)) t.second)
 
 some_byte : (n : ℕ) (bytes : List ℕ) → UnsignedLeb n bytes → 0 < length bytes
@@ -213,18 +259,23 @@ low_groups z [] s none = absurd s.shape
 low_groups z (a ∷ []) s none = omega (arith, s.shape, none.0 (omega arith))
 low_groups z (a ∷ b ∷ operand) s none = omega (arith, s.shape.1, none.1 (omega arith))
 
-three_bytes : (operand : List ℕ) (n : ℕ) → (3 ≤ length operand → get_or operand 0 0 ≡ 2 → get_or operand 1 0 ≡ 4 → get_or operand 2 0 < 128 → ⊥) → n < 128 → take 3 operand ≡ 2 ∷ 4 ∷ n ∷ [] → ⊥
+three_bytes : (operand : List ℕ) (n : ℕ)
+    → (3 ≤ length operand → get_or operand 0 0 ≡ 2 → get_or operand 1 0 ≡ 4 → get_or operand 2 0 < 128 → ⊥) → n < 128
+    → take 3 operand ≡ 2 ∷ 4 ∷ n ∷ [] → ⊥
 three_bytes [] n none lt same = omega (arith, ap length same)
 three_bytes (a ∷ []) n none lt same = omega (arith, ap length same)
 three_bytes (a ∷ b ∷ []) n none lt same = omega (arith, ap length same)
 three_bytes (a ∷ b ∷ c ∷ operand) n none lt same =
-    none (omega arith) (ap (λ (z : List ℕ). get_or z 0 0) same) (ap (λ (z : List ℕ). get_or z 1 0) same) (omega (arith, lt, ap (λ (z : List ℕ). get_or z 2 0) same))
+    none (omega arith) (ap (λ (z : List ℕ). get_or z 0 0) same) (ap (λ (z : List ℕ). get_or z 1 0) same)
+    (omega (arith, lt, ap (λ (z : List ℕ). get_or z 2 0) same))
 
-pub no_discriminator_here : (operand : List ℕ) → (3 ≤ length operand → get_or operand 0 0 ≡ 2 → get_or operand 1 0 ≡ 4 → get_or operand 2 0 < 128 → ⊥) → NoDiscriminator operand
+pub no_discriminator_here : (operand : List ℕ)
+    → (3 ≤ length operand → get_or operand 0 0 ≡ 2 → get_or operand 1 0 ≡ 4 → get_or operand 2 0 < 128 → ⊥) → NoDiscriminator operand
 no_discriminator_here operand none = record { none = λ n lt same. three_bytes operand n none lt same }
 
 -- The bytes of a discriminator that are four are these.
-four_bytes : (n : ℕ) (rest number size back bytes : List ℕ) → rest ≡ 4 ∷ number → back ≡ size ++ rest → bytes ≡ 0 ∷ back → UnsignedLeb n number → UnsignedLeb (length rest) size → length bytes ≡ 4
+four_bytes : (n : ℕ) (rest number size back bytes : List ℕ) → rest ≡ 4 ∷ number → back ≡ size ++ rest → bytes ≡ 0 ∷ back
+    → UnsignedLeb n number → UnsignedLeb (length rest) size → length bytes ≡ 4
     → (b : ℕ) × (b < 128) × (bytes ≡ 0 ∷ 2 ∷ 4 ∷ b ∷ [])
 four_bytes n rest [] size back bytes r k j u z e = absurd u.shape
 four_bytes n rest number [] back bytes r k j u z e = absurd z.shape
@@ -236,30 +287,36 @@ four_bytes n rest (b ∷ c ∷ number) (s ∷ size) back bytes r k j u z e =
 four_bytes n rest (b ∷ number) (s ∷ t ∷ size) back bytes r k j u z e =
     absurd (omega (arith, e, ap length r, ap length k, ap length j, length-append size rest))
 
-discriminator_bytes : (n : ℕ) (bytes : List ℕ) → Extended 4 (UnsignedLeb n) bytes → length bytes ≡ 4 → (b : ℕ) × (b < 128) × (bytes ≡ 0 ∷ 2 ∷ 4 ∷ b ∷ [])
+discriminator_bytes : (n : ℕ) (bytes : List ℕ) → Extended 4 (UnsignedLeb n) bytes → length bytes ≡ 4 → (b : ℕ) × (b < 128)
+    × (bytes ≡ 0 ∷ 2 ∷ 4 ∷ b ∷ [])
 discriminator_bytes n bytes x e =
     let code = x.1 in
     let all = x.2 in
     let sized = all.second in
     four_bytes n x.0 code.back sized.front all.back bytes (code.joined ∙ ap (λ (z : List ℕ). z ++ code.back) code.first)
-    (sized.joined ∙ ap (λ (z : List ℕ). sized.front ++ z) sized.second) (all.joined ∙ ap (λ (z : List ℕ). z ++ all.back) all.first) code.second sized.first e
+    (sized.joined ∙ ap (λ (z : List ℕ). sized.front ++ z) sized.second) (all.joined ∙ ap (λ (z : List ℕ). z ++ all.back) all.first)
+    code.second sized.first e
 
 -- ---- what begins the bytes where an operation of a kind does
 
-special_begins : (h : HeaderParts) (c : ℕ) (op : Op) (bytes : List ℕ) → 0 < length bytes → StandsFor (views.Special c) op → OpBytes h op (take 1 bytes) → h.opcode_base ≤ get_or bytes 0 0
+special_begins : (h : HeaderParts) (c : ℕ) (op : Op) (bytes : List ℕ) → 0 < length bytes → StandsFor (views.Special c) op
+    → OpBytes h op (take 1 bytes) → h.opcode_base ≤ get_or bytes 0 0
 special_begins h c (ops.Special d) bytes some s b =
     omega (arith, b.0, ap (λ (z : List ℕ). get_or z 0 0) (sym (one_taken bytes some) ∙ b.2))
 special_begins h c _ bytes some s b = absurd s
 
-copy_begins : (h : HeaderParts) (op : Op) (bytes : List ℕ) → 0 < length bytes → StandsFor views.Copy op → OpBytes h op (take 1 bytes) → get_or bytes 0 0 ≡ 1
+copy_begins : (h : HeaderParts) (op : Op) (bytes : List ℕ) → 0 < length bytes → StandsFor views.Copy op → OpBytes h op (take 1 bytes)
+    → get_or bytes 0 0 ≡ 1
 copy_begins h ops.Copy bytes some s b = (opcode_is h 1 0 (Exactly []) bytes some b).0
 copy_begins h _ bytes some s b = absurd s
 
-negate_stmt_begins : (h : HeaderParts) (op : Op) (bytes : List ℕ) → 0 < length bytes → StandsFor views.NegateStmt op → OpBytes h op (take 1 bytes) → get_or bytes 0 0 ≡ 6
+negate_stmt_begins : (h : HeaderParts) (op : Op) (bytes : List ℕ) → 0 < length bytes → StandsFor views.NegateStmt op
+    → OpBytes h op (take 1 bytes) → get_or bytes 0 0 ≡ 6
 negate_stmt_begins h ops.NegateStmt bytes some s b = (opcode_is h 6 0 (Exactly []) bytes some b).0
 negate_stmt_begins h _ bytes some s b = absurd s
 
-const_add_pc_begins : (h : HeaderParts) (op : Op) (bytes : List ℕ) → 0 < length bytes → StandsFor views.ConstAddPc op → OpBytes h op (take 1 bytes) → get_or bytes 0 0 ≡ 8
+const_add_pc_begins : (h : HeaderParts) (op : Op) (bytes : List ℕ) → 0 < length bytes → StandsFor views.ConstAddPc op
+    → OpBytes h op (take 1 bytes) → get_or bytes 0 0 ≡ 8
 const_add_pc_begins h ops.ConstAddPc bytes some s b = (opcode_is h 8 0 (Exactly []) bytes some b).0
 const_add_pc_begins h _ bytes some s b = absurd s
 
@@ -267,34 +324,42 @@ const_add_pc_begins h _ bytes some s b = absurd s
 abbrev NumberBegins : ℕ → List ℕ → Type 0
 NumberBegins k bytes = (get_or bytes 0 0 ≡ k) × ((n : ℕ) × UnsignedLeb n (take 1 (drop 1 bytes)))
 
-advance_pc_begins : (h : HeaderParts) (n : ℕ) (op : Op) (bytes : List ℕ) → 0 < length bytes → StandsFor (views.AdvancePc n) op → OpBytes h op (take 2 bytes) → NumberBegins 2 bytes
+advance_pc_begins : (h : HeaderParts) (n : ℕ) (op : Op) (bytes : List ℕ) → 0 < length bytes → StandsFor (views.AdvancePc n) op
+    → OpBytes h op (take 2 bytes) → NumberBegins 2 bytes
 advance_pc_begins h n (ops.AdvancePc m) bytes some s b = let found = opcode_is h 2 1 (UnsignedLeb m) bytes some b in (found.0, (m, found.1))
 advance_pc_begins h n _ bytes some s b = absurd s
 
-set_file_begins : (h : HeaderParts) (n : ℕ) (op : Op) (bytes : List ℕ) → 0 < length bytes → StandsFor (views.SetFile n) op → OpBytes h op (take 2 bytes) → NumberBegins 4 bytes
+set_file_begins : (h : HeaderParts) (n : ℕ) (op : Op) (bytes : List ℕ) → 0 < length bytes → StandsFor (views.SetFile n) op
+    → OpBytes h op (take 2 bytes) → NumberBegins 4 bytes
 set_file_begins h n (ops.SetFile m) bytes some s b = let found = opcode_is h 4 1 (UnsignedLeb m) bytes some b in (found.0, (m, found.1))
 set_file_begins h n _ bytes some s b = absurd s
 
-set_column_begins : (h : HeaderParts) (n : ℕ) (op : Op) (bytes : List ℕ) → 0 < length bytes → StandsFor (views.SetColumn n) op → OpBytes h op (take 2 bytes) → NumberBegins 5 bytes
+set_column_begins : (h : HeaderParts) (n : ℕ) (op : Op) (bytes : List ℕ) → 0 < length bytes → StandsFor (views.SetColumn n) op
+    → OpBytes h op (take 2 bytes) → NumberBegins 5 bytes
 set_column_begins h n (ops.SetColumn m) bytes some s b = let found = opcode_is h 5 1 (UnsignedLeb m) bytes some b in (found.0, (m, found.1))
 set_column_begins h n _ bytes some s b = absurd s
 
-advance_line_begins : (h : HeaderParts) (size : ℕ) (z : ℤ) (op : Op) (bytes : List ℕ) → 0 < length bytes → StandsFor (views.AdvanceLine z) op → OpBytes h op (take (size + 1) bytes)
+advance_line_begins : (h : HeaderParts) (size : ℕ) (z : ℤ) (op : Op) (bytes : List ℕ) → 0 < length bytes
+    → StandsFor (views.AdvanceLine z) op → OpBytes h op (take (size + 1) bytes)
     → (get_or bytes 0 0 ≡ 3) × ((y : ℤ) × SignedLeb y (take size (drop 1 bytes)))
-advance_line_begins h size z (ops.AdvanceLine y) bytes some s b = let found = opcode_is h 3 size (SignedLeb y) bytes some b in (found.0, (y, found.1))
+advance_line_begins h size z (ops.AdvanceLine y) bytes some s b =
+    let found = opcode_is h 3 size (SignedLeb y) bytes some b in (found.0, (y, found.1))
 advance_line_begins h size z _ bytes some s b = absurd s
 
-discriminator_begins : (h : HeaderParts) (n : ℕ) (op : Op) (bytes : List ℕ) → 4 ≤ length bytes → StandsFor (views.SetDiscriminator n) op → OpBytes h op (take 4 bytes)
+discriminator_begins : (h : HeaderParts) (n : ℕ) (op : Op) (bytes : List ℕ) → 4 ≤ length bytes → StandsFor (views.SetDiscriminator n) op
+    → OpBytes h op (take 4 bytes)
     → (get_or bytes 0 0 ≡ 0) × (NoDiscriminator (drop 1 bytes) → ⊥)
 discriminator_begins h n (ops.SetDiscriminator m) bytes le s b =
     let found = discriminator_bytes m (take 4 bytes) b (length-take-le 4 bytes le) in
-    let same : get_or bytes 0 0 ∷ take 3 (drop 1 bytes) ≡ 0 ∷ 2 ∷ 4 ∷ found.0 ∷ [] = sym (behind_one bytes 3 (omega (arith, le))) ∙ found.2 in
+    let same : get_or bytes 0 0 ∷ take 3 (drop 1 bytes) ≡ 0 ∷ 2 ∷ 4 ∷ found.0 ∷ [] = sym (behind_one bytes 3 (omega (arith, le)))
+    ∙ found.2 in
     (ap (λ (z : List ℕ). get_or z 0 0) same, λ long. long.none found.0 found.1 (ap (λ (z : List ℕ). drop 1 z) same))
 discriminator_begins h n _ bytes le s b = absurd s
 
 -- ---- and so none does
 
--- What tells that none begins the bytes: their first one is no special opcode, and either of no frequent kind, or of one whose operand isn't short.
+-- What tells that none begins the bytes: their first one is no special opcode, and either of no frequent kind, or of one whose
+-- operand isn't short.
 record BeginsLong (h : HeaderParts) (bytes : List ℕ) : Type 0 where
   standard : get_or bytes 0 0 < h.opcode_base
   copy : get_or bytes 0 0 ≡ 1 → ⊥
@@ -309,7 +374,8 @@ record BeginsLong (h : HeaderParts) (bytes : List ℕ) : Type 0 where
 long_number : (k : ℕ) (bytes : List ℕ) → (get_or bytes 0 0 ≡ k → NoByte (drop 1 bytes)) → NumberBegins k bytes → ⊥
 long_number k bytes none found = low_byte found.1.0 (drop 1 bytes) found.1.1 (none found.0)
 
-long_line : (h : HeaderParts) (z : ℤ) (bytes : List ℕ) (size : ℕ) → BeginsLong h bytes → (size ≡ 1) ⊎ (size ≡ 2) → IsFront h (views.AdvanceLine z) (size + 1) bytes → ⊥
+long_line : (h : HeaderParts) (z : ℤ) (bytes : List ℕ) (size : ℕ) → BeginsLong h bytes → (size ≡ 1) ⊎ (size ≡ 2)
+    → IsFront h (views.AdvanceLine z) (size + 1) bytes → ⊥
 long_line h z bytes size long (inl e) front =
     let f = subst (λ (n : ℕ). IsFront h (views.AdvanceLine z) (n + 1) bytes) e front in
     let found = advance_line_begins h 1 z f.op bytes (omega (arith, f.within)) f.stands f.spelled in
@@ -345,8 +411,10 @@ none_long h bytes long (views.SetFile n) size e f =
 none_long h bytes long (views.SetColumn n) size e f =
     let g = sized h (views.SetColumn n) size 2 bytes e f in
     long_number 5 bytes long.set_column (set_column_begins h n g.op bytes (omega (arith, g.within)) g.stands g.spelled)
-none_long h bytes long (views.AdvanceLine z) size (inl e) f = long_line h z bytes 1 long (inl refl) (sized h (views.AdvanceLine z) size 2 bytes e f)
-none_long h bytes long (views.AdvanceLine z) size (inr e) f = long_line h z bytes 2 long (inr refl) (sized h (views.AdvanceLine z) size 3 bytes e f)
+none_long h bytes long (views.AdvanceLine z) size (inl e) f =
+    long_line h z bytes 1 long (inl refl) (sized h (views.AdvanceLine z) size 2 bytes e f)
+none_long h bytes long (views.AdvanceLine z) size (inr e) f =
+    long_line h z bytes 2 long (inr refl) (sized h (views.AdvanceLine z) size 3 bytes e f)
 none_long h bytes long (views.SetDiscriminator n) size e f =
     let g = sized h (views.SetDiscriminator n) size 4 bytes e f in
     let found = discriminator_begins h n g.op bytes g.within g.stands g.spelled in
@@ -370,8 +438,10 @@ pub none_empty : (h : HeaderParts) (bytes : List ℕ) → length bytes ≡ 0 →
 none_empty h bytes empty = λ view size e f. omega (arith, empty, f.within, short_some view size e)
 
 -- by the first byte and what follows it
-long_of : (h : HeaderParts) (k : ℕ) (bytes operand : List ℕ) → get_or bytes 0 0 ≡ k → k < h.opcode_base → operand ≡ drop 1 bytes → (k ≡ 1 → ⊥) → (k ≡ 6 → ⊥) → (k ≡ 8 → ⊥)
-    → (k ≡ 2 → NoByte operand) → (k ≡ 4 → NoByte operand) → (k ≡ 5 → NoByte operand) → (k ≡ 3 → NoTwoBytes operand) → (k ≡ 0 → NoDiscriminator operand) → NoneShort h bytes
+long_of : (h : HeaderParts) (k : ℕ) (bytes operand : List ℕ) → get_or bytes 0 0 ≡ k → k < h.opcode_base → operand ≡ drop 1 bytes
+    → (k ≡ 1 → ⊥) → (k ≡ 6 → ⊥) → (k ≡ 8 → ⊥)
+    → (k ≡ 2 → NoByte operand) → (k ≡ 4 → NoByte operand) → (k ≡ 5 → NoByte operand) → (k ≡ 3 → NoTwoBytes operand)
+    → (k ≡ 0 → NoDiscriminator operand) → NoneShort h bytes
 long_of h k bytes operand is lt same copy negate_stmt const_add_pc advance_pc set_file set_column advance_line discriminator =
     let none = λ (P : List ℕ → Type 0) (p : P operand). subst P same p in
     none_long h bytes (record {
@@ -386,31 +456,40 @@ long_of h k bytes operand is lt same copy negate_stmt const_add_pc advance_pc se
       discriminator = λ e. none NoDiscriminator (discriminator (sym is ∙ e));
     })
 
-pub none_discriminator : (h : HeaderParts) (k : ℕ) (bytes operand : List ℕ) → get_or bytes 0 0 ≡ k → k < h.opcode_base → k ≡ 0 → operand ≡ drop 1 bytes → NoDiscriminator operand → NoneShort h bytes
+pub none_discriminator : (h : HeaderParts) (k : ℕ) (bytes operand : List ℕ) → get_or bytes 0 0 ≡ k → k < h.opcode_base → k ≡ 0
+    → operand ≡ drop 1 bytes → NoDiscriminator operand → NoneShort h bytes
 none_discriminator h k bytes operand is lt e same long =
     long_of h k bytes operand is lt same (λ x. omega (arith, e, x)) (λ x. omega (arith, e, x)) (λ x. omega (arith, e, x))
-    (λ x. absurd (omega (arith, e, x))) (λ x. absurd (omega (arith, e, x))) (λ x. absurd (omega (arith, e, x))) (λ x. absurd (omega (arith, e, x))) (λ x. long)
+    (λ x. absurd (omega (arith, e, x))) (λ x. absurd (omega (arith, e, x))) (λ x. absurd (omega (arith, e, x)))
+    (λ x. absurd (omega (arith, e, x))) (λ x. long)
 
-pub none_advance_pc : (h : HeaderParts) (k : ℕ) (bytes operand : List ℕ) → get_or bytes 0 0 ≡ k → k < h.opcode_base → k ≡ 2 → operand ≡ drop 1 bytes → NoByte operand → NoneShort h bytes
+pub none_advance_pc : (h : HeaderParts) (k : ℕ) (bytes operand : List ℕ) → get_or bytes 0 0 ≡ k → k < h.opcode_base → k ≡ 2
+    → operand ≡ drop 1 bytes → NoByte operand → NoneShort h bytes
 none_advance_pc h k bytes operand is lt e same long =
     long_of h k bytes operand is lt same (λ x. omega (arith, e, x)) (λ x. omega (arith, e, x)) (λ x. omega (arith, e, x))
     (λ x. long) (λ x. long) (λ x. long) (λ x. absurd (omega (arith, e, x))) (λ x. absurd (omega (arith, e, x)))
 
-pub none_set_file : (h : HeaderParts) (k : ℕ) (bytes operand : List ℕ) → get_or bytes 0 0 ≡ k → k < h.opcode_base → k ≡ 4 → operand ≡ drop 1 bytes → NoByte operand → NoneShort h bytes
+pub none_set_file : (h : HeaderParts) (k : ℕ) (bytes operand : List ℕ) → get_or bytes 0 0 ≡ k → k < h.opcode_base → k ≡ 4
+    → operand ≡ drop 1 bytes → NoByte operand → NoneShort h bytes
 none_set_file h k bytes operand is lt e same long =
     long_of h k bytes operand is lt same (λ x. omega (arith, e, x)) (λ x. omega (arith, e, x)) (λ x. omega (arith, e, x))
     (λ x. long) (λ x. long) (λ x. long) (λ x. absurd (omega (arith, e, x))) (λ x. absurd (omega (arith, e, x)))
 
-pub none_set_column : (h : HeaderParts) (k : ℕ) (bytes operand : List ℕ) → get_or bytes 0 0 ≡ k → k < h.opcode_base → k ≡ 5 → operand ≡ drop 1 bytes → NoByte operand → NoneShort h bytes
+pub none_set_column : (h : HeaderParts) (k : ℕ) (bytes operand : List ℕ) → get_or bytes 0 0 ≡ k → k < h.opcode_base → k ≡ 5
+    → operand ≡ drop 1 bytes → NoByte operand → NoneShort h bytes
 none_set_column h k bytes operand is lt e same long =
     long_of h k bytes operand is lt same (λ x. omega (arith, e, x)) (λ x. omega (arith, e, x)) (λ x. omega (arith, e, x))
     (λ x. long) (λ x. long) (λ x. long) (λ x. absurd (omega (arith, e, x))) (λ x. absurd (omega (arith, e, x)))
 
-pub none_advance_line : (h : HeaderParts) (k : ℕ) (bytes operand : List ℕ) → get_or bytes 0 0 ≡ k → k < h.opcode_base → k ≡ 3 → operand ≡ drop 1 bytes → NoTwoBytes operand → NoneShort h bytes
+pub none_advance_line : (h : HeaderParts) (k : ℕ) (bytes operand : List ℕ) → get_or bytes 0 0 ≡ k → k < h.opcode_base → k ≡ 3
+    → operand ≡ drop 1 bytes → NoTwoBytes operand → NoneShort h bytes
 none_advance_line h k bytes operand is lt e same long =
     long_of h k bytes operand is lt same (λ x. omega (arith, e, x)) (λ x. omega (arith, e, x)) (λ x. omega (arith, e, x))
-    (λ x. absurd (omega (arith, e, x))) (λ x. absurd (omega (arith, e, x))) (λ x. absurd (omega (arith, e, x))) (λ x. long) (λ x. absurd (omega (arith, e, x)))
+    (λ x. absurd (omega (arith, e, x))) (λ x. absurd (omega (arith, e, x))) (λ x. absurd (omega (arith, e, x))) (λ x. long)
+    (λ x. absurd (omega (arith, e, x)))
 
-pub none_other : (h : HeaderParts) (k : ℕ) (bytes : List ℕ) → get_or bytes 0 0 ≡ k → k < h.opcode_base → k ≢ 0 → k ≢ 1 → k ≢ 2 → k ≢ 3 → k ≢ 4 → k ≢ 5 → k ≢ 6 → k ≢ 8 → NoneShort h bytes
+pub none_other : (h : HeaderParts) (k : ℕ) (bytes : List ℕ) → get_or bytes 0 0 ≡ k → k < h.opcode_base → k ≢ 0 → k ≢ 1 → k ≢ 2 → k ≢ 3
+    → k ≢ 4 → k ≢ 5 → k ≢ 6 → k ≢ 8 → NoneShort h bytes
 none_other h k bytes is lt n0 n1 n2 n3 n4 n5 n6 n8 =
-    long_of h k bytes (drop 1 bytes) is lt refl n1 n6 n8 (λ x. absurd (n2 x)) (λ x. absurd (n4 x)) (λ x. absurd (n5 x)) (λ x. absurd (n3 x)) (λ x. absurd (n0 x))
+    long_of h k bytes (drop 1 bytes) is lt refl n1 n6 n8 (λ x. absurd (n2 x)) (λ x. absurd (n4 x)) (λ x. absurd (n5 x)) (λ x. absurd (n3 x))
+    (λ x. absurd (n0 x))

@@ -11,7 +11,10 @@ use Rattle.lnt_wire.specs.Numbers.{NumberBytes, number_bytes}
 use Rattle.lnt_wire.specs.Spelled.{HasShortest}
 use Rattle.lnt_header.specs.declared.header.HeaderParts.{HeaderParts}
 use Rattle.lnt_header.specs.declared.op.Op.{Op}
-use Rattle.lnt_header.specs.declared.op.Op.TheVariants.{Special, Copy, AdvancePc, AdvanceLine, SetFile, SetColumn, NegateStmt, SetBasicBlock, ConstAddPc, FixedAdvancePc, SetPrologueEnd, SetEpilogueBegin, SetIsa, UnknownStandard, EndSequence, SetAddress, SetDiscriminator, UnknownExtended}
+use Rattle.lnt_header.specs.declared.op.Op.TheVariants.{Special, Copy, AdvancePc, AdvanceLine, SetFile, SetColumn}
+use Rattle.lnt_header.specs.declared.op.Op.TheVariants.{NegateStmt, SetBasicBlock, ConstAddPc, FixedAdvancePc}
+use Rattle.lnt_header.specs.declared.op.Op.TheVariants.{SetPrologueEnd, SetEpilogueBegin, SetIsa, UnknownStandard}
+use Rattle.lnt_header.specs.declared.op.Op.TheVariants.{EndSequence, SetAddress, SetDiscriminator, UnknownExtended}
 use Rattle.lnt_header.specs.HeaderRules.{HasHeaderNumbers, IsAddressSize}
 use Rattle.lnt_header.specs.Joins.{Each}
 use Rattle.lnt_header.specs.Laws.Shortest.{each_shortest}
@@ -38,16 +41,28 @@ least_exactly : (operand : List ℕ) → Least (Exactly operand)
 least_exactly operand = record { bytes = operand; is = refl; least = λ other p. omega (arith, ap length p) }
 
 least_number : (order : Order) (size n : ℕ) → n < 256 ^ size → Least (NumberBytes order size n)
-least_number order size n fits = record { bytes = number_bytes order size n; is = record { fits = fits; spelled = refl }; least = λ other p. omega (arith, ap length p.spelled) }
+least_number order size n fits = record {
+  bytes = number_bytes order size n;
+  is = record { fits = fits; spelled = refl };
+  least = λ other p. omega (arith, ap length p.spelled);
+}
 
 least_standard : (h : HeaderParts) (k : ℕ) (Operand : List ℕ → Type 0) → k < h.opcode_base → Least Operand → Least (Standard h k Operand)
 least_standard h k Operand low o = record {
   bytes = k ∷ o.bytes;
   is = (low, record { front = k ∷ []; back = o.bytes; first = refl; second = o.is; joined = refl });
-  least = λ other p. omega (arith, ap length p.1.joined, length-append p.1.front p.1.back, ap length p.1.first, o.least p.1.back p.1.second);
+  least = λ other p. omega (
+    arith,
+    ap length p.1.joined,
+    length-append p.1.front p.1.back,
+    ap length p.1.first,
+    o.least p.1.back
+        p.1.second,
+  );
 }
 
-least_extended : wire.SpelledValues → (code : ℕ) (Operand : List ℕ → Type 0) → (o : Least Operand) → suc (length o.bytes) < 2 ^ 64 → Least (Extended code Operand)
+least_extended : wire.SpelledValues → (code : ℕ) (Operand : List ℕ → Type 0) → (o : Least Operand) → suc (length o.bytes) < 2 ^ 64
+    → Least (Extended code Operand)
 least_extended law code Operand o fits =
     let number = law.unsigned (suc (length o.bytes)) fits in
     record {
@@ -69,8 +84,10 @@ least_extended law code Operand o fits =
           let whole = t.2 in
           let behind = whole.second in
           let least = o.least body.back body.second in
-          let size : length rest ≡ suc (length body.back) = ap length body.joined ∙ length-append body.front body.back ∙ ap (λ (z : List ℕ). length z + length body.back) body.first ∙ omega arith in
-          let count = shortest_of_less (suc (length o.bytes)) (length rest) number.0 behind.front (omega (arith, size, least)) number.1 behind.first in
+          let size : length rest ≡ suc (length body.back) = ap length body.joined ∙ length-append body.front body.back
+          ∙ ap (λ (z : List ℕ). length z + length body.back) body.first ∙ omega arith in
+          let count = shortest_of_less (suc (length o.bytes)) (length rest) number.0 behind.front (omega (arith, size, least)) number.1
+          behind.first in
           omega (
             arith,
             least,
@@ -93,12 +110,17 @@ short_address size (inl is) = omega (arith, is)
 short_address size (inr (inl is)) = omega (arith, is)
 short_address size (inr (inr is)) = omega (arith, is)
 
-numbers_spelled : wire.SpelledValues → (numbers : List ℕ) → AllByRecursion (λ n. n < 2 ^ 64) numbers → AllByRecursion (HasShortest UnsignedLeb) numbers
+numbers_spelled : wire.SpelledValues → (numbers : List ℕ) → AllByRecursion (λ n. n < 2 ^ 64) numbers
+    → AllByRecursion (HasShortest UnsignedLeb) numbers
 numbers_spelled law [] fits = tt
 numbers_spelled law (n ∷ numbers) fits = (law.unsigned n fits.0, numbers_spelled law numbers fits.1)
 
 least_op : wire.SpelledValues → (h : HeaderParts) (op : Op) → HasHeaderNumbers h → Admits h op → FitsOp op → Least (OpBytes h op)
-least_op law h (Special c) numbers admits fits = record { bytes = c ∷ []; is = (admits, omega (arith, fits), refl); least = λ other p. omega (arith, ap length p.2) }
+least_op law h (Special c) numbers admits fits = record {
+  bytes = c ∷ [];
+  is = (admits, omega (arith, fits), refl);
+  least = λ other p. omega (arith, ap length p.2);
+}
 least_op law h Copy numbers admits fits = least_standard h 1 (Exactly []) admits (least_exactly [])
 least_op law h (AdvancePc n) numbers admits fits = least_standard h 2 (UnsignedLeb n) admits (least_of UnsignedLeb n (law.unsigned n fits))
 least_op law h (AdvanceLine z) numbers admits fits = least_standard h 3 (SignedLeb z) admits (least_of SignedLeb z (law.signed z fits))
@@ -107,31 +129,44 @@ least_op law h (SetColumn n) numbers admits fits = least_standard h 5 (UnsignedL
 least_op law h NegateStmt numbers admits fits = least_standard h 6 (Exactly []) admits (least_exactly [])
 least_op law h SetBasicBlock numbers admits fits = least_standard h 7 (Exactly []) admits (least_exactly [])
 least_op law h ConstAddPc numbers admits fits = least_standard h 8 (Exactly []) admits (least_exactly [])
-least_op law h (FixedAdvancePc n) numbers admits fits = least_standard h 9 (NumberBytes h.order 2 n) admits (least_number h.order 2 n (omega (arith, fits)))
+least_op law h (FixedAdvancePc n) numbers admits fits =
+    least_standard h 9 (NumberBytes h.order 2 n) admits (least_number h.order 2 n (omega (arith, fits)))
 least_op law h SetPrologueEnd numbers admits fits = least_standard h 10 (Exactly []) admits (least_exactly [])
 least_op law h SetEpilogueBegin numbers admits fits = least_standard h 11 (Exactly []) admits (least_exactly [])
 least_op law h (SetIsa n) numbers admits fits = least_standard h 12 (UnsignedLeb n) admits (least_of UnsignedLeb n (law.unsigned n fits))
 least_op law h (UnknownStandard k operands) numbers admits fits =
-    let one = least_standard h k (Each UnsignedLeb operands) admits.1 (least_of (Each UnsignedLeb) operands (each_shortest UnsignedLeb operands (numbers_spelled law operands fits))) in
+    let one = least_standard h k (Each UnsignedLeb operands) admits.1
+    (least_of (Each UnsignedLeb) operands (each_shortest UnsignedLeb operands (numbers_spelled law operands fits))) in
     record { bytes = one.bytes; is = (admits.0, admits.2, one.is); least = λ other p. one.least other p.2 }
-least_op law h EndSequence numbers admits fits = least_extended law 1 (Exactly []) (least_exactly []) (omega (arith, ap length (least_exactly []).is))
+least_op law h EndSequence numbers admits fits =
+    least_extended law 1 (Exactly []) (least_exactly []) (omega (arith, ap length (least_exactly []).is))
 least_op law h (SetAddress address) numbers admits fits =
     let operand = least_number h.order h.address_size address admits in
     least_extended law 2 (NumberBytes h.order h.address_size address) operand
-    (omega (arith, ap length operand.is.spelled, length-number_bytes h.order h.address_size address, short_address h.address_size numbers.address_size))
+    (omega (
+      arith,
+      ap length operand.is.spelled,
+      length-number_bytes h.order h.address_size address,
+      short_address h.address_size
+          numbers.address_size,
+    ))
 least_op law h (SetDiscriminator n) numbers admits fits =
     let operand = least_of UnsignedLeb n (law.unsigned n fits) in
-    least_extended law 4 (UnsignedLeb n) operand (omega (arith, at_most_ten n operand.bytes (record { spelled = operand.is; shortest = operand.least })))
+    least_extended law 4 (UnsignedLeb n) operand
+    (omega (arith, at_most_ten n operand.bytes (record { spelled = operand.is; shortest = operand.least })))
 least_op law h (UnknownExtended code operand) numbers admits fits =
-    let one = least_extended law code (Exactly operand) (least_exactly operand) (omega (arith, fits.1, ap length (least_exactly operand).is)) in
+    let one = least_extended law code (Exactly operand) (least_exactly operand)
+    (omega (arith, fits.1, ap length (least_exactly operand).is)) in
     record { bytes = one.bytes; is = (admits.0, admits.1, admits.2, omega (arith, fits.0), one.is); least = λ other p. one.least other p.4 }
 
 op_spelled : wire.SpelledValues → (h : HeaderParts) (op : Op) → HasHeaderNumbers h → Admits h op → FitsOp op → HasShortest (OpBytes h) op
 op_spelled law h op numbers admits fits = shortest_of (OpBytes h) op (least_op law h op numbers admits fits)
 
-ops_spelled : wire.SpelledValues → (h : HeaderParts) (ops : List Op) → HasHeaderNumbers h → AllByRecursion (Admits h) ops → AllByRecursion FitsOp ops → AllByRecursion (HasShortest (OpBytes h)) ops
+ops_spelled : wire.SpelledValues → (h : HeaderParts) (ops : List Op) → HasHeaderNumbers h → AllByRecursion (Admits h) ops
+    → AllByRecursion FitsOp ops → AllByRecursion (HasShortest (OpBytes h)) ops
 ops_spelled law h [] numbers admits fits = tt
-ops_spelled law h (op ∷ ops) numbers admits fits = (op_spelled law h op numbers admits.0 fits.0, ops_spelled law h ops numbers admits.1 fits.1)
+ops_spelled law h (op ∷ ops) numbers admits fits =
+    (op_spelled law h op numbers admits.0 fits.0, ops_spelled law h ops numbers admits.1 fits.1)
 
 -- ---- what is spelled
 
@@ -158,10 +193,24 @@ op_allowed h EndSequence x p = (tt, tt)
 op_allowed h (SetAddress address) x p = (p.1.second.fits, tt)
 op_allowed h (SetDiscriminator n) x p = (tt, p.1.second.fits)
 op_allowed h (UnknownExtended code operand) x p =
-    let body = p.4.1 in
-    ((p.0, p.1, p.2), (omega (arith, p.3), omega (arith, p.4.2.second.first.fits, ap length body.joined, length-append body.front body.back, ap length body.first, ap length body.second)))
+    let body = p.4.1 in (
+      (p.0, p.1, p.2),
+      (
+        omega (arith, p.3),
+        omega (
+          arith,
+          p.4.2.second.first.fits,
+          ap length body.joined,
+          length-append body.front body.back,
+          ap length body.first,
+          ap length
+              body.second,
+        ),
+      ),
+    )
 
-ops_allowed : (h : HeaderParts) (ops : List Op) (x : List ℕ) → Each (OpBytes h) ops x → AllByRecursion (Admits h) ops × AllByRecursion FitsOp ops
+ops_allowed : (h : HeaderParts) (ops : List Op) (x : List ℕ) → Each (OpBytes h) ops x → AllByRecursion (Admits h) ops
+    × AllByRecursion FitsOp ops
 ops_allowed h [] x p = (tt, tt)
 ops_allowed h (op ∷ ops) x p =
     let one = op_allowed h op p.front p.first in

@@ -12,7 +12,7 @@ use Rattle.lnt_wire.specs.Reading.{Reads, RefusesField, Refuses, IsCutShort}
 use Rattle.lnt_header.specs.declared.header.HeaderParts.{HeaderParts}
 use Rattle.lnt_header.specs.declared.op.Op.{Op}
 use Rattle.lnt_header.specs.declared.op.Op.TheVariants as ops
-use Rattle.lnt_header.specs.declared.view.OpView.TheVariants as views
+use Rattle.lnt_header.specs.declared.op.OpView.TheVariants as views
 use Rattle.lnt_header.specs.Laws.Readers.{reads_map}
 use Rattle.lnt_ops.specs.Laws.Ops.{tag, standard_tag}
 use Rattle.lnt_ops.specs.OpBytes.{Standard, OpBytes}
@@ -20,10 +20,12 @@ use Rattle.lnt_ops.specs.OpFaults.{IsFirstFault}
 use Rattle.lnt_ops.specs.OpFaults.IsFirstFault.{unsigned_operand, signed_operand, fixed_operand}
 use Rattle.lnt_ops.specs.OpSteps.{BehindBytes, IsFaultBehind, GivesBehind}
 
--- ---- a byte, and what stands behind it
+-- ---- a byte, and what stands after it
 
-pub standard : (h : HeaderParts) (k j : ℕ) (Operand : List ℕ → Type 0) (y : List ℕ) → k ≡ j → k < h.opcode_base → Operand y → Standard h j Operand (k ∷ y)
-standard h k j Operand y e lt p = (omega (arith, e, lt), record { front = j ∷ []; back = y; first = refl; second = p; joined = ap (λ (i : ℕ). i ∷ y) e })
+pub standard : (h : HeaderParts) (k j : ℕ) (Operand : List ℕ → Type 0) (y : List ℕ) → k ≡ j → k < h.opcode_base → Operand y
+    → Standard h j Operand (k ∷ y)
+standard h k j Operand y e lt p =
+    (omega (arith, e, lt), record { front = j ∷ []; back = y; first = refl; second = p; joined = ap (λ (i : ℕ). i ∷ y) e })
 
 pub behind_byte : (k j : ℕ) (Operand : List ℕ → Type 0) (y : List ℕ) → Then (Exactly (j ∷ [])) Operand (k ∷ y) → Operand y
 behind_byte k j Operand y p =
@@ -34,36 +36,75 @@ behind_byte k j Operand y p =
 -- ---- operations without an operand
 
 nothing_read : (h : HeaderParts) (k : ℕ) (op : Op) (at : At) → OpBytes h op (k ∷ []) → Reads (BehindBytes h k) op at at
-nothing_read h k op at p = record { spelling = []; spelled = record { whole = p }; whole = refl; place = sym (add-zero at.place); order = refl }
+nothing_read h k op at p = record {
+  spelling = [];
+  spelled = record { whole = p };
+  whole = refl;
+  place = sym (add-zero at.place);
+  order = refl;
+}
 
 pub gives_copy : (h : HeaderParts) (k : ℕ) (at : At) → k ≡ 1 → k < h.opcode_base → GivesBehind h k views.Copy at at
-gives_copy h k at e lt = record { op = ops.Copy; stands = tt; admitted = omega (arith, e, lt); reads = nothing_read h k ops.Copy at (standard h k 1 (Exactly []) [] e lt refl) }
+gives_copy h k at e lt = record {
+  op = ops.Copy;
+  stands = tt;
+  admitted = omega (arith, e, lt);
+  reads = nothing_read h k ops.Copy at (standard h k 1 (Exactly []) [] e lt refl);
+}
 
 pub gives_negate_stmt : (h : HeaderParts) (k : ℕ) (at : At) → k ≡ 6 → k < h.opcode_base → GivesBehind h k views.NegateStmt at at
-gives_negate_stmt h k at e lt = record { op = ops.NegateStmt; stands = tt; admitted = omega (arith, e, lt); reads = nothing_read h k ops.NegateStmt at (standard h k 6 (Exactly []) [] e lt refl) }
+gives_negate_stmt h k at e lt = record {
+  op = ops.NegateStmt;
+  stands = tt;
+  admitted = omega (arith, e, lt);
+  reads = nothing_read h k ops.NegateStmt at (standard h k 6 (Exactly []) [] e lt refl);
+}
 
 pub gives_set_basic_block : (h : HeaderParts) (k : ℕ) (at : At) → k ≡ 7 → k < h.opcode_base → GivesBehind h k views.SetBasicBlock at at
 gives_set_basic_block h k at e lt =
-    record { op = ops.SetBasicBlock; stands = tt; admitted = omega (arith, e, lt); reads = nothing_read h k ops.SetBasicBlock at (standard h k 7 (Exactly []) [] e lt refl) }
+    record {
+      op = ops.SetBasicBlock;
+      stands = tt;
+      admitted = omega (arith, e, lt);
+      reads = nothing_read h k ops.SetBasicBlock at (standard h k 7 (Exactly []) [] e lt refl);
+    }
 
 pub gives_const_add_pc : (h : HeaderParts) (k : ℕ) (at : At) → k ≡ 8 → k < h.opcode_base → GivesBehind h k views.ConstAddPc at at
-gives_const_add_pc h k at e lt = record { op = ops.ConstAddPc; stands = tt; admitted = omega (arith, e, lt); reads = nothing_read h k ops.ConstAddPc at (standard h k 8 (Exactly []) [] e lt refl) }
+gives_const_add_pc h k at e lt = record {
+  op = ops.ConstAddPc;
+  stands = tt;
+  admitted = omega (arith, e, lt);
+  reads = nothing_read h k ops.ConstAddPc at (standard h k 8 (Exactly []) [] e lt refl);
+}
 
 pub gives_set_prologue_end : (h : HeaderParts) (k : ℕ) (at : At) → k ≡ 10 → k < h.opcode_base → GivesBehind h k views.SetPrologueEnd at at
 gives_set_prologue_end h k at e lt =
-    record { op = ops.SetPrologueEnd; stands = tt; admitted = omega (arith, e, lt); reads = nothing_read h k ops.SetPrologueEnd at (standard h k 10 (Exactly []) [] e lt refl) }
+    record {
+      op = ops.SetPrologueEnd;
+      stands = tt;
+      admitted = omega (arith, e, lt);
+      reads = nothing_read h k ops.SetPrologueEnd at (standard h k 10 (Exactly []) [] e lt refl);
+    }
 
-pub gives_set_epilogue_begin : (h : HeaderParts) (k : ℕ) (at : At) → k ≡ 11 → k < h.opcode_base → GivesBehind h k views.SetEpilogueBegin at at
+pub gives_set_epilogue_begin : (h : HeaderParts) (k : ℕ) (at : At) → k ≡ 11 → k < h.opcode_base
+    → GivesBehind h k views.SetEpilogueBegin at at
 gives_set_epilogue_begin h k at e lt =
-    record { op = ops.SetEpilogueBegin; stands = tt; admitted = omega (arith, e, lt); reads = nothing_read h k ops.SetEpilogueBegin at (standard h k 11 (Exactly []) [] e lt refl) }
+    record {
+      op = ops.SetEpilogueBegin;
+      stands = tt;
+      admitted = omega (arith, e, lt);
+      reads = nothing_read h k ops.SetEpilogueBegin at (standard h k 11 (Exactly []) [] e lt refl);
+    }
 
 -- ---- operations with an operand
 
-operand_read : {X : Type 0} (P : X → List ℕ → Type 0) (v : X) (h : HeaderParts) (k : ℕ) (op : Op) (old new : At) → ((y : List ℕ) → P v y → OpBytes h op (k ∷ y)) → Reads P v old new
+operand_read : {X : Type 0} (P : X → List ℕ → Type 0) (v : X) (h : HeaderParts) (k : ℕ) (op : Op) (old new : At)
+    → ((y : List ℕ) → P v y → OpBytes h op (k ∷ y)) → Reads P v old new
     → Reads (BehindBytes h k) op old new
 operand_read P v h k op old new is r = reads_map P (BehindBytes h k) v op old new (λ y p. record { whole = is y p }) r
 
-pub gives_advance_pc : (h : HeaderParts) (k n : ℕ) (old new : At) → k ≡ 2 → k < h.opcode_base → Reads UnsignedLeb n old new → GivesBehind h k (views.AdvancePc n) old new
+pub gives_advance_pc : (h : HeaderParts) (k n : ℕ) (old new : At) → k ≡ 2 → k < h.opcode_base → Reads UnsignedLeb n old new
+    → GivesBehind h k (views.AdvancePc n) old new
 gives_advance_pc h k n old new e lt r = record {
   op = ops.AdvancePc n;
   stands = refl;
@@ -71,7 +112,8 @@ gives_advance_pc h k n old new e lt r = record {
   reads = operand_read UnsignedLeb n h k (ops.AdvancePc n) old new (λ y p. standard h k 2 (UnsignedLeb n) y e lt p) r;
 }
 
-pub gives_advance_line : (h : HeaderParts) (k : ℕ) (z : ℤ) (old new : At) → k ≡ 3 → k < h.opcode_base → Reads SignedLeb z old new → GivesBehind h k (views.AdvanceLine z) old new
+pub gives_advance_line : (h : HeaderParts) (k : ℕ) (z : ℤ) (old new : At) → k ≡ 3 → k < h.opcode_base → Reads SignedLeb z old new
+    → GivesBehind h k (views.AdvanceLine z) old new
 gives_advance_line h k z old new e lt r = record {
   op = ops.AdvanceLine z;
   stands = refl;
@@ -79,7 +121,8 @@ gives_advance_line h k z old new e lt r = record {
   reads = operand_read SignedLeb z h k (ops.AdvanceLine z) old new (λ y p. standard h k 3 (SignedLeb z) y e lt p) r;
 }
 
-pub gives_set_file : (h : HeaderParts) (k n : ℕ) (old new : At) → k ≡ 4 → k < h.opcode_base → Reads UnsignedLeb n old new → GivesBehind h k (views.SetFile n) old new
+pub gives_set_file : (h : HeaderParts) (k n : ℕ) (old new : At) → k ≡ 4 → k < h.opcode_base → Reads UnsignedLeb n old new
+    → GivesBehind h k (views.SetFile n) old new
 gives_set_file h k n old new e lt r = record {
   op = ops.SetFile n;
   stands = refl;
@@ -87,7 +130,8 @@ gives_set_file h k n old new e lt r = record {
   reads = operand_read UnsignedLeb n h k (ops.SetFile n) old new (λ y p. standard h k 4 (UnsignedLeb n) y e lt p) r;
 }
 
-pub gives_set_column : (h : HeaderParts) (k n : ℕ) (old new : At) → k ≡ 5 → k < h.opcode_base → Reads UnsignedLeb n old new → GivesBehind h k (views.SetColumn n) old new
+pub gives_set_column : (h : HeaderParts) (k n : ℕ) (old new : At) → k ≡ 5 → k < h.opcode_base → Reads UnsignedLeb n old new
+    → GivesBehind h k (views.SetColumn n) old new
 gives_set_column h k n old new e lt r = record {
   op = ops.SetColumn n;
   stands = refl;
@@ -95,17 +139,20 @@ gives_set_column h k n old new e lt r = record {
   reads = operand_read UnsignedLeb n h k (ops.SetColumn n) old new (λ y p. standard h k 5 (UnsignedLeb n) y e lt p) r;
 }
 
-pub gives_fixed_advance_pc : (h : HeaderParts) (k n : ℕ) (old new : At) → k ≡ 9 → k < h.opcode_base → old.order ≡ h.order → Reads (NumberBytes old.order 2) n old new → GivesBehind h k (views.FixedAdvancePc n) old new
+pub gives_fixed_advance_pc : (h : HeaderParts) (k n : ℕ) (old new : At) → k ≡ 9 → k < h.opcode_base → old.order ≡ h.order
+    → Reads (NumberBytes old.order 2) n old new → GivesBehind h k (views.FixedAdvancePc n) old new
 gives_fixed_advance_pc h k n old new e lt order r =
     let s : Reads (NumberBytes h.order 2) n old new = subst (λ (o : Order). Reads (NumberBytes o 2) n old new) order r in
     record {
       op = ops.FixedAdvancePc n;
       stands = refl;
       admitted = omega (arith, e, lt);
-      reads = operand_read (NumberBytes h.order 2) n h k (ops.FixedAdvancePc n) old new (λ y p. standard h k 9 (NumberBytes h.order 2 n) y e lt p) s;
+      reads = operand_read (NumberBytes h.order 2) n h k (ops.FixedAdvancePc n) old new
+          (λ y p. standard h k 9 (NumberBytes h.order 2 n) y e lt p) s;
     }
 
-pub gives_set_isa : (h : HeaderParts) (k n : ℕ) (old new : At) → k ≡ 12 → k < h.opcode_base → Reads UnsignedLeb n old new → GivesBehind h k (views.SetIsa n) old new
+pub gives_set_isa : (h : HeaderParts) (k n : ℕ) (old new : At) → k ≡ 12 → k < h.opcode_base → Reads UnsignedLeb n old new
+    → GivesBehind h k (views.SetIsa n) old new
 gives_set_isa h k n old new e lt r = record {
   op = ops.SetIsa n;
   stands = refl;
@@ -139,8 +186,10 @@ operand_12 : (h : HeaderParts) (op : Op) (y : List ℕ) → tag op ≡ 25 → Op
 operand_12 h (ops.SetIsa n) y t p = (n, behind_byte 12 12 (UnsignedLeb n) y p.1)
 operand_12 h op y t p = absurd (omega arith)
 
-operand_refused : {X : Type 0} {IsFieldSo : Reason → List ℕ → Type 0} (P : X → List ℕ → Type 0) (h : HeaderParts) (k j : ℕ) (old : At) (fault : Fault) → k ≡ j → 0 < j → k < h.opcode_base
-    → ((op : Op) (y : List ℕ) → tag op ≡ 2 * j + 1 → OpBytes h op (j ∷ y) → (v : X) × P v y) → (IsFieldSo fault.reason old.rest → IsFirstFault h fault.reason (k ∷ []) old.rest)
+operand_refused : {X : Type 0} {IsFieldSo : Reason → List ℕ → Type 0} (P : X → List ℕ → Type 0) (h : HeaderParts) (k j : ℕ) (old : At)
+    (fault : Fault) → k ≡ j → 0 < j → k < h.opcode_base
+    → ((op : Op) (y : List ℕ) → tag op ≡ 2 * j + 1 → OpBytes h op (j ∷ y) → (v : X) × P v y)
+    → (IsFieldSo fault.reason old.rest → IsFirstFault h fault.reason (k ∷ []) old.rest)
     → RefusesField IsFieldSo P old fault → Refuses (IsFaultBehind h k) (BehindBytes h k) old fault
 operand_refused P h k j old fault e some lt operand so r = record {
   before = [];
@@ -154,28 +203,42 @@ operand_refused P h k j old fault e some lt operand so r = record {
       r.none found.0 y more found.1 joined;
 }
 
-pub refuses_advance_pc : (h : HeaderParts) (k : ℕ) (old : At) (fault : Fault) → k ≡ 2 → k < h.opcode_base → RefusesField (IsLebFault IsLargeUnsigned) UnsignedLeb old fault
+pub refuses_advance_pc : (h : HeaderParts) (k : ℕ) (old : At) (fault : Fault) → k ≡ 2 → k < h.opcode_base
+    → RefusesField (IsLebFault IsLargeUnsigned) UnsignedLeb old fault
     → Refuses (IsFaultBehind h k) (BehindBytes h k) old fault
-refuses_advance_pc h k old fault e lt r = operand_refused UnsignedLeb h k 2 old fault e (omega arith) lt (operand_2 h) (λ p. unsigned_operand k (inl e) lt refl p) r
+refuses_advance_pc h k old fault e lt r =
+    operand_refused UnsignedLeb h k 2 old fault e (omega arith) lt (operand_2 h) (λ p. unsigned_operand k (inl e) lt refl p) r
 
-pub refuses_advance_line : (h : HeaderParts) (k : ℕ) (old : At) (fault : Fault) → k ≡ 3 → k < h.opcode_base → RefusesField (IsLebFault IsLargeSigned) SignedLeb old fault
+pub refuses_advance_line : (h : HeaderParts) (k : ℕ) (old : At) (fault : Fault) → k ≡ 3 → k < h.opcode_base
+    → RefusesField (IsLebFault IsLargeSigned) SignedLeb old fault
     → Refuses (IsFaultBehind h k) (BehindBytes h k) old fault
-refuses_advance_line h k old fault e lt r = operand_refused SignedLeb h k 3 old fault e (omega arith) lt (operand_3 h) (λ p. signed_operand (omega (arith, e, lt)) (ap (λ (i : ℕ). i ∷ []) e) p) r
+refuses_advance_line h k old fault e lt r =
+    operand_refused SignedLeb h k 3 old fault e (omega arith) lt (operand_3 h)
+    (λ p. signed_operand (omega (arith, e, lt)) (ap (λ (i : ℕ). i ∷ []) e) p) r
 
-pub refuses_set_file : (h : HeaderParts) (k : ℕ) (old : At) (fault : Fault) → k ≡ 4 → k < h.opcode_base → RefusesField (IsLebFault IsLargeUnsigned) UnsignedLeb old fault
+pub refuses_set_file : (h : HeaderParts) (k : ℕ) (old : At) (fault : Fault) → k ≡ 4 → k < h.opcode_base
+    → RefusesField (IsLebFault IsLargeUnsigned) UnsignedLeb old fault
     → Refuses (IsFaultBehind h k) (BehindBytes h k) old fault
-refuses_set_file h k old fault e lt r = operand_refused UnsignedLeb h k 4 old fault e (omega arith) lt (operand_4 h) (λ p. unsigned_operand k (inr (inl e)) lt refl p) r
+refuses_set_file h k old fault e lt r =
+    operand_refused UnsignedLeb h k 4 old fault e (omega arith) lt (operand_4 h) (λ p. unsigned_operand k (inr (inl e)) lt refl p) r
 
-pub refuses_set_column : (h : HeaderParts) (k : ℕ) (old : At) (fault : Fault) → k ≡ 5 → k < h.opcode_base → RefusesField (IsLebFault IsLargeUnsigned) UnsignedLeb old fault
+pub refuses_set_column : (h : HeaderParts) (k : ℕ) (old : At) (fault : Fault) → k ≡ 5 → k < h.opcode_base
+    → RefusesField (IsLebFault IsLargeUnsigned) UnsignedLeb old fault
     → Refuses (IsFaultBehind h k) (BehindBytes h k) old fault
-refuses_set_column h k old fault e lt r = operand_refused UnsignedLeb h k 5 old fault e (omega arith) lt (operand_5 h) (λ p. unsigned_operand k (inr (inr (inl e))) lt refl p) r
+refuses_set_column h k old fault e lt r =
+    operand_refused UnsignedLeb h k 5 old fault e (omega arith) lt (operand_5 h) (λ p. unsigned_operand k (inr (inr (inl e))) lt refl p) r
 
-pub refuses_fixed_advance_pc : (h : HeaderParts) (k : ℕ) (old : At) (fault : Fault) → k ≡ 9 → k < h.opcode_base → old.order ≡ h.order → RefusesField (IsCutShort 2) (NumberBytes old.order 2) old fault
+pub refuses_fixed_advance_pc : (h : HeaderParts) (k : ℕ) (old : At) (fault : Fault) → k ≡ 9 → k < h.opcode_base → old.order ≡ h.order
+    → RefusesField (IsCutShort 2) (NumberBytes old.order 2) old fault
     → Refuses (IsFaultBehind h k) (BehindBytes h k) old fault
 refuses_fixed_advance_pc h k old fault e lt order r =
-    let s : RefusesField (IsCutShort 2) (NumberBytes h.order 2) old fault = subst (λ (o : Order). RefusesField (IsCutShort 2) (NumberBytes o 2) old fault) order r in
-    operand_refused (NumberBytes h.order 2) h k 9 old fault e (omega arith) lt (operand_9 h) (λ p. fixed_operand p.reason_is (omega (arith, e, lt)) (ap (λ (i : ℕ). i ∷ []) e) p.short) s
+    let s : RefusesField (IsCutShort 2) (NumberBytes h.order 2) old fault = subst
+    (λ (o : Order). RefusesField (IsCutShort 2) (NumberBytes o 2) old fault) order r in
+    operand_refused (NumberBytes h.order 2) h k 9 old fault e (omega arith) lt (operand_9 h)
+    (λ p. fixed_operand p.reason_is (omega (arith, e, lt)) (ap (λ (i : ℕ). i ∷ []) e) p.short) s
 
-pub refuses_set_isa : (h : HeaderParts) (k : ℕ) (old : At) (fault : Fault) → k ≡ 12 → k < h.opcode_base → RefusesField (IsLebFault IsLargeUnsigned) UnsignedLeb old fault
+pub refuses_set_isa : (h : HeaderParts) (k : ℕ) (old : At) (fault : Fault) → k ≡ 12 → k < h.opcode_base
+    → RefusesField (IsLebFault IsLargeUnsigned) UnsignedLeb old fault
     → Refuses (IsFaultBehind h k) (BehindBytes h k) old fault
-refuses_set_isa h k old fault e lt r = operand_refused UnsignedLeb h k 12 old fault e (omega arith) lt (operand_12 h) (λ p. unsigned_operand k (inr (inr (inr e))) lt refl p) r
+refuses_set_isa h k old fault e lt r =
+    operand_refused UnsignedLeb h k 12 old fault e (omega arith) lt (operand_12 h) (λ p. unsigned_operand k (inr (inr (inr e))) lt refl p) r

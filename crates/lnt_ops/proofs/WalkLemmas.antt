@@ -5,7 +5,7 @@ use Rattle.lnt_wire.specs.declared.fault.Fault.{Fault}
 use Rattle.lnt_wire.specs.declared.format.Order.{Order}
 use Rattle.lnt_wire.specs.Reading.{Refuses}
 use Rattle.lnt_header.specs.declared.header.HeaderParts.{HeaderParts}
-use Rattle.lnt_header.specs.declared.view.OpView.{OpView}
+use Rattle.lnt_header.specs.declared.op.OpView.{OpView}
 use Rattle.lnt_ops.specs.Laws.Programs.{op_long}
 use Rattle.lnt_ops.specs.OpBytes.{OpBytes}
 use Rattle.lnt_ops.specs.OpFaults.{IsOpFault, IsFirstFault}
@@ -18,13 +18,31 @@ ends_failed walk e = record { ended = inl e; unchanged = refl }
 pub ends_empty : (walk : Walk) → length walk.at.rest ≡ 0 → Ends walk walk
 ends_empty walk e = record { ended = inr e; unchanged = refl }
 
-pub steps_on : (view : OpView) (old new : Walk) → old.failed ≡ false → new.failed ≡ false → new.header ≡ old.header → GivesOp old.header view old.at new.at → Steps view old new
-steps_on view old new going goes_on header g = record { going = going; goes_on = goes_on; header_is = header; gives = g; shorter = op_long old.header view old.at new.at g }
+pub steps_on : (view : OpView) (old new : Walk) → old.failed ≡ false → new.failed ≡ false → new.header ≡ old.header
+    → GivesOp old.header view old.at new.at → Steps view old new
+steps_on view old new going goes_on header g = record {
+  going = going;
+  goes_on = goes_on;
+  header_is = header;
+  gives = g;
+  shorter = op_long old.header view old.at new.at g;
+}
 
-pub fails_here : (fault : Fault) (old new : Walk) → old.failed ≡ false → new.failed ≡ true → new.header ≡ old.header → new.at ≡ old.at → 0 < length old.at.rest
-    → Refuses (IsOpFault old.header.address_size) (OpBytes old.header) old.at fault → Refuses (IsFirstFault old.header) (OpBytes old.header) old.at fault → Fails fault old new
-fails_here fault old new going failed header at some r t = record { going = going; failed = failed; header_is = header; at_is = at; some = some; refuses = r; first = t }
+pub fails_here : (fault : Fault) (old new : Walk) → old.failed ≡ false → new.failed ≡ true → new.header ≡ old.header → new.at ≡ old.at
+    → 0 < length old.at.rest
+    → Refuses (IsOpFault old.header.address_size) (OpBytes old.header) old.at fault
+    → Refuses (IsFirstFault old.header) (OpBytes old.header) old.at fault → Fails fault old new
+fails_here fault old new going failed header at some r t = record {
+  going = going;
+  failed = failed;
+  header_is = header;
+  at_is = at;
+  some = some;
+  refuses = r;
+  first = t;
+}
 
 -- an operation leaves the order of the bytes
-pub order_kept : (h : HeaderParts) (view : OpView) (old new : At) (order : Order) → GivesOp h view old new → old.order ≡ order → new.order ≡ order
+pub order_kept : (h : HeaderParts) (view : OpView) (old new : At) (order : Order) → GivesOp h view old new → old.order ≡ order
+    → new.order ≡ order
 order_kept h view old new order g e = g.reads.order ∙ e

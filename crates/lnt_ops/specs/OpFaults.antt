@@ -10,26 +10,32 @@ use Rattle.lnt_header.specs.FieldFaults.{IsCutField, IsLargeLeb, IsWrongLength}
 use Rattle.lnt_header.specs.Joins.{Each}
 use Rattle.lnt_header.specs.OpRules.{standard_length}
 
--- A field is cut, a number is out of range, or a length behind a zero byte is none that its operation fills.
+-- A field is cut, a number is out of range, or a length after a zero byte is none that its operation fills.
 pub data IsOpFault (address_size : ℕ) (reason : Reason) (before left : List ℕ) : Type 0 where
   cut_field : reason ≡ Truncated → IsCutField before left → IsOpFault address_size reason before left
   large_number : reason ≡ LebTooLarge → IsLargeLeb left → IsOpFault address_size reason before left
-  wrong_length : (earlier : List ℕ) → reason ≡ ExtendedLength → before ≡ earlier ++ 0 ∷ [] → IsWrongLength address_size left → IsOpFault address_size reason before left
+  wrong_length : (earlier : List ℕ) → reason ≡ ExtendedLength → before ≡ earlier ++ 0 ∷ [] → IsWrongLength address_size left
+      → IsOpFault address_size reason before left
 
 -- the standard opcodes up to 12 with an unsigned LEB128 as operand
 abbrev pub TakesUnsigned : ℕ → Type 0
 TakesUnsigned k = (k ≡ 2) ⊎ (k ≡ 4) ⊎ (k ≡ 5) ⊎ (k ≡ 12)
 
--- The first field of an operation that isn't there, by the fields of the operation before it. Where the bytes that a length counts are all there, they are judged as one.
+-- The first field of an operation that isn't there, by the fields of the operation before it. Where the bytes that a length
+-- counts are all there, they are judged as one.
 pub data IsFirstFault (h : HeaderParts) (reason : Reason) (before left : List ℕ) : Type 0 where
   no_opcode : reason ≡ Truncated → before ≡ [] → left ≡ [] → IsFirstFault h reason before left
-  unsigned_operand : (k : ℕ) → TakesUnsigned k → k < h.opcode_base → before ≡ k ∷ [] → IsLebFault IsLargeUnsigned reason left → IsFirstFault h reason before left
+  unsigned_operand : (k : ℕ) → TakesUnsigned k → k < h.opcode_base → before ≡ k ∷ [] → IsLebFault IsLargeUnsigned reason left
+      → IsFirstFault h reason before left
   signed_operand : 3 < h.opcode_base → before ≡ 3 ∷ [] → IsLebFault IsLargeSigned reason left → IsFirstFault h reason before left
   fixed_operand : reason ≡ Truncated → 9 < h.opcode_base → before ≡ 9 ∷ [] → length left < 2 → IsFirstFault h reason before left
-  unknown_operand : (k : ℕ) (operands spelling : List ℕ) → 13 ≤ k → k < h.opcode_base → Each UnsignedLeb operands spelling → length operands < standard_length h k → before ≡ k ∷ spelling
+  unknown_operand : (k : ℕ) (operands spelling : List ℕ) → 13 ≤ k → k < h.opcode_base → Each UnsignedLeb operands spelling
+      → length operands < standard_length h k → before ≡ k ∷ spelling
       → IsLebFault IsLargeUnsigned reason left → IsFirstFault h reason before left
   no_length : before ≡ 0 ∷ [] → IsLebFault IsLargeUnsigned reason left → IsFirstFault h reason before left
-  cut_counted : (n : ℕ) (spelling : List ℕ) → reason ≡ Truncated → UnsignedLeb n spelling → before ≡ 0 ∷ spelling → length left < n → IsFirstFault h reason before left
+  cut_counted : (n : ℕ) (spelling : List ℕ) → reason ≡ Truncated → UnsignedLeb n spelling → before ≡ 0 ∷ spelling → length left < n
+      → IsFirstFault h reason before left
   wrong_counted : reason ≡ ExtendedLength → before ≡ 0 ∷ [] → IsWrongLength h.address_size left → IsFirstFault h reason before left
-  large_counted : (spelling operand rest : List ℕ) → reason ≡ LebTooLarge → UnsignedLeb (length operand + 1) spelling → before ≡ 0 ∷ (spelling ++ 4 ∷ []) → left ≡ operand ++ rest → IsLeb operand
+  large_counted : (spelling operand rest : List ℕ) → reason ≡ LebTooLarge → UnsignedLeb (length operand + 1) spelling
+      → before ≡ 0 ∷ (spelling ++ 4 ∷ []) → left ≡ operand ++ rest → IsLeb operand
       → IsLargeUnsigned operand → IsFirstFault h reason before left

@@ -5,8 +5,8 @@ use Rattle.lnt_wire.specs.Leb128.{UnsignedLeb}
 use Rattle.lnt_wire.specs.declared.format.Order.{Order}
 use Rattle.lnt_header.specs.declared.header.HeaderParts.{HeaderParts}
 use Rattle.lnt_header.specs.declared.op.Op.{Op}
-use Rattle.lnt_header.specs.declared.view.OpView.{OpView}
-use Rattle.lnt_header.specs.declared.view.Operands.{Operands}
+use Rattle.lnt_header.specs.declared.op.OpView.{OpView}
+use Rattle.lnt_header.specs.declared.op.Operands.{Operands}
 use Rattle.lnt_header.specs.Joins.{Each}
 use Rattle.lnt_header.specs.OpRules.{Admits}
 use Rattle.lnt_header.specs.OpViews.{AreOperands, StandsFor}
@@ -21,15 +21,17 @@ pub record IsOpOf (size : ℕ) (view : OpView) : Type 0 where
   pub stands : StandsFor view op
   pub admitted : Admits header op
 
--- The operation that the view stands for was added in its shortest spelling, as it is in each unit whose numbers have this order, whose addresses have this size, and whose header admits it.
+-- The operation that the view stands for was added in its shortest spelling, as it is in each unit whose numbers have this order,
+-- whose addresses have this size, and whose header admits it.
 pub record AddsView (order : Order) (size : ℕ) (view : OpView) (old new : List ℕ) : Type 0 where
-  pub adds : (h : HeaderParts) (op : Op) → h.order ≡ order → h.address_size ≡ size → StandsFor view op → Admits h op → Appends (OpBytes h) op old new
+  pub adds : (h : HeaderParts) (op : Op) → h.order ≡ order → h.address_size ≡ size → StandsFor view op → Admits h op
+      → Appends (OpBytes h) op old new
 
 -- The numbers that the bytes spell were added, each in its shortest spelling.
 pub record AddsSpelled (bytes old new : List ℕ) : Type 0 where
   pub adds : (numbers : List ℕ) → Each UnsignedLeb numbers bytes → Appends (Each UnsignedLeb) numbers old new
 
--- The code was added, and behind it the numbers that the operands are.
+-- The code was added, and after it the numbers that the operands are.
 pub record AddsOperands (code : ℕ) (operands : Operands) (old new : List ℕ) : Type 0 where
   pub adds : (numbers : List ℕ) → AreOperands operands numbers → Appends (Coded code (Each UnsignedLeb)) numbers old new
 

@@ -3,7 +3,7 @@ use Rattle.std.specs.Prelude.{◌≡◌, ℕ, List, [], ◌∷◌, ◌++◌}
 use Rattle.lnt_wire.specs.Leb128.{UnsignedLeb}
 use Rattle.lnt_ops.specs.OpBytes.{Extended}
 
--- a code, and the operand behind it
+-- a code, and the operand after it
 pub record Coded {X : Type 0} (code : ℕ) (Operand : X → List ℕ → Type 0) (x : X) (bytes : List ℕ) : Type 0 where
   pub operand : List ℕ
   pub spelled : Operand x operand

@@ -11,7 +11,7 @@ use Rattle.lnt_wire.specs.Reading.{Reads}
 use Rattle.lnt_header.specs.declared.header.HeaderParts.{HeaderParts}
 use Rattle.lnt_header.specs.declared.op.Op.{Op}
 use Rattle.lnt_header.specs.declared.op.Op.TheVariants.{EndSequence, SetAddress, SetDiscriminator, UnknownExtended}
-use Rattle.lnt_header.specs.declared.view.OpView.{OpView}
+use Rattle.lnt_header.specs.declared.op.OpView.{OpView}
 use Rattle.lnt_header.specs.FieldFaults.{IsWrongOperand}
 use Rattle.lnt_header.specs.Joins.{Each}
 use Rattle.lnt_header.specs.OpRules.{Admits}
@@ -19,17 +19,17 @@ use Rattle.lnt_header.specs.OpViews.{StandsFor}
 use Rattle.lnt_ops.specs.OpBytes.{OpBytes}
 use Rattle.lnt_ops.specs.OpFaults.{IsFirstFault}
 
--- ---- behind the first byte
+-- ---- after the first byte
 
--- the bytes of an operation behind its first byte
+-- the bytes of an operation after its first byte
 pub record BehindBytes (h : HeaderParts) (opcode : ℕ) (op : Op) (bytes : List ℕ) : Type 0 where
   pub whole : OpBytes h op (opcode ∷ bytes)
 
--- the reasons for which no operation is read behind its first byte
+-- the reasons for which no operation is read after its first byte
 pub record IsFaultBehind (h : HeaderParts) (opcode : ℕ) (reason : Reason) (before left : List ℕ) : Type 0 where
   pub whole : IsFirstFault h reason (opcode ∷ before) left
 
--- a read of an operation behind its first byte
+-- a read of an operation after its first byte
 pub record GivesBehind (h : HeaderParts) (opcode : ℕ) (view : OpView) (old new : At) : Type 0 where
   pub op : Op
   pub stands : StandsFor view op
@@ -73,8 +73,11 @@ pub record GivesCounted (h : HeaderParts) (view : OpView) (bytes : List ℕ) : T
   pub admitted : Admits h op
   pub spelled : CountedBytes h op bytes
 
--- The bytes that a length counts, from the place `start` on, are no operation: they don't fit the length, which stands at its own place, or they are a discriminator that is out of range.
+-- The bytes that a length counts, from the place `start` on, are no operation: they don't fit the length, which stands at its own
+-- place, or they are a discriminator that is out of range.
 pub data IsCountedFault (address_size length_place start : ℕ) (fault : Fault) (bytes : List ℕ) : Type 0 where
-  wrong_operand : fault.reason ≡ ExtendedLength → fault.place ≡ length_place → IsWrongOperand address_size bytes → IsCountedFault address_size length_place start fault bytes
-  large_discriminator : (operand : List ℕ) → fault.reason ≡ LebTooLarge → fault.place ≡ start + 1 → bytes ≡ 4 ∷ operand → IsLeb operand → IsLargeUnsigned operand
+  wrong_operand : fault.reason ≡ ExtendedLength → fault.place ≡ length_place → IsWrongOperand address_size bytes
+      → IsCountedFault address_size length_place start fault bytes
+  large_discriminator : (operand : List ℕ) → fault.reason ≡ LebTooLarge → fault.place ≡ start + 1 → bytes ≡ 4 ∷ operand → IsLeb operand
+      → IsLargeUnsigned operand
       → IsCountedFault address_size length_place start fault bytes

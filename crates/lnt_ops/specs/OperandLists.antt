@@ -2,7 +2,7 @@
 use Rattle.std.specs.Prelude.{◌≡◌, ℕ, List, ◌++◌}
 use Rattle.lnt_wire.specs.At.{At}
 use Rattle.lnt_wire.specs.Leb128.{UnsignedLeb}
-use Rattle.lnt_header.specs.declared.view.Operands.{Operands}
+use Rattle.lnt_header.specs.declared.op.Operands.{Operands}
 use Rattle.lnt_header.specs.Joins.{Each}
 use Rattle.lnt_header.specs.OpViews.{AreOperands}
 

@@ -1,4 +1,4 @@
--- Programs: operations one behind another (DWARF 5, section 6.2.5).
+-- Programs: operations one after another (DWARF 5, section 6.2.5).
 use Rattle.std.specs.Prelude.{◌≡◌, ℕ, ◌+◌, List, ◌++◌, length}
 use Rattle.std.specs.List.{AllByRecursion}
 use Rattle.lnt_wire.specs.At.{At}
@@ -6,14 +6,14 @@ use Rattle.lnt_wire.specs.declared.fault.Fault.{Fault}
 use Rattle.lnt_wire.specs.declared.fault.Reason.{Reason}
 use Rattle.lnt_header.specs.declared.header.HeaderParts.{HeaderParts}
 use Rattle.lnt_header.specs.declared.op.Op.{Op}
-use Rattle.lnt_header.specs.declared.view.OpView.{OpView}
+use Rattle.lnt_header.specs.declared.op.OpView.{OpView}
 use Rattle.lnt_header.specs.Joins.{Each}
 use Rattle.lnt_header.specs.OpRules.{Admits}
 use Rattle.lnt_header.specs.OpViews.{StandsFor}
 use Rattle.lnt_ops.specs.OpBytes.{OpBytes}
 use Rattle.lnt_ops.specs.OpFaults.{IsOpFault, IsFirstFault}
 
--- The fault is that of an operation that isn't there behind some that are.
+-- The fault is that of an operation that isn't there after some that are.
 pub record IsFirstIn (h : HeaderParts) (reason : Reason) (before left : List ℕ) : Type 0 where
   pub ops : List Op
   pub front : List ℕ
@@ -22,7 +22,7 @@ pub record IsFirstIn (h : HeaderParts) (reason : Reason) (before left : List ℕ
   pub joined : before ≡ front ++ fields
   pub fault : IsFirstFault h reason fields left
 
--- No operations spell the whole program, which stands at a place, and the fault says why: its own place lies behind the bytes `before`.
+-- No operations spell the whole program, which stands at a place, and the fault says why: its own place lies after the bytes `before`.
 pub record BrokenProgram (h : HeaderParts) (place : ℕ) (program : List ℕ) (fault : Fault) : Type 0 where
   pub before : List ℕ
   pub left : List ℕ

@@ -3,8 +3,9 @@ use Rattle.std.specs.Prelude.{◌≡◌, ◌⊎◌, ℕ, ◌<◌, ◌≤◌, ℤ
 use Rattle.lnt_wire.specs.Leb128.{signed_groups}
 use Rattle.lnt_header.specs.declared.header.HeaderParts.{HeaderParts}
 use Rattle.lnt_header.specs.declared.op.Op.{Op}
-use Rattle.lnt_header.specs.declared.view.OpView.{OpView}
-use Rattle.lnt_header.specs.declared.view.OpView.TheVariants.{Special, Copy, AdvancePc, AdvanceLine, SetFile, SetColumn, NegateStmt, ConstAddPc, SetDiscriminator}
+use Rattle.lnt_header.specs.declared.op.OpView.{OpView}
+use Rattle.lnt_header.specs.declared.op.OpView.TheVariants.{Special, Copy, AdvancePc, AdvanceLine, SetFile, SetColumn}
+use Rattle.lnt_header.specs.declared.op.OpView.TheVariants.{NegateStmt, ConstAddPc, SetDiscriminator}
 use Rattle.lnt_header.specs.OpRules.{Admits}
 use Rattle.lnt_header.specs.OpViews.{StandsFor}
 use Rattle.lnt_ops.specs.OpBytes.{OpBytes}

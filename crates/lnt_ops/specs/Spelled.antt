@@ -3,7 +3,9 @@ use Rattle.std.specs.Prelude.{◌+◌, ◌^◌, ◌<◌, length, FitsSigned}
 use Rattle.std.specs.Int.{w64}
 use Rattle.std.specs.List.{AllByRecursion}
 use Rattle.lnt_header.specs.declared.op.Op.{Op}
-use Rattle.lnt_header.specs.declared.op.Op.TheVariants.{Special, AdvancePc, AdvanceLine, SetFile, SetColumn, FixedAdvancePc, SetIsa, UnknownStandard, SetDiscriminator, UnknownExtended}
+use Rattle.lnt_header.specs.declared.op.Op.TheVariants.{Special, AdvancePc, AdvanceLine, SetFile, SetColumn}
+use Rattle.lnt_header.specs.declared.op.Op.TheVariants.{FixedAdvancePc, SetIsa, UnknownStandard, SetDiscriminator}
+use Rattle.lnt_header.specs.declared.op.Op.TheVariants.{UnknownExtended}
 
 -- The numbers of an operation are ones that its opcode and its operands can say. An `Op` holds no others.
 abbrev pub FitsOp : Op → Type 0

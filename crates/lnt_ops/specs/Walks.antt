@@ -4,7 +4,7 @@ use Rattle.lnt_wire.specs.At.{At}
 use Rattle.lnt_wire.specs.declared.fault.Fault.{Fault}
 use Rattle.lnt_wire.specs.Reading.{Refuses}
 use Rattle.lnt_header.specs.declared.header.HeaderParts.{HeaderParts}
-use Rattle.lnt_header.specs.declared.view.OpView.{OpView}
+use Rattle.lnt_header.specs.declared.op.OpView.{OpView}
 use Rattle.lnt_ops.specs.OpBytes.{OpBytes}
 use Rattle.lnt_ops.specs.OpFaults.{IsOpFault, IsFirstFault}
 use Rattle.lnt_ops.specs.OpReading.{GivesOp}

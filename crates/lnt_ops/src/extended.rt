@@ -9,7 +9,7 @@ ghost use Rattle.lnt_ops.specs.OpSteps.{BehindBytes, IsFaultBehind, GivesBehind,
 use lnt_header::{Header, OpView};
 use lnt_wire::{Cursor, Fault, Reason};
 
-/// An extended operation behind its zero byte: a length, and as many bytes, which are a code and its operand.
+/// An extended operation after its zero byte: a length, and as many bytes, which are a code and its operand.
 #[inline(never)]
 #[tactic(auto, using(crate::proofs::ExtendedReaders::gives_extended, crate::proofs::ExtendedReaders::refuses_length, crate::proofs::ExtendedReaders::refuses_cut, crate::proofs::ExtendedReaders::refuses_counted))]
 pub(crate) fn read_extended<'a>(

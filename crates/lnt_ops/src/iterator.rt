@@ -11,13 +11,13 @@ use std::marker::Model;
 
 /// The operations of a program in order, each from its own bytes (DWARF 5, section 6.2.5). It takes no memory.
 ///
-/// It ends behind the last operation, or after its first fault, which is that of [`read_op`]. So it gives at most as
+/// It ends after the last operation, or after its first fault, which is that of [`read_op`]. So it gives at most as
 /// many items as the program has bytes.
 #[derive(Drop)]
 pub struct Ops<'a> {
     header: &'a Header,
     rest: &'a [u8],
-    // the offset behind the last byte
+    // the offset after the last byte
     end: u64,
     failed: bool,
 }
@@ -44,7 +44,7 @@ impl<'a> Ops<'a> {
     ghost use Rattle.lnt_ops.specs.Short.{NoneShort};
 
     /// The operations of a program in a unit with this header. The program's first byte stands at the offset `place`
-    /// of the section, and the offset behind its last byte is below 2^64.
+    /// of the section, and the offset after its last byte is below 2^64.
     pub fn new(header: &'a Header, program: &'a [u8], place: u64) -> Ops<'a>
         requires { place + length program.now < 2 ^ 64 }
         ensures header { result.header ≡ header.entry.now }

@@ -15,7 +15,7 @@ ghost use Rattle.lnt_ops.specs.OpSpellings.{Coded, ExtendedCoded, ExtendedStart}
 use lnt_header::{Header, Op, OpView, Operands};
 use lnt_wire::{Cursor, EncodeFault, Order, put_sleb, put_u16, put_u32, put_u64, put_uleb};
 
-/// Adds the bytes of the operations in a unit with the header, one behind the other, each LEB128 in its shortest
+/// Adds the bytes of the operations in a unit with the header, one after the other, each LEB128 in its shortest
 /// spelling. The caller sees to it that the header admits each of them (`Header::admits`). The only refusal is
 /// `Memory`, and then `out` is as before.
 #[tactic(auto, using(crate::proofs::OpPutLemmas::taken_back))]

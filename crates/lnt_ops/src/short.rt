@@ -50,7 +50,7 @@ fn short_number(bytes: &[u8]) -> Option<u64>
     None
 }
 
-// The discriminator that one byte spells, behind the length 2 and the code 4.
+// The discriminator that one byte spells, after the length 2 and the code 4.
 #[inline(always)]
 #[tactic(auto, using(crate::proofs::ShortLemmas::discriminator_taken, crate::proofs::ShortLemmas::no_discriminator_here))]
 fn short_discriminator(bytes: &[u8]) -> Option<u64>

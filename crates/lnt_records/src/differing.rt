@@ -16,7 +16,7 @@ use crate::passing::pass_spans;
 use crate::remaining::Remaining;
 use crate::window::Window;
 use lnt_spans::{Differences, Merge, Position, SpanList, SpanSlice, SpanSource, Version};
-use lnt_wire::{Source, SourceStop};
+use lnt_wire::{Source, Stop};
 use std::alloc::Global;
 
 /// What a comparison at every position found.
@@ -43,16 +43,16 @@ pub fn compare_all<S: SpanSource + Drop, T: Source>(
     alloc: Global,
     table: &mut T,
     spans: S,
-) -> Result<Differing<S>, SourceStop>
+) -> Result<Differing<S>, Stop>
     requires failures { T.failures table.old < 2 ^ 64 - 1 }
     requires spans { (list : List Span) × S.to_come spans list × AreInOrder list }
     ensures ok { IfOk result (λ differing. (list : List Span) (section : Place → Option Answer) → S.to_come spans list → AreInOrder list → ((p : Place) → span_answer list p ≡ section p)
         → IfSome (T.remaining table.old) (λ bytes. IsDiffering ⟦<Remaining<S> as SpanSource>⟧.to_come ⟦<SpanList as SpanSource>⟧.to_come bytes section differing)) }
     ensures started { IfOk result (λ differing. IsStarted ⟦<Remaining<S> as SpanSource>⟧.to_come ⟦<SpanList as SpanSource>⟧.to_come differing) }
-    ensures read { IsErrOf result SourceStop.Read → T.failures table.new ≡ T.failures table.old + 1 }
-    ensures no_failure { result ≢ Err SourceStop.Read → T.failures table.new ≡ T.failures table.old }
-    ensures too_long { IsErrOf result SourceStop.TooLong → IsTrue (T.too_long table.new) }
-    ensures more { IsErrOf result SourceStop.TooLong → HasMoreThan (T.remaining table.old) (T.left table.old) }
+    ensures read { IsErrOf result Stop.Read → T.failures table.new ≡ T.failures table.old + 1 }
+    ensures no_failure { result ≢ Err Stop.Read → T.failures table.new ≡ T.failures table.old }
+    ensures too_long { IsErrOf result Stop.TooLong → IsTrue (T.too_long table.new) }
+    ensures more { IsErrOf result Stop.TooLong → HasMoreThan (T.remaining table.old) (T.left table.old) }
 {
     // A table has no more records than its source may give bytes, and their number fits.
     let _may_give = table.left();
@@ -62,7 +62,7 @@ pub fn compare_all<S: SpanSource + Drop, T: Source>(
         let text = window.rest_behind(alloc, &[], table)?;
         return told(compare_text(alloc, &text, spans));
     };
-    let passed = pass_spans(alloc, spans, version, table, &mut window)?;
+    let passed = pass_spans::<S, T, Differing<S>>(alloc, spans, version, table, &mut window)?;
     let text = window.rest_behind(alloc, header_line(version), table)?;
     let merge = Merge::behind(SpanSlice::of(&[]), version, passed.end);
     let gathered = gather_behind(alloc, &text, merge, version, passed.count);
@@ -115,13 +115,13 @@ fn differ_behind<S: SpanSource + Drop>(
 }
 
 // What a comparison of bytes in memory tells.
-fn told<S>(compared: Result<Differing<S>, TableStop>) -> Result<Differing<S>, SourceStop>
+fn told<S>(compared: Result<Differing<S>, TableStop>) -> Result<Differing<S>, Stop>
     ensures ok { IfOk result (λ it. compared ≡ Ok it) }
-    ensures not_read { IsErrOf result SourceStop.Read → ⊥ }
-    ensures not_long { IsErrOf result SourceStop.TooLong → ⊥ }
+    ensures not_read { IsErrOf result Stop.Read → ⊥ }
+    ensures not_long { IsErrOf result Stop.TooLong → ⊥ }
 {
     match compared {
         Ok(compared) => Ok(compared),
-        Err(TableStop::Memory) => Err(SourceStop::Memory),
+        Err(TableStop::Memory) => Err(Stop::Memory),
     }
 }

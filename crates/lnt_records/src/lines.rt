@@ -13,7 +13,7 @@ use crate::front::{address_before, behind, decimal_before};
 use crate::header::header_line;
 use crate::window::Window;
 use lnt_spans::{Answer, Merge, More, Position, Span, SpanSource, Version};
-use lnt_wire::{Source, SourceStop};
+use lnt_wire::{Source, Stop};
 use std::alloc::Global;
 
 // Reads the lines of a table, up to the first that is no sound record on a line of its own, with nothing in quotes and no
@@ -25,15 +25,15 @@ pub(crate) fn push_lines<S: SpanSource + Drop, T: Source>(
     version: Version,
     source: &mut T,
     window: &mut Window,
-) -> Result<(), SourceStop>
+) -> Result<(), Stop>
     requires failures { T.failures source.old < 2 ^ 64 - 1 }
     requires few { length window.old + T.left source.old + count.old < 2 ^ 64 }
     requires merge { (list table : List spec.Span) × Compares S.to_come merge.old list table }
     ensures ok { OnOk result ((text : List ℕ) × Passes (T.remaining source.old) (T.remaining source.new) (T.left source.old) (T.left source.new) window.old window.new text
         × ((section : List spec.Span) (before : List ℕ) → HasPassed S.to_come merge.old version section before count.old → HasPassed S.to_come merge.new version section (before ++ text) count.new)) }
-    ensures read { IsErrOf result SourceStop.Read → T.failures source.new ≡ T.failures source.old + 1 }
-    ensures no_failure { result ≢ Err SourceStop.Read → T.failures source.new ≡ T.failures source.old }
-    ensures not_long { IsErrOf result SourceStop.TooLong → ⊥ }
+    ensures read { IsErrOf result Stop.Read → T.failures source.new ≡ T.failures source.old + 1 }
+    ensures no_failure { result ≢ Err Stop.Read → T.failures source.new ≡ T.failures source.old }
+    ensures not_long { IsErrOf result Stop.TooLong → ⊥ }
 {
     loop {
         window.fill(alloc, source)?;

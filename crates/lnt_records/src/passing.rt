@@ -11,7 +11,7 @@ use crate::remaining::Remaining;
 use crate::text::{ROOM, line_of};
 use crate::window::Window;
 use lnt_spans::{Answer, Joiner, Merge, Position, Span, SpanSource, Version};
-use lnt_wire::{Source, SourceStop};
+use lnt_wire::{Source, Stop};
 use std::alloc::Global;
 
 // How far a table was passed: the spans behind those that it says so far, how many records it has with them, and where
@@ -25,21 +25,24 @@ pub(crate) struct Passed<S> {
 
 // Goes on past the lines of a table that are those of the canonical spans, as these come, up to the first that isn't. The
 // number of its records stays below 2^64, since none has less than one byte.
-pub(crate) fn pass_spans<S: SpanSource + Drop, T: Source>(
+//
+// `C` is what the caller finds. Each has a copy of its own in line, with the walk over the spans in registers: one that two
+// callers share takes twice the time.
+pub(crate) fn pass_spans<S: SpanSource + Drop, T: Source, C>(
     alloc: Global,
     spans: S,
     version: Version,
     source: &mut T,
     window: &mut Window,
-) -> Result<Passed<S>, SourceStop>
+) -> Result<Passed<S>, Stop>
     requires failures { T.failures source.old < 2 ^ 64 - 1 }
     requires few { length window.old + T.left source.old + 1 < 2 ^ 64 }
     requires spans { (list : List spec.Span) × S.to_come spans list × AreInOrder list }
     ensures ok { IfOk result (λ passed. (text : List ℕ) × Passes (T.remaining source.old) (T.remaining source.new) (T.left source.old) (T.left source.new) window.old window.new text
         × ((list : List spec.Span) → S.to_come spans list → AreInOrder list → LeavesOff (⟦<Remaining<S> as SpanSource>⟧.to_come passed.spans) version list text passed.count passed.end)) }
-    ensures read { IsErrOf result SourceStop.Read → T.failures source.new ≡ T.failures source.old + 1 }
-    ensures no_failure { result ≢ Err SourceStop.Read → T.failures source.new ≡ T.failures source.old }
-    ensures not_long { IsErrOf result SourceStop.TooLong → ⊥ }
+    ensures read { IsErrOf result Stop.Read → T.failures source.new ≡ T.failures source.old + 1 }
+    ensures no_failure { result ≢ Err Stop.Read → T.failures source.new ≡ T.failures source.old }
+    ensures not_long { IsErrOf result Stop.TooLong → ⊥ }
 {
     let mut spans = spans;
     let mut joiner = Joiner::new(version);
@@ -52,25 +55,13 @@ pub(crate) fn pass_spans<S: SpanSource + Drop, T: Source>(
         };
         window.fill(alloc, source)?;
         if !pass_line(window, &mut room, &joined, version) {
-            let spans = Remaining {
-                first: Some(joined),
-                second: joiner.finish(),
-                spans,
-                is_ended: false,
-                version,
-            };
+            let spans = Remaining::behind(joined, joiner.finish(), spans, version);
             return Ok(Passed { spans, count, end });
         }
         count += 1;
         end = joined.high;
     }
-    let spans = Remaining {
-        first: None,
-        second: joiner.finish(),
-        spans,
-        is_ended: true,
-        version,
-    };
+    let spans = Remaining::ended(joiner.finish(), spans, version);
     Ok(Passed { spans, count, end })
 }
 

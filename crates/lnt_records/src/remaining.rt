@@ -1,5 +1,5 @@
 //! The spans that are left of a section, where some were joined before.
-ghost use Rattle.std.specs.Prelude.{◌≡◌, ◌+◌, List, [], length, map};
+ghost use Rattle.std.specs.Prelude.{◌≡◌, ◌+◌, List, [], true, false, Some, None, length, map};
 ghost use Rattle.std.specs.List.{cons_option};
 ghost use Rattle.lnt_spans.specs.declared.span.Span.{Span};
 ghost use Rattle.lnt_spans.specs.Spans.{span_in_version};
@@ -15,6 +15,41 @@ pub struct Remaining<S> {
     pub(crate) spans: S,
     pub(crate) is_ended: bool,
     pub(crate) version: Version,
+}
+
+impl<S: SpanSource + Drop> Remaining<S> {
+    // A span, one more if it is there, and all that the source has left.
+    #[inline(always)]
+    pub(crate) fn behind(
+        first: Span,
+        second: Option<Span>,
+        spans: S,
+        version: Version,
+    ) -> Remaining<S>
+        ensures { result ≡ record { first = Some first; second = second; spans = spans; is_ended = false; version = version } }
+    {
+        Remaining {
+            first: Some(first),
+            second,
+            spans,
+            is_ended: false,
+            version,
+        }
+    }
+
+    // A span, if it is there. The source was found to have none left.
+    #[inline(always)]
+    pub(crate) fn ended(second: Option<Span>, spans: S, version: Version) -> Remaining<S>
+        ensures { result ≡ record { first = None; second = second; spans = spans; is_ended = true; version = version } }
+    {
+        Remaining {
+            first: None,
+            second,
+            spans,
+            is_ended: true,
+            version,
+        }
+    }
 }
 
 impl<S: SpanSource> SpanSource for Remaining<S> {

@@ -12,7 +12,7 @@ use crate::lines::{pass_header, push_lines};
 use crate::passing::pass_spans;
 use crate::window::Window;
 use lnt_spans::{Merge, SpanSource};
-use lnt_wire::{Source, SourceStop};
+use lnt_wire::{Source, Stop};
 use std::alloc::Global;
 
 /// Compares the table that a source has to give with the spans of a section, as both come.
@@ -34,14 +34,14 @@ pub fn compare_table<S: SpanSource + Drop, T: Source>(
     alloc: Global,
     table: &mut T,
     spans: S,
-) -> Result<Compared, SourceStop>
+) -> Result<Compared, Stop>
     requires failures { T.failures table.old < 2 ^ 64 - 1 }
     requires spans { (list : List Span) × S.to_come spans list × AreInOrder list }
     ensures ok { IfOk result (λ compared. (list : List Span) → S.to_come spans list → AreInOrder list → IfSome (T.remaining table.old) (λ bytes. IsComparison bytes list compared)) }
-    ensures read { IsErrOf result SourceStop.Read → T.failures table.new ≡ T.failures table.old + 1 }
-    ensures no_failure { result ≢ Err SourceStop.Read → T.failures table.new ≡ T.failures table.old }
-    ensures too_long { IsErrOf result SourceStop.TooLong → IsTrue (T.too_long table.new) }
-    ensures more { IsErrOf result SourceStop.TooLong → HasMoreThan (T.remaining table.old) (T.left table.old) }
+    ensures read { IsErrOf result Stop.Read → T.failures table.new ≡ T.failures table.old + 1 }
+    ensures no_failure { result ≢ Err Stop.Read → T.failures table.new ≡ T.failures table.old }
+    ensures too_long { IsErrOf result Stop.TooLong → IsTrue (T.too_long table.new) }
+    ensures more { IsErrOf result Stop.TooLong → HasMoreThan (T.remaining table.old) (T.left table.old) }
 {
     // A table has no more records than its source may give bytes, and their number fits.
     let _may_give = table.left();
@@ -51,7 +51,7 @@ pub fn compare_table<S: SpanSource + Drop, T: Source>(
         let text = window.rest_behind(alloc, &[], table)?;
         return told(compare_records(alloc, &text, spans));
     };
-    let passed = pass_spans(alloc, spans, version, table, &mut window)?;
+    let passed = pass_spans::<S, T, Compared>(alloc, spans, version, table, &mut window)?;
     let mut merge = Merge::behind(passed.spans, version, passed.end);
     let mut count = passed.count;
     push_lines(alloc, &mut merge, &mut count, version, table, &mut window)?;
@@ -60,13 +60,13 @@ pub fn compare_table<S: SpanSource + Drop, T: Source>(
 }
 
 // What a comparison of bytes in memory tells.
-fn told(compared: Result<Compared, TableStop>) -> Result<Compared, SourceStop>
+fn told(compared: Result<Compared, TableStop>) -> Result<Compared, Stop>
     ensures ok { IfOk result (λ it. compared ≡ Ok it) }
-    ensures not_read { IsErrOf result SourceStop.Read → ⊥ }
-    ensures not_long { IsErrOf result SourceStop.TooLong → ⊥ }
+    ensures not_read { IsErrOf result Stop.Read → ⊥ }
+    ensures not_long { IsErrOf result Stop.TooLong → ⊥ }
 {
     match compared {
         Ok(compared) => Ok(compared),
-        Err(TableStop::Memory) => Err(SourceStop::Memory),
+        Err(TableStop::Memory) => Err(Stop::Memory),
     }
 }

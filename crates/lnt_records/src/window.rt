@@ -5,7 +5,7 @@ ghost use Rattle.lnt_wire.specs.Pulling.{HasMoreThan};
 ghost use Rattle.lnt_records.specs.Passing.{Ends, Passes};
 
 use crate::text::ROOM;
-use lnt_wire::{Source, SourceStop, take_block};
+use lnt_wire::{BLOCK, Source, Stop, take_block};
 use std::alloc::{AllocError, Global};
 use std::marker::Model;
 
@@ -67,16 +67,12 @@ impl Window {
 
     // Takes more bytes, unless there are as many as a line may have, or the source has none left.
     #[inline(always)]
-    pub(crate) fn fill<T: Source>(
-        &mut self,
-        alloc: Global,
-        source: &mut T,
-    ) -> Result<(), SourceStop>
+    pub(crate) fn fill<T: Source>(&mut self, alloc: Global, source: &mut T) -> Result<(), Stop>
         requires { T.failures source.old < 2 ^ 64 - 1 }
         ensures taken { OnOk result (Passes (T.remaining source.old) (T.remaining source.new) (T.left source.old) (T.left source.new) self.old self.new []) }
-        ensures read { IsErrOf result SourceStop.Read → T.failures source.new ≡ T.failures source.old + 1 }
-        ensures no_failure { result ≢ Err SourceStop.Read → T.failures source.new ≡ T.failures source.old }
-        ensures not_long { IsErrOf result SourceStop.TooLong → ⊥ }
+        ensures read { IsErrOf result Stop.Read → T.failures source.new ≡ T.failures source.old + 1 }
+        ensures no_failure { result ≢ Err Stop.Read → T.failures source.new ≡ T.failures source.old }
+        ensures not_long { IsErrOf result Stop.TooLong → ⊥ }
     {
         if self.block.len() - self.at >= ROOM {
             return Ok(());
@@ -86,15 +82,15 @@ impl Window {
 
     // The same where there are fewer.
     #[inline(never)]
-    fn refill<T: Source>(&mut self, alloc: Global, source: &mut T) -> Result<(), SourceStop>
+    fn refill<T: Source>(&mut self, alloc: Global, source: &mut T) -> Result<(), Stop>
         requires { T.failures source.old < 2 ^ 64 - 1 }
         ensures taken { OnOk result (Passes (T.remaining source.old) (T.remaining source.new) (T.left source.old) (T.left source.new) self.old self.new []) }
-        ensures read { IsErrOf result SourceStop.Read → T.failures source.new ≡ T.failures source.old + 1 }
-        ensures no_failure { result ≢ Err SourceStop.Read → T.failures source.new ≡ T.failures source.old }
-        ensures not_long { IsErrOf result SourceStop.TooLong → ⊥ }
+        ensures read { IsErrOf result Stop.Read → T.failures source.new ≡ T.failures source.old + 1 }
+        ensures no_failure { result ≢ Err Stop.Read → T.failures source.new ≡ T.failures source.old }
+        ensures not_long { IsErrOf result Stop.TooLong → ⊥ }
     {
         let Ok(mut block) = Vec::from_slice(alloc, self.bytes()) else {
-            return Err(SourceStop::Memory);
+            return Err(Stop::Memory);
         };
         fill_block(source, &mut block)?;
         *self = Window { block, at: 0 };
@@ -107,16 +103,16 @@ impl Window {
         alloc: Global,
         text: &[u8],
         source: &mut T,
-    ) -> Result<Vec<u8>, SourceStop>
+    ) -> Result<Vec<u8>, Stop>
         requires { T.failures source.old < 2 ^ 64 - 1 }
         ensures ok { IfOk result (λ all. Ends (T.remaining source.old) (T.left source.old) (text.now ++ self) all.items) }
-        ensures read { IsErrOf result SourceStop.Read → T.failures source.new ≡ T.failures source.old + 1 }
-        ensures no_failure { result ≢ Err SourceStop.Read → T.failures source.new ≡ T.failures source.old }
-        ensures too_long { IsErrOf result SourceStop.TooLong → IsTrue (T.too_long source.new) }
-        ensures more { IsErrOf result SourceStop.TooLong → HasMoreThan (T.remaining source.old) (T.left source.old) }
+        ensures read { IsErrOf result Stop.Read → T.failures source.new ≡ T.failures source.old + 1 }
+        ensures no_failure { result ≢ Err Stop.Read → T.failures source.new ≡ T.failures source.old }
+        ensures too_long { IsErrOf result Stop.TooLong → IsTrue (T.too_long source.new) }
+        ensures more { IsErrOf result Stop.TooLong → HasMoreThan (T.remaining source.old) (T.left source.old) }
     {
         let Ok(mut all) = joined(alloc, text, self.bytes()) else {
-            return Err(SourceStop::Memory);
+            return Err(Stop::Memory);
         };
         read_rest(source, &mut all)?;
         Ok(all)
@@ -134,15 +130,15 @@ fn joined(alloc: Global, first: &[u8], second: &[u8]) -> Result<Vec<u8>, AllocEr
 
 // Takes bytes of a source behind those in a block, until there are as many as a line may have, or no more come.
 #[tactic(auto, using(crate::proofs::PassingLemmas::passes_none, crate::proofs::PassingLemmas::passes_block))]
-fn fill_block<T: Source>(source: &mut T, block: &mut Vec<u8>) -> Result<(), SourceStop>
+fn fill_block<T: Source>(source: &mut T, block: &mut Vec<u8>) -> Result<(), Stop>
     requires { T.failures source.old < 2 ^ 64 - 1 }
     ensures taken { OnOk result (Passes (T.remaining source.old) (T.remaining source.new) (T.left source.old) (T.left source.new) block.old.items block.new.items []) }
-    ensures read { IsErrOf result SourceStop.Read → T.failures source.new ≡ T.failures source.old + 1 }
-    ensures no_failure { result ≢ Err SourceStop.Read → T.failures source.new ≡ T.failures source.old }
-    ensures not_long { IsErrOf result SourceStop.TooLong → ⊥ }
+    ensures read { IsErrOf result Stop.Read → T.failures source.new ≡ T.failures source.old + 1 }
+    ensures no_failure { result ≢ Err Stop.Read → T.failures source.new ≡ T.failures source.old }
+    ensures not_long { IsErrOf result Stop.TooLong → ⊥ }
 {
     while block.len() < ROOM {
-        if take_block(source, block)? == 0 {
+        if take_block(source, block, BLOCK)? == 0 {
             return Ok(());
         }
     }
@@ -151,17 +147,17 @@ fn fill_block<T: Source>(source: &mut T, block: &mut Vec<u8>) -> Result<(), Sour
 
 // Takes all bytes that a source has left, behind those that were taken.
 #[tactic(auto, using(crate::proofs::PassingLemmas::passes_none, crate::proofs::PassingLemmas::passes_block, crate::proofs::PassingLemmas::passes_all, crate::proofs::PassingLemmas::longer_from_start))]
-fn read_rest<T: Source>(source: &mut T, all: &mut Vec<u8>) -> Result<(), SourceStop>
+fn read_rest<T: Source>(source: &mut T, all: &mut Vec<u8>) -> Result<(), Stop>
     requires { T.failures source.old < 2 ^ 64 - 1 }
     ensures ok { OnOk result (Ends (T.remaining source.old) (T.left source.old) all.old.items all.new.items) }
-    ensures read { IsErrOf result SourceStop.Read → T.failures source.new ≡ T.failures source.old + 1 }
-    ensures no_failure { result ≢ Err SourceStop.Read → T.failures source.new ≡ T.failures source.old }
-    ensures too_long { IsErrOf result SourceStop.TooLong → IsTrue (T.too_long source.new) }
-    ensures more { IsErrOf result SourceStop.TooLong → HasMoreThan (T.remaining source.old) (T.left source.old) }
+    ensures read { IsErrOf result Stop.Read → T.failures source.new ≡ T.failures source.old + 1 }
+    ensures no_failure { result ≢ Err Stop.Read → T.failures source.new ≡ T.failures source.old }
+    ensures too_long { IsErrOf result Stop.TooLong → IsTrue (T.too_long source.new) }
+    ensures more { IsErrOf result Stop.TooLong → HasMoreThan (T.remaining source.old) (T.left source.old) }
 {
-    while take_block(source, all)? > 0 {}
+    while take_block(source, all, BLOCK)? > 0 {}
     if source.too_long() {
-        return Err(SourceStop::TooLong);
+        return Err(Stop::TooLong);
     }
     Ok(())
 }

@@ -1,6 +1,8 @@
--- Extents in an order in which copies stand behind what they are copies of: there the copies are those that begin and end as the
+-- Extents in an order in which copies stand after what they are copies of: there the copies are those that begin and end as the
 -- one before them does.
-use Rattle.std.proofs.Common.{◌≡◌, ◌≢◌, ℕ, zero, suc, ◌<◌, ◌≤◌, Bool, true, false, not, ◌&&◌, cond, List, [], ◌∷◌, ◌++◌, refl, sym, ap, ◌∙◌, subst, arith, length, get_or, ⊎_elim, add-one, append_assoc, is_lt, nat_cmp}
+use Rattle.std.proofs.Common.{◌≡◌, ◌≢◌, ℕ, zero, suc, ◌<◌, ◌≤◌, Bool, true, false, not, ◌&&◌, cond, List, [], ◌∷◌, ◌++◌}
+use Rattle.std.proofs.Common.{refl, sym, ap, ◌∙◌, subst, arith, length, get_or, ⊎_elim, add-one, append_assoc, is_lt}
+use Rattle.std.proofs.Common.{nat_cmp}
 use Rattle.std.specs.List.{All, AllPairs, Contains, dedup, dedup_from, filter, flat_map}
 use Rattle.std.specs.List.Sorted.{IsPermutation}
 use Rattle.std.specs.Ordering.{ordering_then}
@@ -39,7 +41,12 @@ alike_test : (a b : Extent) → Alike a b → end_alike a b ≡ true
 alike_test a b h = grind (arith, nat_tests)
 
 alike_back : (a b : Extent) → Alike a b → Alike b a
-alike_back a b h = record { low_address = sym h.low_address; low_op = sym h.low_op; high_address = sym h.high_address; high_op = sym h.high_op }
+alike_back a b h = record {
+  low_address = sym h.low_address;
+  low_op = sym h.low_op;
+  high_address = sym h.high_address;
+  high_op = sym h.high_op;
+}
 
 alike_trans : (a b c : Extent) → Alike a b → Alike b c → Alike a c
 alike_trans a b c h k = record {
@@ -64,7 +71,10 @@ not_alike a b h = by_test (end_alike a b) refl
 
 -- what a sort by these six numbers says of neighbours
 pub ends_no_later : (one other : Extent)
-    → is_lt (ordering_then (ordering_then (ordering_then (ordering_then (ordering_then (nat_cmp other.low.address one.low.address) (nat_cmp other.low.op one.low.op)) (nat_cmp other.high.address one.high.address)) (nat_cmp other.high.op one.high.op)) (nat_cmp other.id.unit one.id.unit)) (nat_cmp other.id.index one.id.index)) ≡ false
+    → is_lt (ordering_then (ordering_then
+    (ordering_then (ordering_then (ordering_then (nat_cmp other.low.address one.low.address) (nat_cmp other.low.op one.low.op))
+    (nat_cmp other.high.address one.high.address)) (nat_cmp other.high.op
+    one.high.op)) (nat_cmp other.id.unit one.id.unit)) (nat_cmp other.id.index one.id.index)) ≡ false
     → EndsNoLater one other
 ends_no_later one other h = record {
   low = record { address = grind (arith, nat_tests); op = λ e. grind (arith, nat_tests) };
@@ -108,7 +118,8 @@ begin_alike a b c h k e f =
 follows_trans : (a b c : Extent) → EndsNoLater a b → EndsNoLater b c → EndsNoLater a c
 follows_trans a b c h k = record {
   low = at_most_trans h.low k.low;
-  rest = λ e f. let s = begin_alike a b c h k e f in place_trans a.high b.high c.high a.id b.id c.id (h.rest s.address s.op) (k.rest s.address' s.op');
+  rest = λ e f. let s = begin_alike a b c h k e f in place_trans a.high b.high c.high a.id b.id c.id (h.rest s.address s.op)
+      (k.rest s.address' s.op');
 }
 
 -- where the outer of three are alike, so are the last two
@@ -152,15 +163,18 @@ is_before a b h s ne =
 
 -- ---- neighbours in order, so all are
 
-pub gathered_far : (es : List Extent) → AreGathered es → (i j : ℕ) (d : Extent) → i ≤ j → j < length es → EndsNoLater (get_or es i d) (get_or es j d)
-gathered_far es s i zero d h l = let e : i ≡ 0 = omega arith in subst (λ (k : ℕ). EndsNoLater (get_or es k d) (get_or es 0 d)) (sym e) (follows_itself (get_or es 0 d))
+pub gathered_far : (es : List Extent) → AreGathered es → (i j : ℕ) (d : Extent) → i ≤ j → j < length es
+    → EndsNoLater (get_or es i d) (get_or es j d)
+gathered_far es s i zero d h l =
+    let e : i ≡ 0 = omega arith in subst (λ (k : ℕ). EndsNoLater (get_or es k d) (get_or es 0 d)) (sym e) (follows_itself (get_or es 0 d))
 gathered_far es s i (suc j) d h l =
     ⊎_elim
     (λ (lt : i < suc j).
     let next : EndsNoLater (get_or es j d) (get_or es (suc j) d) = rw add-one at (s j d (omega arith)) in
     follows_trans (get_or es i d) (get_or es j d) (get_or es (suc j) d) (gathered_far es s i j d (omega arith) (omega arith)) next)
     (λ (le : suc j ≤ i).
-    let e : i ≡ suc j = omega arith in subst (λ (k : ℕ). EndsNoLater (get_or es k d) (get_or es (suc j) d)) (sym e) (follows_itself (get_or es (suc j) d)))
+    let e : i ≡ suc j = omega arith in subst (λ (k : ℕ). EndsNoLater (get_or es k d) (get_or es (suc j) d)) (sym e)
+    (follows_itself (get_or es (suc j) d)))
     (cases_lt i (suc j))
 
 -- ---- which are copies
@@ -173,7 +187,8 @@ contains_middle (y ∷ xs) x ys = Contains-behind y (xs ++ x ∷ ys) x (contains
 abbrev copies : Extent → Extent → Bool
 copies extent earlier = stands_before earlier.id extent.id && end_alike extent earlier
 
-copied_by : (all : List Extent) (a b : Extent) → Contains all b → stands_before b.id a.id ≡ true → end_alike a b ≡ true → is_copied all a ≡ true
+copied_by : (all : List Extent) (a b : Extent) → Contains all b → stands_before b.id a.id ≡ true → end_alike a b ≡ true
+    → is_copied all a ≡ true
 copied_by all a b c before alike = list_any_at (copies a) all c.0 b c.1 (ap (copies a) c.2 ∙ rw (before, alike) refl)
 
 none_left : (b : Bool) → (b && false) ≡ false
@@ -194,7 +209,7 @@ no_copy_of_later a b h = by_test (end_alike a b) refl
 abbrev IdDiffers : Extent → Extent → Type 0
 IdDiffers a b = a.id ≢ b.id
 
--- what comes behind the last kept one and is like one of those seen is like the last kept one
+-- what comes after the last kept one and is like one of those seen is like the last kept one
 abbrev Stands : Extent → List Extent → Type 0
 Stands last seen = All (λ (e : Extent). (y : Extent) → EndsNoLater last y → Alike e y → Alike last y) seen
 
@@ -202,15 +217,19 @@ all_push : {X : Type 0} (P : X → Type 0) (xs : List X) (x : X) → All P xs �
 all_push P xs x h k = All-append P xs (x ∷ []) h (All-cons P x [] k (All-nil P))
 
 without_second : {X : Type 0} (R : X → X → Type 0) (k x : X) (xs : List X) → AllPairs R (k ∷ x ∷ xs) → AllPairs R (k ∷ xs)
-without_second R k x xs h = pairs_cons R k xs (All-tail (R k) x xs (pairs_head R k (x ∷ xs) h)) (pairs_tail R x xs (pairs_tail R k (x ∷ xs) h))
+without_second R k x xs h =
+    pairs_cons R k xs (All-tail (R k) x xs (pairs_head R k (x ∷ xs) h)) (pairs_tail R x xs (pairs_tail R k (x ∷ xs) h))
 
-dedup_from_kept : (all seen : List Extent) (last : Extent) (xs : List Extent) → all ≡ seen ++ xs → Contains all last → Stands last seen → AllPairs EndsNoLater (last ∷ xs)
+dedup_from_kept : (all seen : List Extent) (last : Extent) (xs : List Extent) → all ≡ seen ++ xs → Contains all last → Stands last seen
+    → AllPairs EndsNoLater (last ∷ xs)
     → AllPairs IdDiffers (last ∷ xs) → dedup_from end_alike last xs ≡ last ∷ filter (λ (e : Extent). not (is_copied all e)) xs
 dedup_from_kept all seen last [] are c stands order ids = refl
 dedup_from_kept all seen last (x ∷ xs) are c stands order ids =
     by_test (end_alike x last) refl
-    (λ e. dedup_from_kept all (seen ++ x ∷ []) last xs goes c (still e) (without_second EndsNoLater last x xs order) (without_second IdDiffers last x xs ids))
-    (dedup_from_kept all (seen ++ x ∷ []) x xs goes here new_stands (pairs_tail EndsNoLater last (x ∷ xs) order) (pairs_tail IdDiffers last (x ∷ xs) ids))
+    (λ e. dedup_from_kept all (seen ++ x ∷ []) last xs goes c (still e) (without_second EndsNoLater last x xs order)
+    (without_second IdDiffers last x xs ids))
+    (dedup_from_kept all (seen ++ x ∷ []) x xs goes here new_stands (pairs_tail EndsNoLater last (x ∷ xs) order)
+    (pairs_tail IdDiffers last (x ∷ xs) ids))
   where
     follows : EndsNoLater last x
     follows = pairs_head EndsNoLater last (x ∷ xs) order 0 x (omega arith)
@@ -228,7 +247,8 @@ dedup_from_kept all seen last (x ∷ xs) are c stands order ids =
         All-weaker (λ (e : Extent). (y : Extent) → EndsNoLater last y → Alike e y → Alike last y) (λ (e : Extent). copies x e ≡ false)
         (λ e s. unlike x e (λ a. ne (s x follows (alike_back x e a)))) seen stands in
         let behind : All (λ (e : Extent). copies x e ≡ false) xs =
-        All-weaker (EndsNoLater x) (λ (e : Extent). copies x e ≡ false) (λ e h. no_copy_of_later x e h) xs (pairs_head EndsNoLater x xs (pairs_tail EndsNoLater last (x ∷ xs) order)) in
+        All-weaker (EndsNoLater x) (λ (e : Extent). copies x e ≡ false) (λ e h. no_copy_of_later x e h) xs
+        (pairs_head EndsNoLater x xs (pairs_tail EndsNoLater last (x ∷ xs) order)) in
         list_any_none (copies x) all
         (subst (All (λ (e : Extent). copies x e ≡ false)) (sym are)
         (All-append (λ (e : Extent). copies x e ≡ false) seen (x ∷ xs) before
@@ -237,25 +257,32 @@ dedup_from_kept all seen last (x ∷ xs) are c stands order ids =
     new_stands : Stands x (seen ++ x ∷ [])
     new_stands =
         all_push (λ (e : Extent). (y : Extent) → EndsNoLater x y → Alike e y → Alike x y) seen x
-        (All-weaker (λ (e : Extent). (y : Extent) → EndsNoLater last y → Alike e y → Alike last y) (λ (e : Extent). (y : Extent) → EndsNoLater x y → Alike e y → Alike x y)
+        (All-weaker (λ (e : Extent). (y : Extent) → EndsNoLater last y → Alike e y → Alike last y)
+        (λ (e : Extent). (y : Extent) → EndsNoLater x y → Alike e y → Alike x y)
         (λ e s y f a. between last x y follows f (s y (follows_trans last x y follows f) a)) seen stands)
         (λ y f a. a)
 
     still : end_alike x last ≡ true → Stands last (seen ++ x ∷ [])
     still e =
-        all_push (λ (e : Extent). (y : Extent) → EndsNoLater last y → Alike e y → Alike last y) seen x stands (λ y f a. alike_trans last x y (alike_back x last (alike_is x last e)) a)
+        all_push (λ (e : Extent). (y : Extent) → EndsNoLater last y → Alike e y → Alike last y) seen x stands
+        (λ y f a. alike_trans last x y (alike_back x last (alike_is x last e)) a)
 
-    by_test : (t : Bool) → end_alike x last ≡ t → (end_alike x last ≡ true → dedup_from end_alike last xs ≡ last ∷ filter (λ (e : Extent). not (is_copied all e)) xs)
+    by_test : (t : Bool) → end_alike x last ≡ t
+        → (end_alike x last ≡ true → dedup_from end_alike last xs ≡ last ∷ filter (λ (e : Extent). not (is_copied all e)) xs)
         → dedup_from end_alike x xs ≡ x ∷ filter (λ (e : Extent). not (is_copied all e)) xs
-        → cond t (dedup_from end_alike last xs) (last ∷ dedup_from end_alike x xs) ≡ last ∷ cond (not (is_copied all x)) (x ∷ filter (λ (e : Extent). not (is_copied all e)) xs) (filter (λ (e : Extent). not (is_copied all e)) xs)
+        → cond t (dedup_from end_alike last xs) (last ∷ dedup_from end_alike x xs) ≡ last ∷ cond (not (is_copied all x))
+        (x ∷ filter (λ (e : Extent). not (is_copied all e)) xs) (filter (λ (e : Extent). not (is_copied all e)) xs)
     by_test true e dropped new =
         let copied : is_copied all x ≡ true =
-        copied_by all x last c (is_before last x follows (alike_back x last (alike_is x last e)) (pairs_head IdDiffers last (x ∷ xs) ids 0 x (omega arith))) e in
-        dropped e ∙ ap (λ (t : Bool). last ∷ cond (not t) (x ∷ filter (λ (e : Extent). not (is_copied all e)) xs) (filter (λ (e : Extent). not (is_copied all e)) xs)) (sym copied)
+        copied_by all x last c (is_before last x follows (alike_back x last (alike_is x last e))
+        (pairs_head IdDiffers last (x ∷ xs) ids 0 x (omega arith))) e in
+        dropped e ∙ ap (λ (t : Bool). last ∷ cond (not t) (x ∷ filter (λ (e : Extent). not (is_copied all e)) xs)
+        (filter (λ (e : Extent). not (is_copied all e)) xs)) (sym copied)
     by_test false e dropped new =
         let not_copied = apart (λ a. true≢false (sym (alike_test x last (alike_back last x a)) ∙ e)) in
         ap (λ (list : List Extent). last ∷ list)
-        (new ∙ ap (λ (t : Bool). cond (not t) (x ∷ filter (λ (e : Extent). not (is_copied all e)) xs) (filter (λ (e : Extent). not (is_copied all e)) xs)) (sym not_copied))
+        (new ∙ ap (λ (t : Bool). cond (not t) (x ∷ filter (λ (e : Extent). not (is_copied all e)) xs)
+        (filter (λ (e : Extent). not (is_copied all e)) xs)) (sym not_copied))
 
 -- without those that are alike the one before them, no copies are left
 pub dedup_kept : (es : List Extent) → AreGathered es → AllPairs IdDiffers es → dedup end_alike es ≡ kept_extents true es
@@ -265,9 +292,13 @@ dedup_kept (e ∷ es) gathered ids =
     let Uncopied : Extent → Type 0 = λ other. copies e other ≡ false in
     let not_copied : is_copied (e ∷ es) e ≡ false =
     list_any_none (copies e) (e ∷ es)
-    (All-cons Uncopied e es (no_copy_of_later e e (follows_itself e)) (All-weaker (EndsNoLater e) Uncopied (λ other h. no_copy_of_later e other h) es (pairs_head EndsNoLater e es order))) in
-    dedup_from_kept (e ∷ es) (e ∷ []) e es refl (0, omega arith, refl) (All-cons (λ (x : Extent). (y : Extent) → EndsNoLater e y → Alike x y → Alike e y) e [] (λ y f a. a) (All-nil (λ (x : Extent). (y : Extent) → EndsNoLater e y → Alike x y → Alike e y))) order ids
-    ∙ ap (λ (t : Bool). cond (not t) (e ∷ filter (λ (x : Extent). not (is_copied (e ∷ es) x)) es) (filter (λ (x : Extent). not (is_copied (e ∷ es) x)) es)) (sym not_copied)
+    (All-cons Uncopied e es (no_copy_of_later e e (follows_itself e))
+    (All-weaker (EndsNoLater e) Uncopied (λ other h. no_copy_of_later e other h) es (pairs_head EndsNoLater e es order))) in
+    dedup_from_kept (e ∷ es) (e ∷ []) e es refl (0, omega arith, refl)
+    (All-cons (λ (x : Extent). (y : Extent) → EndsNoLater e y → Alike x y → Alike e y) e [] (λ y f a. a)
+    (All-nil (λ (x : Extent). (y : Extent) → EndsNoLater e y → Alike x y → Alike e y))) order ids
+    ∙ ap (λ (t : Bool). cond (not t) (e ∷ filter (λ (x : Extent). not (is_copied (e ∷ es) x)) es)
+    (filter (λ (x : Extent). not (is_copied (e ∷ es) x)) es)) (sym not_copied)
 
 -- ---- in another order
 
@@ -283,21 +314,26 @@ filter_pieces {X} test (x ∷ xs) = by_test (test x) (filter_pieces test xs)
 filter_permuted : {X : Type 0} (test : X → Bool) (xs ys : List X) → IsPermutation xs ys → IsPermutation (filter test xs) (filter test ys)
 filter_permuted {X} test xs ys h =
     subst (λ (list : List X). IsPermutation list (filter test ys)) (filter_pieces test xs)
-    (subst (IsPermutation (flat_map (λ (x : X). cond (test x) (x ∷ []) []) xs)) (filter_pieces test ys) (pieces_permuted (λ (x : X). cond (test x) (x ∷ []) []) xs ys h))
+    (subst (IsPermutation (flat_map (λ (x : X). cond (test x) (x ∷ []) []) xs)) (filter_pieces test ys)
+    (pieces_permuted (λ (x : X). cond (test x) (x ∷ []) []) xs ys h))
 
 filter_same : {X : Type 0} (test other : X → Bool) → ((x : X) → test x ≡ other x) → (xs : List X) → filter test xs ≡ filter other xs
 filter_same test other same [] = refl
 filter_same {X} test other same (x ∷ xs) =
-    ap (λ (t : Bool). cond t (x ∷ filter test xs) (filter test xs)) (same x) ∙ ap (λ (rest : List X). cond (other x) (x ∷ rest) rest) (filter_same test other same xs)
+    ap (λ (t : Bool). cond t (x ∷ filter test xs) (filter test xs)) (same x)
+    ∙ ap (λ (rest : List X). cond (other x) (x ∷ rest) rest) (filter_same test other same xs)
 
 pub kept_permuted : (xs ys : List Extent) → IsPermutation xs ys → IsPermutation (kept_extents true xs) (kept_extents true ys)
 kept_permuted xs ys h =
     subst (IsPermutation (kept_extents true xs))
-    (filter_same (λ (e : Extent). not (is_copied xs e)) (λ (e : Extent). not (is_copied ys e)) (λ e. ap not (list_any-IsPermutation (copies e) xs ys h)) ys)
+    (filter_same (λ (e : Extent). not (is_copied xs e)) (λ (e : Extent). not (is_copied ys e))
+    (λ e. ap not (list_any-IsPermutation (copies e) xs ys h)) ys)
     (filter_permuted (λ (e : Extent). not (is_copied xs e)) xs ys h)
 
 -- what is left of extents once they were gathered, and those were taken out that are alike the one before them
-pub kept_of_gathered : (es ys zs : List Extent) → AllPairs IdDiffers es → IsPermutation es ys → AreGathered ys → zs ≡ dedup end_alike ys → IsPermutation (kept_extents true es) zs
+pub kept_of_gathered : (es ys zs : List Extent) → AllPairs IdDiffers es → IsPermutation es ys → AreGathered ys → zs ≡ dedup end_alike ys
+    → IsPermutation (kept_extents true es) zs
 kept_of_gathered es ys zs ids h gathered is =
-    let there : AllPairs IdDiffers ys = pairs_from_each_two IdDiffers ys (each_two_permutation IdDiffers es ys h (each_two_from_pairs IdDiffers (λ a b ne e. ne (sym e)) es ids)) in
+    let there : AllPairs IdDiffers ys = pairs_from_each_two IdDiffers ys
+    (each_two_permutation IdDiffers es ys h (each_two_from_pairs IdDiffers (λ a b ne e. ne (sym e)) es ids)) in
     subst (IsPermutation (kept_extents true es)) (sym (is ∙ dedup_kept ys gathered there)) (kept_permuted es ys h)

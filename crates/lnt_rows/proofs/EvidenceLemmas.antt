@@ -1,5 +1,6 @@
 -- The first row that shows something, and the sequence that it stands in.
-use Rattle.std.proofs.Common.{◌≡◌, ℕ, ◌+◌, ◌<◌, ◌≤◌, Bool, true, false, not, cond, ◌&&◌, nat_le, List, [], ◌∷◌, ◌++◌, Option, Some, None, refl, sym, ap, ◌∙◌, subst, arith, append_assoc, length, ◌⊎◌, inl, inr}
+use Rattle.std.proofs.Common.{◌≡◌, ℕ, ◌+◌, ◌<◌, ◌≤◌, Bool, true, false, not, cond, ◌&&◌, nat_le, List, [], ◌∷◌, ◌++◌}
+use Rattle.std.proofs.Common.{Option, Some, None, refl, sym, ap, ◌∙◌, subst, arith, append_assoc, length, ◌⊎◌, inl, inr}
 use Rattle.std.specs.List.{All, AllByRecursion, filter}
 use Rattle.std.specs.Option.{option_or}
 use Rattle.std.specs.Prelude.{MatchOption}
@@ -23,8 +24,10 @@ use Rattle.lnt_rows.specs.Evidence.{IsFall, IsFirstFall, IsFirstMissingFile, IsM
 use Rattle.lnt_rows.specs.Laws.{FallIsNotOrdered, MissingFileIsNotThere}
 use Rattle.lnt_rows.specs.Rules.{AreOrdered, FilesExist, HaveFiles, IsOrdered}
 use Rattle.lnt_rows.specs.Sequences.{are_live, is_live, last_row, live_of, Placed, placed_rows, position_of}
-use Rattle.lnt_rows.specs.Watching.{closed, current_of, fall_shown, falls_behind, file_shown, first_shown, grown, HasSeenAll, is_in_live, last_behind, names_no_file, next, start, Walk, walked}
-use Rattle.lnt_rows.specs.Laws.Walks.{each_ended, first_shown-append, last_row_is, placed_from, walked-append, walked_ended, walked_open, walked-rows}
+use Rattle.lnt_rows.specs.Watching.{closed, current_of, fall_shown, falls_behind, file_shown, first_shown, grown}
+use Rattle.lnt_rows.specs.Watching.{HasSeenAll, is_in_live, last_behind, names_no_file, next, start, Walk, walked}
+use Rattle.lnt_rows.specs.Laws.Walks.{each_ended, first_shown-append, last_row_is, placed_from, walked-append}
+use Rattle.lnt_rows.specs.Laws.Walks.{walked_ended, walked_open, walked-rows}
 
 -- ---- lists cut at an element
 
@@ -38,7 +41,8 @@ record Behind {X : Type 0} (xs ys front : List X) (x : X) (back : List X) : Type
   parts : ys ≡ rest ++ x ∷ back
 
 -- an element of two lists stands in the first of them, or in the second
-cut_at : {X : Type 0} (xs ys front : List X) (x : X) (back : List X) → xs ++ ys ≡ front ++ x ∷ back → Cut xs front x ⊎ Behind xs ys front x back
+cut_at : {X : Type 0} (xs ys front : List X) (x : X) (back : List X) → xs ++ ys ≡ front ++ x ∷ back → Cut xs front x
+    ⊎ Behind xs ys front x back
 cut_at [] ys front x back e = inr (record { rest = front; front_is = refl; parts = e })
 cut_at {X} (y ∷ xs) ys [] x back e = let first : y ≡ x = cc in inl (record { back = xs; parts = ap (λ (z : X). z ∷ xs) first })
 cut_at {X} (y ∷ xs) ys (z ∷ front) x back e =
@@ -46,14 +50,20 @@ cut_at {X} (y ∷ xs) ys (z ∷ front) x back e =
     let others : xs ++ ys ≡ front ++ x ∷ back = cc in
     elim (cut_at xs ys front x back others) [
       | inl c ↦ inl (record { back = c.back; parts = ap (λ (w : X). w ∷ xs) first ∙ ap (λ (ws : List X). z ∷ ws) c.parts })
-      | inr b ↦ inr (record { rest = b.rest; front_is = ap (λ (ws : List X). z ∷ ws) b.front_is ∙ ap (λ (w : X). w ∷ xs ++ b.rest) (sym first); parts = b.parts })
+      | inr b ↦ inr (record {
+        rest = b.rest;
+        front_is = ap (λ (ws : List X). z ∷ ws) b.front_is
+            ∙ ap (λ (w : X). w ∷ xs ++ b.rest) (sym first);
+        parts = b.parts;
+      })
     ]
 
 -- an element that stands before another
 cut_before : {X : Type 0} (front later : List X) (x : X) (back : List X) (y : X) (more : List X)
     → front ++ x ∷ back ≡ later ++ y ∷ more → length front < length later → Cut later front x
 cut_before front [] x back y more e lt = absurd (omega arith)
-cut_before {X} [] (z ∷ later) x back y more e lt = let first : z ≡ x = cc in record { back = later; parts = ap (λ (w : X). w ∷ later) first }
+cut_before {X} [] (z ∷ later) x back y more e lt =
+    let first : z ≡ x = cc in record { back = later; parts = ap (λ (w : X). w ∷ later) first }
 cut_before {X} (w ∷ front) (z ∷ later) x back y more e lt =
     let first : z ≡ w = cc in
     let others : front ++ x ∷ back ≡ later ++ y ∷ more = cc in
@@ -77,13 +87,20 @@ record Found {A : Type 0} (show : Walk → Row → Option A) (walk : Walk) (rows
   here : show (walked walk front) row ≡ Some shows
   none_before : first_shown show walk front ≡ None
 
-found : {A : Type 0} (show : Walk → Row → Option A) (walk : Walk) (rows : List Row) (shows : A) → first_shown show walk rows ≡ Some shows → Found show walk rows shows
+found : {A : Type 0} (show : Walk → Row → Option A) (walk : Walk) (rows : List Row) (shows : A) → first_shown show walk rows ≡ Some shows
+    → Found show walk rows shows
 found show walk [] shows e = absurd cc
 found {A} show walk (row ∷ rows) shows e = by_show (show walk row) refl e (λ f. found show (next walk row) rows shows f)
   where
     by_show : (o : Option A) → show walk row ≡ o → option_or o (first_shown show (next walk row) rows) ≡ Some shows
         → (first_shown show (next walk row) rows ≡ Some shows → Found show (next walk row) rows shows) → Found show walk (row ∷ rows) shows
-    by_show (Some first) is e more = record { front = []; row = row; cut = record { back = rows; parts = refl }; here = is ∙ e; none_before = refl }
+    by_show (Some first) is e more = record {
+      front = [];
+      row = row;
+      cut = record { back = rows; parts = refl };
+      here = is ∙ e;
+      none_before = refl;
+    }
     by_show None is e more =
         let f = more e in
         record {
@@ -125,7 +142,8 @@ open_before : (s : Sequence) (before : List Row) (row : Row) → IsEnded s → C
 open_before s before row e cut =
     elim (cut_at e.body (e.last ∷ []) before row cut.back (sym e.rows_are ∙ cut.parts)) [
       | inl c ↦ all_front (λ (r : Row). r.end_sequence ≡ false) before (row ∷ c.back) (subst AreOpen c.parts e.body_open)
-      | inr b ↦ subst AreOpen (sym (b.front_is ∙ ap (λ (rest : List Row). e.body ++ rest) (none b.rest b.parts) ∙ append-nil e.body)) e.body_open
+      | inr b ↦ subst AreOpen (sym (b.front_is ∙ ap (λ (rest : List Row). e.body ++ rest) (none b.rest b.parts) ∙ append-nil e.body))
+          e.body_open
     ]
   where
     none : (rest : List Row) → e.last ∷ [] ≡ rest ++ row ∷ cut.back → rest ≡ []
@@ -144,12 +162,13 @@ begun_all walk (p ∷ placed) h none =
     ap (λ (w : Walk). w.begun) (walked-append walk p.rows (rows_of placed))
     ∙ begun_all (walked walk p.rows) placed h.1 (begun_ended walk (record { rows = p.rows }) h.0)
 
--- every row stands in a sequence, behind those that have begun it
+-- every row stands in a sequence, after those that have begun it
 record Stands (placed : List Placed) (before : List Row) (row : Row) (index : ℕ) : Type 0 where
   sequence : Placed
   stands : StandsIn placed sequence before row index
 
-stands : (placed : List Placed) → AreEnded placed → (walk : Walk) → walk.begun ≡ [] → (front : List Row) (row : Row) → Cut (rows_of placed) front row
+stands : (placed : List Placed) → AreEnded placed → (walk : Walk) → walk.begun ≡ [] → (front : List Row) (row : Row)
+    → Cut (rows_of placed) front row
     → Stands placed (walked walk front).begun row (length front)
 stands [] ended walk none front row cut = absurd (omega (arith, ap length cut.parts, length-append front (row ∷ cut.back)))
 stands (p ∷ placed) ended walk none front row cut =
@@ -169,9 +188,11 @@ stands (p ∷ placed) ended walk none front row cut =
           }
       | inr b ↦
           let behind = walked walk p.rows in
-          let s = stands placed ended.1 behind (begun_ended walk (record { rows = p.rows }) ended.0) b.rest row (record { back = cut.back; parts = b.parts }) in
+          let s = stands placed ended.1 behind (begun_ended walk (record { rows = p.rows }) ended.0) b.rest row
+          (record { back = cut.back; parts = b.parts }) in
           let same : (walked behind b.rest).begun ≡ (walked walk front).begun =
-          ap (λ (w : Walk). w.begun) (sym (walked-append walk p.rows b.rest)) ∙ ap (λ (rows : List Row). (walked walk rows).begun) (sym b.front_is) in
+          ap (λ (w : Walk). w.begun) (sym (walked-append walk p.rows b.rest))
+          ∙ ap (λ (rows : List Row). (walked walk rows).begun) (sym b.front_is) in
           record {
             sequence = s.sequence;
             stands = record {
@@ -196,7 +217,8 @@ record CutAt (rows : List Row) (walk : Walk) (before : List Row) (row : Row) (in
   begun : (walked walk front).begun ≡ before
   index_is : index ≡ length front
 
-cut_of : (placed : List Placed) → AreEnded placed → (walk : Walk) → walk.begun ≡ [] → (p : Placed) (before : List Row) (row : Row) (index : ℕ)
+cut_of : (placed : List Placed) → AreEnded placed → (walk : Walk) → walk.begun ≡ []
+    → (p : Placed) (before : List Row) (row : Row) (index : ℕ)
     → StandsIn placed p before row index → CutAt (rows_of placed) walk before row index
 cut_of placed ended walk none p before row index s =
     let all : AreEnded (s.earlier ++ p ∷ s.later) = subst AreEnded s.sequences_are ended in
@@ -222,7 +244,7 @@ cut_of placed ended walk none p before row index s =
 
 -- ---- the rows of a unit
 
--- the sequences that they make, where none of them is behind the last end row
+-- the sequences that they make, where none of them is after the last end row
 pub record Whole (ss : List Placed) (all : List Row) : Type 0 where
   pub ended : AreEnded ss
   pub rows_are : rows_of ss ≡ all
@@ -243,7 +265,8 @@ record FoundIn {A : Type 0} (ss : List Placed) (all : List Row) (show : Walk →
   first : (p : Placed) (before : List Row) (other : Row) (index : ℕ) → StandsIn ss p before other index → index < walk.rows
       → (earlier : Walk) × (earlier.begun ≡ before) × (show earlier other ≡ None)
 
-found_in : {A : Type 0} (ss : List Placed) (all : List Row) (show : Walk → Row → Option A) (shows : A) → Whole ss all → first_shown show start all ≡ Some shows
+found_in : {A : Type 0} (ss : List Placed) (all : List Row) (show : Walk → Row → Option A) (shows : A) → Whole ss all
+    → first_shown show start all ≡ Some shows
     → FoundIn ss all show shows
 found_in ss all show shows w e =
     let f = found show start all shows e in
@@ -268,8 +291,12 @@ none_in : {A : Type 0} (ss : List Placed) (all : List Row) (show : Walk → Row 
     → (p : Placed) (before : List Row) (row : Row) (index : ℕ) → StandsIn ss p before row index
     → (walk : Walk) × (walk.begun ≡ before) × (show walk row ≡ None)
 none_in ss all show w e p before row index at =
-    let c = cut_of ss w.ended start refl p before row index at in
-    (walked start c.front, c.begun, not_shown show start all c.front row (record { back = c.cut.back; parts = sym w.rows_are ∙ c.cut.parts }) e)
+    let c = cut_of ss w.ended start refl p before row index at in (
+      walked start c.front,
+      c.begun,
+      not_shown show start all c.front row
+          (record { back = c.cut.back; parts = sym w.rows_are ∙ c.cut.parts }) e,
+    )
 
 -- what holds of each live sequence of the unit, row by row
 live_each : (P : Placed → Type 0) (dead : Option ℕ) (ss : List Placed)
@@ -280,9 +307,11 @@ live_each P dead ss step = along [] ss refl
   where
     along : (earlier later : List Placed) → ss ≡ earlier ++ later → AllByRecursion P (filter (is_live dead) later)
     along earlier [] e = tt
-    along earlier (p ∷ later) e = by_live (is_live dead p) refl (along (earlier ++ p ∷ []) later (e ∙ sym (append_assoc earlier (p ∷ []) later)))
+    along earlier (p ∷ later) e = by_live (is_live dead p) refl
+        (along (earlier ++ p ∷ []) later (e ∙ sym (append_assoc earlier (p ∷ []) later)))
       where
-        by_live : (t : Bool) → is_live dead p ≡ t → AllByRecursion P (filter (is_live dead) later) → AllByRecursion P (cond t (p ∷ filter (is_live dead) later) (filter (is_live dead) later))
+        by_live : (t : Bool) → is_live dead p ≡ t → AllByRecursion P (filter (is_live dead) later)
+            → AllByRecursion P (cond t (p ∷ filter (is_live dead) later) (filter (is_live dead) later))
         by_live true live rest = (
           step p live (λ before row after rows_are. (
             length (rows_of earlier ++ before),
@@ -295,7 +324,8 @@ live_each P dead ss step = along [] ss refl
 -- ---- what a row of a sequence shows
 
 -- its sequence is live as the watch takes it
-live_is : (dead : Option ℕ) (walk : Walk) (row : Row) (p : Placed) (after : List Row) → p.rows ≡ walk.begun ++ row ∷ after → is_in_live dead walk row ≡ is_live dead p
+live_is : (dead : Option ℕ) (walk : Walk) (row : Row) (p : Placed) (after : List Row) → p.rows ≡ walk.begun ++ row ∷ after
+    → is_in_live dead walk row ≡ is_live dead p
 live_is dead walk row p after e = by_begun walk.begun ∙ ap (are_live dead) (sym e)
   where
     by_begun : (begun : List Row) → (grown dead (current_of dead begun) row).live ≡ are_live dead (begun ++ row ∷ after)
@@ -320,7 +350,8 @@ falls_from dead (first ∷ rest) row e = record {
   falls = below_from_test (position_of row) (position_of (last_behind first rest)) e;
 }
 
-falls_test : (dead : Option ℕ) (begun : List Row) (row previous : Row) → last_row begun ≡ Some previous → IsBelow (position_of row) (position_of previous)
+falls_test : (dead : Option ℕ) (begun : List Row) (row previous : Row) → last_row begun ≡ Some previous
+    → IsBelow (position_of row) (position_of previous)
     → falls_behind (current_of dead begun) row ≡ true
 falls_test dead [] row previous e h = absurd cc
 falls_test dead (first ∷ rest) row previous e h =
@@ -337,14 +368,18 @@ shows_not false a e f = cc
 
 -- ---- the first fall
 
-fall_shows : (dead : Option ℕ) (ss : List Placed) (walk : Walk) (index : ℕ) (f : IsFall dead ss index) → walk.begun ≡ f.before → fall_shown dead walk f.row ≡ None → ⊥
+fall_shows : (dead : Option ℕ) (ss : List Placed) (walk : Walk) (index : ℕ) (f : IsFall dead ss index) → walk.begun ≡ f.before
+    → fall_shown dead walk f.row ≡ None → ⊥
 fall_shows dead ss walk index f e none =
     let live : is_in_live dead walk f.row ≡ true =
-    live_is dead walk f.row f.placed f.stands.after (f.stands.rows_are ∙ ap (λ (rows : List Row). rows ++ f.row ∷ f.stands.after) (sym e)) ∙ f.live in
-    let falls : falls_behind (current_of dead walk.begun) f.row ≡ true = falls_test dead walk.begun f.row f.previous (ap last_row e ∙ f.previous_is) f.falls in
+    live_is dead walk f.row f.placed f.stands.after (f.stands.rows_are ∙ ap (λ (rows : List Row). rows ++ f.row ∷ f.stands.after) (sym e))
+    ∙ f.live in
+    let falls : falls_behind (current_of dead walk.begun) f.row ≡ true = falls_test dead walk.begun f.row f.previous
+    (ap last_row e ∙ f.previous_is) f.falls in
     shows_not (is_in_live dead walk f.row && falls_behind (current_of dead walk.begun) f.row) walk.rows none (rw (live, falls) refl)
 
-first_fall : (dead : Option ℕ) (ss : List Placed) (all : List Row) (index : ℕ) → Whole ss all → first_shown (fall_shown dead) start all ≡ Some index → IsFirstFall dead ss index
+first_fall : (dead : Option ℕ) (ss : List Placed) (all : List Row) (index : ℕ) → Whole ss all
+    → first_shown (fall_shown dead) start all ≡ Some index → IsFirstFall dead ss index
 first_fall dead ss all index w e =
     let f = found_in ss all (fall_shown dead) index w e in
     let s = shows (is_in_live dead f.walk f.row && falls_behind (current_of dead f.walk.begun) f.row) f.walk.rows index f.here in
@@ -373,7 +408,8 @@ abbrev AllUpTo : Position → List Row → Type 0
 AllUpTo last rows = All (λ (r : Row). IsAtMost (position_of r) last) rows
 
 abbrev NoneFalls : List Row → Type 0
-NoneFalls rows = (before : List Row) (row : Row) (after : List Row) → rows ≡ before ++ row ∷ after → (previous : Row) → last_row before ≡ Some previous
+NoneFalls rows =
+    (before : List Row) (row : Row) (after : List Row) → rows ≡ before ++ row ∷ after → (previous : Row) → last_row before ≡ Some previous
     → IsAtMost (position_of previous) (position_of row)
 
 last_row-push : (rows : List Row) (more : Row) → last_row (rows ++ more ∷ []) ≡ Some more
@@ -384,14 +420,16 @@ last_row-push (row ∷ rows) more = last_row_is row (rows ++ more ∷ []) ∙ ap
     pushed row [] = refl
     pushed row (next ∷ rows) = pushed next rows
 
-ordered_along : (whole : List Row) → NoneFalls whole → (front : List Row) (last : Row) (back : List Row) → whole ≡ (front ++ last ∷ []) ++ back
+ordered_along : (whole : List Row) → NoneFalls whole → (front : List Row) (last : Row) (back : List Row)
+    → whole ≡ (front ++ last ∷ []) ++ back
     → IsOrdered (front ++ last ∷ []) → AllUpTo (position_of last) (front ++ last ∷ []) → IsOrdered whole
 ordered_along whole none front last [] e o h = subst IsOrdered (sym (e ∙ append-nil (front ++ last ∷ []))) o
 ordered_along whole none front last (row ∷ back) e o h =
     let before = front ++ last ∷ [] in
     let step : IsAtMost (position_of last) (position_of row) = none before row back e last (last_row-push front last) in
     let up : AllUpTo (position_of row) before =
-    All-weaker (λ (r : Row). IsAtMost (position_of r) (position_of last)) (λ (r : Row). IsAtMost (position_of r) (position_of row)) (λ r m. at_most_trans m step) before h in
+    All-weaker (λ (r : Row). IsAtMost (position_of r) (position_of last)) (λ (r : Row). IsAtMost (position_of r) (position_of row))
+    (λ r m. at_most_trans m step) before h in
     ordered_along whole none before row back (e ∙ sym (append_assoc before (row ∷ []) back))
     (all_pairs_push (λ (a : Row) (b : Row). IsAtMost (position_of a) (position_of b)) before row o up)
     (All-push (λ (r : Row). IsAtMost (position_of r) (position_of row)) before row up (at_most_itself (position_of row)))
@@ -400,14 +438,18 @@ ordered_rows : (rows : List Row) → NoneFalls rows → IsOrdered rows
 ordered_rows [] none = λ i j d lt l. absurd (omega arith)
 ordered_rows (row ∷ rows) none =
     ordered_along (row ∷ rows) none [] row rows refl (λ i j d lt l. absurd (omega arith))
-    (All-push (λ (r : Row). IsAtMost (position_of r) (position_of row)) [] row (All-nil (λ (r : Row). IsAtMost (position_of r) (position_of row))) (at_most_itself (position_of row)))
+    (All-push (λ (r : Row). IsAtMost (position_of r) (position_of row)) [] row
+    (All-nil (λ (r : Row). IsAtMost (position_of r) (position_of row))) (at_most_itself (position_of row)))
 
-none_falls : (dead : Option ℕ) (ss : List Placed) (all : List Row) → Whole ss all → first_shown (fall_shown dead) start all ≡ None → AreOrdered (live_of dead ss)
+none_falls : (dead : Option ℕ) (ss : List Placed) (all : List Row) → Whole ss all → first_shown (fall_shown dead) start all ≡ None
+    → AreOrdered (live_of dead ss)
 none_falls dead ss all w e =
     live_each (λ (p : Placed). IsOrdered p.rows) dead ss
-    (λ p live at. ordered_rows p.rows (λ before row after rows_are previous last. step p live before row after rows_are previous last (at before row after rows_are)))
+    (λ p live at. ordered_rows p.rows
+    (λ before row after rows_are previous last. step p live before row after rows_are previous last (at before row after rows_are)))
   where
-    step : (p : Placed) → is_live dead p ≡ true → (before : List Row) (row : Row) (after : List Row) → p.rows ≡ before ++ row ∷ after → (previous : Row) → last_row before ≡ Some previous
+    step : (p : Placed) → is_live dead p ≡ true → (before : List Row) (row : Row) (after : List Row) → p.rows ≡ before ++ row ∷ after
+        → (previous : Row) → last_row before ≡ Some previous
         → (index : ℕ) × StandsIn ss p before row index → IsAtMost (position_of previous) (position_of row)
     step p live before row after rows_are previous last at = by_test (is_below (position_of row) (position_of previous)) refl
       where
@@ -432,13 +474,15 @@ pub falls_judged : (dead : Option ℕ) (unit files : ℕ) (watch : Watch) (all :
     → MatchOption watch.falls (AreOrdered (live_of dead (placed_rows unit all))) (IsFirstFall dead (placed_rows unit all))
 falls_judged dead unit files watch all seen = by_falls watch.falls (sym (seen.seen seen.few).falls_is)
   where
-    by_falls : (o : Option ℕ) → first_shown (fall_shown dead) start all ≡ o → MatchOption o (AreOrdered (live_of dead (placed_rows unit all))) (IsFirstFall dead (placed_rows unit all))
+    by_falls : (o : Option ℕ) → first_shown (fall_shown dead) start all ≡ o
+        → MatchOption o (AreOrdered (live_of dead (placed_rows unit all))) (IsFirstFall dead (placed_rows unit all))
     by_falls None e = none_falls dead (placed_rows unit all) all (whole unit all seen.closed) e
     by_falls (Some index) e = first_fall dead (placed_rows unit all) all index (whole unit all seen.closed) e
 
 -- ---- the first missing file
 
-names_parts : (files : ℕ) (row : Row) (t : Bool) → row.end_sequence ≡ t → (not t && nat_le files row.file) ≡ true → (t ≡ false) × (files ≤ row.file)
+names_parts : (files : ℕ) (row : Row) (t : Bool) → row.end_sequence ≡ t → (not t && nat_le files row.file) ≡ true → (t ≡ false)
+    × (files ≤ row.file)
 names_parts files row false is e = (refl, grind (arith, nat_tests))
 names_parts files row true is e = absurd cc
 
@@ -446,11 +490,13 @@ names_test : (files : ℕ) (row : Row) (t : Bool) → t ≡ false → files ≤ 
 names_test files row false e h = grind (arith, nat_tests)
 names_test files row true e h = absurd cc
 
-file_shows : (dead : Option ℕ) (files : ℕ) (ss : List Placed) (walk : Walk) (missing : MissingFile) (f : IsMissingFile dead files ss missing) → walk.begun ≡ f.before
+file_shows : (dead : Option ℕ) (files : ℕ) (ss : List Placed) (walk : Walk) (missing : MissingFile)
+    (f : IsMissingFile dead files ss missing) → walk.begun ≡ f.before
     → file_shown dead (files) walk f.row ≡ None → ⊥
 file_shows dead files ss walk missing f e none =
     let live : is_in_live dead walk f.row ≡ true =
-    live_is dead walk f.row f.placed f.stands.after (f.stands.rows_are ∙ ap (λ (rows : List Row). rows ++ f.row ∷ f.stands.after) (sym e)) ∙ f.live in
+    live_is dead walk f.row f.placed f.stands.after (f.stands.rows_are ∙ ap (λ (rows : List Row). rows ++ f.row ∷ f.stands.after) (sym e))
+    ∙ f.live in
     let outside : files ≤ f.row.file = let h = f.outside in let same = f.file_is in omega arith in
     let names : names_no_file files f.row ≡ true = names_test files f.row f.row.end_sequence f.no_end outside in
     shows_not (is_in_live dead walk f.row && names_no_file files f.row) (record { row = walk.rows; file = f.row.file }) none (rw live names)
@@ -459,7 +505,8 @@ first_file : (dead : Option ℕ) (files : ℕ) (ss : List Placed) (all : List Ro
     → first_shown (file_shown dead files) start all ≡ Some missing → IsFirstMissingFile dead files ss missing
 first_file dead files ss all missing w e =
     let f = found_in ss all (file_shown dead files) missing w e in
-    let s = shows (is_in_live dead f.walk f.row && names_no_file files f.row) (record { row = f.walk.rows; file = f.row.file }) missing f.here in
+    let s = shows (is_in_live dead f.walk f.row && names_no_file files f.row) (record { row = f.walk.rows; file = f.row.file }) missing
+    f.here in
     let row_is : f.walk.rows ≡ missing.row = ap (λ (m : MissingFile). m.row) s.1 in
     let file_is : f.row.file ≡ missing.file = ap (λ (m : MissingFile). m.file) s.1 in
     let b = both (is_in_live dead f.walk f.row) (names_no_file files f.row) s.0 in
@@ -481,18 +528,22 @@ first_file dead files ss all missing w e =
           file_shows dead files ss none.0 earlier file none.1 none.2;
     }
 
-each_row : (P : Row → Type 0) (rows : List Row) → ((before : List Row) (row : Row) (after : List Row) → rows ≡ before ++ row ∷ after → P row) → AllByRecursion P rows
+each_row : (P : Row → Type 0) (rows : List Row)
+    → ((before : List Row) (row : Row) (after : List Row) → rows ≡ before ++ row ∷ after → P row) → AllByRecursion P rows
 each_row P [] h = tt
-each_row P (row ∷ rows) h = (h [] row rows refl, each_row P rows (λ before other after e. h (row ∷ before) other after (ap (λ (all : List Row). row ∷ all) e)))
+each_row P (row ∷ rows) h =
+    (h [] row rows refl, each_row P rows (λ before other after e. h (row ∷ before) other after (ap (λ (all : List Row). row ∷ all) e)))
 
-all_files : (dead : Option ℕ) (files : ℕ) (ss : List Placed) (all : List Row) → Whole ss all → first_shown (file_shown dead files) start all ≡ None
+all_files : (dead : Option ℕ) (files : ℕ) (ss : List Placed) (all : List Row) → Whole ss all
+    → first_shown (file_shown dead files) start all ≡ None
     → HaveFiles files (live_of dead ss)
 all_files dead files ss all w e =
     live_each (λ (p : Placed). FilesExist files p.rows) dead ss
     (λ p live at. each_row (λ (row : Row). row.end_sequence ≡ false → row.file < files) p.rows
     (λ before row after rows_are no_end. step p live before row no_end (at before row after rows_are)))
   where
-    step : (p : Placed) → is_live dead p ≡ true → (before : List Row) (row : Row) → row.end_sequence ≡ false → (index : ℕ) × StandsIn ss p before row index
+    step : (p : Placed) → is_live dead p ≡ true → (before : List Row) (row : Row) → row.end_sequence ≡ false → (index : ℕ)
+        × StandsIn ss p before row index
         → row.file < files
     step p live before row no_end at = by_test (nat_le files row.file) refl
       where
@@ -502,11 +553,21 @@ all_files dead files ss all w e =
             let none = none_in ss all (file_shown dead files) w e p before row at.0 at.1 in
             let outside : files ≤ row.file = grind (arith, nat_tests) in
             absurd (file_shows dead files ss none.0 (record { row = at.0; file = row.file })
-            (record { placed = p; before = before; row = row; stands = at.1; live = live; no_end = no_end; file_is = refl; outside = omega arith })
+            (record {
+              placed = p;
+              before = before;
+              row = row;
+              stands = at.1;
+              live = live;
+              no_end = no_end;
+              file_is = refl;
+              outside = omega arith;
+            })
             none.1 none.2)
 
 pub files_judged : (dead : Option ℕ) (unit files : ℕ) (watch : Watch) (all : List Row) → HasSeenAll dead unit files watch all
-    → MatchOption watch.missing_file (HaveFiles files (live_of dead (placed_rows unit all))) (IsFirstMissingFile dead files (placed_rows unit all))
+    → MatchOption watch.missing_file (HaveFiles files (live_of dead (placed_rows unit all)))
+    (IsFirstMissingFile dead files (placed_rows unit all))
 files_judged dead unit files watch all seen = by_file watch.missing_file (sym (seen.seen seen.few).file_is)
   where
     by_file : (o : Option MissingFile) → first_shown (file_shown dead files) start all ≡ o
@@ -520,17 +581,21 @@ files_judged dead unit files watch all seen = by_file watch.missing_file (sym (s
 live_one : (P : Placed → Type 0) (dead : Option ℕ) (earlier later : List Placed) (p : Placed) → is_live dead p ≡ true
     → AllByRecursion P (filter (is_live dead) (earlier ++ p ∷ later)) → P p
 live_one P dead earlier later p live all =
-    let here = all_back P (filter (is_live dead) earlier) (filter (is_live dead) (p ∷ later)) (subst (AllByRecursion P) (filter-append (is_live dead) earlier (p ∷ later)) all) in
+    let here = all_back P (filter (is_live dead) earlier) (filter (is_live dead) (p ∷ later))
+    (subst (AllByRecursion P) (filter-append (is_live dead) earlier (p ∷ later)) all) in
     let first : AllByRecursion P (p ∷ filter (is_live dead) later) =
     subst (λ (t : Bool). AllByRecursion P (cond t (p ∷ filter (is_live dead) later) (filter (is_live dead) later))) live here in
     first.0
 
-in_turn : (before : List Row) (row : Row) (after : List Row) (previous : Row) → last_row before ≡ Some previous → IsOrdered (before ++ row ∷ after)
+in_turn : (before : List Row) (row : Row) (after : List Row) (previous : Row) → last_row before ≡ Some previous
+    → IsOrdered (before ++ row ∷ after)
     → IsAtMost (position_of previous) (position_of row)
 in_turn [] row after previous e o = absurd cc
-in_turn (x ∷ []) row after previous e o = subst (λ (r : Row). IsAtMost (position_of r) (position_of row)) (same_Some x previous e) (o 0 1 x (omega arith) (omega arith))
+in_turn (x ∷ []) row after previous e o =
+    subst (λ (r : Row). IsAtMost (position_of r) (position_of row)) (same_Some x previous e) (o 0 1 x (omega arith) (omega arith))
 in_turn (x ∷ y ∷ before) row after previous e o =
-    in_turn (y ∷ before) row after previous e (pairs_tail (λ (a : Row) (b : Row). IsAtMost (position_of a) (position_of b)) x (y ∷ before ++ row ∷ after) o)
+    in_turn (y ∷ before) row after previous e
+    (pairs_tail (λ (a : Row) (b : Row). IsAtMost (position_of a) (position_of b)) x (y ∷ before ++ row ∷ after) o)
 
 pub fall_is_not_ordered : FallIsNotOrdered
 fall_is_not_ordered dead ss index fall ordered =
@@ -547,10 +612,13 @@ pub missing_file_is_not_there : MissingFileIsNotThere
 missing_file_is_not_there dead files ss missing file have =
     let s = file.stands in
     let all : AllByRecursion (λ (p : Placed). FilesExist files p.rows) (filter (is_live dead) (s.earlier ++ file.placed ∷ s.later)) =
-    subst (λ (ps : List Placed). AllByRecursion (λ (p : Placed). FilesExist files p.rows) (filter (is_live dead) ps)) s.sequences_are have in
-    let here : FilesExist files file.placed.rows = live_one (λ (p : Placed). FilesExist files p.rows) dead s.earlier s.later file.placed file.live all in
+    subst (λ (ps : List Placed). AllByRecursion (λ (p : Placed). FilesExist files p.rows) (filter (is_live dead) ps)) s.sequences_are
+    have in
+    let here : FilesExist files file.placed.rows = live_one (λ (p : Placed). FilesExist files p.rows) dead s.earlier s.later file.placed
+    file.live all in
     let below : file.row.file < files =
-    each_at (λ (row : Row). row.end_sequence ≡ false → row.file < files) file.before file.row s.after (subst (FilesExist files) s.rows_are here) file.no_end in
+    each_at (λ (row : Row). row.end_sequence ≡ false → row.file < files) file.before file.row s.after
+    (subst (FilesExist files) s.rows_are here) file.no_end in
     let outside = file.outside in
     let same = file.file_is in
     omega arith

@@ -33,13 +33,20 @@ last_found p (row ∷ rows) =
     one_more : (o : Option Row) (t : Bool) → is_at_most (position_of row) p ≡ t → MatchOption o (AreAbove p rows) (IsLastAt p rows)
         → MatchOption (option_or o (cond t (Some row) None)) (AreAbove p (row ∷ rows)) (IsLastAt p (row ∷ rows))
     one_more (Some r) t e h =
-        record { before = row ∷ h.before; behind = h.behind; rows_are = ap (λ (xs : List Row). row ∷ xs) h.rows_are; at = h.at; above = h.above }
+        record {
+          before = row ∷ h.before;
+          behind = h.behind;
+          rows_are = ap (λ (xs : List Row). row ∷ xs) h.rows_are;
+          at = h.at;
+          above = h.above;
+        }
     one_more None true e h = record { before = []; behind = rows; rows_are = refl; at = at_most_from_test (position_of row) p e; above = h }
     one_more None false e h = (below_from_not_at_most (position_of row) p e, h)
 
 -- ---- the sequence
 
-one_alone : (sequences : List Placed) (one other : Placed) (p : Position) → AreApart sequences → Contains sequences one → Contains sequences other → Holds one.rows p → Holds other.rows p
+one_alone : (sequences : List Placed) (one other : Placed) (p : Position) → AreApart sequences → Contains sequences one
+    → Contains sequences other → Holds one.rows p → Holds other.rows p
     → one ≡ other
 one_alone sequences one other p apart a b h k =
     let two = each_two_from_pairs Apart (λ s t f q x y. f q y x) sequences apart in
@@ -47,7 +54,8 @@ one_alone sequences one other p apart a b h k =
     ⊎_elim
     (λ (e : a.0 ≡ b.0). sym a.2 ∙ ap (λ (n : ℕ). get_or sequences n one) e ∙ other_at)
     (λ (ne : (a.0 ≡ b.0) → ⊥).
-    absurd (two a.0 b.0 one ne a.1 b.1 p (subst (λ (s : Placed). Holds s.rows p) (sym a.2) h) (subst (λ (s : Placed). Holds s.rows p) (sym other_at) k)))
+    absurd (two a.0 b.0 one ne a.1 b.1 p (subst (λ (s : Placed). Holds s.rows p) (sym a.2) h)
+    (subst (λ (s : Placed). Holds s.rows p) (sym other_at) k)))
     (cases_eq a.0 b.0)
 
 said_by : Position → Option Placed → Option Answer
@@ -65,9 +73,12 @@ held sequences placed p apart c h =
       ap (said_by p) one ∙ ap (λ (o : Option Row). option_map (answer_of placed.id.unit) o) row.1,
     )
 
-none : (sequences : List Placed) (p : Position) → ((placed : Placed) → Contains sequences placed → Holds placed.rows p → ⊥) → answer_in sequences p ≡ None
+none : (sequences : List Placed) (p : Position) → ((placed : Placed) → Contains sequences placed → Holds placed.rows p → ⊥)
+    → answer_in sequences p ≡ None
 unfolding said_by
-none sequences p h = ap (said_by p) (find_none (λ (s : Placed). holds p s.rows) sequences (λ k d l. by_test (get_or sequences k d) (Contains-get_or sequences k d l)))
+none sequences p h =
+    ap (said_by p) (find_none (λ (s : Placed). holds p s.rows) sequences
+    (λ k d l. by_test (get_or sequences k d) (Contains-get_or sequences k d l)))
   where
     by_test : (placed : Placed) → Contains sequences placed → holds p placed.rows ≡ false
     by_test placed c = by (holds p placed.rows) refl

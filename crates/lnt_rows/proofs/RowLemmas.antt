@@ -1,5 +1,6 @@
 -- What the spans of a sequence answer is what its rows answer.
-use Rattle.std.proofs.Common.{◌≡◌, ℕ, suc, Bool, true, false, cond, ◌&&◌, List, [], ◌∷◌, ◌++◌, reverse, Option, Some, None, refl, sym, ap, ◌∙◌, arith}
+use Rattle.std.proofs.Common.{◌≡◌, ℕ, suc, Bool, true, false, cond, ◌&&◌, List, [], ◌∷◌, ◌++◌, reverse, Option, Some}
+use Rattle.std.proofs.Common.{None, refl, sym, ap, ◌∙◌, arith}
 use Rattle.std.specs.List.{find}
 use Rattle.std.specs.Option.{option_map, option_and_then, option_or}
 use Rattle.std.proofs.lemmas.List.{reverse-append}
@@ -11,7 +12,9 @@ use Rattle.lnt_spans.specs.declared.span.Span.{Span}
 use Rattle.lnt_spans.specs.Positions.{IsBelow, IsAtMost, is_below, is_at_most}
 use Rattle.lnt_spans.specs.Spans.{is_in_span, span_answer}
 use Rattle.lnt_spans.specs.Laws.Between.{AreBetween, between_from, none_below}
-use Rattle.lnt_spans.specs.Laws.Positions.{at_most_below, at_most_from_test, at_most_itself, at_most_trans, below_at_most, below_from_not_at_most, below_from_test, test_at_most, test_below, test_not_at_most, test_not_below}
+use Rattle.lnt_spans.specs.Laws.Positions.{at_most_below, at_most_from_test, at_most_itself, at_most_trans}
+use Rattle.lnt_spans.specs.Laws.Positions.{below_at_most, below_from_not_at_most, below_from_test, test_at_most}
+use Rattle.lnt_spans.specs.Laws.Positions.{test_below, test_not_at_most, test_not_below}
 use Rattle.lnt_rows.specs.RowSpans.{span_between, spans_behind, row_spans, spans_of}
 use Rattle.lnt_rows.specs.Rules.{AreOrdered, IsOrdered}
 use Rattle.lnt_rows.specs.Sequences.{answer_in, answer_of, holds, Placed, position_of, row_at}
@@ -47,15 +50,18 @@ rising_last row (next ∷ rows) h = at_most_trans h.0 (rising_last next rows h.1
 
 step_between : (unit : ℕ) (row next : Row) (spans : List Span) (c : Position) (t : Bool) → is_below (position_of row) (position_of next) ≡ t
     → IsAtMost (position_of row) (position_of next) → AreBetween (position_of next) spans c
-    → AreBetween (position_of row) (cond t (record { low = position_of row; high = position_of next; answer = answer_of unit row } ∷ []) [] ++ spans) c
-step_between unit row next spans c true e h k = (at_most_itself (position_of row), below_from_test (position_of row) (position_of next) e, k)
+    → AreBetween (position_of row) (cond t (record { low = position_of row; high = position_of next; answer = answer_of unit row } ∷ []) []
+    ++ spans) c
+step_between unit row next spans c true e h k =
+    (at_most_itself (position_of row), below_from_test (position_of row) (position_of next) e, k)
 step_between unit row next spans c false e h k = between_from (position_of row) (position_of next) c spans h k
 
 pub behind_between : (unit : ℕ) (row : Row) (rows : List Row) → IsRising row rows
     → AreBetween (position_of row) (spans_behind unit row rows) (position_of (last_behind row rows))
 behind_between unit row [] h = at_most_itself (position_of row)
 behind_between unit row (next ∷ rows) h =
-    step_between unit row next (spans_behind unit next rows) (position_of (last_behind next rows)) (is_below (position_of row) (position_of next)) refl h.0
+    step_between unit row next (spans_behind unit next rows) (position_of (last_behind next rows))
+    (is_below (position_of row) (position_of next)) refl h.0
     (behind_between unit next rows h.1)
 
 -- ---- the last row at or before a position
@@ -70,7 +76,8 @@ or_some : (o : Option Row) (row : Row) → (found : Row) × (option_or o (Some r
 or_some None row = (row, refl)
 or_some (Some x) row = (x, refl)
 
-pub some_at : (p : Position) (row : Row) (rows : List Row) → IsAtMost (position_of row) p → (found : Row) × (row_at p (row ∷ rows) ≡ Some found)
+pub some_at : (p : Position) (row : Row) (rows : List Row) → IsAtMost (position_of row) p → (found : Row)
+    × (row_at p (row ∷ rows) ≡ Some found)
 some_at p row rows h =
     let some = or_some (row_at p rows) row in
     (some.0, row_at_cons p row rows ∙ rw (test_at_most (position_of row) p h) some.1)
@@ -99,18 +106,24 @@ pass : (unit : ℕ) (row next : Row) (p : Position) (t : Bool) → IsAtMost (pos
 pass unit row next p false h = refl
 pass unit row next p true h = rw (test_not_below p (position_of next) h) (both_none (is_at_most (position_of row) p))
   where
-    both_none : (b : Bool) → option_map (λ (s : Span). s.answer) (cond (b && false) (Some (record { low = position_of row; high = position_of next; answer = answer_of unit row })) None) ≡ None
+    both_none : (b : Bool)
+        → option_map (λ (s : Span). s.answer)
+        (cond (b && false) (Some (record { low = position_of row; high = position_of next; answer = answer_of unit row })) None) ≡ None
     both_none true = refl
     both_none false = refl
 
 pub behind_answers : (unit : ℕ) (row : Row) (rows : List Row) (p : Position) → IsRising row rows → IsAtMost (position_of row) p
-    → span_answer (spans_behind unit row rows) p ≡ cond (is_below p (position_of (last_behind row rows))) (option_map (answer_of unit) (row_at p (row ∷ rows))) None
+    → span_answer (spans_behind unit row rows) p ≡ cond (is_below p (position_of (last_behind row rows)))
+    (option_map (answer_of unit) (row_at p (row ∷ rows))) None
 behind_answers unit row [] p h k = rw (test_not_below p (position_of row) k) refl
 behind_answers unit row (next ∷ rows) p h k = by_next (is_at_most (position_of next) p) refl (λ at. behind_answers unit next rows p h.1 at)
   where
     by_next : (t : Bool) → is_at_most (position_of next) p ≡ t
-        → (IsAtMost (position_of next) p → span_answer (spans_behind unit next rows) p ≡ cond (is_below p (position_of (last_behind next rows))) (option_map (answer_of unit) (row_at p (next ∷ rows))) None)
-        → span_answer (spans_behind unit row (next ∷ rows)) p ≡ cond (is_below p (position_of (last_behind next rows))) (option_map (answer_of unit) (row_at p (row ∷ next ∷ rows))) None
+        → (IsAtMost (position_of next) p
+        → span_answer (spans_behind unit next rows) p ≡ cond (is_below p (position_of (last_behind next rows)))
+        (option_map (answer_of unit) (row_at p (next ∷ rows))) None)
+        → span_answer (spans_behind unit row (next ∷ rows)) p ≡ cond (is_below p (position_of (last_behind next rows)))
+        (option_map (answer_of unit) (row_at p (row ∷ next ∷ rows))) None
     by_next true e rest =
         let at = at_most_from_test (position_of next) p e in
         let found = some_at p next rows at in
@@ -119,8 +132,17 @@ behind_answers unit row (next ∷ rows) p h k = by_next (is_at_most (position_of
         ∙ rw (pass unit row next p (is_below (position_of row) (position_of next)) at, same) (rest at)
     by_next false e rest =
         let above = below_from_not_at_most (position_of next) p e in
-        let one : row_at p (row ∷ next ∷ rows) ≡ Some row = row_at_cons p row (next ∷ rows) ∙ rw (none_at p next rows h.1 above, test_at_most (position_of row) p k) refl in
-        rw (one, test_below p (position_of (last_behind next rows)) (below_at_most above (rising_last next rows h.1)), test_below (position_of row) (position_of next) (at_most_below k above), test_at_most (position_of row) p k, test_below p (position_of next) above) refl
+        let one : row_at p (row ∷ next ∷ rows) ≡ Some row = row_at_cons p row (next ∷ rows)
+        ∙ rw (none_at p next rows h.1 above, test_at_most (position_of row) p k) refl in
+        rw (
+          one,
+          test_below p (position_of (last_behind next rows)) (below_at_most above (rising_last next rows h.1)),
+          test_below
+              (position_of row) (position_of next) (at_most_below k above),
+          test_at_most (position_of row) p k,
+          test_below p (position_of next)
+              above,
+        ) refl
 
 -- ---- A sequence answers by its spans as by its rows.
 
@@ -138,28 +160,35 @@ rising_list (row ∷ rows) o = rising_from_ordered row rows o
 pub holds_is : (row : Row) (rows : List Row) (p : Position)
     → holds p (row ∷ rows) ≡ (is_at_most (position_of row) p && is_below p (position_of (last_behind row rows)))
 holds_is row rows p =
-    ap (λ (o : Option Row). elim o [ None ↦ false | Some last ↦ is_at_most (position_of row) p && is_below p (position_of last) ]) (last_row_is row rows)
+    ap (λ (o : Option Row). elim o [ None ↦ false | Some last ↦ is_at_most (position_of row) p && is_below p (position_of last) ])
+    (last_row_is row rows)
 
-pub row_spans_answer : (unit : ℕ) (rows : List Row) (p : Position) → IsRisingList rows → span_answer (row_spans unit rows) p ≡ sequence_answer unit rows p
+pub row_spans_answer : (unit : ℕ) (rows : List Row) (p : Position) → IsRisingList rows
+    → span_answer (row_spans unit rows) p ≡ sequence_answer unit rows p
 row_spans_answer unit [] p h = refl
 row_spans_answer unit (row ∷ rows) p h = by_first (is_at_most (position_of row) p) refl
   where
-    by_first : (t : Bool) → is_at_most (position_of row) p ≡ t → span_answer (spans_behind unit row rows) p ≡ sequence_answer unit (row ∷ rows) p
+    by_first : (t : Bool) → is_at_most (position_of row) p ≡ t
+        → span_answer (spans_behind unit row rows) p ≡ sequence_answer unit (row ∷ rows) p
     by_first true e = rw (holds_is row rows p, e) (behind_answers unit row rows p h (at_most_from_test (position_of row) p e))
     by_first false e =
         rw (holds_is row rows p, e)
-        (none_below (position_of row) (position_of (last_behind row rows)) (spans_behind unit row rows) p (behind_between unit row rows h) (below_from_not_at_most (position_of row) p e))
+        (none_below (position_of row) (position_of (last_behind row rows)) (spans_behind unit row rows) p (behind_between unit row rows h)
+        (below_from_not_at_most (position_of row) p e))
 
 -- where it holds p, there is a row at or before p
 pub holds_some : (rows : List Row) (p : Position) → holds p rows ≡ true → (found : Row) × (row_at p rows ≡ Some found)
 holds_some [] p h = absurd cc
-holds_some (row ∷ rows) p h = some_at p row rows (at_most_from_test (position_of row) p (first_true (is_at_most (position_of row) p) (is_below p (position_of (last_behind row rows))) (sym (holds_is row rows p) ∙ h)))
+holds_some (row ∷ rows) p h =
+    some_at p row rows (at_most_from_test (position_of row) p
+    (first_true (is_at_most (position_of row) p) (is_below p (position_of (last_behind row rows))) (sym (holds_is row rows p) ∙ h)))
   where
     first_true : (a b : Bool) → (a && b) ≡ true → a ≡ true
     first_true true b e = refl
     first_true false b e = e
 
-pub spans_answer : (sequences : List Placed) → AreOrdered sequences → (p : Position) → span_answer (spans_of sequences) p ≡ answer_in sequences p
+pub spans_answer : (sequences : List Placed) → AreOrdered sequences → (p : Position)
+    → span_answer (spans_of sequences) p ≡ answer_in sequences p
 spans_answer [] o p = refl
 spans_answer (placed ∷ sequences) o p =
     span_answer-append (row_spans placed.id.unit placed.rows) (spans_of sequences) p
@@ -167,7 +196,8 @@ spans_answer (placed ∷ sequences) o p =
     (one_more (holds p placed.rows) (find (λ (q : Placed). holds p q.rows) sequences) (λ e. holds_some placed.rows p e))
   where
     one_more : (t : Bool) (others : Option Placed) → (t ≡ true → (found : Row) × (row_at p placed.rows ≡ Some found))
-        → option_or (cond t (option_map (answer_of placed.id.unit) (row_at p placed.rows)) None) (option_and_then (λ (q : Placed). option_map (answer_of q.id.unit) (row_at p q.rows)) others)
+        → option_or (cond t (option_map (answer_of placed.id.unit) (row_at p placed.rows)) None)
+        (option_and_then (λ (q : Placed). option_map (answer_of q.id.unit) (row_at p q.rows)) others)
         ≡ option_and_then (λ (q : Placed). option_map (answer_of q.id.unit) (row_at p q.rows)) (cond t (Some placed) others)
     one_more false others some = refl
     one_more true others some = let found = some refl in rw found.1 refl

@@ -10,7 +10,8 @@ use Rattle.lnt_rows.specs.Sequences.{Placed, position_of}
 use Rattle.lnt_rows.specs.Watching.{last_behind}
 use Rattle.lnt_rows.proofs.RowLemmas.{behind_between, rising_from_ordered}
 
-pub spans_between : (low high : Position) (sequences : List Placed) → StandInTurn low sequences high → AreOrdered sequences → AreBetween low (spans_of sequences) high
+pub spans_between : (low high : Position) (sequences : List Placed) → StandInTurn low sequences high → AreOrdered sequences
+    → AreBetween low (spans_of sequences) high
 spans_between low high [] turn ordered = turn
 spans_between low high (placed ∷ sequences) (row, rows, are, from, others) ordered =
     let here : AreBetween (position_of row) (spans_behind placed.id.unit row rows) (position_of (last_behind row rows)) =
@@ -22,4 +23,5 @@ spans_between low high (placed ∷ sequences) (row, rows, are, from, others) ord
     (spans_between (position_of (last_behind row rows)) high sequences others ordered.1)
 
 pub spans_in_turn : SpansInTurn
-spans_in_turn low high sequences turn ordered = order_from_between low high (spans_of sequences) (spans_between low high sequences turn ordered)
+spans_in_turn low high sequences turn ordered =
+    order_from_between low high (spans_of sequences) (spans_between low high sequences turn ordered)

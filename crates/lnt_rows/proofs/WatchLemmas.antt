@@ -1,5 +1,6 @@
 -- What a watch remembers, and what is collected, one row more.
-use Rattle.std.proofs.Common.{◌≡◌, ℕ, ◌+◌, ◌^◌, ◌<◌, ◌≤◌, Bool, true, false, cond, ◌&&◌, List, [], ◌∷◌, ◌++◌, Option, Some, None, refl, sym, ap, ◌∙◌, arith, append_assoc, length}
+use Rattle.std.proofs.Common.{◌≡◌, ℕ, ◌+◌, ◌^◌, ◌<◌, ◌≤◌, Bool, true, false, cond, ◌&&◌, List, [], ◌∷◌, ◌++◌, Option}
+use Rattle.std.proofs.Common.{Some, None, refl, sym, ap, ◌∙◌, arith, append_assoc, length}
 use Rattle.std.specs.Option.{option_or}
 use Rattle.std.proofs.lemmas.List.{length-append}
 use Rattle.lnt_machine.specs.declared.row.Row.{Row}
@@ -10,12 +11,15 @@ use Rattle.lnt_rows.specs.declared.watch.MissingFile.{MissingFile}
 use Rattle.lnt_rows.specs.declared.watch.Watch.{Watch}
 use Rattle.lnt_rows.specs.Extents.{extents_of}
 use Rattle.lnt_rows.specs.Sequences.{Placed}
-use Rattle.lnt_rows.specs.Watching.{closed, CollectsRows, counted, current_of, extent_from, extent_shown, fall_shown, falls_behind, file_shown, gone_on, grown, HasSeen, longer, names_no_file, next, noted, shown, start, Walk, walked}
+use Rattle.lnt_rows.specs.Watching.{closed, CollectsRows, counted, current_of, extent_from, extent_shown, fall_shown}
+use Rattle.lnt_rows.specs.Watching.{falls_behind, file_shown, gone_on, grown, HasSeen, longer, names_no_file, next}
+use Rattle.lnt_rows.specs.Watching.{noted, shown, start, Walk, walked}
 use Rattle.lnt_rows.specs.Laws.Walks.{first_shown-push, last_behind-push, shown-push, walked-append, walked-rows}
 
 -- ---- where the rows have come to
 
-current-push : (dead : Option ℕ) (begun : List Row) (row : Row) → current_of dead (begun ++ row ∷ []) ≡ Some (grown dead (current_of dead begun) row)
+current-push : (dead : Option ℕ) (begun : List Row) (row : Row)
+    → current_of dead (begun ++ row ∷ []) ≡ Some (grown dead (current_of dead begun) row)
 current-push dead [] row = refl
 current-push dead (first ∷ rest) row = rw (last_behind-push first rest row) refl
 
@@ -49,7 +53,8 @@ ended_few walk (row ∷ rows) =
 -- ---- one more row
 
 pub seen_none : (dead : Option ℕ) (unit files : ℕ) (watch : Watch)
-    → watch ≡ record { dead = dead; unit = unit; files = files; rows = 0; ended = 0; current = None; falls = None; missing_file = None } → HasSeen dead unit files watch []
+    → watch ≡ record { dead = dead; unit = unit; files = files; rows = 0; ended = 0; current = None; falls = None; missing_file = None }
+    → HasSeen dead unit files watch []
 seen_none dead unit files watch e few = record {
   dead_is = ap (λ (w : Watch). w.dead) e;
   unit_is = ap (λ (w : Watch). w.unit) e;
@@ -89,7 +94,8 @@ seen_more dead unit files rows old new row current is e seen few =
           let counts : counted old.rows ≡ walk.rows + 1 = let same = r.rows_is in omega arith in
           ap (λ (w : Watch). w.rows) e ∙ counts ∙ sym (next-rows walk row row.end_sequence) ∙ ap (λ (w : Walk). w.rows) there;
       ended_is =
-          ap (λ (w : Watch). w.ended) e ∙ next-ended walk row row.end_sequence old.ended r.ended_is (omega arith) ∙ ap (λ (w : Walk). w.ended) there;
+          ap (λ (w : Watch). w.ended) e ∙ next-ended walk row row.end_sequence old.ended r.ended_is (omega arith)
+          ∙ ap (λ (w : Walk). w.ended) there;
       current_is =
           ap (λ (w : Watch). w.current) step
           ∙ ap (λ (d : Option ℕ). cond row.end_sequence None (Some (grown d old.current row))) r.dead_is
@@ -117,7 +123,8 @@ seen_more dead unit files rows old new row current is e seen few =
 abbrev extents_next : Option ℕ → ℕ → ℕ → Option Current → Row → List Extent
 extents_next dead unit ended current row = cond (grown dead current row).live (extent_from unit ended current row) []
 
-pub collects_more : (dead : Option ℕ) (unit files : ℕ) (rows : List Row) (ss : List Placed) (watch : Watch) (old new : Collected) (row : Row) (current : Current)
+pub collects_more : (dead : Option ℕ) (unit files : ℕ) (rows : List Row) (ss : List Placed) (watch : Watch) (old new : Collected)
+    (row : Row) (current : Current)
     → current ≡ grown watch.dead watch.current row
     → new.extents.items ≡ old.extents.items ++ cond current.live (extent_from watch.unit watch.ended watch.current row) []
     → HasSeen dead unit files watch rows → CollectsRows dead unit old ss rows → CollectsRows dead unit new ss (rows ++ row ∷ [])
@@ -131,9 +138,11 @@ collects_more dead unit files rows ss watch old new row current is extents seen 
           extents
           ∙ ap (λ (g : Current). old.extents.items ++ cond g.live (extent_from watch.unit watch.ended watch.current row) []) is
           ∙ ap (λ (all : List Extent). all ++ extents_next watch.dead watch.unit watch.ended watch.current row) c.extents
-          ∙ append_assoc (extents_of ss) (shown (extent_shown dead unit) start rows) (extents_next watch.dead watch.unit watch.ended watch.current row)
+          ∙ append_assoc (extents_of ss) (shown (extent_shown dead unit) start rows)
+          (extents_next watch.dead watch.unit watch.ended watch.current row)
           ∙ ap (λ (all : List Extent). extents_of ss ++ all)
-          (ap (λ (d : Option ℕ). shown (extent_shown dead unit) start rows ++ extents_next d watch.unit watch.ended watch.current row) r.dead_is
+          (ap (λ (d : Option ℕ). shown (extent_shown dead unit) start rows ++ extents_next d watch.unit watch.ended watch.current row)
+          r.dead_is
           ∙ ap (λ (u : ℕ). shown (extent_shown dead unit) start rows ++ extents_next dead u watch.ended watch.current row) r.unit_is
           ∙ ap (λ (n : ℕ). shown (extent_shown dead unit) start rows ++ extents_next dead unit n watch.current row) r.ended_is
           ∙ ap (λ (o : Option Current). shown (extent_shown dead unit) start rows ++ extents_next dead unit walk.ended o row) r.current_is

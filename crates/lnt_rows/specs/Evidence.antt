@@ -10,7 +10,7 @@ use Rattle.lnt_rows.specs.Sequences.{position_of, last_row, is_live, Placed}
 abbrev pub rows_of : List Placed → List Row
 rows_of sequences = flat_map (λ placed. placed.rows) sequences
 
--- The row with this index stands in the sequence, behind these rows of it.
+-- The row with this index stands in the sequence, after these rows of it.
 pub record StandsIn (sequences : List Placed) (placed : Placed) (before : List Row) (row : Row) (index : ℕ) : Type 0 where
   pub earlier : List Placed
   pub later : List Placed

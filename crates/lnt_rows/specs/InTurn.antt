@@ -17,11 +17,14 @@ use Rattle.lnt_rows.specs.Watching.{last_behind}
 abbrev pub StandInTurn : Position → List Placed → Position → Type 0
 StandInTurn low [] high = IsAtMost low high
 StandInTurn low (placed ∷ sequences) high =
-    (row : Row) × (rows : List Row) × (placed.rows ≡ row ∷ rows) × IsAtMost low (position_of row) × StandInTurn (position_of (last_behind row rows)) sequences high
+    (row : Row) × (rows : List Row) × (placed.rows ≡ row ∷ rows) × IsAtMost low (position_of row)
+    × StandInTurn (position_of (last_behind row rows)) sequences high
 
 -- Ordered sequences one after another have spans in order.
 abbrev pub SpansInTurn : Type 0
-SpansInTurn = (low high : Position) (sequences : List Placed) → StandInTurn low sequences high → AreOrdered sequences → AreInOrder (spans_of sequences)
+SpansInTurn =
+    (low high : Position) (sequences : List Placed) → StandInTurn low sequences high → AreOrdered sequences
+    → AreInOrder (spans_of sequences)
 
 -- ---- the sequences that settled extents are of, in their order
 
@@ -42,5 +45,7 @@ pub record HaveSpansInOrder (sequences : List Placed) (entries : List Extent) : 
 
 -- So it is of ordered sequences no two of which hold one position, and of their extents, settled.
 abbrev pub EntriesInTurn : Type 0
-EntriesInTurn = (sequences : List Placed) (entries : List Extent) → AreSettled entries → IsPermutation (extents_of sequences) entries → AreApart sequences → AreOrdered sequences
+EntriesInTurn =
+    (sequences : List Placed) (entries : List Extent) → AreSettled entries → IsPermutation (extents_of sequences) entries
+    → AreApart sequences → AreOrdered sequences
     → HaveSpansInOrder sequences entries

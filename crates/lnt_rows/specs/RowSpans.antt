@@ -9,9 +9,10 @@ use Rattle.lnt_rows.specs.Sequences.{position_of, answer_of, Placed}
 -- the span from a row up to the next, if it holds anything
 abbrev pub span_between : ℕ → Row → Row → List Span
 span_between unit row next =
-    cond (is_below (position_of row) (position_of next)) (record { low = position_of row; high = position_of next; answer = answer_of unit row } ∷ []) []
+    cond (is_below (position_of row) (position_of next))
+    (record { low = position_of row; high = position_of next; answer = answer_of unit row } ∷ []) []
 
--- the spans of a row and the rows behind it
+-- the spans of a row and the rows after it
 abbrev pub spans_behind : ℕ → Row → List Row → List Span
 spans_behind unit row [] = []
 spans_behind unit row (next ∷ rows) = span_between unit row next ++ spans_behind unit next rows

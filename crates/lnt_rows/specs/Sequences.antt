@@ -23,7 +23,8 @@ pub record Placed : Type 0 where
 
 -- the sequences that rows make, in a unit at an offset
 abbrev pub placed_rows : ℕ → List Row → List Placed
-placed_rows unit rows = map (λ p. record { id = record { unit = unit; index = p.0 }; rows = p.1.rows }) (enumerate_from 0 (sequences_of rows))
+placed_rows unit rows =
+    map (λ p. record { id = record { unit = unit; index = p.0 }; rows = p.1.rows }) (enumerate_from 0 (sequences_of rows))
 
 -- the sequences of a unit, which stands at an offset
 abbrev pub placed_in : ℕ × Parts → List Placed
@@ -94,7 +95,8 @@ is_same p q = p.address == q.address && p.op == q.op
 -- whether what begins and ends with the first two rows holds a position, and begins and ends where the other two do
 abbrev pub ends_alike : Option Row → Option Row → Option Row → Option Row → Bool
 ends_alike (Some first) (Some last) (Some other) (Some other_last) =
-    is_below (position_of first) (position_of last) && (is_same (position_of first) (position_of other) && is_same (position_of last) (position_of other_last))
+    is_below (position_of first) (position_of last) &&
+    (is_same (position_of first) (position_of other) && is_same (position_of last) (position_of other_last))
 ends_alike _ _ _ _ = false
 
 -- whether two sequences hold a position, and begin and end at the same ones
@@ -103,7 +105,8 @@ hold_alike rows others = ends_alike (first_row rows) (last_row rows) (first_row 
 
 -- A sequence that holds a position is a copy where one that stands before it begins and ends at the same positions.
 abbrev pub is_copy : List Placed → Placed → Bool
-is_copy sequences placed = list_any (λ (earlier : Placed). stands_before earlier.id placed.id && hold_alike placed.rows earlier.rows) sequences
+is_copy sequences placed =
+    list_any (λ (earlier : Placed). stands_before earlier.id placed.id && hold_alike placed.rows earlier.rows) sequences
 
 -- the sequences that are kept of these: all, or all but the copies where these are skipped
 abbrev pub kept_of : Bool → List Placed → List Placed
@@ -134,7 +137,8 @@ row_at p rows = find (λ row. is_at_most (position_of row) p) (reverse rows)
 -- What sequences answer at p: what that row says, in the first sequence that holds p; nothing where none holds it.
 abbrev pub answer_in : List Placed → Position → Option Answer
 answer_in sequences p =
-    option_and_then (λ (placed : Placed). option_map (answer_of placed.id.unit) (row_at p placed.rows)) (find (λ placed. holds p placed.rows) sequences)
+    option_and_then (λ (placed : Placed). option_map (answer_of placed.id.unit) (row_at p placed.rows))
+    (find (λ placed. holds p placed.rows) sequences)
 
 -- What the rows of a section answer at p: those of its kept sequences.
 abbrev pub line_answer : Option ℕ → Bool → List (ℕ × Parts) → Position → Option Answer

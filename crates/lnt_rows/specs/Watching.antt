@@ -2,7 +2,8 @@
 --
 -- A caller needs Collects, HasSeen, HasSeenAll and CollectsRows alone. What they say of a whole unit stands in the
 -- contracts of `missing_file` and `falls`, and in the law `collected_unit`.
-use Rattle.std.specs.Prelude.{◌≡◌, ℕ, ◌+◌, ◌-◌, ◌^◌, ◌<◌, Bool, false, not, cond, ◌&&◌, nat_le, min, List, [], ◌∷◌, ◌++◌, length, Option, Some, None}
+use Rattle.std.specs.Prelude.{◌≡◌, ℕ, ◌+◌, ◌-◌, ◌^◌, ◌<◌, Bool, false, not, cond, ◌&&◌, nat_le, min, List, [], ◌∷◌}
+use Rattle.std.specs.Prelude.{◌++◌, length, Option, Some, None}
 use Rattle.std.specs.Option.{option_or}
 use Rattle.lnt_machine.specs.declared.row.Row.{Row}
 use Rattle.lnt_machine.specs.Matrix.{joined_rows, sequences_of}
@@ -33,7 +34,8 @@ grown dead (Some current) row = record current { last = position_of row }
 -- the extent that ends at a row
 abbrev pub extent_from : ℕ → ℕ → Option Current → Row → List Extent
 extent_from unit index None row = []
-extent_from unit index (Some current) row = cond row.end_sequence (extent_between (record { unit = unit; index = index }) current.low (position_of row)) []
+extent_from unit index (Some current) row =
+    cond row.end_sequence (extent_between (record { unit = unit; index = index }) current.low (position_of row)) []
 
 -- whether a row's position is below that of the row before it in its sequence
 abbrev pub falls_behind : Option Current → Row → Bool
@@ -48,7 +50,8 @@ names_no_file files row = not row.end_sequence && nat_le files row.file
 abbrev pub noted : Watch → Row → Bool → Watch
 noted watch row live = record watch {
   falls = option_or watch.falls (cond (live && falls_behind watch.current row) (Some watch.rows) None);
-  missing_file = option_or watch.missing_file (cond (live && names_no_file watch.files row) (Some (record { row = watch.rows; file = row.file })) None);
+  missing_file = option_or watch.missing_file
+      (cond (live && names_no_file watch.files row) (Some (record { row = watch.rows; file = row.file })) None);
 }
 
 -- one more, up to the greatest number
@@ -101,7 +104,7 @@ first_shown show walk (row ∷ rows) = option_or (show walk row) (first_shown sh
 
 -- ---- what a row shows
 
--- the last of a row and the rows behind it
+-- the last of a row and the rows after it
 abbrev pub last_behind : Row → List Row → Row
 last_behind row [] = row
 last_behind row (next ∷ rows) = last_behind next rows
@@ -109,7 +112,8 @@ last_behind row (next ∷ rows) = last_behind next rows
 -- the sequence that hasn't ended, by its rows so far
 abbrev pub current_of : Option ℕ → List Row → Option Current
 current_of dead [] = None
-current_of dead (row ∷ rows) = Some (record { live = begins_live dead row; low = position_of row; last = position_of (last_behind row rows) })
+current_of dead (row ∷ rows) =
+    Some (record { live = begins_live dead row; low = position_of row; last = position_of (last_behind row rows) })
 
 -- whether a row's sequence is live
 abbrev pub is_in_live : Option ℕ → Walk → Row → Bool
@@ -143,7 +147,7 @@ pub record Remembers (dead : Option ℕ) (unit files : ℕ) (watch : Watch) (row
 abbrev pub HasSeen : Option ℕ → ℕ → ℕ → Watch → List Row → Type 0
 HasSeen dead unit files watch rows = length rows < 2 ^ 64 → Remembers dead unit files watch rows
 
--- It has seen these rows, and each of them stands in a sequence: none is behind the last end row. So it is where a unit's
+-- It has seen these rows, and each of them stands in a sequence: none is after the last end row. So it is where a unit's
 -- program runs, and these are all rows of the unit.
 pub record HasSeenAll (dead : Option ℕ) (unit files : ℕ) (watch : Watch) (rows : List Row) : Type 0 where
   pub seen : HasSeen dead unit files watch rows

@@ -54,7 +54,8 @@ pub fn row_at(rows: SequenceRows<'_>, position: Position) -> Option<Row>
 
 /// What a sequence of the unit at an offset answers at a position that it holds.
 pub fn answer_at(unit: u64, rows: SequenceRows<'_>, position: Position) -> Option<Answer>
-    ensures { (list : List spec.Row) → WillGive list rows.entry → result ≡ option_map (sequence.answer_of unit) (sequence.row_at position list) }
+    ensures { (list : List spec.Row) → WillGive list rows.entry
+        → result ≡ option_map (sequence.answer_of unit) (sequence.row_at position list) }
 {
     match row_at(rows, position) {
         Some(row) => Some(answer_of(unit, &row)),

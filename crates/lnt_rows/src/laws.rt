@@ -1,7 +1,9 @@
 //! Laws of what rows say of positions, each the contract of a function without parameters that does nothing.
 ghost use Rattle.lnt_rows.specs.Extents.{HolderAnswers};
 ghost use Rattle.lnt_rows.specs.InTurn.{EntriesInTurn, SpansInTurn};
-ghost use Rattle.lnt_rows.specs.Laws.{AnswersAsHolder, CollectedUnit, ConvertedAnswers, DistinctSequences, FallIsNotOrdered, KeptSequences, MissingFileIsNotThere, OverlapIsNotApart, SequenceSpans, SpansAnswer};
+ghost use Rattle.lnt_rows.specs.Laws.{AnswersAsHolder, CollectedUnit, ConvertedAnswers, DistinctSequences};
+ghost use Rattle.lnt_rows.specs.Laws.{FallIsNotOrdered, KeptSequences, MissingFileIsNotThere, OverlapIsNotApart};
+ghost use Rattle.lnt_rows.specs.Laws.{SequenceSpans, SpansAnswer};
 
 /// The spans of sequences whose positions never fall answer at every position as their rows do.
 #[tactic(auto, using(crate::proofs::RowLemmas::spans_answer))]
@@ -10,7 +12,7 @@ pub fn spans_answer()
 {}
 
 /// The spans of one sequence whose positions never fall hold the positions that it holds, and no other, and answer there
-/// what the last of its rows says that isn't behind the position.
+/// what the last of its rows says that isn't after the position.
 #[tactic(auto, using(crate::proofs::ExtentLemmas::sequence_spans))]
 pub fn sequence_spans()
     ensures { SequenceSpans }

@@ -94,7 +94,8 @@ impl Watch {
     #[tactic(auto, using(crate::proofs::EvidenceLemmas::files_judged))]
     pub fn missing_file(&self) -> Option<MissingFile>
         ensures { (dead : Option ℕ) (unit files : ℕ) (rows : List Row) → HasSeenAll dead unit files self.now rows
-            → MatchOption result (HaveFiles files (live_of dead (placed_rows unit rows))) (IsFirstMissingFile dead files (placed_rows unit rows)) }
+            → MatchOption result (HaveFiles files (live_of dead (placed_rows unit rows)))
+            (IsFirstMissingFile dead files (placed_rows unit rows)) }
     {
         self.missing_file
     }
@@ -111,7 +112,7 @@ impl Watch {
         self.falls
     }
 
-    // Adds what the next row makes known of the positions that its sequence holds, if that is live.
+    // Where the next row ends a live sequence, adds the extent of that sequence.
     #[inline(always)]
     fn collect(&self, row: &Row, live: bool, collected: &mut Collected) -> Result<(), AllocError>
         ensures { IfOk result (λ _. collected.new.extents.items ≡ collected.old.extents.items
@@ -202,7 +203,7 @@ fn falls_behind(current: &Option<Current>, row: &Row) -> bool
     }
 }
 
-// Whether a row names a file that isn't among so many. An end row names none.
+// Whether a row names a file that isn't among the first `files`. An end row names none.
 #[inline(always)]
 fn names_no_file(files: u64, row: &Row) -> bool
     ensures { result ≡ spec.names_no_file files row.now }

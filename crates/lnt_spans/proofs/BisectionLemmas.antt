@@ -1,5 +1,6 @@
 -- Bisection of spans in order.
-use Rattle.std.proofs.Common.{◌≡◌, ℕ, ◌+◌, ◌<◌, ◌≤◌, Bool, true, false, List, Option, Some, None, refl, sym, ap, subst, arith, length, get_or, ⊎_elim}
+use Rattle.std.proofs.Common.{◌≡◌, ℕ, ◌+◌, ◌<◌, ◌≤◌, Bool, true, false, List, Option, Some, None, refl, sym, ap, subst}
+use Rattle.std.proofs.Common.{arith, length, get_or, ⊎_elim}
 use Rattle.std.specs.Option.{option_map}
 use Rattle.std.proofs.lemmas.List.Elements.{Contains-get_or}
 use Rattle.std.proofs.lemmas.Bool.{cases_eq, cases_lt}
@@ -12,7 +13,7 @@ use Rattle.lnt_spans.specs.Laws.Positions.{at_most_trans, below_at_most, below_i
 use Rattle.lnt_spans.specs.Laws.EachTwo.{find_only, find_none, each_two_from_pairs}
 use Rattle.lnt_spans.specs.Laws.Between.{InSpan, in_span, test_in_span, ends_before, none_empty}
 
--- ---- what is known of the places before and behind
+-- ---- what is known of the places before and after
 
 pub record IsBracket (spans : List Span) (p : Position) (low high : ℕ) : Type 0 where
   pub upto : low ≤ high
@@ -20,11 +21,14 @@ pub record IsBracket (spans : List Span) (p : Position) (low high : ℕ) : Type 
   pub before : (k : ℕ) (d : Span) → k < low → IsAtMost (get_or spans k d).high p
   pub behind : (k : ℕ) (d : Span) → high ≤ k → k < length spans → IsBelow p (get_or spans k d).low
 
-pub bracket_below : (spans : List Span) (p : Position) (low high middle : ℕ) → AreInOrder spans → IsBracket spans p low high → low ≤ middle → middle < high
+pub bracket_below : (spans : List Span) (p : Position) (low high middle : ℕ) → AreInOrder spans → IsBracket spans p low high → low ≤ middle
+    → middle < high
     → (d : Span) → IsBelow p (get_or spans middle d).low → IsBracket spans p low middle
 bracket_below spans p low high middle o b h k e here =
     let within = b.within in
-    let side : (d : Span) → IsBelow p (get_or spans middle d).low = λ d. subst (λ (s : Span). IsBelow p s.low) (get_or_default spans middle e d (omega arith)) here in
+    let side : (d : Span)
+    → IsBelow p (get_or spans middle d).low = λ d. subst (λ (s : Span). IsBelow p s.low) (get_or_default spans middle e d (omega arith))
+    here in
     record {
       upto = h;
       within = omega arith;
@@ -38,11 +42,14 @@ bracket_below spans p low high middle o b h k e here =
           (cases_eq middle i);
     }
 
-pub bracket_above : (spans : List Span) (p : Position) (low high middle : ℕ) → AreInOrder spans → IsBracket spans p low high → low ≤ middle → middle < high
+pub bracket_above : (spans : List Span) (p : Position) (low high middle : ℕ) → AreInOrder spans → IsBracket spans p low high → low ≤ middle
+    → middle < high
     → (d : Span) → IsAtMost (get_or spans middle d).high p → IsBracket spans p (middle + 1) high
 bracket_above spans p low high middle o b h k e here =
     let within = b.within in
-    let side : (d : Span) → IsAtMost (get_or spans middle d).high p = λ d. subst (λ (s : Span). IsAtMost s.high p) (get_or_default spans middle e d (omega arith)) here in
+    let side : (d : Span)
+    → IsAtMost (get_or spans middle d).high p = λ d. subst (λ (s : Span). IsAtMost s.high p) (get_or_default spans middle e d (omega arith))
+    here in
     record {
       upto = omega arith;
       within = b.within;
@@ -57,12 +64,14 @@ bracket_above spans p low high middle o b h k e here =
     }
 
 pub found_inside : (spans : List Span) (p : Position) (middle : ℕ) (d : Span) → AreInOrder spans → middle < length spans
-    → IsAtMost (get_or spans middle d).low p × IsBelow p (get_or spans middle d).high → Some (get_or spans middle d).answer ≡ span_answer spans p
+    → IsAtMost (get_or spans middle d).low p × IsBelow p (get_or spans middle d).high
+    → Some (get_or spans middle d).answer ≡ span_answer spans p
 found_inside spans p middle d o l h =
     let span = get_or spans middle d in
     let one = find_only (is_in_span p) spans span
     (each_two_from_pairs (λ s t. is_in_span p s ≡ true → is_in_span p t ≡ true → ⊥) (λ s t n x y. n y x) spans
-    (λ i j e lt lj x y. not_both (in_span p (get_or spans i e) x).below (at_most_trans (ends_before spans o i j e lt lj) (in_span p (get_or spans j e) y).from)))
+    (λ i j e lt lj x y. not_both (in_span p (get_or spans i e) x).below
+    (at_most_trans (ends_before spans o i j e lt lj) (in_span p (get_or spans j e) y).from)))
     (Contains-get_or spans middle d l) (test_in_span p span (record { from = h.0; below = h.1 })) in
     sym (ap (λ (q : Option Span). option_map (λ (s : Span). s.answer) q) one)
 

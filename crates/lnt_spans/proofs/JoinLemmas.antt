@@ -17,38 +17,44 @@ no_span = record {
   answer = record { unit = 0; file = 0; line = 0; column = 0; is_stmt = false; more = None };
 }
 
--- ---- two spans joined, behind others
+-- ---- two spans joined, after others
 
 -- a span that goes on to another end
 abbrev pub joined_span : Span → Position → Span
 joined_span first high = record first { high = high }
 
-joined_holds : (first next : Span) → first.high ≡ next.low → IsBelow first.low first.high → IsBelow next.low next.high → IsBelow first.low next.high
+joined_holds : (first next : Span) → first.high ≡ next.low → IsBelow first.low first.high → IsBelow next.low next.high
+    → IsBelow first.low next.high
 joined_holds first next touch h k = below_at_most (subst (λ (p : Position). IsBelow first.low p) touch h) (below_is_at_most k)
 
-pub join_order : (done : List Span) (first next : Span) (more : List Span) → first.high ≡ next.low → AreInOrder (done ++ first ∷ next ∷ more) → AreInOrder (done ++ joined_span first next.high ∷ more)
+pub join_order : (done : List Span) (first next : Span) (more : List Span) → first.high ≡ next.low
+    → AreInOrder (done ++ first ∷ next ∷ more) → AreInOrder (done ++ joined_span first next.high ∷ more)
 join_order [] first next [] touch h = joined_holds first next touch h.0 h.2
 join_order [] first next (m ∷ more) touch h = (joined_holds first next touch h.0 h.2.0, h.2.1, h.2.2)
 join_order (d ∷ []) first next more touch h = (h.0, h.1, join_order [] first next more touch h.2)
 join_order (d ∷ e ∷ done) first next more touch h = (h.0, h.1, join_order (e ∷ done) first next more touch h.2)
 
-pub join_differ : (done : List Span) (first : Span) (high : Position) → DifferWhereTheyTouch (done ++ first ∷ []) → DifferWhereTheyTouch (done ++ joined_span first high ∷ [])
+pub join_differ : (done : List Span) (first : Span) (high : Position) → DifferWhereTheyTouch (done ++ first ∷ [])
+    → DifferWhereTheyTouch (done ++ joined_span first high ∷ [])
 join_differ [] first high h = tt
 join_differ (d ∷ []) first high h = (h.0, tt)
 join_differ (d ∷ e ∷ done) first high h = (h.0, join_differ (e ∷ done) first high h.1)
 
-pub push_differ : (done : List Span) (first next : Span) → DifferWhereTheyTouch (done ++ first ∷ []) → (first.high ≡ next.low → first.answer ≢ next.answer)
+pub push_differ : (done : List Span) (first next : Span) → DifferWhereTheyTouch (done ++ first ∷ [])
+    → (first.high ≡ next.low → first.answer ≢ next.answer)
     → DifferWhereTheyTouch ((done ++ first ∷ []) ++ next ∷ [])
 push_differ [] first next h k = (k, tt)
 push_differ (d ∷ []) first next h k = (h.0, (k, tt))
 push_differ (d ∷ e ∷ done) first next h k = (h.0, push_differ (e ∷ done) first next h.1 k)
 
-answer_joined : (first next : Span) (more : List Span) (p : Position) → first.high ≡ next.low → first.answer ≡ next.answer → IsBelow first.low first.high → IsBelow next.low next.high
+answer_joined : (first next : Span) (more : List Span) (p : Position) → first.high ≡ next.low → first.answer ≡ next.answer
+    → IsBelow first.low first.high → IsBelow next.low next.high
     → span_answer (joined_span first next.high ∷ more) p ≡ span_answer (first ∷ next ∷ more) p
 answer_joined first next more p touch same h k = elim (order_cases p first.low) [
   | inl before ↦
       let early : IsBelow p next.low = subst (λ (q : Position). IsBelow p q) touch (below_at_most before (below_is_at_most h)) in
-      answer_before (joined_span first next.high) more p before ∙ sym (answer_before first (next ∷ more) p before ∙ answer_before next more p early)
+      answer_before (joined_span first next.high) more p before
+      ∙ sym (answer_before first (next ∷ more) p before ∙ answer_before next more p early)
   | inr from ↦ elim (order_cases p first.high) [
     | inl under ↦
         let early : IsBelow p next.low = subst (λ (q : Position). IsBelow p q) touch under in
@@ -65,15 +71,18 @@ answer_joined first next more p touch same h k = elim (order_cases p first.low) 
   ]
 ]
 
-pub join_answer : (done : List Span) (first next : Span) (more : List Span) (p : Position) → first.high ≡ next.low → first.answer ≡ next.answer
-    → AreInOrder (done ++ first ∷ next ∷ more) → span_answer (done ++ joined_span first next.high ∷ more) p ≡ span_answer (done ++ first ∷ next ∷ more) p
+pub join_answer : (done : List Span) (first next : Span) (more : List Span) (p : Position) → first.high ≡ next.low
+    → first.answer ≡ next.answer
+    → AreInOrder (done ++ first ∷ next ∷ more)
+    → span_answer (done ++ joined_span first next.high ∷ more) p ≡ span_answer (done ++ first ∷ next ∷ more) p
 join_answer [] first next more p touch same h = answer_joined first next more p touch same h.0 (first_holds next more h.2)
 join_answer (d ∷ done) first next more p touch same h =
-    answer_same d (done ++ joined_span first next.high ∷ more) (done ++ first ∷ next ∷ more) p (join_answer done first next more p touch same (rest_in_order d (done ++ first ∷ next ∷ more) h))
+    answer_same d (done ++ joined_span first next.high ∷ more) (done ++ first ∷ next ∷ more) p
+    (join_answer done first next more p touch same (rest_in_order d (done ++ first ∷ next ∷ more) h))
 
 -- ---- the loop
 
--- what is joined so far, the span that may still grow, and the spans behind it
+-- what is joined so far, the span that may still grow, and the spans after it
 pub record Joining (spans done : List Span) (first : Span) (rest : List Span) : Type 0 where
   pub order : AreInOrder (done ++ first ∷ rest)
   pub differ : DifferWhereTheyTouch (done ++ first ∷ [])
@@ -108,7 +117,8 @@ join_start version spans rest first e o =
       same = λ p. refl;
     })
 
-pub join_end : (version : Version) (spans done rest : List Span) (last : Span) → Joining (told version spans) done last (told version rest) → rest ≡ []
+pub join_end : (version : Version) (spans done rest : List Span) (last : Span) → Joining (told version spans) done last (told version rest)
+    → rest ≡ []
     → (p : Position) → span_answer (done ++ last ∷ []) p ≡ version_answer version spans p
 join_end version spans done rest last j e p =
     let whole : Joining (told version spans) done last [] = rw e at j in whole.same p ∙ told_answer version spans p

@@ -1,5 +1,6 @@
 -- What spans answer from a position on, a stretch at a time.
-use Rattle.std.proofs.Common.{◌≡◌, ◌≢◌, ◌∙◌, ℕ, ◌+◌, ◌<◌, ◌≤◌, Bool, true, false, cond, List, [], ◌∷◌, ◌⊎◌, inl, inr, refl, ap, sym, subst, Some, None, Option, arith}
+use Rattle.std.proofs.Common.{◌≡◌, ◌≢◌, ◌∙◌, ℕ, ◌+◌, ◌<◌, ◌≤◌, Bool, true, false, cond, List, [], ◌∷◌, ◌⊎◌, inl, inr}
+use Rattle.std.proofs.Common.{refl, ap, sym, subst, Some, None, Option, arith}
 use Rattle.std.specs.Prelude.{IsSome}
 use Rattle.std.proofs.lemmas.Bool.{true≢false}
 use Rattle.std.proofs.lemmas.Option.{same_Some}
@@ -15,7 +16,8 @@ use Rattle.lnt_spans.specs.Ahead.{BeginsWith, gap_before, IsAhead, rest_of, step
 use Rattle.lnt_spans.specs.Scanning.{EndsBehind, IsScanned, IsStretch, Says}
 use Rattle.lnt_spans.specs.Spans.{AreInOrder}
 use Rattle.lnt_spans.specs.Laws.Answering.{answer_behind, answer_in, first_holds, none_before, rest_in_order}
-use Rattle.lnt_spans.specs.Laws.Positions.{at_most_itself, at_most_trans, at_most_below, below_at_most, below_is_at_most, not_both, order_cases, test_below, test_not_below}
+use Rattle.lnt_spans.specs.Laws.Positions.{at_most_itself, at_most_trans, at_most_below, below_at_most}
+use Rattle.lnt_spans.specs.Laws.Positions.{below_is_at_most, not_both, order_cases, test_below, test_not_below}
 
 -- answers as a version tells them
 told : (version : Version) {a b : Option Answer} → a ≡ b → option_map (in_version version) a ≡ option_map (in_version version) b
@@ -24,7 +26,8 @@ told version e = ap (option_map (in_version version)) e
 -- ---- one stretch
 
 -- the first span, where there is one
-pub first_is : (next : Option Span) (span : Span) (spans : List Span) → next ≡ Some span → BeginsWith next spans → (more : List Span) × (spans ≡ span ∷ more)
+pub first_is : (next : Option Span) (span : Span) (spans : List Span) → next ≡ Some span → BeginsWith next spans → (more : List Span)
+    × (spans ≡ span ∷ more)
 first_is next span [] e b = absurd (let h : None ≡ Some span = sym b ∙ e in cc h)
 first_is next span (first ∷ more) e b = (more, ap (λ (s : Span). s ∷ more) (same_Some first span (sym b ∙ e)))
 
@@ -33,10 +36,15 @@ no_first next [] e b = refl
 no_first next (first ∷ more) e b = absurd (let h : None ≡ Some first = sym e ∙ b in cc h)
 
 empty_stretch : (version : Version) (at to : Position) → IsBelow at to → IsStretch version [] at to None to []
-empty_stretch version at to lt = record { from = lt; within = at_most_itself to; says = record { order = tt; behind = tt; same = λ p h. refl; says = λ p h k. refl } }
+empty_stretch version at to lt = record {
+  from = lt;
+  within = at_most_itself to;
+  says = record { order = tt; behind = tt; same = λ p h. refl; says = λ p h k. refl };
+}
 
 -- no span is left
-pub stretch_empty : (version : Version) (next : Option Span) (spans : List Span) (at to : Position) → next ≡ None → BeginsWith next spans → IsBelow at to
+pub stretch_empty : (version : Version) (next : Option Span) (spans : List Span) (at to : Position) → next ≡ None → BeginsWith next spans
+    → IsBelow at to
     → IsStretch version spans at to None to (rest_of false spans)
 stretch_empty version next spans at to e b lt = rw (no_first next spans e b) (empty_stretch version at to lt)
 
@@ -50,7 +58,8 @@ gap_says version span more at end o le = record {
   says = λ p h k. told version (none_before span more p o (below_at_most k le));
 }
 
-pub gap_stretch : (version : Version) (span : Span) (more : List Span) (at to end : Position) → AreInOrder (span ∷ more) → IsBelow at to → IsBelow at span.low
+pub gap_stretch : (version : Version) (span : Span) (more : List Span) (at to end : Position) → AreInOrder (span ∷ more) → IsBelow at to
+    → IsBelow at span.low
     → (IsBelow to span.low × (end ≡ to)) ⊎ (IsAtMost span.low to × (end ≡ span.low))
     → IsStretch version (span ∷ more) at to None end (span ∷ more)
 gap_stretch version span more at to end o lt gap (inl h) = rw h.1 (record {
@@ -64,7 +73,8 @@ gap_stretch version span more at to end o lt gap (inr h) = rw h.1 (record {
   says = gap_says version span more at span.low o (at_most_itself span.low);
 })
 
-pub stretch_gap : (version : Version) (next : Option Span) (spans : List Span) (span : Span) (at to end : Position) → next ≡ Some span → BeginsWith next spans → AreInOrder spans → IsBelow at to
+pub stretch_gap : (version : Version) (next : Option Span) (spans : List Span) (span : Span) (at to end : Position) → next ≡ Some span
+    → BeginsWith next spans → AreInOrder spans → IsBelow at to
     → IsBelow at span.low → (IsBelow to span.low × (end ≡ to)) ⊎ (IsAtMost span.low to × (end ≡ span.low))
     → IsStretch version spans at to None end (rest_of false spans)
 stretch_gap version next spans span at to end is b o lt gap h =
@@ -72,7 +82,8 @@ stretch_gap version next spans span at to end is b o lt gap h =
     rw first.1 (gap_stretch version span first.0 at to end (subst AreInOrder first.1 o) lt gap h)
 
 -- in the first span, which ends above `to`
-inside_stretch : (version : Version) (span : Span) (more : List Span) (at to : Position) → AreInOrder (span ∷ more) → IsBelow at to → IsAtMost span.low at → IsBelow to span.high
+inside_stretch : (version : Version) (span : Span) (more : List Span) (at to : Position) → AreInOrder (span ∷ more) → IsBelow at to
+    → IsAtMost span.low at → IsBelow to span.high
     → IsStretch version (span ∷ more) at to (Some (in_version version span.answer)) to (span ∷ more)
 inside_stretch version span more at to o lt le k = record {
   from = lt;
@@ -85,7 +96,8 @@ inside_stretch version span more at to o lt le k = record {
   };
 }
 
-pub stretch_inside : (version : Version) (next : Option Span) (spans : List Span) (span : Span) (at to : Position) → next ≡ Some span → BeginsWith next spans → AreInOrder spans → IsBelow at to
+pub stretch_inside : (version : Version) (next : Option Span) (spans : List Span) (span : Span) (at to : Position) → next ≡ Some span
+    → BeginsWith next spans → AreInOrder spans → IsBelow at to
     → IsAtMost span.low at → IsBelow to span.high
     → IsStretch version spans at to (Some (in_version version span.answer)) to (rest_of false spans)
 stretch_inside version next spans span at to is b o lt le k =
@@ -97,7 +109,8 @@ next_behind span [] o = tt
 next_behind span (next ∷ more) o = at_most_below o.1 (first_holds next more o.2)
 
 -- all of the first span
-pub first_says : (version : Version) (span : Span) (more : List Span) → AreInOrder (span ∷ more) → Says version (span ∷ more) span.low span.high (Some (in_version version span.answer)) more
+pub first_says : (version : Version) (span : Span) (more : List Span) → AreInOrder (span ∷ more)
+    → Says version (span ∷ more) span.low span.high (Some (in_version version span.answer)) more
 first_says version span more o = record {
   order = rest_in_order span more o;
   behind = next_behind span more o;
@@ -106,7 +119,8 @@ first_says version span more o = record {
 }
 
 -- in the first span, up to its end
-whole_stretch : (version : Version) (span : Span) (more : List Span) (at to : Position) → AreInOrder (span ∷ more) → IsBelow at span.high → IsAtMost span.low at → IsAtMost span.high to
+whole_stretch : (version : Version) (span : Span) (more : List Span) (at to : Position) → AreInOrder (span ∷ more) → IsBelow at span.high
+    → IsAtMost span.low at → IsAtMost span.high to
     → IsStretch version (span ∷ more) at to (Some (in_version version span.answer)) span.high more
 whole_stretch version span more at to o behind le k = record {
   from = behind;
@@ -119,7 +133,8 @@ whole_stretch version span more at to o behind le k = record {
   };
 }
 
-pub stretch_whole : (version : Version) (next : Option Span) (spans : List Span) (span : Span) (at to : Position) → next ≡ Some span → BeginsWith next spans → AreInOrder spans → EndsBehind at spans
+pub stretch_whole : (version : Version) (next : Option Span) (spans : List Span) (span : Span) (at to : Position) → next ≡ Some span
+    → BeginsWith next spans → AreInOrder spans → EndsBehind at spans
     → IsAtMost span.low at → IsAtMost span.high to
     → IsStretch version spans at to (Some (in_version version span.answer)) span.high (rest_of true spans)
 stretch_whole version next spans span at to is b o behind le k =
@@ -142,14 +157,23 @@ fewer_none next at to e lt = rw (e, test_not_below to to (at_most_itself to), te
 pub fewer_gap : (next : Option Span) (span : Span) (at to end : Position) → next ≡ Some span → IsBelow at to → IsBelow at span.low
     → (IsBelow to span.low × (end ≡ to)) ⊎ (IsAtMost span.low to × (end ≡ span.low)) → steps_left next end to < steps_left next at to
 fewer_gap next span at to end e lt gap (inl h) =
-    rw (e, h.1, test_not_below to to (at_most_itself to), test_below at to lt, test_below at span.low gap, test_below to span.low h.0) (omega arith)
+    rw (e, h.1, test_not_below to to (at_most_itself to), test_below at to lt, test_below at span.low gap, test_below to span.low h.0)
+    (omega arith)
 fewer_gap next span at to end e lt gap (inr h) =
     let one = at_most_one (is_below span.low to) in
     rw (e, h.1, test_not_below span.low span.low (at_most_itself span.low), test_below at to lt, test_below at span.low gap) (omega arith)
 
-pub fewer_inside : (next : Option Span) (span : Span) (at to : Position) → next ≡ Some span → IsBelow at to → IsAtMost span.low at → steps_left next to to < steps_left next at to
+pub fewer_inside : (next : Option Span) (span : Span) (at to : Position) → next ≡ Some span → IsBelow at to → IsAtMost span.low at
+    → steps_left next to to < steps_left next at to
 fewer_inside next span at to e lt le =
-    rw (e, test_not_below to to (at_most_itself to), test_below at to lt, test_not_below at span.low le, test_not_below to span.low (at_most_trans le (below_is_at_most lt))) (omega arith)
+    rw (
+      e,
+      test_not_below to to (at_most_itself to),
+      test_below at to lt,
+      test_not_below at span.low le,
+      test_not_below to span.low
+          (at_most_trans le (below_is_at_most lt)),
+    ) (omega arith)
 
 -- a span was passed, and so far there is a position below `to`
 pub fewer_passed : (count less : ℕ) (next other : Option Span) (at end to : Position) → less < count → IsBelow at to
@@ -162,14 +186,16 @@ fewer_passed count less next other at end to h lt =
 -- ---- stretch after stretch
 
 -- up to `at` the spans answer so, and the rest is still to come
-pub record SoFar (version : Version) (spans : List Span) (from at to : Position) (answer : Option Answer) (AreLeft : List Span → Type 0) : Type 0 where
+pub record SoFar (version : Version) (spans : List Span) (from at to : Position) (answer : Option Answer)
+    (AreLeft : List Span → Type 0) : Type 0 where
   pub rest : List Span
   pub left : AreLeft rest
   pub says : Says version spans from at answer rest
   pub behind : IsAtMost from at
   pub within : IsAtMost at to
 
-pub so_far_none : (version : Version) (spans : List Span) (from to : Position) (answer : Option Answer) (AreLeft : List Span → Type 0) → AreLeft spans → AreInOrder spans → EndsBehind from spans → IsAtMost from to
+pub so_far_none : (version : Version) (spans : List Span) (from to : Position) (answer : Option Answer) (AreLeft : List Span → Type 0)
+    → AreLeft spans → AreInOrder spans → EndsBehind from spans → IsAtMost from to
     → SoFar version spans from from to answer AreLeft
 so_far_none version spans from to answer AreLeft left o behind le = record {
   rest = spans;
@@ -179,7 +205,8 @@ so_far_none version spans from to answer AreLeft left o behind le = record {
   within = le;
 }
 
-says_more : (version : Version) (spans rest more : List Span) (from at end to : Position) (answer own : Option Answer) → Says version spans from at answer rest
+says_more : (version : Version) (spans rest more : List Span) (from at end to : Position) (answer own : Option Answer)
+    → Says version spans from at answer rest
     → IsStretch version rest at to own end more → answer ≡ own → Says version spans from end answer more
 says_more version spans rest more from at end to answer own s stretch e = let t = stretch.says in record {
   order = t.order;
@@ -191,7 +218,8 @@ says_more version spans rest more from at end to answer own s stretch e = let t 
   ];
 }
 
-says_all : (version : Version) (spans rest : List Span) (from at to : Position) (answer : Option Answer) → Says version spans from at answer rest → IsAtMost at to
+says_all : (version : Version) (spans rest : List Span) (from at to : Position) (answer : Option Answer)
+    → Says version spans from at answer rest → IsAtMost at to
     → IsAtMost to at → Says version spans from to answer rest
 says_all version spans rest from at to answer s le ge = record {
   order = s.order;
@@ -204,13 +232,16 @@ says_all version spans rest from at to answer s le ge = record {
     upto [] h = tt
     upto (x ∷ xs) h = at_most_below ge h
 
-pub begins_with : {S : Type 0} (to_come : S → List Span → Type 0) (ahead : Ahead S) (spans : List Span) → IsAhead to_come ahead spans → BeginsWith ahead.next spans
+pub begins_with : {S : Type 0} (to_come : S → List Span → Type 0) (ahead : Ahead S) (spans : List Span) → IsAhead to_come ahead spans
+    → BeginsWith ahead.next spans
 begins_with to_come ahead [] a = a
 begins_with to_come ahead (span ∷ spans) a = a.0
 
 -- the next stretch is answered the same
-pub so_far_more : (version : Version) (spans : List Span) (from at end to : Position) (answer own : Option Answer) (t : Bool) (AreLeft AreLeft' : List Span → Type 0) (f : SoFar version spans from at to answer AreLeft)
-    → IsStretch version f.rest at to own end (rest_of t f.rest) → answer ≡ own → AreLeft' (rest_of t f.rest) → SoFar version spans from end to answer AreLeft'
+pub so_far_more : (version : Version) (spans : List Span) (from at end to : Position) (answer own : Option Answer) (t : Bool)
+    (AreLeft AreLeft' : List Span → Type 0) (f : SoFar version spans from at to answer AreLeft)
+    → IsStretch version f.rest at to own end (rest_of t f.rest) → answer ≡ own → AreLeft' (rest_of t f.rest)
+    → SoFar version spans from end to answer AreLeft'
 so_far_more version spans from at end to answer own t AreLeft AreLeft' f stretch e left = record {
   rest = rest_of t f.rest;
   left = left;
@@ -220,7 +251,8 @@ so_far_more version spans from at end to answer own t AreLeft AreLeft' f stretch
 }
 
 -- it isn't
-pub scanned_differs : (version : Version) (spans : List Span) (from at end to : Position) (answer own : Option Answer) (t : Bool) (AreLeft : List Span → Type 0) (f : SoFar version spans from at to answer AreLeft)
+pub scanned_differs : (version : Version) (spans : List Span) (from at end to : Position) (answer own : Option Answer) (t : Bool)
+    (AreLeft : List Span → Type 0) (f : SoFar version spans from at to answer AreLeft)
     → IsStretch version f.rest at to own end (rest_of t f.rest) → IsBelow at to → answer ≢ own
     → IsScanned version spans from to answer (Some (record { position = at; by_table = answer; by_section = own })) AreLeft
 scanned_differs version spans from at end to answer own t AreLeft f stretch lt ne = record {
@@ -237,7 +269,8 @@ scanned_differs version spans from at end to answer own t AreLeft f stretch lt n
   };
 }
 
-pub scanned_all : (version : Version) (spans : List Span) (from at to : Position) (answer : Option Answer) (AreLeft : List Span → Type 0) → SoFar version spans from at to answer AreLeft → IsAtMost to at
+pub scanned_all : (version : Version) (spans : List Span) (from at to : Position) (answer : Option Answer) (AreLeft : List Span → Type 0)
+    → SoFar version spans from at to answer AreLeft → IsAtMost to at
     → IsScanned version spans from to answer None AreLeft
 scanned_all version spans from at to answer AreLeft f ge = record {
   rest = f.rest;
@@ -247,7 +280,9 @@ scanned_all version spans from at to answer AreLeft f ge = record {
 }
 
 -- the first span was passed
-pub passed_left : {S : Type 0} (to_come : S → List Span → Type 0) (old new : Ahead S) (rest : List Span) → IsSome old.next → IsAhead to_come old rest
-    → ((span : Span) (more : List Span) → IsAhead to_come old (span ∷ more) → IsAhead to_come new more) → IsAhead to_come new (rest_of true rest)
+pub passed_left : {S : Type 0} (to_come : S → List Span → Type 0) (old new : Ahead S) (rest : List Span) → IsSome old.next
+    → IsAhead to_come old rest
+    → ((span : Span) (more : List Span) → IsAhead to_come old (span ∷ more) → IsAhead to_come new more)
+    → IsAhead to_come new (rest_of true rest)
 passed_left to_come old new [] some left passed = absurd (true≢false (sym (subst IsSome left some)))
 passed_left to_come old new (span ∷ more) some left passed = passed span more left

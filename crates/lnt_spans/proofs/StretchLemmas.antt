@@ -1,5 +1,6 @@
 -- Stretches, told one after another as the spans of both sides come.
-use Rattle.std.proofs.Common.{◌≡◌, ◌≢◌, ◌∙◌, ℕ, ◌+◌, ◌<◌, ◌≤◌, Bool, true, false, cond, List, [], ◌∷◌, ◌++◌, ◌⊎◌, inl, inr, refl, ap, sym, subst, Some, None, Option, arith}
+use Rattle.std.proofs.Common.{◌≡◌, ◌≢◌, ◌∙◌, ℕ, ◌+◌, ◌<◌, ◌≤◌, Bool, true, false, cond, List, [], ◌∷◌, ◌++◌, ◌⊎◌, inl}
+use Rattle.std.proofs.Common.{inr, refl, ap, sym, subst, Some, None, Option, arith}
 use Rattle.std.specs.List.{AllByRecursion}
 use Rattle.std.specs.Option.{option_map}
 use Rattle.std.proofs.lemmas.Option.{same_Some}
@@ -17,30 +18,43 @@ use Rattle.lnt_spans.specs.Positions.{IsBelow, IsAtMost, is_below}
 use Rattle.lnt_spans.specs.Scanning.{EndsBehind}
 use Rattle.lnt_spans.specs.Spans.{AreInOrder, span_answer, version_answer}
 use Rattle.lnt_spans.specs.Stretches.{AreAnswers, AreRising, AreStretches, BeginsStretch, IsInOne, IsInStretch, Stay}
-use Rattle.lnt_spans.specs.Laws.Answering.{answer_behind, answer_in, answer_same, back_in_order, first_holds, front_in_order, none_before, rest_in_order, rest_none}
-use Rattle.lnt_spans.specs.Laws.Positions.{at_most_below, at_most_itself, at_most_trans, below_at_most, below_is_at_most, not_both, order_cases, test_below, test_not_below}
+use Rattle.lnt_spans.specs.Laws.Answering.{answer_behind, answer_in, answer_same, back_in_order, first_holds}
+use Rattle.lnt_spans.specs.Laws.Answering.{front_in_order, none_before, rest_in_order, rest_none}
+use Rattle.lnt_spans.specs.Laws.Positions.{at_most_below, at_most_itself, at_most_trans, below_at_most}
+use Rattle.lnt_spans.specs.Laws.Positions.{below_is_at_most, not_both, order_cases, test_below, test_not_below}
 use Rattle.lnt_spans.specs.Laws.{FirstStretch}
 use Rattle.lnt_spans.specs.Laws.Told.{told, told_answer}
 use Rattle.lnt_spans.proofs.ScanLemmas.{begins_with, first_is, next_behind, no_first}
 
 -- ---- one side
 
-pub run_none : (version : Version) (next : Option Span) (spans : List Span) (at : Position) → next ≡ None → BeginsWith next spans → IsRun (version_answer version spans) at None None
+pub run_none : (version : Version) (next : Option Span) (spans : List Span) (at : Position) → next ≡ None → BeginsWith next spans
+    → IsRun (version_answer version spans) at None None
 run_none version next spans at e b = rw (no_first next spans e b) (record { behind = tt; says = λ p h k. refl })
 
-gap_run : (version : Version) (span : Span) (more : List Span) (at : Position) → AreInOrder (span ∷ more) → IsBelow at span.low → IsRun (version_answer version (span ∷ more)) at None (Some span.low)
-gap_run version span more at o gap = record { behind = gap; says = λ p h k. ap (option_map (in_version version)) (none_before span more p o k) }
+gap_run : (version : Version) (span : Span) (more : List Span) (at : Position) → AreInOrder (span ∷ more) → IsBelow at span.low
+    → IsRun (version_answer version (span ∷ more)) at None (Some span.low)
+gap_run version span more at o gap = record {
+  behind = gap;
+  says = λ p h k. ap (option_map (in_version version)) (none_before span more p o k);
+}
 
-pub run_gap : (version : Version) (next : Option Span) (spans : List Span) (span : Span) (at : Position) → next ≡ Some span → BeginsWith next spans → AreInOrder spans → IsBelow at span.low
+pub run_gap : (version : Version) (next : Option Span) (spans : List Span) (span : Span) (at : Position) → next ≡ Some span
+    → BeginsWith next spans → AreInOrder spans → IsBelow at span.low
     → IsRun (version_answer version spans) at None (Some span.low)
 run_gap version next spans span at is b o gap =
     let first = first_is next span spans is b in
     rw first.1 (gap_run version span first.0 at (subst AreInOrder first.1 o) gap)
 
-inside_run : (version : Version) (span : Span) (more : List Span) (at : Position) → IsAtMost span.low at → IsBelow at span.high → IsRun (version_answer version (span ∷ more)) at (Some (in_version version span.answer)) (Some span.high)
-inside_run version span more at le behind = record { behind = behind; says = λ p h k. ap (option_map (in_version version)) (answer_in span more p (at_most_trans le h) k) }
+inside_run : (version : Version) (span : Span) (more : List Span) (at : Position) → IsAtMost span.low at → IsBelow at span.high
+    → IsRun (version_answer version (span ∷ more)) at (Some (in_version version span.answer)) (Some span.high)
+inside_run version span more at le behind = record {
+  behind = behind;
+  says = λ p h k. ap (option_map (in_version version)) (answer_in span more p (at_most_trans le h) k);
+}
 
-pub run_inside : (version : Version) (next : Option Span) (spans : List Span) (span : Span) (at : Position) → next ≡ Some span → BeginsWith next spans → EndsBehind at spans → IsAtMost span.low at
+pub run_inside : (version : Version) (next : Option Span) (spans : List Span) (span : Span) (at : Position) → next ≡ Some span
+    → BeginsWith next spans → EndsBehind at spans → IsAtMost span.low at
     → IsRun (version_answer version spans) at (Some (in_version version span.answer)) (Some span.high)
 run_inside version next spans span at is b behind le =
     let first = first_is next span spans is b in
@@ -49,18 +63,23 @@ run_inside version next spans span at is b behind le =
 pub end_gap : (next : Option Span) (span : Span) (at : Position) → next ≡ Some span → IsBelow at span.low → Some span.low ≡ run_end at next
 end_gap next span at e lt = rw (e, test_below at span.low lt) refl
 
-pub end_inside : (next : Option Span) (span : Span) (at : Position) → next ≡ Some span → IsAtMost span.low at → Some span.high ≡ run_end at next
+pub end_inside : (next : Option Span) (span : Span) (at : Position) → next ≡ Some span → IsAtMost span.low at
+    → Some span.high ≡ run_end at next
 end_inside next span at e le = rw (e, test_not_below at span.low le) refl
 
 -- ---- a side goes on
 
-up_to_high : (span : Span) (more : List Span) (at end : Position) → AreInOrder (span ∷ more) → IsUpTo end (run_end at (Some span)) → IsAtMost end span.high
+up_to_high : (span : Span) (more : List Span) (at end : Position) → AreInOrder (span ∷ more) → IsUpTo end (run_end at (Some span))
+    → IsAtMost end span.high
 up_to_high span more at end o h = elim (order_cases at span.low) [
-  | inl gap ↦ at_most_trans (subst (λ (q : Position). IsAtMost end q) (same_Some _ span.low (sym (end_gap (Some span) span at refl gap))) h) (below_is_at_most (first_holds span more o))
+  | inl gap ↦ at_most_trans (subst (λ (q : Position). IsAtMost end q) (same_Some _ span.low (sym (end_gap (Some span) span at refl gap))) h)
+      (below_is_at_most (first_holds span more o))
   | inr in_it ↦ subst (λ (q : Position). IsAtMost end q) (same_Some _ span.high (sym (end_inside (Some span) span at refl in_it))) h
 ]
 
-pub side_none : {S : Type 0} (to_come : S → List Span → Type 0) (version : Version) (ahead : Ahead S) (at end : Position) (answers : Position → Option Answer) → ahead.next ≡ None → IsSide to_come version ahead at answers → IsAtMost at end → IsSide to_come version ahead end answers
+pub side_none : {S : Type 0} (to_come : S → List Span → Type 0) (version : Version) (ahead : Ahead S) (at end : Position)
+    (answers : Position → Option Answer) → ahead.next ≡ None → IsSide to_come version ahead at answers → IsAtMost at end
+    → IsSide to_come version ahead end answers
 side_none to_come version ahead at end answers none s le = record {
   rest = s.rest;
   coming = s.coming;
@@ -69,13 +88,16 @@ side_none to_come version ahead at end answers none s le = record {
   same = λ p h. s.same p (at_most_trans le h);
 }
 
-pub side_kept : {S : Type 0} (to_come : S → List Span → Type 0) (version : Version) (ahead : Ahead S) (span : Span) (at end : Position) (answers : Position → Option Answer) → ahead.next ≡ Some span → IsBelow end span.high → IsSide to_come version ahead at answers → IsAtMost at end
+pub side_kept : {S : Type 0} (to_come : S → List Span → Type 0) (version : Version) (ahead : Ahead S) (span : Span) (at end : Position)
+    (answers : Position → Option Answer) → ahead.next ≡ Some span → IsBelow end span.high → IsSide to_come version ahead at answers
+    → IsAtMost at end
     → IsSide to_come version ahead end answers
 side_kept to_come version ahead span at end answers some lt s le = record {
   rest = s.rest;
   coming = s.coming;
   order = s.order;
-  behind = let first = first_is ahead.next span s.rest some (begins_with to_come ahead s.rest s.coming) in subst (EndsBehind end) (sym first.1) lt;
+  behind = let first = first_is ahead.next span s.rest some (begins_with to_come ahead s.rest s.coming) in subst (EndsBehind end)
+      (sym first.1) lt;
   same = λ p h. s.same p (at_most_trans le h);
 }
 
@@ -86,8 +108,10 @@ behind_high span more end o le = upto more (next_behind span more o)
     upto [] h = tt
     upto (x ∷ xs) h = at_most_below le h
 
-pub side_passed : {S : Type 0} (to_come : S → List Span → Type 0) (version : Version) (old new : Ahead S) (span : Span) (at end : Position) (answers : Position → Option Answer) → old.next ≡ Some span → IsAtMost span.high end
-    → ((first : Span) (more : List Span) → IsAhead to_come old (first ∷ more) → IsAhead to_come new more) → IsSide to_come version old at answers → IsAtMost at end → IsUpTo end (run_end at old.next)
+pub side_passed : {S : Type 0} (to_come : S → List Span → Type 0) (version : Version) (old new : Ahead S) (span : Span) (at end : Position)
+    (answers : Position → Option Answer) → old.next ≡ Some span → IsAtMost span.high end
+    → ((first : Span) (more : List Span) → IsAhead to_come old (first ∷ more) → IsAhead to_come new more)
+    → IsSide to_come version old at answers → IsAtMost at end → IsUpTo end (run_end at old.next)
     → IsSide to_come version new end answers
 side_passed to_come version old new span at end answers some high passes s le up =
     let first = first_is old.next span s.rest some (begins_with to_come old s.rest s.coming) in
@@ -100,14 +124,17 @@ side_passed to_come version old new span at end answers some high passes s le up
       order = rest_in_order span first.0 order;
       behind = behind_high span first.0 end order within;
       same = λ p h.
-          ap (option_map (in_version version)) (sym (answer_behind span first.0 p (at_most_trans high h))) ∙ ap (λ (xs : List Span). version_answer version xs p) (sym first.1) ∙ s.same p (at_most_trans le h);
+          ap (option_map (in_version version)) (sym (answer_behind span first.0 p (at_most_trans high h)))
+          ∙ ap (λ (xs : List Span). version_answer version xs p) (sym first.1) ∙ s.same p (at_most_trans le h);
     }
 
-pub side_ended : {S : Type 0} (to_come : S → List Span → Type 0) (version : Version) (ahead : Ahead S) (at : Position) (answers : Position → Option Answer) → IsSide to_come version ahead at answers → run_end at ahead.next ≡ None
+pub side_ended : {S : Type 0} (to_come : S → List Span → Type 0) (version : Version) (ahead : Ahead S) (at : Position)
+    (answers : Position → Option Answer) → IsSide to_come version ahead at answers → run_end at ahead.next ≡ None
     → (p : Position) → IsAtMost at p → answers p ≡ None
 side_ended to_come version ahead at answers s e p h =
     let none = by_next ahead.next e in
-    sym (s.same p h) ∙ ap (λ (xs : List Span). version_answer version xs p) (no_first ahead.next s.rest none (begins_with to_come ahead s.rest s.coming))
+    sym (s.same p h) ∙ ap (λ (xs : List Span). version_answer version xs p)
+    (no_first ahead.next s.rest none (begins_with to_come ahead s.rest s.coming))
   where
     by_next : (next : Option Span) → run_end at next ≡ None → next ≡ None
     by_next None e = refl
@@ -133,57 +160,71 @@ gap_falls at end (Some span) le = elim (order_cases end span.low) [
 pub kept_runs : (at end : Position) (next : Option Span) (left : ℕ) → IsAtMost at end → runs_left end next left ≤ runs_left at next left
 kept_runs at end next left le = let g = gap_falls at end next le in omega (arith, g)
 
--- a span that ends behind `end` isn't where its run ends, so that there is its beginning
-pub kept_fewer : (at end : Position) (next : Option Span) (span : Span) (left : ℕ) → next ≡ Some span → IsBelow end span.high → run_end at next ≡ Some end → runs_left end next left < runs_left at next left
+-- a span that ends after `end` isn't where its run ends, so that there is its beginning
+pub kept_fewer : (at end : Position) (next : Option Span) (span : Span) (left : ℕ) → next ≡ Some span → IsBelow end span.high
+    → run_end at next ≡ Some end → runs_left end next left < runs_left at next left
 kept_fewer at end next span left some lt e = rw some (elim (order_cases at span.low) [
   | inl gap ↦
       let is : span.low ≡ end = same_Some span.low end (end_gap next span at some gap ∙ e) in
-      rw (test_below at span.low gap, test_not_below end span.low (subst (λ (q : Position). IsAtMost span.low q) is (at_most_itself span.low))) (omega arith)
+      rw (
+        test_below at span.low gap,
+        test_not_below end span.low
+            (subst (λ (q : Position). IsAtMost span.low q) is (at_most_itself span.low)),
+      ) (omega arith)
   | inr in_it ↦
       let is : span.high ≡ end = same_Some span.high end (end_inside next span at some in_it ∙ e) in
       absurd (not_both lt (subst (λ (q : Position). IsAtMost span.high q) is (at_most_itself span.high)))
 ])
 
-pub passed_fewer : (at end : Position) (next other : Option Span) (left less : ℕ) → count_ahead other less < count_ahead next left → runs_left end other less < runs_left at next left
+pub passed_fewer : (at end : Position) (next other : Option Span) (left less : ℕ) → count_ahead other less < count_ahead next left
+    → runs_left end other less < runs_left at next left
 passed_fewer at end next other left less h = let g = gap_at_most_one end other in omega (arith, h, g)
 
 -- ---- what is told
 
-pub in_one_more : (f g : Position → Option Answer) (told more : List Difference) (p : Position) → IsInOne f g told p → IsInOne f g (told ++ more) p
+pub in_one_more : (f g : Position → Option Answer) (told more : List Difference) (p : Position) → IsInOne f g told p
+    → IsInOne f g (told ++ more) p
 in_one_more f g [] more p h = absurd h
 in_one_more f g (d ∷ told) more p (inl h) = inl h
 in_one_more f g (d ∷ told) more p (inr h) = inr (in_one_more f g told more p h)
 
-pub in_last : (f g : Position → Option Answer) (told : List Difference) (d : Difference) (p : Position) → IsInStretch f g d p → IsInOne f g (told ++ d ∷ []) p
+pub in_last : (f g : Position → Option Answer) (told : List Difference) (d : Difference) (p : Position) → IsInStretch f g d p
+    → IsInOne f g (told ++ d ∷ []) p
 in_last f g [] d p h = inl h
 in_last f g (e ∷ told) d p h = inr (in_last f g told d p h)
 
-all_push : (P : Difference → Type 0) (told : List Difference) (d : Difference) → AllByRecursion P told → P d → AllByRecursion P (told ++ d ∷ [])
+all_push : (P : Difference → Type 0) (told : List Difference) (d : Difference) → AllByRecursion P told → P d
+    → AllByRecursion P (told ++ d ∷ [])
 all_push P [] d h k = (k, tt)
 all_push P (e ∷ told) d h k = (h.0, all_push P told d h.1 k)
 
-all_below : (told : List Difference) (at end : Position) → IsAtMost at end → AllByRecursion (λ (d : Difference). IsBelow d.position at) told → AllByRecursion (λ (d : Difference). IsBelow d.position end) told
+all_below : (told : List Difference) (at end : Position) → IsAtMost at end → AllByRecursion (λ (d : Difference). IsBelow d.position at) told
+    → AllByRecursion (λ (d : Difference). IsBelow d.position end) told
 all_below [] at end le h = tt
 all_below (d ∷ told) at end le h = (below_at_most h.0 le, all_below told at end le h.1)
 
-rising_push : (told : List Difference) (d : Difference) → AreRising told → AllByRecursion (λ (e : Difference). IsBelow e.position d.position) told → AreRising (told ++ d ∷ [])
+rising_push : (told : List Difference) (d : Difference) → AreRising told
+    → AllByRecursion (λ (e : Difference). IsBelow e.position d.position) told → AreRising (told ++ d ∷ [])
 rising_push [] d r h = tt
 rising_push (e ∷ []) d r h = (h.0, tt)
 rising_push (e ∷ next ∷ told) d r h = (r.0, rising_push (next ∷ told) d r.1 h.1)
 
 -- right below the end the answers are those of the run
-last_answers : (f g : Position → Option Answer) (at end : Position) (s t : Option Answer) → IsBelow at end → Stay f g s t at end → (p : Position) → IsBelow p end
+last_answers : (f g : Position → Option Answer) (at end : Position) (s t : Option Answer) → IsBelow at end → Stay f g s t at end
+    → (p : Position) → IsBelow p end
     → (q : Position) × IsAtMost p q × IsBelow q end × ((f q ≡ g q) ⊎ AreAnswers f g s t q)
 last_answers f g at end s t lt stay p h = elim (order_cases p at) [
   | inl early ↦ (at, below_is_at_most early, lt, inr (stay at (at_most_itself at) lt))
   | inr late ↦ (p, at_most_itself p, h, inr (stay p late h))
 ]
 
-stay_on : (f g : Position → Option Answer) (s t : Option Answer) (at end p : Position) → Stay f g s t at end → Stay f g s t end p → Stay f g s t at p
+stay_on : (f g : Position → Option Answer) (s t : Option Answer) (at end p : Position) → Stay f g s t at end → Stay f g s t end p
+    → Stay f g s t at p
 stay_on f g s t at end p one two q h k = elim (order_cases q end) [ inl early ↦ one q h early | inr late ↦ two q late k ]
 
 -- a position of the run, where the last stretch goes on
-pub told_on : (f g : Position → Option Answer) (at end : Position) (s t : Option Answer) (told : List Difference) → AreToldBelow f g at s t told → IsBelow at end → Stay f g s t at end
+pub told_on : (f g : Position → Option Answer) (at end : Position) (s t : Option Answer) (told : List Difference)
+    → AreToldBelow f g at s t told → IsBelow at end → Stay f g s t at end
     → AreToldBelow f g end s t told
 told_on f g at end s t told b lt stay = record {
   each = b.each;
@@ -203,31 +244,37 @@ told_on f g at end s t told b lt stay = record {
     later (inr going) = inr (λ p h more is. going p (at_most_trans (below_is_at_most lt) h) (stay_on f g s t at end p stay more) is)
 
 -- where the two answer alike
-pub told_alike : (f g : Position → Option Answer) (at end : Position) (s t s' t' : Option Answer) (told : List Difference) → AreToldBelow f g at s t told → IsBelow at end → Stay f g s' t' at end → s' ≡ t'
+pub told_alike : (f g : Position → Option Answer) (at end : Position) (s t s' t' : Option Answer) (told : List Difference)
+    → AreToldBelow f g at s t told → IsBelow at end → Stay f g s' t' at end → s' ≡ t'
     → AreToldBelow f g end s' t' told
 told_alike f g at end s t s' t' told b lt stay same = record {
   each = b.each;
   rising = b.rising;
   below = all_below told at end (below_is_at_most lt) b.below;
-  all = λ p h. elim (order_cases p at) [ inl early ↦ b.all p early | inr late ↦ let a = stay p late h in inl (a.section ∙ same ∙ sym a.table) ];
+  all = λ p h. elim (order_cases p at)
+      [ inl early ↦ b.all p early | inr late ↦ let a = stay p late h in inl (a.section ∙ same ∙ sym a.table) ];
   going = inl same;
   last = last_answers f g at end s' t' lt stay;
 }
 
 -- where a stretch begins
-pub told_new : (f g : Position → Option Answer) (at end : Position) (s t s' t' : Option Answer) (told : List Difference) → AreToldBelow f g at s t told → IsBelow at end → Stay f g s' t' at end
+pub told_new : (f g : Position → Option Answer) (at end : Position) (s t s' t' : Option Answer) (told : List Difference)
+    → AreToldBelow f g at s t told → IsBelow at end → Stay f g s' t' at end
     → t' ≢ s' → (s' ≡ s → t' ≡ t → ⊥) → AreToldBelow f g end s' t' (told ++ (record { position = at; by_table = t'; by_section = s' }) ∷ [])
 told_new f g at end s t s' t' told b lt stay differ other =
     let d : Difference = record { position = at; by_table = t'; by_section = s' } in
     record {
-      each = all_push (BeginsStretch f g) told d b.each (record { here = stay at (at_most_itself at) lt; differ = differ; longest = longest });
+      each = all_push (BeginsStretch f g) told d b.each
+          (record { here = stay at (at_most_itself at) lt; differ = differ; longest = longest });
       rising = rising_push told d b.rising b.below;
       below = all_push (λ (e : Difference). IsBelow e.position end) told d (all_below told at end (below_is_at_most lt) b.below) lt;
       all = λ p h. elim (order_cases p at) [
         | inl early ↦ elim (b.all p early) [ inl same ↦ inl same | inr one ↦ inr (in_one_more f g told (d ∷ []) p one) ]
-        | inr late ↦ inr (in_last f g told d p (record { behind = late; stay = λ q k l. stay q k (below_at_most l (below_is_at_most h)); here = stay p late h }))
+        | inr late ↦ inr (in_last f g told d p
+            (record { behind = late; stay = λ q k l. stay q k (below_at_most l (below_is_at_most h)); here = stay p late h }))
       ];
-      going = inr (λ p h more is. in_last f g told d p (record { behind = at_most_trans (below_is_at_most lt) h; stay = stay_on f g s' t' at end p stay more; here = is }));
+      going = inr (λ p h more is. in_last f g told d p
+          (record { behind = at_most_trans (below_is_at_most lt) h; stay = stay_on f g s' t' at end p stay more; here = is }));
       last = last_answers f g at end s' t' lt stay;
     }
   where
@@ -241,7 +288,8 @@ told_new f g at end s t s' t' told b lt stay differ other =
         ]
 
 -- where both sides are through
-pub told_all : (f g : Position → Option Answer) (at : Position) (s t : Option Answer) (told : List Difference) → AreToldBelow f g at s t told → ((p : Position) → IsAtMost at p → f p ≡ None)
+pub told_all : (f g : Position → Option Answer) (at : Position) (s t : Option Answer) (told : List Difference)
+    → AreToldBelow f g at s t told → ((p : Position) → IsAtMost at p → f p ≡ None)
     → ((p : Position) → IsAtMost at p → g p ≡ None) → AreStretches f g told
 told_all f g at s t told b none none' = record {
   each = b.each;
@@ -250,7 +298,8 @@ told_all f g at s t told b none none' = record {
 }
 
 -- where both answer alike up to there
-pub told_none : (f g : Position → Option Answer) (at : Position) → ((p : Position) → IsBelow p at → f p ≡ g p) → AreToldBelow f g at None None []
+pub told_none : (f g : Position → Option Answer) (at : Position) → ((p : Position) → IsBelow p at → f p ≡ g p)
+    → AreToldBelow f g at None None []
 told_none f g at same = record {
   each = tt;
   rising = tt;
@@ -264,9 +313,12 @@ told_none f g at same = record {
 
 -- what is answered of a side
 abbrev pub Runs : Version → Option Span → Position → Option Answer → Option Position → Type 0
-Runs version next at answer end = (spans : List Span) → BeginsWith next spans → AreInOrder spans → EndsBehind at spans → IsRun (version_answer version spans) at answer end
+Runs version next at answer end =
+    (spans : List Span) → BeginsWith next spans → AreInOrder spans → EndsBehind at spans
+    → IsRun (version_answer version spans) at answer end
 
-pub side_run : {S : Type 0} (to_come : S → List Span → Type 0) (version : Version) (ahead : Ahead S) (at : Position) (answers : Position → Option Answer) (answer : Option Answer) (end : Option Position) → IsSide to_come version ahead at answers
+pub side_run : {S : Type 0} (to_come : S → List Span → Type 0) (version : Version) (ahead : Ahead S) (at : Position)
+    (answers : Position → Option Answer) (answer : Option Answer) (end : Option Position) → IsSide to_come version ahead at answers
     → Runs version ahead.next at answer end → IsRun answers at answer end
 side_run to_come version ahead at answers answer end s runs =
     let r = runs s.rest (begins_with to_come ahead s.rest s.coming) s.order s.behind in
@@ -281,17 +333,20 @@ pub record Moves (f g : Position → Option Answer) (at end : Position) (s t : O
   pub below : IsBelow at end
   pub stay : Stay f g s t at end
 
-pub moves : (f g : Position → Option Answer) (at end : Position) (s t : Option Answer) (one other : Option Position) → IsRun f at s one → IsRun g at t other → IsUpTo end one → IsUpTo end other
+pub moves : (f g : Position → Option Answer) (at end : Position) (s t : Option Answer) (one other : Option Position) → IsRun f at s one
+    → IsRun g at t other → IsUpTo end one → IsUpTo end other
     → (one ≡ Some end) ⊎ (other ≡ Some end) → Moves f g at end s t
 moves f g at end s t one other a b up up' is = record {
   below = elim is [ inl e ↦ subst (IsBefore at) e a.behind | inr e ↦ subst (IsBefore at) e b.behind ];
   stay = λ p h k. record { section = a.says p h (before_end p end one k up); table = b.says p h (before_end p end other k up') };
 }
 
-pub step_known : (f g : Position → Option Answer) (at end : Position) (s t s' t' : Option Answer) (told : List Difference) → AreToldBelow f g at s t told → Moves f g at end s' t'
+pub step_known : (f g : Position → Option Answer) (at end : Position) (s t s' t' : Option Answer) (told : List Difference)
+    → AreToldBelow f g at s t told → Moves f g at end s' t'
     → (s' ≡ t') ⊎ (s' ≡ s) × (t' ≡ t) → AreToldBelow f g end s' t' told
 step_known f g at end s t s' t' told b m (inl same) = told_alike f g at end s t s' t' told b m.below m.stay same
-step_known f g at end s t s' t' told b m (inr same) = rw (same.0, same.1) (told_on f g at end s t told b m.below (rw (same.0, same.1) at m.stay))
+step_known f g at end s t s' t' told b m (inr same) =
+    rw (same.0, same.1) (told_on f g at end s t told b m.below (rw (same.0, same.1) at m.stay))
 
 pub both_fewer : (a b a' b' : ℕ) {P Q : Type 0} → (a' ≤ a) × (P → a' < a) → (b' ≤ b) × (Q → b' < b) → P ⊎ Q → a' + b' < a + b
 both_fewer a b a' b' h k (inl p) = omega (arith, h.1 p, k.0)
@@ -302,7 +357,7 @@ both_fewer a b a' b' h k (inr q) = omega (arith, h.0, k.1 q)
 origin_first : (p : Position) → IsAtMost (record { address = 0; op = 0 }) p
 origin_first p = record { address = omega arith; op = λ e. omega arith }
 
--- what comes behind some spans ends behind them
+-- what comes after some spans ends after them
 ends_behind : (passed more : List Span) → AreInOrder (passed ++ more) → EndsBehind (end_of passed) more
 ends_behind [] [] o = tt
 ends_behind [] (span ∷ more) o = at_most_below (origin_first span.low) (first_holds span more o)
@@ -311,38 +366,52 @@ ends_behind (span ∷ next ∷ passed) more o = ends_behind (next ∷ passed) mo
 
 end_above : (span : Span) (passed : List Span) → AreInOrder (span ∷ passed) → IsAtMost span.high (end_of (span ∷ passed))
 end_above span [] o = at_most_itself span.high
-end_above span (next ∷ passed) o = at_most_trans o.1 (at_most_trans (below_is_at_most (first_holds next passed o.2)) (end_above next passed o.2))
+end_above span (next ∷ passed) o =
+    at_most_trans o.1 (at_most_trans (below_is_at_most (first_holds next passed o.2)) (end_above next passed o.2))
 
-answer_below : (passed more : List Span) (p : Position) → AreInOrder (passed ++ more) → IsBelow p (end_of passed) → span_answer (passed ++ more) p ≡ span_answer passed p
+answer_below : (passed more : List Span) (p : Position) → AreInOrder (passed ++ more) → IsBelow p (end_of passed)
+    → span_answer (passed ++ more) p ≡ span_answer passed p
 answer_below [] more p o h = absurd (not_both h (origin_first p))
 answer_below (span ∷ []) more p o h = answer_same span more [] p (rest_none span more p o h)
-answer_below (span ∷ next ∷ passed) more p o h = answer_same span (next ∷ (passed ++ more)) (next ∷ passed) p (answer_below (next ∷ passed) more p o.2 h)
+answer_below (span ∷ next ∷ passed) more p o h =
+    answer_same span (next ∷ (passed ++ more)) (next ∷ passed) p (answer_below (next ∷ passed) more p o.2 h)
 
-answer_from : (passed more : List Span) (p : Position) → AreInOrder (passed ++ more) → IsAtMost (end_of passed) p → span_answer (passed ++ more) p ≡ span_answer more p
+answer_from : (passed more : List Span) (p : Position) → AreInOrder (passed ++ more) → IsAtMost (end_of passed) p
+    → span_answer (passed ++ more) p ≡ span_answer more p
 answer_from [] more p o h = refl
 answer_from (span ∷ []) more p o h = answer_behind span more p h
 answer_from (span ∷ next ∷ passed) more p o h =
-    answer_behind span (next ∷ (passed ++ more)) p (at_most_trans (end_above span (next ∷ passed) (front_in_order (span ∷ next ∷ passed) more o)) h) ∙ answer_from (next ∷ passed) more p o.2 h
+    answer_behind span (next ∷ (passed ++ more)) p
+    (at_most_trans (end_above span (next ∷ passed) (front_in_order (span ∷ next ∷ passed) more o)) h)
+    ∙ answer_from (next ∷ passed) more p o.2 h
 
 told_are : (version : Version) (spans : List Span) → AllByRecursion (IsTold version) spans → told version spans ≡ spans
 told_are version [] h = refl
 told_are version (span ∷ spans) h = let first = h.0 in let rest = told_are version spans h.1 in cc
 
-told_same : (version : Version) (spans : List Span) (p : Position) → AllByRecursion (IsTold version) spans → version_answer version spans p ≡ span_answer spans p
+told_same : (version : Version) (spans : List Span) (p : Position) → AllByRecursion (IsTold version) spans
+    → version_answer version spans p ≡ span_answer spans p
 told_same version spans p h = sym (told_answer version spans p) ∙ ap (λ (xs : List Span). span_answer xs p) (told_are version spans h)
 
-told_front : (version : Version) (passed more : List Span) → AllByRecursion (IsTold version) (passed ++ more) → AllByRecursion (IsTold version) passed
+told_front : (version : Version) (passed more : List Span) → AllByRecursion (IsTold version) (passed ++ more)
+    → AllByRecursion (IsTold version) passed
 told_front version [] more h = tt
 told_front version (span ∷ passed) more h = (h.0, told_front version passed more h.1)
 
-told_back : (version : Version) (passed more : List Span) → AllByRecursion (IsTold version) (passed ++ more) → AllByRecursion (IsTold version) more
+told_back : (version : Version) (passed more : List Span) → AllByRecursion (IsTold version) (passed ++ more)
+    → AllByRecursion (IsTold version) more
 told_back version [] more h = h
 told_back version (span ∷ passed) more h = told_back version passed more h.1
 
-pub told_behind : {S T : Type 0} (of_section : S → List Span → Type 0) (of_table : T → List Span → Type 0) (section : Ahead S) (table : Ahead T) (version : Version) (at : Position) (f : Position → Option Answer)
-    (passed spans records : List Span) → IsAhead of_section section spans → IsAhead of_table table records → AreInOrder (passed ++ spans) → AreInOrder (passed ++ records)
-    → AllByRecursion (IsTold version) (passed ++ records) → at ≡ end_of passed → ((p : Position) → version_answer version (passed ++ spans) p ≡ f p)
-    → HasTold of_section of_table (record { version = version; section = section; table = table; at = at; by_section = None; by_table = None }) f (span_answer (passed ++ records)) []
+pub told_behind : {S T : Type 0} (of_section : S → List Span → Type 0) (of_table : T → List Span → Type 0) (section : Ahead S)
+    (table : Ahead T) (version : Version) (at : Position) (f : Position → Option Answer)
+    (passed spans records : List Span) → IsAhead of_section section spans → IsAhead of_table table records → AreInOrder (passed ++ spans)
+    → AreInOrder (passed ++ records)
+    → AllByRecursion (IsTold version) (passed ++ records) → at ≡ end_of passed
+    → ((p : Position) → version_answer version (passed ++ spans) p ≡ f p)
+    → HasTold of_section of_table (record
+    { version = version; section = section; table = table; at = at; by_section = None; by_table = None }) f (span_answer
+    (passed ++ records)) []
 told_behind of_section of_table section table version at f passed spans records a b o o' t e same = rw e (record {
   section = record {
     rest = spans;
@@ -360,13 +429,15 @@ told_behind of_section of_table section table version at f passed spans records 
   };
   below = told_none f (span_answer (passed ++ records)) (end_of passed)
       (λ p h.
-      sym (same p) ∙ ap (option_map (in_version version)) (answer_below passed spans p o h) ∙ told_same version passed p (told_front version passed records t)
+      sym (same p) ∙ ap (option_map (in_version version)) (answer_below passed spans p o h)
+      ∙ told_same version passed p (told_front version passed records t)
       ∙ sym (answer_below passed records p o' h));
 })
 
 -- ---- the first stretch
 
-not_earlier : (f g : Position → Option Answer) (d : Difference) (list : List Difference) (p : Position) → AreRising (d ∷ list) → IsInOne f g (d ∷ list) p → IsAtMost d.position p
+not_earlier : (f g : Position → Option Answer) (d : Difference) (list : List Difference) (p : Position) → AreRising (d ∷ list)
+    → IsInOne f g (d ∷ list) p → IsAtMost d.position p
 not_earlier f g d list p rising (inl h) = h.behind
 not_earlier f g d [] p rising (inr h) = absurd h
 not_earlier f g d (e ∷ list) p rising (inr h) = at_most_trans (below_is_at_most rising.0) (not_earlier f g e list p rising.1 h)

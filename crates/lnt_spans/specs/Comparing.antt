@@ -30,7 +30,7 @@ pub record State : Type 0 where
 abbrev pub state_of : {S : Type 0} → Merging S → List Span → State
 state_of merge rest = record { version = merge.version; rest = rest; at = merge.at; first = merge.first }
 
--- While there is no difference, the first span that is left ends behind `at`.
+-- While there is no difference, the first span that is left ends after `at`.
 pub record IsSound (rest : List Span) (at : Position) (first : Option Difference) : Type 0 where
   pub order : AreInOrder rest
   pub behind : first ≡ None → EndsBehind at rest
@@ -93,11 +93,13 @@ Advances old new to answer =
     → ((p : Position) → IsAtMost old.at p → IsBelow p to → by_table p ≡ answer) → IsCompared new spans by_table
 
 -- it goes on so, with these spans to come
-pub record HasGoneOn {S : Type 0} (to_come : S → List Span → Type 0) (old : State) (new : Merging S) (to : Position) (answer : Option Answer) : Type 0 where
+pub record HasGoneOn {S : Type 0} (to_come : S → List Span → Type 0) (old : State) (new : Merging S) (to : Position)
+    (answer : Option Answer) : Type 0 where
   pub rest : List Span
   pub ahead : IsAhead to_come new.spans rest
   pub sound : IsSound rest new.at new.first
   pub advances : Advances old (state_of new rest) to answer
 
 abbrev pub GoesOn : {S : Type 0} → (S → List Span → Type 0) → Merging S → Merging S → List Span → Position → Option Answer → Type 0
-GoesOn to_come old new rest to answer = IsAhead to_come old.spans rest → IsSound rest old.at old.first → HasGoneOn to_come (state_of old rest) new to answer
+GoesOn to_come old new rest to answer =
+    IsAhead to_come old.spans rest → IsSound rest old.at old.first → HasGoneOn to_come (state_of old rest) new to answer

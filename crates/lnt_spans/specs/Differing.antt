@@ -19,14 +19,15 @@ use Rattle.lnt_spans.specs.Stretches.{AreAnswers, AreRising, AreStretches, Begin
 -- ---- one side
 
 -- These spans are still to come, and from the position on they answer as the function does, as the version tells answers.
-pub record IsSide {S : Type 0} (to_come : S → List Span → Type 0) (version : Version) (ahead : Ahead S) (at : Position) (answers : Position → Option Answer) : Type 0 where
+pub record IsSide {S : Type 0} (to_come : S → List Span → Type 0) (version : Version) (ahead : Ahead S) (at : Position)
+    (answers : Position → Option Answer) : Type 0 where
   pub rest : List Span
   pub coming : IsAhead to_come ahead rest
   pub order : AreInOrder rest
   pub behind : EndsBehind at rest
   pub same : (p : Position) → IsAtMost at p → version_answer version rest p ≡ answers p
 
--- The position isn't behind the end, where there is one.
+-- The position isn't after the end, where there is one.
 abbrev pub IsUpTo : Position → Option Position → Type 0
 IsUpTo p None = Unit {0}
 IsUpTo p (Some end) = IsAtMost p end
@@ -36,7 +37,7 @@ abbrev pub IsBefore : Position → Option Position → Type 0
 IsBefore p None = Unit {0}
 IsBefore p (Some end) = IsBelow p end
 
--- From a position on up to the end, which is behind it, or at all of them, this is answered.
+-- From a position on up to the end, which is after it, or at all of them, this is answered.
 pub record IsRun (answers : Position → Option Answer) (at : Position) (answer : Option Answer) (end : Option Position) : Type 0 where
   pub behind : IsBefore at end
   pub says : (p : Position) → IsAtMost at p → IsBefore p end → answers p ≡ answer
@@ -53,12 +54,15 @@ runs_left at next left = count_ahead next left + count_ahead next left + gap_bef
 -- ---- both sides
 
 -- From the position on, as long as these two answers stay, one of the stretches holds them.
-abbrev pub IsOpen : (Position → Option Answer) → (Position → Option Answer) → Position → Option Answer → Option Answer → List Difference → Type 0
+abbrev pub IsOpen : (Position → Option Answer) → (Position → Option Answer) → Position → Option Answer → Option Answer → List Difference
+    → Type 0
 IsOpen by_section by_table at section table told =
-    (p : Position) → IsAtMost at p → Stay by_section by_table section table at p → AreAnswers by_section by_table section table p → IsInOne by_section by_table told p
+    (p : Position) → IsAtMost at p → Stay by_section by_table section table at p → AreAnswers by_section by_table section table p
+    → IsInOne by_section by_table told p
 
 -- What is told so far of the stretches below a position.
-pub record AreToldBelow (by_section by_table : Position → Option Answer) (at : Position) (section table : Option Answer) (told : List Difference) : Type 0 where
+pub record AreToldBelow (by_section by_table : Position → Option Answer) (at : Position) (section table : Option Answer)
+    (told : List Difference) : Type 0 where
   pub each : AllByRecursion (BeginsStretch by_section by_table) told
   pub rising : AreRising told
   pub below : AllByRecursion (λ difference. IsBelow difference.position at) told
@@ -70,13 +74,16 @@ pub record AreToldBelow (by_section by_table : Position → Option Answer) (at :
       → (q : Position) × IsAtMost p q × IsBelow q at × ((by_section q ≡ by_table q) ⊎ AreAnswers by_section by_table section table q)
 
 -- Of the stretches these are told, and the sources have the spans to come from there on.
-pub record HasTold {S T : Type 0} (of_section : S → List Span → Type 0) (of_table : T → List Span → Type 0) (differences : Differences S T) (by_section by_table : Position → Option Answer) (told : List Difference) : Type 0 where
+pub record HasTold {S T : Type 0} (of_section : S → List Span → Type 0) (of_table : T → List Span → Type 0) (differences : Differences S T)
+    (by_section by_table : Position → Option Answer) (told : List Difference) : Type 0 where
   pub section : IsSide of_section differences.version differences.section differences.at by_section
   pub table : IsSide of_table differences.version differences.table differences.at by_table
   pub below : AreToldBelow by_section by_table differences.at differences.by_section differences.by_table told
 
 -- what one step brings
-abbrev pub Steps : {S T : Type 0} → (S → List Span → Type 0) → (T → List Span → Type 0) → Differences S T → (Position → Option Answer) → (Position → Option Answer) → List Difference → Step → Type 0
+abbrev pub Steps : {S T : Type 0} → (S → List Span → Type 0) → (T → List Span → Type 0) → Differences S T → (Position → Option Answer)
+    → (Position → Option Answer) → List Difference → Step → Type 0
 Steps of_section of_table differences by_section by_table told Ended = AreStretches by_section by_table told
 Steps of_section of_table differences by_section by_table told Known = HasTold of_section of_table differences by_section by_table told
-Steps of_section of_table differences by_section by_table told (Told difference) = HasTold of_section of_table differences by_section by_table (told ++ difference ∷ [])
+Steps of_section of_table differences by_section by_table told (Told difference) =
+    HasTold of_section of_table differences by_section by_table (told ++ difference ∷ [])

@@ -10,7 +10,8 @@ use Rattle.lnt_spans.specs.Spans.{AreInOrder, DifferWhereTheyTouch, span_answer,
 pub record IsJoined (version : Version) (pushed given : List Span) (last : Span) : Type 0 where
   pub differ : DifferWhereTheyTouch (given ++ last ∷ [])
   pub order : (rest : List Span) → AreInOrder (pushed ++ rest) → AreInOrder (given ++ last ∷ map (span_in_version version) rest)
-  pub same : (rest : List Span) → AreInOrder (pushed ++ rest) → (p : Position) → span_answer (given ++ last ∷ map (span_in_version version) rest) p ≡ version_answer version (pushed ++ rest) p
+  pub same : (rest : List Span) → AreInOrder (pushed ++ rest) → (p : Position)
+      → span_answer (given ++ last ∷ map (span_in_version version) rest) p ≡ version_answer version (pushed ++ rest) p
 
 abbrev pub HasJoined : Version → List Span → List Span → Option Span → Type 0
 HasJoined version pushed given None = (pushed ≡ []) × (given ≡ [])

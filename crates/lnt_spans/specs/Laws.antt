@@ -44,4 +44,6 @@ IsFirst by_section by_table (first ∷ differences) = IsLeastDifference by_secti
 
 -- The first stretch begins with the least difference, and with none the two answer alike.
 abbrev pub FirstStretch : Type 0
-FirstStretch = (by_section by_table : Position → Option Answer) (differences : List Difference) → AreStretches by_section by_table differences → IsFirst by_section by_table differences
+FirstStretch =
+    (by_section by_table : Position → Option Answer) (differences : List Difference) → AreStretches by_section by_table differences
+    → IsFirst by_section by_table differences

@@ -8,7 +8,7 @@ use Rattle.lnt_spans.specs.declared.span.Span.{Span}
 use Rattle.lnt_spans.specs.Positions.{IsBelow, IsAtMost}
 use Rattle.lnt_spans.specs.Spans.{AreInOrder, span_answer, version_answer}
 
--- The first span, if there is one, ends behind p.
+-- The first span, if there is one, ends after p.
 abbrev pub EndsBehind : Position → List Span → Type 0
 EndsBehind p [] = Unit {0}
 EndsBehind p (span ∷ spans) = IsBelow p span.high
@@ -21,7 +21,8 @@ pub record Says (version : Version) (spans : List Span) (from to : Position) (an
   pub says : (p : Position) → IsAtMost from p → IsBelow p to → version_answer version spans p ≡ answer
 
 -- At the difference, below `to`, the spans don't answer `answer` as the table does, and before it they do.
-pub record DiffersFirst (version : Version) (spans : List Span) (from to : Position) (answer : Option Answer) (difference : Difference) : Type 0 where
+pub record DiffersFirst (version : Version) (spans : List Span) (from to : Position) (answer : Option Answer)
+    (difference : Difference) : Type 0 where
   pub behind : IsAtMost from difference.position
   pub below : IsBelow difference.position to
   pub table : difference.by_table ≡ answer
@@ -30,14 +31,17 @@ pub record DiffersFirst (version : Version) (spans : List Span) (from to : Posit
   pub before : (p : Position) → IsAtMost from p → IsBelow p difference.position → version_answer version spans p ≡ answer
 
 -- From `at` up to `end`, which isn't beyond `to`, the spans answer `answer`.
-pub record IsStretch (version : Version) (spans : List Span) (at to : Position) (answer : Option Answer) (end : Position) (rest : List Span) : Type 0 where
+pub record IsStretch (version : Version) (spans : List Span) (at to : Position) (answer : Option Answer) (end : Position)
+    (rest : List Span) : Type 0 where
   pub from : IsBelow at end
   pub within : IsAtMost end to
   pub says : Says version spans at end answer rest
 
 -- The spans answer `answer` up to `to`, and those are left that are to come from there on; or this is where they differ first.
-pub record IsScanned (version : Version) (spans : List Span) (from to : Position) (answer : Option Answer) (found : Option Difference) (AreLeft : List Span → Type 0) : Type 0 where
+pub record IsScanned (version : Version) (spans : List Span) (from to : Position) (answer : Option Answer) (found : Option Difference)
+    (AreLeft : List Span → Type 0) : Type 0 where
   pub rest : List Span
   pub left : AreLeft rest
   pub order : AreInOrder rest
-  pub cases : MatchOption found (Says version spans from to answer rest) (λ difference. DiffersFirst version spans from to answer difference)
+  pub cases : MatchOption found (Says version spans from to answer rest)
+      (λ difference. DiffersFirst version spans from to answer difference)

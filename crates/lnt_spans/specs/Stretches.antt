@@ -1,5 +1,5 @@
--- All places where a section and a table answer differently: each longest run of positions, one behind another, at which
--- the two answers differ and stay the same two. Positions stand one behind another in dictionary order, so a run is what
+-- All places where a section and a table answer differently: each longest run of positions, one after another, at which
+-- the two answers differ and stay the same two. Positions stand one after another in dictionary order, so a run is what
 -- lies from its first position on. It is known by that position and its two answers.
 use Rattle.std.specs.Prelude.{◌≡◌, ◌≢◌, ◌⊎◌, List, [], ◌∷◌, Option}
 use Rattle.std.specs.List.{AllByRecursion}
@@ -15,13 +15,15 @@ pub record AreAnswers (by_section by_table : Position → Option Answer) (of_sec
 
 -- They are at each position from one up to another, which isn't among them.
 abbrev pub Stay : (Position → Option Answer) → (Position → Option Answer) → Option Answer → Option Answer → Position → Position → Type 0
-Stay by_section by_table of_section of_table from to = (p : Position) → IsAtMost from p → IsBelow p to → AreAnswers by_section by_table of_section of_table p
+Stay by_section by_table of_section of_table from to =
+    (p : Position) → IsAtMost from p → IsBelow p to → AreAnswers by_section by_table of_section of_table p
 
 -- A stretch begins here: the two answers differ, and they aren't these two from any lower position on up to here.
 pub record BeginsStretch (by_section by_table : Position → Option Answer) (difference : Difference) : Type 0 where
   pub here : AreAnswers by_section by_table difference.by_section difference.by_table difference.position
   pub differ : difference.by_table ≢ difference.by_section
-  pub longest : (p : Position) → IsBelow p difference.position → Stay by_section by_table difference.by_section difference.by_table p difference.position → ⊥
+  pub longest : (p : Position) → IsBelow p difference.position
+      → Stay by_section by_table difference.by_section difference.by_table p difference.position → ⊥
 
 -- The stretch that begins there holds the position: from its first one up to it, and at it, the two answers are these two.
 pub record IsInStretch (by_section by_table : Position → Option Answer) (difference : Difference) (p : Position) : Type 0 where
@@ -32,7 +34,8 @@ pub record IsInStretch (by_section by_table : Position → Option Answer) (diffe
 -- one of these stretches does
 abbrev pub IsInOne : (Position → Option Answer) → (Position → Option Answer) → List Difference → Position → Type 0
 IsInOne by_section by_table [] p = ⊥
-IsInOne by_section by_table (difference ∷ differences) p = IsInStretch by_section by_table difference p ⊎ IsInOne by_section by_table differences p
+IsInOne by_section by_table (difference ∷ differences) p =
+    IsInStretch by_section by_table difference p ⊎ IsInOne by_section by_table differences p
 
 -- Each begins below the next one.
 abbrev pub AreRising : List Difference → Type 0

@@ -26,7 +26,8 @@ impl<S: SpanSource> Ahead<S> {
     #[inline(always)]
     pub(crate) fn pass(&mut self)
         requires { IsSome self.old.next }
-        ensures passed { (span : spec.Span) (more : List spec.Span) → IsAhead S.to_come self.old (span ∷ more) → IsAhead S.to_come self.new more }
+        ensures passed { (span : spec.Span) (more : List spec.Span) → IsAhead S.to_come self.old (span ∷ more)
+            → IsAhead S.to_come self.new more }
         ensures fewer { count_ahead self.new.next (S.left self.new.spans) < count_ahead self.old.next (S.left self.old.spans) }
     {
         self.next = self.spans.next_span();

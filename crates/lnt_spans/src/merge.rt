@@ -61,11 +61,12 @@ impl<S: SpanSource + Drop> Merge<S> {
     }
 
     /// The spans of a section that begins with some records of a table of this version, compared with these records. They
-    /// end at a position, and the source has the spans behind them. The caller sees to it that all of them are in order,
+    /// end at a position, and the source has the spans after them. The caller sees to it that all of them are in order,
     /// none is empty, and the records answer as the version tells answers.
     pub fn behind(spans: S, version: Version, at: Position) -> Merge<S>
         ensures version { result.version ≡ version }
-        ensures compares { (passed list : List Span) → S.to_come spans list → AreInOrder (passed ++ list) → AllByRecursion (IsTold version) passed → at ≡ end_of passed
+        ensures compares { (passed list : List Span) → S.to_come spans list → AreInOrder (passed ++ list)
+            → AllByRecursion (IsTold version) passed → at ≡ end_of passed
             → Compares S.to_come result (passed ++ list) passed }
     {
         Merge {
@@ -92,7 +93,8 @@ impl<S: SpanSource + Drop> Merge<S> {
     pub fn push(&mut self, span: &Span)
         requires { (spans records : List Span) × Compares S.to_come self.old spans records × AreInOrder (records ++ span.now ∷ []) }
         ensures version { self.new.version ≡ self.old.version }
-        ensures compares { (spans records : List Span) → Compares S.to_come self.old spans records → Compares S.to_come self.new spans (records ++ span.now ∷ []) }
+        ensures compares { (spans records : List Span) → Compares S.to_come self.old spans records
+            → Compares S.to_come self.new spans (records ++ span.now ∷ []) }
     {
         if self.is_next(span) {
             self.spans.pass();

@@ -11,7 +11,7 @@ use crate::position::Position;
 pub struct Span {
     /// The first position that it holds.
     pub low: Position,
-    /// The first position behind it.
+    /// The first position after it.
     pub high: Position,
     /// The answer at each position that it holds.
     pub answer: Answer,

@@ -61,11 +61,13 @@ enum Step {
 
 impl<S: SpanSource, T: SpanSource> Differences<S, T> {
     /// No stretch is told of a section and a table that begin with the same spans, which end at a position, and of which the
-    /// sources have those behind them. The caller sees to it that the spans of both are in order, none is empty, and those
+    /// sources have those after them. The caller sees to it that the spans of both are in order, none is empty, and those
     /// of the table answer as the version tells answers. With no span before them the position is the origin.
     pub fn behind(section: S, table: T, version: Version, at: Position) -> Differences<S, T>
-        ensures { (by_section : spec_position.Position → Option spec_answer.Answer) (passed spans records : List spec.Span) → S.to_come section spans → T.to_come table records
-            → AreInOrder (passed ++ spans) → AreInOrder (passed ++ records) → AllByRecursion (IsTold version) (passed ++ records) → at ≡ end_of passed
+        ensures { (by_section : spec_position.Position → Option spec_answer.Answer) (passed spans records : List spec.Span)
+            → S.to_come section spans → T.to_come table records
+            → AreInOrder (passed ++ spans) → AreInOrder (passed ++ records) → AllByRecursion (IsTold version) (passed ++ records)
+            → at ≡ end_of passed
             → ((p : spec_position.Position) → version_answer version (passed ++ spans) p ≡ by_section p)
             → HasTold S.to_come T.to_come result by_section (span_answer (passed ++ records)) [] }
     {
@@ -82,12 +84,18 @@ impl<S: SpanSource, T: SpanSource> Differences<S, T> {
     /// The next stretch: its first position, and the two answers. None where all are told, and these are then exactly the
     /// stretches, in rising order.
     pub fn next_difference(&mut self) -> Option<Difference>
-        requires { (by_section : spec_position.Position → Option spec_answer.Answer) × (by_table : spec_position.Position → Option spec_answer.Answer) × (told : List spec_difference.Difference)
+        requires { (by_section : spec_position.Position → Option spec_answer.Answer)
+            × (by_table : spec_position.Position → Option spec_answer.Answer) × (told : List spec_difference.Difference)
             × HasTold S.to_come T.to_come self.old by_section by_table told }
-        ensures told { (by_section by_table : spec_position.Position → Option spec_answer.Answer) (told : List spec_difference.Difference) → HasTold S.to_come T.to_come self.old by_section by_table told
-            → MatchOption result (AreStretches by_section by_table told) (λ difference. HasTold S.to_come T.to_come self.new by_section by_table (told ++ difference ∷ [])) }
-        ensures fewer { IfSome result (λ _. runs_left self.new.at self.new.section.next (S.left self.new.section.spans) + runs_left self.new.at self.new.table.next (T.left self.new.table.spans)
-            < runs_left self.old.at self.old.section.next (S.left self.old.section.spans) + runs_left self.old.at self.old.table.next (T.left self.old.table.spans)) }
+        ensures told { (by_section by_table : spec_position.Position → Option spec_answer.Answer) (told : List spec_difference.Difference)
+            → HasTold S.to_come T.to_come self.old by_section by_table told
+            → MatchOption result (AreStretches by_section by_table told)
+            (λ difference. HasTold S.to_come T.to_come self.new by_section by_table (told ++ difference ∷ [])) }
+        ensures fewer { IfSome result (λ _.
+            runs_left self.new.at self.new.section.next (S.left self.new.section.spans)
+            + runs_left self.new.at self.new.table.next (T.left self.new.table.spans)
+            < runs_left self.old.at self.old.section.next (S.left self.old.section.spans)
+            + runs_left self.old.at self.old.table.next (T.left self.old.table.spans)) }
     {
         loop {
             match self.step() {
@@ -100,12 +108,17 @@ impl<S: SpanSource, T: SpanSource> Differences<S, T> {
 
     // Goes on to where one of the two answers ends.
     fn step(&mut self) -> Step
-        requires { (by_section : spec_position.Position → Option spec_answer.Answer) × (by_table : spec_position.Position → Option spec_answer.Answer) × (told : List spec_difference.Difference)
+        requires { (by_section : spec_position.Position → Option spec_answer.Answer)
+            × (by_table : spec_position.Position → Option spec_answer.Answer) × (told : List spec_difference.Difference)
             × HasTold S.to_come T.to_come self.old by_section by_table told }
-        ensures told { (by_section by_table : spec_position.Position → Option spec_answer.Answer) (told : List spec_difference.Difference) → HasTold S.to_come T.to_come self.old by_section by_table told
+        ensures told { (by_section by_table : spec_position.Position → Option spec_answer.Answer) (told : List spec_difference.Difference)
+            → HasTold S.to_come T.to_come self.old by_section by_table told
             → Steps S.to_come T.to_come self.new by_section by_table told result }
-        ensures fewer { result ≢ step.Ended → runs_left self.new.at self.new.section.next (S.left self.new.section.spans) + runs_left self.new.at self.new.table.next (T.left self.new.table.spans)
-            < runs_left self.old.at self.old.section.next (S.left self.old.section.spans) + runs_left self.old.at self.old.table.next (T.left self.old.table.spans) }
+        ensures fewer { result ≢ step.Ended
+            → runs_left self.new.at self.new.section.next (S.left self.new.section.spans)
+            + runs_left self.new.at self.new.table.next (T.left self.new.table.spans)
+            < runs_left self.old.at self.old.section.next (S.left self.old.section.spans)
+            + runs_left self.old.at self.old.table.next (T.left self.old.table.spans) }
     {
         let at = self.at;
         let section = run_at(self.version, self.section.next, at);
@@ -133,7 +146,8 @@ impl<S: SpanSource, T: SpanSource> Differences<S, T> {
 // What is answered from a position on, as a version tells answers, and where that ends, if it does.
 fn run_at(version: Version, next: Option<Span>, at: Position) -> Run
     ensures end { result.end ≡ run_end at next }
-    ensures run { (spans : List spec.Span) → BeginsWith next spans → AreInOrder spans → EndsBehind at spans → IsRun (version_answer version spans) at result.answer result.end }
+    ensures run { (spans : List spec.Span) → BeginsWith next spans → AreInOrder spans → EndsBehind at spans
+        → IsRun (version_answer version spans) at result.answer result.end }
 {
     let Some(span) = next else {
         return Run {
@@ -155,7 +169,8 @@ fn run_at(version: Version, next: Option<Span>, at: Position) -> Run
 
 // The earlier of two ends, where there is one.
 fn earlier_end(one: Option<Position>, other: Option<Position>) -> Option<Position>
-    ensures { MatchOption result ((one ≡ None) × (other ≡ None)) (λ end. IsUpTo end one × IsUpTo end other × ((one ≡ Some end) ⊎ (other ≡ Some end))) }
+    ensures { MatchOption result ((one ≡ None) × (other ≡ None))
+        (λ end. IsUpTo end one × IsUpTo end other × ((one ≡ Some end) ⊎ (other ≡ Some end))) }
 {
     let Some(first) = one else {
         return other;
@@ -168,11 +183,14 @@ fn earlier_end(one: Option<Position>, other: Option<Position>) -> Option<Positio
 
 // Goes on past the next span, if it ends there.
 fn pass_to<S: SpanSource>(ahead: &mut Ahead<S>, end: Position)
-    ensures side { (version : spec_version.Version) (at : spec_position.Position) (answers : spec_position.Position → Option spec_answer.Answer) → IsSide S.to_come version ahead.old at answers → IsAtMost at end → IsUpTo end (run_end at ahead.old.next)
+    ensures side { (version : spec_version.Version) (at : spec_position.Position)
+        (answers : spec_position.Position → Option spec_answer.Answer) → IsSide S.to_come version ahead.old at answers → IsAtMost at end
+        → IsUpTo end (run_end at ahead.old.next)
         → IsSide S.to_come version ahead.new end answers }
     ensures fewer { (at : spec_position.Position) → IsAtMost at end → IsUpTo end (run_end at ahead.old.next)
         → (runs_left end ahead.new.next (S.left ahead.new.spans) ≤ runs_left at ahead.old.next (S.left ahead.old.spans))
-        × (run_end at ahead.old.next ≡ Some end → runs_left end ahead.new.next (S.left ahead.new.spans) < runs_left at ahead.old.next (S.left ahead.old.spans)) }
+        × (run_end at ahead.old.next ≡ Some end
+        → runs_left end ahead.new.next (S.left ahead.new.spans) < runs_left at ahead.old.next (S.left ahead.old.spans)) }
 {
     let Some(span) = ahead.next else {
         return;

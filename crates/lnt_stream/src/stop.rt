@@ -1,9 +1,9 @@
 //! Why a reader of a section is stopped.
 ghost use Rattle.std.specs.Prelude.{◌≡◌, Some};
 ghost use Rattle.lnt_stream.specs.declared.stop.SectionStop.TheVariants.{Fault as StopFault};
-ghost use Rattle.lnt_stream.specs.Stops.{stop_of, stop_text};
+ghost use Rattle.lnt_stream.specs.Stops.{stop_of, section_stop_text};
 
-use lnt_wire::{Fault, SourceStop};
+use lnt_wire::{Fault, Stop};
 use std::error::Error;
 use std::fmt;
 
@@ -24,7 +24,7 @@ pub enum SectionStop {
 }
 
 impl fmt::Display for SectionStop {
-    ghost output = { λ stop. Some (stop_text stop) };
+    ghost output = { λ stop. Some (section_stop_text stop) };
 
     fn fmt<W: fmt::Write>(&self, f: &mut fmt::Formatter<W>) -> fmt::Result {
         match *self {
@@ -47,14 +47,14 @@ impl From<Fault> for SectionStop {
     }
 }
 
-impl From<SourceStop> for SectionStop {
+impl From<Stop> for SectionStop {
     ghost from_gives = { λ stop result. result ≡ stop_of stop };
 
-    fn from(stop: SourceStop) -> SectionStop {
+    fn from(stop: Stop) -> SectionStop {
         match stop {
-            SourceStop::Memory => SectionStop::Memory,
-            SourceStop::Read => SectionStop::Read,
-            SourceStop::TooLong => SectionStop::TooLong,
+            Stop::Memory => SectionStop::Memory,
+            Stop::Read => SectionStop::Read,
+            Stop::TooLong => SectionStop::TooLong,
         }
     }
 }

@@ -1,2 +1,1 @@
 pub mod Agreements
-pub mod SumTexts

@@ -4,4 +4,4 @@
 
 mod sums;
 
-pub use sums::{Agreement, SumStop, md5_agrees, sum_of};
+pub use sums::{Agreement, md5_agrees, sum_of};

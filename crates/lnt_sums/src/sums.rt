@@ -1,36 +1,11 @@
 //! The MD5 sum of a source, and its comparison with the one that is listed.
-ghost use Rattle.std.specs.Prelude.{◌≡◌, ◌≢◌, ℕ, ◌+◌, ◌-◌, ◌^◌, ◌<◌, IfOk, IfSome, IsErrOf, IsTrue, OnOk, Some, false};
+ghost use Rattle.std.specs.Prelude.{◌≡◌, ◌≢◌, ℕ, ◌+◌, ◌-◌, ◌^◌, ◌<◌, IfOk, IfSome, IsErrOf, IsTrue, OnOk, false};
 ghost use Rattle.md5.specs.Md5.{md5};
 ghost use Rattle.lnt_wire.specs.Pulling.{HasMoreThan};
 ghost use Rattle.lnt_sums.specs.Agreements.{Agrees};
-ghost use Rattle.lnt_sums.specs.SumTexts.{sum_stop_text};
 
-use lnt_wire::Source;
+use lnt_wire::{Source, Stop};
 use md5::{Digest, Md5};
-use std::error::Error;
-use std::fmt;
-
-/// Why the sum of a source isn't known. No sum is given of a part of the bytes.
-#[derive(Clone, Copy, Debug, PartialEq, Eq)]
-pub enum SumStop {
-    /// 34: the source failed to give its next bytes.
-    Read,
-    /// 35: the source has more bytes than its limit allows it to give.
-    TooLong,
-}
-
-impl fmt::Display for SumStop {
-    ghost output = { λ stop. Some (sum_stop_text stop) };
-
-    fn fmt<W: fmt::Write>(&self, f: &mut fmt::Formatter<W>) -> fmt::Result {
-        match self {
-            SumStop::Read => write!(f, "cannot read"),
-            SumStop::TooLong => write!(f, "too long"),
-        }
-    }
-}
-
-impl Error for SumStop {}
 
 /// Whether the MD5 sum of a source is the listed one.
 #[derive(Clone, Copy, Debug, PartialEq, Eq)]
@@ -50,20 +25,21 @@ const BLOCK: usize = 1 << 14;
 /// source was found to have more bytes than it may give. The caller sees to it that the source has failed fewer than
 /// `u64::MAX` times.
 #[tactic(auto, using(crate::proofs::SumLemmas::summing))]
-pub fn sum_of<R: Source>(source: &mut R) -> Result<[u8; 16], SumStop>
+pub fn sum_of<R: Source>(source: &mut R) -> Result<[u8; 16], Stop>
     requires { R.failures source.old < 2 ^ 64 - 1 }
     ensures ok { IfOk result (λ sum. IfSome (R.remaining source.old) (λ bytes. sum ≡ md5 bytes)) }
     ensures not_long { OnOk result (R.too_long source.new ≡ false) }
-    ensures read { IsErrOf result SumStop.Read → R.failures source.new ≡ R.failures source.old + 1 }
-    ensures no_failure { result ≢ Err SumStop.Read → R.failures source.new ≡ R.failures source.old }
-    ensures too_long { IsErrOf result SumStop.TooLong → IsTrue (R.too_long source.new) }
-    ensures more { IsErrOf result SumStop.TooLong → HasMoreThan (R.remaining source.old) (R.left source.old) }
+    ensures read { IsErrOf result Stop.Read → R.failures source.new ≡ R.failures source.old + 1 }
+    ensures no_failure { result ≢ Err Stop.Read → R.failures source.new ≡ R.failures source.old }
+    ensures too_long { IsErrOf result Stop.TooLong → IsTrue (R.too_long source.new) }
+    ensures no_memory { IsErrOf result Stop.Memory → ⊥ }
+    ensures more { IsErrOf result Stop.TooLong → HasMoreThan (R.remaining source.old) (R.left source.old) }
 {
     let mut hasher = Md5::new();
     let mut block = [0; BLOCK];
     loop {
         let Ok(count) = source.pull(&mut block) else {
-            return Err(SumStop::Read);
+            return Err(Stop::Read);
         };
         if count == 0 {
             break;
@@ -71,7 +47,7 @@ pub fn sum_of<R: Source>(source: &mut R) -> Result<[u8; 16], SumStop>
         hasher.update(&block[..count]);
     }
     if source.too_long() {
-        return Err(SumStop::TooLong);
+        return Err(Stop::TooLong);
     }
     Ok(hasher.finalize())
 }
@@ -81,15 +57,16 @@ pub fn sum_of<R: Source>(source: &mut R) -> Result<[u8; 16], SumStop>
 ///
 /// It stops as `sum_of` does: with `Read` only where the source failed, and with `TooLong` only where it has more bytes
 /// than it may give. The caller sees to it that the source has failed fewer than `u64::MAX` times.
-pub fn md5_agrees<R: Source>(source: &mut R, listed: &[u8; 16]) -> Result<Agreement, SumStop>
+pub fn md5_agrees<R: Source>(source: &mut R, listed: &[u8; 16]) -> Result<Agreement, Stop>
     requires { R.failures source.old < 2 ^ 64 - 1 }
     ensures ok { IfOk result (λ agreement.
         IfSome (R.remaining source.old) (λ bytes. Agrees agreement (md5 bytes) listed.now)) }
     ensures not_long { OnOk result (R.too_long source.new ≡ false) }
-    ensures read { IsErrOf result SumStop.Read → R.failures source.new ≡ R.failures source.old + 1 }
-    ensures no_failure { result ≢ Err SumStop.Read → R.failures source.new ≡ R.failures source.old }
-    ensures too_long { IsErrOf result SumStop.TooLong → IsTrue (R.too_long source.new) }
-    ensures more { IsErrOf result SumStop.TooLong → HasMoreThan (R.remaining source.old) (R.left source.old) }
+    ensures read { IsErrOf result Stop.Read → R.failures source.new ≡ R.failures source.old + 1 }
+    ensures no_failure { result ≢ Err Stop.Read → R.failures source.new ≡ R.failures source.old }
+    ensures too_long { IsErrOf result Stop.TooLong → IsTrue (R.too_long source.new) }
+    ensures no_memory { IsErrOf result Stop.Memory → ⊥ }
+    ensures more { IsErrOf result Stop.TooLong → HasMoreThan (R.remaining source.old) (R.left source.old) }
 {
     let sum = sum_of(source)?;
     if sum == *listed {

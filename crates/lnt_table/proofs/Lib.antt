@@ -1,5 +1,6 @@
 mod CheckLemmas
 mod LawLemmas
+mod PathLemmas
 mod StretchLemmas
 mod WriteLemmas
 pub mod OneVerdictLemmas

@@ -1,3 +1,4 @@
+pub mod ByPath
 pub mod Headline
 pub mod Laws
 pub mod Stretches

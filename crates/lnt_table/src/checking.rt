@@ -1,16 +1,16 @@
 //! A section checked against an address table.
 ghost use Rattle.std.specs.Prelude.{◌≡◌, ◌≢◌, ◌+◌, ◌-◌, ◌^◌, ◌<◌, ◌⊎◌, Bool, ℕ, List, Option, IfOk, IfErr, IfSome, IsErrOf};
 ghost use Rattle.lnt_lines.specs.declared.no.No.{No as SectionNo};
-ghost use Rattle.lnt_lines.specs.declared.stop.Stop.TheVariants.{Memory, Read, TooLong};
+ghost use Rattle.lnt_wire.specs.declared.stop.Stop.TheVariants.{Memory, Read, TooLong};
 ghost use Rattle.lnt_unit.specs.declared.unit.Parts.{Parts};
 ghost use Rattle.lnt_lines.specs.Indexed.{IsIndexOf};
 ghost use Rattle.lnt_table.specs.Headline.{IsTooLong, IsTrueOfSection, IsTrueVerdict};
 ghost use Rattle.lnt_table.specs.Verdicts.{IsComparedWith};
 
 use crate::verdict::{TableNo, Verdict, verdict_of};
-use lnt_lines::{Index, JudgedIndex, Options, Stop, index_section};
+use lnt_lines::{Index, JudgedIndex, Options, index_section};
 use lnt_records::{Compared, compare_table};
-use lnt_wire::{Source, SourceStop, Strings};
+use lnt_wire::{Source, Stop, Strings};
 use std::alloc::Global;
 
 /// Checks the section `.debug_line` (DWARF 5, section 6.2) that one source has to give against the address table that
@@ -87,10 +87,6 @@ fn compare_index<T: Source>(
     ensures no_failure { result ≢ Err Stop.Read → T.failures table.new ≡ T.failures table.old }
     ensures too_long { IsErrOf result Stop.TooLong → IsTooLong (T.too_long table.new) (T.remaining table.old) (T.left table.old) }
 {
-    match compare_table(alloc, table, index.spans()) {
-        Ok(compared) => Ok(compared),
-        Err(SourceStop::Memory) => Err(Stop::Memory),
-        Err(SourceStop::Read) => Err(Stop::Read),
-        Err(SourceStop::TooLong) => Err(Stop::TooLong),
-    }
+    let compared = compare_table(alloc, table, index.spans())?;
+    Ok(compared)
 }

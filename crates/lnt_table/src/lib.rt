@@ -2,19 +2,22 @@
 //!
 //! [`check`] answers whether a table says of every address and operation index what the section says, and what is wrong
 //! where it doesn't, and [`differences`] gives all places where it doesn't. [`write_table`] writes the one shortest table of a section's lines, and
-//! [`write_index`] that of an index, whose spans come one by one. The records of a table are
+//! [`write_index`] that of an index, whose spans come one by one; [`write_paths`] writes the table by path of an index. The records of a table are
 //! those of `lnt_records`.
 #![tactic(auto)]
 
 mod checking;
 pub mod laws;
+mod paths;
 mod stretches;
 mod verdict;
 mod write;
 
 pub use checking::check;
 pub use lnt_lines::{No, Options, Stop};
+pub use lnt_paths::{PathTable, PathVersion};
 pub use lnt_records::{Differing, WriteStop};
+pub use paths::write_paths;
 pub use stretches::differences;
 pub use verdict::{TableNo, Verdict};
 pub use write::{write_index, write_table};

@@ -1,16 +1,16 @@
 //! A table compared with a good section at every position.
 ghost use Rattle.std.specs.Prelude.{◌≡◌, ◌≢◌, ◌+◌, ◌-◌, ◌^◌, ◌<◌, Bool, ℕ, List, Option, IfOk, IfSome, IsErrOf};
 ghost use Rattle.lnt_lines.specs.Indexed.{IsIndexOf};
-ghost use Rattle.lnt_lines.specs.declared.stop.Stop.TheVariants.{Read, TooLong};
+ghost use Rattle.lnt_wire.specs.declared.stop.Stop.TheVariants.{Read, TooLong};
 ghost use Rattle.lnt_records.specs.Differing.{IsStarted};
 ghost use Rattle.lnt_table.specs.Headline.{IsTooLong};
 ghost use Rattle.lnt_table.specs.Stretches.{IsDifferingFrom};
 ghost use Rattle.lnt_unit.specs.declared.unit.Parts.{Parts};
 
-use lnt_lines::{Index, Spans, Stop};
+use lnt_lines::{Index, Spans};
 use lnt_records::{Differing, Remaining, compare_all};
 use lnt_spans::{SpanList, SpanSource};
-use lnt_wire::{Source, SourceStop};
+use lnt_wire::{Source, Stop};
 use std::alloc::Global;
 
 /// Compares the address table that a source has to give with the units that an index is of, at every position.
@@ -35,10 +35,6 @@ pub fn differences<'i, T: Source>(
     ensures no_failure { result ≢ Err Stop.Read → T.failures table.new ≡ T.failures table.old }
     ensures too_long { IsErrOf result Stop.TooLong → IsTooLong (T.too_long table.new) (T.remaining table.old) (T.left table.old) }
 {
-    match compare_all(alloc, table, index.spans()) {
-        Ok(differing) => Ok(differing),
-        Err(SourceStop::Memory) => Err(Stop::Memory),
-        Err(SourceStop::Read) => Err(Stop::Read),
-        Err(SourceStop::TooLong) => Err(Stop::TooLong),
-    }
+    let differing = compare_all(alloc, table, index.spans())?;
+    Ok(differing)
 }

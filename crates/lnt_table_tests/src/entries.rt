@@ -1,8 +1,8 @@
 //! The paths of a header's files, and the header that is kept.
 use crate::lines::STRINGS;
-use crate::worked::PLAIN;
 use lnt_entries::{StringEnds, in_place};
 use lnt_header_bytes::{KeptHeader, decode_header, view_header};
+use lnt_samples::PLAIN;
 use lnt_wire::{Cursor, Order, take_frame};
 use std::alloc::Global;
 

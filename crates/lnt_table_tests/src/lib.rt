@@ -15,8 +15,6 @@ mod records;
 #[cfg(test)]
 mod spans;
 #[cfg(test)]
-mod streams;
-#[cfg(test)]
 mod sums;
 #[cfg(test)]
 mod table;

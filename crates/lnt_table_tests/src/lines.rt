@@ -1,9 +1,9 @@
 //! Sections judged.
-use crate::streams::{Reader, failing, whole};
-use crate::worked::{LISTED, OF_NOTHING, PLAIN, at, narrow, wide};
-use lnt_lines::{Judged, Lines, No, Options, Stop, verify};
+use crate::worked::{at, narrow, wide};
+use lnt_lines::{Judged, Lines, No, Options, verify};
+use lnt_samples::{LISTED, OF_NOTHING, PLAIN, Reader, failing, whole};
 use lnt_spans::{Answer, Probes, Span, Version};
-use lnt_wire::{Counted, Order, Strings};
+use lnt_wire::{Counted, Order, Stop, Strings};
 use std::alloc::Global;
 
 pub(crate) const STRINGS: Strings<'static> = Strings {
@@ -31,7 +31,7 @@ pub(crate) fn lines_of(alloc: Global, section: &[u8]) -> Option<Lines> {
     }
 }
 
-// Whether the lines, which are those of `PLAIN`, answer at its last position, and not behind it.
+// Whether the lines, which are those of `PLAIN`, answer at its last position, and not after it.
 fn are_answered(lines: &Lines) -> bool {
     let mut probes = Probes::new();
     let last = lines.lookup(at(0x1005), &mut probes);
@@ -122,7 +122,7 @@ fn sources_at_fault(rt: HostRuntime) {
     assert!(rt; stops(alloc, whole(&PLAIN), 70, Stop::TooLong));
 }
 
-// Whether this is wrong with a section whose source fails behind it.
+// Whether this is wrong with a section whose source fails after it.
 fn is_bad_before_a_fault(alloc: Global, section: &[u8], no: No) -> bool {
     match judged(alloc, failing(section), 1000) {
         Ok(Judged::Bad(told)) => told == no,

@@ -5,9 +5,9 @@ ghost use Rattle.lnt_spans.specs.declared.answer.Version.TheVariants as version;
 ghost use Rattle.lnt_spans.specs.Spans.{AreInOrder};
 ghost use Rattle.lnt_records.specs.Written.{IsOfVersion};
 
-use crate::streams::Refusing;
-use crate::worked::{TABLE, at, narrow, wide};
+use crate::worked::{at, narrow, wide};
 use lnt_records::{Compared, WriteStop, compare, write_spans};
+use lnt_samples::{Refusing, TABLE};
 use lnt_spans::{Answer, Span, Version};
 use std::alloc::Global;
 

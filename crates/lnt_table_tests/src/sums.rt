@@ -1,8 +1,7 @@
 //! The sums of sources.
-use crate::streams::{Reader, failing, whole};
-use crate::worked::OF_NOTHING;
-use lnt_sums::{Agreement, SumStop, md5_agrees, sum_of};
-use lnt_wire::Counted;
+use lnt_samples::{OF_NOTHING, Reader, failing, whole};
+use lnt_sums::{Agreement, md5_agrees, sum_of};
+use lnt_wire::{Counted, Stop};
 
 // Of the letters `abc`, as in RFC 1321, appendix A.5.
 const OF_ABC: [u8; 16] = [
@@ -18,12 +17,12 @@ const DIGITS: &[u8] =
     b"12345678901234567890123456789012345678901234567890123456789012345678901234567890";
 
 // The sum of a source that gives at most so many bytes.
-fn sum(source: Reader<'_>, limit: u64) -> Result<[u8; 16], SumStop> {
+fn sum(source: Reader<'_>, limit: u64) -> Result<[u8; 16], Stop> {
     sum_of(&mut Counted::new(source, limit))
 }
 
 // Whether the sum of the source is this one.
-fn agreement(source: Reader<'_>, listed: &[u8; 16]) -> Result<Agreement, SumStop> {
+fn agreement(source: Reader<'_>, listed: &[u8; 16]) -> Result<Agreement, Stop> {
     md5_agrees(&mut Counted::new(source, 1000), listed)
 }
 
@@ -37,7 +36,7 @@ fn sums(rt: HostRuntime) {
 
 #[test]
 fn sources_at_fault(rt: HostRuntime) {
-    assert!(rt; sum(failing(b"abc"), 1000) == Err(SumStop::Read));
-    assert!(rt; sum(whole(b"abc"), 2) == Err(SumStop::TooLong));
-    assert!(rt; agreement(failing(b"abc"), &OF_ABC) == Err(SumStop::Read));
+    assert!(rt; sum(failing(b"abc"), 1000) == Err(Stop::Read));
+    assert!(rt; sum(whole(b"abc"), 2) == Err(Stop::TooLong));
+    assert!(rt; agreement(failing(b"abc"), &OF_ABC) == Err(Stop::Read));
 }

@@ -1,9 +1,12 @@
 //! Sections checked against tables, and their tables written.
 use crate::lines::{OPTIONS, STRINGS, lines_of};
-use crate::streams::{Reader, Refusing, failing, whole};
-use crate::worked::{PLAIN, TABLE};
-use lnt_spans::Version;
-use lnt_table::{No, Stop, TableNo, Verdict, WriteStop, check, write_table};
+use crate::worked::{at, narrow};
+use lnt_lines::{JudgedIndex, index_section};
+use lnt_samples::{PLAIN, Reader, Refusing, TABLE, failing, whole};
+use lnt_spans::{Difference, Version};
+use lnt_table::{
+    Differing, No, Stop, TableNo, Verdict, WriteStop, check, differences, write_table,
+};
 use lnt_wire::Counted;
 use std::alloc::Global;
 
@@ -54,6 +57,33 @@ fn sources_at_fault(rt: HostRuntime) {
     assert!(rt; stops(alloc, whole(&PLAIN), failing(b"low\n"), Stop::Read));
     assert!(rt; is_too_long(alloc, (70, 1000)));
     assert!(rt; is_too_long(alloc, (1000, 70)));
+}
+
+// The first place at which a table answers otherwise than `PLAIN`, if it is told.
+fn first_difference(alloc: Global, table: &[u8]) -> Option<Difference> {
+    let mut section = Counted::new(whole(&PLAIN), 1000);
+    let mut table = Counted::new(whole(table), 1000);
+    let Ok(JudgedIndex::Good(index)) = index_section(alloc, &mut section, &STRINGS, &OPTIONS) else {
+        return None;
+    };
+    match differences(alloc, &mut table, &index) {
+        Ok(Differing::Table(mut differences)) => differences.next_difference(),
+        _ => None,
+    }
+}
+
+#[test]
+fn tables_compared_at_every_position(rt: HostRuntime) {
+    let other = b"low,low_op,high,high_op,unit,file,line,column,is_stmt
+0x1000,0,0x1004,0,0,1,3,0,1
+0x1004,0,0x1006,0,0,1,5,0,1
+";
+    let difference = Difference {
+        position: at(0x1004),
+        by_table: Some(narrow(5)),
+        by_section: Some(narrow(4)),
+    };
+    assert!(rt; first_difference(rt.alloc(), other) == Some(difference));
 }
 
 // Whether the table of `PLAIN` is written.

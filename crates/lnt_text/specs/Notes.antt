@@ -8,10 +8,12 @@ use Rattle.lnt_text.specs.declared.note.Column.TheVariants as column
 use Rattle.lnt_text.specs.declared.note.Look.{Look}
 use Rattle.lnt_text.specs.declared.note.Look.TheVariants.{Elf, Pe, MachO, Gzip, Zstd, CompressedSection, Text, InOrder}
 use Rattle.lnt_text.specs.declared.note.Note.{Note}
-use Rattle.lnt_text.specs.declared.note.Note.TheVariants.{Word, NotRaw, NoStrings, MaybeDead, NoneDead, Copies, HoldsNothing, NoSums, TableHeader, TableFields, TableNumber, TableOrder}
+use Rattle.lnt_text.specs.declared.note.Note.TheVariants.{Word, NotRaw, NoStrings, MaybeDead, NoneDead, Copies}
+use Rattle.lnt_text.specs.declared.note.Note.TheVariants.{HoldsNothing, NoSums, TableHeader, TableFields, TableNumber}
+use Rattle.lnt_text.specs.declared.note.Note.TheVariants.{TableOrder}
 use Rattle.lnt_text.specs.declared.note.StringSection.{StringSection}
 use Rattle.lnt_text.specs.declared.note.StringSection.TheVariants.{Line, General}
-use Rattle.lnt_text.specs.Texts.{hexadecimal}
+use Rattle.lnt_wire.specs.FaultTexts.{hexadecimal}
 
 -- what an argument has to be
 abbrev pub argument_text : Argument → List ℕ
@@ -28,7 +30,8 @@ look_text Pe = codes "this looks like a PE file; linetab-object takes its sectio
 look_text MachO = codes "this looks like a Mach-O file; linetab-object takes its sections out, and does the word"
 look_text Gzip = codes "this looks like a file that gzip compressed; decompress it first"
 look_text Zstd = codes "this looks like a file that zstd compressed; decompress it first"
-look_text CompressedSection = codes "this looks like a compressed section; objcopy --decompress-debug-sections, with --dump-section, decompresses it"
+look_text CompressedSection =
+    codes "this looks like a compressed section; objcopy --decompress-debug-sections, with --dump-section, decompresses it"
 look_text Text = codes "this looks like text; a section is the raw bytes of .debug_line"
 look_text (InOrder order.Big) = codes "its length fits where the section is big-endian; try --big"
 look_text (InOrder order.Little) = codes "its length fits where the section is little-endian; leave out --big"
@@ -78,12 +81,16 @@ abbrev pub note_text : Note → List ℕ
 note_text (Word argument) = argument_text argument
 note_text (NotRaw look) = look_text look
 note_text (NoStrings section) = strings_text section
-note_text (MaybeDead count address) = codes "sequences begin at " ++ (hexadecimal address ++ (codes ", where linkers leave discarded code" ++ (count_text count ++ advice_text address)))
+note_text (MaybeDead count address) =
+    codes "sequences begin at " ++ (hexadecimal address ++
+    (codes ", where linkers leave discarded code" ++ (count_text count ++ advice_text address)))
 note_text (NoneDead address) = codes "no sequence begins at " ++ (hexadecimal address ++ codes ", so --dead leaves nothing out")
-note_text Copies = codes "the two hold the same positions, as where a linker kept one of several copies of some code; --skip-copies leaves out the others"
+note_text Copies =
+    codes "the two hold the same positions, as where a linker kept one of several copies of some code; --skip-copies leaves out the others"
 note_text HoldsNothing = codes "no sequence holds a position, so the section's table is empty; a relocatable object has to be linked first"
 note_text NoSums = codes "the section lists no MD5 sum, so nothing was compared"
-note_text TableHeader = codes "the table has to begin with low,low_op,high,high_op,unit,file,line,column,is_stmt or with this and ,isa,discriminator"
+note_text TableHeader =
+    codes "the table has to begin with low,low_op,high,high_op,unit,file,line,column,is_stmt or with this and ,isa,discriminator"
 note_text (TableFields line) = line_text line ++ codes "each record has as many fields as the header has names"
 note_text (TableNumber line which) = line_text line ++ (column_name which ++ (codes " is " ++ column_kind which))
 note_text (TableOrder line) = line_text line ++ codes "each span ends above its low, which isn't below the high of the span before"

@@ -5,7 +5,7 @@ ghost use Rattle.lnt_text.specs.Texts.{answer_text, more_text};
 use lnt_spans::{Answer, More};
 use std::fmt;
 
-/// What is answered, as the fields of a table's record behind its positions, or `none`.
+/// What is answered, as the fields of a table's record after its positions, or `none`.
 #[derive(Clone, Copy)]
 pub struct AnswerText(pub Option<Answer>);
 
@@ -23,7 +23,7 @@ impl fmt::Display for AnswerText {
     }
 }
 
-// What version 2 of the address table tells above version 1, each behind a comma.
+// What version 2 of the address table tells above version 1, each after a comma.
 #[derive(Clone, Copy)]
 struct MoreText(Option<More>);
 

@@ -1,6 +1,7 @@
-//! Notes: what helps a person, behind an answer that stays as it is.
+//! Notes: what helps a person, after an answer that stays as it is.
 ghost use Rattle.std.specs.Prelude.{Some};
-ghost use Rattle.lnt_text.specs.Notes.{advice_text, argument_text, column_kind, column_name, count_text, line_text, look_text, note_text, strings_text};
+ghost use Rattle.lnt_text.specs.Notes.{advice_text, argument_text, column_kind, column_name, count_text, line_text};
+ghost use Rattle.lnt_text.specs.Notes.{look_text, note_text, strings_text};
 
 use lnt_wire::Order;
 use std::fmt;
@@ -86,7 +87,7 @@ pub enum Column {
     Low,
     /// Its operation index.
     LowOp,
-    /// The address of the position behind the last.
+    /// The address of the position after the last.
     High,
     /// Its operation index.
     HighOp,

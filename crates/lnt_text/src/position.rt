@@ -5,7 +5,7 @@ ghost use Rattle.lnt_text.specs.Texts.{position_text};
 use lnt_spans::Position;
 use std::fmt;
 
-/// A position: its address in hexadecimal digits, and its operation index behind a comma.
+/// A position: its address in hexadecimal digits, and its operation index after a comma.
 #[derive(Clone, Copy)]
 pub struct PositionText(pub Position);
 

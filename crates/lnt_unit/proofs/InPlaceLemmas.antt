@@ -12,12 +12,18 @@ use Rattle.lnt_unit.specs.Laws.Numbers.{given_all_by_numbers}
 use Rattle.lnt_unit.specs.Views.{View, IsView, HasCount, by_numbers}
 use Rattle.lnt_unit.proofs.ViewLemmas.{CountedTo, counted_none}
 
-pub counted_none_by_numbers : (view : View) (walk : Walk) → walk.header ≡ without_entries view.header → walk.failed ≡ false → walk.at.place ≡ view.place → walk.at.rest ≡ view.program → walk.at.order ≡ view.header.order
+pub counted_none_by_numbers : (view : View) (walk : Walk) → walk.header ≡ without_entries view.header → walk.failed ≡ false
+    → walk.at.place ≡ view.place → walk.at.rest ≡ view.program → walk.at.order ≡ view.header.order
     → CountedTo (by_numbers view) 0 walk
 counted_none_by_numbers view walk same going place rest order = counted_none (by_numbers view) walk same going place rest order
 
-pub counted_all_by_numbers : (view : View) (count : ℕ) (old new : Walk) → IsView view → CountedTo (by_numbers view) count old → Ends old new → HasCount view count
-counted_all_by_numbers view count old new is so ends = record { ops = so.ops; spelled = given_all_by_numbers view so.ops old new is so.given ends; count_is = so.count_is }
+pub counted_all_by_numbers : (view : View) (count : ℕ) (old new : Walk) → IsView view → CountedTo (by_numbers view) count old → Ends old new
+    → HasCount view count
+counted_all_by_numbers view count old new is so ends = record {
+  ops = so.ops;
+  spelled = given_all_by_numbers view so.ops old new is so.given ends;
+  count_is = so.count_is;
+}
 
 -- ---- the program goes to the end of the unit
 
@@ -27,13 +33,15 @@ ends_with view is =
     let fields = is.spelled.spelled.fields in
     let body = unit_body h fields view.program in
     let start = initial_length h.format h.order (length body) in
-    let before = version_five h.order ++ (h.address_size ∷ 0 ∷ []) ++ number_bytes h.order (offset_size h.format) (length fields) ++ fields in
+    let before = version_five h.order ++ (h.address_size ∷ 0 ∷ []) ++ number_bytes h.order (offset_size h.format) (length fields) ++
+    fields in
     (start ++ before, is.spelled.spelled.joined ∙ sym (append_assoc start before view.program))
 
 pub program_fits : (view : View) → IsView view → length view.program ≤ length view.unit.bytes
 program_fits view is = let whole = ends_with view is in omega (arith, ap length whole.1, length-append whole.0 view.program)
 
-pub program_ends : (view : View) (n : ℕ) → IsView view → n ≡ length view.unit.bytes - length view.program → drop n view.unit.bytes ≡ view.program
+pub program_ends : (view : View) (n : ℕ) → IsView view → n ≡ length view.unit.bytes - length view.program
+    → drop n view.unit.bytes ≡ view.program
 program_ends view n is at =
     let whole = ends_with view is in
     let place : n ≡ length whole.0 = omega (arith, at, ap length whole.1, length-append whole.0 view.program) in

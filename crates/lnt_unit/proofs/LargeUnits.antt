@@ -16,14 +16,17 @@ use Rattle.lnt_unit.proofs.UnitLemmas.{Program}
 pub memory_not_large : (IsSo : Type 0) (fault : EncodeFault) → fault ≡ Memory → IfTooLarge IsSo fault
 memory_not_large IsSo fault is = record { is_so = λ large. absurd cc }
 
-either : (unit : Parts) (program : List ℕ) → IsShortest (Each (OpBytes unit.header)) unit.ops program → HasLargeOffset unit.header ⊎ IsTooLong unit.header program → HasLargeOffset unit.header ⊎ IsTooLongUnit unit
+either : (unit : Parts) (program : List ℕ) → IsShortest (Each (OpBytes unit.header)) unit.ops program → HasLargeOffset unit.header
+    ⊎ IsTooLong unit.header program → HasLargeOffset unit.header ⊎ IsTooLongUnit unit
 either unit program p (inl offset) = inl offset
 either unit program p (inr long) = inr (record { program = program; shortest = p; too_long = long })
 
 -- with the program that was put
-pub unit_large : (unit : Parts) (header : HeaderParts) (program : List ℕ) (r : Result (Vec ℕ Global) EncodeFault) → Program unit header program → IfErr r (IfTooLarge (HasLargeOffset header ⊎ IsTooLong header program))
+pub unit_large : (unit : Parts) (header : HeaderParts) (program : List ℕ) (r : Result (Vec ℕ Global) EncodeFault)
+    → Program unit header program → IfErr r (IfTooLarge (HasLargeOffset header ⊎ IsTooLong header program))
     → IfErr r (IfTooLarge (HasLargeOffset unit.header ⊎ IsTooLongUnit unit))
 unit_large unit header program (Ok bytes) p q = q
 unit_large unit header program (Err fault) p q =
-    let here : IfTooLarge (HasLargeOffset unit.header ⊎ IsTooLong unit.header program) fault = subst (λ (h : HeaderParts). IfTooLarge (HasLargeOffset h ⊎ IsTooLong h program) fault) p.header_is q in
+    let here : IfTooLarge (HasLargeOffset unit.header ⊎ IsTooLong unit.header program) fault = subst
+    (λ (h : HeaderParts). IfTooLarge (HasLargeOffset h ⊎ IsTooLong h program) fault) p.header_is q in
     record { is_so = λ e. either unit program p.put (here.is_so e) }

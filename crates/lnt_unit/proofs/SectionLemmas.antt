@@ -1,4 +1,4 @@
--- Units one behind the other.
+-- Units one after the other.
 use Rattle.std.proofs.Common.{◌≡◌, ℕ, ◌<◌, List, [], ◌∷◌, ◌++◌, length, refl, sym, ap, subst, ◌∙◌, append_assoc, arith}
 use Rattle.std.proofs.lemmas.List.{append-nil, length-append}
 use Rattle.lnt_wire.specs.At.{At}
@@ -18,10 +18,12 @@ pub record UnitsSoFar (order : Order) (bytes : List ℕ) (units : List (ℕ × P
   pub place : cursor.place ≡ length front
   pub order_is : cursor.order ≡ order
 
-pub no_units : (order : Order) (bytes : List ℕ) (cursor : At) → cursor.rest ≡ bytes → cursor.place ≡ 0 → cursor.order ≡ order → UnitsSoFar order bytes [] cursor
+pub no_units : (order : Order) (bytes : List ℕ) (cursor : At) → cursor.rest ≡ bytes → cursor.place ≡ 0 → cursor.order ≡ order
+    → UnitsSoFar order bytes [] cursor
 no_units order bytes cursor rest place order_is = record { front = []; whole = sym rest; joined = refl; place = place; order_is = order_is }
 
-pub one_more_unit : (order : Order) (bytes : List ℕ) (units : List (ℕ × Parts)) (unit : ℕ × Parts) (old new : At) → UnitsSoFar order bytes units old → Reads (UnitBytesIn order) unit.1 old new
+pub one_more_unit : (order : Order) (bytes : List ℕ) (units : List (ℕ × Parts)) (unit : ℕ × Parts) (old new : At)
+    → UnitsSoFar order bytes units old → Reads (UnitBytesIn order) unit.1 old new
     → unit.0 ≡ old.place → UnitsSoFar order bytes (units ++ unit ∷ []) new
 one_more_unit order bytes units unit old new so_far r here = record {
   front = so_far.front ++ r.spelling;
@@ -33,15 +35,19 @@ one_more_unit order bytes units unit old new so_far r here = record {
 
 -- a unit has bytes
 pub unit_long : (order : Order) (unit : Parts) (old new : At) → Reads (UnitBytesIn order) unit old new → length new.rest < length old.rest
-unit_long order unit old new r = omega (arith, ap length r.whole, length-append r.spelling new.rest, unit_is_some order unit r.spelling r.spelled)
+unit_long order unit old new r =
+    omega (arith, ap length r.whole, length-append r.spelling new.rest, unit_is_some order unit r.spelling r.spelled)
 
 -- nothing is left
-pub all_units : (order : Order) (bytes : List ℕ) (units : List (ℕ × Parts)) (cursor : At) → UnitsSoFar order bytes units cursor → cursor.rest ≡ [] → SectionBytes order units bytes
+pub all_units : (order : Order) (bytes : List ℕ) (units : List (ℕ × Parts)) (cursor : At) → UnitsSoFar order bytes units cursor
+    → cursor.rest ≡ [] → SectionBytes order units bytes
 all_units order bytes units cursor so_far nothing =
-    subst (λ (z : List ℕ). SectionBytes order units z) (sym (so_far.whole ∙ ap (λ (z : List ℕ). so_far.front ++ z) nothing ∙ append-nil so_far.front)) so_far.joined
+    subst (λ (z : List ℕ). SectionBytes order units z)
+    (sym (so_far.whole ∙ ap (λ (z : List ℕ). so_far.front ++ z) nothing ∙ append-nil so_far.front)) so_far.joined
 
 -- no unit begins what is left
-true_fault : (order : Order) (bytes : List ℕ) (units : List (ℕ × Parts)) (fault : Fault) (cursor : At) → UnitsSoFar order bytes units cursor → 0 < length cursor.rest
+true_fault : (order : Order) (bytes : List ℕ) (units : List (ℕ × Parts)) (fault : Fault) (cursor : At) → UnitsSoFar order bytes units cursor
+    → 0 < length cursor.rest
     → BrokenUnit order fault cursor.place cursor.rest → IsTrueFault order fault bytes
 true_fault order bytes units fault cursor so_far some b = record {
   units = units;
@@ -53,7 +59,8 @@ true_fault order bytes units fault cursor so_far some b = record {
   broken = subst (λ (n : ℕ). BrokenUnit order fault n cursor.rest) so_far.place b;
 }
 
-pub section_broken : (order : Order) (bytes : List ℕ) (units : List (ℕ × Parts)) (fault : Fault) (cursor : At) → UnitsSoFar order bytes units cursor → 0 < length cursor.rest
+pub section_broken : (order : Order) (bytes : List ℕ) (units : List (ℕ × Parts)) (fault : Fault) (cursor : At)
+    → UnitsSoFar order bytes units cursor → 0 < length cursor.rest
     → BrokenUnit order fault cursor.place cursor.rest → BrokenSection order fault bytes
 section_broken order bytes units fault cursor so_far some b =
     let t = true_fault order bytes units fault cursor so_far some b in

@@ -7,7 +7,7 @@ use Rattle.lnt_wire.specs.declared.format.Order.{Order}
 use Rattle.lnt_wire.specs.declared.frame.Frame.{Frame}
 use Rattle.lnt_header_bytes.specs.Broken.{BrokenHeader}
 use Rattle.lnt_header.specs.declared.op.Op.{Op}
-use Rattle.lnt_header.specs.declared.view.OpView.{OpView}
+use Rattle.lnt_header.specs.declared.op.OpView.{OpView}
 use Rattle.lnt_ops.specs.Walks.{Walk, Ends, Steps}
 use Rattle.lnt_unit.specs.Laws.Views.{given_none, given_more, given_all}
 use Rattle.lnt_unit.specs.Views.{View, IsView, HasGiven, HasCount}
@@ -15,7 +15,8 @@ use Rattle.lnt_unit.specs.Views.{View, IsView, HasGiven, HasCount}
 -- ---- the header
 
 -- no header with a program begins the bytes of a buffer, since none begins their frame
-pub no_header : (order other : Order) (offset : ℕ) (bytes : List ℕ) (frame : Frame) (fault : Fault) → other ≡ order → frame.offset ≡ offset → frame_bytes order frame.format frame.body.now ≡ bytes
+pub no_header : (order other : Order) (offset : ℕ) (bytes : List ℕ) (frame : Frame) (fault : Fault) → other ≡ order → frame.offset ≡ offset
+    → frame_bytes order frame.format frame.body.now ≡ bytes
     → BrokenHeader other fault frame.offset (frame_bytes other frame.format frame.body.now) → BrokenHeader order fault offset bytes
 no_header order other offset bytes frame fault same here is b = rw (← is, ← here, ← same) b
 
@@ -28,11 +29,13 @@ pub record CountedTo (view : View) (count : ℕ) (walk : Walk) : Type 0 where
   pub count_is : count ≡ length ops
   pub few : count + length walk.at.rest ≤ length view.program
 
-pub counted_none : (view : View) (walk : Walk) → walk.header ≡ view.header → walk.failed ≡ false → walk.at.place ≡ view.place → walk.at.rest ≡ view.program → walk.at.order ≡ view.header.order → CountedTo view 0 walk
+pub counted_none : (view : View) (walk : Walk) → walk.header ≡ view.header → walk.failed ≡ false → walk.at.place ≡ view.place
+    → walk.at.rest ≡ view.program → walk.at.order ≡ view.header.order → CountedTo view 0 walk
 counted_none view walk same going place rest order =
     record { ops = []; given = given_none view walk same going place rest order; count_is = refl; few = omega (arith, ap length rest) }
 
-pub counted_more : (view : View) (count : ℕ) (item : OpView) (old new : Walk) → CountedTo view count old → Steps item old new → CountedTo view (count + 1) new
+pub counted_more : (view : View) (count : ℕ) (item : OpView) (old new : Walk) → CountedTo view count old → Steps item old new
+    → CountedTo view (count + 1) new
 counted_more view count item old new so step =
     let op = step.gives.op in
     record {
@@ -43,7 +46,12 @@ counted_more view count item old new so step =
     }
 
 pub counted_all : (view : View) (count : ℕ) (old new : Walk) → IsView view → CountedTo view count old → Ends old new → HasCount view count
-counted_all view count old new is so ends = record { ops = so.ops; spelled = given_all view so.ops old new is so.given ends; count_is = so.count_is }
+counted_all view count old new is so ends = record {
+  ops = so.ops;
+  spelled = given_all view so.ops old new is so.given ends;
+  count_is = so.count_is;
+}
 
-pub counted_room : (view : View) (count : ℕ) (item : OpView) (old new : Walk) → CountedTo view count old → Steps item old new → length view.program < 2 ^ 64 → count + 1 < 2 ^ 64
+pub counted_room : (view : View) (count : ℕ) (item : OpView) (old new : Walk) → CountedTo view count old → Steps item old new
+    → length view.program < 2 ^ 64 → count + 1 < 2 ^ 64
 counted_room view count item old new so step lt = omega (arith, so.few, step.shorter, lt)

@@ -1,5 +1,6 @@
 -- Whole walks, over the operations of a unit and over the units of a section.
-use Rattle.std.proofs.Common.{◌≡◌, ◌⊎◌, ℕ, ◌+◌, ◌<◌, ◌≤◌, List, [], ◌∷◌, ◌++◌, length, refl, sym, ap, subst, append_assoc, append-nil, arith, inl, inr}
+use Rattle.std.proofs.Common.{◌≡◌, ◌⊎◌, ℕ, ◌+◌, ◌<◌, ◌≤◌, List, [], ◌∷◌, ◌++◌, length, refl, sym, ap, subst}
+use Rattle.std.proofs.Common.{append_assoc, append-nil, arith, inl, inr}
 use Rattle.std.specs.List.{AllZip}
 use Rattle.std.proofs.lemmas.List.{length-append}
 use Rattle.lnt_wire.specs.declared.fault.Fault.{Fault}
@@ -10,7 +11,7 @@ use Rattle.lnt_wire.proofs.LengthLaws.{length-initial}
 use Rattle.lnt_header_bytes.specs.Borrowed.{without_entries}
 use Rattle.lnt_header.specs.OpViews.{StandsFor}
 use Rattle.lnt_header.specs.declared.op.Op.{Op}
-use Rattle.lnt_header.specs.declared.view.OpView.{OpView}
+use Rattle.lnt_header.specs.declared.op.OpView.{OpView}
 use Rattle.lnt_ops.specs.Walks.{Steps, Walk}
 use Rattle.lnt_stream.specs.Units as stream
 use Rattle.lnt_unit.specs.declared.unit.Parts.{Parts}
@@ -26,7 +27,8 @@ use Rattle.lnt_unit.specs.Views.{HasGiven, View, by_numbers}
 
 -- ---- operations
 
-zip_push : {X Y : Type 0} (R : X → Y → Type 0) (xs : List X) (ys : List Y) (x : X) (y : Y) → AllZip R xs ys → R x y → AllZip R (xs ++ x ∷ []) (ys ++ y ∷ [])
+zip_push : {X Y : Type 0} (R : X → Y → Type 0) (xs : List X) (ys : List Y) (x : X) (y : Y) → AllZip R xs ys → R x y
+    → AllZip R (xs ++ x ∷ []) (ys ++ y ∷ [])
 zip_push R [] [] x y z r = (r, tt)
 zip_push R [] (b ∷ ys) x y z r = absurd z
 zip_push R (a ∷ xs) [] x y z r = absurd z
@@ -47,7 +49,8 @@ walked_none view walk same b = record {
   few = omega (arith, ap length b.rest_is);
 }
 
-walked_more : (view : View) (items : List OpView) (item : OpView) (old new : Walk) → HasWalked view items old → Steps item old new → HasWalked view (items ++ item ∷ []) new
+walked_more : (view : View) (items : List OpView) (item : OpView) (old new : Walk) → HasWalked view items old → Steps item old new
+    → HasWalked view (items ++ item ∷ []) new
 walked_more view items item old new so step =
     let op = step.gives.op in
     record {
@@ -57,7 +60,8 @@ walked_more view items item old new so step =
       few = omega (arith, so.few, step.shorter, length-append items (item ∷ []));
     }
 
-walked : (view : View) (before items : List OpView) (old new : Walk) → HasWalked view before old → GivesEach items old new → HasWalked view (before ++ items) new
+walked : (view : View) (before items : List OpView) (old new : Walk) → HasWalked view before old → GivesEach items old new
+    → HasWalked view (before ++ items) new
 walked view before [] old new so same =
     subst (λ (list : List OpView). HasWalked view list new) (sym (append-nil before)) (subst (HasWalked view before) (sym same) so)
 walked view before (item ∷ items) old new so (next, step, more) =
@@ -70,17 +74,27 @@ are_given view items walk so = record { stand = so.stand; admitted = so.given.so
 by_numbers_given : (view : View) (items : List OpView) (ops : List Op) → AreGiven (by_numbers view) items ops → AreGiven view items ops
 by_numbers_given view items ops so = record { stand = so.stand; admitted = so.admitted; few = so.few }
 
-begins_by_numbers : (view : View) (walk : Walk) → walk.header ≡ without_entries view.header → BeginsOf view walk → BeginsOf (by_numbers view) walk
-begins_by_numbers view walk same b = record { header_is = inl same; place_is = b.place_is; rest_is = b.rest_is; order_is = b.order_is; going = b.going }
+begins_by_numbers : (view : View) (walk : Walk) → walk.header ≡ without_entries view.header → BeginsOf view walk
+    → BeginsOf (by_numbers view) walk
+begins_by_numbers view walk same b = record {
+  header_is = inl same;
+  place_is = b.place_is;
+  rest_is = b.rest_is;
+  order_is = b.order_is;
+  going = b.going;
+}
 
 -- by the header, or by its numbers
-from_start : (view : View) (start now : Walk) (items : List OpView) → BeginsOf view start → GivesEach items start now → HasWalked view items now ⊎ HasWalked (by_numbers view) items now
+from_start : (view : View) (start now : Walk) (items : List OpView) → BeginsOf view start → GivesEach items start now
+    → HasWalked view items now ⊎ HasWalked (by_numbers view) items now
 from_start view start now items b gives = by_header b.header_is
   where
-    by_header : (start.header ≡ view.header) ⊎ (start.header ≡ without_entries view.header) → HasWalked view items now ⊎ HasWalked (by_numbers view) items now
+    by_header : (start.header ≡ view.header) ⊎ (start.header ≡ without_entries view.header) → HasWalked view items now
+        ⊎ HasWalked (by_numbers view) items now
     by_header (inl same) = inl (walked view [] items start now (walked_none view start same b) gives)
     by_header (inr same) =
-        inr (walked (by_numbers view) [] items start now (walked_none (by_numbers view) start same (begins_by_numbers view start same b)) gives)
+        inr (walked (by_numbers view) [] items start now (walked_none (by_numbers view) start same (begins_by_numbers view start same b))
+        gives)
 
 pub whole_walk : WholeWalk
 whole_walk = record {
@@ -92,7 +106,12 @@ whole_walk = record {
   all = λ view start now end items is b gives ends.
       elim (from_start view start now items b gives) [
         | inl so ↦ (so.ops, are_given view items now so, given_all view so.ops now end is so.given ends)
-        | inr so ↦ (so.ops, by_numbers_given view items so.ops (are_given (by_numbers view) items now so), given_all_by_numbers view so.ops now end is so.given ends)
+        | inr so ↦ (
+          so.ops,
+          by_numbers_given view items so.ops (are_given (by_numbers view) items now so),
+          given_all_by_numbers view so.ops
+              now end is so.given ends,
+        )
       ];
   broken = λ view start now end items fault header is b gives fails.
       elim (from_start view start now items b gives) [
@@ -103,24 +122,41 @@ whole_walk = record {
 
 -- ---- units
 
-broken_behind : (order : Order) (units : List (ℕ × Parts)) (front rest : List ℕ) (fault : Fault) → SectionBytes order units front → 0 < length rest → BrokenUnit order fault (length front) rest
+broken_behind : (order : Order) (units : List (ℕ × Parts)) (front rest : List ℕ) (fault : Fault) → SectionBytes order units front
+    → 0 < length rest → BrokenUnit order fault (length front) rest
     → BrokenSection order fault (front ++ rest)
 broken_behind order units front rest fault spelled some b =
-    let t : IsTrueFault order fault (front ++ rest) = record { units = units; front = front; rest = rest; sound = spelled; some = some; split = refl; broken = b } in
+    let t : IsTrueFault order fault (front ++ rest) = record {
+      units = units;
+      front = front;
+      rest = rest;
+      sound = spelled;
+      some = some;
+      split = refl;
+      broken = b;
+    } in
     record { none = no_section order fault (front ++ rest) t; true_fault = t }
 
 -- a whole unit has some byte
 frame_some : (unit : stream.UnitBytes) → (is : stream.IsWholeUnit unit) → 0 < length unit.bytes
 frame_some unit is =
-    omega (arith, ap length is.spelled.joined, length-append (initial_length is.format unit.order (length is.body)) is.body, length-initial is.format unit.order (length is.body))
+    omega (
+      arith,
+      ap length is.spelled.joined,
+      length-append (initial_length is.format unit.order (length is.body)) is.body,
+      length-initial
+          is.format unit.order (length is.body),
+    )
 
 pub fault_of_section : FaultOfSection
 fault_of_section = record {
   next = λ order units front rest fault spelled ends.
-      broken_behind order units front rest fault spelled ends.0 (frame_broken order (record { place = length front; rest = rest; order = order }) fault ends.1);
+      broken_behind order units front rest fault spelled ends.0
+      (frame_broken order (record { place = length front; rest = rest; order = order }) fault ends.1);
   here = λ order units front more unit fault spelled is at same b.
       let all : BrokenUnit order fault unit.offset (unit.bytes ++ more) =
-      broken_more order fault unit.offset (is.format, is.body) unit.bytes more (subst (λ (o : Order). FrameBytes o (is.format, is.body) unit.bytes) same is.spelled) b in
+      broken_more order fault unit.offset (is.format, is.body) unit.bytes more
+      (subst (λ (o : Order). FrameBytes o (is.format, is.body) unit.bytes) same is.spelled) b in
       broken_behind order units front (unit.bytes ++ more) fault spelled (omega (arith, length-append unit.bytes more, frame_some unit is))
       (subst (λ (n : ℕ). BrokenUnit order fault n (unit.bytes ++ more)) at all);
   alone = λ order offset rest fault ends. frame_broken order (record { place = offset; rest = rest; order = order }) fault ends.1;

@@ -11,20 +11,24 @@ use Rattle.lnt_unit.specs.declared.unit.Parts.{Parts}
 use Rattle.lnt_unit.specs.UnitBytes.{UnitBytesIn, SectionBytes}
 
 -- A header with a program begins the bytes, which stand at the offset. The program stands at the place, and ends where the unit does.
-pub record BeginsWithHeader (order : Order) (offset : ℕ) (bytes : List ℕ) (header : HeaderParts) (place : ℕ) (program : List ℕ) : Type 0 where
-  pub front : List ℕ
-  pub more : List ℕ
-  pub spelled : HeaderBytesIn order (header, program) front
-  pub joined : bytes ≡ front ++ more
-  pub ends : place + length program ≡ offset + length front
+pub record BeginsWithHeader (order : Order) (offset : ℕ) (bytes : List ℕ) (header : HeaderParts) (place : ℕ) (program : List ℕ) : Type 0
+  where
+    pub front : List ℕ
+    pub more : List ℕ
+    pub spelled : HeaderBytesIn order (header, program) front
+    pub joined : bytes ≡ front ++ more
+    pub ends : place + length program ≡ offset + length front
 
--- No unit begins the bytes, which stand at the offset, and the fault is so at its place: where no header with a program begins them, it is that of the header's first field that isn't there; where one does, that of the program's first operation that isn't there.
+-- No unit begins the bytes, which stand at the offset, and the fault is so at its place: where no header with a program begins
+-- them, it is that of the header's first field that isn't there; where one does, that of the program's first operation that isn't
+-- there.
 pub record BrokenUnit (order : Order) (fault : Fault) (offset : ℕ) (bytes : List ℕ) : Type 0 where
   pub broken : Broken (UnitBytesIn order) order fault offset bytes
   pub in_header : NoneSpelled (HeaderBytesIn order) bytes → IsFirstField order fault.reason broken.before broken.from
-  pub in_program : (header : HeaderParts) (place : ℕ) (program : List ℕ) → BeginsWithHeader order offset bytes header place program → BrokenProgram header place program fault
+  pub in_program : (header : HeaderParts) (place : ℕ) (program : List ℕ) → BeginsWithHeader order offset bytes header place program
+      → BrokenProgram header place program fault
 
--- A section is broken behind some units that it begins with: more bytes follow, and no unit begins them.
+-- A section is broken after some units that it begins with: more bytes follow, and no unit begins them.
 pub record IsTrueFault (order : Order) (fault : Fault) (section : List ℕ) : Type 0 where
   pub units : List (ℕ × Parts)
   pub front : List ℕ

@@ -43,7 +43,8 @@ pub record IsLargeUnit (order : Order) (format : Format) (to : Order) (at : At) 
   pub read : Reads (UnitBytesIn order) unit at next
   pub none : NoSpelling (UnitBytesIn to) (unit_in_format unit format to)
 
--- Why a unit isn't converted that stands in these bytes, from the offset on: no unit begins them, or nothing spells it. Want of memory says nothing.
+-- Why a unit isn't converted that stands in these bytes, from the offset on: no unit begins them, or nothing spells it. Want of
+-- memory says nothing.
 abbrev pub IsUnitStop : Order → Format → Order → ℕ → List ℕ → ConvertFault → Type 0
 IsUnitStop order format to offset bytes (Malformed fault) = BrokenUnit order fault offset bytes
 IsUnitStop order format to offset bytes (TooLarge place) = (place ≡ offset) × IsLarge order format to bytes
@@ -72,7 +73,7 @@ IsToldAs fault (Malformed told) = (told ≡ fault) × (fault.reason ≢ reasons.
 IsToldAs fault (TooLarge place) = ⊥
 IsToldAs fault Memory = fault.reason ≡ reasons.Memory
 
--- ---- units one behind the other
+-- ---- units one after the other
 
 -- The units of the section up to a cursor, each in this format and order, are these bytes.
 pub record ConvertedTo (order : Order) (section : List ℕ) (format : Format) (to : Order) (at : At) (bytes : List ℕ) : Type 0 where

@@ -20,7 +20,8 @@ unit_in_format unit format order = record unit { header = in_format unit.header 
 abbrev pub units_in_format : List (ℕ × Parts) → Format → Order → List Parts
 units_in_format units format order = map (λ unit. unit_in_format unit.1 format order) units
 
--- The result is a section of the same units as this one, each in this format and order, and in its shortest spelling. Their offsets are those of the result.
+-- The result is a section of the same units as this one, each in this format and order, and in its shortest spelling. Their
+-- offsets are those of the result.
 pub record IsConverted (order : Order) (section : List ℕ) (format : Format) (to : Order) (result : List ℕ) : Type 0 where
   pub units : List (ℕ × Parts)
   pub others : List (ℕ × Parts)

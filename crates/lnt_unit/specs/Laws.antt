@@ -19,7 +19,7 @@ use Rattle.lnt_header.specs.OpRules.{Admits}
 use Rattle.lnt_header.specs.OpViews.{StandsFor}
 use Rattle.lnt_header_bytes.specs.Spelled.{HasSmallOffsets}
 use Rattle.lnt_header.specs.declared.op.Op.{Op}
-use Rattle.lnt_header.specs.declared.view.OpView.{OpView}
+use Rattle.lnt_header.specs.declared.op.OpView.{OpView}
 use Rattle.lnt_ops.specs.Walks.{Ends, Fails, Steps, Walk}
 use Rattle.lnt_stream.specs.Units as stream
 use Rattle.lnt_unit.specs.declared.unit.Parts.{Parts}
@@ -35,10 +35,12 @@ OneSpelling = (order : Order) → IsCode (UnitBytesIn order)
 
 -- Whole sections: the units of one section are the same, and so are their offsets. One with a fault has none.
 pub record OneSection : Type 0 where
-  pub units : (order : Order) (us vs : List (ℕ × Parts)) (bytes : List ℕ) → SectionBytes order us bytes → SectionBytes order vs bytes → us ≡ vs
-  pub fault : (order : Order) (fault : Fault) (units : List (ℕ × Parts)) (bytes : List ℕ) → IsTrueFault order fault bytes → SectionBytes order units bytes → ⊥
+  pub units : (order : Order) (us vs : List (ℕ × Parts)) (bytes : List ℕ) → SectionBytes order us bytes → SectionBytes order vs bytes
+      → us ≡ vs
+  pub fault : (order : Order) (fault : Fault) (units : List (ℕ × Parts)) (bytes : List ℕ) → IsTrueFault order fault bytes
+      → SectionBytes order units bytes → ⊥
 
--- Of one section at most one fault is true, at one place and for one reason; and it stands behind the same units.
+-- Of one section at most one fault is true, at one place and for one reason; and it stands after the same units.
 pub record OneTrueFault : Type 0 where
   pub fault : (order : Order) (section : List ℕ) (fault other : Fault) → IsTrueFault order fault section → IsTrueFault order other section
       → fault ≡ other
@@ -50,8 +52,10 @@ pub record OneTrueFault : Type 0 where
 -- A unit that `Unit::new` allows is spelled by some bytes exactly where its format can say its offsets and its length. In the 64-bit
 -- format no offset is too large.
 pub record AllowedIsSpelled : Type 0 where
-  pub spelled : (unit : Parts) → IsUnit unit → FitsUnit unit → HasSmallOffsets unit.header → UnitLengthsFit unit → (bytes : List ℕ) × UnitBytes unit bytes
-  pub allowed : (unit : Parts) (bytes : List ℕ) → UnitBytes unit bytes → IsUnit unit × FitsUnit unit × HasSmallOffsets unit.header × UnitLengthsFit unit
+  pub spelled : (unit : Parts) → IsUnit unit → FitsUnit unit → HasSmallOffsets unit.header → UnitLengthsFit unit → (bytes : List ℕ)
+      × UnitBytes unit bytes
+  pub allowed : (unit : Parts) (bytes : List ℕ) → UnitBytes unit bytes → IsUnit unit × FitsUnit unit × HasSmallOffsets unit.header
+      × UnitLengthsFit unit
   pub wide : (unit : Parts) → unit.header.format ≡ D64 → HasSmallOffsets unit.header
 
 -- ---- whole walks
@@ -75,21 +79,27 @@ pub record AreGiven (view : View) (items : List OpView) (ops : List Op) : Type 0
   pub admitted : AllByRecursion (Admits view.header) ops
   pub few : length items ≤ length view.program
 
--- A walk over a unit in a buffer, from first to last: what it gives are operations, in order. Where it ends behind them, the bytes
--- are those of the unit of the header and these operations. Where it fails behind them, the bytes are those of no unit, and the
+-- A walk over a unit in a buffer, from first to last: what it gives are operations, in order. Where it ends after them, the bytes
+-- are those of the unit of the header and these operations. Where it fails after them, the bytes are those of no unit, and the
 -- fault says why.
 pub record WholeWalk : Type 0 where
-  pub given : (view : View) (start now : Walk) (items : List OpView) → BeginsOf view start → GivesEach items start now → (ops : List Op) × AreGiven view items ops
-  pub all : (view : View) (start now end : Walk) (items : List OpView) → IsView view → BeginsOf view start → GivesEach items start now → Ends now end
+  pub given : (view : View) (start now : Walk) (items : List OpView) → BeginsOf view start → GivesEach items start now → (ops : List Op)
+      × AreGiven view items ops
+  pub all : (view : View) (start now end : Walk) (items : List OpView) → IsView view → BeginsOf view start → GivesEach items start now
+      → Ends now end
       → (ops : List Op) × AreGiven view items ops × UnitBytesIn view.unit.order (with_ops view ops) view.unit.bytes
-  pub broken : (view : View) (start now end : Walk) (items : List OpView) (fault : Fault) → IsHeader view.header → IsView view → BeginsOf view start → GivesEach items start now → Fails fault now end
+  pub broken : (view : View) (start now end : Walk) (items : List OpView) (fault : Fault) → IsHeader view.header → IsView view
+      → BeginsOf view start → GivesEach items start now → Fails fault now end
       → BrokenUnit view.unit.order fault view.unit.offset view.unit.bytes
 
--- What a fault of `next_unit` says, and one of the unit at hand, behind units that were given: no list of units spells the section,
+-- What a fault of `next_unit` says, and one of the unit at hand, after units that were given: no list of units spells the section,
 -- whatever follows, and the fault is true of it. Behind frames that spell no unit, the fault of `next_unit` is so of what is left.
 pub record FaultOfSection : Type 0 where
   pub next : (order : Order) (units : List (ℕ × Parts)) (front rest : List ℕ) (fault : Fault) → SectionBytes order units front
       → EndsBy (record { place = length front; rest = rest; order = order }) (Some fault) → BrokenSection order fault (front ++ rest)
-  pub here : (order : Order) (units : List (ℕ × Parts)) (front more : List ℕ) (unit : stream.UnitBytes) (fault : Fault) → SectionBytes order units front
-      → stream.IsWholeUnit unit → unit.offset ≡ length front → unit.order ≡ order → BrokenUnit order fault unit.offset unit.bytes → BrokenSection order fault (front ++ (unit.bytes ++ more))
-  pub alone : (order : Order) (offset : ℕ) (rest : List ℕ) (fault : Fault) → EndsBy (record { place = offset; rest = rest; order = order }) (Some fault) → BrokenUnit order fault offset rest
+  pub here : (order : Order) (units : List (ℕ × Parts)) (front more : List ℕ) (unit : stream.UnitBytes) (fault : Fault)
+      → SectionBytes order units front
+      → stream.IsWholeUnit unit → unit.offset ≡ length front → unit.order ≡ order → BrokenUnit order fault unit.offset unit.bytes
+      → BrokenSection order fault (front ++ (unit.bytes ++ more))
+  pub alone : (order : Order) (offset : ℕ) (rest : List ℕ) (fault : Fault)
+      → EndsBy (record { place = offset; rest = rest; order = order }) (Some fault) → BrokenUnit order fault offset rest

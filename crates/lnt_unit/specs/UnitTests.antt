@@ -1,4 +1,5 @@
--- What `Unit::new` finds wrong with parts that no decoded unit has. The header is tested before the operations, and the least index is told.
+-- What `Unit::new` finds wrong with parts that no decoded unit has. The header is tested before the operations, and the least
+-- index is told.
 use Rattle.lnt_header.specs.declared.fault.UnitFault.{UnitFault}
 use Rattle.lnt_header.specs.declared.fault.UnitFault.TheVariants.{OpNotOfUnit}
 use Rattle.lnt_header.specs.HeaderRules.{IsHeader}

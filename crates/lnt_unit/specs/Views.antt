@@ -31,7 +31,7 @@ by_numbers view = record view { header = without_entries view.header }
 abbrev pub with_ops : View → List Op → Parts
 with_ops view ops = record { header = view.header; ops = ops }
 
--- A walk over the program stands behind these operations, and none was refused.
+-- A walk over the program stands after these operations, and none was refused.
 pub record HasGiven (view : View) (ops : List Op) (walk : Walk) : Type 0 where
   pub header_is : walk.header ≡ view.header
   pub going : walk.failed ≡ false

@@ -1,11 +1,14 @@
 //! Sections in another format and byte order (DWARF 5, sections 6.2.4 and 7.4).
-ghost use Rattle.std.specs.Prelude.{◌≡◌, IfOk, IfErr, OnOk};
+ghost use Rattle.std.specs.Prelude.{◌≡◌, IfOk, IfErr, OnOk, Some};
 ghost use Rattle.lnt_unit.specs.ConvertedUnits.{first_large, Converts};
 ghost use Rattle.lnt_unit.specs.Converting.{IsConverted, IsConvertFault};
+ghost use Rattle.lnt_unit.specs.FaultTexts.{convert_fault_text};
 
 use crate::converting::{convert_unit, judge_unit, told};
 use lnt_wire::{Cursor, Fault, Format, Order};
 use std::alloc::Global;
+use std::error::Error;
+use std::fmt;
 
 /// Why a section isn't converted.
 #[derive(Clone, Copy, Debug, PartialEq, Eq)]
@@ -18,8 +21,24 @@ pub enum ConvertFault {
     Memory,
 }
 
+impl fmt::Display for ConvertFault {
+    ghost output = { λ fault. Some (convert_fault_text fault) };
+
+    fn fmt<W: fmt::Write>(&self, f: &mut fmt::Formatter<W>) -> fmt::Result {
+        match *self {
+            ConvertFault::Malformed(fault) => write!(f, "{fault}"),
+            ConvertFault::TooLarge(offset) => {
+                write!(f, "unit 0x{offset:x} is too large for the 32-bit format")
+            }
+            ConvertFault::Memory => write!(f, "out of memory"),
+        }
+    }
+}
+
+impl Error for ConvertFault {}
+
 /// The section `bytes`, whose byte order is `order`, in the format and in the byte order `to`: the same units, one
-/// behind the other, with these two changed and nothing else, each LEB128 in its shortest spelling.
+/// after the other, with these two changed and nothing else, each LEB128 in its shortest spelling.
 ///
 /// It refuses with `Malformed` where no units spell the section; with `TooLarge` and the offset of the first unit
 /// that nothing spells in the format, which is an offset in `bytes`; and else with `Memory`.
@@ -75,7 +94,8 @@ pub fn judge_conversion(
     }
 }
 
-// The first unit that nothing spells: the one that was found before, or the one at the offset.
+// The offset of the first unit that nothing spells in the format: the one that was found before, or else that of the unit
+// at `offset`, where it doesn't convert.
 fn first_of(first: Option<u64>, converts: bool, offset: u64) -> Option<u64>
     ensures { result ≡ first_large first converts offset }
 {

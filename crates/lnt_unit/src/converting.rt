@@ -92,7 +92,8 @@ fn convert_frame(
 ) -> Result<(), ConvertFault>
     requires frame { IsPlacedFrame order frame.now }
     requires end { end ≡ frame.now.offset + length (frame_bytes order frame.now.format frame.now.body.now) }
-    ensures ok { OnOk result (ConvertsBytes order format to (frame_bytes order frame.now.format frame.now.body.now) out.old.items out.new.items) }
+    ensures ok { OnOk result (ConvertsBytes order format to (frame_bytes order frame.now.format frame.now.body.now) out.old.items
+        out.new.items) }
     ensures err { IfErr result (IsUnitStop order format to frame.now.offset (frame_bytes order frame.now.format frame.now.body.now)) }
 {
     let (header, program) = match view_header(alloc, frame, order) {
@@ -111,7 +112,7 @@ fn convert_frame(
     }
 }
 
-// The fault, or want of memory.
+// The fault as one of a conversion: want of memory says nothing of the bytes.
 pub(crate) fn told(fault: Fault) -> ConvertFault
     ensures { IsToldAs fault result }
 {

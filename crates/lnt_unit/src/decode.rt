@@ -37,7 +37,8 @@ fn unit_of(alloc: Global, frame: &Frame<'_>, end: u64, order: Order) -> Result<U
     requires frame { IsPlacedFrame order frame.now }
     requires end { end ≡ frame.now.offset + length (frame_bytes order frame.now.format frame.now.body.now) }
     ensures ok { IfOk result (λ unit. UnitBytesIn order unit (frame_bytes order frame.now.format frame.now.body.now)) }
-    ensures err { IfErr result (λ fault. fault.reason ≢ Reason.Memory → BrokenUnit order fault frame.now.offset (frame_bytes order frame.now.format frame.now.body.now)) }
+    ensures err { IfErr result (λ fault. fault.reason ≢ Reason.Memory
+        → BrokenUnit order fault frame.now.offset (frame_bytes order frame.now.format frame.now.body.now)) }
 {
     let (header, program) = decode_header(alloc, frame, order)?;
     let place = end - program.len() as u64;
@@ -45,11 +46,11 @@ fn unit_of(alloc: Global, frame: &Frame<'_>, end: u64, order: Order) -> Result<U
     Ok(Unit::of(header, ops))
 }
 
-/// The units of the section `bytes` with their offsets in it, in order. They stand one behind the other, and their
+/// The units of the section `bytes` with their offsets in it, in order. They stand one after the other, and their
 /// bytes joined are the section: the last one ends where the section does.
 ///
 /// It refuses with `Memory`, and else only where no units spell the section, with the fault of the first unit that
-/// isn't there: `decode_unit`'s at the offset behind those before it.
+/// isn't there: `decode_unit`'s at the offset after those before it.
 #[tactic(auto, using(crate::proofs::SectionLemmas::no_units, crate::proofs::SectionLemmas::one_more_unit, crate::proofs::SectionLemmas::unit_long, crate::proofs::SectionLemmas::all_units))]
 pub fn decode_section(alloc: Global, bytes: &[u8], order: Order) -> Result<Vec<(u64, Unit)>, Fault>
     ensures ok { IfOk result (λ units. SectionBytes order units.items bytes.now) }

@@ -111,7 +111,7 @@ impl Unit {
     }
 }
 
-// The first of the operations that the header doesn't admit.
+// The index of the first operation that the header doesn't admit.
 #[tactic(auto, using(lnt_header::specs::Laws::Firsts::all_more, lnt_header::specs::Laws::Firsts::all_taken, lnt_header::specs::Laws::Firsts::first_not))]
 fn first_not_admitted(header: &Header, ops: &[Op]) -> Option<u64>
     ensures { MatchOption result (AllByRecursion (Admits header.now) ops.now) (λ index. IsFirstNot (Admits header.now) ops.now index) }

@@ -8,8 +8,6 @@ mod lists;
 #[cfg(test)]
 mod matrices;
 #[cfg(test)]
-mod readers;
-#[cfg(test)]
 mod sections;
 #[cfg(test)]
 mod sources;

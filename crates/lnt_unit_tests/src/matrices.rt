@@ -1,5 +1,6 @@
-use crate::worked::{BELOW_ZERO, OPEN, PLAIN, unit_of};
+use crate::worked::unit_of;
 use lnt_machine::{Row, RunFault, Sequence, matrix};
+use lnt_samples::{BELOW_ZERO, OPEN, PLAIN};
 use lnt_unit::Unit;
 use std::alloc::Global;
 

@@ -1,5 +1,5 @@
-use crate::readers::Reader;
-use crate::worked::{ENDLESS, PLAIN, SHORT, WIDE, joined};
+use crate::worked::joined;
+use lnt_samples::{ENDLESS, PLAIN, Pieces, SHORT, WIDE};
 use lnt_stream::{SectionReader, SectionStop, UnitBuffer};
 use lnt_wire::{Counted, Fault, Order, Reason, Source, frames};
 use std::alloc::{AllocError, Global};
@@ -46,7 +46,7 @@ fn is_unit(got: &Option<UnitBuffer>, offset: u64, bytes: &[u8]) -> bool {
 // Whether the section is these two units, read in pieces of this size.
 fn are_units(alloc: Global, first: &[u8], second: &[u8], piece: usize) -> Option<bool> {
     let bytes = joined(alloc, first, second)?;
-    let mut source = Counted::new(Reader::new(alloc, bytes.as_slice(), piece, u64::MAX), AMPLE);
+    let mut source = Counted::new(Pieces::new(alloc, bytes.as_slice(), piece, u64::MAX), AMPLE);
     let mut reader = SectionReader::new(&mut source, Order::Little);
     let unit = reader.next_unit(alloc).ok()?;
     let other = reader.next_unit(alloc).ok()?;
@@ -62,10 +62,10 @@ fn units_in_pieces(rt: HostRuntime) {
     assert!(rt; are_units(alloc, &PLAIN, &SHORT, 5) == Some(true));
 }
 
-// Why no unit comes of the bytes, under this limit and from a reader that fails behind so many reads; where each
+// Why no unit comes of the bytes, under this limit and from a reader that fails after so many reads; where each
 // further call is refused, and a failure of the reader is counted.
 fn stop_of(alloc: Global, bytes: &[u8], sound: u64, limit: u64) -> Option<SectionStop> {
-    let mut source = Counted::new(Reader::new(alloc, bytes, 100, sound), limit);
+    let mut source = Counted::new(Pieces::new(alloc, bytes, 100, sound), limit);
     let mut reader = SectionReader::new(&mut source, Order::Little);
     let stop = reader.next_unit(alloc).err();
     let next = reader.next_unit(alloc).err();
@@ -93,10 +93,10 @@ fn stops_of_the_first_unit(rt: HostRuntime) {
     assert!(rt; stop_of(alloc, &PLAIN, 100, 0) == Some(SectionStop::TooLong));
 }
 
-// Why no unit comes behind `PLAIN`, of a section that goes on with a reserved length.
-fn stop_behind(alloc: Global, sound: u64, limit: u64) -> Option<SectionStop> {
+// Why no unit comes after `PLAIN`, of a section that goes on with a reserved length.
+fn stop_after(alloc: Global, sound: u64, limit: u64) -> Option<SectionStop> {
     let bytes = joined(alloc, &PLAIN, &[0xf0, 0xff, 0xff, 0xff])?;
-    let mut source = Counted::new(Reader::new(alloc, bytes.as_slice(), 100, sound), limit);
+    let mut source = Counted::new(Pieces::new(alloc, bytes.as_slice(), 100, sound), limit);
     let mut reader = SectionReader::new(&mut source, Order::Little);
     let unit = reader.next_unit(alloc).ok()?;
     if !is_unit(&unit, 0, &PLAIN) {
@@ -106,21 +106,21 @@ fn stop_behind(alloc: Global, sound: u64, limit: u64) -> Option<SectionStop> {
 }
 
 #[test]
-fn stops_behind_a_unit(rt: HostRuntime) {
+fn stops_after_a_unit(rt: HostRuntime) {
     let alloc = rt.alloc();
     let fault = SectionStop::Fault(Fault {
         place: 71,
         reason: Reason::ReservedLength,
     });
-    assert!(rt; stop_behind(alloc, 100, 75) == Some(fault));
-    assert!(rt; stop_behind(alloc, 2, AMPLE) == Some(SectionStop::Read));
-    assert!(rt; stop_behind(alloc, 100, 71) == Some(SectionStop::TooLong));
-    assert!(rt; stop_behind(alloc, 100, 72) == Some(SectionStop::TooLong));
+    assert!(rt; stop_after(alloc, 100, 75) == Some(fault));
+    assert!(rt; stop_after(alloc, 2, AMPLE) == Some(SectionStop::Read));
+    assert!(rt; stop_after(alloc, 100, 71) == Some(SectionStop::TooLong));
+    assert!(rt; stop_after(alloc, 100, 72) == Some(SectionStop::TooLong));
 }
 
 // Whether two calls ask for these numbers of bytes, read by read.
 fn are_asked(alloc: Global, bytes: &[u8], order: Order, piece: usize, want: &[usize]) -> bool {
-    let mut file = Reader::new(alloc, bytes, piece, u64::MAX);
+    let mut file = Pieces::new(alloc, bytes, piece, u64::MAX);
     let mut source = Counted::new(&mut file, AMPLE);
     let mut reader = SectionReader::new(&mut source, order);
     let _first = reader.next_unit(alloc);
@@ -142,7 +142,7 @@ fn no_byte_is_asked_for_early(rt: HostRuntime) -> Result<(), Fail> {
     Ok(())
 }
 
-// A unit of 150,000 bytes behind its length.
+// A unit of 150,000 bytes after its length.
 fn long_unit(alloc: Global) -> Result<Vec<u8>, AllocError> {
     let mut long = Vec::from_slice(alloc, &[0xf0, 0x49, 2, 0, 5, 0])?;
     long.resize(150_004, 7)?;
@@ -151,7 +151,7 @@ fn long_unit(alloc: Global) -> Result<Vec<u8>, AllocError> {
 
 // The next unit, read into this memory, where it is these bytes and the memory still that.
 fn read_into(
-    reader: &mut SectionReader<'_, Counted<Reader<'_>>>,
+    reader: &mut SectionReader<'_, Counted<Pieces<'_>>>,
     room: Vec<u8>,
     want: &[u8],
 ) -> Option<Vec<u8>> {
@@ -170,7 +170,7 @@ fn read_into(
 // Whether two units are read into one and the same memory.
 fn share_room(alloc: Global, first: &[u8], second: &[u8]) -> Option<bool> {
     let bytes = joined(alloc, first, second)?;
-    let mut source = Counted::new(Reader::new(alloc, bytes.as_slice(), 100, u64::MAX), AMPLE);
+    let mut source = Counted::new(Pieces::new(alloc, bytes.as_slice(), 100, u64::MAX), AMPLE);
     let mut reader = SectionReader::new(&mut source, Order::Little);
     let room = Vec::with_capacity(alloc, 100).ok()?;
     let room = read_into(&mut reader, room, first)?;

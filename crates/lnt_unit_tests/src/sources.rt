@@ -1,5 +1,5 @@
-use crate::readers::Reader;
-use lnt_wire::{Counted, Source, SourceStop, read_all};
+use lnt_samples::Pieces;
+use lnt_wire::{Counted, Source, Stop, read_all};
 use std::alloc::{AllocError, Global};
 use std::test::Fail;
 
@@ -7,7 +7,7 @@ const BYTES: [u8; 70] = [7; 70];
 
 // Whether all bytes come, in pieces of this size, and so many might come still.
 fn come_whole(alloc: Global, piece: usize, limit: u64, left: u64) -> bool {
-    let reader = Reader::new(alloc, &BYTES, piece, u64::MAX);
+    let reader = Pieces::new(alloc, &BYTES, piece, u64::MAX);
     let mut source = Counted::new(reader, limit);
     match read_all(alloc, &mut source) {
         Ok(all) => all.as_slice() == BYTES.as_slice() && source.left() == left,
@@ -24,35 +24,37 @@ fn all_bytes_come(rt: HostRuntime) {
 }
 
 // Whether the bytes don't come, for this reason, and the source says the same.
-fn are_stopped(alloc: Global, piece: usize, sound: u64, limit: u64, want: SourceStop) -> bool {
-    let mut source = Counted::new(Reader::new(alloc, &BYTES, piece, sound), limit);
+fn are_stopped(alloc: Global, piece: usize, sound: u64, limit: u64, want: Stop) -> bool {
+    let mut source = Counted::new(Pieces::new(alloc, &BYTES, piece, sound), limit);
     let stop = read_all(alloc, &mut source).err();
     stop == Some(want)
-        && source.failures() == u64::from(want == SourceStop::Read)
-        && source.too_long() == (want == SourceStop::TooLong)
+        && source.failures() == u64::from(want == Stop::Read)
+        && source.too_long() == (want == Stop::TooLong)
 }
 
 #[test]
 fn sources_that_stop(rt: HostRuntime) {
     let alloc = rt.alloc();
     // Within the bytes, at their end, and at once.
-    assert!(rt; are_stopped(alloc, 1, 40, 70, SourceStop::Read));
-    assert!(rt; are_stopped(alloc, 1, 70, 70, SourceStop::Read));
-    assert!(rt; are_stopped(alloc, 100, 0, 70, SourceStop::Read));
-    assert!(rt; are_stopped(alloc, 1, 100, 69, SourceStop::TooLong));
-    assert!(rt; are_stopped(alloc, 100, 100, 0, SourceStop::TooLong));
+    assert!(rt; are_stopped(alloc, 1, 40, 70, Stop::Read));
+    assert!(rt; are_stopped(alloc, 1, 70, 70, Stop::Read));
+    assert!(rt; are_stopped(alloc, 100, 0, 70, Stop::Read));
+    assert!(rt; are_stopped(alloc, 1, 100, 69, Stop::TooLong));
+    assert!(rt; are_stopped(alloc, 100, 100, 0, Stop::TooLong));
 }
 
 // Whether so many bytes are asked for in reads of these sizes.
 fn are_asked(alloc: Global, count: usize, want: &[usize]) -> Result<bool, AllocError> {
     let bytes = vec![in alloc; 9; count]?;
-    let mut reader = Reader::new(alloc, bytes.as_slice(), usize::MAX, u64::MAX);
+    let mut reader = Pieces::new(alloc, bytes.as_slice(), usize::MAX, u64::MAX);
     let all = read_all(alloc, &mut Counted::new(&mut reader, 1 << 30)).is_ok();
     Ok(all && reader.asked() == want)
 }
 
 #[test]
 fn reads_by_blocks(rt: HostRuntime) -> Result<(), Fail> {
-    assert!(rt; are_asked(rt.alloc(), 300_000, &[1 << 16; 6])?);
+    // The last read, which finds the end, asks for what the fifth left of its block.
+    let sizes = [65536, 65536, 65536, 65536, 65536, 27680];
+    assert!(rt; are_asked(rt.alloc(), 300_000, &sizes)?);
     Ok(())
 }

@@ -1,5 +1,5 @@
-use crate::readers::Reader;
-use crate::worked::{PLAIN, WIDE, joined, unit_of};
+use crate::worked::{joined, unit_of};
+use lnt_samples::{PLAIN, Pieces, WIDE};
 use lnt_stream::{SectionReader, UnitBuffer};
 use lnt_unit::{Unit, UnitView, convert_section, decode_section, encode_unit};
 use lnt_wire::{Counted, Format, Order};
@@ -57,7 +57,7 @@ fn count_of(alloc: Global, unit: &UnitBuffer) -> Option<u64> {
 }
 
 fn is_viewed(alloc: Global, bytes: &[u8]) -> bool {
-    let mut source = Counted::new(Reader::new(alloc, bytes, 100, u64::MAX), 71);
+    let mut source = Counted::new(Pieces::new(alloc, bytes, 100, u64::MAX), 71);
     let mut reader = SectionReader::new(&mut source, Order::Little);
     match reader.next_unit(alloc) {
         Ok(Some(unit)) => count_of(alloc, &unit) == Some(5),

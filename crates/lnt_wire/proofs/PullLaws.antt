@@ -1,6 +1,6 @@
 -- Pulls one after another, and what they add after the bytes that were taken. Crates above cite these.
 use Rattle.std.proofs.Common.{◌≡◌, ℕ, ◌+◌, ◌≤◌, List, [], ◌++◌, length, take, Option, Some, None, IfSome, sym, ap, ◌∙◌, append_assoc}
-use Rattle.std.proofs.Common.{append-nil, refl, arith}
+use Rattle.std.proofs.Common.{append-nil, refl, arith, subst}
 use Rattle.std.proofs.Math.Seq.{take-append-add, take-append_seam, take-take}
 use Rattle.std.proofs.lemmas.List.{length-append, take-append-le, length-take-le, take_all}
 use Rattle.lnt_wire.specs.Pulling.{Pulls, GivesMore, HasMoreThan}
@@ -34,6 +34,21 @@ pub more_from_start : (a b : Option (List ℕ)) (given : List ℕ) (before after
 more_from_start None b given before after p same more = tt
 more_from_start (Some x) None given before after p same more = absurd p
 more_from_start (Some x) (Some y) given before after p same more = omega (arith, same, more, ap length p, length-append given y)
+
+-- the front of the room, where one more pull wrote after the front that was filled
+front_filled : (at count : ℕ) (room put post : List ℕ) → at ≤ length room → count ≤ length put
+    → take (at + count) (take at room ++ (put ++ post)) ≡ take at room ++ take count put
+front_filled at count room put post le fits =
+    ap (λ (n : ℕ). take (n + count) (take at room ++ (put ++ post))) (sym (length-take-le at room le))
+    ∙ take-append-add (take at room) (put ++ post) count
+    ∙ ap (λ (z : List ℕ). take at room ++ z) (take-append-le count put post fits)
+
+pub pulls_filled : (a b c : Option (List ℕ)) (at count : ℕ) (room put post : List ℕ) → Pulls a b (take at room)
+    → Pulls b c (take count put) → at ≤ length room → count ≤ length put
+    → Pulls a c (take (at + count) (take at room ++ (put ++ post)))
+pulls_filled a b c at count room put post p q le fits =
+    subst (λ (z : List ℕ). Pulls a c z) (sym (front_filled at count room put post le fits))
+    (pulls_append a b c (take at room) (take count put) p q)
 
 -- what was written after the bytes taken before, cut where it ends
 pub written_after : (k n : ℕ) (taken put post tail : List ℕ) → k ≤ length put → length taken + k ≤ n

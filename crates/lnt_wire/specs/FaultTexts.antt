@@ -9,8 +9,8 @@ use Rattle.lnt_wire.specs.declared.fault.Reason.TheVariants.{OpcodeBaseZero, Sta
 use Rattle.lnt_wire.specs.declared.fault.Reason.TheVariants.{LebTooLarge, ExtendedLength, Memory}
 use Rattle.lnt_wire.specs.declared.put.EncodeFault.{EncodeFault}
 use Rattle.lnt_wire.specs.declared.put.EncodeFault.TheVariants.{TooLarge, Memory as NoRoom}
-use Rattle.lnt_wire.specs.declared.source.SourceStop.{SourceStop}
-use Rattle.lnt_wire.specs.declared.source.SourceStop.TheVariants as stops
+use Rattle.lnt_wire.specs.declared.stop.Stop.{Stop}
+use Rattle.lnt_wire.specs.declared.stop.Stop.TheVariants as stop
 
 -- a number by its hexadecimal digits, in lower case and without leading zeros
 abbrev pub hexadecimal : ℕ → List ℕ
@@ -43,8 +43,8 @@ abbrev pub encode_fault_text : EncodeFault → List ℕ
 encode_fault_text TooLarge = codes "too large for the 32-bit format"
 encode_fault_text NoRoom = codes "out of memory"
 
--- why the bytes of a source were not taken
-abbrev pub source_stop_text : SourceStop → List ℕ
-source_stop_text stops.Memory = codes "out of memory"
-source_stop_text stops.Read = codes "cannot read"
-source_stop_text stops.TooLong = codes "too long"
+-- why the work on the bytes of a source was stopped
+abbrev pub stop_text : Stop → List ℕ
+stop_text stop.Memory = codes "out of memory"
+stop_text stop.Read = codes "cannot read"
+stop_text stop.TooLong = codes "too long"

@@ -32,5 +32,7 @@ OneValue = (format : Format) (order : Order) (form : Form) → IsCode (ValueByte
 pub record SpelledValues : Type 0 where
   pub unsigned : (n : ℕ) → n < 2 ^ 64 → HasShortest UnsignedLeb n
   pub signed : (z : ℤ) → FitsSigned w64 z → HasShortest SignedLeb z
-  pub value : (format : Format) (order : Order) (value : FormValue) → HasSpelling value → FitsForm value → (IsTooLarge format value → ⊥) → HasShortest (FormBytes format order) value
-  pub allowed : (format : Format) (order : Order) (value : FormValue) (bytes : List ℕ) → FormBytes format order value bytes → HasSpelling value × FitsForm value × (IsTooLarge format value → ⊥)
+  pub value : (format : Format) (order : Order) (value : FormValue) → HasSpelling value → FitsForm value → (IsTooLarge format value → ⊥)
+      → HasShortest (FormBytes format order) value
+  pub allowed : (format : Format) (order : Order) (value : FormValue) (bytes : List ℕ) → FormBytes format order value bytes
+      → HasSpelling value × FitsForm value × (IsTooLarge format value → ⊥)

@@ -1,9 +1,9 @@
 //! Where the bytes of a file come from, some at a time, up to a limit.
 ghost use Rattle.std.specs.Prelude.{◌≡◌, ◌≢◌, ℕ, ◌+◌, ◌-◌, ◌^◌, ◌<◌, ◌≤◌, length, take};
 ghost use Rattle.std.specs.Prelude.{IfOk, IfErr, IsErrOf, IfSome, IsTrue, true, Bool, Option, List, MatchResult, Some, codes};
-ghost use Rattle.lnt_wire.specs.FaultTexts.{source_stop_text};
 ghost use Rattle.lnt_wire.specs.Pulling.{Pulls, GivesMore, IsAtEnd, HasMoreThan};
 
+use crate::stop::Stop;
 use std::alloc::Global;
 use std::error::Error;
 use std::fmt;
@@ -66,55 +66,55 @@ pub trait Source {
     ghost more: { (s : Self) → too_long s ≡ true → HasMoreThan (remaining s) (left s) };
 }
 
-/// Why the bytes of a source were not taken. None of these says anything of the bytes.
-#[derive(Clone, Copy, Debug, PartialEq, Eq)]
-pub enum SourceStop {
-    /// 33: memory ran out.
-    Memory,
-    /// 34: the source failed to give its next bytes.
-    Read,
-    /// 35: the source has more bytes than its limit allows it to give.
-    TooLong,
-}
+/// How many bytes are asked of a source at once, and reserved ahead of them, at most: 64 KiB.
+pub const BLOCK: usize = 1 << 16;
 
-impl fmt::Display for SourceStop {
-    ghost output = { λ stop. Some (source_stop_text stop) };
-
-    fn fmt<W: fmt::Write>(&self, f: &mut fmt::Formatter<W>) -> fmt::Result {
-        match self {
-            SourceStop::Memory => write!(f, "out of memory"),
-            SourceStop::Read => write!(f, "cannot read"),
-            SourceStop::TooLong => write!(f, "too long"),
+// Writes the next bytes of the source into the front of the room, until it is full or no more come. It answers how many came,
+// which are fewer than the room holds only at the end, or where the source is too long.
+#[tactic(auto, using(crate::proofs::PullLaws::pulls_none))]
+fn fill<R: Source>(source: &mut R, room: &mut [u8]) -> Result<usize, ReadFault>
+    requires { R.failures source.old < 2 ^ 64 - 1 }
+    ensures bound { IfOk result (λ k. k ≤ length room.new) }
+    ensures bytes { IfOk result (λ k. Pulls (R.remaining source.old) (R.remaining source.new) (take k room.new)) }
+    ensures end { IfOk result (λ k. k < length room.new → IsAtEnd (R.remaining source.new) (R.too_long source.new)) }
+    ensures left { IfOk result (λ k. R.left source.new + k ≡ R.left source.old) }
+    ensures failures { MatchResult result
+        (λ _. R.failures source.new ≡ R.failures source.old) (λ _. R.failures source.new ≡ R.failures source.old + 1) }
+{
+    let mut filled = 0;
+    while filled < room.len() {
+        let count = source.pull(&mut room[filled..])?;
+        if count == 0 {
+            return Ok(filled);
         }
+        filled += count;
     }
+    Ok(filled)
 }
 
-impl Error for SourceStop {}
-
-// How many bytes are asked of a source at once, and reserved ahead of them: 64 KiB.
-const BLOCK: usize = 1 << 16;
-
-/// Takes the next bytes of the source, a block of 64 KiB at most, right into the room after those that `all` holds. It
-/// answers how many came: none only at their end, or where the source is too long.
+/// Takes the next `size` bytes of the source, or those up to its end, right into the room after those that `all` holds. It
+/// answers how many came: fewer than `size` only at the end, or where the source is too long.
 ///
 /// It stops with `Memory`, and with `Read` only where the source failed. After a stop nothing is said of `all`. The caller
-/// sees to it that the number of failures is below `u64::MAX`.
-pub fn take_block<R: Source>(source: &mut R, all: &mut Vec<u8>) -> Result<usize, SourceStop>
-    requires { R.failures source.old < 2 ^ 64 - 1 }
+/// sees to it that the number of failures is below `u64::MAX`, and asks for no more than [`BLOCK`] bytes.
+pub fn take_block<R: Source>(source: &mut R, all: &mut Vec<u8>, size: usize) -> Result<usize, Stop>
+    requires failures { R.failures source.old < 2 ^ 64 - 1 }
+    requires size { size ≤ 2 ^ 16 }
+    ensures bound { IfOk result (λ k. k ≤ size) }
     ensures bytes { IfOk result (λ k.
         GivesMore (R.remaining source.old) (R.remaining source.new) all.old.items all.new.items k) }
-    ensures end { IfOk result (λ k. k ≡ 0 → IsAtEnd (R.remaining source.new) (R.too_long source.new)) }
+    ensures end { IfOk result (λ k. k < size → IsAtEnd (R.remaining source.new) (R.too_long source.new)) }
     ensures left { IfOk result (λ k. R.left source.new + k ≡ R.left source.old) }
-    ensures read { IsErrOf result SourceStop.Read → R.failures source.new ≡ R.failures source.old + 1 }
-    ensures no_failure { result ≢ Err SourceStop.Read → R.failures source.new ≡ R.failures source.old }
-    ensures not_long { IsErrOf result SourceStop.TooLong → ⊥ }
+    ensures read { IsErrOf result Stop.Read → R.failures source.new ≡ R.failures source.old + 1 }
+    ensures no_failure { result ≢ Err Stop.Read → R.failures source.new ≡ R.failures source.old }
+    ensures not_long { IsErrOf result Stop.TooLong → ⊥ }
 {
     let start = all.len();
-    if all.resize(start + BLOCK, 0).is_err() {
-        return Err(SourceStop::Memory);
+    if all.resize(start + size, 0).is_err() {
+        return Err(Stop::Memory);
     }
-    let Ok(count) = source.pull(&mut all[start..]) else {
-        return Err(SourceStop::Read);
+    let Ok(count) = fill(source, &mut all[start..]) else {
+        return Err(Stop::Read);
     };
     all.truncate(start + count);
     Ok(count)
@@ -124,20 +124,20 @@ pub fn take_block<R: Source>(source: &mut R, all: &mut Vec<u8>) -> Result<usize,
 ///
 /// It stops with `Memory`; with `Read` only where the source failed, once, which is not tried again; and with `TooLong`
 /// only where the source was found to have more bytes than it may give. No more memory is reserved ahead of the bytes
-/// that come than for 64 KiB. The caller sees to it that the source has failed fewer than `u64::MAX` times.
+/// that come than for [`BLOCK`] of them. The caller sees to it that the source has failed fewer than `u64::MAX` times.
 #[tactic(auto, using(crate::proofs::PullLaws::pulling))]
-pub fn read_all<R: Source>(alloc: Global, source: &mut R) -> Result<Vec<u8>, SourceStop>
+pub fn read_all<R: Source>(alloc: Global, source: &mut R) -> Result<Vec<u8>, Stop>
     requires { R.failures source.old < 2 ^ 64 - 1 }
     ensures ok { IfOk result (λ all. IfSome (R.remaining source.old) (λ bytes. all.items ≡ bytes)) }
-    ensures read { IsErrOf result SourceStop.Read → R.failures source.new ≡ R.failures source.old + 1 }
-    ensures no_failure { result ≢ Err SourceStop.Read → R.failures source.new ≡ R.failures source.old }
-    ensures too_long { IsErrOf result SourceStop.TooLong → IsTrue (R.too_long source.new) }
-    ensures more { IsErrOf result SourceStop.TooLong → HasMoreThan (R.remaining source.old) (R.left source.old) }
+    ensures read { IsErrOf result Stop.Read → R.failures source.new ≡ R.failures source.old + 1 }
+    ensures no_failure { result ≢ Err Stop.Read → R.failures source.new ≡ R.failures source.old }
+    ensures too_long { IsErrOf result Stop.TooLong → IsTrue (R.too_long source.new) }
+    ensures more { IsErrOf result Stop.TooLong → HasMoreThan (R.remaining source.old) (R.left source.old) }
 {
     let mut all = Vec::new(alloc);
-    while take_block(source, &mut all)? > 0 {}
+    while take_block(source, &mut all, BLOCK)? == BLOCK {}
     if source.too_long() {
-        return Err(SourceStop::TooLong);
+        return Err(Stop::TooLong);
     }
     Ok(all)
 }

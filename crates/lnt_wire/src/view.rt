@@ -55,9 +55,9 @@ pub(crate) fn owned(alloc: Global, view: ValueView<'_>, place: u64) -> Result<Fo
     }
 }
 
-// A copy of the bytes. The only error is `Memory`, at the offset `place`.
+/// A copy of the bytes. The only error is `Memory`, at the offset `place` of the section at which they stand.
 #[inline(never)]
-fn copied(alloc: Global, bytes: &[u8], place: u64) -> Result<Items<u8>, Fault>
+pub fn copied(alloc: Global, bytes: &[u8], place: u64) -> Result<Items<u8>, Fault>
     ensures ok { IfOk result (λ items. items ≡ bytes.now) }
     ensures err { IfErr result (λ fault. fault.reason ≡ Reason.Memory) }
 {

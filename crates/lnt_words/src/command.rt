@@ -21,6 +21,11 @@ const NUMBERS: &str = "Lines that begin with no, and the document that says more
   39  a span of the table is empty, or begins below the end of the one before it (docs/TABLES.md)
   40  the table and the section answer differently at this position, the least one (docs/TABLES.md)";
 
+// What the line `no 43` means that `table` prints.
+const WHOLE: &str = "With --paths or --lines a table says whole instructions alone. \
+Where its spans can't be told so, the line 'no 43 operation index at 0xA,OP' says the first place where one begins or ends \
+within an instruction, and the status is 1 (docs/TABLES.md).";
+
 // What the words `same`, `differs` and `unreadable` mean that `md5` prints.
 const SUMS: &str = "A file is the same, differs, or is unreadable: it can't be opened or read. \
 Where one isn't the same, the status is 1.";
@@ -126,11 +131,27 @@ fn files_command<'a>(alloc: Global) -> Result<Command<'a>, AllocError> {
 fn table_command<'a>(alloc: Global) -> Result<Command<'a>, AllocError> {
     let command = Command::new(alloc, "table")
         .about("Prints the address table of a section")
+        .after_help(WHOLE)
         .arg(section_argument(alloc))?
+        .arg(
+            flag(
+                alloc,
+                "wide",
+                "Tells the instruction set and the discriminator too",
+            )
+            .conflicts_with("paths")?
+            .conflicts_with("lines")?,
+        )?
         .arg(flag(
             alloc,
-            "wide",
-            "Tells the instruction set and the discriminator too",
+            "paths",
+            "Tells the path of the file, the line and the column, and nothing else",
+        )
+        .conflicts_with("lines")?)?
+        .arg(flag(
+            alloc,
+            "lines",
+            "Tells the path of the file and the line, and nothing else",
         ))?;
     with_judging(alloc, command)
 }

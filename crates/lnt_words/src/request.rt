@@ -99,6 +99,11 @@ pub enum Question<'a> {
     Files,
     /// Its address table, in this version.
     Table(Version),
+    /// Its address table with the paths of files.
+    TableByPath {
+        /// Whether columns are told too: version 3, else version 4.
+        columns: bool,
+    },
     /// Whether files have the sums that are listed.
     Md5,
 }

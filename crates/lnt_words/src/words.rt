@@ -86,14 +86,7 @@ fn request_in<'a>(
         }),
         "lookup" => lookup_in(alloc, words),
         "files" => judge_in(alloc, words, Question::Files),
-        "table" => {
-            let version = if words.get_flag("wide") {
-                Version::Two
-            } else {
-                Version::One
-            };
-            judge_in(alloc, words, Question::Table(version))
-        }
+        "table" => judge_in(alloc, words, table_in(words)),
         "convert" => convert_in(alloc, words),
         "md5" => judge_in(alloc, words, Question::Md5),
         _ => Err(WordsStop::Memory),
@@ -144,6 +137,20 @@ fn lookup_in<'a>(alloc: Global, words: &ArgMatches<'a>) -> Result<Request<'a>, W
         }
     };
     judge_in(alloc, words, question)
+}
+
+// Which table is asked for: at most one of the three flags is given.
+fn table_in<'a>(words: &ArgMatches<'a>) -> Question<'a> {
+    if words.get_flag("paths") {
+        return Question::TableByPath { columns: true };
+    }
+    if words.get_flag("lines") {
+        return Question::TableByPath { columns: false };
+    }
+    if words.get_flag("wide") {
+        return Question::Table(Version::Two);
+    }
+    Question::Table(Version::One)
 }
 
 fn convert_in<'a>(alloc: Global, words: &ArgMatches<'a>) -> Result<Request<'a>, WordsStop> {

@@ -23,7 +23,7 @@ pub fn file_count(header: &HeaderView<'_>) -> u64
 }
 
 /// The MD5 sum that is listed of the file, in the form `data16`. None where it lists none, or isn't there. Files count
-/// from 0. It takes no memory, and passes the files before it, unless none of them can list a sum.
+/// from 0. It takes no memory, and passes some files before it, as `path_of` does, unless none of them can list a sum.
 #[tactic(auto, using(crate::proofs::AtLemmas::none_listed))]
 pub fn listed(header: &HeaderView<'_>, file: u64) -> Option<[u8; 16]>
     ensures { result ≡ listed_sum header.now file }
@@ -34,7 +34,7 @@ pub fn listed(header: &HeaderView<'_>, file: u64) -> Option<[u8; 16]>
 }
 
 /// The path of the file, as the crate's `path_of` gives it. None exactly where the file isn't there. Files count from 0.
-/// It passes the files before it, and the directories before its own.
+/// It passes the files before it, and the directories before its own; of a kept header fewer than 64 of each.
 ///
 /// The caller sees to it that the header's tables are usable, which `tables_fault` tests. It refuses only where memory
 /// runs out.
@@ -60,15 +60,15 @@ pub fn path_of(
 }
 
 // What the entry of this number says. None where it isn't there.
-#[tactic(auto, using(crate::proofs::AtLemmas::behind_none, crate::proofs::AtLemmas::behind_more, crate::proofs::AtLemmas::not_there, crate::proofs::AtLemmas::entry_is, crate::proofs::AtLemmas::there))]
+#[tactic(auto, using(crate::proofs::AtLemmas::behind_first, crate::proofs::AtLemmas::behind_more, crate::proofs::AtLemmas::not_there, crate::proofs::AtLemmas::entry_is, crate::proofs::AtLemmas::there))]
 fn entry_at<'t>(table: &'t TableView<'t>, number: u64) -> Option<EntryView<'t>>
     ensures { EntryAt table.entry.now number result }
 {
     if number >= table.count() {
         return None;
     }
-    let mut entries = Entries::of(table);
-    for _ in 0..number {
+    let (first, mut entries) = Entries::before(table, number);
+    for _ in first..number {
         if entries.next_entry().is_none() {
             unreachable!()
         }

@@ -8,7 +8,7 @@ use Rattle.lnt_header.specs.HeaderRules.{HasHeaderNumbers, IsHeader}
 use Rattle.lnt_header.specs.OpRules.{Admits}
 use Rattle.lnt_header.specs.declared.header.HeaderParts.{HeaderParts}
 use Rattle.lnt_header.specs.declared.op.Op.{Op}
-use Rattle.lnt_header.specs.declared.op.Op.TheVariants.{Special, Copy, AdvancePc, AdvanceLine, SetFile, SetColumn, NegateStmt, SetBasicBlock, ConstAddPc, FixedAdvancePc, SetPrologueEnd, SetEpilogueBegin, SetIsa, UnknownStandard, EndSequence, SetAddress, SetDiscriminator, UnknownExtended}
+use Rattle.lnt_header.specs.declared.op.Op.TheVariants.{Special}
 
 numbers_in_format : (h : HeaderParts) (format : Format) (order : Order) → HasHeaderNumbers h → HasHeaderNumbers (in_format h format order)
 numbers_in_format h format order n = record {
@@ -22,28 +22,17 @@ numbers_in_format h format order n = record {
 }
 
 pub header_in_format : (h : HeaderParts) (format : Format) (order : Order) → IsHeader h → IsHeader (in_format h format order)
-header_in_format h format order is = record { numbers = numbers_in_format h format order is.numbers; directories = is.directories; files = is.files }
+header_in_format h format order is = record {
+  numbers = numbers_in_format h format order is.numbers;
+  directories = is.directories;
+  files = is.files;
+}
 
 pub op_in_format : (h : HeaderParts) (format : Format) (order : Order) (op : Op) → Admits h op → Admits (in_format h format order) op
 op_in_format h format order (Special c) a = a
-op_in_format h format order Copy a = a
-op_in_format h format order (AdvancePc n) a = a
-op_in_format h format order (AdvanceLine z) a = a
-op_in_format h format order (SetFile n) a = a
-op_in_format h format order (SetColumn n) a = a
-op_in_format h format order NegateStmt a = a
-op_in_format h format order SetBasicBlock a = a
-op_in_format h format order ConstAddPc a = a
-op_in_format h format order (FixedAdvancePc n) a = a
-op_in_format h format order SetPrologueEnd a = a
-op_in_format h format order SetEpilogueBegin a = a
-op_in_format h format order (SetIsa n) a = a
-op_in_format h format order (UnknownStandard k operands) a = a
-op_in_format h format order EndSequence a = a
-op_in_format h format order (SetAddress address) a = a
-op_in_format h format order (SetDiscriminator n) a = a
-op_in_format h format order (UnknownExtended code bytes) a = a
+op_in_format h format order op a = a
 
-pub ops_in_format : (h : HeaderParts) (format : Format) (order : Order) (ops : List Op) → AllByRecursion (Admits h) ops → AllByRecursion (Admits (in_format h format order)) ops
+pub ops_in_format : (h : HeaderParts) (format : Format) (order : Order) (ops : List Op) → AllByRecursion (Admits h) ops
+    → AllByRecursion (Admits (in_format h format order)) ops
 ops_in_format h format order [] all = tt
 ops_in_format h format order (op ∷ ops) all = (op_in_format h format order op all.0, ops_in_format h format order ops all.1)

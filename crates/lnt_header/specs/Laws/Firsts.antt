@@ -8,7 +8,8 @@ all_push : {X : Type 0} (P : X → Type 0) (xs : List X) (x : X) → AllByRecurs
 all_push P [] x h p = (p, tt)
 all_push P (y ∷ xs) x h p = (h.0, all_push P xs x h.1 p)
 
-pub all_more : {X : Type 0} (P : X → Type 0) (xs : List X) (i : ℕ) (d : X) → i < length xs → AllByRecursion P (take i xs) → P (get_or xs i d) → AllByRecursion P (take (i + 1) xs)
+pub all_more : {X : Type 0} (P : X → Type 0) (xs : List X) (i : ℕ) (d : X) → i < length xs → AllByRecursion P (take i xs)
+    → P (get_or xs i d) → AllByRecursion P (take (i + 1) xs)
 all_more P xs i d lt h p = subst (AllByRecursion P) (sym (take_more xs i d lt)) (all_push P (take i xs) (get_or xs i d) h p)
 
 pub all_taken : {X : Type 0} (P : X → Type 0) (xs : List X) (n : ℕ) → length xs ≤ n → AllByRecursion P (take n xs) → AllByRecursion P xs
@@ -21,10 +22,12 @@ all_at P [] i d lt h = absurd (omega arith)
 all_at P (x ∷ xs) zero d lt h = h.0
 all_at P (x ∷ xs) (suc i) d lt h = all_at P xs i d (omega arith) h.1
 
-pub not_all : {X : Type 0} (P : X → Type 0) (xs : List X) (i : ℕ) (d : X) → i < length xs → (P (get_or xs i d) → ⊥) → AllByRecursion P xs → ⊥
+pub not_all : {X : Type 0} (P : X → Type 0) (xs : List X) (i : ℕ) (d : X) → i < length xs → (P (get_or xs i d) → ⊥) → AllByRecursion P xs
+    → ⊥
 not_all P xs i d lt other h = other (all_at P xs i d lt h)
 
-pub first_not : {X : Type 0} (P : X → Type 0) (xs : List X) (i : ℕ) (d : X) → i < length xs → AllByRecursion P (take i xs) → (P (get_or xs i d) → ⊥) → IsFirstNot P xs i
+pub first_not : {X : Type 0} (P : X → Type 0) (xs : List X) (i : ℕ) (d : X) → i < length xs → AllByRecursion P (take i xs)
+    → (P (get_or xs i d) → ⊥) → IsFirstNot P xs i
 first_not P xs i d lt h other = record {
   before = take i xs;
   value = get_or xs i d;
@@ -41,4 +44,5 @@ all_behind P (x ∷ xs) ys h = all_behind P xs ys h.1
 
 -- one that isn't so, among values that all are
 pub first_is_wrong : {X : Type 0} {P : X → Type 0} {xs : List X} {i : ℕ} → IsFirstNot P xs i → AllByRecursion P xs → ⊥
-first_is_wrong {X} {P} {xs} {i} first h = first.not_so (all_behind P first.before (first.value ∷ first.behind) (subst (AllByRecursion P) first.joined h)).0
+first_is_wrong {X} {P} {xs} {i} first h =
+    first.not_so (all_behind P first.before (first.value ∷ first.behind) (subst (AllByRecursion P) first.joined h)).0

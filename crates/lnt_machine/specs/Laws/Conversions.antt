@@ -12,14 +12,17 @@ use Rattle.lnt_unit.specs.Converting.{unit_in_format}
 use Rattle.lnt_unit.specs.declared.unit.Parts.{Parts}
 use Rattle.lnt_machine.specs.Laws.{SameMatrix}
 use Rattle.lnt_machine.specs.Matrix.{row_of, end_row_of, row_made, rows_behind, rows, sequences_of, joined_rows, done, Runs, IsRunFault}
-use Rattle.lnt_machine.specs.Registers.{advance_of, advances, moved, base, line_increment, line_sum, line, IsLine, part, file, column, isa, discriminator, is_stmt, basic_block, prologue_end, epilogue_begin, registers_after}
+use Rattle.lnt_machine.specs.Registers.{advance_of, advances, moved, base, line_increment, line_sum, line, IsLine, part}
+use Rattle.lnt_machine.specs.Registers.{file, column, isa, discriminator, is_stmt, basic_block, prologue_end}
+use Rattle.lnt_machine.specs.Registers.{epilogue_begin, registers_after}
 use Rattle.lnt_machine.specs.declared.fault.RunFault.{RunFault}
 use Rattle.lnt_machine.specs.declared.fault.RunFault.TheVariants.{LineOutOfRange, OpenSequence, Memory}
 use Rattle.lnt_machine.specs.declared.row.Row.{Row}
 
 -- ---- registers
 
-same_advances : (h : HeaderParts) (format : Format) (order : Order) (back : List Op) → advances (in_format h format order) back ≡ advances h back
+same_advances : (h : HeaderParts) (format : Format) (order : Order) (back : List Op)
+    → advances (in_format h format order) back ≡ advances h back
 same_advances h format order [] = refl
 same_advances h format order (EndSequence ∷ back) = refl
 same_advances h format order (SetAddress a ∷ back) = refl
@@ -35,7 +38,8 @@ same_base h format order (FixedAdvancePc n ∷ back) =
     ∙ ap (λ (by : ℕ). moved h (base h back) by + n) (same_advances h format order back)
 same_base h format order (op ∷ back) = same_base h format order back
 
-same_increment : (h : HeaderParts) (format : Format) (order : Order) (op : Op) → line_increment (in_format h format order) op ≡ line_increment h op
+same_increment : (h : HeaderParts) (format : Format) (order : Order) (op : Op)
+    → line_increment (in_format h format order) op ≡ line_increment h op
 same_increment h format order (AdvanceLine z) = refl
 same_increment h format order (Special c) = refl
 same_increment h format order op = refl
@@ -66,7 +70,8 @@ by_sums h back from by moves = record {
   epilogue_begin = epilogue_begin back;
 }
 
-same_registers : (h : HeaderParts) (format : Format) (order : Order) (back : List Op) → registers_after (in_format h format order) back ≡ registers_after h back
+same_registers : (h : HeaderParts) (format : Format) (order : Order) (back : List Op)
+    → registers_after (in_format h format order) back ≡ registers_after h back
 unfolding by_sums
 same_registers h format order back =
     let other = in_format h format order in
@@ -76,20 +81,29 @@ same_registers h format order back =
 
 -- ---- rows
 
-same_row : (h : HeaderParts) (format : Format) (order : Order) (back : List Op) (op : Op) → row_of (in_format h format order) back op ≡ row_of h back op
+same_row : (h : HeaderParts) (format : Format) (order : Order) (back : List Op) (op : Op)
+    → row_of (in_format h format order) back op ≡ row_of h back op
 same_row h format order back op =
-    ap (λ (r : Row). record r { discriminator = discriminator back; basic_block = basic_block back; prologue_end = prologue_end back; epilogue_begin = epilogue_begin back }) (same_registers h format order (op ∷ back))
+    ap (λ (r : Row). record r {
+      discriminator = discriminator back;
+      basic_block = basic_block back;
+      prologue_end = prologue_end back;
+      epilogue_begin = epilogue_begin back;
+    }) (same_registers h format order (op ∷ back))
 
-same_end_row : (h : HeaderParts) (format : Format) (order : Order) (back : List Op) → end_row_of (in_format h format order) back ≡ end_row_of h back
+same_end_row : (h : HeaderParts) (format : Format) (order : Order) (back : List Op)
+    → end_row_of (in_format h format order) back ≡ end_row_of h back
 same_end_row h format order back = ap (λ (r : Row). record r { end_sequence = true }) (same_registers h format order back)
 
-same_made : (h : HeaderParts) (format : Format) (order : Order) (back : List Op) (op : Op) → row_made (in_format h format order) back op ≡ row_made h back op
+same_made : (h : HeaderParts) (format : Format) (order : Order) (back : List Op) (op : Op)
+    → row_made (in_format h format order) back op ≡ row_made h back op
 same_made h format order back Copy = ap Some (same_row h format order back Copy)
 same_made h format order back (Special c) = ap Some (same_row h format order back (Special c))
 same_made h format order back EndSequence = ap Some (same_end_row h format order back)
 same_made h format order back op = refl
 
-same_rows : (h : HeaderParts) (format : Format) (order : Order) (back ops : List Op) → rows_behind (in_format h format order) back ops ≡ rows_behind h back ops
+same_rows : (h : HeaderParts) (format : Format) (order : Order) (back ops : List Op)
+    → rows_behind (in_format h format order) back ops ≡ rows_behind h back ops
 same_rows h format order back [] = refl
 same_rows h format order back (op ∷ ops) =
     ap (λ (row : Option Row). cons_option row (rows_behind (in_format h format order) (op ∷ back) ops)) (same_made h format order back op)
@@ -101,25 +115,31 @@ unit_rows unit format order = same_rows unit.header format order [] unit.ops
 -- ---- how the program runs
 
 -- the lines of one are those of the other
-lines_over : (h other : HeaderParts) (ops : List Op) (k : ℕ) → ((back : List Op) → line h back ≡ line other back) → ((j : ℕ) → j ≤ k → IsLine (line h (done ops j))) → (j : ℕ) → j ≤ k → IsLine (line other (done ops j))
+lines_over : (h other : HeaderParts) (ops : List Op) (k : ℕ) → ((back : List Op) → line h back ≡ line other back)
+    → ((j : ℕ) → j ≤ k → IsLine (line h (done ops j))) → (j : ℕ) → j ≤ k → IsLine (line other (done ops j))
 lines_over h other ops k same fit j le = subst IsLine (same (done ops j)) (fit j le)
 
 closed_over : (us vs : List Row) → us ≡ vs → joined_rows (sequences_of us) ≡ us → joined_rows (sequences_of vs) ≡ vs
 closed_over us vs same closed = subst (λ (rows : List Row). joined_rows (sequences_of rows) ≡ rows) same closed
 
-runs_over : (h other : HeaderParts) (ops : List Op) → ((back : List Op) → line h back ≡ line other back) → rows_behind h [] ops ≡ rows_behind other [] ops
+runs_over : (h other : HeaderParts) (ops : List Op) → ((back : List Op) → line h back ≡ line other back)
+    → rows_behind h [] ops ≡ rows_behind other [] ops
     → Runs (record { header = h; ops = ops }) → Runs (record { header = other; ops = ops })
 runs_over h other ops lines same runs = record {
   lines = lines_over h other ops (length ops) lines runs.lines;
   closed = closed_over (rows_behind h [] ops) (rows_behind other [] ops) same runs.closed;
 }
 
-fault_over : (h other : HeaderParts) (ops : List Op) → ((back : List Op) → line h back ≡ line other back) → rows_behind h [] ops ≡ rows_behind other [] ops
+fault_over : (h other : HeaderParts) (ops : List Op) → ((back : List Op) → line h back ≡ line other back)
+    → rows_behind h [] ops ≡ rows_behind other [] ops
     → (fault : RunFault) → IsRunFault (record { header = h; ops = ops }) fault → IsRunFault (record { header = other; ops = ops }) fault
 fault_over h other ops lines same (LineOutOfRange k) (within, fit, leaves) =
     (within, lines_over h other ops k lines fit, λ is. leaves (subst IsLine (sym (lines (done ops (k + 1)))) is))
-fault_over h other ops lines same OpenSequence (fit, left) =
-    (lines_over h other ops (length ops) lines fit, λ closed. left (closed_over (rows_behind other [] ops) (rows_behind h [] ops) (sym same) closed))
+fault_over h other ops lines same OpenSequence (fit, left) = (
+  lines_over h other ops (length ops) lines fit,
+  λ closed. left
+      (closed_over (rows_behind other [] ops) (rows_behind h [] ops) (sym same) closed),
+)
 fault_over h other ops lines same Memory is = tt
 
 pub same_matrix : SameMatrix

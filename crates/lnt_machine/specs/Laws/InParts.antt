@@ -36,11 +36,23 @@ start_alike h (op ∷ back) start = absurd start
 
 alike_more : (h : HeaderParts) (one other : List Op) (op : Op) → LeadAlike h one other → LeadAlike h (op ∷ one) (op ∷ other)
 alike_more h one other EndSequence a = record { part_is = refl; base_is = refl; advances_is = refl }
-alike_more h one other (SetAddress n) a = record { part_is = ap (λ (list : List Op). SetAddress n ∷ list) a.part_is; base_is = refl; advances_is = refl }
+alike_more h one other (SetAddress n) a = record {
+  part_is = ap (λ (list : List Op). SetAddress n ∷ list) a.part_is;
+  base_is = refl;
+  advances_is = refl;
+}
 alike_more h one other (FixedAdvancePc n) a =
-    record { part_is = ap (λ (list : List Op). FixedAdvancePc n ∷ list) a.part_is; base_is = rw (a.base_is, a.advances_is) refl; advances_is = refl }
+    record {
+      part_is = ap (λ (list : List Op). FixedAdvancePc n ∷ list) a.part_is;
+      base_is = rw (a.base_is, a.advances_is) refl;
+      advances_is = refl;
+    }
 alike_more h one other op a =
-    record { part_is = ap (λ (list : List Op). op ∷ list) a.part_is; base_is = a.base_is; advances_is = ap (λ (n : ℕ). advance_of h op + n) a.advances_is }
+    record {
+      part_is = ap (λ (list : List Op). op ∷ list) a.part_is;
+      base_is = a.base_is;
+      advances_is = ap (λ (n : ℕ). advance_of h op + n) a.advances_is;
+    }
 
 alike_registers : (h : HeaderParts) (one other : List Op) → LeadAlike h one other → registers_after h one ≡ registers_after h other
 alike_registers h one other a = rw (a.part_is, a.base_is, a.advances_is) refl
@@ -53,7 +65,8 @@ alike_row h one other op a = refl
 
 alike_rows : (h : HeaderParts) (one other ops : List Op) → LeadAlike h one other → rows_behind h one ops ≡ rows_behind h other ops
 alike_rows h one other [] a = refl
-alike_rows h one other (op ∷ ops) a = rw (alike_row h one other op a, alike_rows h (op ∷ one) (op ∷ other) ops (alike_more h one other op a)) refl
+alike_rows h one other (op ∷ ops) a =
+    rw (alike_row h one other op a, alike_rows h (op ∷ one) (op ∷ other) ops (alike_more h one other op a)) refl
 
 -- the rows after whole sequences are those of a program of its own
 pub rows_at_start : (h : HeaderParts) (back ops : List Op) → AtStart back → rows_behind h back ops ≡ rows_of_ops h ops
@@ -61,14 +74,16 @@ rows_at_start h back ops start = alike_rows h back [] ops (start_alike h back st
 
 -- ---- rows of two lists of operations
 
-pub rows_behind-joined : (h : HeaderParts) (back front rest : List Op) → rows_behind h back (front ++ rest) ≡ rows_behind h back front ++ rows_behind h (reverse front ++ back) rest
+pub rows_behind-joined : (h : HeaderParts) (back front rest : List Op)
+    → rows_behind h back (front ++ rest) ≡ rows_behind h back front ++ rows_behind h (reverse front ++ back) rest
 rows_behind-joined h back [] rest = refl
 rows_behind-joined h back (op ∷ front) rest =
     ap (λ (rows : List Row). cons_option (row_made h back op) rows) (rows_behind-joined h (op ∷ back) front rest)
     ∙ cons_option-append (row_made h back op) (rows_behind h (op ∷ back) front) (rows_behind h (reverse front ++ op ∷ back) rest)
     ∙ ap (λ (list : List Op). rows_behind h back (op ∷ front) ++ rows_behind h list rest) (sym (reverse-cons op front back))
 
-pub rows_of_parts : (h : HeaderParts) (front rest : List Op) → AreWhole front → rows_of_ops h (front ++ rest) ≡ rows_of_ops h front ++ rows_of_ops h rest
+pub rows_of_parts : (h : HeaderParts) (front rest : List Op) → AreWhole front
+    → rows_of_ops h (front ++ rest) ≡ rows_of_ops h front ++ rows_of_ops h rest
 rows_of_parts h front rest whole =
     rows_behind-joined h [] front rest
     ∙ ap (λ (list : List Op). rows_of_ops h front ++ rows_behind h list rest) (append-nil (reverse front))
@@ -96,7 +111,8 @@ record IsSome (sequences : List Sequence) : Type 0 where
 onto_some : (row : Row) (sequences : List Sequence) → IsSome sequences → IsSome (onto_first row sequences)
 onto_some row sequences some = rw some.are (record { first = record { rows = row ∷ some.first.rows }; others = some.others; are = refl })
 
-onto_joined : (row : Row) (sequences more : List Sequence) → IsSome sequences → onto_first row (sequences ++ more) ≡ onto_first row sequences ++ more
+onto_joined : (row : Row) (sequences more : List Sequence) → IsSome sequences
+    → onto_first row (sequences ++ more) ≡ onto_first row sequences ++ more
 onto_joined row sequences more some = rw some.are refl
 
 some_last : (row : Row) (t : Bool) → t ≡ true → IsSome (cond t (record { rows = row ∷ [] } ∷ []) [])
@@ -112,22 +128,27 @@ some_closed : (row : Row) (rows : List Row) → AreClosed (row ∷ rows) → IsS
 some_closed row [] closed = some_last row row.end_sequence closed
 some_closed row (next ∷ rows) closed = by_end row.end_sequence (some_closed next rows closed)
   where
-    by_end : (t : Bool) → IsSome (sequences_of (next ∷ rows)) → IsSome (cond t (record { rows = row ∷ [] } ∷ sequences_of (next ∷ rows)) (onto_first row (sequences_of (next ∷ rows))))
+    by_end : (t : Bool) → IsSome (sequences_of (next ∷ rows))
+        → IsSome (cond t (record { rows = row ∷ [] } ∷ sequences_of (next ∷ rows)) (onto_first row (sequences_of (next ∷ rows))))
     by_end true some = record { first = record { rows = row ∷ [] }; others = sequences_of (next ∷ rows); are = refl }
     by_end false some = onto_some row (sequences_of (next ∷ rows)) some
 
-pub sequences_of-joined_rows : (front rest : List Row) → AreClosed front → sequences_of (front ++ rest) ≡ sequences_of front ++ sequences_of rest
+pub sequences_of-joined_rows : (front rest : List Row) → AreClosed front
+    → sequences_of (front ++ rest) ≡ sequences_of front ++ sequences_of rest
 sequences_of-joined_rows [] rest closed = refl
 sequences_of-joined_rows (row ∷ []) rest closed = joined_last row (sequences_of rest) row.end_sequence closed
 sequences_of-joined_rows (row ∷ next ∷ rows) rest closed =
-    ap (λ (sequences : List Sequence). cond row.end_sequence (record { rows = row ∷ [] } ∷ sequences) (onto_first row sequences)) (sequences_of-joined_rows (next ∷ rows) rest closed)
+    ap (λ (sequences : List Sequence). cond row.end_sequence (record { rows = row ∷ [] } ∷ sequences) (onto_first row sequences))
+    (sequences_of-joined_rows (next ∷ rows) rest closed)
     ∙ by_end row.end_sequence
   where
     some : IsSome (sequences_of (next ∷ rows))
     some = some_closed next rows closed
 
-    by_end : (t : Bool) → cond t (record { rows = row ∷ [] } ∷ (sequences_of (next ∷ rows) ++ sequences_of rest)) (onto_first row (sequences_of (next ∷ rows) ++ sequences_of rest))
-        ≡ cond t (record { rows = row ∷ [] } ∷ sequences_of (next ∷ rows)) (onto_first row (sequences_of (next ∷ rows))) ++ sequences_of rest
+    by_end : (t : Bool) → cond t (record { rows = row ∷ [] } ∷ (sequences_of (next ∷ rows) ++ sequences_of rest))
+        (onto_first row (sequences_of (next ∷ rows) ++ sequences_of rest))
+        ≡ cond t (record { rows = row ∷ [] } ∷ sequences_of (next ∷ rows)) (onto_first row (sequences_of (next ∷ rows))) ++ sequences_of
+        rest
     by_end true = refl
     by_end false = onto_joined row (sequences_of (next ∷ rows)) (sequences_of rest) some
 
@@ -145,21 +166,26 @@ whole_closed h ops whole = subst (λ (list : List Op). AreClosed (rows_of_ops h 
 pub sequences_of_parts : (h : HeaderParts) (front rest : List Op) → AreWhole front
     → sequences_of (rows_of_ops h (front ++ rest)) ≡ sequences_of (rows_of_ops h front) ++ sequences_of (rows_of_ops h rest)
 sequences_of_parts h front rest whole =
-    ap sequences_of (rows_of_parts h front rest whole) ∙ sequences_of-joined_rows (rows_of_ops h front) (rows_of_ops h rest) (whole_closed h front whole)
+    ap sequences_of (rows_of_parts h front rest whole)
+    ∙ sequences_of-joined_rows (rows_of_ops h front) (rows_of_ops h rest) (whole_closed h front whole)
 
 same_head : {X : Type 0} {x y : X} {xs ys : List X} → x ∷ xs ≡ y ∷ ys → x ≡ y
 same_head e = cc e
 
 -- the first sequence of rows is that of the rows up to the first end row
-pub first_of : (rows : List Row) (first : Sequence) (others : List Sequence) → sequences_of rows ≡ first ∷ others → first.rows ≡ first_sequence rows
+pub first_of : (rows : List Row) (first : Sequence) (others : List Sequence) → sequences_of rows ≡ first ∷ others
+    → first.rows ≡ first_sequence rows
 first_of [] first others e = absurd (omega (arith, ap length e))
 first_of (row ∷ rows) first others e = by_end row.end_sequence (sequences_of rows) (λ some more is. first_of rows some more is) e
   where
-    by_end : (t : Bool) (behind : List Sequence) → ((some : Sequence) (more : List Sequence) → behind ≡ some ∷ more → some.rows ≡ first_sequence rows)
-        → cond t (record { rows = row ∷ [] } ∷ behind) (onto_first row behind) ≡ first ∷ others → first.rows ≡ row ∷ cond t [] (first_sequence rows)
+    by_end : (t : Bool) (behind : List Sequence)
+        → ((some : Sequence) (more : List Sequence) → behind ≡ some ∷ more → some.rows ≡ first_sequence rows)
+        → cond t (record { rows = row ∷ [] } ∷ behind) (onto_first row behind) ≡ first ∷ others
+        → first.rows ≡ row ∷ cond t [] (first_sequence rows)
     by_end true behind before is = ap (λ (s : Sequence). s.rows) (sym (same_head is))
     by_end false [] before is = absurd (omega (arith, ap length is))
-    by_end false (some ∷ more) before is = ap (λ (s : Sequence). s.rows) (sym (same_head is)) ∙ ap (λ (list : List Row). row ∷ list) (before some more refl)
+    by_end false (some ∷ more) before is = ap (λ (s : Sequence). s.rows) (sym (same_head is))
+        ∙ ap (λ (list : List Row). row ∷ list) (before some more refl)
 
 pub rows_of_whole_parts : RowsOfParts
 rows_of_whole_parts = record { rows = rows_of_parts; sequences = sequences_of_parts }

@@ -10,10 +10,13 @@ use Rattle.lnt_unit.specs.declared.unit.Parts.{Parts}
 use Rattle.lnt_unit.specs.Laws.Numbers.{numbers_of_ops, ops_by_numbers}
 use Rattle.lnt_machine.specs.Laws.Places.{kept_sequence}
 use Rattle.lnt_machine.specs.Laws.{unit_by_numbers, SameByNumbers}
-use Rattle.lnt_machine.specs.Matrix.{row_of, end_row_of, row_made, rows_behind, rows, sequences_of, joined_rows, done, sequences, Runs, IsRunFault}
+use Rattle.lnt_machine.specs.Matrix.{row_of, end_row_of, row_made, rows_behind, rows, sequences_of, joined_rows, done}
+use Rattle.lnt_machine.specs.Matrix.{sequences, Runs, IsRunFault}
 use Rattle.lnt_machine.specs.Parts.{first_sequence}
 use Rattle.lnt_machine.specs.Walking.{HasPlaces, IsFront, IsSequencePlace, Kept, Keeps, LinesAfter, WillGive, SequenceWalk}
-use Rattle.lnt_machine.specs.Registers.{advance_of, advances, moved, base, line_increment, line_sum, line, IsLine, part, file, column, isa, discriminator, is_stmt, basic_block, prologue_end, epilogue_begin, registers_after}
+use Rattle.lnt_machine.specs.Registers.{advance_of, advances, moved, base, line_increment, line_sum, line, IsLine, part}
+use Rattle.lnt_machine.specs.Registers.{file, column, isa, discriminator, is_stmt, basic_block, prologue_end}
+use Rattle.lnt_machine.specs.Registers.{epilogue_begin, registers_after}
 use Rattle.lnt_machine.specs.declared.fault.RunFault.{RunFault}
 use Rattle.lnt_machine.specs.declared.fault.RunFault.TheVariants.{LineOutOfRange, OpenSequence, Memory}
 use Rattle.lnt_machine.specs.declared.row.Row.{Row}
@@ -80,7 +83,12 @@ same_registers h back =
 
 same_row : (h : HeaderParts) (back : List Op) (op : Op) → row_of (without_entries h) back op ≡ row_of h back op
 same_row h back op =
-    ap (λ (r : Row). record r { discriminator = discriminator back; basic_block = basic_block back; prologue_end = prologue_end back; epilogue_begin = epilogue_begin back }) (same_registers h (op ∷ back))
+    ap (λ (r : Row). record r {
+      discriminator = discriminator back;
+      basic_block = basic_block back;
+      prologue_end = prologue_end back;
+      epilogue_begin = epilogue_begin back;
+    }) (same_registers h (op ∷ back))
 
 same_end_row : (h : HeaderParts) (back : List Op) → end_row_of (without_entries h) back ≡ end_row_of h back
 same_end_row h back = ap (λ (r : Row). record r { end_sequence = true }) (same_registers h back)
@@ -104,25 +112,31 @@ unit_rows unit = same_rows unit.header [] unit.ops
 -- ---- how the program runs
 
 -- the lines of one are those of the other
-lines_over : (h other : HeaderParts) (ops : List Op) (k : ℕ) → ((back : List Op) → line h back ≡ line other back) → ((j : ℕ) → j ≤ k → IsLine (line h (done ops j))) → (j : ℕ) → j ≤ k → IsLine (line other (done ops j))
+lines_over : (h other : HeaderParts) (ops : List Op) (k : ℕ) → ((back : List Op) → line h back ≡ line other back)
+    → ((j : ℕ) → j ≤ k → IsLine (line h (done ops j))) → (j : ℕ) → j ≤ k → IsLine (line other (done ops j))
 lines_over h other ops k same fit j le = subst IsLine (same (done ops j)) (fit j le)
 
 closed_over : (us vs : List Row) → us ≡ vs → joined_rows (sequences_of us) ≡ us → joined_rows (sequences_of vs) ≡ vs
 closed_over us vs same closed = subst (λ (rows : List Row). joined_rows (sequences_of rows) ≡ rows) same closed
 
-runs_over : (h other : HeaderParts) (ops : List Op) → ((back : List Op) → line h back ≡ line other back) → rows_behind h [] ops ≡ rows_behind other [] ops
+runs_over : (h other : HeaderParts) (ops : List Op) → ((back : List Op) → line h back ≡ line other back)
+    → rows_behind h [] ops ≡ rows_behind other [] ops
     → Runs (record { header = h; ops = ops }) → Runs (record { header = other; ops = ops })
 runs_over h other ops lines same runs = record {
   lines = lines_over h other ops (length ops) lines runs.lines;
   closed = closed_over (rows_behind h [] ops) (rows_behind other [] ops) same runs.closed;
 }
 
-fault_over : (h other : HeaderParts) (ops : List Op) → ((back : List Op) → line h back ≡ line other back) → rows_behind h [] ops ≡ rows_behind other [] ops
+fault_over : (h other : HeaderParts) (ops : List Op) → ((back : List Op) → line h back ≡ line other back)
+    → rows_behind h [] ops ≡ rows_behind other [] ops
     → (fault : RunFault) → IsRunFault (record { header = h; ops = ops }) fault → IsRunFault (record { header = other; ops = ops }) fault
 fault_over h other ops lines same (LineOutOfRange k) (within, fit, leaves) =
     (within, lines_over h other ops k lines fit, λ is. leaves (subst IsLine (sym (lines (done ops (k + 1)))) is))
-fault_over h other ops lines same OpenSequence (fit, left) =
-    (lines_over h other ops (length ops) lines fit, λ closed. left (closed_over (rows_behind other [] ops) (rows_behind h [] ops) (sym same) closed))
+fault_over h other ops lines same OpenSequence (fit, left) = (
+  lines_over h other ops (length ops) lines fit,
+  λ closed. left
+      (closed_over (rows_behind other [] ops) (rows_behind h [] ops) (sym same) closed),
+)
 fault_over h other ops lines same Memory is = tt
 
 pub same_by_numbers : SameByNumbers
@@ -147,10 +161,12 @@ same_by_numbers = record {
 
 lines_by_numbers : (h : HeaderParts) (back later : List Op) → LinesAfter h back later → LinesAfter (without_entries h) back later
 lines_by_numbers h back [] lines = tt
-lines_by_numbers h back (op ∷ later) lines = (subst IsLine (sym (same_line h (op ∷ back))) lines.0, lines_by_numbers h (op ∷ back) later lines.1)
+lines_by_numbers h back (op ∷ later) lines =
+    (subst IsLine (sym (same_line h (op ∷ back))) lines.0, lines_by_numbers h (op ∷ back) later lines.1)
 
 -- a place by the header is one by its numbers
-place_by_numbers : (h : HeaderParts) (program : List ℕ) (earlier later : List Op) (place : ℕ) → IsSequencePlace h program earlier later place → IsSequencePlace (without_entries h) program earlier later place
+place_by_numbers : (h : HeaderParts) (program : List ℕ) (earlier later : List Op) (place : ℕ)
+    → IsSequencePlace h program earlier later place → IsSequencePlace (without_entries h) program earlier later place
 place_by_numbers h program earlier later place is =
     let at = is.place_is in
     record {
@@ -167,21 +183,25 @@ place_by_numbers h program earlier later place is =
     }
 
 -- the rows of the sequence with an index, where a walk by the header's numbers gives those from its place on
-pub sequence_by_numbers : (kept : Kept) (numbers : HeaderParts) (unit : Parts) (index place : ℕ) (d : Sequence) (walk : SequenceWalk) → numbers ≡ without_entries kept.header → Keeps kept unit
+pub sequence_by_numbers : (kept : Kept) (numbers : HeaderParts) (unit : Parts) (index place : ℕ) (d : Sequence) (walk : SequenceWalk)
+    → numbers ≡ without_entries kept.header → Keeps kept unit
     → index < length kept.places → slice_index_or kept.places index 0 ≡ place
-    → ((earlier later : List Op) → IsSequencePlace numbers kept.program earlier later place → WillGive (first_sequence (rows_behind numbers (reverse earlier) later)) walk)
+    → ((earlier later : List Op) → IsSequencePlace numbers kept.program earlier later place
+    → WillGive (first_sequence (rows_behind numbers (reverse earlier) later)) walk)
     → WillGive (slice_index_or (sequences unit) index d).rows walk
 sequence_by_numbers kept numbers unit index place d walk same keeps few at gives =
     let h = kept.header in
     kept_sequence kept unit index place d walk keeps few at (λ earlier later is.
     let begins : IsSequencePlace numbers kept.program earlier later place =
-    subst (λ (n : HeaderParts). IsSequencePlace n kept.program earlier later place) (sym same) (place_by_numbers h kept.program earlier later place is) in
+    subst (λ (n : HeaderParts). IsSequencePlace n kept.program earlier later place) (sym same)
+    (place_by_numbers h kept.program earlier later place is) in
     let rows_are : rows_behind numbers (reverse earlier) later ≡ rows_behind h (reverse earlier) later =
     ap (λ (n : HeaderParts). rows_behind n (reverse earlier) later) same ∙ same_rows h (reverse earlier) later in
     subst (λ (rows : List Row). WillGive (first_sequence rows) walk) rows_are (gives earlier later begins))
 
 -- a front by the header's numbers is one by the header
-front_by_numbers : (h : HeaderParts) (program : List ℕ) (index place : ℕ) → IsFront (without_entries h) program index place → IsFront h program index place
+front_by_numbers : (h : HeaderParts) (program : List ℕ) (index place : ℕ) → IsFront (without_entries h) program index place
+    → IsFront h program index place
 front_by_numbers h program index place is = record {
   earlier = is.earlier;
   front = is.front;
@@ -194,7 +214,8 @@ front_by_numbers h program index place is = record {
 }
 
 -- places that were found by the header's numbers are those of the header
-pub places_by_numbers : (h : HeaderParts) (program : List ℕ) (count : ℕ) (places : List ℕ) (place : ℕ) → HasPlaces (without_entries h) program count places place → HasPlaces h program count places place
+pub places_by_numbers : (h : HeaderParts) (program : List ℕ) (count : ℕ) (places : List ℕ) (place : ℕ)
+    → HasPlaces (without_entries h) program count places place → HasPlaces h program count places place
 places_by_numbers h program count places place has = record {
   count_is = has.count_is;
   each = λ k d few. front_by_numbers h program k (slice_index_or places k d) (has.each k d few);

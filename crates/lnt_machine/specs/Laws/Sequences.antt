@@ -18,7 +18,7 @@ pub record IsEnded (sequence : Sequence) : Type 0 where
   pub body_open : AreOpen body
   pub ends : last.end_sequence ≡ true
 
--- The rows are those of sequences, and rows behind the last end row.
+-- The rows are those of sequences, and rows after the last end row.
 pub record IsCut (rows : List Row) (ended : List Sequence) (left : List Row) : Type 0 where
   pub joined : rows ≡ joined_rows ended ++ left
   pub each : AllByRecursion IsEnded ended
@@ -31,12 +31,16 @@ all-append : {X : Type 0} (P : X → Type 0) (xs : List X) (x : X) → AllByRecu
 all-append P [] x all here = (here, tt)
 all-append P (y ∷ xs) x all here = (all.0, all-append P xs x all.1 here)
 
-joined_rows-append : (ended : List Sequence) (sequence : Sequence) → joined_rows (ended ++ sequence ∷ []) ≡ joined_rows ended ++ sequence.rows
+joined_rows-append : (ended : List Sequence) (sequence : Sequence)
+    → joined_rows (ended ++ sequence ∷ []) ≡ joined_rows ended ++ sequence.rows
 joined_rows-append [] sequence = append-nil sequence.rows
-joined_rows-append (first ∷ ended) sequence = ap (λ (rows : List Row). first.rows ++ rows) (joined_rows-append ended sequence) ∙ sym (append_assoc first.rows (joined_rows ended) sequence.rows)
+joined_rows-append (first ∷ ended) sequence =
+    ap (λ (rows : List Row). first.rows ++ rows) (joined_rows-append ended sequence)
+    ∙ sym (append_assoc first.rows (joined_rows ended) sequence.rows)
 
 -- one more row that doesn't end its sequence
-pub cut_more : (rows left : List Row) (ended : List Sequence) (row : Row) → IsCut rows ended left → row.end_sequence ≡ false → IsCut (rows ++ row ∷ []) ended (left ++ row ∷ [])
+pub cut_more : (rows left : List Row) (ended : List Sequence) (row : Row) → IsCut rows ended left → row.end_sequence ≡ false
+    → IsCut (rows ++ row ∷ []) ended (left ++ row ∷ [])
 cut_more rows left ended row cut goes_on = record {
   joined = ap (λ (list : List Row). list ++ row ∷ []) cut.joined ∙ append_assoc (joined_rows ended) left (row ∷ []);
   each = cut.each;
@@ -51,7 +55,8 @@ cut_end rows left ended row cut ends =
     record {
       joined = ap (λ (list : List Row). list ++ row ∷ []) cut.joined ∙ append_assoc (joined_rows ended) left (row ∷ [])
           ∙ sym (joined_rows-append ended sequence) ∙ sym (append-nil (joined_rows (ended ++ sequence ∷ [])));
-      each = all-append IsEnded ended sequence cut.each (record { body = left; last = row; rows_are = refl; body_open = cut.behind; ends = ends });
+      each = all-append IsEnded ended sequence cut.each
+          (record { body = left; last = row; rows_are = refl; body_open = cut.behind; ends = ends });
       behind = tt;
     }
 
@@ -66,7 +71,8 @@ sequences_of-ended : (body more : List Row) (last : Row) → AreOpen body → la
 sequences_of-ended [] more last o ends = rw ends refl
 sequences_of-ended (row ∷ body) more last o ends = rw (o.0, sequences_of-ended body more last o.1 ends) refl
 
-sequences_of-joined : (ended : List Sequence) (left : List Row) → AllByRecursion IsEnded ended → AreOpen left → sequences_of (joined_rows ended ++ left) ≡ ended
+sequences_of-joined : (ended : List Sequence) (left : List Row) → AllByRecursion IsEnded ended → AreOpen left
+    → sequences_of (joined_rows ended ++ left) ≡ ended
 sequences_of-joined [] left each behind = sequences_of-open left behind
 sequences_of-joined (sequence ∷ ended) left (first, each) behind =
     let more = joined_rows ended ++ left in
@@ -74,18 +80,21 @@ sequences_of-joined (sequence ∷ ended) left (first, each) behind =
     ap (λ (rows : List Row). (rows ++ joined_rows ended) ++ left) first.rows_are
     ∙ append_assoc (first.body ++ first.last ∷ []) (joined_rows ended) left ∙ append_assoc first.body (first.last ∷ []) more in
     ap sequences_of parts ∙ sequences_of-ended first.body more first.last first.body_open first.ends
-    ∙ ap (λ (sequences : List Sequence). record { rows = first.body ++ first.last ∷ [] } ∷ sequences) (sequences_of-joined ended left each behind)
+    ∙ ap (λ (sequences : List Sequence). record { rows = first.body ++ first.last ∷ [] } ∷ sequences)
+    (sequences_of-joined ended left each behind)
     ∙ ap (λ (rows : List Row). record { rows = rows } ∷ ended) (sym first.rows_are)
 
 pub cut_is : (rows left : List Row) (ended : List Sequence) → IsCut rows ended left → sequences_of rows ≡ ended
 cut_is rows left ended cut = ap sequences_of cut.joined ∙ sequences_of-joined ended left cut.each cut.behind
 
--- no row is left behind the last end row
+-- no row is left after the last end row
 pub cut_closed : (rows : List Row) (ended : List Sequence) → IsCut rows ended [] → joined_rows (sequences_of rows) ≡ rows
 cut_closed rows ended cut = ap joined_rows (cut_is rows [] ended cut) ∙ sym (cut.joined ∙ append-nil (joined_rows ended))
 
 -- a row is left
-pub cut_open : (rows left : List Row) (ended : List Sequence) (row : Row) → IsCut rows ended (row ∷ left) → joined_rows (sequences_of rows) ≡ rows → ⊥
+pub cut_open : (rows left : List Row) (ended : List Sequence) (row : Row) → IsCut rows ended (row ∷ left)
+    → joined_rows (sequences_of rows) ≡ rows → ⊥
 cut_open rows left ended row cut closed =
-    let all : joined_rows ended ≡ joined_rows ended ++ row ∷ left = ap joined_rows (sym (cut_is rows (row ∷ left) ended cut)) ∙ closed ∙ cut.joined in
+    let all : joined_rows ended ≡ joined_rows ended ++ row ∷ left = ap joined_rows (sym (cut_is rows (row ∷ left) ended cut)) ∙ closed
+    ∙ cut.joined in
     omega (arith, ap length all, length-append (joined_rows ended) (row ∷ left))

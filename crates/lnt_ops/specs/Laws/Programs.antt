@@ -1,5 +1,6 @@
--- Operations that were read one behind another. These are proofs: nothing here is to be believed.
-use Rattle.std.proofs.Common.{◌≡◌, ℕ, ◌<◌, List, [], ◌∷◌, ◌++◌, length, refl, sym, ap, subst, ◌∙◌, append_assoc, add-zero, arith, true, false, ◌⊎◌, inl, inr}
+-- Operations that were read one after another. These are proofs: nothing here is to be believed.
+use Rattle.std.proofs.Common.{◌≡◌, ℕ, ◌<◌, List, [], ◌∷◌, ◌++◌, length, refl, sym, ap, subst, ◌∙◌, append_assoc}
+use Rattle.std.proofs.Common.{add-zero, arith, true, false, ◌⊎◌, inl, inr}
 use Rattle.std.proofs.lemmas.Bool.{true≢false}
 use Rattle.std.proofs.lemmas.List.{length-append, append-nil}
 use Rattle.std.specs.List.{AllByRecursion}
@@ -10,7 +11,7 @@ use Rattle.lnt_wire.proofs.CodeLaws.{peel}
 use Rattle.lnt_wire.specs.Reading.{Refuses}
 use Rattle.lnt_header.specs.declared.header.HeaderParts.{HeaderParts}
 use Rattle.lnt_header.specs.declared.op.Op.{Op}
-use Rattle.lnt_header.specs.declared.view.OpView.{OpView}
+use Rattle.lnt_header.specs.declared.op.OpView.{OpView}
 use Rattle.lnt_header.specs.HeaderRules.{IsHeader}
 use Rattle.lnt_header.specs.Joins.{Each}
 use Rattle.lnt_header.specs.Laws.Readers.{each_more}
@@ -25,11 +26,13 @@ use Rattle.lnt_ops.specs.OpReading.{GivesOp}
 use Rattle.lnt_ops.specs.Programs.{BrokenProgram, OpsSoFar, IsView}
 use Rattle.lnt_ops.specs.Walks.{Walk, Ends, Steps, Fails}
 
--- no list fills the bytes, where behind some values no other follows
-pub none_filled : {X : Type 0} (P : X → List ℕ → Type 0) (us : List X) (x rest bytes : List ℕ) → IsCode P → Each P us x → 0 < length rest → bytes ≡ x ++ rest → NoneSpelled P rest
+-- no list fills the bytes, where after some values no other follows
+pub none_filled : {X : Type 0} (P : X → List ℕ → Type 0) (us : List X) (x rest bytes : List ℕ) → IsCode P → Each P us x → 0 < length rest
+    → bytes ≡ x ++ rest → NoneSpelled P rest
     → (vs : List X) → Each P vs bytes → ⊥
 none_filled P us x rest bytes code p some whole none [] q = omega (arith, some, ap length whole, ap length q, length-append x rest)
-none_filled P [] x rest bytes code p some whole none (v ∷ vs) q = none v q.front q.back q.first (sym q.joined ∙ whole ∙ ap (λ (z : List ℕ). z ++ rest) p)
+none_filled P [] x rest bytes code p some whole none (v ∷ vs) q =
+    none v q.front q.back q.first (sym q.joined ∙ whole ∙ ap (λ (z : List ℕ). z ++ rest) p)
 none_filled P (u ∷ us) x rest bytes code p some whole none (v ∷ vs) q =
     let one = peel code v u bytes x [] rest q p (append-nil bytes ∙ whole) in
     none_filled P us p.back rest q.back code p.second some (sym (append-nil q.back) ∙ one.behind) none vs q.second
@@ -38,11 +41,13 @@ all_more : (h : HeaderParts) (us : List Op) (u : Op) → AllByRecursion (Admits 
 all_more h [] u all is = (is, tt)
 all_more h (v ∷ us) u all is = (all.0, all_more h us u all.1 is)
 
-pub ops_none : (h : HeaderParts) (place : ℕ) (program : List ℕ) (at : At) → at.place ≡ place → at.rest ≡ program → at.order ≡ h.order → OpsSoFar h place program [] at
+pub ops_none : (h : HeaderParts) (place : ℕ) (program : List ℕ) (at : At) → at.place ≡ place → at.rest ≡ program → at.order ≡ h.order
+    → OpsSoFar h place program [] at
 ops_none h place program at placed rest order =
     record { front = []; spelled = refl; admitted = tt; whole = sym rest; place_is = placed ∙ sym (add-zero place); order_is = order }
 
-pub ops_more : (h : HeaderParts) (place : ℕ) (program : List ℕ) (ops : List Op) (op : Op) (view : OpView) (at new : At) → OpsSoFar h place program ops at → GivesOp h view at new → StandsFor view op
+pub ops_more : (h : HeaderParts) (place : ℕ) (program : List ℕ) (ops : List Op) (op : Op) (view : OpView) (at new : At)
+    → OpsSoFar h place program ops at → GivesOp h view at new → StandsFor view op
     → OpsSoFar h place program (ops ++ op ∷ []) new
 ops_more h place program ops op view at new so g stands =
     let r = g.reads in
@@ -61,21 +66,25 @@ is_view h view at new g = record { op = g.op; stands = g.stands }
 
 -- each operation shortens the rest
 pub op_long : (h : HeaderParts) (view : OpView) (at new : At) → GivesOp h view at new → length new.rest < length at.rest
-op_long h view at new g = let r = g.reads in omega (arith, op_is_some h g.op r.spelling r.spelled, ap length r.whole, length-append r.spelling new.rest)
+op_long h view at new g =
+    let r = g.reads in omega (arith, op_is_some h g.op r.spelling r.spelled, ap length r.whole, length-append r.spelling new.rest)
 
 nothing : (xs : List ℕ) → length xs ≡ 0 → xs ≡ []
 nothing [] e = refl
 nothing (x ∷ xs) e = absurd (omega arith)
 
-pub ops_spelled : (h : HeaderParts) (place : ℕ) (program : List ℕ) (ops : List Op) (at : At) → OpsSoFar h place program ops at → length at.rest ≡ 0 → Each (OpBytes h) ops program
+pub ops_spelled : (h : HeaderParts) (place : ℕ) (program : List ℕ) (ops : List Op) (at : At) → OpsSoFar h place program ops at
+    → length at.rest ≡ 0 → Each (OpBytes h) ops program
 ops_spelled h place program ops at so none =
     let whole : program ≡ so.front = so.whole ∙ ap (λ (z : List ℕ). so.front ++ z) (nothing at.rest none) ∙ append-nil so.front in
     subst (Each (OpBytes h) ops) (sym whole) so.spelled
 
-pub ops_admitted : (h : HeaderParts) (place : ℕ) (program : List ℕ) (ops : List Op) (at : At) → OpsSoFar h place program ops at → AllByRecursion (Admits h) ops
+pub ops_admitted : (h : HeaderParts) (place : ℕ) (program : List ℕ) (ops : List Op) (at : At) → OpsSoFar h place program ops at
+    → AllByRecursion (Admits h) ops
 ops_admitted h place program ops at so = so.admitted
 
-pub ops_broken : (h : HeaderParts) (place : ℕ) (program : List ℕ) (ops : List Op) (at : At) (fault : Fault) → IsHeader h → OpsSoFar h place program ops at → 0 < length at.rest
+pub ops_broken : (h : HeaderParts) (place : ℕ) (program : List ℕ) (ops : List Op) (at : At) (fault : Fault) → IsHeader h
+    → OpsSoFar h place program ops at → 0 < length at.rest
     → Refuses (IsFirstFault h) (OpBytes h) at fault → BrokenProgram h place program fault
 ops_broken h place program ops at fault header so some r = record {
   before = so.front ++ r.before;
@@ -89,21 +98,25 @@ ops_broken h place program ops at fault header so some r = record {
 
 -- ---- walks
 
-pub walk_more : (h : HeaderParts) (place : ℕ) (program : List ℕ) (ops : List Op) (op : Op) (view : OpView) (old new : Walk) → old.header ≡ h → OpsSoFar h place program ops old.at → Steps view old new → StandsFor view op
+pub walk_more : (h : HeaderParts) (place : ℕ) (program : List ℕ) (ops : List Op) (op : Op) (view : OpView) (old new : Walk) → old.header ≡ h
+    → OpsSoFar h place program ops old.at → Steps view old new → StandsFor view op
     → (new.header ≡ h) × (new.failed ≡ false) × OpsSoFar h place program (ops ++ op ∷ []) new.at
 walk_more h place program ops op view old new same so s stands =
     let gives : GivesOp h view old.at new.at = subst (λ (g : HeaderParts). GivesOp g view old.at new.at) same s.gives in
     (s.header_is ∙ same, s.goes_on, ops_more h place program ops op view old.at new.at so gives stands)
 
-pub walk_broken : (h : HeaderParts) (place : ℕ) (program : List ℕ) (ops : List Op) (fault : Fault) (old new : Walk) → IsHeader h → old.header ≡ h → OpsSoFar h place program ops old.at → Fails fault old new
+pub walk_broken : (h : HeaderParts) (place : ℕ) (program : List ℕ) (ops : List Op) (fault : Fault) (old new : Walk) → IsHeader h
+    → old.header ≡ h → OpsSoFar h place program ops old.at → Fails fault old new
     → BrokenProgram h place program fault
 walk_broken h place program ops fault old new header same so f =
-    let refuses : Refuses (IsFirstFault h) (OpBytes h) old.at fault = subst (λ (g : HeaderParts). Refuses (IsFirstFault g) (OpBytes g) old.at fault) same f.first in
+    let refuses : Refuses (IsFirstFault h) (OpBytes h) old.at fault = subst
+    (λ (g : HeaderParts). Refuses (IsFirstFault g) (OpBytes g) old.at fault) same f.first in
     ops_broken h place program ops old.at fault header so f.some refuses
 
 at_end : (walk : Walk) → walk.failed ≡ false → (walk.failed ≡ true) ⊎ (length walk.at.rest ≡ 0) → length walk.at.rest ≡ 0
 at_end walk going (inl failed) = absurd (true≢false (sym failed ∙ going))
 at_end walk going (inr empty) = empty
 
-pub walk_done : (h : HeaderParts) (place : ℕ) (program : List ℕ) (ops : List Op) (old new : Walk) → old.failed ≡ false → OpsSoFar h place program ops old.at → Ends old new → Each (OpBytes h) ops program
+pub walk_done : (h : HeaderParts) (place : ℕ) (program : List ℕ) (ops : List Op) (old new : Walk) → old.failed ≡ false
+    → OpsSoFar h place program ops old.at → Ends old new → Each (OpBytes h) ops program
 walk_done h place program ops old new going so e = ops_spelled h place program ops old.at so (at_end old going e.ended)

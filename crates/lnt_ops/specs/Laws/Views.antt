@@ -4,11 +4,11 @@ use Rattle.lnt_wire.proofs.CodeLaws.{unsigned_code}
 use Rattle.lnt_wire.specs.Leb128.{IsLeb, UnsignedLeb}
 use Rattle.lnt_header.specs.declared.op.Op.{Op}
 use Rattle.lnt_header.specs.declared.op.Op.TheVariants as ops
-use Rattle.lnt_header.specs.declared.view.OpView.{OpView}
-use Rattle.lnt_header.specs.declared.view.OpView.TheVariants as views
-use Rattle.lnt_header.specs.declared.view.Operands.{Operands}
-use Rattle.lnt_header.specs.declared.view.Operands.TheVariants.{Spelled, Listed}
-use Rattle.lnt_header.specs.OpViews.{AreOperands, StandsFor}
+use Rattle.lnt_header.specs.declared.op.OpView.{OpView}
+use Rattle.lnt_header.specs.declared.op.OpView.TheVariants as views
+use Rattle.lnt_header.specs.declared.op.Operands.{Operands}
+use Rattle.lnt_header.specs.declared.op.Operands.TheVariants.{Spelled, Listed}
+use Rattle.lnt_header.specs.OpViews.{AreOperands, op_of, operands_of, StandsFor}
 use Rattle.lnt_ops.specs.Laws.Ops.{same_whole}
 
 some_leb : (bytes : List ℕ) → IsLeb bytes → 0 < length bytes
@@ -22,32 +22,6 @@ leb_is_some n bytes p = some_leb bytes p.shape
 same_operands : (operands : Operands) (us vs : List ℕ) → AreOperands operands us → AreOperands operands vs → us ≡ vs
 same_operands (Spelled bytes) us vs p q = same_whole unsigned_code leb_is_some us vs bytes.now bytes.now p q refl
 same_operands (Listed listed) us vs p q = sym p ∙ q
-
--- the operation of a view, with these operands if it is an unknown standard one
-abbrev pub op_of : OpView → List ℕ → Op
-op_of (views.Special c) operands = ops.Special c
-op_of views.Copy operands = ops.Copy
-op_of (views.AdvancePc n) operands = ops.AdvancePc n
-op_of (views.AdvanceLine z) operands = ops.AdvanceLine z
-op_of (views.SetFile n) operands = ops.SetFile n
-op_of (views.SetColumn n) operands = ops.SetColumn n
-op_of views.NegateStmt operands = ops.NegateStmt
-op_of views.SetBasicBlock operands = ops.SetBasicBlock
-op_of views.ConstAddPc operands = ops.ConstAddPc
-op_of (views.FixedAdvancePc n) operands = ops.FixedAdvancePc n
-op_of views.SetPrologueEnd operands = ops.SetPrologueEnd
-op_of views.SetEpilogueBegin operands = ops.SetEpilogueBegin
-op_of (views.SetIsa n) operands = ops.SetIsa n
-op_of (views.UnknownStandard k spelled) operands = ops.UnknownStandard k operands
-op_of views.EndSequence operands = ops.EndSequence
-op_of (views.SetAddress n) operands = ops.SetAddress n
-op_of (views.SetDiscriminator n) operands = ops.SetDiscriminator n
-op_of (views.UnknownExtended c bytes) operands = ops.UnknownExtended c bytes.now
-
--- the operands of an unknown standard operation
-abbrev pub operands_of : Op → List ℕ
-operands_of (ops.UnknownStandard k operands) = operands
-operands_of op = []
 
 pub is_op_of : (view : OpView) (op : Op) → StandsFor view op → op ≡ op_of view (operands_of op)
 is_op_of (views.Special c) (ops.Special d) p = ap ops.Special (sym p)
@@ -67,11 +41,13 @@ is_op_of (views.UnknownStandard j spelled) (ops.UnknownStandard k operands) p = 
 is_op_of views.EndSequence ops.EndSequence p = refl
 is_op_of (views.SetAddress m) (ops.SetAddress n) p = ap ops.SetAddress (sym p)
 is_op_of (views.SetDiscriminator m) (ops.SetDiscriminator n) p = ap ops.SetDiscriminator (sym p)
-is_op_of (views.UnknownExtended c bytes) (ops.UnknownExtended d operand) p = ap (λ (i : ℕ). ops.UnknownExtended i operand) (sym p.0) ∙ ap (ops.UnknownExtended c) (sym p.1)
+is_op_of (views.UnknownExtended c bytes) (ops.UnknownExtended d operand) p =
+    ap (λ (i : ℕ). ops.UnknownExtended i operand) (sym p.0) ∙ ap (ops.UnknownExtended c) (sym p.1)
 is_op_of view op p = absurd p
 
 same_listed : (view : OpView) (u v : Op) → StandsFor view u → StandsFor view v → op_of view (operands_of u) ≡ op_of view (operands_of v)
-same_listed (views.UnknownStandard i spelled) (ops.UnknownStandard j us) (ops.UnknownStandard k vs) p q = ap (ops.UnknownStandard i) (same_operands spelled us vs p.1 q.1)
+same_listed (views.UnknownStandard i spelled) (ops.UnknownStandard j us) (ops.UnknownStandard k vs) p q =
+    ap (ops.UnknownStandard i) (same_operands spelled us vs p.1 q.1)
 same_listed (views.UnknownStandard i spelled) (ops.UnknownStandard j us) v p q = absurd q
 same_listed (views.UnknownStandard i spelled) u v p q = absurd p
 same_listed view u v p q = refl

@@ -1,9 +1,11 @@
 -- The kept sequences of a section. These are proofs: nothing here is to be believed.
-use Rattle.std.proofs.Common.{◌≡◌, ◌≢◌, ℕ, suc, ◌+◌, ◌<◌, Bool, true, false, not, ◌&&◌, ◌||◌, cond, List, [], ◌∷◌, ◌++◌, Option, Some, None, refl, sym, ap, ◌∙◌, arith, get_or}
+use Rattle.std.proofs.Common.{◌≡◌, ◌≢◌, ℕ, suc, ◌+◌, ◌<◌, Bool, true, false, not, ◌&&◌, ◌||◌, cond, List, [], ◌∷◌, ◌++◌}
+use Rattle.std.proofs.Common.{Option, Some, None, refl, sym, ap, ◌∙◌, arith, get_or}
 use Rattle.std.specs.List.{All, AllPairs, Contains, filter, list_any}
 use Rattle.std.proofs.lemmas.Bool.{true≢false}
 use Rattle.std.proofs.lemmas.Bool.Decides.{nat_tests}
-use Rattle.std.proofs.lemmas.List.Elements.{All-append, All-contains, All-contains_itself, All-cons, All-filter, All-nil, All-weaker, filter_passes}
+use Rattle.std.proofs.lemmas.List.Elements.{All-append, All-contains, All-contains_itself, All-cons, All-filter}
+use Rattle.std.proofs.lemmas.List.Elements.{All-nil, All-weaker, filter_passes}
 use Rattle.std.proofs.lemmas.List.Folds.{list_any-append, list_any_at, list_any_none}
 use Rattle.std.proofs.lemmas.List.Kept.{AllPairs-filter}
 use Rattle.lnt_unit.specs.declared.unit.Parts.{Parts}
@@ -15,7 +17,8 @@ use Rattle.lnt_spans.specs.Laws.EachTwo.{pairs_append, pairs_cons, pairs_head, p
 use Rattle.lnt_machine.specs.declared.row.Sequence.{Sequence}
 use Rattle.lnt_machine.specs.Matrix.{rows, sequences_of}
 use Rattle.lnt_rows.specs.Rules.{AreDistinct, AreOrdered}
-use Rattle.lnt_rows.specs.Sequences.{ends_alike, first_row, hold_alike, is_copy, is_live, is_same, kept_of, last_row, live_in, live_sequences, Placed, placed_in, position_of, stands_before}
+use Rattle.lnt_rows.specs.Sequences.{ends_alike, first_row, hold_alike, is_copy, is_live, is_same, kept_of, last_row}
+use Rattle.lnt_rows.specs.Sequences.{live_in, live_sequences, Placed, placed_in, position_of, stands_before}
 use Rattle.lnt_rows.specs.Laws.Found.{of_filter}
 use Rattle.lnt_rows.specs.Laws.Units.{all_from, all_of, IsFrom, IsOf}
 use Rattle.lnt_rows.specs.Laws.Walks.{placed_from}
@@ -50,10 +53,12 @@ same_back p q h = grind (arith, nat_tests)
 below_back : (p q r s : Position) → is_below p q ≡ true → is_same p r ≡ true → is_same q s ≡ true → is_below r s ≡ true
 below_back p q r s h k l = grind (arith, nat_tests)
 
-positions_back : (p q r s : Position) → (is_below p q && (is_same p r && is_same q s)) ≡ true → (is_below r s && (is_same r p && is_same s q)) ≡ true
+positions_back : (p q r s : Position) → (is_below p q && (is_same p r && is_same q s)) ≡ true
+    → (is_below r s && (is_same r p && is_same s q)) ≡ true
 positions_back p q r s h = by_parts (is_below p q) (is_same p r) (is_same q s) refl refl refl h
   where
-    by_parts : (a b c : Bool) → is_below p q ≡ a → is_same p r ≡ b → is_same q s ≡ c → (a && (b && c)) ≡ true → (is_below r s && (is_same r p && is_same s q)) ≡ true
+    by_parts : (a b c : Bool) → is_below p q ≡ a → is_same p r ≡ b → is_same q s ≡ c → (a && (b && c)) ≡ true
+        → (is_below r s && (is_same r p && is_same s q)) ≡ true
     by_parts true true true e f g h = rw (below_back p q r s e f g, same_back p r f, same_back q s g) refl
     by_parts true true false e f g h = absurd cc
     by_parts true false c e f g h = absurd cc
@@ -91,11 +96,13 @@ abbrev makes_copy : Placed → Placed → Bool
 makes_copy placed earlier = stands_before earlier.id placed.id && hold_alike placed.rows earlier.rows
 
 -- what stands before one that is no copy isn't like it
-unlike_before : (ss : List Placed) (s t : Placed) → Contains ss t → is_copy ss s ≡ false → stands_before t.id s.id ≡ true → hold_alike s.rows t.rows ≡ false
+unlike_before : (ss : List Placed) (s t : Placed) → Contains ss t → is_copy ss s ≡ false → stands_before t.id s.id ≡ true
+    → hold_alike s.rows t.rows ≡ false
 unlike_before ss s t c none before = by_test (hold_alike s.rows t.rows) refl
   where
     by_test : (b : Bool) → hold_alike s.rows t.rows ≡ b → hold_alike s.rows t.rows ≡ false
-    by_test true e = absurd (true≢false (sym (list_any_at (makes_copy s) ss c.0 t c.1 (ap (makes_copy s) c.2 ∙ rw (before, e) refl)) ∙ none))
+    by_test true e = absurd (true≢false
+        (sym (list_any_at (makes_copy s) ss c.0 t c.1 (ap (makes_copy s) c.2 ∙ rw (before, e) refl)) ∙ none))
     by_test false e = e
 
 record IsKept (ss : List Placed) (s : Placed) : Type 0 where
@@ -114,14 +121,19 @@ unlike_kept ss s t h k ne = by_test (stands_before s.id t.id) refl
     by_test false e = unlike_before ss s t k.contained h.no_copy (one_before s.id t.id ne e)
 
 -- no two of different ids that are kept are alike
-pub kept_differ : (ss : List Placed) → AreDistinct ss → AllPairs (λ (s : Placed) (t : Placed). hold_alike s.rows t.rows ≡ false) (kept_of true ss)
+pub kept_differ : (ss : List Placed) → AreDistinct ss
+    → AllPairs (λ (s : Placed) (t : Placed). hold_alike s.rows t.rows ≡ false) (kept_of true ss)
 kept_differ ss distinct =
     let test : Placed → Bool = λ s. not (is_copy ss s) in
     let ids = kept_distinct true ss distinct in
     let within : All (Contains ss) (filter test ss) = All-filter test (Contains ss) ss (All-contains_itself ss) in
     let passes : All (λ (s : Placed). test s ≡ true) (filter test ss) = filter_passes test ss in
-    let each : All (IsKept ss) (filter test ss) = λ k d l. record { contained = within k d l; no_copy = not_true (is_copy ss (get_or (filter test ss) k d)) (passes k d l) } in
-    λ i j d lt l. unlike_kept ss (get_or (filter test ss) i d) (get_or (filter test ss) j d) (each i d (omega arith)) (each j d l) (ids i j d lt l)
+    let each : All (IsKept ss) (filter test ss) = λ k d l. record {
+      contained = within k d l;
+      no_copy = not_true (is_copy ss (get_or (filter test ss) k d)) (passes k d l);
+    } in
+    λ i j d lt l. unlike_kept ss (get_or (filter test ss) i d) (get_or (filter test ss) j d) (each i d (omega arith)) (each j d l)
+    (ids i j d lt l)
 
 -- ---- the order of a section is that of its list
 
@@ -139,11 +151,13 @@ rising_from unit index [] = pairs_nil IsBefore
 rising_from unit index (s ∷ ss) =
     let first : Placed = record { id = record { unit = unit; index = index }; rows = s.rows } in
     pairs_cons IsBefore first (placed_from unit (index + 1) ss)
-    (All-weaker (IsFrom unit (index + 1)) (IsBefore first) (λ placed f. let from = f.index_from in before_in first.id placed.id (sym f.unit_is) (omega arith)) (placed_from unit (index + 1) ss)
+    (All-weaker (IsFrom unit (index + 1)) (IsBefore first)
+    (λ placed f. let from = f.index_from in before_in first.id placed.id (sym f.unit_is) (omega arith)) (placed_from unit (index + 1) ss)
     (all_from unit (index + 1) ss))
     (rising_from unit (index + 1) ss)
 
-all_above : (dead : Option ℕ) (unit : ℕ) (units : List (ℕ × Parts)) → All (λ (other : ℕ × Parts). unit < other.0) units → All (λ (placed : Placed). unit < placed.id.unit) (live_sequences dead units)
+all_above : (dead : Option ℕ) (unit : ℕ) (units : List (ℕ × Parts)) → All (λ (other : ℕ × Parts). unit < other.0) units
+    → All (λ (placed : Placed). unit < placed.id.unit) (live_sequences dead units)
 all_above dead unit [] h = All-nil (λ (placed : Placed). unit < placed.id.unit)
 all_above dead unit (other ∷ units) h =
     let Above : Placed → Type 0 = λ placed. unit < placed.id.unit in
@@ -153,7 +167,8 @@ all_above dead unit (other ∷ units) h =
     (all_above dead unit units (λ k d l. h (suc k) d (omega arith)))
 
 -- of units at rising offsets
-pub rising_sequences : (dead : Option ℕ) (units : List (ℕ × Parts)) → AllPairs (λ (one : ℕ × Parts) (other : ℕ × Parts). one.0 < other.0) units → AllPairs IsBefore (live_sequences dead units)
+pub rising_sequences : (dead : Option ℕ) (units : List (ℕ × Parts))
+    → AllPairs (λ (one : ℕ × Parts) (other : ℕ × Parts). one.0 < other.0) units → AllPairs IsBefore (live_sequences dead units)
 rising_sequences dead [] h = pairs_nil IsBefore
 rising_sequences dead (unit ∷ units) h =
     let Rise : ℕ × Parts → ℕ × Parts → Type 0 = λ one other. one.0 < other.0 in
@@ -162,7 +177,8 @@ rising_sequences dead (unit ∷ units) h =
     (AllPairs-filter IsBefore (is_live dead) (placed_in unit) (rising_from unit.0 0 (sequences_of (rows unit.1))))
     (rising_sequences dead units (pairs_tail Rise unit units h))
     (All-weaker (IsOf unit.0) (λ (placed : Placed). All (IsBefore placed) (live_sequences dead units))
-    (λ placed of k d l. let above = others k d l in before_is placed.id (get_or (live_sequences dead units) k d).id (omega (arith, above, of))) (live_in dead unit) (all_of dead unit))
+    (λ placed of k d l. let above = others k d l in before_is placed.id (get_or (live_sequences dead units) k d).id
+    (omega (arith, above, of))) (live_in dead unit) (all_of dead unit))
 
 -- ---- so a copy is found by a look back over the list
 
@@ -179,13 +195,15 @@ middle (y ∷ xs) x ys = let rest = middle xs x ys in (suc rest.0, omega (arith,
 pairs_before : {X : Type 0} (R : X → X → Type 0) (seen : List X) (x : X) (xs : List X) → AllPairs R (seen ++ x ∷ xs) → All (λ e. R e x) seen
 pairs_before R [] x xs h = All-nil (λ e. R e x)
 pairs_before R (s ∷ seen) x xs h =
-    All-cons (λ e. R e x) s seen (All-contains (R s) (seen ++ x ∷ xs) x (pairs_head R s (seen ++ x ∷ xs) h) (middle seen x xs)) (pairs_before R seen x xs (pairs_tail R s (seen ++ x ∷ xs) h))
+    All-cons (λ e. R e x) s seen (All-contains (R s) (seen ++ x ∷ xs) x (pairs_head R s (seen ++ x ∷ xs) h) (middle seen x xs))
+    (pairs_before R seen x xs (pairs_tail R s (seen ++ x ∷ xs) h))
 
 pairs_behind : {X : Type 0} (R : X → X → Type 0) (seen : List X) (x : X) (xs : List X) → AllPairs R (seen ++ x ∷ xs) → All (R x) xs
 pairs_behind R [] x xs h = pairs_head R x xs h
 pairs_behind R (s ∷ seen) x xs h = pairs_behind R seen x xs (pairs_tail R s (seen ++ x ∷ xs) h)
 
-any_before : (placed : Placed) (seen : List Placed) → All (λ (e : Placed). IsBefore e placed) seen → list_any (makes_copy placed) seen ≡ list_any (λ (e : Placed). hold_alike placed.rows e.rows) seen
+any_before : (placed : Placed) (seen : List Placed) → All (λ (e : Placed). IsBefore e placed) seen
+    → list_any (makes_copy placed) seen ≡ list_any (λ (e : Placed). hold_alike placed.rows e.rows) seen
 any_before placed [] h = refl
 any_before placed (s ∷ seen) h =
     ap (λ (t : Bool). (t && hold_alike placed.rows s.rows) || list_any (makes_copy placed) seen) (h 0 s (omega arith))
@@ -195,15 +213,17 @@ or_false : (b : Bool) → (b || false) ≡ b
 or_false true = refl
 or_false false = refl
 
--- the one behind those seen
+-- the one after those seen
 pub copy_by_look_back : (seen : List Placed) (placed : Placed) (rest : List Placed) → AllPairs IsBefore (seen ++ placed ∷ rest)
     → is_copy (seen ++ placed ∷ rest) placed ≡ list_any (λ (e : Placed). hold_alike placed.rows e.rows) seen
 copy_by_look_back seen placed rest order =
     let Makes : Placed → Type 0 = λ e. makes_copy placed e ≡ false in
     let behind : All Makes rest =
-    All-weaker (IsBefore placed) Makes (λ e b. ap (λ (t : Bool). t && hold_alike placed.rows e.rows) (not_behind placed.id e.id b)) rest (pairs_behind IsBefore seen placed rest order) in
+    All-weaker (IsBefore placed) Makes (λ e b. ap (λ (t : Bool). t && hold_alike placed.rows e.rows) (not_behind placed.id e.id b)) rest
+    (pairs_behind IsBefore seen placed rest order) in
     let itself : Makes placed = ap (λ (t : Bool). t && hold_alike placed.rows placed.rows) (not_itself placed.id) in
     list_any-append (makes_copy placed) seen (placed ∷ rest)
-    ∙ ap (λ (t : Bool). list_any (makes_copy placed) seen || t) (list_any_none (makes_copy placed) (placed ∷ rest) (All-cons Makes placed rest itself behind))
+    ∙ ap (λ (t : Bool). list_any (makes_copy placed) seen || t)
+    (list_any_none (makes_copy placed) (placed ∷ rest) (All-cons Makes placed rest itself behind))
     ∙ or_false (list_any (makes_copy placed) seen)
     ∙ any_before placed seen (pairs_before IsBefore seen placed rest order)

@@ -30,26 +30,31 @@ use Rattle.lnt_rows.specs.Laws.Walks.{each_ended, extents_ended, placed_from, wh
 pub live-append : (dead : Option ℕ) (units : List (ℕ × Parts)) (unit : ℕ × Parts)
     → live_sequences dead (units ++ unit ∷ []) ≡ live_sequences dead units ++ live_in dead unit
 live-append dead units unit =
-    flat_map-append (live_in dead) units (unit ∷ []) ∙ ap (λ (more : List Placed). live_sequences dead units ++ more) (append-nil (live_in dead unit))
+    flat_map-append (live_in dead) units (unit ∷ [])
+    ∙ ap (λ (more : List Placed). live_sequences dead units ++ more) (append-nil (live_in dead unit))
 
 pub ordered-append : (xs ys : List Placed) → AreOrdered xs → AreOrdered ys → AreOrdered (xs ++ ys)
 ordered-append [] ys h k = k
 ordered-append (x ∷ xs) ys h k = (h.0, ordered-append xs ys h.1 k)
 
-pub ordered_more : (dead : Option ℕ) (units : List (ℕ × Parts)) (unit : ℕ × Parts) → AreOrdered (live_sequences dead units) → AreOrdered (live_in dead unit)
+pub ordered_more : (dead : Option ℕ) (units : List (ℕ × Parts)) (unit : ℕ × Parts) → AreOrdered (live_sequences dead units)
+    → AreOrdered (live_in dead unit)
     → AreOrdered (live_sequences dead (units ++ unit ∷ []))
-ordered_more dead units unit h k = subst AreOrdered (sym (live-append dead units unit)) (ordered-append (live_sequences dead units) (live_in dead unit) h k)
+ordered_more dead units unit h k =
+    subst AreOrdered (sym (live-append dead units unit)) (ordered-append (live_sequences dead units) (live_in dead unit) h k)
 
 -- ---- what is collected of them
 
 -- of no row yet
-pub collects_none : (dead : Option ℕ) (unit : ℕ) (collected : Collected) (ss : List Placed) → Collects collected ss → CollectsRows dead unit collected ss []
+pub collects_none : (dead : Option ℕ) (unit : ℕ) (collected : Collected) (ss : List Placed) → Collects collected ss
+    → CollectsRows dead unit collected ss []
 collects_none dead unit collected ss c few = record {
   extents = c.extents ∙ sym (append-nil (extents_of ss));
 }
 
 -- of all rows of a unit, each of which stands in a sequence
-pub collects_all : (dead : Option ℕ) (unit : ℕ) (collected : Collected) (ss : List Placed) (all : List Row) → joined_rows (sequences_of all) ≡ all → length all < 2 ^ 64
+pub collects_all : (dead : Option ℕ) (unit : ℕ) (collected : Collected) (ss : List Placed) (all : List Row)
+    → joined_rows (sequences_of all) ≡ all → length all < 2 ^ 64
     → CollectsRows dead unit collected ss all → Collects collected (ss ++ live_of dead (placed_rows unit all))
 collects_all dead unit collected ss all closed few c =
     let both = c few in
@@ -58,17 +63,21 @@ collects_all dead unit collected ss all closed few c =
           both.extents
           ∙ ap (λ (more : List Extent). extents_of ss ++ more)
           (ap (shown (extent_shown dead unit) start) (sym closed)
-          ∙ whole (extent_shown dead unit) extent_of dead unit (λ walk s e none. extents_ended dead unit walk s e none) 0 (sequences_of all) start (each_ended all) refl refl)
+          ∙ whole (extent_shown dead unit) extent_of dead unit (λ walk s e none. extents_ended dead unit walk s e none) 0 (sequences_of all)
+          start (each_ended all) refl refl)
           ∙ sym (flat_map-append extent_of ss (live_of dead (placed_rows unit all)));
     }
 
-pub collects_unit : (dead : Option ℕ) (unit : ℕ × Parts) (collected : Collected) (ss : List Placed) → Runs unit.1 → length (rows unit.1) < 2 ^ 64
+pub collects_unit : (dead : Option ℕ) (unit : ℕ × Parts) (collected : Collected) (ss : List Placed) → Runs unit.1
+    → length (rows unit.1) < 2 ^ 64
     → CollectsRows dead unit.0 collected ss (rows unit.1) → Collects collected (ss ++ live_in dead unit)
 collects_unit dead unit collected ss runs few c = collects_all dead unit.0 collected ss (rows unit.1) runs.closed few c
 
 -- the same of a section's units and one more
-pub collects_more : (dead : Option ℕ) (units : List (ℕ × Parts)) (unit : ℕ × Parts) (collected : Collected) → Runs unit.1 → length (rows unit.1) < 2 ^ 64
-    → CollectsRows dead unit.0 collected (live_sequences dead units) (rows unit.1) → Collects collected (live_sequences dead (units ++ unit ∷ []))
+pub collects_more : (dead : Option ℕ) (units : List (ℕ × Parts)) (unit : ℕ × Parts) (collected : Collected) → Runs unit.1
+    → length (rows unit.1) < 2 ^ 64
+    → CollectsRows dead unit.0 collected (live_sequences dead units) (rows unit.1)
+    → Collects collected (live_sequences dead (units ++ unit ∷ []))
 collects_more dead units unit collected runs few c =
     let more = collects_unit dead unit collected (live_sequences dead units) runs few c in
     record {
@@ -89,7 +98,8 @@ all_from unit index [] = All-nil (IsFrom unit index)
 all_from unit index (s ∷ ss) =
     All-cons (IsFrom unit index) (record { id = record { unit = unit; index = index }; rows = s.rows }) (placed_from unit (index + 1) ss)
     (record { unit_is = refl; index_from = omega arith })
-    (All-weaker (IsFrom unit (index + 1)) (IsFrom unit index) (λ placed f. record { unit_is = f.unit_is; index_from = let from = f.index_from in omega arith }) (placed_from unit (index + 1) ss)
+    (All-weaker (IsFrom unit (index + 1)) (IsFrom unit index)
+    (λ placed f. record { unit_is = f.unit_is; index_from = let from = f.index_from in omega arith }) (placed_from unit (index + 1) ss)
     (all_from unit (index + 1) ss))
 
 distinct_from : (unit index : ℕ) (ss : List Sequence) → AreDistinct (placed_from unit index ss)
@@ -97,7 +107,8 @@ distinct_from unit index [] = pairs_nil IdDiffers
 distinct_from unit index (s ∷ ss) =
     let first : Placed = record { id = record { unit = unit; index = index }; rows = s.rows } in
     pairs_cons IdDiffers first (placed_from unit (index + 1) ss)
-    (All-weaker (IsFrom unit (index + 1)) (IdDiffers first) (λ placed f same. let from = f.index_from in omega (arith, ap (λ id. id.index) same)) (placed_from unit (index + 1) ss)
+    (All-weaker (IsFrom unit (index + 1)) (IdDiffers first)
+    (λ placed f same. let from = f.index_from in omega (arith, ap (λ id. id.index) same)) (placed_from unit (index + 1) ss)
     (all_from unit (index + 1) ss))
     (distinct_from unit (index + 1) ss)
 
@@ -119,15 +130,18 @@ all_of dead unit =
 abbrev IsNotOf : ℕ → Placed → Type 0
 IsNotOf unit placed = unit ≢ placed.id.unit
 
-none_of : (dead : Option ℕ) (unit : ℕ) (units : List (ℕ × Parts)) → All (λ (other : ℕ × Parts). unit ≢ other.0) units → All (IsNotOf unit) (live_sequences dead units)
+none_of : (dead : Option ℕ) (unit : ℕ) (units : List (ℕ × Parts)) → All (λ (other : ℕ × Parts). unit ≢ other.0) units
+    → All (IsNotOf unit) (live_sequences dead units)
 none_of dead unit [] h = All-nil (IsNotOf unit)
 none_of dead unit (other ∷ units) h =
     All-append (IsNotOf unit) (live_in dead other) (live_sequences dead units)
-    (All-weaker (IsOf other.0) (IsNotOf unit) (λ placed same e. h 0 other (omega arith) (e ∙ same)) (live_in dead other) (all_of dead other))
+    (All-weaker (IsOf other.0) (IsNotOf unit) (λ placed same e. h 0 other (omega arith) (e ∙ same)) (live_in dead other)
+    (all_of dead other))
     (none_of dead unit units (λ k d l. h (suc k) d (omega arith)))
 
 -- those of units with different offsets
-pub distinct_sequences : (dead : Option ℕ) (units : List (ℕ × Parts)) → AllPairs (λ (one : ℕ × Parts) (other : ℕ × Parts). one.0 ≢ other.0) units
+pub distinct_sequences : (dead : Option ℕ) (units : List (ℕ × Parts))
+    → AllPairs (λ (one : ℕ × Parts) (other : ℕ × Parts). one.0 ≢ other.0) units
     → AreDistinct (live_sequences dead units)
 distinct_sequences dead [] h = pairs_nil IdDiffers
 distinct_sequences dead (unit ∷ units) h =
@@ -140,7 +154,7 @@ distinct_sequences dead (unit ∷ units) h =
 
 -- ---- offsets
 
--- each unit of a section has bytes, so it stands behind those before it
+-- each unit of a section has bytes, so it stands after those before it
 offsets_from : (order : Order) (offset : ℕ) (units : List (ℕ × Parts)) (bytes : List ℕ) → UnitsFrom order offset units bytes
     → All (λ (unit : ℕ × Parts). offset ≤ unit.0) units
 offsets_from order offset [] bytes h = All-nil (λ (unit : ℕ × Parts). offset ≤ unit.0)
@@ -174,7 +188,8 @@ offsets_differ order offset (unit ∷ units) bytes h =
     let at = h.2 in
     let some = some_bytes order unit.1 h.0 h.3 in
     pairs_cons (λ (one : ℕ × Parts) (other : ℕ × Parts). one.0 ≢ other.0) unit units
-    (All-weaker (λ (other : ℕ × Parts). offset + length h.0 ≤ other.0) (λ (other : ℕ × Parts). unit.0 ≢ other.0) (λ other le same. omega arith) units
+    (All-weaker (λ (other : ℕ × Parts). offset + length h.0 ≤ other.0) (λ (other : ℕ × Parts). unit.0 ≢ other.0)
+    (λ other le same. omega arith) units
     (offsets_from order (offset + length h.0) units h.1 h.5))
     (offsets_differ order (offset + length h.0) units h.1 h.5)
 
@@ -185,6 +200,7 @@ offsets_rise order offset (unit ∷ units) bytes h =
     let at = h.2 in
     let some = some_bytes order unit.1 h.0 h.3 in
     pairs_cons (λ (one : ℕ × Parts) (other : ℕ × Parts). one.0 < other.0) unit units
-    (All-weaker (λ (other : ℕ × Parts). offset + length h.0 ≤ other.0) (λ (other : ℕ × Parts). unit.0 < other.0) (λ other le. omega arith) units
+    (All-weaker (λ (other : ℕ × Parts). offset + length h.0 ≤ other.0) (λ (other : ℕ × Parts). unit.0 < other.0) (λ other le. omega arith)
+    units
     (offsets_from order (offset + length h.0) units h.1 h.5))
     (offsets_rise order (offset + length h.0) units h.1 h.5)

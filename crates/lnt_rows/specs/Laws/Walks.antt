@@ -1,6 +1,7 @@
 -- Rows seen one after another, and the sequences that they are cut into. These are proofs: nothing here is to be
 -- believed.
-use Rattle.std.proofs.Common.{◌≡◌, ℕ, ◌+◌, Bool, true, false, cond, List, [], ◌∷◌, ◌++◌, map, Option, Some, None, refl, sym, ap, ◌∙◌, arith, append_assoc, length, add-zero}
+use Rattle.std.proofs.Common.{◌≡◌, ℕ, ◌+◌, Bool, true, false, cond, List, [], ◌∷◌, ◌++◌, map, Option, Some, None, refl}
+use Rattle.std.proofs.Common.{sym, ap, ◌∙◌, arith, append_assoc, length, add-zero}
 use Rattle.std.specs.List.{AllByRecursion, enumerate_from, filter, flat_map}
 use Rattle.std.specs.Option.{option_or}
 use Rattle.std.proofs.lemmas.List.{append-nil, length-append}
@@ -13,7 +14,8 @@ use Rattle.lnt_rows.specs.declared.extent.Extent.{Extent}
 use Rattle.lnt_rows.specs.declared.watch.Current.{Current}
 use Rattle.lnt_rows.specs.Extents.{extent_between, extent_of, extent_of_rows}
 use Rattle.lnt_rows.specs.Sequences.{are_live, begins_live, is_live, last_row, Placed, position_of}
-use Rattle.lnt_rows.specs.Watching.{closed, current_of, extent_from, extent_shown, first_shown, grown, is_in_live, last_behind, longer, next, shown, Walk, walked}
+use Rattle.lnt_rows.specs.Watching.{closed, current_of, extent_from, extent_shown, first_shown, grown, is_in_live}
+use Rattle.lnt_rows.specs.Watching.{last_behind, longer, next, shown, Walk, walked}
 
 -- ---- more rows
 
@@ -52,7 +54,8 @@ shown-push {A} show walk xs row =
 pub first_shown-push : {A : Type 0} (show : Walk → Row → Option A) (walk : Walk) (xs : List Row) (row : Row)
     → first_shown show walk (xs ++ row ∷ []) ≡ option_or (first_shown show walk xs) (show (walked walk xs) row)
 first_shown-push {A} show walk xs row =
-    first_shown-append show walk xs (row ∷ []) ∙ ap (λ (o : Option A). option_or (first_shown show walk xs) o) (or_none (show (walked walk xs) row))
+    first_shown-append show walk xs (row ∷ [])
+    ∙ ap (λ (o : Option A). option_or (first_shown show walk xs) o) (or_none (show (walked walk xs) row))
 
 pub walked-rows : (walk : Walk) (rows : List Row) → (walked walk rows).rows ≡ walk.rows + length rows
 walked-rows walk [] = omega arith
@@ -84,9 +87,11 @@ walked_open walk [] o = rw (add-zero, append-nil) refl
 walked_open walk (row ∷ rows) o =
     ap (λ (t : Bool). walked (cond t (closed walk) (longer walk row)) rows) o.0
     ∙ walked_open (longer walk row) rows o.1
-    ∙ same (walk.rows + 1 + length rows) (walk.rows + length (row ∷ rows)) ((walk.begun ++ row ∷ []) ++ rows) (walk.begun ++ row ∷ rows) (omega arith) (append_assoc walk.begun (row ∷ []) rows)
+    ∙ same (walk.rows + 1 + length rows) (walk.rows + length (row ∷ rows)) ((walk.begun ++ row ∷ []) ++ rows) (walk.begun ++ row ∷ rows)
+    (omega arith) (append_assoc walk.begun (row ∷ []) rows)
   where
-    same : (m n : ℕ) (xs ys : List Row) → m ≡ n → xs ≡ ys → ◌≡◌ {A = Walk} (record { rows = m; ended = walk.ended; begun = xs }) (record { rows = n; ended = walk.ended; begun = ys })
+    same : (m n : ℕ) (xs ys : List Row) → m ≡ n → xs ≡ ys
+        → ◌≡◌ {A = Walk} (record { rows = m; ended = walk.ended; begun = xs }) (record { rows = n; ended = walk.ended; begun = ys })
     same m n xs ys e f = rw (e, f) refl
 
 -- all of its rows
@@ -98,9 +103,11 @@ walked_ended walk s e =
     ∙ ap (λ (w : Walk). next w e.last) (walked_open walk e.body e.body_open)
     ∙ ap (λ (t : Bool). cond t (closed (record { rows = walk.rows + length e.body; ended = walk.ended; begun = walk.begun ++ e.body }))
     (longer (record { rows = walk.rows + length e.body; ended = walk.ended; begun = walk.begun ++ e.body }) e.last)) e.ends
-    ∙ same (walk.rows + length e.body + 1) (walk.rows + length s.rows) (omega (arith, ap length e.rows_are, length-append e.body (e.last ∷ [])))
+    ∙ same (walk.rows + length e.body + 1) (walk.rows + length s.rows)
+    (omega (arith, ap length e.rows_are, length-append e.body (e.last ∷ [])))
   where
-    same : (m n : ℕ) → m ≡ n → ◌≡◌ {A = Walk} (record { rows = m; ended = walk.ended + 1; begun = [] }) (record { rows = n; ended = walk.ended + 1; begun = [] })
+    same : (m n : ℕ) → m ≡ n
+        → ◌≡◌ {A = Walk} (record { rows = m; ended = walk.ended + 1; begun = [] }) (record { rows = n; ended = walk.ended + 1; begun = [] })
     same m n e = rw e refl
 
 -- ---- its extent
@@ -121,7 +128,8 @@ extents_open dead unit walk (row ∷ rows) o =
 
 -- the extent of rows, if they are live
 abbrev pub live_extent : Option ℕ → ℕ → ℕ → List Row → List Extent
-live_extent dead unit index rows = cond (are_live dead rows) (extent_of (record { id = record { unit = unit; index = index }; rows = rows })) []
+live_extent dead unit index rows =
+    cond (are_live dead rows) (extent_of (record { id = record { unit = unit; index = index }; rows = rows })) []
 
 extents_last : (dead : Option ℕ) (unit index : ℕ) (begun : List Row) (row : Row) → row.end_sequence ≡ true
     → cond (grown dead (current_of dead begun) row).live (extent_from unit index (current_of dead begun) row) []
@@ -131,7 +139,8 @@ extents_last dead unit index [] row e =
     rw (test_not_below (position_of row) (position_of row) (at_most_itself (position_of row))) refl in
     ap (λ (extents : List Extent). cond (begins_live dead row) extents []) (sym none)
 extents_last dead unit index (first ∷ rest) row e =
-    ap (λ (t : Bool). cond (begins_live dead first) (cond t (extent_between (record { unit = unit; index = index }) (position_of first) (position_of row)) []) []) e
+    ap (λ (t : Bool). cond (begins_live dead first)
+    (cond t (extent_between (record { unit = unit; index = index }) (position_of first) (position_of row)) []) []) e
     ∙ ap (λ (o : Option Row). cond (begins_live dead first) (extent_of_rows (record { unit = unit; index = index }) (Some first) o) [])
     (sym (last_row_is first (rest ++ row ∷ []) ∙ ap Some (last_behind-push first rest row)))
 
@@ -154,12 +163,14 @@ extents_ended dead unit walk s e none =
 
 -- the sequences of a unit from an index on
 abbrev pub placed_from : ℕ → ℕ → List Sequence → List Placed
-placed_from unit index sequences = map (λ p. record { id = record { unit = unit; index = p.0 }; rows = p.1.rows }) (enumerate_from index sequences)
+placed_from unit index sequences =
+    map (λ p. record { id = record { unit = unit; index = p.0 }; rows = p.1.rows }) (enumerate_from index sequences)
 
 -- what the live ones show, one after another
 pub whole : {A : Type 0} (show : Walk → Row → List A) (of : Placed → List A) (dead : Option ℕ) (unit : ℕ)
     → ((walk : Walk) (s : Sequence) → IsEnded s → walk.begun ≡ []
-    → shown show walk s.rows ≡ cond (are_live dead s.rows) (of (record { id = record { unit = unit; index = walk.ended }; rows = s.rows })) [])
+    → shown show walk s.rows ≡ cond (are_live dead s.rows) (of (record { id = record { unit = unit; index = walk.ended }; rows = s.rows }))
+    [])
     → (index : ℕ) (ss : List Sequence) (walk : Walk) → AllByRecursion IsEnded ss → walk.begun ≡ [] → walk.ended ≡ index
     → shown show walk (joined_rows ss) ≡ flat_map of (filter (is_live dead) (placed_from unit index ss))
 whole show of dead unit step index [] walk all none at = refl
@@ -167,18 +178,24 @@ whole {A} show of dead unit step index (s ∷ ss) walk all none at =
     let there = walked_ended walk s all.0 in
     shown-append show walk s.rows (joined_rows ss)
     ∙ ap (λ (front : List A). front ++ shown show (walked walk s.rows) (joined_rows ss)) (step walk s all.0 none)
-    ∙ ap (λ (k : ℕ). cond (are_live dead s.rows) (of (record { id = record { unit = unit; index = k }; rows = s.rows })) [] ++ shown show (walked walk s.rows) (joined_rows ss)) at
-    ∙ ap (λ (rest : List A). cond (are_live dead s.rows) (of (record { id = record { unit = unit; index = index }; rows = s.rows })) [] ++ rest)
-    (whole show of dead unit step (index + 1) ss (walked walk s.rows) all.1 (ap (λ (w : Walk). w.begun) there) (ap (λ (w : Walk). w.ended) there ∙ ap (λ (k : ℕ). k + 1) at))
-    ∙ by_live (are_live dead s.rows) (record { id = record { unit = unit; index = index }; rows = s.rows }) (filter (is_live dead) (placed_from unit (index + 1) ss))
+    ∙ ap (λ (k : ℕ). cond (are_live dead s.rows) (of (record { id = record { unit = unit; index = k }; rows = s.rows })) [] ++ shown show
+    (walked walk s.rows) (joined_rows ss)) at
+    ∙ ap (λ (rest : List A). cond (are_live dead s.rows) (of (record { id = record { unit = unit; index = index }; rows = s.rows })) [] ++
+    rest)
+    (whole show of dead unit step (index + 1) ss (walked walk s.rows) all.1 (ap (λ (w : Walk). w.begun) there)
+    (ap (λ (w : Walk). w.ended) there ∙ ap (λ (k : ℕ). k + 1) at))
+    ∙ by_live (are_live dead s.rows) (record { id = record { unit = unit; index = index }; rows = s.rows })
+    (filter (is_live dead) (placed_from unit (index + 1) ss))
   where
-    by_live : (t : Bool) (placed : Placed) (rest : List Placed) → cond t (of placed) [] ++ flat_map of rest ≡ flat_map of (cond t (placed ∷ rest) rest)
+    by_live : (t : Bool) (placed : Placed) (rest : List Placed)
+        → cond t (of placed) [] ++ flat_map of rest ≡ flat_map of (cond t (placed ∷ rest) rest)
     by_live true placed rest = refl
     by_live false placed rest = refl
 
 -- ---- the sequences of any rows
 
-onto_ended : (row : Row) (ss : List Sequence) → row.end_sequence ≡ false → AllByRecursion IsEnded ss → AllByRecursion IsEnded (onto_first row ss)
+onto_ended : (row : Row) (ss : List Sequence) → row.end_sequence ≡ false → AllByRecursion IsEnded ss
+    → AllByRecursion IsEnded (onto_first row ss)
 onto_ended row [] o all = tt
 onto_ended row (s ∷ ss) o all = (
   record {

@@ -9,13 +9,15 @@ use Rattle.lnt_spans.specs.declared.answer.Version.TheVariants.{Two}
 use Rattle.lnt_spans.specs.Answers.{in_version}
 use Rattle.lnt_spans.specs.Positions.{IsBelow, IsAtMost}
 use Rattle.lnt_spans.specs.Spans.{AreInOrder, span_answer, version_answer}
-use Rattle.lnt_spans.specs.Laws.Positions.{test_below, test_not_below, test_at_most, test_not_at_most, below_at_most, below_is_at_most, order_cases}
+use Rattle.lnt_spans.specs.Laws.Positions.{test_below, test_not_below, test_at_most, test_not_at_most, below_at_most}
+use Rattle.lnt_spans.specs.Laws.Positions.{below_is_at_most, order_cases}
 
 -- p is in the first span
-pub answer_in : (s : Span) (rest : List Span) (p : Position) → IsAtMost s.low p → IsBelow p s.high → span_answer (s ∷ rest) p ≡ Some s.answer
+pub answer_in : (s : Span) (rest : List Span) (p : Position) → IsAtMost s.low p → IsBelow p s.high
+    → span_answer (s ∷ rest) p ≡ Some s.answer
 answer_in s rest p h k = rw (test_at_most s.low p h, test_below p s.high k) refl
 
--- p is before it, or behind
+-- p is before it, or after
 pub answer_before : (s : Span) (rest : List Span) (p : Position) → IsBelow p s.low → span_answer (s ∷ rest) p ≡ span_answer rest p
 answer_before s rest p h = rw (test_not_at_most s.low p h) refl
 
@@ -27,7 +29,8 @@ pub answer_behind : (s : Span) (rest : List Span) (p : Position) → IsAtMost s.
 answer_behind s rest p h = rw (test_not_below p s.high h, false-and) refl
 
 -- one more span in front of lists that agree
-pub answer_same : (s : Span) (xs ys : List Span) (p : Position) → span_answer xs p ≡ span_answer ys p → span_answer (s ∷ xs) p ≡ span_answer (s ∷ ys) p
+pub answer_same : (s : Span) (xs ys : List Span) (p : Position) → span_answer xs p ≡ span_answer ys p
+    → span_answer (s ∷ xs) p ≡ span_answer (s ∷ ys) p
 answer_same s xs ys p e = elim (order_cases p s.low) [
   | inl h ↦ answer_before s xs p h ∙ e ∙ sym (answer_before s ys p h)
   | inr h ↦ elim (order_cases p s.high) [

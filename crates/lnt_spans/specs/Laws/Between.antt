@@ -8,7 +8,8 @@ use Rattle.lnt_spans.specs.Positions.{IsBelow, IsAtMost, is_below, is_at_most}
 use Rattle.lnt_spans.specs.Spans.{AreInOrder, is_in_span, span_answer}
 use Rattle.lnt_spans.specs.Laws.Answering.{answer_before}
 use Rattle.lnt_spans.specs.Laws.EachTwo.{pairs_nil, pairs_cons}
-use Rattle.lnt_spans.specs.Laws.Positions.{at_most_from_test, at_most_itself, at_most_trans, below_at_most, below_from_test, below_is_at_most, test_at_most, test_below}
+use Rattle.lnt_spans.specs.Laws.Positions.{at_most_from_test, at_most_itself, at_most_trans, below_at_most}
+use Rattle.lnt_spans.specs.Laws.Positions.{below_from_test, below_is_at_most, test_at_most, test_below}
 
 -- ---- one span
 
@@ -54,7 +55,8 @@ order_from_between a b [] h = tt
 order_from_between a b (span ∷ []) h = h.1
 order_from_between a b (span ∷ next ∷ spans) h = (h.1, h.2.0, order_from_between span.high b (next ∷ spans) h.2)
 
-pub between_from_order : (span : Span) (spans : List Span) → AreInOrder (span ∷ spans) → (b : Position) × AreBetween span.low (span ∷ spans) b
+pub between_from_order : (span : Span) (spans : List Span) → AreInOrder (span ∷ spans) → (b : Position)
+    × AreBetween span.low (span ∷ spans) b
 between_from_order span [] h = (span.high, (at_most_itself span.low, h, at_most_itself span.high))
 between_from_order span (next ∷ spans) h =
     let rest = between_from_order next spans h.2 in
@@ -64,7 +66,8 @@ between_from_order span (next ∷ spans) h =
 pub none_below : (a b : Position) (spans : List Span) (p : Position) → AreBetween a spans b → IsBelow p a → span_answer spans p ≡ None
 none_below a b [] p h k = refl
 none_below a b (span ∷ spans) p h k =
-    answer_before span spans p (below_at_most k h.0) ∙ none_below span.high b spans p h.2 (below_at_most k (at_most_trans h.0 (below_is_at_most h.1)))
+    answer_before span spans p (below_at_most k h.0)
+    ∙ none_below span.high b spans p h.2 (below_at_most k (at_most_trans h.0 (below_is_at_most h.1)))
 
 -- each of them lies between the two positions
 pub record Within (a b : Position) (span : Span) : Type 0 where
@@ -77,7 +80,8 @@ between_within a b [] h = All-nil (Within a b)
 between_within a b (span ∷ spans) h =
     All-cons (Within a b) span spans
     (record { from = h.0; some = h.1; upto = between_at_most span.high b spans h.2 })
-    (All-weaker (Within span.high b) (Within a b) (λ s k. record { from = at_most_trans (at_most_trans h.0 (below_is_at_most h.1)) k.from; some = k.some; upto = k.upto }) spans
+    (All-weaker (Within span.high b) (Within a b)
+    (λ s k. record { from = at_most_trans (at_most_trans h.0 (below_is_at_most h.1)) k.from; some = k.some; upto = k.upto }) spans
     (between_within span.high b spans h.2))
 
 -- ---- spans in order, by their places
@@ -102,4 +106,5 @@ pub none_empty : (spans : List Span) → AreInOrder spans → All (λ (s : Span)
 none_empty [] h = All-nil (λ (s : Span). IsBelow s.low s.high)
 none_empty (span ∷ spans) h =
     let b = between_from_order span spans h in
-    All-weaker (Within span.low b.0) (λ (s : Span). IsBelow s.low s.high) (λ s k. k.some) (span ∷ spans) (between_within span.low b.0 (span ∷ spans) b.1)
+    All-weaker (Within span.low b.0) (λ (s : Span). IsBelow s.low s.high) (λ s k. k.some) (span ∷ spans)
+    (between_within span.low b.0 (span ∷ spans) b.1)

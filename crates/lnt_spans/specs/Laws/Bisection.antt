@@ -11,7 +11,8 @@ halved : (left half more : ℕ) → 0 < left → left < 2 ^ more → 2 * half �
 halved left half zero h k l = absurd (omega arith)
 halved left half (suc less) h k l = let e : 2 ^ suc less ≡ 2 ^ less * 2 = pow-suc 2 less in (less, refl, omega arith)
 
-pub bounded_half : (n start count left half : ℕ) → 0 < left → 2 * half ≤ left → IsBounded n start count left → IsBounded n start (count + 1) half
+pub bounded_half : (n start count left half : ℕ) → 0 < left → 2 * half ≤ left → IsBounded n start count left
+    → IsBounded n start (count + 1) half
 bounded_half n start count left half h l b = let rises = b.rises in record {
   rises = omega arith;
   bound = λ digits k.

@@ -1,6 +1,7 @@
 -- What holds of each two elements of a list, and of the only one that passes a test. These are proofs: nothing here is to
 -- be believed.
-use Rattle.std.proofs.Common.{◌≡◌, ◌≢◌, ℕ, zero, suc, ◌<◌, ◌≤◌, Bool, true, false, cond, List, [], ◌∷◌, ◌++◌, Option, Some, None, refl, sym, ap, ◌∙◌, subst, arith, length, get_or, ⊎_elim}
+use Rattle.std.proofs.Common.{◌≡◌, ◌≢◌, ℕ, zero, suc, ◌<◌, ◌≤◌, Bool, true, false, cond, List, [], ◌∷◌, ◌++◌, Option}
+use Rattle.std.proofs.Common.{Some, None, refl, sym, ap, ◌∙◌, subst, arith, length, get_or, ⊎_elim}
 use Rattle.std.specs.List.{find, AllPairs, All, Contains, swap}
 use Rattle.std.specs.List.Sorted.{IsPermutation}
 use Rattle.std.proofs.lemmas.List.Edits.{Swapped, swapped_from_swap, length-swap}
@@ -27,7 +28,8 @@ pairs_head R x xs h = λ k d l. h 0 (suc k) d (omega arith) (omega arith)
 pub pairs_tail : {X : Type 0} (R : X → X → Type 0) (x : X) (xs : List X) → AllPairs R (x ∷ xs) → AllPairs R xs
 pairs_tail R x xs h = λ i j d lt l. h (suc i) (suc j) d (omega arith) (omega arith)
 
-pub pairs_append : {X : Type 0} (R : X → X → Type 0) (xs ys : List X) → AllPairs R xs → AllPairs R ys → All (λ x. All (R x) ys) xs → AllPairs R (xs ++ ys)
+pub pairs_append : {X : Type 0} (R : X → X → Type 0) (xs ys : List X) → AllPairs R xs → AllPairs R ys → All (λ x. All (R x) ys) xs
+    → AllPairs R (xs ++ ys)
 pairs_append R [] ys h k c = k
 pairs_append R (x ∷ xs) ys h k c =
     pairs_cons R x (xs ++ ys)
@@ -57,11 +59,29 @@ record Origin {X : Type 0} (f g : ℕ → X) (a b m : ℕ) : Type 0 where
 origin : {X : Type 0} (f g : ℕ → X) (a b : ℕ) → Swapped f g a b → (m : ℕ) → Origin f g a b m
 origin f g a b s m =
     ⊎_elim
-    (λ (e : m ≡ a). record { place = b; is = ap g e ∙ s.0; at_first = λ _. refl; at_second = λ k. omega arith; elsewhere = λ n k. absurd (n e) })
+    (λ (e : m ≡ a). record {
+      place = b;
+      is = ap g e ∙ s.0;
+      at_first = λ _. refl;
+      at_second = λ k. omega arith;
+      elsewhere = λ n k. absurd (n e);
+    })
     (λ (n : m ≡ a → ⊥).
     ⊎_elim
-    (λ (e : m ≡ b). record { place = a; is = ap g e ∙ s.1; at_first = λ k. absurd (n k); at_second = λ _. refl; elsewhere = λ _ k. absurd (k e) })
-    (λ (k : m ≡ b → ⊥). record { place = m; is = s.2 m n k; at_first = λ e. absurd (n e); at_second = λ e. absurd (k e); elsewhere = λ _ _. refl })
+    (λ (e : m ≡ b). record {
+      place = a;
+      is = ap g e ∙ s.1;
+      at_first = λ k. absurd (n k);
+      at_second = λ _. refl;
+      elsewhere = λ _ k. absurd (k e);
+    })
+    (λ (k : m ≡ b → ⊥). record {
+      place = m;
+      is = s.2 m n k;
+      at_first = λ e. absurd (n e);
+      at_second = λ e. absurd (k e);
+      elsewhere = λ _ _. refl;
+    })
     (cases_eq m b))
     (cases_eq m a)
 
@@ -71,7 +91,8 @@ origin_apart f g a b m n o q ne e = grind arith
 origin_within : {X : Type 0} (f g : ℕ → X) (a b m l : ℕ) (o : Origin f g a b m) → a < l → b < l → m < l → o.place < l
 origin_within f g a b m l o ha hb hm = grind arith
 
-each_two_swap : {X : Type 0} (R : X → X → Type 0) (xs : List X) (a b : ℕ) → a < length xs → b < length xs → EachTwo R xs → EachTwo R (swap xs a b)
+each_two_swap : {X : Type 0} (R : X → X → Type 0) (xs : List X) (a b : ℕ) → a < length xs → b < length xs → EachTwo R xs
+    → EachTwo R (swap xs a b)
 each_two_swap {X} R xs a b ha hb h i j d ne li lj =
     let s = swapped_from_swap xs (swap xs a b) a b d ha hb refl in
     let f : ℕ → X = λ k. get_or xs k d in
@@ -79,7 +100,8 @@ each_two_swap {X} R xs a b ha hb h i j d ne li lj =
     let o = origin f g a b s i in
     let q = origin f g a b s j in
     let same = length-swap xs a b in
-    let here = h o.place q.place d (origin_apart f g a b i j o q ne) (origin_within f g a b i (length xs) o ha hb (omega arith)) (origin_within f g a b j (length xs) q ha hb (omega arith)) in
+    let here = h o.place q.place d (origin_apart f g a b i j o q ne) (origin_within f g a b i (length xs) o ha hb (omega arith))
+    (origin_within f g a b j (length xs) q ha hb (omega arith)) in
     subst (λ (x : X). R x (g j)) (sym o.is) (subst (λ (y : X). R (f o.place) y) (sym q.is) here)
 
 pub each_two_permutation : {X : Type 0} (R : X → X → Type 0) (xs ys : List X) → IsPermutation xs ys → EachTwo R xs → EachTwo R ys
@@ -95,7 +117,8 @@ pub none_found : {X : Type 0} (test : X → Bool) (xs : List X) → find test xs
 none_found {X} test [] h = λ k d l. absurd (omega arith)
 none_found {X} test (x ∷ xs) h = by_test (test x) refl h (λ f. none_found test xs f)
   where
-    by_test : (t : Bool) → test x ≡ t → cond t (Some x) (find test xs) ≡ None → (find test xs ≡ None → All (λ (y : X). test y ≡ false) xs) → All (λ (y : X). test y ≡ false) (x ∷ xs)
+    by_test : (t : Bool) → test x ≡ t → cond t (Some x) (find test xs) ≡ None → (find test xs ≡ None → All (λ (y : X). test y ≡ false) xs)
+        → All (λ (y : X). test y ≡ false) (x ∷ xs)
     by_test true e f rest = absurd cc
     by_test false e f rest = All-cons (λ (y : X). test y ≡ false) x xs e (rest f)
 
@@ -103,12 +126,14 @@ pub found : {X : Type 0} (test : X → Bool) (xs : List X) (x : X) → find test
 found {X} test [] x h = absurd cc
 found {X} test (y ∷ xs) x h = by_test (test y) refl h (λ f. found test xs x f)
   where
-    by_test : (t : Bool) → test y ≡ t → cond t (Some y) (find test xs) ≡ Some x → (find test xs ≡ Some x → Contains xs x × (test x ≡ true)) → Contains (y ∷ xs) x × (test x ≡ true)
+    by_test : (t : Bool) → test y ≡ t → cond t (Some y) (find test xs) ≡ Some x → (find test xs ≡ Some x → Contains xs x × (test x ≡ true))
+        → Contains (y ∷ xs) x × (test x ≡ true)
     by_test true e f rest = let same : y ≡ x = same_Some y x f in ((0, omega arith, same), ap test (sym same) ∙ e)
     by_test false e f rest = let k = rest f in ((suc k.0.0, omega (arith, k.0.1), k.0.2), k.1)
 
 -- the only one that passes is found
-pub find_only : {X : Type 0} (test : X → Bool) (xs : List X) (x : X) → EachTwo (λ a b. test a ≡ true → test b ≡ true → ⊥) xs → Contains xs x → test x ≡ true
+pub find_only : {X : Type 0} (test : X → Bool) (xs : List X) (x : X) → EachTwo (λ a b. test a ≡ true → test b ≡ true → ⊥) xs → Contains xs x
+    → test x ≡ true
     → find test xs ≡ Some x
 find_only {X} test xs x h k t = by_answer (find test xs) refl
   where

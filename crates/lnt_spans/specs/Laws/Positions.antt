@@ -31,7 +31,7 @@ test_not_below p q h = grind (arith, nat_tests)
 pub test_not_at_most : (p q : Position) → IsBelow q p → is_at_most p q ≡ false
 test_not_at_most p q h = grind (arith, nat_tests)
 
--- ---- one position behind another
+-- ---- one position after another
 
 pub below_is_at_most : {p q : Position} → IsBelow p q → IsAtMost p q
 below_is_at_most {p} {q} h = record { address = h.address; op = λ e. omega arith }

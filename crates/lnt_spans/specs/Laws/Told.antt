@@ -17,14 +17,16 @@ told_order version [] h = tt
 told_order version (s ∷ []) h = h
 told_order version (s ∷ t ∷ spans) h = (h.0, h.1, told_order version (t ∷ spans) h.2)
 
-pub told_answer : (version : Version) (spans : List Span) (p : Position) → span_answer (told version spans) p ≡ version_answer version spans p
+pub told_answer : (version : Version) (spans : List Span) (p : Position)
+    → span_answer (told version spans) p ≡ version_answer version spans p
 told_answer version [] p = refl
 told_answer version (s ∷ spans) p = elim (order_cases p s.low) [
   | inl before ↦
       answer_before (span_in_version version s) (told version spans) p before ∙ told_answer version spans p
       ∙ sym (ap (option_map (in_version version)) (answer_before s spans p before))
   | inr from ↦ elim (order_cases p s.high) [
-    | inl under ↦ answer_in (span_in_version version s) (told version spans) p from under ∙ sym (ap (option_map (in_version version)) (answer_in s spans p from under))
+    | inl under ↦ answer_in (span_in_version version s) (told version spans) p from under
+        ∙ sym (ap (option_map (in_version version)) (answer_in s spans p from under))
     | inr over ↦
         answer_behind (span_in_version version s) (told version spans) p over ∙ told_answer version spans p
         ∙ sym (ap (option_map (in_version version)) (answer_behind s spans p over))

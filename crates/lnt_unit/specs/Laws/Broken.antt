@@ -42,7 +42,8 @@ frame_at order ReservedLength before from h = h
 frame_at order (VersionNotFive version) before from h = h
 frame_at order reason before from h = absurd h
 
-pub frame_broken : (order : Order) (old : At) (fault : Fault) → Refuses (IsFrameFault order) (FrameBytes order) old fault → BrokenUnit order fault old.place old.rest
+pub frame_broken : (order : Order) (old : At) (fault : Fault) → Refuses (IsFrameFault order) (FrameBytes order) old fault
+    → BrokenUnit order fault old.place old.rest
 frame_broken order old fault r = record {
   broken = record {
     none = λ unit x more p e. r.none _ x more (unit_frame order unit x p) e;
@@ -53,12 +54,14 @@ frame_broken order old fault r = record {
     reason = frame_at order fault.reason r.before r.left r.reason;
   };
   in_header = λ none. frame r.reason;
-  in_program = λ header place program g. absurd (r.none _ g.front g.more (header_frame order header program g.front g.spelled) (sym g.joined));
+  in_program = λ header place program g. absurd
+      (r.none _ g.front g.more (header_frame order header program g.front g.spelled) (sym g.joined));
 }
 
 -- ---- the header
 
-pub header_broken : (order : Order) (fault : Fault) (offset : ℕ) (bytes : List ℕ) → BrokenHeader order fault offset bytes → BrokenUnit order fault offset bytes
+pub header_broken : (order : Order) (fault : Fault) (offset : ℕ) (bytes : List ℕ) → BrokenHeader order fault offset bytes
+    → BrokenUnit order fault offset bytes
 header_broken order fault offset bytes header_fault =
     let b = header_fault.broken in
     record {
@@ -76,20 +79,24 @@ header_broken order fault offset bytes header_fault =
 
 -- ---- the operations
 
-cut_at : (order : Order) (format : Format) (fields left before from : List ℕ) → 0 < length before → InFrame order format fields left before from → IsCutField before left → IsAt order Truncated before from
+cut_at : (order : Order) (format : Format) (fields left before from : List ℕ) → 0 < length before
+    → InFrame order format fields left before from → IsCutField before left → IsAt order Truncated before from
 cut_at order format fields left [] from some w h = absurd (omega arith)
 cut_at order format fields left (b ∷ before) from some w h = (left, inl (format, fields, w), h)
 
 -- the fields of a body up to its program
 fields_of : HeaderParts → List ℕ → List ℕ
-fields_of h fields = version_five h.order ++ (h.address_size ∷ 0 ∷ []) ++ number_bytes h.order (offset_size h.format) (length fields) ++ fields
+fields_of h fields =
+    version_five h.order ++ (h.address_size ∷ 0 ∷ []) ++ number_bytes h.order (offset_size h.format) (length fields) ++ fields
 
 size_of : (order : Order) (size : ℕ) (a b c : List ℕ) → slice_index ((version_five order ++ (size ∷ 0 ∷ []) ++ a ++ b) ++ c) 2 ≡ size
 size_of Little size a b c = refl
 size_of Big size a b c = refl
 
-op_at : (order : Order) (format : Format) (reason : Reason) (size : ℕ) (initial head before left from : List ℕ) → 0 < length initial → slice_index (head ++ before) 2 ≡ size
-    → InFrame order format (head ++ before) left (initial ++ (head ++ before)) from → IsOpFault size reason before left → IsAt order reason (initial ++ (head ++ before)) from
+op_at : (order : Order) (format : Format) (reason : Reason) (size : ℕ) (initial head before left from : List ℕ) → 0 < length initial
+    → slice_index (head ++ before) 2 ≡ size
+    → InFrame order format (head ++ before) left (initial ++ (head ++ before)) from → IsOpFault size reason before left
+    → IsAt order reason (initial ++ (head ++ before)) from
 op_at order format reason size initial head before left from some is w (cut_field reason_is h) =
     subst (λ (r : Reason). IsAt order r (initial ++ (head ++ before)) from) (sym reason_is)
     (cut_at order format (head ++ before) left (initial ++ (head ++ before)) from (omega (arith, length-append initial (head ++ before))) w
@@ -108,14 +115,18 @@ op_at order format reason size initial head before left from some is w (wrong_le
     )
 
 -- the fault of a program, where the program and its place have other names
-first_of : (h : HeaderParts) (program bytes : List ℕ) (fault : Fault) (offset place : ℕ) → HeaderBytes h program bytes → place + length program ≡ offset + length bytes → BrokenProgram h place program fault
-    → (header : HeaderParts) (other : ℕ) (named : List ℕ) → BeginsWithHeader h.order offset bytes header other named → BrokenProgram header other named fault
+first_of : (h : HeaderParts) (program bytes : List ℕ) (fault : Fault) (offset place : ℕ) → HeaderBytes h program bytes
+    → place + length program ≡ offset + length bytes → BrokenProgram h place program fault
+    → (header : HeaderParts) (other : ℕ) (named : List ℕ) → BeginsWithHeader h.order offset bytes header other named
+    → BrokenProgram header other named fault
 first_of h program bytes fault offset place p ends b header other named g =
-    let found = same_header header h named program g.front bytes g.more [] g.spelled.order_is g.spelled.spelled p (sym g.joined ∙ sym (append-nil bytes)) in
+    let found = same_header header h named program g.front bytes g.more [] g.spelled.order_is g.spelled.spelled p
+    (sym g.joined ∙ sym (append-nil bytes)) in
     let places : other ≡ place = omega (arith, g.ends, ends, ap length found.program, ap length found.bytes) in
     rw (found.header, found.program, places) b
 
-ops_broken_in : (h : HeaderParts) (program bytes : List ℕ) (fault : Fault) (offset place : ℕ) → HeaderBytes h program bytes → place + length program ≡ offset + length bytes
+ops_broken_in : (h : HeaderParts) (program bytes : List ℕ) (fault : Fault) (offset place : ℕ) → HeaderBytes h program bytes
+    → place + length program ≡ offset + length bytes
     → BrokenProgram h place program fault → Broken (UnitBytesIn h.order) h.order fault offset bytes
 unfolding fields_of
 ops_broken_in h program bytes fault offset place p ends b =
@@ -123,7 +134,8 @@ ops_broken_in h program bytes fault offset place p ends b =
     let body = unit_body h p.fields program in
     let initial = initial_length h.format h.order (length body) in
     let body_is : body ≡ (head ++ b.before) ++ b.left = ap (λ (z : List ℕ). head ++ z) b.split ∙ sym (append_assoc head b.before b.left) in
-    let split : bytes ≡ (initial ++ (head ++ b.before)) ++ b.left = p.joined ∙ ap (λ (z : List ℕ). initial ++ z) body_is ∙ sym (append_assoc initial (head ++ b.before) b.left) in
+    let split : bytes ≡ (initial ++ (head ++ b.before)) ++ b.left = p.joined ∙ ap (λ (z : List ℕ). initial ++ z) body_is
+    ∙ sym (append_assoc initial (head ++ b.before) b.left) in
     let in_frame : InFrame h.order h.format (head ++ b.before) b.left (initial ++ (head ++ b.before)) b.left = record {
       more = [];
       fits = subst (λ (z : List ℕ). LengthFits h.format (length z)) body_is p.fits;
@@ -133,18 +145,30 @@ ops_broken_in h program bytes fault offset place p ends b =
     let some : 0 < length initial = omega (arith, length-initial h.format h.order (length body)) in
     record {
       none = λ unit x more q e.
-          let found = same_header unit.header h q.spelled.program program x bytes more [] q.order_is q.spelled.whole p (e ∙ sym (append-nil bytes)) in
+          let found = same_header unit.header h q.spelled.program program x bytes more [] q.order_is q.spelled.whole p
+          (e ∙ sym (append-nil bytes)) in
           b.none unit.ops
-          (subst (λ (g : HeaderParts). Each (OpBytes g) unit.ops program) found.header (subst (λ (z : List ℕ). Each (OpBytes unit.header) unit.ops z) found.program q.spelled.operations));
+          (subst (λ (g : HeaderParts). Each (OpBytes g) unit.ops program) found.header
+          (subst (λ (z : List ℕ). Each (OpBytes unit.header) unit.ops z) found.program q.spelled.operations));
       before = initial ++ (head ++ b.before);
       from = b.left;
       split = split;
-      place = omega (arith, b.place_is, ends, ap length split, length-append (initial ++ (head ++ b.before)) b.left, ap length b.split, length-append b.before b.left);
+      place = omega (
+        arith,
+        b.place_is,
+        ends,
+        ap length split,
+        length-append (initial ++ (head ++ b.before)) b.left,
+        ap length b.split,
+        length-append b.before b.left,
+      );
       reason = op_at h.order h.format fault.reason h.address_size initial head b.before b.left b.left some
-          (size_of h.order h.address_size (number_bytes h.order (offset_size h.format) (length p.fields)) p.fields b.before) in_frame b.reason;
+          (size_of h.order h.address_size (number_bytes h.order (offset_size h.format) (length p.fields)) p.fields b.before) in_frame
+          b.reason;
     }
 
-pub ops_broken : (order : Order) (h : HeaderParts) (program bytes : List ℕ) (fault : Fault) (offset place : ℕ) → HeaderBytesIn order (h, program) bytes → place + length program ≡ offset + length bytes
+pub ops_broken : (order : Order) (h : HeaderParts) (program bytes : List ℕ) (fault : Fault) (offset place : ℕ)
+    → HeaderBytesIn order (h, program) bytes → place + length program ≡ offset + length bytes
     → BrokenProgram h place program fault → BrokenUnit order fault offset bytes
 ops_broken order h program bytes fault offset place p ends b =
     subst (λ (o : Order). BrokenUnit o fault offset bytes) p.order_is

@@ -5,7 +5,7 @@ use Rattle.lnt_wire.specs.declared.fault.Reason.{Reason}
 use Rattle.lnt_header_bytes.specs.Borrowed.{without_entries}
 use Rattle.lnt_header.specs.declared.header.HeaderParts.{HeaderParts}
 use Rattle.lnt_header.specs.declared.op.Op.{Op}
-use Rattle.lnt_header.specs.declared.op.Op.TheVariants.{Special, Copy, AdvancePc, AdvanceLine, SetFile, SetColumn, NegateStmt, SetBasicBlock, ConstAddPc, FixedAdvancePc, SetPrologueEnd, SetEpilogueBegin, SetIsa, UnknownStandard, EndSequence, SetAddress, SetDiscriminator, UnknownExtended}
+use Rattle.lnt_header.specs.declared.op.Op.TheVariants.{Special}
 use Rattle.lnt_header.specs.HeaderRules.{IsHeader}
 use Rattle.lnt_header.specs.Joins.{Each}
 use Rattle.lnt_header.specs.OpRules.{Admits}
@@ -13,7 +13,8 @@ use Rattle.lnt_header_bytes.specs.Laws.Borrowed.{header_without_entries}
 use Rattle.lnt_ops.specs.Laws.Programs.{walk_done, walk_broken}
 use Rattle.lnt_ops.specs.OpBytes.{OpBytes}
 use Rattle.lnt_ops.specs.OpFaults.{IsFirstFault}
-use Rattle.lnt_ops.specs.OpFaults.IsFirstFault.{no_opcode, unsigned_operand, signed_operand, fixed_operand, unknown_operand, no_length, cut_counted, wrong_counted, large_counted}
+use Rattle.lnt_ops.specs.OpFaults.IsFirstFault.{no_opcode, unsigned_operand, signed_operand, fixed_operand}
+use Rattle.lnt_ops.specs.OpFaults.IsFirstFault.{unknown_operand, no_length, cut_counted, wrong_counted, large_counted}
 use Rattle.lnt_ops.specs.Programs.{BrokenProgram}
 use Rattle.lnt_ops.specs.Walks.{Walk, Ends, Fails}
 use Rattle.lnt_unit.specs.BrokenUnits.{BrokenUnit}
@@ -26,76 +27,41 @@ use Rattle.lnt_unit.specs.Views.{View, IsView, HasGiven, with_ops, by_numbers}
 
 pub op_by_numbers : (h : HeaderParts) (op : Op) (x : List ℕ) → OpBytes (without_entries h) op x → OpBytes h op x
 op_by_numbers h (Special c) x p = p
-op_by_numbers h Copy x p = p
-op_by_numbers h (AdvancePc n) x p = p
-op_by_numbers h (AdvanceLine z) x p = p
-op_by_numbers h (SetFile n) x p = p
-op_by_numbers h (SetColumn n) x p = p
-op_by_numbers h NegateStmt x p = p
-op_by_numbers h SetBasicBlock x p = p
-op_by_numbers h ConstAddPc x p = p
-op_by_numbers h (FixedAdvancePc n) x p = p
-op_by_numbers h SetPrologueEnd x p = p
-op_by_numbers h SetEpilogueBegin x p = p
-op_by_numbers h (SetIsa n) x p = p
-op_by_numbers h (UnknownStandard k operands) x p = p
-op_by_numbers h EndSequence x p = p
-op_by_numbers h (SetAddress address) x p = p
-op_by_numbers h (SetDiscriminator n) x p = p
-op_by_numbers h (UnknownExtended code operand) x p = p
+op_by_numbers h op x p = p
 
 pub numbers_of_op : (h : HeaderParts) (op : Op) (x : List ℕ) → OpBytes h op x → OpBytes (without_entries h) op x
 numbers_of_op h (Special c) x p = p
-numbers_of_op h Copy x p = p
-numbers_of_op h (AdvancePc n) x p = p
-numbers_of_op h (AdvanceLine z) x p = p
-numbers_of_op h (SetFile n) x p = p
-numbers_of_op h (SetColumn n) x p = p
-numbers_of_op h NegateStmt x p = p
-numbers_of_op h SetBasicBlock x p = p
-numbers_of_op h ConstAddPc x p = p
-numbers_of_op h (FixedAdvancePc n) x p = p
-numbers_of_op h SetPrologueEnd x p = p
-numbers_of_op h SetEpilogueBegin x p = p
-numbers_of_op h (SetIsa n) x p = p
-numbers_of_op h (UnknownStandard k operands) x p = p
-numbers_of_op h EndSequence x p = p
-numbers_of_op h (SetAddress address) x p = p
-numbers_of_op h (SetDiscriminator n) x p = p
-numbers_of_op h (UnknownExtended code operand) x p = p
+numbers_of_op h op x p = p
 
 pub ops_by_numbers : (h : HeaderParts) (ops : List Op) (x : List ℕ) → Each (OpBytes (without_entries h)) ops x → Each (OpBytes h) ops x
 ops_by_numbers h [] x p = p
-ops_by_numbers h (op ∷ ops) x p = record { front = p.front; back = p.back; first = op_by_numbers h op p.front p.first; second = ops_by_numbers h ops p.back p.second; joined = p.joined }
+ops_by_numbers h (op ∷ ops) x p = record {
+  front = p.front;
+  back = p.back;
+  first = op_by_numbers h op p.front p.first;
+  second = ops_by_numbers h ops p.back p.second;
+  joined = p.joined;
+}
 
 pub numbers_of_ops : (h : HeaderParts) (ops : List Op) (x : List ℕ) → Each (OpBytes h) ops x → Each (OpBytes (without_entries h)) ops x
 numbers_of_ops h [] x p = p
-numbers_of_ops h (op ∷ ops) x p = record { front = p.front; back = p.back; first = numbers_of_op h op p.front p.first; second = numbers_of_ops h ops p.back p.second; joined = p.joined }
+numbers_of_ops h (op ∷ ops) x p = record {
+  front = p.front;
+  back = p.back;
+  first = numbers_of_op h op p.front p.first;
+  second = numbers_of_ops h ops p.back p.second;
+  joined = p.joined;
+}
 
 -- what a header admits by its numbers
 pub admits_by_numbers : (h : HeaderParts) (op : Op) → Admits (without_entries h) op → Admits h op
 admits_by_numbers h (Special c) a = a
-admits_by_numbers h Copy a = a
-admits_by_numbers h (AdvancePc n) a = a
-admits_by_numbers h (AdvanceLine z) a = a
-admits_by_numbers h (SetFile n) a = a
-admits_by_numbers h (SetColumn n) a = a
-admits_by_numbers h NegateStmt a = a
-admits_by_numbers h SetBasicBlock a = a
-admits_by_numbers h ConstAddPc a = a
-admits_by_numbers h (FixedAdvancePc n) a = a
-admits_by_numbers h SetPrologueEnd a = a
-admits_by_numbers h SetEpilogueBegin a = a
-admits_by_numbers h (SetIsa n) a = a
-admits_by_numbers h (UnknownStandard k operands) a = a
-admits_by_numbers h EndSequence a = a
-admits_by_numbers h (SetAddress address) a = a
-admits_by_numbers h (SetDiscriminator n) a = a
-admits_by_numbers h (UnknownExtended code operand) a = a
+admits_by_numbers h op a = a
 
 -- ---- faults
 
-first_by_numbers : (h : HeaderParts) (reason : Reason) (before left : List ℕ) → IsFirstFault (without_entries h) reason before left → IsFirstFault h reason before left
+first_by_numbers : (h : HeaderParts) (reason : Reason) (before left : List ℕ) → IsFirstFault (without_entries h) reason before left
+    → IsFirstFault h reason before left
 first_by_numbers h reason before left (no_opcode a b c) = no_opcode a b c
 first_by_numbers h reason before left (unsigned_operand k a b c d) = unsigned_operand k a b c d
 first_by_numbers h reason before left (signed_operand a b c) = signed_operand a b c
@@ -106,7 +72,8 @@ first_by_numbers h reason before left (cut_counted n spelling a b c d) = cut_cou
 first_by_numbers h reason before left (wrong_counted a b c) = wrong_counted a b c
 first_by_numbers h reason before left (large_counted spelling operand rest a b c d e f) = large_counted spelling operand rest a b c d e f
 
-pub broken_by_numbers : (h : HeaderParts) (place : ℕ) (program : List ℕ) (fault : Fault) → BrokenProgram (without_entries h) place program fault → BrokenProgram h place program fault
+pub broken_by_numbers : (h : HeaderParts) (place : ℕ) (program : List ℕ) (fault : Fault)
+    → BrokenProgram (without_entries h) place program fault → BrokenProgram h place program fault
 broken_by_numbers h place program fault b = record {
   before = b.before;
   left = b.left;
@@ -127,15 +94,19 @@ broken_by_numbers h place program fault b = record {
 -- ---- units
 
 -- all were given: the bytes are those of the unit of these operations
-pub given_all_by_numbers : (view : View) (ops : List Op) (old new : Walk) → IsView view → HasGiven (by_numbers view) ops old → Ends old new → UnitBytesIn view.unit.order (with_ops view ops) view.unit.bytes
+pub given_all_by_numbers : (view : View) (ops : List Op) (old new : Walk) → IsView view → HasGiven (by_numbers view) ops old → Ends old new
+    → UnitBytesIn view.unit.order (with_ops view ops) view.unit.bytes
 given_all_by_numbers view ops old new is given ends =
     unit_found view.unit.order (with_ops view ops) view.program view.unit.bytes is.spelled
-    (ops_by_numbers view.header ops view.program (walk_done (without_entries view.header) view.place view.program ops old new given.going given.so ends))
+    (ops_by_numbers view.header ops view.program
+    (walk_done (without_entries view.header) view.place view.program ops old new given.going given.so ends))
 
 -- one was refused: the bytes are those of no unit
-pub given_broken_by_numbers : (view : View) (ops : List Op) (fault : Fault) (old new : Walk) → IsHeader view.header → IsView view → HasGiven (by_numbers view) ops old → Fails fault old new
+pub given_broken_by_numbers : (view : View) (ops : List Op) (fault : Fault) (old new : Walk) → IsHeader view.header → IsView view
+    → HasGiven (by_numbers view) ops old → Fails fault old new
     → BrokenUnit view.unit.order fault view.unit.offset view.unit.bytes
 given_broken_by_numbers view ops fault old new header is given fails =
     ops_broken view.unit.order view.header view.program view.unit.bytes fault view.unit.offset view.place is.spelled is.end
     (broken_by_numbers view.header view.place view.program fault
-    (walk_broken (without_entries view.header) view.place view.program ops fault old new (header_without_entries view.header header) given.header_is given.so fails))
+    (walk_broken (without_entries view.header) view.place view.program ops fault old new (header_without_entries view.header header)
+    given.header_is given.so fails))

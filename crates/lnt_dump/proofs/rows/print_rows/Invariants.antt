@@ -1,5 +1,6 @@
+use Rattle.lnt_header_bytes.specs.Borrowed.{without_entries}
 use Rattle.lnt_machine.specs.Laws.Walks.{HaveHeader}
 use Rattle.lnt_dump.proofs.rows.print_rows.Given as goal
 
 abbrev pub invariant-loop-op : goal.invariant-loop-op
-invariant-loop-op g l = HaveHeader l.unit.header l.machine l.op-iterator
+invariant-loop-op g l = HaveHeader (without_entries l.unit.header) l.machine l.op-iterator

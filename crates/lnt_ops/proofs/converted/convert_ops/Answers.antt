@@ -2,7 +2,7 @@ use Rattle.std.proofs.Common.{◌≢◌, subst, Some, Result}
 use Rattle.std.proofs.lemmas.Result.{err_from_is_err_and}
 use Rattle.lnt_wire.specs.declared.fault.Fault.{Fault}
 use Rattle.lnt_wire.specs.declared.fault.Reason.TheVariants.{Memory}
-use Rattle.lnt_header.specs.declared.view.OpView.{OpView}
+use Rattle.lnt_header.specs.declared.op.OpView.{OpView}
 use Rattle.lnt_ops.specs.Laws.Programs.{walk_broken}
 use Rattle.lnt_ops.specs.Programs.{BrokenProgram}
 use Rattle.lnt_ops.specs.Walks.{Fails, Steps, WalkStep}
@@ -15,14 +15,18 @@ returns-in_err-view-clause-err c =
     let fault = c.in_err-view.field-0.0 in
     let so = c.loop-view.invariant in
     let step : Fails fault c.loop-view.view-iterator c.next.new.self =
-    subst (λ (r : Result OpView Fault). WalkStep c.loop-view.view-iterator (Some r) c.next.new.self) c.in_err-view.was c.in-Some.ensures.steps in
+    subst (λ (r : Result OpView Fault). WalkStep c.loop-view.view-iterator (Some r) c.next.new.self) c.in_err-view.was
+    c.in-Some.ensures.steps in
     let rest : fault.reason ≢ Memory → BrokenProgram c.args.header.now c.args.place c.args.program.now fault =
-    λ _. walk_broken c.args.header.now c.args.place c.args.program.now so.ops fault c.loop-view.view-iterator c.next.new.self c.new-view-items.ensures.is_header so.header_is so.so step in
+    λ _. walk_broken c.args.header.now c.args.place c.args.program.now so.ops fault c.loop-view.view-iterator c.next.new.self
+    c.new-view-items.ensures.is_header so.header_is so.so step in
     rw (p.1, p.2) rest
 
 pub loop-view-preserved : goal.loop-view-preserved
 loop-view-preserved c =
     let step : Steps c.in_ok-view.field-0 c.loop-view.view-iterator c.next.new.self =
-    subst (λ (r : Result OpView Fault). WalkStep c.loop-view.view-iterator (Some r) c.next.new.self) c.in_ok-view.was c.in-Some.ensures.steps in
-    converted_more c.args.header.now c.args.place c.args.program.now c.args.to c.address_size-size.result c.args.out.now.items _ _ c.in_ok-view.field-0 c.loop-view.view-iterator c.next.new.self c.loop-view.invariant step
+    subst (λ (r : Result OpView Fault). WalkStep c.loop-view.view-iterator (Some r) c.next.new.self) c.in_ok-view.was
+    c.in-Some.ensures.steps in
+    converted_more c.args.header.now c.args.place c.args.program.now c.args.to c.address_size-size.result c.args.out.now.items _ _
+    c.in_ok-view.field-0 c.loop-view.view-iterator c.next.new.self c.loop-view.invariant step
     c.address_size-size.ensures.value c.in-Ok.ensures.ok

@@ -3,7 +3,7 @@ use Rattle.std.proofs.lemmas.Grind.{common_steps}
 use Rattle.std.proofs.lemmas.Result.{err_from_is_err_and}
 use Rattle.lnt_wire.specs.declared.fault.Reason.TheVariants.{Memory}
 use Rattle.lnt_wire.specs.declared.fault.Fault.{Fault}
-use Rattle.lnt_header.specs.declared.view.OpView.{OpView}
+use Rattle.lnt_header.specs.declared.op.OpView.{OpView}
 use Rattle.lnt_ops.specs.Programs.{BrokenProgram}
 use Rattle.lnt_ops.specs.Walks.{Fails, Steps, WalkStep}
 use Rattle.lnt_ops.specs.Laws.Programs.{walk_broken, walk_more}
@@ -14,9 +14,11 @@ returns-in_err-view-clause-err c =
     let p = err_from_is_err_and c.from_residual.result c.from_residual.ensures.1 in
     let fault = c.in_err-view.field-0.0 in
     let step : Fails fault c.loop-view.view-iterator c.next.new.self =
-    subst (λ (r : Result OpView Fault). WalkStep c.loop-view.view-iterator (Some r) c.next.new.self) c.in_err-view.was c.in-Some.ensures.steps in
+    subst (λ (r : Result OpView Fault). WalkStep c.loop-view.view-iterator (Some r) c.next.new.self) c.in_err-view.was
+    c.in-Some.ensures.steps in
     let rest : fault.reason ≢ Memory → BrokenProgram c.args.header.now c.args.place c.args.program.now fault =
-    λ _. walk_broken c.args.header.now c.args.place c.args.program.now c.loop-view.ops.items fault c.loop-view.view-iterator c.next.new.self c.new-view-items.ensures.is_header c.loop-view.invariant.0 c.loop-view.invariant.2 step in
+    λ _. walk_broken c.args.header.now c.args.place c.args.program.now c.loop-view.ops.items fault c.loop-view.view-iterator c.next.new.self
+    c.new-view-items.ensures.is_header c.loop-view.invariant.0 c.loop-view.invariant.2 step in
     rw (p.1, p.2) rest
 
 pub loop-view-preserved : goal.loop-view-preserved
@@ -24,5 +26,7 @@ loop-view-preserved c =
     let op = c.in-Ok.op in
     let items : c.push.new.self.items ≡ c.loop-view.ops.items ++ op ∷ [] = grind (arith, common_steps) in
     let step : Steps c.in_ok-view.field-0 c.loop-view.view-iterator c.next.new.self =
-    subst (λ (r : Result OpView Fault). WalkStep c.loop-view.view-iterator (Some r) c.next.new.self) c.in_ok-view.was c.in-Some.ensures.steps in
-    rw items (walk_more c.args.header.now c.args.place c.args.program.now c.loop-view.ops.items op c.in_ok-view.field-0 c.loop-view.view-iterator c.next.new.self c.loop-view.invariant.0 c.loop-view.invariant.2 step c.in-Ok.ensures)
+    subst (λ (r : Result OpView Fault). WalkStep c.loop-view.view-iterator (Some r) c.next.new.self) c.in_ok-view.was
+    c.in-Some.ensures.steps in
+    rw items (walk_more c.args.header.now c.args.place c.args.program.now c.loop-view.ops.items op c.in_ok-view.field-0
+    c.loop-view.view-iterator c.next.new.self c.loop-view.invariant.0 c.loop-view.invariant.2 step c.in-Ok.ensures)

@@ -8,4 +8,6 @@ returns-in_err-add_op-clause-extends c =
     rw p.1 (extends_more _ _ _ (appended_extends _ _ _ _ c.loop-op.invariant) c.in_err-add_op.ensures.extends)
 
 pub loop-op-preserved : goal.loop-op-preserved
-loop-op-preserved c = ops_more c.args.header.now c.args.ops.now c.loop-op.op-index c.op-item.result _ _ _ c.loop-op-test.true c.op-item.is c.loop-op.invariant c.in_ok-add_op.ensures.ok
+loop-op-preserved c =
+    ops_more c.args.header.now c.args.ops.now c.loop-op.op-index c.op-item.result _ _ _ c.loop-op-test.true c.op-item.is c.loop-op.invariant
+    c.in_ok-add_op.ensures.ok

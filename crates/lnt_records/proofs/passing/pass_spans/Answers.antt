@@ -40,6 +40,7 @@ returns-then-not-pass_line-clause-ok g c =
     subst (λ (v : Version). (pushed given : List Span) → HasJoined v pushed given c.loop-span.joiner.last → HasJoined v (pushed ++ span ∷ []) (given ++ cons_option one []) c.push.new.self.last) inv.version c.push.ensures.joined in
     let pushes : Pushes g.S.SpanSource.to_come old new c.args.version span one c.loop-span.joiner.last c.push.new.self.last = record { gives = c.in-Some.ensures.gives; joined = joined } in
     let same = rw c.if-not-pass_line.true at c.pass_line.ensures in
+    rw c.behind-spans.ensures
     rw c.finish.ensures.last
     (leaves_off_at g.S.SpanSource.to_come c.args.spans old new c.args.version c.loop-span.joiner.last c.push.new.self.last one _ _ _ _ _ _ c.args.window.now c.loop-span.window c.fill.new.self c.pass_line.new.window
     c.loop-span.count c.loop-span.end span c.in-Some-push.joined inv.stands pushes c.in-Some-push.is c.in_ok-fill.ensures.taken same)
@@ -81,5 +82,6 @@ loop-span-preserved g c =
 pub returns-clause-ok : goal.returns-clause-ok
 returns-clause-ok g c =
     let inv = c.loop-span.invariant in
+    rw c.ended-spans.ensures
     rw c.finish-2.ensures.last
     (leaves_off g.S.SpanSource.to_come c.args.spans c.loop-span.spans c.next_span.new.self c.args.version c.loop-span.joiner.last _ _ _ _ c.args.window.now c.loop-span.window c.loop-span.count c.loop-span.end inv.stands c.in_default.ensures.gives)

@@ -8,4 +8,11 @@ pub returns-clause-gathered : goal.returns-clause-gathered
 returns-clause-gathered c = λ k d h.
     ends_no_later (get_or c.sort_unstable_by_key.new.self k d) (get_or c.sort_unstable_by_key.new.self (k + 1) d)
     (c.sort_unstable_by_key.ensures.sorted (λ (e : Extent). (e.low.address, e.low.op, e.high.address, e.high.op, e.id.unit, e.id.index))
-    (answers_always _ (λ a r. r ≡ (a.0.now.low.address, a.0.now.low.op, a.0.now.high.address, a.0.now.high.op, a.0.now.id.unit, a.0.now.id.index)) _ (λ f a r q k. search rules)) k d (omega arith) h)
+    (answers_always _ (λ a r. r ≡ (
+      a.0.now.low.address,
+      a.0.now.low.op,
+      a.0.now.high.address,
+      a.0.now.high.op,
+      a.0.now.id.unit,
+      a.0.now.id.index,
+    )) _ (λ f a r q k. search rules)) k d (omega arith) h)

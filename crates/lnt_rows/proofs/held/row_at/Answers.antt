@@ -9,13 +9,17 @@ loop-row-init c list will = rw c.into_iter-row-iterator.ensures.into_iter_gives 
 
 pub loop-row-preserved-then-not-is_below : goal.loop-row-preserved-then-not-is_below
 loop-row-preserved-then-not-is_below c list will =
-    looked_here c.args.position list c.loop-row.row-iterator c.next.new.self c.loop-row.found c.in-Some.row (c.loop-row.invariant list will) c.in-Some.ensures.steps
+    looked_here c.args.position list c.loop-row.row-iterator c.next.new.self c.loop-row.found c.in-Some.row (c.loop-row.invariant list will)
+    c.in-Some.ensures.steps
     (subst (λ (q : Position). IsAtMost q c.args.position) c.position_of.ensures c.if-not-is_below.ensures)
 
 pub loop-row-preserved : goal.loop-row-preserved
 loop-row-preserved c list will =
-    looked_above c.args.position list c.loop-row.row-iterator c.next.new.self c.loop-row.found c.in-Some.row (c.loop-row.invariant list will) c.in-Some.ensures.steps
+    looked_above c.args.position list c.loop-row.row-iterator c.next.new.self c.loop-row.found c.in-Some.row
+    (c.loop-row.invariant list will) c.in-Some.ensures.steps
     (subst (λ (q : Position). IsBelow c.args.position q) c.position_of.ensures c.if-not-is_below.ensures)
 
 pub returns : goal.returns
-returns c list will = looked_all c.args.position list c.loop-row.row-iterator c.next.new.self c.loop-row.found (c.loop-row.invariant list will) c.in-None.ensures.steps
+returns c list will =
+    looked_all c.args.position list c.loop-row.row-iterator c.next.new.self c.loop-row.found (c.loop-row.invariant list will)
+    c.in-None.ensures.steps

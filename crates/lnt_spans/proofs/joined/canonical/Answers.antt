@@ -11,9 +11,13 @@ pub loop-span-preserved : goal.loop-span-preserved
 loop-span-preserved c =
     let inv = rw (drop_more c.in-Some.rest.now c.loop-span.span-index no_span c.loop-span-test.true) at c.loop-span.invariant in
     elim c.if-joins.branch [
-      | then-joins w ↦ rw (w.joined-is, w.last-is, c.in_version-next.ensures) (keep_join _ _ _ _ _ inv (rw c.in_version-next.ensures at w.if-joins.ensures))
-      | else-joins+in_ok-push w ↦ rw (w.joined-is, w.last-is, w.in_ok-push.ensures.items, c.in_version-next.ensures) (keep_push _ _ _ _ _ inv (rw c.in_version-next.ensures at w.if-joins.ensures))
+      | then-joins w ↦ rw (w.joined-is, w.last-is, c.in_version-next.ensures)
+          (keep_join _ _ _ _ _ inv (rw c.in_version-next.ensures at w.if-joins.ensures))
+      | else-joins+in_ok-push w ↦ rw (w.joined-is, w.last-is, w.in_ok-push.ensures.items, c.in_version-next.ensures)
+          (keep_push _ _ _ _ _ inv (rw c.in_version-next.ensures at w.if-joins.ensures))
     ]
 
 pub returns-clause-same : goal.returns-clause-same
-returns-clause-same c = rw c.in_ok-push-2.ensures.items (join_end _ _ _ _ _ c.loop-span.invariant (drop_all c.loop-span.span-index c.in-Some.rest.now (omega (arith, c.loop-span-test.false))))
+returns-clause-same c =
+    rw c.in_ok-push-2.ensures.items
+    (join_end _ _ _ _ _ c.loop-span.invariant (drop_all c.loop-span.span-index c.in-Some.rest.now (omega (arith, c.loop-span-test.false))))

@@ -8,19 +8,26 @@ pub loop-version-preserved-then-stretch : goal.loop-version-preserved-then-stret
 loop-version-preserved-then-stretch g c list ahead order behind =
     let to_come = g.S.SpanSource.to_come in
     let so_far = c.loop-version.invariant list ahead order behind in
-    let stretch = c.stretch_at-stretch.ensures.stretch so_far.rest (begins_with to_come c.loop-version.spans so_far.rest so_far.left) so_far.says.order so_far.says.behind in
-    so_far_more c.args.version list c.args.from c.loop-version.at c.stretch_at-stretch.result.end c.args.to c.args.answer c.stretch_at-stretch.result.answer true
+    let stretch = c.stretch_at-stretch.ensures.stretch so_far.rest (begins_with to_come c.loop-version.spans so_far.rest so_far.left)
+    so_far.says.order so_far.says.behind in
+    so_far_more c.args.version list c.args.from c.loop-version.at c.stretch_at-stretch.result.end c.args.to c.args.answer
+    c.stretch_at-stretch.result.answer true
     (IsAhead to_come c.loop-version.spans) (IsAhead to_come c.pass.new.self) so_far
-    (subst (λ (t : Bool). IsStretch c.args.version so_far.rest c.loop-version.at c.args.to c.stretch_at-stretch.result.answer c.stretch_at-stretch.result.end (rest_of t so_far.rest)) c.if-stretch.true stretch)
+    (subst (λ (t : Bool). IsStretch c.args.version so_far.rest c.loop-version.at c.args.to c.stretch_at-stretch.result.answer
+    c.stretch_at-stretch.result.end (rest_of t so_far.rest)) c.if-stretch.true stretch)
     c.if-not-is_same.ensures
-    (passed_left to_come c.loop-version.spans c.pass.new.self so_far.rest (c.stretch_at-stretch.ensures.passed c.if-stretch.true) so_far.left c.pass.ensures.passed)
+    (passed_left to_come c.loop-version.spans c.pass.new.self so_far.rest (c.stretch_at-stretch.ensures.passed c.if-stretch.true)
+    so_far.left c.pass.ensures.passed)
 
 pub loop-version-preserved : goal.loop-version-preserved
 loop-version-preserved g c list ahead order behind =
     let to_come = g.S.SpanSource.to_come in
     let so_far = c.loop-version.invariant list ahead order behind in
-    let stretch = c.stretch_at-stretch.ensures.stretch so_far.rest (begins_with to_come c.loop-version.spans so_far.rest so_far.left) so_far.says.order so_far.says.behind in
-    so_far_more c.args.version list c.args.from c.loop-version.at c.stretch_at-stretch.result.end c.args.to c.args.answer c.stretch_at-stretch.result.answer false
+    let stretch = c.stretch_at-stretch.ensures.stretch so_far.rest (begins_with to_come c.loop-version.spans so_far.rest so_far.left)
+    so_far.says.order so_far.says.behind in
+    so_far_more c.args.version list c.args.from c.loop-version.at c.stretch_at-stretch.result.end c.args.to c.args.answer
+    c.stretch_at-stretch.result.answer false
     (IsAhead to_come c.loop-version.spans) (IsAhead to_come c.loop-version.spans) so_far
-    (subst (λ (t : Bool). IsStretch c.args.version so_far.rest c.loop-version.at c.args.to c.stretch_at-stretch.result.answer c.stretch_at-stretch.result.end (rest_of t so_far.rest)) c.if-stretch.false stretch)
+    (subst (λ (t : Bool). IsStretch c.args.version so_far.rest c.loop-version.at c.args.to c.stretch_at-stretch.result.answer
+    c.stretch_at-stretch.result.end (rest_of t so_far.rest)) c.if-stretch.false stretch)
     c.if-not-is_same.ensures so_far.left

@@ -8,18 +8,21 @@ pub returns-in_default-clause-fewer : goal.returns-in_default-clause-fewer
 returns-in_default-clause-fewer c e = fewer_none _ _ _ c.in_default.is c.requires
 
 pub returns-then-is_below-clause-stretch : goal.returns-then-is_below-clause-stretch
-returns-then-is_below-clause-stretch c spans begins order behind = stretch_gap _ _ spans c.in-Some.span _ _ _ c.in-Some.is begins order c.requires c.if-is_below.ensures c.earlier.ensures
+returns-then-is_below-clause-stretch c spans begins order behind =
+    stretch_gap _ _ spans c.in-Some.span _ _ _ c.in-Some.is begins order c.requires c.if-is_below.ensures c.earlier.ensures
 
 pub returns-then-is_below-clause-fewer : goal.returns-then-is_below-clause-fewer
 returns-then-is_below-clause-fewer c e = fewer_gap _ c.in-Some.span _ _ _ c.in-Some.is c.requires c.if-is_below.ensures c.earlier.ensures
 
 pub returns-then-is_below-2-clause-stretch : goal.returns-then-is_below-2-clause-stretch
 returns-then-is_below-2-clause-stretch c spans begins order behind =
-    rw c.in_version.ensures (stretch_inside _ _ spans c.in-Some.span _ _ c.in-Some.is begins order c.requires c.if-is_below.ensures c.if-is_below-2.ensures)
+    rw c.in_version.ensures (stretch_inside _ _ spans c.in-Some.span _ _ c.in-Some.is begins order c.requires c.if-is_below.ensures
+    c.if-is_below-2.ensures)
 
 pub returns-then-is_below-2-clause-fewer : goal.returns-then-is_below-2-clause-fewer
 returns-then-is_below-2-clause-fewer c e = fewer_inside _ c.in-Some.span _ _ c.in-Some.is c.requires c.if-is_below.ensures
 
 pub returns-else-is_below-2-clause-stretch : goal.returns-else-is_below-2-clause-stretch
 returns-else-is_below-2-clause-stretch c spans begins order behind =
-    rw c.in_version.ensures (stretch_whole _ _ spans c.in-Some.span _ _ c.in-Some.is begins order behind c.if-is_below.ensures c.if-is_below-2.ensures)
+    rw c.in_version.ensures (stretch_whole _ _ spans c.in-Some.span _ _ c.in-Some.is begins order behind c.if-is_below.ensures
+    c.if-is_below-2.ensures)

@@ -4,7 +4,8 @@ use Rattle.lnt_spans.specs.Laws.Coming.{HasGiven}
 use Rattle.lnt_spans.proofs.source.collect.Given as goal
 
 abbrev pub invariant-loop-span : goal.invariant-loop-span
-invariant-loop-span g l = (list : List Span) → g.S.SpanSource.to_come l.fn.spans list → HasGiven list l.all.items (g.S.SpanSource.to_come l.spans)
+invariant-loop-span g l =
+    (list : List Span) → g.S.SpanSource.to_come l.fn.spans list → HasGiven list l.all.items (g.S.SpanSource.to_come l.spans)
 
 abbrev pub decreases-loop-span : goal.decreases-loop-span
 decreases-loop-span g l = g.S.SpanSource.left l.spans

@@ -7,7 +7,7 @@ compare_table-requires-clause-spans g c =
     let all = c.spans.ensures.gives known.dead known.skip known.units known.index_is in
     (all.spans, all.to_come, all.in_order)
 
-pub returns-in-Ok-clause-ok : goal.returns-in-Ok-clause-ok
-returns-in-Ok-clause-ok g c dead skip units is =
+pub returns-clause-ok : goal.returns-clause-ok
+returns-clause-ok g c dead skip units is =
     let all = c.spans.ensures.gives dead skip units is in
-    found_with (g.T.Source.remaining c.args.table.now) dead skip units all.spans c.in-Ok.compared all.answers (c.in-Ok.ensures.ok all.spans all.to_come all.in_order)
+    found_with (g.T.Source.remaining c.args.table.now) dead skip units all.spans c.in_ok-compared.compared all.answers (c.in_ok-compared.ensures.ok all.spans all.to_come all.in_order)

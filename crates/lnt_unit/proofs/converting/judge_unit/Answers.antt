@@ -14,7 +14,11 @@ returns-in_err-frame-clause-err c =
     let old = c.args.cursor.now in
     let fault = c.in_err-frame.field-0.0 in
     let at : StandsAt c.args.order old.place old.rest c.new-ahead.result =
-    record { place_is = c.new-ahead.ensures.place ∙ c.place.ensures.value; rest_is = c.new-ahead.ensures.rest ∙ c.rest.ensures; order_is = c.new-ahead.ensures.order } in
+    record {
+      place_is = c.new-ahead.ensures.place ∙ c.place.ensures.value;
+      rest_is = c.new-ahead.ensures.rest ∙ c.rest.ensures;
+      order_is = c.new-ahead.ensures.order;
+    } in
     let broken : fault.reason ≢ Memory → BrokenUnit c.args.order fault old.place old.rest =
     λ some. no_frame c.args.order old.place old.rest c.new-ahead.result fault at c.in_err-frame.ensures.err in
     rw (p.1, p.2) broken
@@ -23,8 +27,14 @@ pub returns-in-Err-Malformed-clause-err : goal.returns-in-Err-Malformed-clause-e
 returns-in-Err-Malformed-clause-err c =
     let old = c.args.cursor.now in
     let at : StandsAt c.args.order old.place old.rest c.new-ahead.result =
-    record { place_is = c.new-ahead.ensures.place ∙ c.place.ensures.value; rest_is = c.new-ahead.ensures.rest ∙ c.rest.ensures; order_is = c.new-ahead.ensures.order } in
+    record {
+      place_is = c.new-ahead.ensures.place ∙ c.place.ensures.value;
+      rest_is = c.new-ahead.ensures.rest ∙ c.rest.ensures;
+      order_is = c.new-ahead.ensures.order;
+    } in
     let frame = c.in_ok-frame.frame in
     let broken : BrokenUnit c.args.order c.in-Err-Malformed.fault frame.offset (frame_bytes c.args.order frame.format frame.body.now) =
-    subst (λ (stop : ConvertFault). IsUnitStop c.args.order c.args.format c.args.to frame.offset (frame_bytes c.args.order frame.format frame.body.now) stop) c.in-Err-Malformed.field-0-is c.in-Err-Malformed.ensures.err in
-    λ some. frame_without_unit c.args.order old.place old.rest c.in_ok-frame.frame c.in-Err-Malformed.fault c.new-ahead.result _ at c.in_ok-frame.ensures.ok c.in_ok-frame.ensures.offset broken
+    subst (λ (stop : ConvertFault). IsUnitStop c.args.order c.args.format c.args.to frame.offset
+    (frame_bytes c.args.order frame.format frame.body.now) stop) c.in-Err-Malformed.field-0-is c.in-Err-Malformed.ensures.err in
+    λ some. frame_without_unit c.args.order old.place old.rest c.in_ok-frame.frame c.in-Err-Malformed.fault c.new-ahead.result _ at
+    c.in_ok-frame.ensures.ok c.in_ok-frame.ensures.offset broken

@@ -10,7 +10,9 @@ pub returns-in_err-unit-clause-err : goal.returns-in_err-unit-clause-err
 returns-in_err-unit-clause-err c =
     let p = err_from_is_err_and c.from_residual.result c.from_residual.ensures.1 in
     let fault = c.in_err-unit.field-0.0 in
-    let some : 0 < length c.loop-cursor.cursor.rest = omega (arith, eqb-false _ _ (sym c.is_empty.ensures ∙ c.loop-cursor-test.true), ap length c.rest.ensures) in
+    let some : 0 < length c.loop-cursor.cursor.rest = omega
+    (arith, eqb-false _ _ (sym c.is_empty.ensures ∙ c.loop-cursor-test.true), ap length c.rest.ensures) in
     let broken : fault.reason ≢ Memory → BrokenSection c.args.order fault c.args.bytes.now =
-    λ other. section_broken c.args.order c.args.bytes.now c.loop-cursor.units.items fault c.loop-cursor.cursor c.loop-cursor.invariant some (c.in_err-unit.ensures.err other) in
+    λ other. section_broken c.args.order c.args.bytes.now c.loop-cursor.units.items fault c.loop-cursor.cursor c.loop-cursor.invariant some
+    (c.in_err-unit.ensures.err other) in
     rw (p.1, p.2) broken

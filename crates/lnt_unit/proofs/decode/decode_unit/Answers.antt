@@ -11,7 +11,11 @@ returns-in_err-frame-clause-err c =
     let old = c.args.cursor.now in
     let fault = c.in_err-frame.field-0.0 in
     let at : StandsAt c.args.order old.place old.rest c.new-ahead.result =
-    record { place_is = c.new-ahead.ensures.place ∙ c.place.ensures.value; rest_is = c.new-ahead.ensures.rest ∙ c.rest.ensures; order_is = c.new-ahead.ensures.order } in
+    record {
+      place_is = c.new-ahead.ensures.place ∙ c.place.ensures.value;
+      rest_is = c.new-ahead.ensures.rest ∙ c.rest.ensures;
+      order_is = c.new-ahead.ensures.order;
+    } in
     let broken : fault.reason ≢ Memory → BrokenUnit c.args.order fault old.place old.rest =
     λ some. no_frame c.args.order old.place old.rest c.new-ahead.result fault at c.in_err-frame.ensures.err in
     rw (p.1, p.2) broken
@@ -22,7 +26,12 @@ returns-in_err-unit-clause-err c =
     let old = c.args.cursor.now in
     let fault = c.in_err-unit.field-0.0 in
     let at : StandsAt c.args.order old.place old.rest c.new-ahead.result =
-    record { place_is = c.new-ahead.ensures.place ∙ c.place.ensures.value; rest_is = c.new-ahead.ensures.rest ∙ c.rest.ensures; order_is = c.new-ahead.ensures.order } in
+    record {
+      place_is = c.new-ahead.ensures.place ∙ c.place.ensures.value;
+      rest_is = c.new-ahead.ensures.rest ∙ c.rest.ensures;
+      order_is = c.new-ahead.ensures.order;
+    } in
     let broken : fault.reason ≢ Memory → BrokenUnit c.args.order fault old.place old.rest =
-    λ some. frame_without_unit c.args.order old.place old.rest c.in_ok-frame.frame fault c.new-ahead.result _ at c.in_ok-frame.ensures.ok c.in_ok-frame.ensures.offset (c.in_err-unit.ensures.err some) in
+    λ some. frame_without_unit c.args.order old.place old.rest c.in_ok-frame.frame fault c.new-ahead.result _ at c.in_ok-frame.ensures.ok
+    c.in_ok-frame.ensures.offset (c.in_err-unit.ensures.err some) in
     rw (p.1, p.2) broken

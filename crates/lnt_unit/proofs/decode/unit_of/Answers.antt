@@ -27,7 +27,8 @@ returns-in_err-ops-clause-err c =
     let within = program_within c.args.order c.in_ok-header.header program bytes c.in_ok-header.ensures.ok in
     let ends : c.args.end - length program + length program ≡ frame.offset + length bytes = omega (arith, c.requires.end, within) in
     let broken : fault.reason ≢ Memory → BrokenUnit c.args.order fault frame.offset bytes =
-    λ some. ops_broken c.args.order c.in_ok-header.header program bytes fault frame.offset _ c.in_ok-header.ensures.ok ends (c.in_err-ops.ensures.err some) in
+    λ some. ops_broken c.args.order c.in_ok-header.header program bytes fault frame.offset _ c.in_ok-header.ensures.ok ends
+    (c.in_err-ops.ensures.err some) in
     rw (p.1, p.2) broken
 
 pub returns-clause-ok : goal.returns-clause-ok

@@ -5,5 +5,6 @@ use Rattle.lnt_unit.proofs.unit.first_not_admitted.Goals as goal
 
 pub returns-then-not-admits : goal.returns-then-not-admits
 returns-then-not-admits c =
-    first_not (Admits c.args.header.now) c.args.ops.now c.loop-index.index c.index-ops-index.result c.loop-index-test.true c.loop-index.invariant
+    first_not (Admits c.args.header.now) c.args.ops.now c.loop-index.index c.index-ops-index.result c.loop-index-test.true
+    c.loop-index.invariant
     (λ a. let told = c.admits.ensures.1 (subst (Admits c.args.header.now) (sym c.index-ops-index.is) a) in absurd cc)

@@ -4,4 +4,5 @@ use Rattle.std.proofs.Common.{refl}
 
 pub returns-clause-rows : goal.returns-clause-rows
 returns-clause-rows c earlier later is =
-    will_give c.args.header.now c.args.program.now earlier later c.args.place _ c.after.ensures.is_header is c.new.ensures.header c.new.ensures.stands c.after.ensures.header c.after.ensures.going c.after.ensures.rest refl
+    will_give c.args.header.now c.args.program.now earlier later c.args.place _ c.after.ensures.is_header is c.new.ensures.header
+    c.new.ensures.stands c.after.ensures.header c.after.ensures.going c.after.ensures.rest refl

@@ -5,8 +5,15 @@ use Rattle.lnt_unit.proofs.unit.Unit.new.Goals as goal
 
 pub returns-in-Some-clause-err : goal.returns-in-Some-clause-err
 returns-in-Some-clause-err c =
-    let same = c.into_parts-header.ensures.value ∙ c.in-Ok.ensures.ok in
-    ((subst IsHeader same c.into_parts-header.ensures.header, first_op c.args.parts _ _ _ c.in-Ok.ensures.ok c.as_slice.ensures c.in-Some.ensures), same_parts c.args.parts _ same)
+    let same = c.into_parts-header.ensures.value ∙ c.in-Ok.ensures.ok in (
+      (
+        subst IsHeader same c.into_parts-header.ensures.header,
+        first_op c.args.parts _ _ _ c.in-Ok.ensures.ok c.as_slice.ensures
+            c.in-Some.ensures,
+      ),
+      same_parts c.args.parts _ same,
+    )
 
 pub returns-in-Some-clause-none : goal.returns-in-Some-clause-none
-returns-in-Some-clause-none c = no_ops c.args.parts c.in-Some.index (first_op c.args.parts _ _ _ c.in-Ok.ensures.ok c.as_slice.ensures c.in-Some.ensures)
+returns-in-Some-clause-none c =
+    no_ops c.args.parts c.in-Some.index (first_op c.args.parts _ _ _ c.in-Ok.ensures.ok c.as_slice.ensures c.in-Some.ensures)

@@ -13,7 +13,8 @@ returns-in_err-header-clause-header c =
     let buffer = c.args.buffer.now in
     let fault = c.in_err-header.field-0.0 in
     let broken : fault.reason ≢ Memory → BrokenHeader buffer.order fault buffer.offset buffer.bytes =
-    λ some. no_header buffer.order _ buffer.offset buffer.bytes c.frame.result fault c.order.ensures c.frame.ensures.offset c.frame.ensures.bytes (c.in_err-header.ensures.err some) in
+    λ some. no_header buffer.order _ buffer.offset buffer.bytes c.frame.result fault c.order.ensures c.frame.ensures.offset
+    c.frame.ensures.bytes (c.in_err-header.ensures.err some) in
     rw (p.1, p.2) broken
 
 pub returns-in_err-header-clause-err : goal.returns-in_err-header-clause-err
@@ -23,5 +24,6 @@ returns-in_err-header-clause-err c =
     let fault = c.in_err-header.field-0.0 in
     let broken : fault.reason ≢ Memory → BrokenUnit buffer.order fault buffer.offset buffer.bytes =
     λ some. header_broken buffer.order fault buffer.offset buffer.bytes
-    (no_header buffer.order _ buffer.offset buffer.bytes c.frame.result fault c.order.ensures c.frame.ensures.offset c.frame.ensures.bytes (c.in_err-header.ensures.err some)) in
+    (no_header buffer.order _ buffer.offset buffer.bytes c.frame.result fault c.order.ensures c.frame.ensures.offset c.frame.ensures.bytes
+    (c.in_err-header.ensures.err some)) in
     rw (p.1, p.2) broken

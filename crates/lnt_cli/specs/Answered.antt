@@ -1,0 +1,54 @@
+-- What is answered, and of which bytes it is so.
+--     tells       what may be told of the files of names as the run begins
+--     old, new    what the writer of the answer holds before and afterwards
+use Rattle.std.specs.Prelude.{◌≡◌, ℕ, List, [], Option, None, Some, IfSome, false, string_bytes}
+use Rattle.std.specs.Option.{option_copied}
+use Rattle.std.specs.Io.KnownBytes.{Appends}
+use Rattle.lnt_files.specs.Files.{AreBytesOf}
+use Rattle.lnt_files.specs.declared.status.Status.{Status}
+use Rattle.lnt_files.specs.declared.status.Status.TheVariants.{Done}
+use Rattle.lnt_lines.specs.declared.options.Options.{Options}
+use Rattle.lnt_words.specs.declared.request.Judging.{Judging}
+use Rattle.lnt_words.specs.declared.request.Request.{Request}
+use Rattle.lnt_words.specs.declared.request.Request.TheVariants.{Help, Check}
+use Rattle.lnt_table.specs.declared.verdict.Verdict.{Verdict}
+use Rattle.lnt_table.specs.Headline.{IsTrueVerdict}
+use Rattle.lnt_cli.specs.Verdicts.{verdict_status, verdict_text}
+
+-- how a section is to be read
+abbrev pub options_in : Judging → Options
+options_in from = record { order = from.order; dead = from.dead; skip_copies = from.skip_copies }
+
+-- the bytes of a string section: those of its file, or none where no file is named
+abbrev pub AreStringsOf : (List ℕ → Option (List ℕ) → Type 0) → Option (List ℕ) → List ℕ → Type 0
+AreStringsOf tells None bytes = bytes ≡ []
+AreStringsOf tells (Some name) bytes = AreBytesOf (tells name) bytes
+
+-- These are the bytes of both string sections.
+pub record AreTextsOf (tells : List ℕ → Option (List ℕ) → Type 0) (from : Judging) (line general : List ℕ) : Type 0 where
+  pub line_is : AreStringsOf tells (option_copied from.line_strings) line
+  pub general_is : AreStringsOf tells (option_copied from.strings) general
+
+-- The verdict is true of the section and the table whose files are named, and the writer has gained its line and nothing else.
+pub record IsChecked (tells : List ℕ → Option (List ℕ) → Type 0) (from : Judging) (table : List ℕ) (old new : Option (List ℕ)) (verdict : Verdict) : Type 0 where
+  pub line : List ℕ
+  pub general : List ℕ
+  pub texts : AreTextsOf tells from line general
+  pub section_bytes : Option (List ℕ)
+  pub of_section : tells from.section.now section_bytes
+  pub table_bytes : Option (List ℕ)
+  pub of_table : tells table table_bytes
+  pub is_true : IfSome section_bytes (λ section. IfSome table_bytes (λ text. IsTrueVerdict line general (options_in from) section text verdict))
+  pub printed : Appends old new (verdict_text verdict)
+
+-- That, and the run ends as the verdict is.
+pub record AnswersCheck (tells : List ℕ → Option (List ℕ) → Type 0) (from : Judging) (table : List ℕ) (old new : Option (List ℕ)) (status : Status) : Type 0 where
+  pub verdict : Verdict
+  pub checked : IsChecked tells from table old new verdict
+  pub status_is : status ≡ verdict_status verdict
+
+-- What is answered to a request. Of the requests that aren't named here nothing is said.
+abbrev pub IsAnswered : (List ℕ → Option (List ℕ) → Type 0) → Request → Option (List ℕ) → Option (List ℕ) → Status → Type 0
+IsAnswered tells (Help text) old new status = Appends old new (string_bytes text) × (status ≡ Done)
+IsAnswered tells (Check from table false) old new status = AnswersCheck tells from table.now old new status
+IsAnswered tells other old new status = Unit {0}

@@ -1,0 +1,20 @@
+-- What `table` prints where it tells the paths of files.
+use Rattle.std.specs.Prelude.{ℕ, List, ◌++◌, Option, codes}
+use Rattle.std.specs.Io.KnownBytes.{Appends}
+use Rattle.lnt_files.specs.declared.status.Status.{Status}
+use Rattle.lnt_files.specs.declared.status.Status.TheVariants.{Done, No}
+use Rattle.lnt_paths.specs.declared.version.PathVersion.{PathVersion}
+use Rattle.lnt_paths.specs.PathAnswers.{PathAnswer}
+use Rattle.lnt_paths.specs.Written.{HasOperationIndex, IsCanonicalPathTable}
+use Rattle.lnt_spans.specs.declared.position.Position.{Position}
+use Rattle.lnt_text.specs.Texts.{position_text}
+
+-- that a span begins or ends at an operation index other than 0
+abbrev pub operation_line : Position → List ℕ
+operation_line position = codes "no 43 operation index at " ++ (position_text position ++ codes "\n")
+
+-- A writer that held these bytes has gained the table of what is answered so; or, where there can't be one, the line that
+-- says the least position which it can't tell.
+abbrev pub IsPrintedTable : PathVersion → (Position → Option PathAnswer) → Option (List ℕ) → Option (List ℕ) → Status → Type 0
+IsPrintedTable version answers old new Done = (bytes : List ℕ) × Appends old new bytes × IsCanonicalPathTable version answers bytes
+IsPrintedTable version answers old new No = (position : Position) × Appends old new (operation_line position) × HasOperationIndex answers position

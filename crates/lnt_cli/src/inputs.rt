@@ -1,0 +1,116 @@
+//! The files that a run reads.
+ghost use Rattle.std.specs.Prelude.{◌≡◌, IfErr, IfOk, Ok};
+ghost use Rattle.std.specs.Option.{option_copied};
+ghost use Rattle.lnt_files.specs.Files.{TellsNoMore};
+ghost use Rattle.lnt_cli.specs.Answered.{AreStringsOf, AreTextsOf};
+ghost use Rattle.lnt_cli.specs.Stops.{IsUsage};
+
+use crate::stop::CliStop;
+use lnt_files::{Halt, Opener, bytes_of_file, open_file, source_of};
+use lnt_notes::{Seen, Watched};
+use lnt_wire::{Counted, Source, Strings};
+use lnt_words::Judging;
+use std::alloc::Global;
+use std::cell::Cell;
+use std::io::{BufReader, Read};
+
+// A section, read from its file, of whose bytes is kept what was seen.
+pub(crate) type Section<'c, R> = Counted<BufReader<Watched<'c, R>>>;
+
+// The bytes of both string sections.
+#[derive(Drop)]
+pub(crate) struct Texts {
+    line: Vec<u8>,
+    general: Vec<u8>,
+}
+
+impl Texts {
+    pub(crate) fn strings(&self) -> Strings<'_>
+        ensures line { result.line.now ≡ self.now.line.items }
+        ensures general { result.general.now ≡ self.now.general.items }
+    {
+        Strings {
+            line: &self.line,
+            general: &self.general,
+        }
+    }
+}
+
+// How the work on the file of this name ended.
+pub(crate) fn of_file<T>(alloc: Global, name: &str, ended: Result<T, Halt>) -> Result<T, CliStop>
+    ensures ok { IfOk result (λ value. ended ≡ Ok value) }
+    ensures usage { IfErr result (λ stop. IsUsage stop → ⊥) }
+{
+    match ended {
+        Ok(value) => Ok(value),
+        Err(halt) => Err(CliStop::of_file(alloc, name, halt)),
+    }
+}
+
+// The section in the file of this name, of which is kept what is seen.
+pub(crate) fn open_section<'c, O: Opener>(
+    alloc: Global,
+    opener: &mut O,
+    name: &str,
+    seen: &'c Cell<Seen>,
+) -> Result<Section<'c, O::Reader>, Halt>
+    ensures failures { IfOk result (λ source.
+        ⟦<Counted<BufReader<Watched<'c, O::Reader>>> as Source>⟧.failures source ≡ 0) }
+    ensures told { IfOk result (λ source.
+        O.tells opener.old name.now (⟦<Counted<BufReader<Watched<'c, O::Reader>>> as Source>⟧.remaining source)) }
+    ensures later { TellsNoMore (O.tells opener.old) (O.tells opener.new) }
+{
+    match opener.reader_of(name) {
+        Some(reader) => source_of(alloc, Watched::new(reader, seen)),
+        None => Err(Halt::Read),
+    }
+}
+
+// The file of this name.
+pub(crate) fn open<O: Opener>(
+    alloc: Global,
+    opener: &mut O,
+    name: &str,
+) -> Result<Counted<BufReader<O::Reader>>, CliStop>
+    ensures usage { IfErr result (λ stop. IsUsage stop → ⊥) }
+    ensures failures { IfOk result (λ source. ⟦<Counted<BufReader<O::Reader>> as Source>⟧.failures source ≡ 0) }
+    ensures told { IfOk result (λ source.
+        O.tells opener.old name.now (⟦<Counted<BufReader<O::Reader>> as Source>⟧.remaining source)) }
+    ensures later { TellsNoMore (O.tells opener.old) (O.tells opener.new) }
+{
+    match open_file(alloc, opener, name) {
+        Ok(source) => Ok(source),
+        Err(halt) => Err(CliStop::of_file(alloc, name, halt)),
+    }
+}
+
+// Both string sections; none of a file that isn't named.
+pub(crate) fn read_texts<O: Opener>(
+    alloc: Global,
+    opener: &mut O,
+    from: &Judging<'_>,
+) -> Result<Texts, CliStop>
+    ensures usage { IfErr result (λ stop. IsUsage stop → ⊥) }
+    ensures texts { IfOk result (λ texts. AreTextsOf (O.tells opener.old) from.now texts.line.items texts.general.items) }
+    ensures later { TellsNoMore (O.tells opener.old) (O.tells opener.new) }
+{
+    let line = read_strings(alloc, opener, from.line_strings)?;
+    let general = read_strings(alloc, opener, from.strings)?;
+    Ok(Texts { line, general })
+}
+
+// All bytes of the file of this name; none without a name.
+fn read_strings<O: Opener>(
+    alloc: Global,
+    opener: &mut O,
+    name: Option<&str>,
+) -> Result<Vec<u8>, CliStop>
+    ensures usage { IfErr result (λ stop. IsUsage stop → ⊥) }
+    ensures strings { IfOk result (λ bytes. AreStringsOf (O.tells opener.old) (option_copied name.entry) bytes.items) }
+    ensures later { TellsNoMore (O.tells opener.old) (O.tells opener.new) }
+{
+    match name {
+        Some(name) => of_file(alloc, name, bytes_of_file(alloc, opener, name)),
+        None => Ok(Vec::new(alloc)),
+    }
+}

@@ -1,0 +1,3 @@
+mod LookLemmas
+mod PutLemmas
+mod ToldLemmas

@@ -1,0 +1,36 @@
+-- Bisection of flat spans, from that of the spans that they are.
+use Rattle.std.proofs.Common.{◌≡◌, ℕ, zero, suc, ◌+◌, ◌<◌, ◌≤◌, List, [], ◌∷◌, Some, None, length, map, get_or, sym, subst, arith}
+use Rattle.std.proofs.lemmas.List.{length-map, get_or-map}
+use Rattle.lnt_spans.specs.declared.position.Position.{Position}
+use Rattle.lnt_spans.specs.declared.span.Span.{Span}
+use Rattle.lnt_spans.specs.Positions.{IsBelow, IsAtMost}
+use Rattle.lnt_spans.specs.Spans.{AreInOrder, span_answer}
+use Rattle.lnt_spans.proofs.BisectionLemmas.{IsBracket, bracket_below, bracket_above, found_inside, found_nowhere}
+use Rattle.lnt_ffi.specs.declared.flat.FlatSpan.{FlatSpan}
+use Rattle.lnt_ffi.specs.Flat.{answer_of, span_of}
+
+-- what is at a place among the flat ones is what is there among the spans
+at : (spans : List FlatSpan) (k : ℕ) (d : FlatSpan) (e : Span) → k < length spans → span_of (get_or spans k d) ≡ get_or (map span_of spans) k e
+at spans k d e l = sym (get_or-map span_of spans k d e l)
+
+pub flat_below : (spans : List FlatSpan) (p : Position) (low high middle : ℕ) → AreInOrder (map span_of spans) → IsBracket (map span_of spans) p low high
+    → low ≤ middle → middle < high → high ≤ length spans → (d : FlatSpan) → IsBelow p (span_of (get_or spans middle d)).low → IsBracket (map span_of spans) p low middle
+flat_below spans p low high middle o b h k w d here =
+    bracket_below (map span_of spans) p low high middle o b h k (span_of d) (subst (λ (s : Span). IsBelow p s.low) (at spans middle d (span_of d) (omega arith)) here)
+
+pub flat_above : (spans : List FlatSpan) (p : Position) (low high middle : ℕ) → AreInOrder (map span_of spans) → IsBracket (map span_of spans) p low high
+    → low ≤ middle → middle < high → high ≤ length spans → (d : FlatSpan) → IsAtMost (span_of (get_or spans middle d)).high p → IsBracket (map span_of spans) p (middle + 1) high
+flat_above spans p low high middle o b h k w d here =
+    bracket_above (map span_of spans) p low high middle o b h k (span_of d) (subst (λ (s : Span). IsAtMost s.high p) (at spans middle d (span_of d) (omega arith)) here)
+
+pub flat_inside : (spans : List FlatSpan) (p : Position) (middle : ℕ) (d : FlatSpan) → AreInOrder (map span_of spans) → middle < length spans
+    → IsAtMost (span_of (get_or spans middle d)).low p × IsBelow p (span_of (get_or spans middle d)).high
+    → span_answer (map span_of spans) p ≡ Some (answer_of (get_or spans middle d).answer)
+flat_inside spans p middle d o l h =
+    let e = at spans middle d (span_of d) l in
+    let count : length (map span_of spans) ≡ length spans = length-map spans span_of in
+    let found = found_inside (map span_of spans) p middle (span_of d) o (omega arith) (subst (λ (s : Span). IsAtMost s.low p × IsBelow p s.high) e h) in
+    sym (subst (λ (s : Span). Some s.answer ≡ span_answer (map span_of spans) p) (sym e) found)
+
+pub flat_nowhere : (spans : List FlatSpan) (p : Position) (low high : ℕ) → IsBracket (map span_of spans) p low high → high ≤ low → span_answer (map span_of spans) p ≡ None
+flat_nowhere spans p low high b h = sym (found_nowhere (map span_of spans) p low high b h)

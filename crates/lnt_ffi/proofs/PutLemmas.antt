@@ -1,0 +1,46 @@
+-- Spans that are put into the front of a room as they come.
+use Rattle.std.proofs.Common.{◌≡◌, ◌∙◌, ℕ, ◌+◌, ◌<◌, ◌≤◌, List, [], ◌∷◌, ◌++◌, Some, None, length, map, set, take, refl, sym, ap, subst, arith}
+use Rattle.std.proofs.lemmas.List.{length-append, map-append, take_more_set}
+use Rattle.lnt_spans.specs.declared.span.Span.{Span}
+use Rattle.lnt_spans.specs.Coming.{GivesFirst}
+use Rattle.lnt_spans.specs.Laws.Coming.{all_given, HasGiven, none_given, one_given}
+use Rattle.lnt_ffi.specs.declared.flat.FlatSpan.{FlatSpan}
+use Rattle.lnt_ffi.specs.Flat.{span_of}
+
+-- So many of the spans that were to come were given, and they are the front of the room, if it is long enough.
+pub record HasPut (list : List Span) (count : ℕ) (room : List FlatSpan) (AreLeft : List Span → Type 0) : Type 0 where
+  pub given : List Span
+  pub has_given : HasGiven list given AreLeft
+  pub count_is : count ≡ length given
+  pub there : count ≤ length room → map span_of (take count room) ≡ given
+
+pub none_put : (list : List Span) (room : List FlatSpan) (AreLeft : List Span → Type 0) → AreLeft list → HasPut list 0 room AreLeft
+none_put list room AreLeft left = record { given = []; has_given = none_given list AreLeft left; count_is = refl; there = λ _. refl }
+
+one_more : (given : List Span) (span : Span) (count : ℕ) → count ≡ length given → count + 1 ≡ length (given ++ span ∷ [])
+one_more given span count e = let l = length-append given (span ∷ []) in omega (arith, e, l)
+
+-- a span that is stored behind those before it
+pub stored : (room : List FlatSpan) (place : ℕ) (flat : FlatSpan) (span : Span) → span_of flat ≡ span → place < length room
+    → map span_of (take (place + 1) (set room place flat)) ≡ map span_of (take place room) ++ span ∷ []
+stored room place flat span is few =
+    ap (map span_of) (take_more_set room place flat few) ∙ map-append span_of (take place room) (flat ∷ [])
+    ∙ ap (λ (last : Span). map span_of (take place room) ++ last ∷ []) is
+
+pub one_put : (list : List Span) (count count' : ℕ) (room room' : List FlatSpan) (span : Span) (AreLeft AreLeft' : List Span → Type 0)
+    → HasPut list count room AreLeft → ((spans : List Span) → AreLeft spans → GivesFirst AreLeft' spans (Some span))
+    → length room' ≡ length room → (count < length room → map span_of (take (count + 1) room') ≡ map span_of (take count room) ++ span ∷ [])
+    → count' ≡ count + 1 → HasPut list count' room' AreLeft'
+one_put list count count' room room' span AreLeft AreLeft' h gives same there next = subst (λ (n : ℕ). HasPut list n room' AreLeft') (sym next) (record {
+  given = h.given ++ span ∷ [];
+  has_given = one_given list h.given span AreLeft AreLeft' h.has_given gives;
+  count_is = one_more h.given span count h.count_is;
+  there = λ fits. there (omega (arith, fits, same)) ∙ ap (λ (front : List Span). front ++ span ∷ []) (h.there (omega (arith, fits, same)));
+})
+
+pub all_put : (list : List Span) (count : ℕ) (room : List FlatSpan) (AreLeft AreLeft' : List Span → Type 0)
+    → HasPut list count room AreLeft → ((spans : List Span) → AreLeft spans → GivesFirst AreLeft' spans None)
+    → (count ≡ length list) × (count ≤ length room → map span_of (take count room) ≡ list)
+all_put list count room AreLeft AreLeft' h gives =
+    let all = all_given list h.given AreLeft AreLeft' h.has_given gives in
+    (h.count_is ∙ ap length (sym all), λ fits. h.there fits ∙ sym all)

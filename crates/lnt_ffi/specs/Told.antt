@@ -1,0 +1,98 @@
+-- What C is told by each call.
+use Rattle.std.specs.Prelude.{◌≡◌, ◌≤◌, ℕ, Bool, true, false, if◌then◌else◌, Some, None, List, length, map, take}
+use Rattle.std.specs.List.Sorted.{IsPermutation}
+use Rattle.lnt_unit.specs.declared.unit.Parts.{Parts}
+use Rattle.lnt_rows.specs.RowSpans.{spans_of}
+use Rattle.lnt_rows.specs.Sequences.{kept_sequences, line_answer}
+use Rattle.lnt_spans.specs.declared.answer.Version.{Version}
+use Rattle.lnt_spans.specs.declared.answer.Version.TheVariants.{One, Two}
+use Rattle.lnt_spans.specs.declared.position.Position.{Position}
+use Rattle.lnt_spans.specs.declared.span.Span.{Span}
+use Rattle.lnt_spans.specs.Spans.{AreInOrder, span_answer}
+use Rattle.lnt_lines.specs.declared.no.No.{No}
+use Rattle.lnt_lines.specs.Drafts.{IsIndexOfSection}
+use Rattle.lnt_lines.specs.Good.{IsGood}
+use Rattle.lnt_lines.specs.Indexed.{file_count_in, file_path_in, Indexed}
+use Rattle.lnt_lines.specs.Nos.{IsTrueNo}
+use Rattle.lnt_table.specs.declared.verdict.Verdict.{Verdict}
+use Rattle.lnt_table.specs.Headline.{IsTrueVerdict}
+use Rattle.lnt_table.specs.Written.{IsTableOfUnits}
+use Rattle.lnt_ffi.specs.declared.flat.FlatSpan.{FlatSpan}
+use Rattle.lnt_ffi.specs.declared.section.FlatSection.{FlatSection}
+use Rattle.lnt_ffi.specs.declared.unit.FlatUnit.{FlatUnit}
+use Rattle.lnt_ffi.specs.declared.verdict.FlatVerdict.{FlatVerdict}
+use Rattle.lnt_ffi.specs.Flat.{options_of, span_of}
+use Rattle.lnt_ffi.specs.Verdicts.{numbered, verdict_of_no, verdict_of_table, yes}
+
+-- memory ran out
+abbrev pub memory : FlatVerdict
+memory = numbered 33 0
+
+-- The front of the room is the list, where there is room for all of it.
+abbrev pub HoldsAll : {A : Type 0} → List A → ℕ → List A → Type 0
+HoldsAll room count list = count ≤ length room → take count room ≡ list
+
+-- ---- a section that isn't good, or that wasn't judged
+
+pub data IsRefused (section : FlatSection) (told : FlatVerdict) : Type 0 where
+  bad : (reason : No) → IsTrueNo section.line_str.now section.general.now (options_of section) section.line.now reason
+      → told ≡ verdict_of_no reason → IsRefused section told
+  stopped : told ≡ memory → IsRefused section told
+
+-- ---- a good section
+
+-- The section is good. These are the spans of its kept sequences, each once, in order, and they answer as its rows do.
+pub record AreSpansOf (section : FlatSection) (spans : List Span) : Type 0 where
+  pub units : List (ℕ × Parts)
+  pub good : IsGood section.line_str.now section.general.now (options_of section) section.line.now units
+  pub spans_are : IsPermutation (spans_of (kept_sequences (options_of section).dead section.skip_copies units)) spans
+  pub in_order : AreInOrder spans
+  pub answers : (p : Position) → span_answer spans p ≡ line_answer (options_of section).dead section.skip_copies units p
+
+-- The section is good, and this is its index.
+abbrev pub IsIndexOf : FlatSection → Indexed → Type 0
+IsIndexOf section index = IsIndexOfSection section.line_str.now section.general.now (options_of section) section.line.now index
+
+-- The section is good, and the bytes are the table of its units.
+pub record IsTableOf (section : FlatSection) (version : Version) (bytes : List ℕ) : Type 0 where
+  pub units : List (ℕ × Parts)
+  pub good : IsGood section.line_str.now section.general.now (options_of section) section.line.now units
+  pub table : IsTableOfUnits version (options_of section).dead section.skip_copies units bytes
+
+-- ---- what each call tells
+
+pub data IsToldOfSpans (section : FlatSection) (count : ℕ) (room : List FlatSpan) (told : FlatVerdict) : Type 0 where
+  good : (spans : List Span) → AreSpansOf section spans → count ≡ length spans
+      → (count ≤ length room → map span_of (take count room) ≡ spans) → told ≡ yes → IsToldOfSpans section count room told
+  refused : IsRefused section told → count ≡ 0 → IsToldOfSpans section count room told
+
+pub data IsToldOfTable (section : FlatSection) (text : List ℕ) (told : FlatVerdict) : Type 0 where
+  judged : (found : Verdict) → IsTrueVerdict section.line_str.now section.general.now (options_of section) section.line.now text found
+      → told ≡ verdict_of_table found → IsToldOfTable section text told
+  stopped : told ≡ memory → IsToldOfTable section text told
+
+abbrev pub version_of : Bool → Version
+version_of is_wide = if is_wide then Two else One
+
+pub data IsToldOfWriting (section : FlatSection) (is_wide : Bool) (count : ℕ) (room : List ℕ) (told : FlatVerdict) : Type 0 where
+  good : (bytes : List ℕ) → IsTableOf section (version_of is_wide) bytes → count ≡ length bytes → HoldsAll room count bytes
+      → told ≡ yes → IsToldOfWriting section is_wide count room told
+  refused : IsRefused section told → count ≡ 0 → IsToldOfWriting section is_wide count room told
+
+-- ---- units and paths
+
+-- the offset of a unit, and how many files it has
+abbrev pub unit_in : Indexed → ℕ → FlatUnit
+unit_in index offset = record { offset = offset; files = file_count_in index offset }
+
+pub data IsToldOfUnits (section : FlatSection) (count : ℕ) (room : List FlatUnit) (told : FlatVerdict) : Type 0 where
+  good : (index : Indexed) → IsIndexOf section index → count ≡ length index.units → HoldsAll room count (map (unit_in index) index.units)
+      → told ≡ yes → IsToldOfUnits section count room told
+  refused : IsRefused section told → count ≡ 0 → IsToldOfUnits section count room told
+
+pub data IsToldOfPath (section : FlatSection) (unit file : ℕ) (is_there : Bool) (count : ℕ) (room : List ℕ) (told : FlatVerdict) : Type 0 where
+  found : (index : Indexed) → IsIndexOf section index → (path : List ℕ) → file_path_in index unit file ≡ Some path
+      → is_there ≡ true → count ≡ length path → HoldsAll room count path → told ≡ yes → IsToldOfPath section unit file is_there count room told
+  nowhere : (index : Indexed) → IsIndexOf section index → file_path_in index unit file ≡ None
+      → is_there ≡ false → count ≡ 0 → told ≡ yes → IsToldOfPath section unit file is_there count room told
+  refused : IsRefused section told → is_there ≡ false → count ≡ 0 → IsToldOfPath section unit file is_there count room told

@@ -1,0 +1,102 @@
+//! Spans and answers as C sees them: structs of numbers, one behind another.
+ghost use Rattle.std.specs.Prelude.{◌≡◌};
+ghost use Rattle.lnt_ffi.specs.Flat.{answer_of, flat_answer, flat_side, span_of};
+
+use lnt_spans::{Answer, Span};
+
+/// What is answered at a position: `struct linetab_answer`.
+#[repr(C)]
+#[derive(Clone, Copy)]
+pub struct FlatAnswer {
+    /// The offset in the section of the unit that says so.
+    pub unit: u64,
+    /// The index of the source file in that unit, from 0 on.
+    pub file: u64,
+    /// The line in it: 1 is the first, and 0 says that there is none.
+    pub line: u64,
+    /// The column in the line: 1 is the first, and 0 is the line's left edge.
+    pub column: u64,
+    /// The instruction set, where `is_wide` says that it is told; else 0.
+    pub isa: u64,
+    /// Which of the blocks of one source line it is, where `is_wide` says that it is told; else 0.
+    pub discriminator: u64,
+    /// Whether it is a good place for a breakpoint.
+    pub is_stmt: bool,
+    /// Whether the instruction set and the discriminator are told. A section tells them; a table of version 1 doesn't.
+    pub is_wide: bool,
+}
+
+/// The positions from `low` up to `high`, which is not among them, with one answer: `struct linetab_span`.
+#[repr(C)]
+#[derive(Clone, Copy)]
+pub struct FlatSpan {
+    /// The address of the first position that it holds.
+    pub low: u64,
+    /// The operation of it.
+    pub low_op: u64,
+    /// The address of the first position behind it.
+    pub high: u64,
+    /// The operation of it.
+    pub high_op: u64,
+    /// The answer at each position that it holds.
+    pub answer: FlatAnswer,
+}
+
+// No answer.
+pub(crate) const NOTHING: FlatAnswer = FlatAnswer {
+    unit: 0,
+    file: 0,
+    line: 0,
+    column: 0,
+    isa: 0,
+    discriminator: 0,
+    is_stmt: false,
+    is_wide: false,
+};
+
+// The answer as C sees it.
+pub(crate) fn flat_answer(answer: Answer) -> FlatAnswer
+    ensures flat { result ≡ flat_answer answer }
+    ensures same { answer_of result ≡ answer }
+{
+    let narrow = FlatAnswer {
+        unit: answer.unit,
+        file: answer.file,
+        line: answer.line,
+        column: answer.column,
+        is_stmt: answer.is_stmt,
+        ..NOTHING
+    };
+    match answer.more {
+        Some(more) => FlatAnswer {
+            isa: more.isa,
+            discriminator: more.discriminator,
+            is_wide: true,
+            ..narrow
+        },
+        None => narrow,
+    }
+}
+
+// The answer of one side of a difference, which may be none, as C sees it.
+pub(crate) fn flat_side(answer: Option<Answer>) -> FlatAnswer
+    ensures { result ≡ flat_side answer }
+{
+    match answer {
+        Some(answer) => flat_answer(answer),
+        None => NOTHING,
+    }
+}
+
+// The span as C sees it.
+pub(crate) fn flat_span(span: &Span) -> FlatSpan
+    ensures { span_of result ≡ span.now }
+{
+    FlatSpan {
+        low: span.low.address,
+        low_op: span.low.op,
+        high: span.high.address,
+        high_op: span.high.op,
+        answer: flat_answer(span.answer),
+    }
+}

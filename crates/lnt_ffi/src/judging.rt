@@ -1,0 +1,92 @@
+//! Sections judged, and the spans of good ones.
+ghost use Rattle.std.specs.Prelude.{◌≡◌, ◌+◌, ◌<◌, ◌≤◌, List, [], ◌∷◌, ◌++◌, IfErr, IfOk, IfSome, length, map, take};
+ghost use Rattle.lnt_spans.specs.declared.span.Span as spec;
+ghost use Rattle.lnt_ffi.specs.Flat.{options_of, span_of};
+ghost use Rattle.lnt_ffi.specs.Told.{IsIndexOf, IsRefused, IsToldOfSpans};
+
+use crate::bytes::Bytes;
+use crate::flat::{FlatSpan, flat_span};
+use crate::section::FlatSection;
+use crate::verdict::{FlatVerdict, YES, verdict_of_no, verdict_of_stop};
+use lnt_lines::{Index, JudgedIndex, index_section};
+use lnt_spans::{Span, SpanSource};
+use lnt_wire::Stop;
+use std::alloc::Global;
+
+/// Judges a section, and puts the spans of a good one into the front of `spans`, where there is room for all of them.
+///
+/// It answers how many there are: one for each two rows of a kept sequence that follow one another at different
+/// positions, in order, none empty. Where they are more than `spans` has room for, what that then holds isn't said, and
+/// the caller may ask again with more room. Where the section isn't good, or memory ran out, it answers 0, and `verdict`
+/// says why; else that is yes.
+#[unsafe(no_mangle)]
+pub extern "C" fn linetab_verify(
+    alloc: Global,
+    section: &FlatSection<'_>,
+    spans: &mut [FlatSpan],
+    verdict: &mut FlatVerdict,
+) -> usize
+    ensures length { length spans.new ≡ length spans.old }
+    ensures told { IsToldOfSpans section.now result spans.new verdict.new }
+{
+    let index = match index_of(alloc, section) {
+        Ok(index) => index,
+        Err(refused) => {
+            *verdict = refused;
+            return 0;
+        }
+    };
+    match put_spans(index.spans(), spans) {
+        Some(count) => {
+            *verdict = YES;
+            count
+        }
+        None => {
+            *verdict = verdict_of_stop(Stop::Memory);
+            0
+        }
+    }
+}
+
+// The index of a good section, or the verdict of another one.
+pub(crate) fn index_of<'a>(
+    alloc: Global,
+    section: &FlatSection<'a>,
+) -> Result<Index<'a>, FlatVerdict>
+    ensures good { IfOk result (IsIndexOf section.now) }
+    ensures refused { IfErr result (IsRefused section.now) }
+{
+    let mut source = Bytes::of(section.line);
+    match index_section(alloc, &mut source, &section.strings(), &section.options()) {
+        Ok(JudgedIndex::Good(index)) => Ok(index),
+        Ok(JudgedIndex::Bad(no)) => Err(verdict_of_no(no)),
+        Err(stop) => Err(verdict_of_stop(stop)),
+    }
+}
+
+// Puts the spans into the front of the room, as far as it goes, and answers how many they are: None where they are too
+// many to count.
+fn put_spans<S: SpanSource + Drop>(spans: S, room: &mut [FlatSpan]) -> Option<usize>
+    ensures length { length room.new ≡ length room.old }
+    ensures count { IfSome result (λ count. (list : List spec.Span) → S.to_come spans list → count ≡ length list) }
+    ensures there { IfSome result (λ count. (list : List spec.Span) → S.to_come spans list → count ≤ length room.old → map span_of (take count room.new) ≡ list) }
+{
+    let mut spans = spans;
+    let mut count: usize = 0;
+    while let Some(span) = spans.next_span() {
+        put_span(&span, count, room);
+        count = count.checked_add(1)?;
+    }
+    Some(count)
+}
+
+// Puts a span at a place of the room, if there is one.
+#[tactic(auto, using(crate::proofs::PutLemmas::stored))]
+fn put_span(span: &Span, place: usize, room: &mut [FlatSpan])
+    ensures length { length room.new ≡ length room.old }
+    ensures there { place < length room.old → map span_of (take (place + 1) room.new) ≡ map span_of (take place room.old) ++ span.now ∷ [] }
+{
+    if place < room.len() {
+        room[place] = flat_span(span);
+    }
+}

@@ -1,0 +1,114 @@
+//! The units of a section, and the paths of their files.
+ghost use Rattle.std.specs.Prelude.{◌≡◌, ◌≤◌, IfErr, IfOk, Some, length, map, take};
+ghost use Rattle.lnt_lines.specs.Indexed.{file_path_in};
+ghost use Rattle.lnt_ffi.specs.Told.{HoldsAll, IsToldOfPath, IsToldOfUnits, unit_in};
+
+use crate::judging::index_of;
+use crate::room::put_bytes;
+use crate::section::FlatSection;
+use crate::verdict::{FlatVerdict, YES, verdict_of_stop};
+use lnt_lines::Index;
+use std::alloc::Global;
+
+/// A unit: `struct linetab_unit`.
+#[repr(C)]
+#[derive(Clone, Copy)]
+pub struct FlatUnit {
+    /// Its offset in the section.
+    pub offset: u64,
+    /// How many files it lists. They count from 0.
+    pub files: u64,
+}
+
+/// Puts the units of a good section into the front of `units`, where there is room for all of them, in their order.
+///
+/// It answers how many there are. Where they are more than there is room for, nothing is put there, and the caller may
+/// ask again with more room. Where the section isn't good, or memory ran out, it answers 0, and `verdict` says why; else
+/// that is yes.
+#[unsafe(no_mangle)]
+pub extern "C" fn linetab_units(
+    alloc: Global,
+    section: &FlatSection<'_>,
+    units: &mut [FlatUnit],
+    verdict: &mut FlatVerdict,
+) -> usize
+    ensures length { length units.new ≡ length units.old }
+    ensures told { IsToldOfUnits section.now result units.new verdict.new }
+{
+    match index_of(alloc, section) {
+        Ok(index) => {
+            *verdict = YES;
+            put_units(&index, units)
+        }
+        Err(refused) => {
+            *verdict = refused;
+            0
+        }
+    }
+}
+
+// Puts the units into the front of the room, where there is room for all of them, and answers how many they are.
+fn put_units(index: &Index<'_>, room: &mut [FlatUnit]) -> usize
+    ensures count { result ≡ length index.now.units }
+    ensures length { length room.new ≡ length room.old }
+    ensures there { HoldsAll room.new result (map (unit_in index.now) index.now.units) }
+{
+    let offsets = index.units();
+    let count = offsets.len();
+    if count <= room.len() {
+        let mut i = 0;
+        while i < count {
+            let offset = offsets[i];
+            room[i] = FlatUnit {
+                offset,
+                files: index.file_count(offset),
+            };
+            i += 1;
+        }
+    }
+    count
+}
+
+/// Whether the file is there of the unit at an offset of a good section. Where it is, its whole path is put into the
+/// front of `path`, where there is room for all of it, and `count` is how many bytes it has; else that is 0.
+///
+/// Where they are more than there is room for, nothing is put there, and the caller may ask again with more room. Where
+/// the section isn't good, or memory ran out, the file isn't there, and `verdict` says why; else that is yes. The section
+/// is judged by each call, so a caller keeps the paths that it was given.
+#[unsafe(no_mangle)]
+pub extern "C" fn linetab_path(
+    alloc: Global,
+    section: &FlatSection<'_>,
+    unit: u64,
+    file: u64,
+    path: &mut [u8],
+    count: &mut usize,
+    verdict: &mut FlatVerdict,
+) -> bool
+    ensures room { length path.new ≡ length path.old }
+    ensures told { IsToldOfPath section.now unit file result count.new path.new verdict.new }
+{
+    *count = 0;
+    let found = match index_of(alloc, section) {
+        Ok(index) => index.path_of(alloc, unit, file),
+        Err(refused) => {
+            *verdict = refused;
+            return false;
+        }
+    };
+    match found {
+        Ok(Some(whole)) => {
+            *verdict = YES;
+            *count = put_bytes(&whole, path);
+            true
+        }
+        Ok(None) => {
+            *verdict = YES;
+            false
+        }
+        Err(stop) => {
+            *verdict = verdict_of_stop(stop);
+            false
+        }
+    }
+}

@@ -1,0 +1,235 @@
+//! Verdicts as C sees them.
+ghost use Rattle.std.specs.Prelude.{◌≡◌};
+ghost use Rattle.lnt_ffi.specs.Verdicts.{numbered, of_malformed, of_run, verdict_of_no, verdict_of_stop, verdict_of_table, which_number};
+
+use crate::flat::{FlatAnswer, NOTHING, flat_side};
+use lnt_header::Which;
+use lnt_lines::No;
+use lnt_machine::RunFault;
+use lnt_spans::Position;
+use lnt_table::{TableNo, Verdict};
+use lnt_wire::{Fault, Reason, Stop};
+
+/// What was found: `struct linetab_verdict`. `include/linetab.h` says of each number which fields tell what; the others
+/// are 0.
+#[repr(C)]
+#[derive(Clone, Copy)]
+pub struct FlatVerdict {
+    /// 0 for yes, else the number of the reason: 25 to 32 of a section (`No`), 33 to 35 of a stop (`Stop`), 36 to 40 of a
+    /// table (`TableNo`).
+    pub number: u32,
+    /// The number of what is wrong with the bytes (`Reason`) or with the program (`RunFault`), or 1 for the table of files and 0 for
+    /// that of directories.
+    pub detail: u32,
+    /// The offset in the section of the unit, or of the field that is malformed.
+    pub offset: u64,
+    /// The index of the operation, entry, file, row, sequence or record; or the number that a malformed field has.
+    pub index: u64,
+    /// The file that a row names, the column of a record, or the operands that a standard opcode is said to have.
+    pub value: u64,
+    /// The offset of the unit of the other sequence.
+    pub other_offset: u64,
+    /// The index of the other sequence.
+    pub other_index: u64,
+    /// The address of the position.
+    pub address: u64,
+    /// The operation of the position.
+    pub op: u64,
+    /// Whether the table answers something there.
+    pub table_answers: bool,
+    /// Whether the section answers something there.
+    pub section_answers: bool,
+    /// What the table answers there.
+    pub by_table: FlatAnswer,
+    /// What the section answers there, as the version of the table tells it.
+    pub by_section: FlatAnswer,
+}
+
+// Yes.
+pub(crate) const YES: FlatVerdict = FlatVerdict {
+    number: 0,
+    detail: 0,
+    offset: 0,
+    index: 0,
+    value: 0,
+    other_offset: 0,
+    other_index: 0,
+    address: 0,
+    op: 0,
+    table_answers: false,
+    section_answers: false,
+    by_table: NOTHING,
+    by_section: NOTHING,
+};
+
+// A number and a detail, with no evidence.
+fn numbered(number: u32, detail: u32) -> FlatVerdict
+    ensures { result ≡ numbered number detail }
+{
+    FlatVerdict {
+        number,
+        detail,
+        ..YES
+    }
+}
+
+// Why nothing was judged.
+pub(crate) fn verdict_of_stop(stop: Stop) -> FlatVerdict
+    ensures { result ≡ verdict_of_stop stop }
+{
+    match stop {
+        Stop::Memory => numbered(33, 0),
+        Stop::Read => numbered(34, 0),
+        Stop::TooLong => numbered(35, 0),
+    }
+}
+
+// Bytes that are no unit.
+fn of_malformed(fault: Fault) -> FlatVerdict
+    ensures { result ≡ of_malformed fault }
+{
+    let (detail, index, value) = match fault.reason {
+        Reason::Truncated => (1, 0, 0),
+        Reason::ReservedLength => (2, 0, 0),
+        Reason::VersionNotFive(version) => (3, version as u64, 0),
+        Reason::AddressSize(size) => (4, size as u64, 0),
+        Reason::SegmentSelector(size) => (5, size as u64, 0),
+        Reason::HeaderLength => (6, 0, 0),
+        Reason::MaxOpsZero => (7, 0, 0),
+        Reason::LineRangeZero => (8, 0, 0),
+        Reason::OpcodeBaseZero => (9, 0, 0),
+        Reason::StandardLength(opcode, length) => (10, opcode as u64, length as u64),
+        Reason::UnknownForm(code) => (11, code, 0),
+        Reason::EmptyFormat => (12, 0, 0),
+        Reason::LebTooLarge => (13, 0, 0),
+        Reason::ExtendedLength => (14, 0, 0),
+        Reason::Memory => (15, 0, 0),
+    };
+    FlatVerdict {
+        offset: fault.place,
+        index,
+        value,
+        ..numbered(25, detail)
+    }
+}
+
+// A program that doesn't run.
+fn of_run(unit: u64, fault: RunFault) -> FlatVerdict
+    ensures { result ≡ of_run unit fault }
+{
+    let (detail, index) = match fault {
+        RunFault::LineOutOfRange(op) => (22, op),
+        RunFault::OpenSequence => (23, 0),
+        RunFault::Memory => (24, 0),
+    };
+    FlatVerdict {
+        offset: unit,
+        index,
+        ..numbered(26, detail)
+    }
+}
+
+fn which_number(which: Which) -> u32
+    ensures { result ≡ which_number which }
+{
+    match which {
+        Which::Directories => 0,
+        Which::Files => 1,
+    }
+}
+
+// What is wrong with a section.
+pub(crate) fn verdict_of_no(no: No) -> FlatVerdict
+    ensures { result ≡ verdict_of_no no }
+{
+    match no {
+        No::Malformed(fault) => of_malformed(fault),
+        No::Run(unit, fault) => of_run(unit, fault),
+        No::EntryFormat(unit, which) => FlatVerdict {
+            offset: unit,
+            ..numbered(27, which_number(which))
+        },
+        No::StringOutside(unit, which, entry) => FlatVerdict {
+            offset: unit,
+            index: entry,
+            ..numbered(28, which_number(which))
+        },
+        No::DirectoryNumber(unit, file) => FlatVerdict {
+            offset: unit,
+            index: file,
+            ..numbered(29, 0)
+        },
+        No::FileNumber { unit, row, file } => FlatVerdict {
+            offset: unit,
+            index: row,
+            value: file,
+            ..numbered(30, 0)
+        },
+        No::Falls { unit, row } => FlatVerdict {
+            offset: unit,
+            index: row,
+            ..numbered(31, 0)
+        },
+        No::Overlap {
+            first,
+            second,
+            position,
+        } => FlatVerdict {
+            offset: first.unit,
+            index: first.index,
+            other_offset: second.unit,
+            other_index: second.index,
+            ..at(position, 32)
+        },
+    }
+}
+
+// A number and a position.
+fn at(position: Position, number: u32) -> FlatVerdict
+    ensures { result ≡ record (numbered number 0) { address = position.address; op = position.op } }
+{
+    FlatVerdict {
+        address: position.address,
+        op: position.op,
+        ..numbered(number, 0)
+    }
+}
+
+// What is wrong with a record of a table.
+fn of_record(number: u32, entry: u64, column: u64) -> FlatVerdict
+    ensures { result ≡ record (numbered number 0) { index = entry; value = column } }
+{
+    FlatVerdict {
+        index: entry,
+        value: column,
+        ..numbered(number, 0)
+    }
+}
+
+// What a check finds.
+pub(crate) fn verdict_of_table(verdict: Verdict) -> FlatVerdict
+    ensures { result ≡ verdict_of_table verdict }
+{
+    let no = match verdict {
+        Verdict::Yes => return YES,
+        Verdict::No(no) => no,
+    };
+    match no {
+        TableNo::Section(no) => verdict_of_no(no),
+        TableNo::Header => numbered(36, 0),
+        TableNo::Fields(number) => of_record(37, number, 0),
+        TableNo::Number { record, column } => of_record(38, record, column),
+        TableNo::Order(number) => of_record(39, number, 0),
+        TableNo::Differs {
+            position,
+            by_table,
+            by_section,
+        } => FlatVerdict {
+            table_answers: by_table.is_some(),
+            section_answers: by_section.is_some(),
+            by_table: flat_side(by_table),
+            by_section: flat_side(by_section),
+            ..at(position, 40)
+        },
+    }
+}

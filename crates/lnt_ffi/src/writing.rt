@@ -1,0 +1,56 @@
+//! Address tables written.
+ghost use Rattle.std.specs.Prelude.{◌≡◌, IfErr, IfOk, length};
+ghost use Rattle.lnt_ffi.specs.Told.{IsRefused, IsTableOf, IsToldOfWriting, version_of};
+
+use crate::judging::index_of;
+use crate::room::put_bytes;
+use crate::section::FlatSection;
+use crate::verdict::{FlatVerdict, YES, verdict_of_stop};
+use lnt_spans::Version;
+use lnt_table::write_index;
+use lnt_wire::Stop;
+use std::alloc::Global;
+
+/// Puts the address table of a good section into the front of `room`, where there is room for all of it: the one shortest
+/// table that answers as the section does, in version 2 where `is_wide` is true, else in version 1.
+///
+/// It answers how many bytes the table has. Where they are more than there is room for, nothing is put there, and the
+/// caller may ask again with more room. Where the section isn't good, or memory ran out, it answers 0, and `verdict` says
+/// why; else that is yes.
+#[unsafe(no_mangle)]
+pub extern "C" fn linetab_table(
+    alloc: Global,
+    section: &FlatSection<'_>,
+    is_wide: bool,
+    room: &mut [u8],
+    verdict: &mut FlatVerdict,
+) -> usize
+    ensures length { length room.new ≡ length room.old }
+    ensures told { IsToldOfWriting section.now is_wide result room.new verdict.new }
+{
+    match table_of(alloc, section, is_wide) {
+        Ok(table) => {
+            *verdict = YES;
+            put_bytes(&table, room)
+        }
+        Err(refused) => {
+            *verdict = refused;
+            0
+        }
+    }
+}
+
+// The table of a good section, or the verdict of another one.
+fn table_of(alloc: Global, section: &FlatSection<'_>, is_wide: bool) -> Result<Vec<u8>, FlatVerdict>
+    ensures good { IfOk result (λ table. IsTableOf section.now (version_of is_wide) table.items) }
+    ensures refused { IfErr result (IsRefused section.now) }
+{
+    let index = index_of(alloc, section)?;
+    let version = if is_wide { Version::Two } else { Version::One };
+    let mut table = Vec::new(alloc);
+    match write_index(alloc, &index, version, &mut table) {
+        Ok(()) => Ok(table),
+        // The table is kept in memory, so nothing but want of memory keeps it from being written.
+        Err(_) => Err(verdict_of_stop(Stop::Memory)),
+    }
+}

@@ -1,0 +1,6 @@
+use Rattle.std.proofs.Common.{rules}
+use Rattle.lnt_paths.proofs.LineLemmas.{field_made}
+use Rattle.lnt_paths.proofs.field.field_of.Goals as goal
+
+pub returns : goal.returns
+returns g c = field_made (g.P.Paths.bytes_of c.args.paths.now c.args.unit c.args.file) c.in_ok-text.text.items c.pop.new.self.items c.in_ok-text.text.len (search rules) (search rules) (search rules)

@@ -1,0 +1,29 @@
+use Rattle.std.proofs.Common.{Option, subst}
+use Rattle.std.specs.Prelude.{MatchOption}
+use Rattle.std.specs.List.{AllByRecursion}
+use Rattle.lnt_spans.specs.declared.answer.Answer.{Answer}
+use Rattle.lnt_spans.specs.declared.position.Position.{Position}
+use Rattle.lnt_paths.specs.Joining.{HasNoOperation, IsFirstOperation}
+use Rattle.lnt_paths.specs.PathAnswers.{PathAnswer, path_answer}
+use Rattle.lnt_paths.proofs.WriteLemmas.{keeps_same, operation_found, table_written}
+use Rattle.lnt_paths.proofs.write.write_by_path.Goals as goal
+
+pub returns-in-Some : goal.returns-in-Some
+returns-in-Some g c list other come come' o o' same =
+    let tell : Answer → PathAnswer = path_answer c.args.version (g.P.Paths.bytes_of c.args.paths.now) in (
+      keeps_same (g.W.Write.contents c.args.out.now),
+      operation_found tell other list c.in-Some.position (record { first = o; second = o'; same = same })
+          (λ joined joins.
+          subst (λ (f : Option Position). MatchOption f (AllByRecursion HasNoOperation joined) (λ position. IsFirstOperation position joined)) c.in-Some.is
+          (c.in_ok-position.ensures other joined come joins)),
+    )
+
+pub returns : goal.returns
+returns g c list other come come' o o' same =
+    let tell : Answer → PathAnswer = path_answer c.args.version (g.P.Paths.bytes_of c.args.paths.now) in
+    let written = c.in_ok-write_lines.ensures in
+    table_written tell c.args.version (g.W.Write.contents c.args.out.now) (g.W.Write.contents c.write_lines.new.out) other list written.0 (record { first = o; second = o'; same = same })
+    (λ whole joins.
+    subst (λ (f : Option Position). MatchOption f (AllByRecursion HasNoOperation whole) (λ position. IsFirstOperation position whole)) c.in_default.is
+    (c.in_ok-position.ensures other whole come joins))
+    (λ all joins. written.2 list all come' joins) written.1

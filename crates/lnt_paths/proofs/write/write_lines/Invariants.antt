@@ -1,0 +1,16 @@
+use Rattle.std.specs.Prelude.{List}
+use Rattle.lnt_spans.specs.declared.span.Span.{Span}
+use Rattle.lnt_spans.specs.Ahead.{count_ahead}
+use Rattle.lnt_spans.specs.Laws.Coming.{HasGiven}
+use Rattle.lnt_paths.specs.Joining.{AllJoinTo, AreFieldsOf, HasWritten, WillGive}
+use Rattle.lnt_paths.specs.PathAnswers.{path_answer}
+use Rattle.lnt_paths.proofs.write.write_lines.Given as goal
+
+abbrev pub invariant-loop-line : goal.invariant-loop-line
+invariant-loop-line g l = (given : List Span) × HasWritten (path_answer l.version (g.P.Paths.bytes_of l.paths)) l.version (g.W.Write.contents l.fn.out) (g.W.Write.contents l.out) given
+    × AreFieldsOf (g.P.Paths.bytes_of l.paths) l.fields.slots.items
+    × ((list joined : List Span) → g.S.SpanSource.to_come l.fn.spans list → AllJoinTo (path_answer l.version (g.P.Paths.bytes_of l.paths)) list joined
+    → HasGiven joined given (WillGive (path_answer l.version (g.P.Paths.bytes_of l.paths)) l.joined.next (g.S.SpanSource.to_come l.joined.spans)))
+
+abbrev pub decreases-loop-line : goal.decreases-loop-line
+decreases-loop-line g l = count_ahead l.joined.next (g.S.SpanSource.left l.joined.spans)

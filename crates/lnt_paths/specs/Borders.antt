@@ -1,0 +1,17 @@
+-- Where spans begin and end inside of an instruction, which a table by path can't say.
+use Rattle.std.specs.Prelude.{◌≢◌, List, [], ◌∷◌}
+use Rattle.std.specs.List.{AllByRecursion, Contains}
+use Rattle.lnt_spans.specs.declared.position.Position.{Position}
+use Rattle.lnt_spans.specs.Positions.{IsAtMost}
+use Rattle.lnt_paths.specs.PathSpans.{PathSpan}
+
+-- where the spans begin and end
+abbrev pub path_borders : List PathSpan → List Position
+path_borders [] = []
+path_borders (span ∷ spans) = span.low ∷ span.high ∷ path_borders spans
+
+-- Of the positions where they begin or end at an operation index other than 0, this is the least.
+pub record IsLeastOperation (spans : List PathSpan) (position : Position) : Type 0 where
+  pub border : Contains (path_borders spans) position
+  pub op : position.op ≢ 0
+  pub least : AllByRecursion (λ p. p.op ≢ 0 → IsAtMost position p) (path_borders spans)

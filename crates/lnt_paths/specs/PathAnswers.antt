@@ -1,0 +1,27 @@
+-- What is answered at a position by path: the bytes of the whole path of the file, the line, and in version 3 the column.
+use Rattle.std.specs.Prelude.{ℕ, List, Option, None, Some}
+use Rattle.std.specs.Option.{option_map}
+use Rattle.lnt_spans.specs.declared.answer.Answer.{Answer}
+use Rattle.lnt_spans.specs.declared.position.Position.{Position}
+use Rattle.lnt_spans.specs.declared.span.Span.{Span}
+use Rattle.lnt_spans.specs.Spans.{span_answer}
+use Rattle.lnt_paths.specs.declared.version.PathVersion.{PathVersion}
+use Rattle.lnt_paths.specs.declared.version.PathVersion.TheVariants.{Three, Four}
+
+pub record PathAnswer : Type 0 where
+  pub path : List ℕ
+  pub line : ℕ
+  pub column : Option ℕ
+
+-- the column, where the version tells it
+abbrev pub told_column : PathVersion → ℕ → Option ℕ
+told_column Three column = Some column
+told_column Four column = None
+
+-- an answer told by path, where the files of units have these paths
+abbrev pub path_answer : PathVersion → (ℕ → ℕ → List ℕ) → Answer → PathAnswer
+path_answer version path answer = record { path = path answer.unit answer.file; line = answer.line; column = told_column version answer.column }
+
+-- what spans answer at a position, told by path
+abbrev pub spans_by_path : PathVersion → (ℕ → ℕ → List ℕ) → List Span → Position → Option PathAnswer
+spans_by_path version path spans p = option_map (path_answer version path) (span_answer spans p)

@@ -1,0 +1,35 @@
+//! Whether spans joined by path begin and end at whole instructions.
+ghost use Rattle.std.specs.Prelude.{List, IfOk, MatchOption};
+ghost use Rattle.std.specs.List.{AllByRecursion};
+ghost use Rattle.lnt_spans.specs.declared.span.Span as spec;
+ghost use Rattle.lnt_paths.specs.Joining.{AllJoinTo, HasNoOperation, IsFirstOperation};
+ghost use Rattle.lnt_paths.specs.PathAnswers.{path_answer};
+
+use crate::joined::Joined;
+use crate::paths::Paths;
+use crate::version::PathVersion;
+use lnt_records::WriteStop;
+use lnt_spans::{Position, SpanSource};
+use std::alloc::Global;
+
+// The first position where one of the joined spans begins or ends at an operation index other than 0, if there is one.
+pub(crate) fn first_operation<S: SpanSource + Drop, P: Paths>(
+    alloc: Global,
+    spans: S,
+    paths: &P,
+    version: PathVersion,
+) -> Result<Option<Position>, WriteStop>
+    ensures { IfOk result (λ found. (list joined : List spec.Span) → S.to_come spans list → AllJoinTo (path_answer version (P.bytes_of paths.now)) list joined
+        → MatchOption found (AllByRecursion HasNoOperation joined) (λ position. IsFirstOperation position joined)) }
+{
+    let mut joined = Joined::of(spans);
+    while let Some(span) = joined.next_joined(alloc, paths, version)? {
+        if span.low.op != 0 {
+            return Ok(Some(span.low));
+        }
+        if span.high.op != 0 {
+            return Ok(Some(span.high));
+        }
+    }
+    Ok(None)
+}

@@ -1,0 +1,93 @@
+//! Paths as fields of a record, and those of the files that were used lately.
+ghost use Rattle.std.specs.Prelude.{◌≡◌, ◌++◌, ◌∷◌, ℕ, List, [], IfOk, OnOk};
+ghost use Rattle.csv.specs.Writing.{default_writer, row_text};
+ghost use Rattle.lnt_paths.specs.Joining.{AreFieldsOf, field_with_comma};
+
+use crate::paths::Paths;
+use csv::Writer;
+use lnt_records::WriteStop;
+use std::alloc::{AllocError, Global};
+
+// As many files are kept at most.
+const SLOTS: u64 = 256;
+
+// The path of a file as a field of a record, with a comma behind it.
+#[derive(Drop)]
+pub(crate) struct PathField {
+    unit: u64,
+    file: u64,
+    text: Vec<u8>,
+}
+
+// Fields of the files that were used lately, each in the place that its number gives: code goes to and fro between files.
+#[derive(Drop)]
+pub(crate) struct PathFields {
+    slots: Vec<Option<PathField>>,
+}
+
+impl PathFields {
+    // None is kept.
+    pub(crate) fn new(alloc: Global) -> Result<PathFields, AllocError>
+        ensures { IfOk result (λ fields. (path : ℕ → ℕ → List ℕ) → AreFieldsOf path fields.slots.items) }
+    {
+        let mut slots = Vec::new(alloc);
+        for _ in 0..SLOTS {
+            slots.push(None)?;
+        }
+        Ok(PathFields { slots })
+    }
+
+    // Adds the path of a file to a line, with a comma behind it.
+    pub(crate) fn put<P: Paths>(
+        &mut self,
+        alloc: Global,
+        paths: &P,
+        unit: u64,
+        file: u64,
+        line: &mut Vec<u8>,
+    ) -> Result<(), WriteStop>
+        requires { AreFieldsOf (P.bytes_of paths.now) self.old.slots.items }
+        ensures kept { OnOk result (AreFieldsOf (P.bytes_of paths.now) self.new.slots.items) }
+        ensures added { OnOk result (line.new.items ≡ line.old.items ++ field_with_comma (P.bytes_of paths.now unit file)) }
+    {
+        let place = (file % SLOTS) as usize;
+        if let Some(Some(kept)) = self.slots.get(place) {
+            if kept.unit == unit && kept.file == file {
+                line.extend_from_slice(&kept.text)?;
+                return Ok(());
+            }
+        }
+        let text = field_of(alloc, paths, unit, file)?;
+        line.extend_from_slice(&text)?;
+        if let Some(slot) = self.slots.get_mut(place) {
+            *slot = Some(PathField { unit, file, text });
+        }
+        Ok(())
+    }
+}
+
+// The path of a file as a field of a record, with a comma behind it.
+fn field_of<P: Paths>(alloc: Global, paths: &P, unit: u64, file: u64) -> Result<Vec<u8>, WriteStop>
+    ensures { IfOk result (λ text. text.items ≡ field_with_comma (P.bytes_of paths.now unit file)) }
+{
+    let path = paths.path_of(alloc, unit, file)?;
+    let mut text = record_of(alloc, &path)?;
+    text.pop();
+    Ok(text)
+}
+
+// A record of a path and an empty field: the first one as it is to be, a comma and a line feed.
+fn record_of(alloc: Global, path: &[u8]) -> Result<Vec<u8>, WriteStop>
+    ensures { IfOk result (λ text. text.items ≡ row_text default_writer (path.now ∷ [] ∷ [])) }
+{
+    let mut record = Writer::from_writer(Vec::new(alloc));
+    let fields = [path, b"".as_slice()];
+    match record.write_fields(&fields) {
+        Ok(()) => {}
+        Err(_) => return Err(WriteStop::Memory),
+    }
+    match record.into_inner() {
+        Ok(text) => Ok(text),
+        Err(_) => Err(WriteStop::Memory),
+    }
+}

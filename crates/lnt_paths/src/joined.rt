@@ -1,0 +1,83 @@
+//! Spans that come, with those joined that touch and answer the same by path.
+ghost use Rattle.std.specs.Prelude.{◌≡◌, ◌≢◌, ◌<◌, List, IfOk, IfSome};
+ghost use Rattle.std.specs.Bool.{MatchBool};
+ghost use Rattle.lnt_spans.specs.declared.answer.Answer as answer;
+ghost use Rattle.lnt_spans.specs.declared.span.Span as spec;
+ghost use Rattle.lnt_spans.specs.Ahead.{count_ahead};
+ghost use Rattle.lnt_spans.specs.Coming.{GivesFirst};
+ghost use Rattle.lnt_paths.specs.Joining.{AllJoinTo, GoesOn, WillGive};
+ghost use Rattle.lnt_paths.specs.PathAnswers.{PathAnswer, path_answer, told_column};
+
+use crate::paths::{Paths, same_path};
+use crate::version::PathVersion;
+use lnt_records::WriteStop;
+use lnt_spans::{Answer, Span, SpanSource};
+use std::alloc::Global;
+
+// Spans that come, and the first of them at hand. They are given joined, each with the answer of its first part.
+#[derive(Drop)]
+pub(crate) struct Joined<S> {
+    next: Option<Span>,
+    spans: S,
+}
+
+impl<S: SpanSource> Joined<S> {
+    // All spans of the source.
+    pub(crate) fn of(mut spans: S) -> Joined<S>
+        ensures { (tell : answer.Answer → PathAnswer) (list joined : List spec.Span) → S.to_come spans list → AllJoinTo tell list joined → WillGive tell result.next (S.to_come result.spans) joined }
+    {
+        let next = spans.next_span();
+        Joined { next, spans }
+    }
+
+    // The next one, with all that go on with it.
+    pub(crate) fn next_joined<P: Paths>(
+        &mut self,
+        alloc: Global,
+        paths: &P,
+        version: PathVersion,
+    ) -> Result<Option<Span>, WriteStop>
+        ensures gives { IfOk result (λ given. (joined : List spec.Span) → WillGive (path_answer version (P.bytes_of paths.now)) self.old.next (S.to_come self.old.spans) joined
+            → GivesFirst (WillGive (path_answer version (P.bytes_of paths.now)) self.new.next (S.to_come self.new.spans)) joined given) }
+        ensures fewer { IfOk result (λ given. IfSome given (λ _. count_ahead self.new.next (S.left self.new.spans) < count_ahead self.old.next (S.left self.old.spans))) }
+    {
+        let Some(mut last) = self.next.take() else {
+            return Ok(None);
+        };
+        while let Some(span) = self.spans.next_span() {
+            if !goes_on(alloc, paths, version, &last, &span)? {
+                self.next = Some(span);
+                return Ok(Some(last));
+            }
+            last.high = span.high;
+        }
+        Ok(Some(last))
+    }
+}
+
+// Whether the second span begins where the first ends, and answers the same by path.
+fn goes_on<P: Paths>(
+    alloc: Global,
+    paths: &P,
+    version: PathVersion,
+    last: &Span,
+    span: &Span,
+) -> Result<bool, WriteStop>
+    ensures { IfOk result (λ goes. MatchBool goes (GoesOn (path_answer version (P.bytes_of paths.now)) last.now span.now) (GoesOn (path_answer version (P.bytes_of paths.now)) last.now span.now → ⊥)) }
+{
+    if last.high != span.low || !same_place(version, &last.answer, &span.answer) {
+        return Ok(false);
+    }
+    same_path(alloc, paths, &last.answer, &span.answer)
+}
+
+// Whether two answers have the same line, and the same column where the version tells it.
+fn same_place(version: PathVersion, one: &Answer, other: &Answer) -> bool
+    ensures { MatchBool result ((one.now.line ≡ other.now.line) × (told_column version one.now.column ≡ told_column version other.now.column))
+        (one.now.line ≡ other.now.line → told_column version one.now.column ≢ told_column version other.now.column) }
+{
+    match version {
+        PathVersion::Three => one.line == other.line && one.column == other.column,
+        PathVersion::Four => one.line == other.line,
+    }
+}

@@ -1,0 +1,58 @@
+//! The line of a span.
+ghost use Rattle.std.specs.Prelude.{◌≡◌, ◌++◌, OnOk};
+ghost use Rattle.csv.specs.Writing.{default_writer, row_text};
+ghost use Rattle.lnt_paths.specs.Joining.{AddsPathLine, AddsPlace, AreFieldsOf};
+ghost use Rattle.lnt_paths.specs.PathAnswers.{path_answer};
+ghost use Rattle.lnt_paths.specs.PathTables.{path_column_names};
+
+use crate::field::PathFields;
+use crate::paths::Paths;
+use crate::version::PathVersion;
+use lnt_digits::{put_address, put_decimal};
+use lnt_records::WriteStop;
+use lnt_spans::{Answer, Span};
+use std::alloc::{AllocError, Global};
+
+// The line with the names of the columns.
+pub(crate) fn header_line(version: PathVersion) -> &'static [u8]
+    ensures { result.now ≡ row_text default_writer (path_column_names version) }
+{
+    match version {
+        PathVersion::Three => b"low,high,path,line,column\n",
+        PathVersion::Four => b"low,high,path,line\n",
+    }
+}
+
+// Adds the line of a span, of which the addresses alone are told.
+pub(crate) fn put_line<P: Paths>(
+    alloc: Global,
+    paths: &P,
+    version: PathVersion,
+    fields: &mut PathFields,
+    span: &Span,
+    line: &mut Vec<u8>,
+) -> Result<(), WriteStop>
+    requires { AreFieldsOf (P.bytes_of paths.now) fields.old.slots.items }
+    ensures kept { OnOk result (AreFieldsOf (P.bytes_of paths.now) fields.new.slots.items) }
+    ensures added { OnOk result (AddsPathLine (path_answer version (P.bytes_of paths.now)) version span.now line.old.items line.new.items) }
+{
+    put_address(line, span.low.address)?;
+    line.extend_from_slice(b",")?;
+    put_address(line, span.high.address)?;
+    line.extend_from_slice(b",")?;
+    fields.put(alloc, paths, span.answer.unit, span.answer.file, line)?;
+    put_place(version, &span.answer, line)?;
+    Ok(())
+}
+
+// Adds the line in the file, in version 3 the column, and the end of the line.
+fn put_place(version: PathVersion, answer: &Answer, line: &mut Vec<u8>) -> Result<(), AllocError>
+    ensures { OnOk result (AddsPlace version answer.now line.old.items line.new.items) }
+{
+    put_decimal(line, answer.line)?;
+    if version == PathVersion::Three {
+        line.extend_from_slice(b",")?;
+        put_decimal(line, answer.column)?;
+    }
+    line.extend_from_slice(b"\n")
+}

@@ -1,0 +1,86 @@
+//! Tables by path written.
+ghost use Rattle.std.specs.Prelude.{◌≡◌, List, IfOk, OnOk};
+ghost use Rattle.std.specs.Io.KnownBytes.{Appends};
+ghost use Rattle.lnt_spans.specs.declared.position.Position as position;
+ghost use Rattle.lnt_spans.specs.declared.span.Span as spec;
+ghost use Rattle.lnt_spans.specs.Spans.{AreInOrder, span_answer};
+ghost use Rattle.lnt_paths.specs.Joining.{AllJoinTo, HasWritten};
+ghost use Rattle.lnt_paths.specs.PathAnswers.{path_answer, spans_by_path};
+ghost use Rattle.lnt_paths.specs.Written.{HasBecome};
+
+use crate::border::first_operation;
+use crate::field::PathFields;
+use crate::joined::Joined;
+use crate::line::{header_line, put_line};
+use crate::paths::Paths;
+use crate::version::{PathTable, PathVersion};
+use lnt_records::WriteStop;
+use lnt_spans::SpanSource;
+use std::alloc::Global;
+use std::io::Write;
+
+/// Writes the table by path of spans that come from a source, line by line, as they come. Another source gives spans that
+/// answer the same, by which it is judged first whether there is such a table. Each keeps no span but one, and a writer that
+/// gathers what it is given, as `BufWriter` does, makes it fast.
+///
+/// Where it answers `Written`, the writer has gained bytes that are a table of exactly the canonical spans that answer as
+/// the spans do, told by path: the one shortest table that does. Spans that touch are one where their path, line and, in
+/// version 3, column are the same, whatever units they are of.
+///
+/// It answers `OperationIndex` (43) exactly where one of these canonical spans begins or ends at an operation index other
+/// than 0, and then nothing was written.
+///
+/// It stops by `Memory` (33) where memory ran out, and by `Write` (42) where the writer refused some bytes; then nothing
+/// is said of what the writer gained. No contract of a writer tells when it refuses, so no clause says that `Write`
+/// comes only then.
+pub fn write_by_path<S: SpanSource + Drop, P: Paths, W: Write>(
+    alloc: Global,
+    judged: S,
+    spans: S,
+    paths: &P,
+    version: PathVersion,
+    out: &mut W,
+) -> Result<PathTable, WriteStop>
+    ensures { IfOk result (λ table. (list other : List spec.Span) → S.to_come judged other → S.to_come spans list → AreInOrder other → AreInOrder list
+        → ((p : position.Position) → span_answer other p ≡ span_answer list p)
+        → HasBecome version (spans_by_path version (P.bytes_of paths.now) list) (W.contents out.old) (W.contents out.new) table) }
+{
+    if let Some(position) = first_operation(alloc, judged, paths, version)? {
+        return Ok(PathTable::OperationIndex(position));
+    }
+    write_lines(alloc, spans, paths, version, out)?;
+    Ok(PathTable::Written)
+}
+
+// Writes the names of the columns, and a line for each of the joined spans, of which the addresses alone are told.
+fn write_lines<S: SpanSource + Drop, P: Paths, W: Write>(
+    alloc: Global,
+    spans: S,
+    paths: &P,
+    version: PathVersion,
+    out: &mut W,
+) -> Result<(), WriteStop>
+    ensures { OnOk result ((joined : List spec.Span) × HasWritten (path_answer version (P.bytes_of paths.now)) version (W.contents out.old) (W.contents out.new) joined
+        × ((list all : List spec.Span) → S.to_come spans list → AllJoinTo (path_answer version (P.bytes_of paths.now)) list all → all ≡ joined)) }
+{
+    let mut joined = Joined::of(spans);
+    let mut fields = PathFields::new(alloc)?;
+    let mut line = Vec::new(alloc);
+    send(header_line(version), out)?;
+    while let Some(span) = joined.next_joined(alloc, paths, version)? {
+        line.clear();
+        put_line(alloc, paths, version, &mut fields, &span, &mut line)?;
+        send(line.as_slice(), out)?;
+    }
+    Ok(())
+}
+
+// Hands a line to the writer.
+fn send<W: Write>(line: &[u8], out: &mut W) -> Result<(), WriteStop>
+    ensures { OnOk result (Appends (W.contents out.old) (W.contents out.new) line.now) }
+{
+    if out.write_all(line).is_err() {
+        return Err(WriteStop::Write);
+    }
+    Ok(())
+}

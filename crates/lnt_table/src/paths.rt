@@ -1,0 +1,52 @@
+//! The table by path of a section's units, written.
+ghost use Rattle.std.specs.Prelude.{◌≡◌, Bool, ℕ, List, Option, IfOk};
+ghost use Rattle.lnt_unit.specs.declared.unit.Parts.{Parts};
+ghost use Rattle.lnt_lines.specs.Indexed.{IsIndexOf};
+ghost use Rattle.lnt_paths.specs.Written.{HasBecome};
+ghost use Rattle.lnt_table.specs.ByPath.{path_at, told_path};
+
+use lnt_lines::Index;
+use lnt_paths::{PathTable, PathVersion, Paths, WriteStop, write_by_path};
+use std::alloc::{AllocError, Global};
+use std::io::Write;
+
+// The paths of the files of an index.
+#[derive(Drop)]
+struct IndexPaths<'i, 'a> {
+    index: &'i Index<'a>,
+}
+
+impl<'i, 'a> Paths for IndexPaths<'i, 'a> {
+    ghost bytes_of = { λ paths unit file. path_at paths.index.now unit file };
+
+    fn path_of(&self, alloc: Global, unit: u64, file: u64) -> Result<Vec<u8>, AllocError> {
+        match self.index.path_of(alloc, unit, file) {
+            Ok(Some(path)) => Ok(path),
+            Ok(None) => Ok(Vec::new(alloc)),
+            Err(_) => Err(AllocError),
+        }
+    }
+}
+
+/// Writes the table by path of the units that an index is of, in a version, line by line, as their spans come. No list of
+/// spans is made.
+///
+/// Where it answers `Written`, the writer has gained bytes that are a table of exactly the canonical spans that answer as
+/// the rows of the units do, with the whole path of their file: the one shortest table that does. Where one of these spans
+/// begins or ends at an operation index other than 0, it answers `OperationIndex` (43) with the least such position, and
+/// nothing was written.
+///
+/// It stops by `Memory` (33) where memory ran out, and by `Write` (42) where the writer refused some bytes; then nothing
+/// is said of what the writer gained.
+pub fn write_paths<W: Write>(
+    alloc: Global,
+    index: &Index<'_>,
+    version: PathVersion,
+    out: &mut W,
+) -> Result<PathTable, WriteStop>
+    ensures { IfOk result (λ table. (dead : Option ℕ) (skip : Bool) (units : List (ℕ × Parts)) → IsIndexOf dead skip units index.now
+        → HasBecome version (told_path version index.now dead skip units) (W.contents out.old) (W.contents out.new) table) }
+{
+    let paths = IndexPaths { index };
+    write_by_path(alloc, index.spans(), index.spans(), &paths, version, out)
+}

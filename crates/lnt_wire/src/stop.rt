@@ -1,0 +1,31 @@
+//! Why the work on the bytes of a source was stopped.
+ghost use Rattle.std.specs.Prelude.{Some};
+ghost use Rattle.lnt_wire.specs.FaultTexts.{stop_text};
+
+use std::error::Error;
+use std::fmt;
+
+/// Why the work on the bytes of a source was stopped. It says nothing of the bytes. Each reason has a number, from 33 to 35.
+#[derive(Clone, Copy, Debug, PartialEq, Eq)]
+pub enum Stop {
+    /// 33: memory ran out.
+    Memory,
+    /// 34: the source failed to give its next bytes.
+    Read,
+    /// 35: the source has more bytes than its limit allows it to give.
+    TooLong,
+}
+
+impl fmt::Display for Stop {
+    ghost output = { λ stop. Some (stop_text stop) };
+
+    fn fmt<W: fmt::Write>(&self, f: &mut fmt::Formatter<W>) -> fmt::Result {
+        match self {
+            Stop::Memory => write!(f, "out of memory"),
+            Stop::Read => write!(f, "cannot read"),
+            Stop::TooLong => write!(f, "too long"),
+        }
+    }
+}
+
+impl Error for Stop {}

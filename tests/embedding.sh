@@ -1,0 +1,104 @@
+#!/usr/bin/env bash
+# The static library, called from C, C++, Rust and Python: what it tells is what the built program prints. Each request for memory is
+# refused in turn, and eight threads call at once. What isn't here, as a compiler, is left out and counted.
+cd "$(dirname "$0")/.." || exit 1
+. tests/check.bash
+work=$(cd "$work" && pwd -P)
+skipped=0
+prefix=$work/prefix
+hello=(examples/hello.debug_line examples/hello.debug_line_str)
+strict=(-O1 -Wall -Wextra -Werror -Wno-format-nonliteral -I"$prefix/include")
+
+# Leaves something out, and says why.
+skip() { # TEXT
+  echo "skipped: $1"
+  skipped=$((skipped + 1))
+}
+here() { # TOOL
+  command -v "$1" >/dev/null || { skip "$1 isn't here"; return 1; }
+}
+# The counts, with those that were left out.
+end() {
+  echo "$passed passed, $failed failed, $skipped skipped"
+  [ "$failed" -eq 0 ]
+  exit
+}
+# What the program prints of the example.
+lookup() { # ADDRESS..
+  ./linetab lookup "${hello[0]}" "$@" --line-str "${hello[1]}" --quiet
+}
+# paths NAME OPTION..: those of an example, as the program prints them, without its listed sums.
+paths() {
+  local from=("examples/$1.debug_line" --line-str "examples/$1.debug_line_str" "${@:2}")
+  expect "the paths of $1" 0 "$(./linetab files "${from[@]}" --quiet | sed '1d; s/,[^,]*$//')"$'\n' '' "$work/calls" files "${from[@]}"
+}
+
+# Without what earlier checks kept of the crates below it, the library would have all of them proved once more.
+if [ ! -e crates/lnt_ffi/out/liblnt_ffi.a.sources ] && [ ! -e crates/lnt_table/out/rlib/stamp ]; then
+  skip 'the library is not built: ./library PREFIX builds it'
+  end
+fi
+./library "$prefix" 2>"$work/log" || { cat "$work/log"; exit 1; }
+expect 'beside the programs' 0 '' '' ./install --library "$work/installed"
+expect 'in a release' 0 "linetab-$(<VERSION)-x86_64-linux/lib/liblinetab.a"$'\n' '' \
+  bash -c './release --library "$0" >"$0/sum" && tar --list --file="$(echo "$0"/linetab-*.tar.gz)" | grep "[.]a$"' "$work"
+expect 'the same library there' 0 '' '' cmp "$work/installed/lib/liblinetab.a" "$prefix/lib/liblinetab.a"
+here cc || end
+library=$prefix/lib/liblinetab.a
+heap=$prefix/share/linetab/linetab_heap.c
+expect 'nothing but its heap and copies of bytes is asked of the host' 0 \
+  $'memcpy\nmemmove\nmemset\nrattle_alloc\nrattle_dealloc\nrattle_realloc\n' '' bash -c 'nm -u "$0" | sed -n "s/^ *U //p" | sort' "$library"
+
+# ---- the examples
+wanted=$(lookup 0x1129 0x1137 0x1)$'\n'
+expect 'C compiles' 0 '' '' cc "${strict[@]}" -std=c11 -o "$work/lookup" examples/c/lookup.c "$heap" "$library"
+expect 'C: lookups' 0 "$wanted" '' "$work/lookup" "${hello[@]}" 0x1129 0x1137 0x1
+expect 'C: a static program' 0 "$wanted" '' \
+  bash -c 'cc -static -I"$1/include" -o "$2/static" examples/c/lookup.c "$1/share/linetab/linetab_heap.c" "$1/lib/liblinetab.a" && "$2/static" "${@:3}"' \
+  '' "$prefix" "$work" "${hello[@]}" 0x1129 0x1137 0x1
+sed -n '/^```c$/,/^```$/{/^```/!p}' docs/EMBEDDING.md >"$work/page.h"
+expect 'the page compiles' 0 '' '' cc "${strict[@]}" -I"$work" -std=c11 -o "$work/page" tests/embedding/page.c "$heap" "$library"
+expect 'what the page prints' 0 $'/w/src/small/a.c:1\n' '' "$work/page" "${hello[@]}" 0x1137
+expect 'what the page prints of no section' 25 '' '' "$work/page" docs/EMBEDDING.md "${hello[1]}" 0x1137
+if here g++; then
+  expect 'C++: the header' 0 '' '' g++ "${strict[@]}" -std=c++11 -fsyntax-only -x c++ tests/embedding/calls.cc
+  expect 'C++ compiles' 0 '' '' \
+    bash -c 'cc -c -I"$1/include" -o "$2/heap.o" "$1/share/linetab/linetab_heap.c" && g++ -std=c++11 -Wall -Wextra -Werror -I"$1/include" -o "$2/calls_cc" tests/embedding/calls.cc "$2/heap.o" "$1/lib/liblinetab.a"' \
+    '' "$prefix" "$work"
+  expect 'C++: a lookup' 0 $'yes 18 spans\n' '' "$work/calls_cc" "${hello[@]}"
+fi
+if here cargo; then
+  cp -r examples/rust "$work/rust"
+  expect 'Rust compiles, and looks up' 0 "$wanted" '' \
+    bash -c 'LINETAB=$1 cargo run --offline --quiet --manifest-path "$2/rust/Cargo.toml" --bin lookup -- "${@:3}"' \
+    '' "$prefix" "$work" "${hello[@]}" 0x1129 0x1137 0x1
+fi
+if here python3; then
+  expect 'a shared object' 0 '' '' cc -shared -fPIC -I"$prefix/include" -o "$work/liblinetab.so" -Wl,--whole-archive "$library" -Wl,--no-whole-archive "$heap"
+  expect 'Python: lookups' 0 "$wanted" '' python3 examples/python/lookup.py "$work/liblinetab.so" "${hello[@]}" 0x1129 0x1137 0x1
+fi
+
+# ---- each call beside the program, on the generated cases
+sanitizers=(-fsanitize=address,undefined -fno-sanitize-recover=all)
+echo 'int main(void) { return 0; }' >"$work/try.c"
+cc "${sanitizers[@]}" -o "$work/try" "$work/try.c" 2>/dev/null && "$work/try" || { sanitizers=(); skip 'the address sanitizer is not here'; }
+calls() { # NAME FILE..
+  expect "$1 compiles" 0 '' '' cc "${strict[@]}" -std=c11 -g "${sanitizers[@]}" -o "$work/$1" "${@:2}" "$library" -lpthread
+}
+calls calls tests/embedding/calls.c "$heap"
+mkdir "$work/cases"
+for archive in tests/cases/{words,copies}.tar.gz; do
+  tar xzf "$archive" -C "$work/cases"
+done
+expect 'each call tells what the generated cases want' 0 '' '' python3 tests/embedding/cases.py "$work/calls" "$work/cases"
+
+paths hello-clang
+paths gc-sections --dead 0x0
+paths powerpc64 --big
+
+# ---- memory and threads
+calls refusing tests/embedding/refusing.c
+expect 'each request refused' 0 "$(printf '%s: each request\n' linetab_{verify,units,path,table,check})"$'\n' '' "$work/refusing" "${hello[@]}" examples/hello.csv
+calls threads tests/embedding/threads.c "$heap"
+expect 'eight threads' 0 $'all alike\n' '' "$work/threads" "${hello[@]}" examples/hello.csv
+end
