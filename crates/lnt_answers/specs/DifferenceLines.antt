@@ -1,8 +1,8 @@
 -- What is printed where a table answers otherwise than a section.
 use Rattle.std.specs.Prelude.{ℕ, List, [], ◌∷◌, ◌++◌, codes}
 use Rattle.std.specs.List.{flat_map}
-use Rattle.lnt_files.specs.declared.status.Status.{Status}
-use Rattle.lnt_files.specs.declared.status.Status.TheVariants.{Done, No}
+use Rattle.lnt_sources.specs.declared.status.Status.{Status}
+use Rattle.lnt_sources.specs.declared.status.Status.TheVariants.{Done, No}
 use Rattle.lnt_spans.specs.declared.difference.Difference.{Difference}
 use Rattle.lnt_text.specs.Texts.{answer_text, position_text}
 

@@ -2,7 +2,7 @@
 use Rattle.std.specs.Prelude.{ℕ, List, ◌++◌, codes, decimal}
 use Rattle.lnt_header.specs.declared.header.Which.{Which}
 use Rattle.lnt_header.specs.declared.header.Which.TheVariants.{Directories, Files}
-use Rattle.lnt_rows.specs.declared.sequence.SeqId.{SeqId}
+use Rattle.lnt_sequences.specs.declared.sequence.SeqId.{SeqId}
 use Rattle.lnt_lines.specs.declared.no.No.{No}
 use Rattle.lnt_lines.specs.declared.no.No.TheVariants.{Malformed, Run, EntryFormat, StringOutside, DirectoryNumber, FileNumber, Falls, Overlap}
 use Rattle.lnt_wire.specs.FaultTexts.{hexadecimal}

@@ -1,15 +1,15 @@
 //! Lookups of the positions that the lines of a text tell.
 ghost use Rattle.std.specs.Prelude.{◌≡◌, ◌+◌, ◌-◌, ◌^◌, ◌<◌, ◌==◌, length, IfErr, IfSome, IsErrOf, IsTrue, MatchOption};
 ghost use Rattle.std.specs.List.{position};
-ghost use Rattle.lnt_files.specs.declared.halt.Halt.TheVariants as halt;
-ghost use Rattle.lnt_files.specs.Halts.{IsPrinting};
+ghost use Rattle.lnt_sources.specs.declared.halt.Halt.TheVariants as halt;
+ghost use Rattle.lnt_sources.specs.Halts.{IsPrinting};
 ghost use Rattle.lnt_answers.specs.Lines.{TellsPosition};
 ghost use Rattle.lnt_spans.specs.declared.position.Position.{Position as Spec};
 
 use crate::lookup::print_lookup;
 use lnt_digits::{address, decimal};
-use lnt_files::{Halt, Status};
 use lnt_lines::Index;
+use lnt_sources::{Halt, Status};
 use lnt_spans::Position;
 use lnt_text::Quoted;
 use lnt_wire::Source;

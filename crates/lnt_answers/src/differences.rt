@@ -2,14 +2,14 @@
 ghost use Rattle.std.specs.Prelude.{◌≡◌, ◌∷◌, ◌++◌, [], List, Option, IfErr, IfOk, Some, codes};
 ghost use Rattle.std.specs.Io.KnownBytes.{Appends};
 ghost use Rattle.lnt_answers.specs.DifferenceLines.{difference_line, difference_text, stretches_status, stretches_text};
-ghost use Rattle.lnt_files.specs.Halts.{IsPrinting};
+ghost use Rattle.lnt_sources.specs.Halts.{IsPrinting};
 ghost use Rattle.lnt_spans.specs.declared.answer.Answer.{Answer};
 ghost use Rattle.lnt_spans.specs.declared.difference.Difference.{Difference as Spec};
 ghost use Rattle.lnt_spans.specs.declared.position.Position.{Position};
 ghost use Rattle.lnt_spans.specs.Differing.{HasTold};
 ghost use Rattle.lnt_spans.specs.Stretches.{AreStretches};
 
-use lnt_files::{Halt, Status};
+use lnt_sources::{Halt, Status};
 use lnt_spans::{Difference, Differences, SpanSource};
 use lnt_text::{AnswerText, PositionText};
 use std::fmt;

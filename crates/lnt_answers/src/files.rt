@@ -2,15 +2,15 @@
 ghost use Rattle.std.specs.Prelude.{◌≡◌, ◌++◌, IfErr, IfOk, OnOk, Some, false, string_bytes};
 ghost use Rattle.std.specs.Io.KnownBytes.{Appends};
 ghost use Rattle.csv.specs.Writing as csv;
-ghost use Rattle.lnt_files.specs.declared.halt.Halt.TheVariants.{Memory};
-ghost use Rattle.lnt_files.specs.declared.status.Status.TheVariants.{Done};
-ghost use Rattle.lnt_files.specs.Halts.{IsPrinting};
+ghost use Rattle.lnt_sources.specs.declared.halt.Halt.TheVariants.{Memory};
+ghost use Rattle.lnt_sources.specs.declared.status.Status.TheVariants.{Done};
+ghost use Rattle.lnt_sources.specs.Halts.{IsPrinting};
 ghost use Rattle.lnt_lines.specs.Indexed.{file_path_in, file_sum_in};
 ghost use Rattle.lnt_answers.specs.FileLines.{file_record, files_text, path_field, sum_field, unit_records};
 
 use csv::Writer;
-use lnt_files::{Halt, Status};
 use lnt_lines::Index;
+use lnt_sources::{Halt, Status};
 use std::alloc::Global;
 use std::io::Write;
 

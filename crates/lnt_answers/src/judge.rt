@@ -4,8 +4,8 @@ ghost use Rattle.lnt_lines.specs.Drafts.{IsJudgedIndex};
 ghost use Rattle.lnt_answers.specs.Lines.{IsIndexGiven, IsTold, IsVerdict};
 
 use crate::no::NoLine;
-use lnt_files::Halt;
 use lnt_lines::{JudgedIndex, Options, index_section};
+use lnt_sources::Halt;
 use lnt_wire::{Source, Strings};
 use std::alloc::Global;
 use std::io::Write;

@@ -1,16 +1,16 @@
 //! What is answered at a position.
 ghost use Rattle.std.specs.Prelude.{◌≡◌, Bool, ℕ, List, ◌++◌, Option, IfErr, IfOk, OnOk, Some};
 ghost use Rattle.std.specs.Io.KnownBytes.{Appends};
-ghost use Rattle.lnt_files.specs.declared.halt.Halt.TheVariants.{Write};
-ghost use Rattle.lnt_files.specs.declared.status.Status.TheVariants.{Done};
+ghost use Rattle.lnt_sources.specs.declared.halt.Halt.TheVariants.{Write};
+ghost use Rattle.lnt_sources.specs.declared.status.Status.TheVariants.{Done};
 ghost use Rattle.lnt_unit.specs.declared.unit.Parts.{Parts};
 ghost use Rattle.lnt_lines.specs.Indexed.{IsIndexOf};
-ghost use Rattle.lnt_files.specs.Halts.{IsPrinting};
+ghost use Rattle.lnt_sources.specs.Halts.{IsPrinting};
 ghost use Rattle.std.specs.List.{flat_map};
 ghost use Rattle.lnt_answers.specs.Lines.{answer_line, lookup_line, place_text, row_text};
 
-use lnt_files::{Halt, Status};
 use lnt_lines::Index;
+use lnt_sources::{Halt, Status};
 use lnt_spans::{Answer, Position, Probes};
 use lnt_text::{PositionText, Quoted};
 use std::alloc::Global;

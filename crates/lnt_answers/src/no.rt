@@ -3,7 +3,7 @@ ghost use Rattle.std.specs.Prelude.{Some};
 ghost use Rattle.lnt_answers.specs.Texts.{no_text, sequence_text, table_text};
 
 use lnt_lines::No;
-use lnt_rows::SeqId;
+use lnt_sequences::SeqId;
 use lnt_text::{MalformedLine, PositionText, RunLine};
 use lnt_unit::Which;
 use std::fmt;

@@ -1,13 +1,13 @@
 //! Whether files have the sums that are listed.
 ghost use Rattle.std.specs.Prelude.{◌≡◌, IfErr, None, Ok};
-ghost use Rattle.lnt_files.specs.declared.status.Status.TheVariants.{Done};
-ghost use Rattle.lnt_entries.specs.Paths.{listed_sum};
-ghost use Rattle.lnt_entries.specs.Tables.{AreUsableTables};
-ghost use Rattle.lnt_files.specs.Halts.{IsPrinting};
+ghost use Rattle.lnt_sources.specs.declared.status.Status.TheVariants.{Done};
+ghost use Rattle.lnt_files.specs.Paths.{listed_sum};
+ghost use Rattle.lnt_files.specs.Tables.{AreUsableTables};
+ghost use Rattle.lnt_sources.specs.Halts.{IsPrinting};
 
-use lnt_entries::{file_count, listed, path_of};
-use lnt_files::{Halt, LIMIT, Opener, Status};
+use lnt_files::{file_count, listed, path_of};
 use lnt_lines::Index;
+use lnt_sources::{Halt, LIMIT, Opener, Status};
 use lnt_sums::{Agreement, md5_agrees};
 use lnt_text::Quoted;
 use lnt_unit::Header;

@@ -10,7 +10,7 @@ use Rattle.lnt_spans.specs.declared.stretches.Differences.{Differences}
 use Rattle.lnt_spans.specs.Differing.{HasTold}
 use Rattle.lnt_spans.specs.Spans.{span_answer}
 use Rattle.lnt_spans.specs.Stretches.{AreStretches}
-use Rattle.lnt_files.specs.declared.status.Status.{Status}
+use Rattle.lnt_sources.specs.declared.status.Status.{Status}
 use Rattle.lnt_table.specs.Headline.{told_answer}
 use Rattle.lnt_table.specs.Stretches.{DiffersFromUnits}
 use Rattle.lnt_answers.specs.DifferenceLines.{stretches_status, stretches_text}

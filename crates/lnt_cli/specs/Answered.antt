@@ -4,9 +4,9 @@
 use Rattle.std.specs.Prelude.{◌≡◌, ℕ, List, [], Option, None, Some, IfSome, false, string_bytes}
 use Rattle.std.specs.Option.{option_copied}
 use Rattle.std.specs.Io.KnownBytes.{Appends}
-use Rattle.lnt_files.specs.Files.{AreBytesOf}
-use Rattle.lnt_files.specs.declared.status.Status.{Status}
-use Rattle.lnt_files.specs.declared.status.Status.TheVariants.{Done}
+use Rattle.lnt_sources.specs.Files.{AreBytesOf}
+use Rattle.lnt_sources.specs.declared.status.Status.{Status}
+use Rattle.lnt_sources.specs.declared.status.Status.TheVariants.{Done}
 use Rattle.lnt_lines.specs.declared.options.Options.{Options}
 use Rattle.lnt_words.specs.declared.request.Judging.{Judging}
 use Rattle.lnt_words.specs.declared.request.Request.{Request}

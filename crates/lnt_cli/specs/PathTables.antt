@@ -1,8 +1,8 @@
 -- What `table` prints where it tells the paths of files.
 use Rattle.std.specs.Prelude.{ℕ, List, ◌++◌, Option, codes}
 use Rattle.std.specs.Io.KnownBytes.{Appends}
-use Rattle.lnt_files.specs.declared.status.Status.{Status}
-use Rattle.lnt_files.specs.declared.status.Status.TheVariants.{Done, No}
+use Rattle.lnt_sources.specs.declared.status.Status.{Status}
+use Rattle.lnt_sources.specs.declared.status.Status.TheVariants.{Done, No}
 use Rattle.lnt_paths.specs.declared.version.PathVersion.{PathVersion}
 use Rattle.lnt_paths.specs.PathAnswers.{PathAnswer}
 use Rattle.lnt_paths.specs.Written.{HasOperationIndex, IsCanonicalPathTable}

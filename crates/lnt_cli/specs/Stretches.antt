@@ -14,7 +14,7 @@ use Rattle.lnt_answers.specs.DifferenceLines.{stretches_status, stretches_text}
 use Rattle.lnt_cli.specs.declared.stretches.Stretches.{Stretches}
 use Rattle.lnt_cli.specs.declared.stretches.Stretches.TheVariants.{Faulty, Told}
 use Rattle.lnt_cli.specs.Verdicts.{reason_of, table_no_text}
-use Rattle.lnt_files.specs.declared.status.Status.{Status}
+use Rattle.lnt_sources.specs.declared.status.Status.{Status}
 
 -- The bytes are a table. These are exactly the stretches at which it answers otherwise than the rows of the units, as far as
 -- its version tells, and a writer that held these bytes has gained their lines, or `yes` where there is none.

@@ -1,7 +1,7 @@
 -- What is printed of a verdict on a section and a table.
 use Rattle.std.specs.Prelude.{ℕ, List, ◌++◌, codes, decimal}
-use Rattle.lnt_files.specs.declared.status.Status.{Status}
-use Rattle.lnt_files.specs.declared.status.Status.TheVariants as status
+use Rattle.lnt_sources.specs.declared.status.Status.{Status}
+use Rattle.lnt_sources.specs.declared.status.Status.TheVariants as status
 use Rattle.lnt_records.specs.declared.fault.TableFault.{TableFault}
 use Rattle.lnt_records.specs.declared.fault.TableFault.TheVariants as fault
 use Rattle.lnt_table.specs.declared.verdict.TableNo.{TableNo}

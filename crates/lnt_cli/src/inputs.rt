@@ -1,13 +1,13 @@
 //! The files that a run reads.
 ghost use Rattle.std.specs.Prelude.{◌≡◌, IfErr, IfOk, Ok};
 ghost use Rattle.std.specs.Option.{option_copied};
-ghost use Rattle.lnt_files.specs.Files.{TellsNoMore};
+ghost use Rattle.lnt_sources.specs.Files.{TellsNoMore};
 ghost use Rattle.lnt_cli.specs.Answered.{AreStringsOf, AreTextsOf};
 ghost use Rattle.lnt_cli.specs.Stops.{IsUsage};
 
 use crate::stop::CliStop;
-use lnt_files::{Halt, Opener, bytes_of_file, open_file, source_of};
 use lnt_notes::{Seen, Watched};
+use lnt_sources::{Halt, Opener, bytes_of_file, open_file, source_of};
 use lnt_wire::{Counted, Source, Strings};
 use lnt_words::Judging;
 use std::alloc::Global;

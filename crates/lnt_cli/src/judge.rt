@@ -14,10 +14,10 @@ use lnt_answers::{
     judge_section, lists_sums, print_addresses, print_files, print_lookups, print_sums,
     print_verdict,
 };
-use lnt_files::{Halt, Opener, Status};
 use lnt_lines::{Index, JudgedIndex, No, Options};
 use lnt_notes::{Given, Hints, Seen, hints_of, tell_agreed, tell_bad, tell_good, tell_table};
 use lnt_records::TableFault;
+use lnt_sources::{Halt, Opener, Status};
 use lnt_table::{PathVersion, TableNo, Verdict};
 use lnt_wire::Source;
 use lnt_words::{Judging, Question};

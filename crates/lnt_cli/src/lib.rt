@@ -15,7 +15,7 @@ mod stretches;
 mod table;
 mod verdict;
 
-pub use lnt_files::{Opener, Status};
+pub use lnt_sources::{Opener, Status};
 pub use lnt_words::Asked;
 pub use program::{answer, run};
 pub use stop::CliStop;

@@ -5,8 +5,8 @@ ghost use Rattle.lnt_lines.specs.Indexed.{IsIndexOf};
 ghost use Rattle.lnt_table.specs.ByPath.{told_path};
 ghost use Rattle.lnt_unit.specs.declared.unit.Parts.{Parts};
 
-use lnt_files::{Halt, Status};
 use lnt_lines::Index;
+use lnt_sources::{Halt, Status};
 use lnt_table::{PathTable, PathVersion, WriteStop, write_paths};
 use lnt_text::PositionText;
 use std::alloc::Global;

@@ -6,8 +6,8 @@ ghost use Rattle.lnt_cli.specs.Stops.{IsUsage};
 
 use crate::session::Session;
 use crate::stop::CliStop;
-use lnt_files::{Opener, Status};
 use lnt_notes::print_note;
+use lnt_sources::{Opener, Status};
 use lnt_text::Note;
 use lnt_words::{Asked, WordsStop, request_of};
 use std::alloc::Global;

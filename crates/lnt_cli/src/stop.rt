@@ -3,7 +3,7 @@ ghost use Rattle.std.specs.Prelude.{◌≡◌};
 ghost use Rattle.lnt_cli.specs.Stops.{IsUsage};
 ghost use Rattle.lnt_cli.specs.declared.stop.CliStop.TheVariants.{Memory, Write};
 
-use lnt_files::Halt;
+use lnt_sources::Halt;
 use lnt_text::Shown;
 use lnt_words::WordsStop;
 use std::alloc::{AllocError, Global};

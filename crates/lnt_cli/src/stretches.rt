@@ -7,9 +7,9 @@ ghost use Rattle.lnt_unit.specs.declared.unit.Parts.{Parts};
 
 use crate::verdict::TableNoLine;
 use lnt_answers::print_differences;
-use lnt_files::{Halt, Status};
 use lnt_lines::Index;
 use lnt_records::TableFault;
+use lnt_sources::{Halt, Status};
 use lnt_table::{Differing, TableNo, differences};
 use lnt_wire::Source;
 use std::alloc::Global;

@@ -1,7 +1,7 @@
 //! The subcommands that read and write address tables: `table` and `check`.
 ghost use Rattle.std.specs.Prelude.{◌≡◌, ◌++◌, ◌-◌, ◌^◌, ◌<◌, Bool, ℕ, List, Option, IfOk, IfSome, OnOk};
 ghost use Rattle.std.specs.Io.KnownBytes.{Appends};
-ghost use Rattle.lnt_files.specs.declared.status.Status.TheVariants.{Done};
+ghost use Rattle.lnt_sources.specs.declared.status.Status.TheVariants.{Done};
 ghost use Rattle.lnt_table.specs.Headline.{IsTrueVerdict};
 ghost use Rattle.lnt_unit.specs.declared.unit.Parts.{Parts};
 ghost use Rattle.lnt_lines.specs.Indexed.{IsIndexOf};
@@ -9,8 +9,8 @@ ghost use Rattle.lnt_table.specs.Written.{IsTableOfUnits};
 ghost use Rattle.lnt_cli.specs.Verdicts.{verdict_text};
 
 use crate::verdict::TableNoLine;
-use lnt_files::{Halt, Status};
 use lnt_lines::{Index, Options};
+use lnt_sources::{Halt, Status};
 use lnt_spans::Version;
 use lnt_table::{Verdict, WriteStop, check, write_index};
 use lnt_wire::{Source, Strings};

@@ -1,13 +1,13 @@
 //! The subcommand `convert`.
 ghost use Rattle.std.specs.Prelude.{◌≡◌, ◌+◌, ◌-◌, ◌^◌, ◌<◌, IfErr, IfOk, IfSome, IsErrOf, IsTrue, OnOk};
 ghost use Rattle.std.specs.Io.KnownBytes.{Appends};
-ghost use Rattle.lnt_files.specs.Halts.{IsPrinting};
-ghost use Rattle.lnt_files.specs.declared.status.Status.TheVariants.{Done, No};
+ghost use Rattle.lnt_sources.specs.Halts.{IsPrinting};
+ghost use Rattle.lnt_sources.specs.declared.status.Status.TheVariants.{Done, No};
 ghost use Rattle.lnt_unit.specs.Converting.{IsConverted};
 ghost use Rattle.lnt_dump.specs.Printed.{IsPrintedIn, IsRefusalTold, refusal_text};
 
 use crate::faults::print_fault;
-use lnt_files::{Halt, Status};
+use lnt_sources::{Halt, Status};
 use lnt_unit::{ConvertFault, convert_unit, judge_conversion};
 use lnt_wire::{Cursor, Format, Order, Source, read_all};
 use std::alloc::Global;

@@ -1,12 +1,12 @@
 //! How faults end the printing.
 ghost use Rattle.std.specs.Prelude.{◌≡◌, ◌++◌, IfErr, IfOk, OnOk, codes};
 ghost use Rattle.std.specs.Io.KnownBytes.{Appends};
-ghost use Rattle.lnt_files.specs.Halts.{IsPrinting};
-ghost use Rattle.lnt_files.specs.declared.status.Status.TheVariants.{No};
+ghost use Rattle.lnt_sources.specs.Halts.{IsPrinting};
+ghost use Rattle.lnt_sources.specs.declared.status.Status.TheVariants.{No};
 ghost use Rattle.lnt_text.specs.Texts.{malformed_text, run_text};
 
-use lnt_files::{Halt, Status};
 use lnt_machine::RunFault;
+use lnt_sources::{Halt, Status};
 use lnt_text::{MalformedLine, RunLine};
 use lnt_wire::{Fault, Reason};
 use std::io::Write;

@@ -5,8 +5,8 @@ ghost use Rattle.lnt_header_bytes.specs.Borrowed.{Passes};
 ghost use Rattle.lnt_header_bytes.specs.TableBytes.{EntryBytes};
 
 use crate::width::width_of;
-use lnt_files::Halt;
 use lnt_header_bytes::TableView;
+use lnt_sources::Halt;
 use lnt_text::Quoted;
 use lnt_unit::{Header, HeaderView, Pair};
 use lnt_wire::{Cursor, Format, Frame, ValueView};

@@ -2,7 +2,7 @@
 use crate::dump::{Shown, Stop};
 use crate::header::print_header;
 use crate::run::run;
-use lnt_files::Halt;
+use lnt_sources::Halt;
 use lnt_unit::{UnitBuffer, UnitInPlace};
 use std::alloc::{AllocError, Global};
 use std::io::Write;

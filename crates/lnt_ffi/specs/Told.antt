@@ -2,8 +2,8 @@
 use Rattle.std.specs.Prelude.{◌≡◌, ◌≤◌, ℕ, Bool, true, false, if◌then◌else◌, Some, None, List, length, map, take}
 use Rattle.std.specs.List.Sorted.{IsPermutation}
 use Rattle.lnt_unit.specs.declared.unit.Parts.{Parts}
-use Rattle.lnt_rows.specs.RowSpans.{spans_of}
-use Rattle.lnt_rows.specs.Sequences.{kept_sequences, line_answer}
+use Rattle.lnt_sequences.specs.RowSpans.{spans_of}
+use Rattle.lnt_sequences.specs.Sequences.{kept_sequences, line_answer}
 use Rattle.lnt_spans.specs.declared.answer.Version.{Version}
 use Rattle.lnt_spans.specs.declared.answer.Version.TheVariants.{One, Two}
 use Rattle.lnt_spans.specs.declared.position.Position.{Position}

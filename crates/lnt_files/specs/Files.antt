@@ -1,12 +1,23 @@
--- Which bytes the files of names have. What is told of a file is all its bytes; or None, and then nothing is said of them.
-use Rattle.std.specs.Prelude.{◌≡◌, ℕ, List, Option, IfSome}
+-- What is kept of the files of a header.
+use Rattle.std.specs.Prelude.{◌≡◌, ℕ, List, length, Option}
+use Rattle.std.specs.List.{slice_get}
+use Rattle.std.specs.Option.{option_map, option_and_then}
+use Rattle.lnt_header.specs.declared.header.HeaderParts.{HeaderParts}
+use Rattle.lnt_files.specs.Paths.{path_bytes, listed_sum}
 
--- Of no file more is told afterwards (new) than before (old).
-abbrev pub TellsNoMore : (List ℕ → Option (List ℕ) → Type 0) → (List ℕ → Option (List ℕ) → Type 0) → Type 0
-TellsNoMore old new = (name : List ℕ) (told : Option (List ℕ)) → new name told → old name told
+-- a file's whole path, and its MD5 sum where it lists one
+pub record KeptFile : Type 0 where
+  pub path : List ℕ
+  pub listed : Option (List ℕ)
 
--- These are all bytes of a file of which this may be told.
-pub record AreBytesOf (tells : Option (List ℕ) → Type 0) (bytes : List ℕ) : Type 0 where
-  pub told : Option (List ℕ)
-  pub is_told : tells told
-  pub same : IfSome told (λ all. bytes ≡ all)
+abbrev pub kept_path : List KeptFile → ℕ → Option (List ℕ)
+kept_path files number = option_map (λ file. file.path) (slice_get files number)
+
+abbrev pub kept_sum : List KeptFile → ℕ → Option (List ℕ)
+kept_sum files number = option_and_then (λ file. file.listed) (slice_get files number)
+
+-- The kept files are those of the header: as many, with the same paths and the same sums.
+pub record AreFilesOf (line general : List ℕ) (h : HeaderParts) (files : List KeptFile) : Type 0 where
+  pub count : length files ≡ length h.files
+  pub paths : (number : ℕ) → kept_path files number ≡ path_bytes line general h number
+  pub sums : (number : ℕ) → kept_sum files number ≡ listed_sum h number

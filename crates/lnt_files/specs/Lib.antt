@@ -1,3 +1,9 @@
-pub mod FaultTexts
+pub mod Contents
 pub mod Files
-pub mod Halts
+pub mod Kept
+pub mod Paths
+pub mod Pieces
+pub mod Tables
+pub mod Walks
+pub mod Seen
+pub mod TextEnds

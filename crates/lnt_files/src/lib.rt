@@ -1,13 +1,19 @@
-//! Files by their names, as sources of bytes, and how the work on one ends.
-//!
-//! An [`Opener`] gives readers of files. [`open_file`] makes a source of one, [`source_of`] of any reader, and
-//! [`bytes_of_file`] reads a file whole. Work on a file ends by a [`Status`], or is stopped by a [`Halt`].
+//! The directories and files of DWARF 5 line number headers: what is wrong with them, and the paths and MD5 sums of
+//! files.
 #![tactic(auto)]
 
-mod halt;
-mod opener;
-mod status;
+mod components;
+mod contents;
+mod ends;
+mod files;
+pub mod in_place;
+mod paths;
+mod said;
+mod tables;
+mod walk;
 
-pub use halt::Halt;
-pub use opener::{LIMIT, Opener, bytes_of_file, open_file, source_of};
-pub use status::Status;
+pub use ends::StringEnds;
+pub use files::Files;
+pub use paths::{file_count, listed, path_of};
+pub use tables::TableFault;
+pub use walk::{Entries, EntryView};

@@ -7,13 +7,13 @@ use Rattle.lnt_machine.specs.declared.row.Row.{Row}
 use Rattle.lnt_machine.specs.Walking.{Kept, SequenceWalk, WillGive}
 use Rattle.lnt_spans.specs.declared.span.Span.{Span}
 use Rattle.lnt_spans.specs.Coming.{GivesFirst}
-use Rattle.lnt_rows.specs.declared.extent.Extent.{Extent}
-use Rattle.lnt_rows.specs.declared.sequence.SeqId.{SeqId}
-use Rattle.lnt_rows.specs.InTurn.{EntriesInTurn, IsEntryOf}
-use Rattle.lnt_rows.specs.Laws.Kept.{kept_ordered}
-use Rattle.lnt_rows.specs.RowSpans.{row_spans, spans_of}
-use Rattle.lnt_rows.specs.Sequences.{kept_sequences, live_sequences, Placed}
-use Rattle.lnt_rows.specs.Spanning.{GivesSpan, HasSpans, rows_left}
+use Rattle.lnt_sequences.specs.declared.extent.Extent.{Extent}
+use Rattle.lnt_sequences.specs.declared.sequence.SeqId.{SeqId}
+use Rattle.lnt_sequences.specs.InTurn.{EntriesInTurn, IsEntryOf}
+use Rattle.lnt_sequences.specs.Laws.Kept.{kept_ordered}
+use Rattle.lnt_sequences.specs.RowSpans.{row_spans, spans_of}
+use Rattle.lnt_sequences.specs.Sequences.{kept_sequences, live_sequences, Placed}
+use Rattle.lnt_sequences.specs.Spanning.{GivesSpan, HasSpans, rows_left}
 use Rattle.lnt_lines.specs.Cursors.{AreToCome, ComeLater, Cursor, GivesAllOf, GivesHere, room_for, room_of, rows_here}
 use Rattle.lnt_lines.specs.Indexed.{Indexed, IsIndexOf, IsSequenceIn}
 use Rattle.lnt_lines.proofs.IndexLemmas.{sequence_in}

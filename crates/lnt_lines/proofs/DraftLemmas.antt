@@ -9,13 +9,13 @@ use Rattle.lnt_unit.specs.declared.unit.Parts.{Parts}
 use Rattle.lnt_unit.specs.Laws.Units.{unit_is_some}
 use Rattle.lnt_unit.specs.UnitBytes.{UnitsFrom}
 use Rattle.lnt_machine.specs.Walking.{Kept, Keeps}
-use Rattle.lnt_entries.specs.Tables.{AreUsableTables}
-use Rattle.lnt_rows.specs.Laws.Units.{distinct_sequences, offsets_differ, ordered-append}
+use Rattle.lnt_files.specs.Tables.{AreUsableTables}
+use Rattle.lnt_sequences.specs.Laws.Units.{distinct_sequences, offsets_differ, ordered-append}
 use Rattle.std.specs.List.Sorted.{IsPermutation}
-use Rattle.lnt_rows.specs.declared.extent.Extent.{Extent}
-use Rattle.lnt_rows.specs.Extents.{AreSettled, extents_of}
-use Rattle.lnt_rows.specs.Rules.{AreApart, AreDistinct, AreOrdered}
-use Rattle.lnt_rows.specs.Sequences.{kept_sequences, live_in, live_sequences}
+use Rattle.lnt_sequences.specs.declared.extent.Extent.{Extent}
+use Rattle.lnt_sequences.specs.Extents.{AreSettled, extents_of}
+use Rattle.lnt_sequences.specs.Rules.{AreApart, AreDistinct, AreOrdered}
+use Rattle.lnt_sequences.specs.Sequences.{kept_sequences, live_in, live_sequences}
 use Rattle.lnt_spans.specs.Laws.EachTwo.{pairs_cons, pairs_nil}
 use Rattle.lnt_lines.specs.declared.draft.Draft.{Draft}
 use Rattle.lnt_lines.specs.Contents.{AreRising}

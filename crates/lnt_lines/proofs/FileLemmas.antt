@@ -9,7 +9,7 @@ use Rattle.lnt_header.specs.declared.header.HeaderParts.{HeaderParts}
 use Rattle.lnt_unit.specs.declared.unit.Parts.{Parts}
 use Rattle.lnt_machine.specs.Walking.{Keeps, Kept}
 use Rattle.lnt_unit.specs.UnitBytes.{SectionBytes}
-use Rattle.lnt_entries.specs.Files.{AreFilesOf, KeptFile, kept_path, kept_sum}
+use Rattle.lnt_files.specs.Files.{AreFilesOf, KeptFile, kept_path, kept_sum}
 use Rattle.lnt_lines.specs.Contents.{AreRising, Contents, files_at, files_of, TellsOf}
 use Rattle.lnt_lines.specs.Indexed.{header_in, Indexed, IsIndexOf}
 use Rattle.lnt_lines.specs.Laws.{FilesOfUnits, HeadersOfUnits, ListsFilesOf}

@@ -14,12 +14,12 @@ use Rattle.lnt_unit.specs.UnitBytes.{UnitsFrom}
 use Rattle.lnt_machine.specs.declared.fault.RunFault.{RunFault}
 use Rattle.lnt_machine.specs.declared.fault.RunFault.TheVariants as run
 use Rattle.lnt_machine.specs.Matrix.{IsRunFault, Runs}
-use Rattle.lnt_entries.specs.declared.tables.TableFault.{TableFault}
-use Rattle.lnt_entries.specs.declared.tables.TableFault.TheVariants as table
-use Rattle.lnt_entries.specs.Tables.{AreUsableTables, IsTablesFault}
-use Rattle.lnt_rows.specs.Laws.{FallIsNotOrdered, MissingFileIsNotThere, OverlapIsNotApart}
-use Rattle.lnt_rows.specs.Rules.{AreApart}
-use Rattle.lnt_rows.specs.Sequences.{kept_sequences, placed_in}
+use Rattle.lnt_files.specs.declared.tables.TableFault.{TableFault}
+use Rattle.lnt_files.specs.declared.tables.TableFault.TheVariants as table
+use Rattle.lnt_files.specs.Tables.{AreUsableTables, IsTablesFault}
+use Rattle.lnt_sequences.specs.Laws.{FallIsNotOrdered, MissingFileIsNotThere, OverlapIsNotApart}
+use Rattle.lnt_sequences.specs.Rules.{AreApart}
+use Rattle.lnt_sequences.specs.Sequences.{kept_sequences, placed_in}
 use Rattle.lnt_lines.specs.declared.no.No.{No}
 use Rattle.lnt_lines.specs.declared.no.No.TheVariants as no
 use Rattle.lnt_lines.specs.declared.options.Options.{Options}

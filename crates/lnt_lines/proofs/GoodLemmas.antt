@@ -1,6 +1,6 @@
 -- What a good section answers.
-use Rattle.lnt_rows.specs.Laws as rows
-use Rattle.lnt_rows.specs.Sequences.{kept_sequences}
+use Rattle.lnt_sequences.specs.Laws as rows
+use Rattle.lnt_sequences.specs.Sequences.{kept_sequences}
 use Rattle.lnt_lines.specs.Laws.{AnswersAsHolder}
 
 pub answers_as_holder : rows.AnswersAsHolder → AnswersAsHolder

@@ -11,15 +11,15 @@ use Rattle.lnt_machine.specs.declared.row.Row.{Row}
 use Rattle.lnt_machine.specs.Walking.{Keeps, Kept, SequenceWalk, WillGive}
 use Rattle.lnt_spans.specs.declared.position.Position as spans
 use Rattle.lnt_header.specs.declared.header.HeaderParts.{HeaderParts}
-use Rattle.lnt_entries.specs.Files.{AreFilesOf, KeptFile}
-use Rattle.lnt_entries.specs.Tables.{AreUsableTables}
-use Rattle.lnt_rows.specs.declared.extent.Extent.{Extent}
-use Rattle.lnt_rows.specs.declared.sequence.SeqId.{SeqId}
-use Rattle.lnt_rows.specs.Extents.{HolderAnswers, IsHolder, NoneHolds}
-use Rattle.lnt_rows.specs.Laws.Found.{live_placed}
-use Rattle.lnt_rows.specs.Laws.Kept.{kept_live}
-use Rattle.lnt_rows.specs.Sequences.{answer_of, kept_sequences, line_answer, live_sequences, Placed, row_at}
-use Rattle.lnt_rows.specs.Spanning.{rows_left}
+use Rattle.lnt_files.specs.Files.{AreFilesOf, KeptFile}
+use Rattle.lnt_files.specs.Tables.{AreUsableTables}
+use Rattle.lnt_sequences.specs.declared.extent.Extent.{Extent}
+use Rattle.lnt_sequences.specs.declared.sequence.SeqId.{SeqId}
+use Rattle.lnt_sequences.specs.Extents.{HolderAnswers, IsHolder, NoneHolds}
+use Rattle.lnt_sequences.specs.Laws.Found.{live_placed}
+use Rattle.lnt_sequences.specs.Laws.Kept.{kept_live}
+use Rattle.lnt_sequences.specs.Sequences.{answer_of, kept_sequences, line_answer, live_sequences, Placed, row_at}
+use Rattle.lnt_sequences.specs.Spanning.{rows_left}
 use Rattle.lnt_lines.specs.Cursors.{room_of}
 use Rattle.lnt_lines.specs.Indexed.{Indexed, IsIndexOf, IsSequenceIn}
 use Rattle.lnt_lines.proofs.PlaceLemmas.{place_found}

@@ -4,16 +4,16 @@ use Rattle.std.specs.Prelude.{Option}
 use Rattle.lnt_stream.specs.Units.{UnitBytes}
 use Rattle.lnt_header.specs.declared.header.HeaderParts.{HeaderParts}
 use Rattle.lnt_unit.specs.Views.{View}
-use Rattle.lnt_entries.specs.declared.tables.TableFault.{TableFault}
-use Rattle.lnt_entries.specs.declared.tables.TableFault.TheVariants.{DirectoryNumber, EntryFormat, StringOutside}
-use Rattle.lnt_entries.specs.Tables.{AreUsableTables, IsTablesFault}
-use Rattle.lnt_rows.specs.declared.collected.Collected.{Collected}
-use Rattle.lnt_rows.specs.declared.watch.MissingFile.{MissingFile}
-use Rattle.lnt_rows.specs.declared.watch.Watch.{Watch}
-use Rattle.lnt_rows.specs.Evidence.{IsFirstFall, IsFirstMissingFile}
-use Rattle.lnt_rows.specs.Laws.Units.{collects_more}
-use Rattle.lnt_rows.specs.Rules.{AreOrdered, HaveFiles}
-use Rattle.lnt_rows.specs.Sequences.{live_in, live_sequences, placed_in}
+use Rattle.lnt_files.specs.declared.tables.TableFault.{TableFault}
+use Rattle.lnt_files.specs.declared.tables.TableFault.TheVariants.{DirectoryNumber, EntryFormat, StringOutside}
+use Rattle.lnt_files.specs.Tables.{AreUsableTables, IsTablesFault}
+use Rattle.lnt_sequences.specs.declared.collected.Collected.{Collected}
+use Rattle.lnt_sequences.specs.declared.watch.MissingFile.{MissingFile}
+use Rattle.lnt_sequences.specs.declared.watch.Watch.{Watch}
+use Rattle.lnt_sequences.specs.Evidence.{IsFirstFall, IsFirstMissingFile}
+use Rattle.lnt_sequences.specs.Laws.Units.{collects_more}
+use Rattle.lnt_sequences.specs.Rules.{AreOrdered, HaveFiles}
+use Rattle.lnt_sequences.specs.Sequences.{live_in, live_sequences, placed_in}
 use Rattle.lnt_lines.specs.declared.no.No.TheVariants.{Falls, FileNumber}
 use Rattle.lnt_lines.specs.Good.{IsWellFormed}
 use Rattle.lnt_lines.specs.Judging.{HasFlaw, HasRun, IsJudgedSound, IsUnitNo}

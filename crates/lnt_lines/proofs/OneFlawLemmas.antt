@@ -13,14 +13,14 @@ use Rattle.lnt_machine.specs.declared.fault.RunFault.{RunFault}
 use Rattle.lnt_machine.specs.declared.fault.RunFault.TheVariants as run
 use Rattle.lnt_machine.specs.declared.row.Row.{Row}
 use Rattle.lnt_machine.specs.Matrix.{IsRunFault, Runs}
-use Rattle.lnt_entries.specs.declared.tables.TableFault.{TableFault}
-use Rattle.lnt_entries.specs.declared.tables.TableFault.TheVariants as table
-use Rattle.lnt_entries.specs.Tables.{IsTablesFault}
-use Rattle.lnt_rows.specs.declared.watch.MissingFile.{MissingFile}
-use Rattle.lnt_rows.specs.Evidence.{IsFirstFall, IsFirstMissingFile, rows_of, StandsIn}
-use Rattle.lnt_rows.specs.Laws.{MissingFileIsNotThere}
-use Rattle.lnt_rows.specs.Rules.{HaveFiles}
-use Rattle.lnt_rows.specs.Sequences.{live_in, Placed, placed_in}
+use Rattle.lnt_files.specs.declared.tables.TableFault.{TableFault}
+use Rattle.lnt_files.specs.declared.tables.TableFault.TheVariants as table
+use Rattle.lnt_files.specs.Tables.{IsTablesFault}
+use Rattle.lnt_sequences.specs.declared.watch.MissingFile.{MissingFile}
+use Rattle.lnt_sequences.specs.Evidence.{IsFirstFall, IsFirstMissingFile, rows_of, StandsIn}
+use Rattle.lnt_sequences.specs.Laws.{MissingFileIsNotThere}
+use Rattle.lnt_sequences.specs.Rules.{HaveFiles}
+use Rattle.lnt_sequences.specs.Sequences.{live_in, Placed, placed_in}
 use Rattle.lnt_lines.specs.declared.no.No.{No}
 use Rattle.lnt_lines.specs.declared.no.No.TheVariants as no
 use Rattle.lnt_lines.specs.Good.{IsWellFormed}

@@ -10,11 +10,11 @@ use Rattle.lnt_unit.specs.declared.unit.Parts.{Parts}
 use Rattle.lnt_unit.specs.Laws.{OneTrueFault}
 use Rattle.lnt_unit.specs.Laws.Units.{one_section, one_spelling}
 use Rattle.lnt_unit.specs.UnitBytes.{UnitBytesIn, UnitsFrom}
-use Rattle.lnt_rows.specs.declared.extent.Overlap.{Overlap}
-use Rattle.lnt_rows.specs.Extents.{IsFirstOverlap}
-use Rattle.lnt_rows.specs.Laws.{FallIsNotOrdered, MissingFileIsNotThere}
-use Rattle.lnt_rows.specs.Laws.Kept.{kept_distinct}
-use Rattle.lnt_rows.specs.Sequences.{kept_sequences, live_sequences}
+use Rattle.lnt_sequences.specs.declared.extent.Overlap.{Overlap}
+use Rattle.lnt_sequences.specs.Extents.{IsFirstOverlap}
+use Rattle.lnt_sequences.specs.Laws.{FallIsNotOrdered, MissingFileIsNotThere}
+use Rattle.lnt_sequences.specs.Laws.Kept.{kept_distinct}
+use Rattle.lnt_sequences.specs.Sequences.{kept_sequences, live_sequences}
 use Rattle.lnt_lines.specs.declared.no.No.{No}
 use Rattle.lnt_lines.specs.declared.no.No.TheVariants as no
 use Rattle.lnt_lines.specs.declared.options.Options.{Options}

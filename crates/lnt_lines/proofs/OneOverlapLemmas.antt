@@ -9,11 +9,11 @@ use Rattle.lnt_spans.specs.declared.position.Position.{Position}
 use Rattle.lnt_spans.specs.Laws.EachTwo.{each_two_from_pairs}
 use Rattle.lnt_spans.specs.Laws.Positions.{at_most_itself, order_three}
 use Rattle.lnt_spans.specs.Positions.{IsBelow}
-use Rattle.lnt_rows.specs.declared.extent.Overlap.{Overlap}
-use Rattle.lnt_rows.specs.declared.sequence.SeqId.{SeqId}
-use Rattle.lnt_rows.specs.Extents.{BeginsNoLater, IsFirstOverlap, IsNotLater}
-use Rattle.lnt_rows.specs.Rules.{AreDistinct}
-use Rattle.lnt_rows.specs.Sequences.{Holds, Placed, position_of}
+use Rattle.lnt_sequences.specs.declared.extent.Overlap.{Overlap}
+use Rattle.lnt_sequences.specs.declared.sequence.SeqId.{SeqId}
+use Rattle.lnt_sequences.specs.Extents.{BeginsNoLater, IsFirstOverlap, IsNotLater}
+use Rattle.lnt_sequences.specs.Rules.{AreDistinct}
+use Rattle.lnt_sequences.specs.Sequences.{Holds, Placed, position_of}
 
 -- ---- two sequences with different ids stand at different places
 

@@ -20,9 +20,9 @@ use Rattle.lnt_unit.specs.Laws.Broken.{frame_broken}
 use Rattle.lnt_unit.specs.Laws.Frames.{broken_more}
 use Rattle.lnt_unit.specs.Laws.Units.{no_section, units_push}
 use Rattle.lnt_unit.specs.UnitBytes.{SectionBytes, UnitBytesIn}
-use Rattle.lnt_rows.specs.Rules.{AreApart}
-use Rattle.lnt_rows.specs.Sequences.{kept_of, live_sequences, Placed}
-use Rattle.lnt_rows.specs.Watching.{Collects}
+use Rattle.lnt_sequences.specs.Rules.{AreApart}
+use Rattle.lnt_sequences.specs.Sequences.{kept_of, live_sequences, Placed}
+use Rattle.lnt_sequences.specs.Watching.{Collects}
 use Rattle.lnt_lines.specs.declared.draft.Draft.{Draft}
 use Rattle.lnt_lines.specs.declared.no.No.{No}
 use Rattle.lnt_lines.specs.declared.no.No.TheVariants as bad

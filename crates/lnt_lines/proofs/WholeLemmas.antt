@@ -12,7 +12,7 @@ use Rattle.lnt_spans.specs.Laws.Positions.{at_most_itself, at_most_trans, below_
 use Rattle.lnt_spans.specs.Positions.{IsAtMost}
 use Rattle.lnt_spans.specs.Spans.{AreInOrder, span_answer}
 use Rattle.lnt_unit.specs.declared.unit.Parts.{Parts}
-use Rattle.lnt_rows.specs.Sequences.{answer_of, holds, kept_sequences, line_answer, Placed, row_at}
+use Rattle.lnt_sequences.specs.Sequences.{answer_of, holds, kept_sequences, line_answer, Placed, row_at}
 use Rattle.lnt_lines.specs.Contents.{AreWhole}
 
 abbrev IsWhole : Answer → Type 0

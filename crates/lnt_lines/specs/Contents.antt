@@ -4,9 +4,9 @@ use Rattle.std.specs.List.{AllByRecursion, AllPairs, AllZip, position, slice_get
 use Rattle.std.specs.List.Sorted.{IsPermutation}
 use Rattle.std.specs.Option.{option_and_then, option_map_or}
 use Rattle.lnt_unit.specs.declared.unit.Parts.{Parts}
-use Rattle.lnt_entries.specs.Files.{AreFilesOf, KeptFile, kept_path, kept_sum}
-use Rattle.lnt_rows.specs.RowSpans.{spans_of}
-use Rattle.lnt_rows.specs.Sequences.{kept_sequences, line_answer}
+use Rattle.lnt_files.specs.Files.{AreFilesOf, KeptFile, kept_path, kept_sum}
+use Rattle.lnt_sequences.specs.RowSpans.{spans_of}
+use Rattle.lnt_sequences.specs.Sequences.{kept_sequences, line_answer}
 use Rattle.lnt_spans.specs.declared.answer.More.{More}
 use Rattle.lnt_spans.specs.declared.position.Position.{Position}
 use Rattle.lnt_spans.specs.declared.span.Span.{Span}

@@ -7,9 +7,9 @@ use Rattle.lnt_stream.specs.Units.{UnitBytes}
 use Rattle.lnt_unit.specs.declared.unit.Parts.{Parts}
 use Rattle.lnt_unit.specs.UnitBytes.{SectionBytes, UnitBytesIn}
 use Rattle.lnt_machine.specs.Walking.{Keeps}
-use Rattle.lnt_rows.specs.Rules.{AreDistinct}
-use Rattle.lnt_rows.specs.Sequences.{live_sequences}
-use Rattle.lnt_rows.specs.Watching.{Collects}
+use Rattle.lnt_sequences.specs.Rules.{AreDistinct}
+use Rattle.lnt_sequences.specs.Sequences.{live_sequences}
+use Rattle.lnt_sequences.specs.Watching.{Collects}
 use Rattle.lnt_lines.specs.declared.draft.Draft.{Draft}
 use Rattle.lnt_lines.specs.declared.options.Options.{Options}
 use Rattle.lnt_lines.specs.declared.refusal.Refusal.{Refusal}

@@ -6,9 +6,9 @@ use Rattle.std.specs.List.{AllByRecursion}
 use Rattle.lnt_unit.specs.declared.unit.Parts.{Parts}
 use Rattle.lnt_unit.specs.UnitBytes.{SectionBytes}
 use Rattle.lnt_machine.specs.Matrix.{Runs}
-use Rattle.lnt_entries.specs.Tables.{AreUsableTables}
-use Rattle.lnt_rows.specs.Rules.{AreApart, AreOrdered, HaveFiles}
-use Rattle.lnt_rows.specs.Sequences.{kept_sequences, live_in}
+use Rattle.lnt_files.specs.Tables.{AreUsableTables}
+use Rattle.lnt_sequences.specs.Rules.{AreApart, AreOrdered, HaveFiles}
+use Rattle.lnt_sequences.specs.Sequences.{kept_sequences, live_in}
 use Rattle.lnt_lines.specs.declared.options.Options.{Options}
 
 -- A unit whose program runs, and whose tables are usable: each file's directory is there, and the text of each path.

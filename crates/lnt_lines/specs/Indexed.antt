@@ -10,13 +10,13 @@ use Rattle.lnt_machine.specs.declared.row.Row.{Row}
 use Rattle.lnt_machine.specs.declared.row.Sequence.{Sequence}
 use Rattle.lnt_machine.specs.Matrix.{sequences}
 use Rattle.lnt_machine.specs.Walking.{Keeps, Kept}
-use Rattle.lnt_entries.specs.Paths.{listed_sum, path_bytes}
-use Rattle.lnt_entries.specs.Tables.{AreUsableTables}
-use Rattle.lnt_rows.specs.declared.extent.Extent.{Extent}
-use Rattle.lnt_rows.specs.declared.sequence.SeqId.{SeqId}
-use Rattle.lnt_rows.specs.Extents.{AreSettled, extents_of}
-use Rattle.lnt_rows.specs.Rules.{AreApart, AreOrdered}
-use Rattle.lnt_rows.specs.Sequences.{kept_sequences, live_sequences}
+use Rattle.lnt_files.specs.Paths.{listed_sum, path_bytes}
+use Rattle.lnt_files.specs.Tables.{AreUsableTables}
+use Rattle.lnt_sequences.specs.declared.extent.Extent.{Extent}
+use Rattle.lnt_sequences.specs.declared.sequence.SeqId.{SeqId}
+use Rattle.lnt_sequences.specs.Extents.{AreSettled, extents_of}
+use Rattle.lnt_sequences.specs.Rules.{AreApart, AreOrdered}
+use Rattle.lnt_sequences.specs.Sequences.{kept_sequences, live_sequences}
 use Rattle.lnt_lines.specs.Contents.{AreRising}
 
 -- the bytes of .debug_line_str and of .debug_str, an entry for each sequence that holds something, and the offset and the

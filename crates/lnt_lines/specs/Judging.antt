@@ -11,10 +11,10 @@ use Rattle.lnt_unit.specs.Views.{HasCount, View}
 use Rattle.lnt_machine.specs.declared.fault.RunFault.{RunFault}
 use Rattle.lnt_machine.specs.Matrix.{rows, Runs}
 use Rattle.lnt_machine.specs.Walking.{Keeps, Kept}
-use Rattle.lnt_rows.specs.declared.collected.Collected.{Collected}
-use Rattle.lnt_rows.specs.declared.watch.Watch.{Watch}
-use Rattle.lnt_rows.specs.Sequences.{live_sequences, Placed}
-use Rattle.lnt_rows.specs.Watching.{Collects, CollectsRows, HasSeenAll}
+use Rattle.lnt_sequences.specs.declared.collected.Collected.{Collected}
+use Rattle.lnt_sequences.specs.declared.watch.Watch.{Watch}
+use Rattle.lnt_sequences.specs.Sequences.{live_sequences, Placed}
+use Rattle.lnt_sequences.specs.Watching.{Collects, CollectsRows, HasSeenAll}
 use Rattle.lnt_lines.specs.declared.judge.SoundUnit.{SoundUnit}
 use Rattle.lnt_lines.specs.declared.no.No.{No}
 use Rattle.lnt_lines.specs.declared.no.No.TheVariants as no

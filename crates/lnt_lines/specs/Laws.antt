@@ -8,9 +8,9 @@ use Rattle.lnt_unit.specs.declared.unit.Parts.{Parts}
 use Rattle.lnt_unit.specs.UnitBytes.{SectionBytes}
 use Rattle.lnt_machine.specs.declared.row.Row.{Row}
 use Rattle.lnt_spans.specs.declared.position.Position.{Position}
-use Rattle.lnt_rows.specs.Laws.{IsLastAt}
-use Rattle.lnt_rows.specs.Sequences.{answer_of, Holds, kept_sequences, line_answer, Placed}
-use Rattle.lnt_entries.specs.Paths.{listed_sum, path_bytes}
+use Rattle.lnt_sequences.specs.Laws.{IsLastAt}
+use Rattle.lnt_sequences.specs.Sequences.{answer_of, Holds, kept_sequences, line_answer, Placed}
+use Rattle.lnt_files.specs.Paths.{listed_sum, path_bytes}
 use Rattle.lnt_lines.specs.declared.no.No.{No}
 use Rattle.lnt_lines.specs.declared.options.Options.{Options}
 use Rattle.lnt_lines.specs.Contents.{Contents, count_in, files_of, path_in, sum_in, TellsOf}

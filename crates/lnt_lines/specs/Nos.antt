@@ -9,13 +9,13 @@ use Rattle.lnt_unit.specs.BrokenUnits.{BrokenSection}
 use Rattle.lnt_unit.specs.UnitBytes.{SectionBytes}
 use Rattle.lnt_machine.specs.declared.fault.RunFault.TheVariants as run
 use Rattle.lnt_machine.specs.Matrix.{IsRunFault, Runs}
-use Rattle.lnt_entries.specs.declared.tables.TableFault.TheVariants as table
-use Rattle.lnt_entries.specs.Tables.{IsTablesFault}
-use Rattle.lnt_rows.specs.declared.extent.Overlap.{Overlap}
-use Rattle.lnt_rows.specs.Evidence.{IsFirstFall, IsFirstMissingFile}
-use Rattle.lnt_rows.specs.Extents.{IsFirstOverlap}
-use Rattle.lnt_rows.specs.Rules.{HaveFiles}
-use Rattle.lnt_rows.specs.Sequences.{kept_sequences, live_in, placed_in}
+use Rattle.lnt_files.specs.declared.tables.TableFault.TheVariants as table
+use Rattle.lnt_files.specs.Tables.{IsTablesFault}
+use Rattle.lnt_sequences.specs.declared.extent.Overlap.{Overlap}
+use Rattle.lnt_sequences.specs.Evidence.{IsFirstFall, IsFirstMissingFile}
+use Rattle.lnt_sequences.specs.Extents.{IsFirstOverlap}
+use Rattle.lnt_sequences.specs.Rules.{HaveFiles}
+use Rattle.lnt_sequences.specs.Sequences.{kept_sequences, live_in, placed_in}
 use Rattle.lnt_lines.specs.declared.no.No.{No}
 use Rattle.lnt_lines.specs.declared.no.No.TheVariants as no
 use Rattle.lnt_lines.specs.declared.options.Options.{Options}

@@ -4,8 +4,8 @@ use Rattle.lnt_wire.specs.declared.fault.Fault.{Fault}
 use Rattle.lnt_wire.specs.declared.fault.Reason.TheVariants.{Memory}
 use Rattle.lnt_stream.specs.declared.stop.SectionStop.{SectionStop}
 use Rattle.lnt_stream.specs.declared.stop.SectionStop.TheVariants as section
-use Rattle.lnt_entries.specs.declared.tables.TableFault.{TableFault}
-use Rattle.lnt_entries.specs.declared.tables.TableFault.TheVariants as table
+use Rattle.lnt_files.specs.declared.tables.TableFault.{TableFault}
+use Rattle.lnt_files.specs.declared.tables.TableFault.TheVariants as table
 use Rattle.lnt_lines.specs.declared.no.No as no
 use Rattle.lnt_lines.specs.declared.no.No.TheVariants.{Malformed, EntryFormat, StringOutside, DirectoryNumber}
 use Rattle.lnt_lines.specs.declared.refusal.Refusal.{Refusal}

@@ -14,10 +14,10 @@ use Rattle.lnt_machine.specs.Matrix.{LinesFit, rows}
 use Rattle.lnt_machine.specs.State.{StandsAfter, State}
 use Rattle.lnt_machine.specs.Steps.{LeavesRange}
 use Rattle.lnt_machine.specs.Walking.{HasPlaces}
-use Rattle.lnt_rows.specs.declared.collected.Collected.{Collected}
-use Rattle.lnt_rows.specs.declared.watch.Watch.{Watch}
-use Rattle.lnt_rows.specs.Sequences.{Placed}
-use Rattle.lnt_rows.specs.Watching.{Collects, CollectsRows, HasSeen}
+use Rattle.lnt_sequences.specs.declared.collected.Collected.{Collected}
+use Rattle.lnt_sequences.specs.declared.watch.Watch.{Watch}
+use Rattle.lnt_sequences.specs.Sequences.{Placed}
+use Rattle.lnt_sequences.specs.Watching.{Collects, CollectsRows, HasSeen}
 use Rattle.lnt_lines.specs.declared.refusal.Refusal.{Refusal}
 use Rattle.lnt_lines.specs.declared.refusal.Refusal.TheVariants as refusal
 use Rattle.lnt_lines.specs.declared.run.Run.{Run}

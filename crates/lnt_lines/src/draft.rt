@@ -1,10 +1,10 @@
 //! What is known of a section as far as its units were judged.
 ghost use Rattle.std.specs.Prelude.{◌≡◌, ◌≤◌, ℕ, List, [], length, drop, Option, IfOk, OnOk, IfErr};
 ghost use Rattle.lnt_unit.specs.declared.unit.Parts.{Parts};
-ghost use Rattle.lnt_rows.specs.Extents.{IsFirstOverlap};
-ghost use Rattle.lnt_rows.specs.Rules.{AreApart};
-ghost use Rattle.lnt_rows.specs.Sequences.{Placed, kept_of};
-ghost use Rattle.lnt_rows.specs.Watching.{Collects};
+ghost use Rattle.lnt_sequences.specs.Extents.{IsFirstOverlap};
+ghost use Rattle.lnt_sequences.specs.Rules.{AreApart};
+ghost use Rattle.lnt_sequences.specs.Sequences.{Placed, kept_of};
+ghost use Rattle.lnt_sequences.specs.Watching.{Collects};
 ghost use Rattle.lnt_lines.specs.Drafts.{HasAdded, IsDraftOf, IsWholeDraft};
 ghost use Rattle.lnt_lines.specs.Indexed.{IsIndexOf};
 ghost use Rattle.lnt_lines.specs.Judging.{IsUnitRefusal};
@@ -12,9 +12,9 @@ ghost use Rattle.lnt_lines.specs.Judging.{IsUnitRefusal};
 use crate::index::Index;
 use crate::judge::judge_unit;
 use crate::refusal::Refusal;
-use lnt_entries::StringEnds;
+use lnt_files::StringEnds;
 use lnt_machine::Program;
-use lnt_rows::{Collected, Overlap};
+use lnt_sequences::{Collected, Overlap};
 use lnt_stream::UnitBuffer;
 use lnt_wire::{Stop, Strings};
 use std::alloc::{AllocError, Global};

@@ -5,10 +5,10 @@ ghost use Rattle.std.specs.Option.{option_map};
 ghost use Rattle.lnt_unit.specs.declared.unit.Parts.{Parts};
 ghost use Rattle.lnt_machine.specs.declared.row.Row.{Row};
 ghost use Rattle.lnt_machine.specs.Walking.{WillGive};
-ghost use Rattle.lnt_entries.specs.Files.{AreFilesOf};
-ghost use Rattle.lnt_entries.specs.Tables.{AreUsableTables};
-ghost use Rattle.lnt_rows.specs.Sequences.{line_answer};
-ghost use Rattle.lnt_rows.specs.Spanning.{rows_left};
+ghost use Rattle.lnt_files.specs.Files.{AreFilesOf};
+ghost use Rattle.lnt_files.specs.Tables.{AreUsableTables};
+ghost use Rattle.lnt_sequences.specs.Sequences.{line_answer};
+ghost use Rattle.lnt_sequences.specs.Spanning.{rows_left};
 ghost use Rattle.lnt_wire.specs.declared.stop.Stop.TheVariants.{Memory};
 ghost use Rattle.lnt_lines.specs.Contents.{AreRising, TellsOf};
 ghost use Rattle.lnt_lines.specs.Cursors.{GivesAllOf, room_of};
@@ -16,11 +16,11 @@ ghost use Rattle.lnt_lines.specs.Indexed.{IsIndex, IsIndexOf, IsSequenceIn, file
 
 use crate::lines::place_of;
 use crate::spans::Spans;
-use lnt_entries::Files;
-use lnt_entries::in_place::{file_count, listed, path_of};
+use lnt_files::Files;
+use lnt_files::in_place::{file_count, listed, path_of};
 use lnt_machine::{Program, SequenceRows};
-use lnt_rows::laws::holder_answers;
-use lnt_rows::{Extent, SeqId, answer_at, holder};
+use lnt_sequences::laws::holder_answers;
+use lnt_sequences::{Extent, SeqId, answer_at, holder};
 use lnt_spans::{Answer, Position, Probes};
 use lnt_unit::{Header, HeaderView};
 use lnt_wire::{Stop, Strings};
@@ -98,7 +98,7 @@ impl<'a> Index<'a> {
         ensures is_index { IsIndex self.now }
         ensures gives { (dead : Option ℕ) (skip : Bool) (units : List (ℕ × Parts)) → IsIndexOf dead skip units self.now → GivesAllOf dead skip units (length self.now.entries) result }
     {
-        lnt_rows::laws::entries_in_turn();
+        lnt_sequences::laws::entries_in_turn();
         Spans::of(&self.units, &self.programs, &self.entries)
     }
 

@@ -1,15 +1,15 @@
 //! One unit, judged.
 ghost use Rattle.std.specs.Prelude.{◌≡◌, ◌≤◌, length, IfOk, IfErr, MatchOption};
-ghost use Rattle.lnt_entries.specs.Tables.{AreUsableTables, IsTablesFault};
+ghost use Rattle.lnt_files.specs.Tables.{AreUsableTables, IsTablesFault};
 ghost use Rattle.lnt_lines.specs.Judging.{IsJudgedSound, IsUnitRefusal, kept_of};
 ghost use Rattle.lnt_lines.specs.Refusals.{table_no};
 
 use crate::no::No;
 use crate::refusal::Refusal;
 use crate::run::run_unit;
-use lnt_entries::in_place::tables_fault;
-use lnt_entries::{StringEnds, TableFault};
-use lnt_rows::Collected;
+use lnt_files::in_place::tables_fault;
+use lnt_files::{StringEnds, TableFault};
+use lnt_sequences::Collected;
 use lnt_stream::UnitBuffer;
 use lnt_unit::{KeptHeader, UnitInPlace};
 use std::alloc::Global;

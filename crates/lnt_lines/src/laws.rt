@@ -7,9 +7,9 @@ ghost use Rattle.lnt_lines.specs.Laws.{AnswersAsHolder, FilesOfUnits, GoodHasNoF
 pub fn good_has_no_flaw()
     ensures { GoodHasNoFlaw }
 {
-    lnt_rows::laws::fall_is_not_ordered();
-    lnt_rows::laws::missing_file_is_not_there();
-    lnt_rows::laws::overlap_is_not_apart();
+    lnt_sequences::laws::fall_is_not_ordered();
+    lnt_sequences::laws::missing_file_is_not_there();
+    lnt_sequences::laws::overlap_is_not_apart();
 }
 
 /// What lines say of the files of each unit is what its header lists, and they say nothing of files where no unit
@@ -32,7 +32,7 @@ pub fn headers_of_units()
 pub fn answers_as_holder()
     ensures { AnswersAsHolder }
 {
-    lnt_rows::laws::answers_as_holder();
+    lnt_sequences::laws::answers_as_holder();
 }
 
 /// Of one section at most one reason is true, and so one is told: the first flaw of the first unit that has one, or the first
@@ -41,7 +41,7 @@ pub fn answers_as_holder()
 pub fn one_no()
     ensures { OneNo }
 {
-    lnt_rows::laws::fall_is_not_ordered();
-    lnt_rows::laws::missing_file_is_not_there();
+    lnt_sequences::laws::fall_is_not_ordered();
+    lnt_sequences::laws::missing_file_is_not_there();
     lnt_unit::laws::one_true_fault();
 }

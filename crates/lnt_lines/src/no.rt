@@ -1,7 +1,7 @@
 //! Why a section isn't good.
 use lnt_header::Which;
 use lnt_machine::RunFault;
-use lnt_rows::SeqId;
+use lnt_sequences::SeqId;
 use lnt_spans::Position;
 use lnt_wire::Fault;
 

@@ -6,7 +6,7 @@ ghost use Rattle.lnt_wire.specs.declared.stop.Stop.TheVariants.{Memory as StopMe
 ghost use Rattle.lnt_lines.specs.Refusals.{IsFaultRefusal, stop_refusal};
 
 use crate::no::No;
-use lnt_rows::Overlap;
+use lnt_sequences::Overlap;
 use lnt_stream::SectionStop;
 use lnt_wire::{Fault, Reason, Stop};
 use std::alloc::AllocError;

@@ -11,7 +11,7 @@ use crate::lines::Lines;
 use crate::no::No;
 use crate::options::Options;
 use crate::refusal::Refusal;
-use lnt_entries::StringEnds;
+use lnt_files::StringEnds;
 use lnt_stream::SectionReader;
 use lnt_wire::{Source, Stop, Strings};
 use std::alloc::Global;

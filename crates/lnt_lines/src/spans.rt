@@ -8,7 +8,7 @@ ghost use Rattle.lnt_lines.specs.Cursors.{AreToCome, ComeLater, GivesHere, most_
 
 use crate::index::rows_of;
 use lnt_machine::{Program, Row, SequenceRows};
-use lnt_rows::{Extent, next_span};
+use lnt_sequences::{Extent, next_span};
 use lnt_spans::{Span, SpanSource};
 use std::marker::Model;
 

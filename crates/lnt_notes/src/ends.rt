@@ -2,7 +2,7 @@
 ghost use Rattle.std.specs.Prelude.{◌-◌, ◌^◌, ◌<◌};
 
 use lnt_machine::Machine;
-use lnt_rows::SeqId;
+use lnt_sequences::SeqId;
 use lnt_spans::Position;
 use lnt_stream::{SectionReader, UnitBuffer};
 use lnt_unit::UnitView;

@@ -3,7 +3,7 @@ use Rattle.std.proofs.Common.{Bool, ℕ, List, Option, Some, None, IfSome}
 use Rattle.lnt_unit.specs.declared.unit.Parts.{Parts}
 use Rattle.lnt_spans.specs.declared.listed.SpanList.{SpanList}
 use Rattle.lnt_spans.specs.declared.span.Span.{Span}
-use Rattle.lnt_rows.specs.Sequences.{line_answer}
+use Rattle.lnt_sequences.specs.Sequences.{line_answer}
 use Rattle.lnt_records.specs.declared.differing.Differing.{Differing}
 use Rattle.lnt_records.specs.declared.differing.Differing.TheVariants.{Fault, Table}
 use Rattle.lnt_records.specs.declared.remaining.Remaining.{Remaining}

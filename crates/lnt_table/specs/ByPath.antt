@@ -3,7 +3,7 @@ use Rattle.std.specs.Prelude.{Bool, ℕ, List, [], Option, None, Some}
 use Rattle.std.specs.Option.{option_map}
 use Rattle.lnt_unit.specs.declared.unit.Parts.{Parts}
 use Rattle.lnt_spans.specs.declared.position.Position.{Position}
-use Rattle.lnt_rows.specs.Sequences.{line_answer}
+use Rattle.lnt_sequences.specs.Sequences.{line_answer}
 use Rattle.lnt_lines.specs.Indexed.{Indexed, file_path_in}
 use Rattle.lnt_paths.specs.declared.version.PathVersion.{PathVersion}
 use Rattle.lnt_paths.specs.PathAnswers.{PathAnswer, path_answer}

@@ -13,7 +13,7 @@ use Rattle.lnt_spans.specs.declared.span.Span.{Span}
 use Rattle.lnt_spans.specs.Answers.{in_version}
 use Rattle.lnt_spans.specs.Differences.{IsLeastDifference}
 use Rattle.lnt_spans.specs.Spans.{span_answer}
-use Rattle.lnt_rows.specs.Sequences.{line_answer}
+use Rattle.lnt_sequences.specs.Sequences.{line_answer}
 use Rattle.lnt_records.specs.declared.fault.TableFault.{TableFault}
 use Rattle.lnt_records.specs.declared.fault.TableFault.TheVariants as fault
 use Rattle.lnt_records.specs.Faults.{IsFault}

@@ -4,7 +4,7 @@ use Rattle.lnt_unit.specs.declared.unit.Parts.{Parts}
 use Rattle.lnt_spans.specs.declared.position.Position.{Position}
 use Rattle.lnt_spans.specs.declared.span.Span.{Span}
 use Rattle.lnt_spans.specs.Spans.{span_answer}
-use Rattle.lnt_rows.specs.Sequences.{line_answer}
+use Rattle.lnt_sequences.specs.Sequences.{line_answer}
 use Rattle.lnt_records.specs.Faults.{IsComparison}
 use Rattle.lnt_records.specs.declared.comparison.Compared.{Compared}
 use Rattle.lnt_records.specs.declared.comparison.Compared.TheVariants.{Same, Fault, Differs}

@@ -27,16 +27,16 @@ use std::alloc::Global;
 ///   (`Source.remaining`);
 /// - *spell exactly*: `SectionBytes` of `lnt_unit`, with nothing before, between or after the units;
 /// - *well-formed*: `IsWellFormed` of `lnt_lines`: the program runs, and the tables are usable;
-/// - *never fall*: `AreOrdered` of `lnt_rows`; equal positions are allowed;
-/// - *live*: `live_sequences` of `lnt_rows`: not begun at the address of dead code, where the options give one;
+/// - *never fall*: `AreOrdered` of `lnt_sequences`; equal positions are allowed;
+/// - *live*: `live_sequences` of `lnt_sequences`: not begun at the address of dead code, where the options give one;
 ///   copies, where these are skipped, are live but neither held by two nor answer (`kept_sequences`);
-/// - *held*, *held by two*: `Holds` and `AreApart` of `lnt_rows`: from the position of a sequence's first row up to that
+/// - *held*, *held by two*: `Holds` and `AreApart` of `lnt_sequences`: from the position of a sequence's first row up to that
 ///   of its end row, which is not held;
-/// - *file number used*: `HaveFiles` of `lnt_rows`, of each row of a live sequence but end rows;
-/// - *directory number used*: `AreUsableTables` of `lnt_entries`, of each file that a unit lists;
+/// - *file number used*: `HaveFiles` of `lnt_sequences`, of each row of a live sequence but end rows;
+/// - *directory number used*: `AreUsableTables` of `lnt_files`, of each file that a unit lists;
 /// - *the table's answer*: `IsTableOf` of `lnt_records`, of all bytes that `table` has to give, and `span_answer` of
 ///   `lnt_spans`, of the table's spans;
-/// - *the last matrix row at or before it*: `line_answer` of `lnt_rows`, over the rows of `lnt_machine`; under version 1
+/// - *the last matrix row at or before it*: `line_answer` of `lnt_sequences`, over the rows of `lnt_machine`; under version 1
 ///   of the table without instruction set and discriminator.
 ///
 /// Else it tells the first thing that is wrong (`TableNo`). The section is judged first, and the table is read only

@@ -1,6 +1,6 @@
 //! The paths of a header's files, and the header that is kept.
 use crate::lines::STRINGS;
-use lnt_entries::{StringEnds, in_place};
+use lnt_files::{StringEnds, in_place};
 use lnt_header_bytes::{KeptHeader, decode_header, view_header};
 use lnt_samples::PLAIN;
 use lnt_wire::{Cursor, Order, take_frame};

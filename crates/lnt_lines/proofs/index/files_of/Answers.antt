@@ -2,7 +2,7 @@ use Rattle.std.proofs.Common.{◌≡◌, ◌∙◌, ◌++◌, ◌∷◌, [], get
 use Rattle.std.specs.List.{AllZip}
 use Rattle.std.proofs.lemmas.List.{get_or_default, take_more}
 use Rattle.lnt_machine.specs.Walking.{Kept}
-use Rattle.lnt_entries.specs.Files.{AreFilesOf, KeptFile}
+use Rattle.lnt_files.specs.Files.{AreFilesOf, KeptFile}
 use Rattle.lnt_lines.proofs.DraftLemmas.{zip_push}
 use Rattle.lnt_lines.proofs.index.files_of.Goals as goal
 

@@ -1,7 +1,7 @@
 use Rattle.std.specs.Prelude.{List, take}
 use Rattle.std.specs.List.{AllZip}
 use Rattle.lnt_machine.specs.Walking.{Kept}
-use Rattle.lnt_entries.specs.Files.{AreFilesOf, KeptFile}
+use Rattle.lnt_files.specs.Files.{AreFilesOf, KeptFile}
 use Rattle.lnt_lines.proofs.index.files_of.Given as goal
 
 abbrev pub invariant-loop-program : goal.invariant-loop-program

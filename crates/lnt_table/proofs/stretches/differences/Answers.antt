@@ -1,4 +1,4 @@
-use Rattle.lnt_rows.specs.Sequences.{line_answer}
+use Rattle.lnt_sequences.specs.Sequences.{line_answer}
 use Rattle.lnt_table.proofs.StretchLemmas.{from_units}
 use Rattle.lnt_table.proofs.stretches.differences.Goals as goal
 

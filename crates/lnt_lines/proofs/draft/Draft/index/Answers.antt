@@ -1,4 +1,4 @@
-use Rattle.lnt_rows.specs.Sequences.{live_sequences}
+use Rattle.lnt_sequences.specs.Sequences.{live_sequences}
 use Rattle.lnt_lines.proofs.DraftLemmas.{index_of_draft}
 use Rattle.lnt_lines.proofs.draft.Draft.index.Goals as goal
 

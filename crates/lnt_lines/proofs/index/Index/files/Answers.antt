@@ -1,7 +1,7 @@
 use Rattle.std.proofs.Common.{List, subst, sym}
 use Rattle.std.specs.List.{All}
 use Rattle.lnt_machine.specs.Walking.{Kept}
-use Rattle.lnt_entries.specs.Tables.{AreUsableTables}
+use Rattle.lnt_files.specs.Tables.{AreUsableTables}
 use Rattle.lnt_lines.proofs.IndexLemmas.{usable_at}
 use Rattle.lnt_lines.proofs.index.Index.files.Goals as goal
 

@@ -1,6 +1,6 @@
 use Rattle.std.proofs.Common.{◌≡◌, ◌∙◌, ◌<◌, ap, get_or, length, subst, sym, List}
 use Rattle.lnt_machine.specs.Walking.{Kept}
-use Rattle.lnt_entries.specs.Tables.{AreUsableTables}
+use Rattle.lnt_files.specs.Tables.{AreUsableTables}
 use Rattle.lnt_lines.specs.Indexed.{Indexed}
 use Rattle.lnt_lines.proofs.IndexLemmas.{usable_at}
 use Rattle.lnt_lines.proofs.index.Index.header_of.Goals as goal

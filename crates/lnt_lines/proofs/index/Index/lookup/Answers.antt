@@ -1,7 +1,7 @@
 use Rattle.std.proofs.Common.{◌∙◌, subst, sym, List, ℕ}
 use Rattle.lnt_machine.specs.Walking.{Kept}
-use Rattle.lnt_rows.specs.declared.extent.Extent.{Extent}
-use Rattle.lnt_rows.specs.Extents.{IsHolder, NoneHolds}
+use Rattle.lnt_sequences.specs.declared.extent.Extent.{Extent}
+use Rattle.lnt_sequences.specs.Extents.{IsHolder, NoneHolds}
 use Rattle.lnt_lines.specs.Indexed.{Indexed, IsIndexOf, IsSequenceIn}
 use Rattle.lnt_lines.proofs.IndexLemmas.{found_answer, found_none, Answers}
 use Rattle.lnt_lines.proofs.index.Index.lookup.Goals as goal

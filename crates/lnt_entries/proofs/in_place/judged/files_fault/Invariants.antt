@@ -1,5 +1,0 @@
-use Rattle.lnt_entries.proofs.JudgedLemmas.{FilesSeen}
-use Rattle.lnt_entries.proofs.in_place.judged.files_fault.Given as goal
-
-abbrev pub invariant-loop-index : goal.invariant-loop-index
-invariant-loop-index l = FilesSeen l.fn.ends.line l.fn.ends.general l.fn.directories l.fn.files l.entries l.index l.missing

@@ -1,0 +1,241 @@
+-- Tables that are judged in one walk.
+use Rattle.std.proofs.Common.{◌≡◌, ℕ, ◌+◌, ◌<◌, ◌≤◌, ◌↔◌, List, [], ◌∷◌, ◌++◌, length, Option, Some, None, refl, sym, ap, subst, ◌∙◌, append_assoc, arith}
+use Rattle.std.specs.Prelude.{Bool, true, false, IsTrue, MatchOption}
+use Rattle.std.specs.List.{AllByRecursion}
+use Rattle.std.proofs.lemmas.List.{length-append, append-nil}
+use Rattle.lnt_header_bytes.specs.Borrowed.{BorrowedTable}
+use Rattle.lnt_header.specs.HeaderTests.{IsFirstNot}
+use Rattle.lnt_header.specs.declared.header.Entry.{Entry}
+use Rattle.lnt_header.specs.declared.header.HeaderParts.{HeaderParts}
+use Rattle.lnt_header.specs.declared.header.Pair.{Pair}
+use Rattle.lnt_files.specs.declared.tables.TableFault.{TableFault}
+use Rattle.lnt_files.specs.declared.tables.TableFault.TheVariants.{StringOutside, DirectoryNumber}
+use Rattle.lnt_header.specs.declared.header.Which.TheVariants.{Files}
+use Rattle.lnt_files.specs.declared.walk.EntryView.{EntryView}
+use Rattle.lnt_files.specs.Contents.{directory_number}
+use Rattle.lnt_files.specs.Seen.{first_missing, IsBelow, HasAll, IsFilesFault, HasSeen}
+use Rattle.lnt_files.specs.Tables.{HasUsableFormat, HasPath, HasDirectory, AreUsableTables, IsTablesFault}
+use Rattle.lnt_files.specs.Walks.{Says, EntryStep, GivesEntry}
+
+-- ---- what was seen
+
+pub seen_none : (table : BorrowedTable) → HasSeen [] table table 0
+seen_none table = record { joined = refl; count_is = refl; pairs_are = refl }
+
+pub seen_more : (seen : List Entry) (table old new : BorrowedTable) (count : ℕ) (view : EntryView) → HasSeen seen table old count → (g : GivesEntry old view new) → HasSeen (seen ++ g.entry ∷ []) table new (count + 1)
+seen_more seen table old new count view s g = record {
+  joined = s.joined ∙ ap (λ (es : List Entry). seen ++ es) g.entries_are ∙ sym (append_assoc seen (g.entry ∷ []) new.entries);
+  count_is = omega (arith, s.count_is, length-append seen (g.entry ∷ []));
+  pairs_are = g.pairs_are ∙ s.pairs_are;
+}
+
+-- what it says by the table's format
+pub says_in : (seen : List Entry) (table old new : BorrowedTable) (count : ℕ) (view : EntryView) → HasSeen seen table old count → (g : GivesEntry old view new) → Says table.pairs g.entry view
+says_in seen table old new count view s g = subst (λ (ps : List Pair). Says ps g.entry view) s.pairs_are g.says
+
+empty : {X : Type 0} (xs : List X) → length xs ≡ 0 → xs ≡ []
+empty [] e = refl
+empty (x ∷ xs) e = absurd (omega arith)
+
+pub seen_all : (seen : List Entry) (table walk : BorrowedTable) (count : ℕ) → HasSeen seen table walk count → length table.entries ≤ count → seen ≡ table.entries
+seen_all seen table walk count s le =
+    let none : walk.entries ≡ [] = empty walk.entries (omega (arith, ap length s.joined, length-append seen walk.entries, s.count_is, le)) in
+    sym (append-nil seen) ∙ ap (λ (es : List Entry). seen ++ es) (sym none) ∙ sym s.joined
+
+pub some_left : (seen : List Entry) (table old new : BorrowedTable) (count : ℕ) → HasSeen seen table old count → count < length table.entries → EntryStep old None new → ⊥
+some_left seen table old new count s lt ends = omega (arith, ap length s.joined, length-append seen old.entries, s.count_is, lt, ap length ends.0)
+
+-- ---- all that were seen
+
+all_push : {X : Type 0} (P : X → Type 0) (xs : List X) (x : X) → AllByRecursion P xs → P x → AllByRecursion P (xs ++ x ∷ [])
+all_push P [] x h p = (p, tt)
+all_push P (y ∷ xs) x h p = (h.0, all_push P xs x h.1 p)
+
+-- each of the first entries has the text of its path
+pub record AllHavePaths (line general : List ℕ) (table walk : BorrowedTable) (count : ℕ) : Type 0 where
+  pub seen : List Entry
+  pub has_seen : HasSeen seen table walk count
+  pub all : AllByRecursion (HasPath line general table.pairs) seen
+
+pub all_begun : (line general : List ℕ) (table walk : BorrowedTable) → walk ≡ table → AllHavePaths line general table walk 0
+all_begun line general table walk e = subst (λ (w : BorrowedTable). AllHavePaths line general table w 0) (sym e) (record { seen = []; has_seen = seen_none table; all = tt })
+
+pub never_ends : (line general : List ℕ) (table old new : BorrowedTable) (count : ℕ) → AllHavePaths line general table old count → count < length table.entries → EntryStep old None new → ⊥
+never_ends line general table old new count a lt ends = some_left a.seen table old new count a.has_seen lt ends
+
+-- what a test of the next entry tells
+abbrev pub TellsPath : List ℕ → List ℕ → Bool → EntryView → Type 0
+TellsPath line general told view = (pairs : List Pair) (entry : Entry) → Says pairs entry view → IsTrue told ↔ HasPath line general pairs entry
+
+pub all_stepped : (line general : List ℕ) (table old new : BorrowedTable) (count : ℕ) (view : EntryView) (told : Bool) → AllHavePaths line general table old count → GivesEntry old view new
+    → TellsPath line general told view → IsTrue told → AllHavePaths line general table new (count + 1)
+all_stepped line general table old new count view told a g tells is = record {
+  seen = a.seen ++ g.entry ∷ [];
+  has_seen = seen_more a.seen table old new count view a.has_seen g;
+  all = all_push (HasPath line general table.pairs) a.seen g.entry a.all ((tells table.pairs g.entry (says_in a.seen table old new count view a.has_seen g)).0 is);
+}
+
+pub all_done : (line general : List ℕ) (table walk : BorrowedTable) (count : ℕ) → AllHavePaths line general table walk count → length table.entries ≤ count → AllByRecursion (HasPath line general table.pairs) table.entries
+all_done line general table walk count a le = subst (AllByRecursion (HasPath line general table.pairs)) (seen_all a.seen table walk count a.has_seen le) a.all
+
+pub all_but : (line general : List ℕ) (table old new : BorrowedTable) (count : ℕ) (view : EntryView) (told : Bool) → AllHavePaths line general table old count → GivesEntry old view new
+    → TellsPath line general told view → (IsTrue told → ⊥) → IsFirstNot (HasPath line general table.pairs) table.entries count
+all_but line general table old new count view told a g tells other = record {
+  before = a.seen;
+  value = g.entry;
+  behind = new.entries;
+  joined = a.has_seen.joined ∙ ap (λ (es : List Entry). a.seen ++ es) g.entries_are;
+  index_is = sym a.has_seen.count_is;
+  all_before = a.all;
+  not_so = λ has. other ((tells table.pairs g.entry (says_in a.seen table old new count view a.has_seen g)).1 has);
+}
+
+-- ---- formats
+
+pub no_entries : (pairs : List Pair) (entries : List Entry) (count : ℕ) → count ≡ length entries → (count ≡ 0 → entries ≡ []) × (entries ≡ [] → count ≡ 0)
+no_entries pairs entries count e = ((λ none. empty entries (sym e ∙ none)), (λ none. e ∙ ap length none))
+
+-- ---- files
+
+false_is_not : IsTrue false → ⊥
+false_is_not e = cc
+
+longer : {X : Type 0} (P : X → Type 0) (xs more : List X) (k : ℕ) → IsFirstNot P xs k → IsFirstNot P (xs ++ more) k
+longer P xs more k f = record {
+  before = f.before;
+  value = f.value;
+  behind = f.behind ++ more;
+  joined = ap (λ (z : List _). z ++ more) f.joined ∙ append_assoc f.before (f.value ∷ f.behind) more;
+  index_is = f.index_is;
+  all_before = f.all_before;
+  not_so = f.not_so;
+}
+
+here : {X : Type 0} (P : X → Type 0) (xs : List X) (x : X) (k : ℕ) → length xs ≡ k → AllByRecursion P xs → (P x → ⊥) → IsFirstNot P (xs ++ x ∷ []) k
+here P xs x k count all other = record { before = xs; value = x; behind = []; joined = refl; index_is = sym count; all_before = all; not_so = other }
+
+-- the first that is missing
+abbrev Missing : {X : Type 0} → (X → Type 0) → List X → Option ℕ → Type 0
+Missing P xs missing = MatchOption missing (AllByRecursion P xs) (λ k. IsFirstNot P xs k)
+
+no_more : {X : Type 0} (P : X → Type 0) (xs : List X) (x : X) (k : ℕ) (missing : Option ℕ) (told : Bool) → length xs ≡ k → (IsTrue told → P x) × (P x → IsTrue told) → Missing P xs missing
+    → Missing P (xs ++ x ∷ []) (first_missing missing k told)
+no_more P xs x k (Some first) told count tells m = longer P xs (x ∷ []) first m
+no_more P xs x k None true count tells m = all_push P xs x m (tells.0 refl)
+no_more P xs x k None false count tells m = here P xs x k count m (λ p. false_is_not (tells.1 p))
+
+-- what the first files are, up to the first of them without its directory
+pub record FilesSeen (line general : List ℕ) (directories : ℕ) (table walk : BorrowedTable) (count : ℕ) (missing : Option ℕ) : Type 0 where
+  pub seen : List Entry
+  pub has_seen : HasSeen seen table walk count
+  pub paths : AllByRecursion (HasPath line general table.pairs) seen
+  pub numbers : Missing (IsBelow directories table.pairs) seen missing
+
+their_paths : (line general : List ℕ) (directories : ℕ) (table walk : BorrowedTable) (count : ℕ) (missing : Option ℕ) → FilesSeen line general directories table walk count missing → AllHavePaths line general table walk count
+their_paths line general directories table walk count missing s = record { seen = s.seen; has_seen = s.has_seen; all = s.paths }
+
+pub files_begun : (line general : List ℕ) (directories : ℕ) (table walk : BorrowedTable) → walk ≡ table → FilesSeen line general directories table walk 0 None
+files_begun line general directories table walk e =
+    subst (λ (w : BorrowedTable). FilesSeen line general directories table w 0 None) (sym e) (record { seen = []; has_seen = seen_none table; paths = tt; numbers = tt })
+
+-- what a directory number of the next entry tells
+abbrev pub TellsNumber : ℕ → EntryView → Type 0
+TellsNumber number view = (pairs : List Pair) (entry : Entry) → Says pairs entry view → number ≡ directory_number pairs entry
+
+pub files_stepped : (line general : List ℕ) (directories : ℕ) (table old new : BorrowedTable) (count : ℕ) (missing : Option ℕ) (view : EntryView) (told below : Bool) (number : ℕ)
+    → FilesSeen line general directories table old count missing → GivesEntry old view new → TellsPath line general told view → IsTrue told → TellsNumber number view → IsTrue below ↔ (number < directories)
+    → FilesSeen line general directories table new (count + 1) (first_missing missing count below)
+files_stepped line general directories table old new count missing view told below number s g tells is names lower =
+    let says = says_in s.seen table old new count view s.has_seen g in
+    let number_is : number ≡ directory_number table.pairs g.entry = names table.pairs g.entry says in
+    record {
+      seen = s.seen ++ g.entry ∷ [];
+      has_seen = seen_more s.seen table old new count view s.has_seen g;
+      paths = all_push (HasPath line general table.pairs) s.seen g.entry s.paths ((tells table.pairs g.entry says).0 is);
+      numbers = no_more (IsBelow directories table.pairs) s.seen g.entry count missing below s.has_seen.count_is
+          ((λ t. omega (arith, lower.0 t, number_is)), (λ lt. lower.1 (omega (arith, lt, number_is)))) s.numbers;
+    }
+
+pub files_never_end : (line general : List ℕ) (directories : ℕ) (table old new : BorrowedTable) (count : ℕ) (missing : Option ℕ) → FilesSeen line general directories table old count missing → count < length table.entries
+    → EntryStep old None new → ⊥
+files_never_end line general directories table old new count missing s lt ends = some_left s.seen table old new count s.has_seen lt ends
+
+pub files_but : (line general : List ℕ) (directories : ℕ) (table old new : BorrowedTable) (count : ℕ) (missing : Option ℕ) (view : EntryView) (told : Bool) → FilesSeen line general directories table old count missing
+    → GivesEntry old view new → TellsPath line general told view → (IsTrue told → ⊥) → IsFirstNot (HasPath line general table.pairs) table.entries count
+files_but line general directories table old new count missing view told s g tells other = all_but line general table old new count view told (their_paths line general directories table old count missing s) g tells other
+
+numbers_done : (line general : List ℕ) (directories : ℕ) (table walk : BorrowedTable) (count : ℕ) (missing : Option ℕ) → (s : FilesSeen line general directories table walk count missing) → length table.entries ≤ count
+    → Missing (IsBelow directories table.pairs) table.entries missing
+numbers_done line general directories table walk count missing s le =
+    subst (λ (es : List Entry). Missing (IsBelow directories table.pairs) es missing) (seen_all s.seen table walk count s.has_seen le) s.numbers
+
+pub files_sound : (line general : List ℕ) (directories : ℕ) (table walk : BorrowedTable) (count : ℕ) (missing : Option ℕ) → FilesSeen line general directories table walk count missing → length table.entries ≤ count
+    → missing ≡ None → HasAll line general directories table
+files_sound line general directories table walk count missing s le e =
+    let numbers : Missing (IsBelow directories table.pairs) table.entries None = subst (Missing (IsBelow directories table.pairs) table.entries) e (numbers_done line general directories table walk count missing s le) in
+    record { paths = all_done line general table walk count (their_paths line general directories table walk count missing s) le; numbers = numbers }
+
+pub files_missing : (line general : List ℕ) (directories : ℕ) (table walk : BorrowedTable) (count index : ℕ) (missing : Option ℕ) → FilesSeen line general directories table walk count missing → length table.entries ≤ count
+    → missing ≡ Some index → IsFilesFault line general directories table (DirectoryNumber index)
+files_missing line general directories table walk count index missing s le e =
+    let numbers : Missing (IsBelow directories table.pairs) table.entries (Some index) = subst (Missing (IsBelow directories table.pairs) table.entries) e (numbers_done line general directories table walk count missing s le) in
+    (all_done line general table walk count (their_paths line general directories table walk count missing s) le, numbers)
+
+-- ---- both tables
+
+-- The tables of a header that are judged, and what is known of them once the directories are sound.
+pub record AreJudged (line general : List ℕ) (h : HeaderParts) (d f : BorrowedTable) (count : ℕ) : Type 0 where
+  pub directory_pairs : d.pairs ≡ h.directory_format
+  pub directories : d.entries ≡ h.directories
+  pub file_pairs : f.pairs ≡ h.file_format
+  pub files : f.entries ≡ h.files
+  pub count_is : count ≡ length d.entries
+  pub directory_format : HasUsableFormat d.pairs d.entries
+  pub file_format : HasUsableFormat f.pairs f.entries
+  pub paths : AllByRecursion (HasPath line general d.pairs) d.entries
+
+-- the same of the same pairs and entries
+moved : (P : List Pair → List Entry → Type 0) (ps qs : List Pair) (es fs : List Entry) → ps ≡ qs → es ≡ fs → P ps es → P qs fs
+moved P ps qs es fs e e' p = subst (λ (z : List Entry). P qs z) e' (subst (λ (z : List Pair). P z es) e p)
+
+directory_format_of : (line general : List ℕ) (h : HeaderParts) (d f : BorrowedTable) (count : ℕ) → AreJudged line general h d f count → HasUsableFormat h.directory_format h.directories
+directory_format_of line general h d f count j = moved HasUsableFormat d.pairs h.directory_format d.entries h.directories j.directory_pairs j.directories j.directory_format
+
+file_format_of : (line general : List ℕ) (h : HeaderParts) (d f : BorrowedTable) (count : ℕ) → AreJudged line general h d f count → HasUsableFormat h.file_format h.files
+file_format_of line general h d f count j = moved HasUsableFormat f.pairs h.file_format f.entries h.files j.file_pairs j.files j.file_format
+
+directory_paths_of : (line general : List ℕ) (h : HeaderParts) (d f : BorrowedTable) (count : ℕ) → AreJudged line general h d f count → AllByRecursion (HasPath line general h.directory_format) h.directories
+directory_paths_of line general h d f count j =
+    moved (λ ps es. AllByRecursion (HasPath line general ps) es) d.pairs h.directory_format d.entries h.directories j.directory_pairs j.directories j.paths
+
+file_paths_of : (line general : List ℕ) (h : HeaderParts) (d f : BorrowedTable) (count : ℕ) → AreJudged line general h d f count → AllByRecursion (HasPath line general f.pairs) f.entries
+    → AllByRecursion (HasPath line general h.file_format) h.files
+file_paths_of line general h d f count j p = moved (λ ps es. AllByRecursion (HasPath line general ps) es) f.pairs h.file_format f.entries h.files j.file_pairs j.files p
+
+count_of : (line general : List ℕ) (h : HeaderParts) (d f : BorrowedTable) (count : ℕ) → AreJudged line general h d f count → count ≡ length h.directories
+count_of line general h d f count j = j.count_is ∙ ap length j.directories
+
+numbers_of : (line general : List ℕ) (h : HeaderParts) (d f : BorrowedTable) (count : ℕ) → AreJudged line general h d f count → AllByRecursion (IsBelow count f.pairs) f.entries → AllByRecursion (HasDirectory h) h.files
+numbers_of line general h d f count j p =
+    subst (λ (n : ℕ). AllByRecursion (IsBelow n h.file_format) h.files) (count_of line general h d f count j)
+    (moved (λ ps es. AllByRecursion (IsBelow count ps) es) f.pairs h.file_format f.entries h.files j.file_pairs j.files p)
+
+pub judged : (line general : List ℕ) (h : HeaderParts) (d f : BorrowedTable) (count : ℕ) (found : Option TableFault) → AreJudged line general h d f count
+    → MatchOption found (HasAll line general count f) (λ fault. IsFilesFault line general count f fault) → MatchOption found (AreUsableTables line general h) (λ fault. IsTablesFault line general h fault)
+judged line general h d f count None j m = record {
+  directories = record { format = directory_format_of line general h d f count j; paths = directory_paths_of line general h d f count j };
+  files = record { format = file_format_of line general h d f count j; paths = file_paths_of line general h d f count j m.paths };
+  numbers = numbers_of line general h d f count j m.numbers;
+}
+judged line general h d f count (Some (StringOutside Files index)) j m = (
+  record { directories = directory_format_of line general h d f count j; files = file_format_of line general h d f count j },
+  directory_paths_of line general h d f count j,
+  moved (λ ps es. IsFirstNot (HasPath line general ps) es index) f.pairs h.file_format f.entries h.files j.file_pairs j.files m,
+)
+judged line general h d f count (Some (DirectoryNumber index)) j m = (
+  record { format = directory_format_of line general h d f count j; paths = directory_paths_of line general h d f count j },
+  record { format = file_format_of line general h d f count j; paths = file_paths_of line general h d f count j m.0 },
+  subst (λ (n : ℕ). IsFirstNot (IsBelow n h.file_format) h.files index) (count_of line general h d f count j)
+      (moved (λ ps es. IsFirstNot (IsBelow count ps) es index) f.pairs h.file_format f.entries h.files j.file_pairs j.files m.1),
+)
+judged line general h d f count (Some fault) j m = absurd m

@@ -1,0 +1,8 @@
+-- What paths are joined from.
+use Rattle.std.specs.Prelude.{ℕ, List}
+use Rattle.lnt_files.specs.declared.paths.Pieces.{Pieces}
+use Rattle.lnt_files.specs.Paths.{join}
+
+-- the name, below the directory, below directory 0
+abbrev pub whole_path : Pieces → List ℕ
+whole_path pieces = join (join pieces.first.now pieces.directory.now) pieces.name.now

@@ -1,0 +1,235 @@
+//! The components of an entry that matter, read where they lie.
+ghost use Rattle.std.specs.Prelude.{◌≡◌, ◌↔◌, IsTrue, ◌++◌, ◌∷◌, [], ℕ, List, length, IfOk, IfErr};
+ghost use Rattle.lnt_header_bytes.specs.TableBytes.{EntryBytes};
+ghost use Rattle.lnt_wire.specs.Borrowed.{value_of};
+ghost use Rattle.lnt_wire.specs.Bytes.{NoneSpelled};
+ghost use Rattle.lnt_wire.specs.declared.form.FormValue.{FormValue};
+ghost use Rattle.lnt_wire.specs.declared.form.Form.TheVariants.{LineStrp, Udata, Data16};
+ghost use Rattle.lnt_files.specs.Contents.{content_path, content_directory_index, content_md5};
+ghost use Rattle.lnt_files.specs.Walks.{IsPair, IsUsual, ArePlaces, IsKept, AreKept, ReadsEntry};
+
+use crate::contents::{DIRECTORY_INDEX, MD5, PATH, place_of};
+use crate::walk::EntryView;
+use lnt_header::Pair;
+use lnt_wire::{Cursor, Fault, Form, Format, ValueView};
+
+/// The formats that compilers write. Their entries are read without a look at the format.
+#[derive(Clone, Copy)]
+pub(crate) enum Usual {
+    /// A path in `.debug_line_str`.
+    Path,
+    /// The same, and the number of a directory as `udata`.
+    IndexedPath,
+    /// The same, and an MD5 sum.
+    SummedPath,
+    Other,
+}
+
+/// Where the first components of the content types stand in an entry.
+#[derive(Clone, Copy)]
+pub(crate) struct Places {
+    path: Option<usize>,
+    directory: Option<usize>,
+    sum: Option<usize>,
+}
+
+/// The places in entries of these pairs.
+pub(crate) fn places_of(pairs: &[Pair]) -> Places
+    ensures { ArePlaces result pairs.now }
+{
+    Places {
+        path: place_of(PATH, pairs),
+        directory: place_of(DIRECTORY_INDEX, pairs),
+        sum: place_of(MD5, pairs),
+    }
+}
+
+/// Which of the usual formats these pairs are.
+pub(crate) fn usual_of(pairs: &[Pair]) -> Usual
+    ensures { IsUsual result pairs.now }
+{
+    match pairs {
+        [path] => {
+            if is_path(path) {
+                return Usual::Path;
+            }
+        }
+        [path, directory] => {
+            if is_path(path) && is_directory(directory) {
+                return Usual::IndexedPath;
+            }
+        }
+        [path, directory, sum] => {
+            if is_path(path) && is_directory(directory) && is_sum(sum) {
+                return Usual::SummedPath;
+            }
+        }
+        _ => {}
+    }
+    Usual::Other
+}
+
+// Whether the pair is of a path in `.debug_line_str`.
+fn is_path(pair: &Pair) -> bool
+    ensures { IsTrue result ↔ IsPair content_path LineStrp pair.now }
+{
+    pair.content == PATH && matches!(pair.form, Form::LineStrp)
+}
+
+// Whether the pair is of a directory number as `udata`.
+fn is_directory(pair: &Pair) -> bool
+    ensures { IsTrue result ↔ IsPair content_directory_index Udata pair.now }
+{
+    pair.content == DIRECTORY_INDEX && matches!(pair.form, Form::Udata)
+}
+
+// Whether the pair is of an MD5 sum.
+fn is_sum(pair: &Pair) -> bool
+    ensures { IsTrue result ↔ IsPair content_md5 Data16 pair.now }
+{
+    pair.content == MD5 && matches!(pair.form, Form::Data16)
+}
+
+/// What the next entry says.
+#[inline(always)]
+pub(crate) fn read_entry<'a>(
+    cursor: &mut Cursor<'a>,
+    format: Format,
+    pairs: &[Pair],
+    usual: Usual,
+    places: Places,
+) -> Result<EntryView<'a>, Fault>
+    requires usual { IsUsual usual pairs.now }
+    requires places { ArePlaces places pairs.now }
+    ensures ok { IfOk result (λ entry. ReadsEntry format pairs.now entry cursor.old cursor.new) }
+    ensures err { IfErr result (λ _. NoneSpelled (EntryBytes format cursor.old.order pairs.now) cursor.old.rest) }
+{
+    match usual {
+        Usual::Path => read_path(cursor, format, pairs),
+        Usual::IndexedPath => read_indexed_path(cursor, format, pairs),
+        Usual::SummedPath => read_summed_path(cursor, format, pairs),
+        Usual::Other => read_values(cursor, format, pairs, places),
+    }
+}
+
+// What the next path says.
+#[inline(always)]
+#[tactic(auto, using(crate::proofs::EntryLemmas::path_read, crate::proofs::EntryLemmas::no_path))]
+fn read_path<'a>(
+    cursor: &mut Cursor<'a>,
+    format: Format,
+    pairs: &[Pair],
+) -> Result<EntryView<'a>, Fault>
+    requires { IsUsual Usual.Path pairs.now }
+    ensures ok { IfOk result (λ entry. ReadsEntry format pairs.now entry cursor.old cursor.new) }
+    ensures err { IfErr result (λ _. NoneSpelled (EntryBytes format cursor.old.order pairs.now) cursor.old.rest) }
+{
+    let path = cursor.value(Form::LineStrp, format)?;
+    Ok(EntryView {
+        path: Some(path),
+        directory: None,
+        sum: None,
+    })
+}
+
+// What the next path and the number of its directory say.
+#[inline(always)]
+#[tactic(auto, using(crate::proofs::EntryLemmas::indexed_path_read, crate::proofs::EntryLemmas::no_indexed_path, crate::proofs::EntryLemmas::no_index))]
+fn read_indexed_path<'a>(
+    cursor: &mut Cursor<'a>,
+    format: Format,
+    pairs: &[Pair],
+) -> Result<EntryView<'a>, Fault>
+    requires { IsUsual Usual.IndexedPath pairs.now }
+    ensures ok { IfOk result (λ entry. ReadsEntry format pairs.now entry cursor.old cursor.new) }
+    ensures err { IfErr result (λ _. NoneSpelled (EntryBytes format cursor.old.order pairs.now) cursor.old.rest) }
+{
+    let path = cursor.value(Form::LineStrp, format)?;
+    let directory = cursor.value(Form::Udata, format)?;
+    Ok(EntryView {
+        path: Some(path),
+        directory: Some(directory),
+        sum: None,
+    })
+}
+
+// What the next path, the number of its directory and its MD5 sum say.
+#[inline(always)]
+#[tactic(auto, using(crate::proofs::EntryLemmas::summed_path_read, crate::proofs::EntryLemmas::no_summed_path, crate::proofs::EntryLemmas::no_summed_index, crate::proofs::EntryLemmas::no_sum))]
+fn read_summed_path<'a>(
+    cursor: &mut Cursor<'a>,
+    format: Format,
+    pairs: &[Pair],
+) -> Result<EntryView<'a>, Fault>
+    requires { IsUsual Usual.SummedPath pairs.now }
+    ensures ok { IfOk result (λ entry. ReadsEntry format pairs.now entry cursor.old cursor.new) }
+    ensures err { IfErr result (λ _. NoneSpelled (EntryBytes format cursor.old.order pairs.now) cursor.old.rest) }
+{
+    let path = cursor.value(Form::LineStrp, format)?;
+    let directory = cursor.value(Form::Udata, format)?;
+    let sum = cursor.value(Form::Data16, format)?;
+    Ok(EntryView {
+        path: Some(path),
+        directory: Some(directory),
+        sum: Some(sum),
+    })
+}
+
+// What the next entry says, whatever its format.
+#[inline(never)]
+#[tactic(auto, using(crate::proofs::EntryLemmas::nothing_read, crate::proofs::EntryLemmas::one_more_read, crate::proofs::EntryLemmas::all_read, crate::proofs::EntryLemmas::none_there))]
+fn read_values<'a>(
+    cursor: &mut Cursor<'a>,
+    format: Format,
+    pairs: &[Pair],
+    places: Places,
+) -> Result<EntryView<'a>, Fault>
+    requires { ArePlaces places pairs.now }
+    ensures ok { IfOk result (λ entry. ReadsEntry format pairs.now entry cursor.old cursor.new) }
+    ensures err { IfErr result (λ _. NoneSpelled (EntryBytes format cursor.old.order pairs.now) cursor.old.rest) }
+{
+    let mut entry = EntryView {
+        path: None,
+        directory: None,
+        sum: None,
+    };
+    for (place, pair) in pairs.iter().enumerate() {
+        let value = cursor.value(pair.form, format)?;
+        entry = with_value(entry, places, place, value);
+    }
+    Ok(entry)
+}
+
+// The entry with one more value, which stands at the place.
+fn with_value<'a>(
+    entry: EntryView<'a>,
+    places: Places,
+    place: usize,
+    value: ValueView<'a>,
+) -> EntryView<'a>
+    ensures { (values : List FormValue) → length values ≡ place → AreKept places values entry.entry → AreKept places (values ++ value_of value.entry ∷ []) result }
+{
+    EntryView {
+        path: kept(entry.path, places.path, place, value),
+        directory: kept(entry.directory, places.directory, place, value),
+        sum: kept(entry.sum, places.sum, place, value),
+    }
+}
+
+// The component that stands at the first place, once the value at the second one is read.
+#[inline(always)]
+#[tactic(auto, using(crate::proofs::EntryLemmas::kept_here, crate::proofs::EntryLemmas::kept_earlier))]
+fn kept<'a>(
+    component: Option<ValueView<'a>>,
+    wanted: Option<usize>,
+    place: usize,
+    value: ValueView<'a>,
+) -> Option<ValueView<'a>>
+    ensures { (values : List FormValue) → length values ≡ place → IsKept wanted values component.entry → IsKept wanted (values ++ value_of value.entry ∷ []) result }
+{
+    if wanted == Some(place) {
+        Some(value)
+    } else {
+        component
+    }
+}

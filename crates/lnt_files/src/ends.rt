@@ -1,0 +1,77 @@
+//! Which offsets into the string sections have a text (DWARF 5, section 7.26).
+ghost use Rattle.std.specs.Prelude.{◌≡◌, ◌↔◌, IsTrue, IsSome};
+ghost use Rattle.lnt_wire.specs.Borrowed.{value_of};
+ghost use Rattle.lnt_wire.specs.Texts.{text_of, up_to_zero};
+ghost use Rattle.lnt_files.specs.TextEnds.{Sections, TextsEndAt};
+
+use lnt_wire::{Strings, ValueView};
+use std::marker::Model;
+
+/// The string sections, and where the texts of each end: whether an offset has a text is told without a look at the
+/// section. Contracts see the bytes of the two sections (`Sections`).
+#[derive(Drop)]
+pub struct StringEnds<'a> {
+    strings: Strings<'a>,
+    line: usize,
+    general: usize,
+}
+
+impl<'a> Model for StringEnds<'a> {
+    ghost use Rattle.lnt_files.specs.TextEnds.{Sections, TextsEndAt};
+
+    ghost Value = { Sections };
+
+    ghost view = { λ ends. record { line = ends.strings.line.now; general = ends.strings.general.now } };
+
+    ghost invariant = { λ ends. TextsEndAt ends.line ends.strings.line.now × TextsEndAt ends.general ends.strings.general.now };
+}
+
+impl<'a> StringEnds<'a> {
+    /// The sections, each of which is searched once for its last zero byte. It takes no memory.
+    pub fn of(strings: Strings<'a>) -> StringEnds<'a>
+        ensures line { result.line ≡ strings.entry.line.now }
+        ensures general { result.general ≡ strings.entry.general.now }
+    {
+        StringEnds {
+            strings,
+            line: texts_end(strings.line),
+            general: texts_end(strings.general),
+        }
+    }
+
+    /// The sections.
+    pub fn strings(&self) -> Strings<'a>
+        ensures line { result.line.now ≡ self.now.line }
+        ensures general { result.general.now ≡ self.now.general }
+    {
+        self.strings
+    }
+
+    /// Whether the value has a text, as `Strings::text` gives it. It takes the same time whatever the sections are.
+    #[inline(always)]
+    pub fn has_text(&self, value: ValueView<'_>) -> bool
+        ensures { IsTrue result ↔ IsSome (text_of self.now.line self.now.general (value_of value.entry)) }
+    {
+        match value {
+            ValueView::Text(_) => true,
+            ValueView::LineStrp(offset) => offset < self.line as u64,
+            ValueView::Strp(offset) => offset < self.general as u64,
+            _ => false,
+        }
+    }
+}
+
+// How many bytes of the section stand up to its last zero byte.
+#[tactic(auto, using(crate::proofs::EndLemmas::none_behind, crate::proofs::EndLemmas::none_before, crate::proofs::EndLemmas::last_zero, crate::proofs::EndLemmas::no_zero))]
+fn texts_end(section: &[u8]) -> usize
+    ensures { TextsEndAt result section.now }
+{
+    let mut end = section.len();
+    while end > 0 {
+        if section[end - 1] == 0 {
+            return end;
+        }
+        end -= 1;
+    }
+    0
+}

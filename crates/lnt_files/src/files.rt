@@ -1,0 +1,127 @@
+//! The files of a header, kept without its bytes.
+ghost use Rattle.std.specs.Prelude.{◌≡◌, ◌+◌, ◌<◌, IfOk, length};
+ghost use Rattle.std.specs.List.{slice_get};
+ghost use Rattle.std.specs.Option.{option_map, option_and_then, option_copied};
+ghost use Rattle.lnt_files.specs.Files.{AreFilesOf, kept_path, kept_sum};
+ghost use Rattle.lnt_files.specs.Kept.{EndAt, kept_files, start_of};
+ghost use Rattle.lnt_files.specs.Tables.{AreUsableTables};
+
+use crate::contents::sum_of;
+use crate::paths::add_path;
+use lnt_header::Header;
+use lnt_wire::Strings;
+use std::alloc::{AllocError, Global};
+use std::marker::Model;
+
+// Room for the paths of most headers, so that it seldom grows while they are added.
+const ROOM: usize = 1024;
+
+// Where the file's path ends, and the MD5 sum that is listed of it.
+#[derive(Clone, Copy, Debug)]
+pub(crate) struct Kept {
+    end: usize,
+    listed: Option<[u8; 16]>,
+}
+
+/// The whole paths and the listed MD5 sums of a header's files (DWARF 5, section 6.2.4.1), which outlive the header and
+/// the string sections. Contracts see a list, with a path and a sum for each file. Files count from 0.
+#[derive(Debug, Drop)]
+pub struct Files {
+    // The paths, one behind the other.
+    paths: Vec<u8>,
+    kept: Vec<Kept>,
+}
+
+impl Model for Files {
+    ghost use Rattle.std.specs.Prelude.{List, length};
+    ghost use Rattle.lnt_files.specs.Files.{KeptFile};
+
+    ghost Value = { List KeptFile };
+
+    ghost use Rattle.lnt_files.specs.Kept.{EndAt, kept_files};
+
+    ghost view = { λ files. kept_files files.paths.items 0 files.kept.items };
+
+    ghost invariant = { λ files. EndAt (length files.paths.items) 0 files.kept.items };
+}
+
+impl Files {
+    /// The files of the header. The caller sees to it that its tables are usable, which `tables_fault` tests. It
+    /// refuses only where memory runs out, and takes one run of bytes for all paths.
+    #[tactic(auto, using(crate::proofs::KeptLemmas::keeps_none, crate::proofs::KeptLemmas::kept_all))]
+    pub fn of(alloc: Global, header: &Header, strings: &Strings<'_>) -> Result<Files, AllocError>
+        requires { AreUsableTables strings.now.line.now strings.now.general.now header.now }
+        ensures { IfOk result (λ files. AreFilesOf strings.now.line.now strings.now.general.now header.now files) }
+    {
+        let mut paths = Vec::with_capacity(alloc, ROOM)?;
+        let mut kept = Vec::with_capacity(alloc, header.files().len())?;
+        for file in header.files() {
+            add_path(&mut paths, header, strings, file)?;
+            kept.push(Kept {
+                end: paths.len(),
+                listed: sum_of(header.file_format(), file),
+            })?;
+        }
+        paths.shrink_to_fit();
+        Ok(Files { paths, kept })
+    }
+
+    /// How many files there are.
+    #[tactic(auto, using(crate::proofs::KeptLemmas::kept_length))]
+    pub fn count(&self) -> u64
+        ensures { result ≡ length self.now }
+    {
+        self.kept.len() as u64
+    }
+
+    /// The whole path of the file, as `path_of` gives it. None exactly where the file isn't there.
+    pub fn path(&self, file: u64) -> Option<&[u8]>
+        ensures { option_map (λ path. path.now) result ≡ kept_path self.now file }
+    {
+        path_at(&self.paths, &self.kept, file)
+    }
+
+    /// The MD5 sum that is listed of the file, as `listed` gives it. None where it lists none, or isn't there.
+    #[tactic(auto, using(crate::proofs::KeptLemmas::kept_sum_is))]
+    pub fn listed(&self, file: u64) -> Option<[u8; 16]>
+        ensures { result ≡ kept_sum self.now file }
+    {
+        sum_at(&self.kept, file)
+    }
+}
+
+fn kept_at(kept: &[Kept], file: u64) -> Option<&Kept>
+    ensures { option_copied result ≡ slice_get kept.now file }
+{
+    kept.get(file as usize)
+}
+
+fn sum_at(kept: &[Kept], file: u64) -> Option<[u8; 16]>
+    ensures { result ≡ option_and_then (λ file. file.listed) (slice_get kept.now file) }
+{
+    kept_at(kept, file)?.listed
+}
+
+#[tactic(auto, using(crate::proofs::KeptLemmas::path_is, crate::proofs::KeptLemmas::no_path_is, crate::proofs::KeptLemmas::within))]
+fn path_at<'f>(paths: &'f [u8], kept: &[Kept], file: u64) -> Option<&'f [u8]>
+    requires { EndAt (length paths.now) 0 kept.now }
+    ensures { option_map (λ path. path.now) result ≡ kept_path (kept_files paths.now 0 kept.now) file }
+{
+    let end = kept_at(kept, file)?.end;
+    let start = start_of(kept, file as usize);
+    let (front, _) = paths.split_at(end);
+    let (_, path) = front.split_at(start);
+    Some(path)
+}
+
+// Where the path of the file begins.
+#[tactic(auto, using(crate::proofs::KeptLemmas::start_is_end))]
+fn start_of(kept: &[Kept], index: usize) -> usize
+    requires { index < length kept.now }
+    ensures { result ≡ start_of 0 kept.now index }
+{
+    if index == 0 {
+        return 0;
+    }
+    kept[index - 1].end
+}

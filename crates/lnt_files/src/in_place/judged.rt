@@ -1,0 +1,99 @@
+//! What is wrong with the tables of a header, each of which is walked over once.
+ghost use Rattle.std.specs.Prelude.{◌≡◌, ◌<◌, ◌↔◌, IsTrue, MatchOption, length};
+ghost use Rattle.std.specs.List.{AllByRecursion};
+ghost use Rattle.lnt_header.specs.HeaderTests.{IsFirstNot};
+ghost use Rattle.lnt_files.specs.Seen.{first_missing, HasAll, IsFilesFault, IsBelow};
+ghost use Rattle.lnt_files.specs.Tables.{HasUsableFormat, HasPath, AreUsableTables, IsTablesFault};
+
+use crate::ends::StringEnds;
+use crate::tables::{TableFault, is_usable_format};
+use crate::walk::Entries;
+use lnt_header::Which;
+use lnt_header_bytes::{HeaderView, TableView};
+
+/// What is wrong with the directories and files of the header, if its tables aren't usable (DWARF 5, section 6.2.4.1).
+/// The first of these is told, each of the directories before the files: `EntryFormat`, `StringOutside`,
+/// `DirectoryNumber`. It takes no memory, and walks over each table once.
+///
+/// In an entry the first component of a content type counts, and a file without a directory number has directory 0.
+/// A table with entries needs a path in the form `string`, `line_strp` or `strp`; a directory number, where it has
+/// one, has the form `udata`, `data1`, `data2`, `data4` or `data8`, and an MD5 sum `data16`. Other components may have
+/// any form. Each path's text is there, and each file's directory number is below the number of directories.
+pub fn tables_fault(header: &HeaderView<'_>, ends: &StringEnds<'_>) -> Option<TableFault>
+    ensures { MatchOption result (AreUsableTables ends.now.line ends.now.general header.now)
+        (λ fault. IsTablesFault ends.now.line ends.now.general header.now fault) }
+{
+    let directories = header.directories();
+    let files = header.files();
+    if !has_usable_format(directories) {
+        return Some(TableFault::EntryFormat(Which::Directories));
+    }
+    if !has_usable_format(files) {
+        return Some(TableFault::EntryFormat(Which::Files));
+    }
+    if let Some(index) = first_without_path(directories, ends) {
+        return Some(TableFault::StringOutside(Which::Directories, index));
+    }
+    files_fault(files, ends, directories.count())
+}
+
+#[tactic(auto, using(crate::proofs::JudgedLemmas::no_entries))]
+fn has_usable_format(table: &TableView<'_>) -> bool
+    ensures { IsTrue result ↔ HasUsableFormat table.now.pairs table.now.entries }
+{
+    table.count() == 0 || is_usable_format(table.pairs())
+}
+
+// The first of the table's entries whose path's text isn't there.
+#[tactic(auto, using(crate::proofs::JudgedLemmas::all_begun, crate::proofs::JudgedLemmas::all_stepped, crate::proofs::JudgedLemmas::all_done, crate::proofs::JudgedLemmas::all_but, crate::proofs::JudgedLemmas::never_ends))]
+fn first_without_path(table: &TableView<'_>, ends: &StringEnds<'_>) -> Option<u64>
+    ensures { MatchOption result (AllByRecursion (HasPath ends.now.line ends.now.general table.now.pairs) table.now.entries)
+        (λ index. IsFirstNot (HasPath ends.now.line ends.now.general table.now.pairs) table.now.entries index) }
+{
+    let count = table.count();
+    let mut entries = Entries::of(table);
+    for index in 0..count {
+        let Some(entry) = entries.next_entry() else {
+            unreachable!()
+        };
+        if !entry.has_path(ends) {
+            return Some(index);
+        }
+    }
+    None
+}
+
+// What is wrong with the files, of which the format is usable, where so many directories are there.
+#[tactic(auto, using(crate::proofs::JudgedLemmas::files_begun, crate::proofs::JudgedLemmas::files_stepped, crate::proofs::JudgedLemmas::files_never_end, crate::proofs::JudgedLemmas::files_but, crate::proofs::JudgedLemmas::files_sound, crate::proofs::JudgedLemmas::files_missing))]
+fn files_fault(files: &TableView<'_>, ends: &StringEnds<'_>, directories: u64) -> Option<TableFault>
+    ensures { MatchOption result (HasAll ends.now.line ends.now.general directories files.now)
+        (λ fault. IsFilesFault ends.now.line ends.now.general directories files.now fault) }
+{
+    let count = files.count();
+    let mut entries = Entries::of(files);
+    let mut missing = None;
+    for index in 0..count {
+        let Some(file) = entries.next_entry() else {
+            unreachable!()
+        };
+        if !file.has_path(ends) {
+            return Some(TableFault::StringOutside(Which::Files, index));
+        }
+        missing = first_missing(missing, index, file.directory_number() < directories);
+    }
+    match missing {
+        Some(index) => Some(TableFault::DirectoryNumber(index)),
+        None => None,
+    }
+}
+
+// The first index that is missing, once it is told whether this one is there.
+#[inline(always)]
+fn first_missing(missing: Option<u64>, index: u64, is_there: bool) -> Option<u64>
+    ensures { result ≡ first_missing missing index is_there }
+{
+    match missing {
+        Some(_) => missing,
+        None => { if is_there { None } else { Some(index) } }
+    }
+}

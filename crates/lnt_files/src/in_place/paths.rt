@@ -1,0 +1,130 @@
+//! The paths and MD5 sums of files, each made when it is asked for (DWARF 5, section 6.2.4.1).
+ghost use Rattle.std.specs.Prelude.{◌≡◌, ◌<◌, ◌↔◌, length, IfOk, IsSome};
+ghost use Rattle.std.specs.Option.{option_map};
+ghost use Rattle.lnt_header.specs.declared.header.Entry.{Entry};
+ghost use Rattle.lnt_files.specs.Paths.{join, directory_text, directory_path, file_path, path_bytes, listed_sum};
+ghost use Rattle.lnt_files.specs.Pieces.{whole_path};
+ghost use Rattle.lnt_files.specs.Seen.{EntryAt};
+ghost use Rattle.lnt_files.specs.Tables.{AreUsableTables};
+ghost use Rattle.lnt_files.specs.Walks.{Says};
+
+use crate::contents::{MD5, place_of};
+use crate::paths::{Pieces, add_pieces, begins_with_slash};
+use crate::walk::{Entries, EntryView};
+use lnt_header_bytes::{HeaderView, TableView};
+use lnt_wire::Strings;
+use std::alloc::{AllocError, Global};
+
+/// How many files the header has. It takes no memory.
+pub fn file_count(header: &HeaderView<'_>) -> u64
+    ensures { result ≡ length header.now.files }
+{
+    header.files().count()
+}
+
+/// The MD5 sum that is listed of the file, in the form `data16`. None where it lists none, or isn't there. Files count
+/// from 0. It takes no memory, and passes some files before it, as `path_of` does, unless none of them can list a sum.
+#[tactic(auto, using(crate::proofs::AtLemmas::none_listed))]
+pub fn listed(header: &HeaderView<'_>, file: u64) -> Option<[u8; 16]>
+    ensures { result ≡ listed_sum header.now file }
+{
+    let files = header.files();
+    place_of(MD5, files.pairs())?;
+    entry_at(files, file)?.listed()
+}
+
+/// The path of the file, as the crate's `path_of` gives it. None exactly where the file isn't there. Files count from 0.
+/// It passes the files before it, and the directories before its own; of a kept header fewer than 64 of each.
+///
+/// The caller sees to it that the header's tables are usable, which `tables_fault` tests. It refuses only where memory
+/// runs out.
+pub fn path_of(
+    alloc: Global,
+    header: &HeaderView<'_>,
+    strings: Strings<'_>,
+    file: u64,
+) -> Result<Option<Vec<u8>>, AllocError>
+    requires { AreUsableTables strings.line.now strings.general.now header.now }
+    ensures path { IfOk result (λ path. option_map (λ path. path.items) path ≡ path_bytes strings.entry.line.now strings.entry.general.now header.now file) }
+    ensures there { IfOk result (λ path. IsSome path ↔ (file < length header.now.files)) }
+{
+    let Some(entry) = entry_at(header.files(), file) else {
+        return Ok(None);
+    };
+    let Some(pieces) = pieces_of(header, strings, entry) else {
+        unreachable!()
+    };
+    let mut path = Vec::new(alloc);
+    add_pieces(&mut path, &pieces)?;
+    Ok(Some(path))
+}
+
+// What the entry of this number says. None where it isn't there.
+#[tactic(auto, using(crate::proofs::AtLemmas::behind_first, crate::proofs::AtLemmas::behind_more, crate::proofs::AtLemmas::not_there, crate::proofs::AtLemmas::entry_is, crate::proofs::AtLemmas::there))]
+fn entry_at<'t>(table: &'t TableView<'t>, number: u64) -> Option<EntryView<'t>>
+    ensures { EntryAt table.entry.now number result }
+{
+    if number >= table.count() {
+        return None;
+    }
+    let (first, mut entries) = Entries::before(table, number);
+    for _ in first..number {
+        if entries.next_entry().is_none() {
+            unreachable!()
+        }
+    }
+    entries.next_entry()
+}
+
+// The pieces of the path of a file, which says this. None where a text isn't there.
+fn pieces_of<'s>(
+    header: &'s HeaderView<'s>,
+    strings: Strings<'s>,
+    file: EntryView<'s>,
+) -> Option<Pieces<'s>>
+    ensures { (entry : Entry) → Says header.entry.now.file_format entry file.entry
+        → option_map whole_path result ≡ file_path strings.entry.line.now strings.entry.general.now header.entry.now entry }
+{
+    let name = file.path_text(strings)?;
+    if begins_with_slash(name) {
+        return Some(Pieces {
+            first: &[],
+            directory: &[],
+            name,
+        });
+    }
+    let (first, directory) = directory_pieces(header, strings, file.directory_number())?;
+    Some(Pieces {
+        first,
+        directory,
+        name,
+    })
+}
+
+// The two pieces of a directory's path.
+fn directory_pieces<'s>(
+    header: &'s HeaderView<'s>,
+    strings: Strings<'s>,
+    number: u64,
+) -> Option<(&'s [u8], &'s [u8])>
+    ensures { option_map (λ pieces. join pieces.0.now pieces.1.now) result ≡ directory_path strings.entry.line.now strings.entry.general.now header.entry.now number }
+{
+    let directory = directory_text(header, strings, number)?;
+    if number == 0 || begins_with_slash(directory) {
+        return Some((&[], directory));
+    }
+    let first = directory_text(header, strings, 0)?;
+    Some((first, directory))
+}
+
+// The text of the directory of this number.
+#[tactic(auto, using(crate::proofs::AtLemmas::directory_text_is, crate::proofs::AtLemmas::no_directory_text))]
+fn directory_text<'s>(
+    header: &'s HeaderView<'s>,
+    strings: Strings<'s>,
+    number: u64,
+) -> Option<&'s [u8]>
+    ensures { option_map (λ text. text.now) result ≡ directory_text strings.entry.line.now strings.entry.general.now header.entry.now number }
+{
+    entry_at(header.directories(), number)?.path_text(strings)
+}

@@ -1,0 +1,75 @@
+//! What may be wrong with the tables of a header, and the formats that are usable (DWARF 5, section 6.2.4.1).
+ghost use Rattle.std.specs.Prelude.{◌↔◌, IsTrue, IsSomeAnd, IfSome};
+ghost use Rattle.lnt_files.specs.Contents.{content_path, content_directory_index, content_md5, form_at};
+ghost use Rattle.lnt_files.specs.Tables.{IsPathForm, IsNumberForm, IsSumForm, IsUsableFormat};
+
+use crate::contents::{DIRECTORY_INDEX, MD5, PATH, form_at};
+use lnt_header::{Pair, Which};
+use lnt_wire::Form;
+
+/// Why the directories and files of a header can't be used. Indices count from 0.
+#[derive(Clone, Copy, Debug, PartialEq, Eq)]
+pub enum TableFault {
+    /// A table with entries whose format has no path, or a path, a directory number or an MD5 sum in a form that it
+    /// may not have.
+    EntryFormat(Which),
+    /// The first entry whose path's text isn't there.
+    StringOutside(Which, u64),
+    /// The first file that names a directory that isn't there.
+    DirectoryNumber(u64),
+}
+
+/// Whether the format is usable.
+pub(crate) fn is_usable_format(pairs: &[Pair]) -> bool
+    ensures { IsTrue result ↔ IsUsableFormat pairs.now }
+{
+    has_path_form(pairs) && has_number_form(pairs) && has_sum_form(pairs)
+}
+
+fn has_path_form(pairs: &[Pair]) -> bool
+    ensures { IsTrue result ↔ IsSomeAnd (form_at content_path pairs.now) IsPathForm }
+{
+    match form_at(PATH, pairs) {
+        Some(form) => is_path_form(form),
+        None => false,
+    }
+}
+
+fn has_number_form(pairs: &[Pair]) -> bool
+    ensures { IsTrue result ↔ IfSome (form_at content_directory_index pairs.now) IsNumberForm }
+{
+    match form_at(DIRECTORY_INDEX, pairs) {
+        Some(form) => is_number_form(form),
+        None => true,
+    }
+}
+
+fn has_sum_form(pairs: &[Pair]) -> bool
+    ensures { IsTrue result ↔ IfSome (form_at content_md5 pairs.now) IsSumForm }
+{
+    match form_at(MD5, pairs) {
+        Some(form) => is_sum_form(form),
+        None => true,
+    }
+}
+
+fn is_path_form(form: Form) -> bool
+    ensures { IsTrue result ↔ IsPathForm form }
+{
+    matches!(form, Form::Text | Form::LineStrp | Form::Strp)
+}
+
+fn is_number_form(form: Form) -> bool
+    ensures { IsTrue result ↔ IsNumberForm form }
+{
+    matches!(
+        form,
+        Form::Udata | Form::Data1 | Form::Data2 | Form::Data4 | Form::Data8
+    )
+}
+
+fn is_sum_form(form: Form) -> bool
+    ensures { IsTrue result ↔ IsSumForm form }
+{
+    matches!(form, Form::Data16)
+}

@@ -1,0 +1,99 @@
+//! The entries of a table one after another, each read where it lies.
+ghost use Rattle.std.specs.Prelude.{◌≡◌, ◌↔◌, ◌<◌, ◌≤◌, IsTrue, length};
+ghost use Rattle.lnt_header_bytes.specs.Marks.{from_entry};
+ghost use Rattle.lnt_files.specs.Walks.{EntryStep};
+
+use crate::components::{Places, Usual, places_of, read_entry, usual_of};
+use lnt_header_bytes::TableView;
+use lnt_wire::{Cursor, ValueView};
+use std::marker::Model;
+
+/// What an entry says by its content types (DWARF 5, section 6.2.4.1), of each of which the first component counts. None
+/// where the entry has no component of a type.
+#[derive(Clone, Copy, Debug)]
+pub struct EntryView<'a> {
+    /// The path.
+    pub path: Option<ValueView<'a>>,
+    /// The number of the directory.
+    pub directory: Option<ValueView<'a>>,
+    /// The MD5 sum.
+    pub sum: Option<ValueView<'a>>,
+}
+
+/// A walk over the entries of a table in order, each read where it lies. It takes no memory.
+///
+/// Contracts see the table with the entries that are left.
+#[derive(Drop)]
+pub struct Entries<'t> {
+    table: &'t TableView<'t>,
+    usual: Usual,
+    places: Places,
+    left: u64,
+    cursor: Cursor<'t>,
+}
+
+impl<'t> Model for Entries<'t> {
+    ghost use Rattle.lnt_header_bytes.specs.Borrowed.{BorrowedTable};
+    ghost use Rattle.lnt_files.specs.Walks.{IsWalk, left_of};
+
+    ghost Value = { BorrowedTable };
+
+    ghost view = { λ w. left_of w.table.now w.left w.cursor };
+
+    ghost invariant = { λ w. IsWalk w.table.now w.usual w.places w.left w.cursor };
+}
+
+impl<'t> Entries<'t> {
+    /// A walk before the first entry of the table.
+    #[tactic(auto, using(crate::proofs::WalkLemmas::walk_begun, crate::proofs::WalkLemmas::begun_is))]
+    pub fn of(table: &'t TableView<'t>) -> Entries<'t>
+        ensures { result ≡ table.entry.now }
+    {
+        let pairs = table.pairs();
+        Entries {
+            table,
+            usual: usual_of(pairs),
+            places: places_of(pairs),
+            left: table.count(),
+            cursor: table.cursor(),
+        }
+    }
+
+    /// A walk before the entry of this number or an earlier one, and the number of that entry. It is near where the
+    /// table has marks.
+    #[tactic(auto, using(crate::proofs::WalkLemmas::walk_before, crate::proofs::WalkLemmas::before_is))]
+    pub(crate) fn before(table: &'t TableView<'t>, number: u64) -> (u64, Entries<'t>)
+        requires { number < length table.now.entries }
+        ensures first { result.0 ≤ number }
+        ensures walk { result.1 ≡ from_entry result.0 table.entry.now }
+    {
+        let (first, cursor) = table.cursor_before(number);
+        let pairs = table.pairs();
+        let entries = Entries {
+            table,
+            usual: usual_of(pairs),
+            places: places_of(pairs),
+            left: table.count() - first,
+            cursor,
+        };
+        (first, entries)
+    }
+
+    /// What the next entry says. None behind the last one.
+    #[inline(always)]
+    #[tactic(auto, using(crate::proofs::WalkLemmas::walk_ended, crate::proofs::WalkLemmas::walk_steps, crate::proofs::WalkLemmas::walk_goes_on, crate::proofs::WalkLemmas::walk_never_stops))]
+    pub fn next_entry(&mut self) -> Option<EntryView<'t>>
+        ensures { EntryStep self.old result self.new }
+    {
+        if self.left == 0 {
+            return None;
+        }
+        let format = self.table.format();
+        let pairs = self.table.pairs();
+        let Ok(entry) = read_entry(&mut self.cursor, format, pairs, self.usual, self.places) else {
+            unreachable!()
+        };
+        self.left -= 1;
+        Some(entry)
+    }
+}

@@ -1,5 +1,0 @@
-use Rattle.lnt_rows.specs.Laws.Units.{collects_unit}
-use Rattle.lnt_rows.proofs.laws.collected_unit.Goals as goal
-
-pub returns : goal.returns
-returns c = λ dead unit collected ss runs few rows. collects_unit dead unit collected ss runs few rows

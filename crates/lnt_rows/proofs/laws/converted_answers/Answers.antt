@@ -1,5 +1,0 @@
-use Rattle.lnt_rows.proofs.ConvertedLemmas as lemma
-use Rattle.lnt_rows.proofs.laws.converted_answers.Goals as goal
-
-pub returns : goal.returns
-returns c = lemma.converted_answers c.same_matrix.ensures

@@ -1,5 +1,0 @@
-use Rattle.lnt_rows.specs.Laws.Units.{distinct_sequences}
-use Rattle.lnt_rows.proofs.laws.distinct_sequences.Goals as goal
-
-pub returns : goal.returns
-returns c = λ dead units differ. distinct_sequences dead units differ

@@ -1,5 +1,0 @@
-use Rattle.lnt_rows.proofs.ExtentLemmas.{overlap_is_not_apart}
-use Rattle.lnt_rows.proofs.laws.overlap_is_not_apart.Goals as goal
-
-pub returns : goal.returns
-returns c = λ ss overlap is apart. overlap_is_not_apart ss overlap is apart

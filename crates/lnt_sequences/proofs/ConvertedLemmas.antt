@@ -1,0 +1,217 @@
+-- Sections whose units stand one for one, with the same rows, answer alike.
+use Rattle.std.proofs.Common.{◌≡◌, ℕ, suc, ◌+◌, Bool, true, false, not, ◌||◌, cond, List, [], ◌∷◌, ◌++◌, map, Option}
+use Rattle.std.proofs.Common.{Some, None, refl, sym, ap, ◌∙◌, subst, arith, append_assoc}
+use Rattle.std.specs.List.{AllPairs, AllZip, filter, find, list_any}
+use Rattle.std.specs.Option.{option_and_then, option_map}
+use Rattle.lnt_wire.specs.declared.format.Format.{Format}
+use Rattle.lnt_wire.specs.declared.format.Order.{Order}
+use Rattle.lnt_unit.specs.Converting.{unit_in_format}
+use Rattle.lnt_unit.specs.declared.unit.Parts.{Parts}
+use Rattle.lnt_machine.specs.declared.row.Row.{Row}
+use Rattle.lnt_machine.specs.declared.row.Sequence.{Sequence}
+use Rattle.lnt_machine.specs.Laws.{SameMatrix}
+use Rattle.lnt_machine.specs.Matrix.{sequences}
+use Rattle.lnt_spans.specs.declared.position.Position.{Position}
+use Rattle.lnt_sequences.specs.Laws.{AreAlike, ConvertedAnswers, StandAlike}
+use Rattle.lnt_sequences.specs.Laws.Kept.{copy_by_look_back, IsBefore, rising_sequences}
+use Rattle.lnt_sequences.specs.Laws.Units.{offsets_rise}
+use Rattle.lnt_sequences.specs.Laws.Walks.{placed_from}
+use Rattle.lnt_sequences.specs.Sequences.{answer_of, are_live, hold_alike, holds, is_copy, is_live, kept_of, kept_sequences}
+use Rattle.lnt_sequences.specs.Sequences.{live_in, live_sequences, Placed, placed_in, row_at}
+
+-- ---- lists, element for element
+
+zip_to : {X Y : Type 0} (R Q : X → Y → Type 0) → ((x : X) (y : Y) → R x y → Q x y) → (xs : List X) (ys : List Y) → AllZip R xs ys
+    → AllZip Q xs ys
+zip_to R Q to [] [] z = tt
+zip_to R Q to [] (y ∷ ys) z = absurd z
+zip_to R Q to (x ∷ xs) [] z = absurd z
+zip_to R Q to (x ∷ xs) (y ∷ ys) z = (to x y z.0, zip_to R Q to xs ys z.1)
+
+zip_append : {X Y : Type 0} (R : X → Y → Type 0) (xs : List X) (ys : List Y) (us : List X) (vs : List Y) → AllZip R xs ys → AllZip R us vs
+    → AllZip R (xs ++ us) (ys ++ vs)
+zip_append R [] [] us vs z w = w
+zip_append R [] (y ∷ ys) us vs z w = absurd z
+zip_append R (x ∷ xs) [] us vs z w = absurd z
+zip_append R (x ∷ xs) (y ∷ ys) us vs z w = (z.0, zip_append R xs ys us vs z.1 w)
+
+zip_filter : {X Y : Type 0} (R : X → Y → Type 0) (test : X → Bool) (other : Y → Bool) → ((x : X) (y : Y) → R x y → test x ≡ other y)
+    → (xs : List X) (ys : List Y) → AllZip R xs ys
+    → AllZip R (filter test xs) (filter other ys)
+zip_filter R test other same [] [] z = tt
+zip_filter R test other same [] (y ∷ ys) z = absurd z
+zip_filter R test other same (x ∷ xs) [] z = absurd z
+zip_filter R test other same (x ∷ xs) (y ∷ ys) z = by_test (test x) (other y) (same x y z.0) (zip_filter R test other same xs ys z.1)
+  where
+    by_test : (s t : Bool) → s ≡ t → AllZip R (filter test xs) (filter other ys)
+        → AllZip R (cond s (x ∷ filter test xs) (filter test xs)) (cond t (y ∷ filter other ys) (filter other ys))
+    by_test true true e rest = (z.0, rest)
+    by_test true false e rest = absurd cc
+    by_test false true e rest = absurd cc
+    by_test false false e rest = rest
+
+-- what a test finds in both
+abbrev FoundAlike : {X Y : Type 0} → (X → Y → Type 0) → Option X → Option Y → Type 0
+FoundAlike R None None = Unit {0}
+FoundAlike R (Some x) (Some y) = R x y
+FoundAlike R _ _ = ⊥
+
+zip_find : {X Y : Type 0} (R : X → Y → Type 0) (test : X → Bool) (other : Y → Bool) → ((x : X) (y : Y) → R x y → test x ≡ other y)
+    → (xs : List X) (ys : List Y) → AllZip R xs ys
+    → FoundAlike R (find test xs) (find other ys)
+zip_find R test other same [] [] z = tt
+zip_find R test other same [] (y ∷ ys) z = absurd z
+zip_find R test other same (x ∷ xs) [] z = absurd z
+zip_find R test other same (x ∷ xs) (y ∷ ys) z = by_test (test x) (other y) (same x y z.0) (zip_find R test other same xs ys z.1)
+  where
+    by_test : (s t : Bool) → s ≡ t → FoundAlike R (find test xs) (find other ys)
+        → FoundAlike R (cond s (Some x) (find test xs)) (cond t (Some y) (find other ys))
+    by_test true true e rest = z.0
+    by_test true false e rest = absurd cc
+    by_test false true e rest = absurd cc
+    by_test false false e rest = rest
+
+-- ---- the sequences of two units with the same rows
+
+-- the same rows, in the units at these offsets
+record IsTwin (unit other : ℕ) (one two : Placed) : Type 0 where
+  rows_are : one.rows ≡ two.rows
+  unit_is : one.id.unit ≡ unit
+  other_is : two.id.unit ≡ other
+
+twins : (unit other index : ℕ) (ss : List Sequence) → AllZip (IsTwin unit other) (placed_from unit index ss) (placed_from other index ss)
+twins unit other index [] = tt
+twins unit other index (s ∷ ss) = (record { rows_are = refl; unit_is = refl; other_is = refl }, twins unit other (index + 1) ss)
+
+unit_twins : (unit other : ℕ × Parts) → sequences other.1 ≡ sequences unit.1
+    → AllZip (IsTwin unit.0 other.0) (placed_in unit) (placed_in other)
+unit_twins unit other same =
+    subst (λ (ss : List Sequence). AllZip (IsTwin unit.0 other.0) (placed_in unit) (placed_from other.0 0 ss)) (sym same)
+    (twins unit.0 other.0 0 (sequences unit.1))
+
+live_twins : (dead : Option ℕ) (unit other : ℕ × Parts) → sequences other.1 ≡ sequences unit.1
+    → AllZip (IsTwin unit.0 other.0) (live_in dead unit) (live_in dead other)
+live_twins dead unit other same =
+    zip_filter (IsTwin unit.0 other.0) (is_live dead) (is_live dead) (λ one two t. ap (are_live dead) t.rows_are) (placed_in unit)
+    (placed_in other) (unit_twins unit other same)
+
+-- ---- the sequences of two sections
+
+-- the same rows, in units that stand alike
+record AreTwins (units others : List (ℕ × Parts)) (one two : Placed) : Type 0 where
+  rows_are : one.rows ≡ two.rows
+  stand : StandAlike units others one.id.unit two.id.unit
+
+later_twins : (unit other : ℕ × Parts) (units others : List (ℕ × Parts)) (one two : Placed) → AreTwins units others one two
+    → AreTwins (unit ∷ units) (other ∷ others) one two
+later_twins unit other units others one two t =
+    let s = t.stand in
+    record {
+      rows_are = t.rows_are;
+      stand = record { place = suc s.place; within = omega (arith, s.within); unit_is = s.unit_is; other_is = s.other_is };
+    }
+
+here_twins : (unit other : ℕ × Parts) (units others : List (ℕ × Parts)) (one two : Placed) → IsTwin unit.0 other.0 one two
+    → AreTwins (unit ∷ units) (other ∷ others) one two
+here_twins unit other units others one two t =
+    record {
+      rows_are = t.rows_are;
+      stand = record { place = 0; within = omega arith; unit_is = λ d. t.unit_is; other_is = λ d. t.other_is };
+    }
+
+section_twins : SameMatrix → (dead : Option ℕ) (format : Format) (order : Order) (units others : List (ℕ × Parts))
+    → map (λ unit. unit.1) others ≡ map (λ unit. unit_in_format unit.1 format order) units
+    → AllZip (AreTwins units others) (live_sequences dead units) (live_sequences dead others)
+section_twins law dead format order [] [] e = tt
+section_twins law dead format order [] (other ∷ others) e = absurd cc
+section_twins law dead format order (unit ∷ units) [] e = absurd cc
+section_twins law dead format order (unit ∷ units) (other ∷ others) e =
+    let heads : other.1 ≡ unit_in_format unit.1 format order = cc in
+    let tails : map (λ (u : ℕ × Parts). u.1) others ≡ map (λ (u : ℕ × Parts). unit_in_format u.1 format order) units = cc in
+    let same : sequences other.1 ≡ sequences unit.1 = ap sequences heads ∙ law.same_sequences unit.1 format order in
+    zip_append (AreTwins (unit ∷ units) (other ∷ others)) (live_in dead unit) (live_in dead other) (live_sequences dead units)
+    (live_sequences dead others)
+    (zip_to (IsTwin unit.0 other.0) (AreTwins (unit ∷ units) (other ∷ others)) (here_twins unit other units others) (live_in dead unit)
+    (live_in dead other) (live_twins dead unit other same))
+    (zip_to (AreTwins units others) (AreTwins (unit ∷ units) (other ∷ others)) (later_twins unit other units others)
+    (live_sequences dead units) (live_sequences dead others)
+    (section_twins law dead format order units others tails))
+
+-- ---- those that are kept
+
+abbrev SameRows : Placed → Placed → Type 0
+SameRows one two = one.rows ≡ two.rows
+
+any_alike : (rows others : List Row) (seen found : List Placed) → rows ≡ others → AllZip SameRows seen found
+    → list_any (λ (e : Placed). hold_alike rows e.rows) seen ≡ list_any (λ (e : Placed). hold_alike others e.rows) found
+any_alike rows others [] [] same z = refl
+any_alike rows others [] (t ∷ found) same z = absurd z
+any_alike rows others (s ∷ seen) [] same z = absurd z
+any_alike rows others (s ∷ seen) (t ∷ found) same z =
+    ap (λ (list : List Row). hold_alike list s.rows || list_any (λ (e : Placed). hold_alike rows e.rows) seen) same
+    ∙ ap (λ (list : List Row). hold_alike others list || list_any (λ (e : Placed). hold_alike rows e.rows) seen) z.0
+    ∙ ap (λ (b : Bool). hold_alike others t.rows || b) (any_alike rows others seen found same z.1)
+
+-- lists with the same rows, element for element, each in the order of its section: those after the ones seen
+kept_twins : (R : Placed → Placed → Type 0) → ((s t : Placed) → R s t → SameRows s t) → (all others seen found ss ts : List Placed)
+    → all ≡ seen ++ ss → others ≡ found ++ ts
+    → AllPairs IsBefore all → AllPairs IsBefore others → AllZip SameRows seen found → AllZip R ss ts
+    → AllZip R (filter (λ (s : Placed). not (is_copy all s)) ss) (filter (λ (t : Placed). not (is_copy others t)) ts)
+kept_twins R rows all others seen found [] [] are are' order order' before z = tt
+kept_twins R rows all others seen found [] (t ∷ ts) are are' order order' before z = absurd z
+kept_twins R rows all others seen found (s ∷ ss) [] are are' order order' before z = absurd z
+kept_twins R rows all others seen found (s ∷ ss) (t ∷ ts) are are' order order' before z =
+    let left : is_copy all s ≡ list_any (λ (e : Placed). hold_alike s.rows e.rows) seen =
+    ap (λ (list : List Placed). is_copy list s) are ∙ copy_by_look_back seen s ss (subst (AllPairs IsBefore) are order) in
+    let right : is_copy others t ≡ list_any (λ (e : Placed). hold_alike t.rows e.rows) found =
+    ap (λ (list : List Placed). is_copy list t) are' ∙ copy_by_look_back found t ts (subst (AllPairs IsBefore) are' order') in
+    let same : is_copy all s ≡ is_copy others t = left ∙ any_alike s.rows t.rows seen found (rows s t z.0) before ∙ sym right in
+    by_test (not (is_copy all s)) (not (is_copy others t)) (ap not same)
+    (kept_twins R rows all others (seen ++ s ∷ []) (found ++ t ∷ []) ss ts (are ∙ sym (append_assoc seen (s ∷ []) ss))
+    (are' ∙ sym (append_assoc found (t ∷ []) ts)) order order'
+    (zip_append SameRows seen found (s ∷ []) (t ∷ []) before (rows s t z.0, tt)) z.1)
+  where
+    by_test : (a b : Bool) → a ≡ b
+        → AllZip R (filter (λ (s : Placed). not (is_copy all s)) ss) (filter (λ (t : Placed). not (is_copy others t)) ts)
+        → AllZip R (cond a (s ∷ filter (λ (s : Placed). not (is_copy all s)) ss) (filter (λ (s : Placed). not (is_copy all s)) ss))
+        (cond b (t ∷ filter (λ (t : Placed). not (is_copy others t)) ts) (filter (λ (t : Placed). not (is_copy others t)) ts))
+    by_test true true e rest = (z.0, rest)
+    by_test true false e rest = absurd cc
+    by_test false true e rest = absurd cc
+    by_test false false e rest = rest
+
+kept_alike : (R : Placed → Placed → Type 0) → ((s t : Placed) → R s t → SameRows s t) → (skip : Bool) (ss ts : List Placed)
+    → AllPairs IsBefore ss → AllPairs IsBefore ts → AllZip R ss ts
+    → AllZip R (kept_of skip ss) (kept_of skip ts)
+kept_alike R rows false ss ts order order' z = z
+kept_alike R rows true ss ts order order' z = kept_twins R rows ss ts [] [] ss ts refl refl order order' tt z
+
+-- ---- answers
+
+row_alike : (units others : List (ℕ × Parts)) (unit other : ℕ) (row : Option Row) → StandAlike units others unit other
+    → AreAlike units others (option_map (answer_of unit) row) (option_map (answer_of other) row)
+row_alike units others unit other None s = tt
+row_alike units others unit other (Some row) s = record { stand = s; same = refl }
+
+said_alike : (units others : List (ℕ × Parts)) (p : Position) (one two : Option Placed) → FoundAlike (AreTwins units others) one two
+    → AreAlike units others (option_and_then (λ (placed : Placed). option_map (answer_of placed.id.unit) (row_at p placed.rows)) one)
+    (option_and_then (λ (placed : Placed). option_map (answer_of placed.id.unit) (row_at p placed.rows)) two)
+said_alike units others p None None t = tt
+said_alike units others p None (Some two) t = absurd t
+said_alike units others p (Some one) None t = absurd t
+said_alike units others p (Some one) (Some two) t =
+    subst (λ (rows : List Row). AreAlike units others (option_map (answer_of one.id.unit) (row_at p one.rows))
+    (option_map (answer_of two.id.unit) (row_at p rows))) t.rows_are
+    (row_alike units others one.id.unit two.id.unit (row_at p one.rows) t.stand)
+
+pub converted_answers : SameMatrix → ConvertedAnswers
+converted_answers law order section format to result c dead skip p =
+    said_alike c.units c.others p (find (λ (s : Placed). holds p s.rows) (kept_sequences dead skip c.units))
+    (find (λ (s : Placed). holds p s.rows) (kept_sequences dead skip c.others))
+    (zip_find (AreTwins c.units c.others) (λ (s : Placed). holds p s.rows) (λ (s : Placed). holds p s.rows)
+    (λ one two t. ap (holds p) t.rows_are)
+    (kept_sequences dead skip c.units) (kept_sequences dead skip c.others)
+    (kept_alike (AreTwins c.units c.others) (λ one two t. t.rows_are) skip (live_sequences dead c.units) (live_sequences dead c.others)
+    (rising_sequences dead c.units (offsets_rise order 0 c.units section c.sound))
+    (rising_sequences dead c.others (offsets_rise to 0 c.others result c.spelled))
+    (section_twins law dead format to c.units c.others c.same)))

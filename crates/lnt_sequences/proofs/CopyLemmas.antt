@@ -1,0 +1,339 @@
+-- Extents in an order in which copies stand after what they are copies of: there the copies are those that begin and end as the
+-- one before them does.
+use Rattle.std.proofs.Common.{◌≡◌, ◌≢◌, ℕ, zero, suc, ◌<◌, ◌≤◌, Bool, true, false, not, ◌&&◌, cond, List, [], ◌∷◌, ◌++◌}
+use Rattle.std.proofs.Common.{refl, sym, ap, ◌∙◌, subst, arith, length, get_or, ⊎_elim, add-one, append_assoc, is_lt}
+use Rattle.std.proofs.Common.{nat_cmp}
+use Rattle.std.specs.List.{All, AllPairs, Contains, dedup, dedup_from, filter, flat_map}
+use Rattle.std.specs.List.Sorted.{IsPermutation}
+use Rattle.std.specs.Ordering.{ordering_then}
+use Rattle.std.proofs.lemmas.Bool.{cases_lt, true≢false}
+use Rattle.std.proofs.lemmas.Bool.Decides.{nat_tests}
+use Rattle.std.proofs.lemmas.List.Elements.{All-append, All-cons, All-nil, All-tail, All-weaker}
+use Rattle.std.proofs.lemmas.List.Folds.{list_any_at, list_any_none}
+use Rattle.std.proofs.lemmas.List.Sorted.{list_any-IsPermutation}
+use Rattle.lnt_spans.specs.declared.position.Position.{Position}
+use Rattle.lnt_spans.specs.Laws.EachTwo.{each_two_from_pairs, each_two_permutation, pairs_cons, pairs_from_each_two, pairs_head, pairs_tail}
+use Rattle.lnt_spans.specs.Laws.Positions.{at_most_itself, at_most_trans}
+use Rattle.lnt_sequences.specs.declared.extent.Extent.{Extent}
+use Rattle.lnt_sequences.specs.declared.sequence.SeqId.{SeqId}
+use Rattle.lnt_sequences.specs.Extents.{AreGathered, end_alike, EndsNoLater, is_copied, IsNotLater, kept_extents}
+use Rattle.lnt_sequences.specs.Sequences.{stands_before}
+use Rattle.lnt_sequences.proofs.ExtentLemmas.{Contains-behind}
+use Rattle.lnt_sequences.proofs.SpansOfLemmas.{pieces_permuted}
+
+-- ---- extents that begin and end at the same positions
+
+pub record Alike (a b : Extent) : Type 0 where
+  pub low_address : a.low.address ≡ b.low.address
+  pub low_op : a.low.op ≡ b.low.op
+  pub high_address : a.high.address ≡ b.high.address
+  pub high_op : a.high.op ≡ b.high.op
+
+alike_is : (a b : Extent) → end_alike a b ≡ true → Alike a b
+alike_is a b t = record {
+  low_address = grind (arith, nat_tests);
+  low_op = grind (arith, nat_tests);
+  high_address = grind (arith, nat_tests);
+  high_op = grind (arith, nat_tests);
+}
+
+alike_test : (a b : Extent) → Alike a b → end_alike a b ≡ true
+alike_test a b h = grind (arith, nat_tests)
+
+alike_back : (a b : Extent) → Alike a b → Alike b a
+alike_back a b h = record {
+  low_address = sym h.low_address;
+  low_op = sym h.low_op;
+  high_address = sym h.high_address;
+  high_op = sym h.high_op;
+}
+
+alike_trans : (a b c : Extent) → Alike a b → Alike b c → Alike a c
+alike_trans a b c h k = record {
+  low_address = h.low_address ∙ k.low_address;
+  low_op = h.low_op ∙ k.low_op;
+  high_address = h.high_address ∙ k.high_address;
+  high_op = h.high_op ∙ k.high_op;
+}
+
+alike_itself : (a : Extent) → Alike a a
+alike_itself a = record { low_address = refl; low_op = refl; high_address = refl; high_op = refl }
+
+-- where the relation doesn't hold, the test says so
+not_alike : (a b : Extent) → (Alike a b → ⊥) → end_alike a b ≡ false
+not_alike a b h = by_test (end_alike a b) refl
+  where
+    by_test : (t : Bool) → end_alike a b ≡ t → end_alike a b ≡ false
+    by_test true e = absurd (h (alike_is a b e))
+    by_test false e = e
+
+-- ---- the order
+
+-- what a sort by these six numbers says of neighbours
+pub ends_no_later : (one other : Extent)
+    → is_lt (ordering_then (ordering_then
+    (ordering_then (ordering_then (ordering_then (nat_cmp other.low.address one.low.address) (nat_cmp other.low.op one.low.op))
+    (nat_cmp other.high.address one.high.address)) (nat_cmp other.high.op
+    one.high.op)) (nat_cmp other.id.unit one.id.unit)) (nat_cmp other.id.index one.id.index)) ≡ false
+    → EndsNoLater one other
+ends_no_later one other h = record {
+  low = record { address = grind (arith, nat_tests); op = λ e. grind (arith, nat_tests) };
+  rest = λ a o. record {
+    low = record { address = grind (arith, nat_tests); op = λ e. grind (arith, nat_tests) };
+    unit = λ e f. grind (arith, nat_tests);
+    index = λ e f g. grind (arith, nat_tests);
+  };
+}
+
+place_itself : (p : Position) (id : SeqId) → IsNotLater p id p id
+place_itself p id = record { low = at_most_itself p; unit = λ _ _. omega arith; index = λ _ _ _. omega arith }
+
+place_trans : (p q r : Position) (a b c : SeqId) → IsNotLater p a q b → IsNotLater q b r c → IsNotLater p a r c
+place_trans p q r a b c h k = record {
+  low = at_most_trans h.low k.low;
+  unit = λ e f. grind arith;
+  index = λ e f g. grind arith;
+}
+
+follows_itself : (a : Extent) → EndsNoLater a a
+follows_itself a = record { low = at_most_itself a.low; rest = λ _ _. place_itself a.high a.id }
+
+-- three in order, of which the outer begin at one position
+record BeginAlike (a b c : Extent) : Type 0 where
+  address : a.low.address ≡ b.low.address
+  op : a.low.op ≡ b.low.op
+  address' : b.low.address ≡ c.low.address
+  op' : b.low.op ≡ c.low.op
+
+begin_alike : (a b c : Extent) → EndsNoLater a b → EndsNoLater b c → a.low.address ≡ c.low.address → a.low.op ≡ c.low.op → BeginAlike a b c
+begin_alike a b c h k e f =
+    let x = h.low.address in
+    let y = k.low.address in
+    let same : a.low.address ≡ b.low.address = omega arith in
+    let same' : b.low.address ≡ c.low.address = omega arith in
+    let u = h.low.op same in
+    let v = k.low.op same' in
+    record { address = same; op = omega arith; address' = same'; op' = omega arith }
+
+follows_trans : (a b c : Extent) → EndsNoLater a b → EndsNoLater b c → EndsNoLater a c
+follows_trans a b c h k = record {
+  low = at_most_trans h.low k.low;
+  rest = λ e f. let s = begin_alike a b c h k e f in place_trans a.high b.high c.high a.id b.id c.id (h.rest s.address s.op)
+      (k.rest s.address' s.op');
+}
+
+-- where the outer of three are alike, so are the last two
+between : (a b c : Extent) → EndsNoLater a b → EndsNoLater b c → Alike a c → Alike b c
+between a b c h k s =
+    let begin = begin_alike a b c h k s.low_address s.low_op in
+    let x = h.rest begin.address begin.op in
+    let y = k.rest begin.address' begin.op' in
+    let e = s.high_address in
+    let f = s.high_op in
+    let m = x.low.address in
+    let n = y.low.address in
+    let same : a.high.address ≡ b.high.address = omega arith in
+    let same' : b.high.address ≡ c.high.address = omega arith in
+    let u = x.low.op same in
+    let v = y.low.op same' in
+    record { low_address = begin.address'; low_op = begin.op'; high_address = same'; high_op = omega arith }
+
+-- of those that are alike, the later one doesn't stand before the earlier, and the earlier does where their ids differ
+not_before : (a b : Extent) → EndsNoLater a b → Alike a b → stands_before b.id a.id ≡ false
+not_before a b h s =
+    let rest = h.rest s.low_address s.low_op in
+    let unit = rest.unit s.high_address s.high_op in
+    let index = rest.index s.high_address s.high_op in
+    grind (arith, nat_tests)
+
+id_of : ℕ → ℕ → SeqId
+id_of unit index = record { unit = unit; index = index }
+
+same_id : (a b : SeqId) → a.unit ≡ b.unit → a.index ≡ b.index → a ≡ b
+unfolding id_of
+same_id a b e f = ap (λ (n : ℕ). id_of n a.index) e ∙ ap (id_of b.unit) f
+
+is_before : (a b : Extent) → EndsNoLater a b → Alike a b → a.id ≢ b.id → stands_before a.id b.id ≡ true
+is_before a b h s ne =
+    let rest = h.rest s.low_address s.low_op in
+    let unit = rest.unit s.high_address s.high_op in
+    let index = rest.index s.high_address s.high_op in
+    let differ : a.id.unit ≡ b.id.unit → a.id.index ≡ b.id.index → ⊥ = λ e f. ne (same_id a.id b.id e f) in
+    grind (arith, nat_tests)
+
+-- ---- neighbours in order, so all are
+
+pub gathered_far : (es : List Extent) → AreGathered es → (i j : ℕ) (d : Extent) → i ≤ j → j < length es
+    → EndsNoLater (get_or es i d) (get_or es j d)
+gathered_far es s i zero d h l =
+    let e : i ≡ 0 = omega arith in subst (λ (k : ℕ). EndsNoLater (get_or es k d) (get_or es 0 d)) (sym e) (follows_itself (get_or es 0 d))
+gathered_far es s i (suc j) d h l =
+    ⊎_elim
+    (λ (lt : i < suc j).
+    let next : EndsNoLater (get_or es j d) (get_or es (suc j) d) = rw add-one at (s j d (omega arith)) in
+    follows_trans (get_or es i d) (get_or es j d) (get_or es (suc j) d) (gathered_far es s i j d (omega arith) (omega arith)) next)
+    (λ (le : suc j ≤ i).
+    let e : i ≡ suc j = omega arith in subst (λ (k : ℕ). EndsNoLater (get_or es k d) (get_or es (suc j) d)) (sym e)
+    (follows_itself (get_or es (suc j) d)))
+    (cases_lt i (suc j))
+
+-- ---- which are copies
+
+contains_middle : {X : Type 0} (xs : List X) (x : X) (ys : List X) → Contains (xs ++ x ∷ ys) x
+contains_middle [] x ys = (0, omega arith, refl)
+contains_middle (y ∷ xs) x ys = Contains-behind y (xs ++ x ∷ ys) x (contains_middle xs x ys)
+
+-- whether the one makes the other a copy
+abbrev copies : Extent → Extent → Bool
+copies extent earlier = stands_before earlier.id extent.id && end_alike extent earlier
+
+copied_by : (all : List Extent) (a b : Extent) → Contains all b → stands_before b.id a.id ≡ true → end_alike a b ≡ true
+    → is_copied all a ≡ true
+copied_by all a b c before alike = list_any_at (copies a) all c.0 b c.1 (ap (copies a) c.2 ∙ rw (before, alike) refl)
+
+none_left : (b : Bool) → (b && false) ≡ false
+none_left true = refl
+none_left false = refl
+
+-- one that isn't alike makes no copy, and neither does a later one
+unlike : (a b : Extent) → (Alike a b → ⊥) → copies a b ≡ false
+unlike a b ne = ap (λ (t : Bool). stands_before b.id a.id && t) (not_alike a b ne) ∙ none_left (stands_before b.id a.id)
+
+no_copy_of_later : (a b : Extent) → EndsNoLater a b → copies a b ≡ false
+no_copy_of_later a b h = by_test (end_alike a b) refl
+  where
+    by_test : (t : Bool) → end_alike a b ≡ t → copies a b ≡ false
+    by_test true e = ap (λ (t : Bool). t && end_alike a b) (not_before a b h (alike_is a b e))
+    by_test false e = ap (λ (t : Bool). stands_before b.id a.id && t) e ∙ none_left (stands_before b.id a.id)
+
+abbrev IdDiffers : Extent → Extent → Type 0
+IdDiffers a b = a.id ≢ b.id
+
+-- what comes after the last kept one and is like one of those seen is like the last kept one
+abbrev Stands : Extent → List Extent → Type 0
+Stands last seen = All (λ (e : Extent). (y : Extent) → EndsNoLater last y → Alike e y → Alike last y) seen
+
+all_push : {X : Type 0} (P : X → Type 0) (xs : List X) (x : X) → All P xs → P x → All P (xs ++ x ∷ [])
+all_push P xs x h k = All-append P xs (x ∷ []) h (All-cons P x [] k (All-nil P))
+
+without_second : {X : Type 0} (R : X → X → Type 0) (k x : X) (xs : List X) → AllPairs R (k ∷ x ∷ xs) → AllPairs R (k ∷ xs)
+without_second R k x xs h =
+    pairs_cons R k xs (All-tail (R k) x xs (pairs_head R k (x ∷ xs) h)) (pairs_tail R x xs (pairs_tail R k (x ∷ xs) h))
+
+dedup_from_kept : (all seen : List Extent) (last : Extent) (xs : List Extent) → all ≡ seen ++ xs → Contains all last → Stands last seen
+    → AllPairs EndsNoLater (last ∷ xs)
+    → AllPairs IdDiffers (last ∷ xs) → dedup_from end_alike last xs ≡ last ∷ filter (λ (e : Extent). not (is_copied all e)) xs
+dedup_from_kept all seen last [] are c stands order ids = refl
+dedup_from_kept all seen last (x ∷ xs) are c stands order ids =
+    by_test (end_alike x last) refl
+    (λ e. dedup_from_kept all (seen ++ x ∷ []) last xs goes c (still e) (without_second EndsNoLater last x xs order)
+    (without_second IdDiffers last x xs ids))
+    (dedup_from_kept all (seen ++ x ∷ []) x xs goes here new_stands (pairs_tail EndsNoLater last (x ∷ xs) order)
+    (pairs_tail IdDiffers last (x ∷ xs) ids))
+  where
+    follows : EndsNoLater last x
+    follows = pairs_head EndsNoLater last (x ∷ xs) order 0 x (omega arith)
+
+    goes : all ≡ (seen ++ x ∷ []) ++ xs
+    goes = are ∙ sym (append_assoc seen (x ∷ []) xs)
+
+    here : Contains all x
+    here = subst (λ (list : List Extent). Contains list x) (sym are) (contains_middle seen x xs)
+
+    -- those seen, where x isn't like the last kept one
+    apart : (Alike last x → ⊥) → is_copied all x ≡ false
+    apart ne =
+        let before : All (λ (e : Extent). copies x e ≡ false) seen =
+        All-weaker (λ (e : Extent). (y : Extent) → EndsNoLater last y → Alike e y → Alike last y) (λ (e : Extent). copies x e ≡ false)
+        (λ e s. unlike x e (λ a. ne (s x follows (alike_back x e a)))) seen stands in
+        let behind : All (λ (e : Extent). copies x e ≡ false) xs =
+        All-weaker (EndsNoLater x) (λ (e : Extent). copies x e ≡ false) (λ e h. no_copy_of_later x e h) xs
+        (pairs_head EndsNoLater x xs (pairs_tail EndsNoLater last (x ∷ xs) order)) in
+        list_any_none (copies x) all
+        (subst (All (λ (e : Extent). copies x e ≡ false)) (sym are)
+        (All-append (λ (e : Extent). copies x e ≡ false) seen (x ∷ xs) before
+        (All-cons (λ (e : Extent). copies x e ≡ false) x xs (no_copy_of_later x x (follows_itself x)) behind)))
+
+    new_stands : Stands x (seen ++ x ∷ [])
+    new_stands =
+        all_push (λ (e : Extent). (y : Extent) → EndsNoLater x y → Alike e y → Alike x y) seen x
+        (All-weaker (λ (e : Extent). (y : Extent) → EndsNoLater last y → Alike e y → Alike last y)
+        (λ (e : Extent). (y : Extent) → EndsNoLater x y → Alike e y → Alike x y)
+        (λ e s y f a. between last x y follows f (s y (follows_trans last x y follows f) a)) seen stands)
+        (λ y f a. a)
+
+    still : end_alike x last ≡ true → Stands last (seen ++ x ∷ [])
+    still e =
+        all_push (λ (e : Extent). (y : Extent) → EndsNoLater last y → Alike e y → Alike last y) seen x stands
+        (λ y f a. alike_trans last x y (alike_back x last (alike_is x last e)) a)
+
+    by_test : (t : Bool) → end_alike x last ≡ t
+        → (end_alike x last ≡ true → dedup_from end_alike last xs ≡ last ∷ filter (λ (e : Extent). not (is_copied all e)) xs)
+        → dedup_from end_alike x xs ≡ x ∷ filter (λ (e : Extent). not (is_copied all e)) xs
+        → cond t (dedup_from end_alike last xs) (last ∷ dedup_from end_alike x xs) ≡ last ∷ cond (not (is_copied all x))
+        (x ∷ filter (λ (e : Extent). not (is_copied all e)) xs) (filter (λ (e : Extent). not (is_copied all e)) xs)
+    by_test true e dropped new =
+        let copied : is_copied all x ≡ true =
+        copied_by all x last c (is_before last x follows (alike_back x last (alike_is x last e))
+        (pairs_head IdDiffers last (x ∷ xs) ids 0 x (omega arith))) e in
+        dropped e ∙ ap (λ (t : Bool). last ∷ cond (not t) (x ∷ filter (λ (e : Extent). not (is_copied all e)) xs)
+        (filter (λ (e : Extent). not (is_copied all e)) xs)) (sym copied)
+    by_test false e dropped new =
+        let not_copied = apart (λ a. true≢false (sym (alike_test x last (alike_back last x a)) ∙ e)) in
+        ap (λ (list : List Extent). last ∷ list)
+        (new ∙ ap (λ (t : Bool). cond (not t) (x ∷ filter (λ (e : Extent). not (is_copied all e)) xs)
+        (filter (λ (e : Extent). not (is_copied all e)) xs)) (sym not_copied))
+
+-- without those that are alike the one before them, no copies are left
+pub dedup_kept : (es : List Extent) → AreGathered es → AllPairs IdDiffers es → dedup end_alike es ≡ kept_extents true es
+dedup_kept [] gathered ids = refl
+dedup_kept (e ∷ es) gathered ids =
+    let order : AllPairs EndsNoLater (e ∷ es) = λ i j d lt l. gathered_far (e ∷ es) gathered i j d (omega arith) l in
+    let Uncopied : Extent → Type 0 = λ other. copies e other ≡ false in
+    let not_copied : is_copied (e ∷ es) e ≡ false =
+    list_any_none (copies e) (e ∷ es)
+    (All-cons Uncopied e es (no_copy_of_later e e (follows_itself e))
+    (All-weaker (EndsNoLater e) Uncopied (λ other h. no_copy_of_later e other h) es (pairs_head EndsNoLater e es order))) in
+    dedup_from_kept (e ∷ es) (e ∷ []) e es refl (0, omega arith, refl)
+    (All-cons (λ (x : Extent). (y : Extent) → EndsNoLater e y → Alike x y → Alike e y) e [] (λ y f a. a)
+    (All-nil (λ (x : Extent). (y : Extent) → EndsNoLater e y → Alike x y → Alike e y))) order ids
+    ∙ ap (λ (t : Bool). cond (not t) (e ∷ filter (λ (x : Extent). not (is_copied (e ∷ es) x)) es)
+    (filter (λ (x : Extent). not (is_copied (e ∷ es) x)) es)) (sym not_copied)
+
+-- ---- in another order
+
+filter_pieces : {X : Type 0} (test : X → Bool) (xs : List X) → flat_map (λ (x : X). cond (test x) (x ∷ []) []) xs ≡ filter test xs
+filter_pieces test [] = refl
+filter_pieces {X} test (x ∷ xs) = by_test (test x) (filter_pieces test xs)
+  where
+    by_test : (t : Bool) → flat_map (λ (y : X). cond (test y) (y ∷ []) []) xs ≡ filter test xs
+        → cond t (x ∷ []) [] ++ flat_map (λ (y : X). cond (test y) (y ∷ []) []) xs ≡ cond t (x ∷ filter test xs) (filter test xs)
+    by_test true rest = ap (λ (list : List X). x ∷ list) rest
+    by_test false rest = rest
+
+filter_permuted : {X : Type 0} (test : X → Bool) (xs ys : List X) → IsPermutation xs ys → IsPermutation (filter test xs) (filter test ys)
+filter_permuted {X} test xs ys h =
+    subst (λ (list : List X). IsPermutation list (filter test ys)) (filter_pieces test xs)
+    (subst (IsPermutation (flat_map (λ (x : X). cond (test x) (x ∷ []) []) xs)) (filter_pieces test ys)
+    (pieces_permuted (λ (x : X). cond (test x) (x ∷ []) []) xs ys h))
+
+filter_same : {X : Type 0} (test other : X → Bool) → ((x : X) → test x ≡ other x) → (xs : List X) → filter test xs ≡ filter other xs
+filter_same test other same [] = refl
+filter_same {X} test other same (x ∷ xs) =
+    ap (λ (t : Bool). cond t (x ∷ filter test xs) (filter test xs)) (same x)
+    ∙ ap (λ (rest : List X). cond (other x) (x ∷ rest) rest) (filter_same test other same xs)
+
+pub kept_permuted : (xs ys : List Extent) → IsPermutation xs ys → IsPermutation (kept_extents true xs) (kept_extents true ys)
+kept_permuted xs ys h =
+    subst (IsPermutation (kept_extents true xs))
+    (filter_same (λ (e : Extent). not (is_copied xs e)) (λ (e : Extent). not (is_copied ys e))
+    (λ e. ap not (list_any-IsPermutation (copies e) xs ys h)) ys)
+    (filter_permuted (λ (e : Extent). not (is_copied xs e)) xs ys h)
+
+-- what is left of extents once they were gathered, and those were taken out that are alike the one before them
+pub kept_of_gathered : (es ys zs : List Extent) → AllPairs IdDiffers es → IsPermutation es ys → AreGathered ys → zs ≡ dedup end_alike ys
+    → IsPermutation (kept_extents true es) zs
+kept_of_gathered es ys zs ids h gathered is =
+    let there : AllPairs IdDiffers ys = pairs_from_each_two IdDiffers ys
+    (each_two_permutation IdDiffers es ys h (each_two_from_pairs IdDiffers (λ a b ne e. ne (sym e)) es ids)) in
+    subst (IsPermutation (kept_extents true es)) (sym (is ∙ dedup_kept ys gathered there)) (kept_permuted es ys h)

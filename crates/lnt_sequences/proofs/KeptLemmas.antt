@@ -1,0 +1,195 @@
+-- The extents of the kept sequences are those of all that are no copies.
+use Rattle.std.proofs.Common.{◌≡◌, ◌≢◌, Bool, true, false, not, ◌&&◌, ◌||◌, cond, List, [], ◌∷◌, ◌++◌, Option, Some}
+use Rattle.std.proofs.Common.{refl, sym, ap, ◌∙◌, subst, arith, ⊎_elim, ℕ, length, take}
+use Rattle.std.specs.List.{All, AllPairs, filter}
+use Rattle.std.specs.List.Sorted.{IsPermutation}
+use Rattle.std.proofs.Math.Seq.{take-append_seam}
+use Rattle.std.proofs.lemmas.Bool.Decides.{nat_tests}
+use Rattle.std.proofs.lemmas.List.Sorted.{All-permutation, IsPermutation-sym}
+use Rattle.lnt_machine.specs.declared.row.Row.{Row}
+use Rattle.lnt_spans.specs.declared.position.Position.{Position}
+use Rattle.lnt_spans.specs.Positions.{IsBelow, is_below}
+use Rattle.lnt_spans.specs.Laws.EachTwo.{each_two_from_pairs, each_two_permutation, pairs_from_each_two}
+use Rattle.lnt_spans.specs.Laws.Positions.{at_most_itself, below_from_test, test_below}
+use Rattle.lnt_sequences.specs.declared.extent.Extent.{Extent}
+use Rattle.lnt_sequences.specs.declared.extent.Overlap.{Overlap}
+use Rattle.lnt_sequences.specs.declared.sequence.SeqId.{SeqId}
+use Rattle.lnt_sequences.specs.Extents.{end_alike, extents_of, ExtentsDisjoint, ExtentsOverlap, is_copied, IsFirstOverlap, kept_extents}
+use Rattle.lnt_sequences.specs.Laws.Walks.{last_row_is}
+use Rattle.lnt_sequences.specs.Laws.Kept.{kept_distinct}
+use Rattle.lnt_sequences.specs.Rules.{AreApart, AreDistinct}
+use Rattle.lnt_sequences.specs.Sequences.{ends_alike, first_row, hold_alike, Holds, is_copy, is_same, kept_of, last_row}
+use Rattle.lnt_sequences.specs.Sequences.{Placed, position_of, stands_before}
+use Rattle.lnt_sequences.specs.Watching.{last_behind}
+use Rattle.lnt_sequences.proofs.ExtentLemmas.{apart_from_disjoint, extents_ids, extents_some, holds_behind, IsEmpty}
+use Rattle.lnt_sequences.proofs.ExtentLemmas.{IsSketch, overlap_of_sequences, sketch}
+use Rattle.lnt_sequences.proofs.OverlapLemmas.{first_overlap_permuted}
+
+-- ---- whether two hold alike, by their first and last rows
+
+alike_rows : (row other : Row) (rows others : List Row)
+    → hold_alike (row ∷ rows) (other ∷ others)
+    ≡ (is_below (position_of row) (position_of (last_behind row rows))
+    && (is_same (position_of row) (position_of other) && is_same (position_of (last_behind row rows))
+    (position_of (last_behind other others))))
+alike_rows row other rows others =
+    ap (λ (o : Option Row). ends_alike (Some row) o (Some other) (last_row (other ∷ others))) (last_row_is row rows)
+    ∙ ap (λ (o : Option Row). ends_alike (Some row) (Some (last_behind row rows)) (Some other) o) (last_row_is other others)
+
+below_ends : (s : Placed) (e : Extent) → (k : IsSketch s e)
+    → is_below (position_of k.first) (position_of (last_behind k.first k.others)) ≡ true
+below_ends s e k =
+    subst (λ (p : Position). is_below p (position_of (last_behind k.first k.others)) ≡ true) k.low
+    (subst (λ (p : Position). is_below e.low p ≡ true) k.high (test_below e.low e.high k.some))
+
+alike_by_extents : (s t : Placed) (e f : Extent) → IsSketch s e → IsSketch t f → hold_alike s.rows t.rows ≡ end_alike e f
+alike_by_extents s t e f k l =
+    let last = position_of (last_behind k.first k.others) in
+    let other_last = position_of (last_behind l.first l.others) in
+    ap (λ (rows : List Row). hold_alike rows t.rows) k.rows_are
+    ∙ ap (λ (rows : List Row). hold_alike (k.first ∷ k.others) rows) l.rows_are
+    ∙ alike_rows k.first l.first k.others l.others
+    ∙ ap (λ (b : Bool). b && (is_same (position_of k.first) (position_of l.first) && is_same last other_last)) (below_ends s e k)
+    ∙ ap (λ (p : Position). is_same p (position_of l.first) && is_same last other_last) (sym k.low)
+    ∙ ap (λ (p : Position). is_same e.low p && is_same last other_last) (sym l.low)
+    ∙ ap (λ (p : Position). is_same e.low f.low && is_same p other_last) (sym k.high)
+    ∙ ap (λ (p : Position). is_same e.low f.low && is_same e.high p) (sym l.high)
+
+-- what is like one that holds a position holds one
+alike_some : (p q r s : Position) → is_below p q ≡ true → (is_same p r && is_same q s) ≡ true → is_below r s ≡ true
+alike_some p q r s h k = grind (arith, nat_tests)
+
+unlike_empty : (s t : Placed) (e : Extent) → IsSketch s e → IsEmpty t → hold_alike s.rows t.rows ≡ false
+unlike_empty s t e k none = rw k.rows_are (by_rows t.rows none.none)
+  where
+    by_rows : (rows : List Row) → ((p : Position) → Holds rows p → ⊥) → hold_alike (k.first ∷ k.others) rows ≡ false
+    by_rows [] h = ap (λ (o : Option Row). ends_alike (Some k.first) o (first_row []) (last_row [])) (last_row_is k.first k.others)
+    by_rows (row ∷ rows) h =
+        alike_rows k.first row k.others rows
+        ∙ by_test (is_same (position_of k.first) (position_of row) && is_same (position_of (last_behind k.first k.others))
+        (position_of (last_behind row rows))) refl
+      where
+        some : is_below (position_of k.first) (position_of (last_behind k.first k.others)) ≡ true
+        some = below_ends s e k
+
+        by_test : (t : Bool) → (is_same (position_of k.first) (position_of row) && is_same (position_of (last_behind k.first k.others))
+            (position_of (last_behind row rows))) ≡ t
+            → (is_below (position_of k.first) (position_of (last_behind k.first k.others))
+            && (is_same (position_of k.first) (position_of row) && is_same (position_of (last_behind k.first k.others))
+            (position_of (last_behind row rows)))) ≡ false
+        by_test true same =
+            let below = alike_some (position_of k.first) (position_of (last_behind k.first k.others)) (position_of row)
+            (position_of (last_behind row rows)) some same in
+            absurd (h (position_of row) (holds_behind row rows (position_of row) (at_most_itself (position_of row))
+            (below_from_test (position_of row) (position_of (last_behind row rows)) below)))
+        by_test false same = rw (some, same) refl
+
+-- ---- which are copies
+
+no_left : (b : Bool) → (b && false) ≡ false
+no_left true = refl
+no_left false = refl
+
+copy_by_extents : (s : Placed) (e : Extent) → IsSketch s e → (all : List Placed) → is_copy all s ≡ is_copied (extents_of all) e
+copy_by_extents s e k [] = refl
+copy_by_extents s e k (t ∷ all) =
+    let rest = copy_by_extents s e k all in
+    let first : Bool = stands_before t.id s.id && hold_alike s.rows t.rows in
+    ⊎_elim
+    (λ (none : IsEmpty t).
+    let no : (stands_before t.id s.id && hold_alike s.rows t.rows) ≡ false = ap (λ (b : Bool). stands_before t.id s.id && b)
+    (unlike_empty s t e k none) ∙ no_left (stands_before t.id s.id) in
+    ap (λ (b : Bool). b || is_copy all s) no ∙ rest ∙ sym (ap (λ (es : List Extent). is_copied (es ++ extents_of all) e) none.list))
+    (λ (one : (f : Extent) × IsSketch t f).
+    let same : (stands_before t.id s.id && hold_alike s.rows t.rows) ≡ (stands_before one.0.id e.id && end_alike e one.0) =
+    ap (λ (b : Bool). stands_before t.id s.id && b) (alike_by_extents s t e one.0 k one.1)
+    ∙ ap (λ (id : SeqId). stands_before t.id id && end_alike e one.0) (sym k.id)
+    ∙ ap (λ (id : SeqId). stands_before id e.id && end_alike e one.0) (sym one.1.id) in
+    ap (λ (b : Bool). b || is_copy all s) same ∙ ap (λ (b : Bool). (stands_before one.0.id e.id && end_alike e one.0) || b) rest
+    ∙ sym (ap (λ (es : List Extent). is_copied (es ++ extents_of all) e) one.1.list))
+    (sketch t)
+
+kept_among : (all ss : List Placed)
+    → extents_of (filter (λ (s : Placed). not (is_copy all s)) ss) ≡ filter (λ (e : Extent). not (is_copied (extents_of all) e))
+    (extents_of ss)
+kept_among all [] = refl
+kept_among all (s ∷ ss) =
+    let Kept : List Extent = filter (λ (e : Extent). not (is_copied (extents_of all) e)) (extents_of ss) in
+    let rest = kept_among all ss in
+    ⊎_elim
+    (λ (none : IsEmpty s).
+    by_empty (not (is_copy all s)) none rest
+    ∙ sym (ap (λ (es : List Extent). filter (λ (e : Extent). not (is_copied (extents_of all) e)) (es ++ extents_of ss)) none.list))
+    (λ (one : (e : Extent) × IsSketch s e).
+    ap (λ (t : Bool). extents_of (cond (not t) (s ∷ filter (λ (s : Placed). not (is_copy all s)) ss)
+    (filter (λ (s : Placed). not (is_copy all s)) ss))) (copy_by_extents s one.0 one.1 all)
+    ∙ by_test (not (is_copied (extents_of all) one.0)) one.0 one.1 rest
+    ∙ sym (ap (λ (es : List Extent). filter (λ (e : Extent). not (is_copied (extents_of all) e)) (es ++ extents_of ss)) one.1.list))
+    (sketch s)
+  where
+    by_empty : (t : Bool) → IsEmpty s
+        → extents_of (filter (λ (s : Placed). not (is_copy all s)) ss) ≡ filter (λ (e : Extent). not (is_copied (extents_of all) e))
+        (extents_of ss)
+        → extents_of (cond t (s ∷ filter (λ (s : Placed). not (is_copy all s)) ss) (filter (λ (s : Placed). not (is_copy all s)) ss)) ≡
+        filter (λ (e : Extent). not (is_copied (extents_of all) e)) (extents_of ss)
+    by_empty true none rest = ap (λ (es : List Extent). es ++ extents_of (filter (λ (s : Placed). not (is_copy all s)) ss)) none.list ∙ rest
+    by_empty false none rest = rest
+
+    by_test : (t : Bool) (e : Extent) → IsSketch s e
+        → extents_of (filter (λ (s : Placed). not (is_copy all s)) ss) ≡ filter (λ (e : Extent). not (is_copied (extents_of all) e))
+        (extents_of ss)
+        → extents_of (cond t (s ∷ filter (λ (s : Placed). not (is_copy all s)) ss) (filter (λ (s : Placed). not (is_copy all s)) ss))
+        ≡ cond t (e ∷ filter (λ (e : Extent). not (is_copied (extents_of all) e)) (extents_of ss))
+        (filter (λ (e : Extent). not (is_copied (extents_of all) e)) (extents_of ss))
+    by_test true e k rest = ap (λ (es : List Extent). es ++ extents_of (filter (λ (s : Placed). not (is_copy all s)) ss)) k.list
+        ∙ ap (λ (es : List Extent). e ∷ es) rest
+    by_test false e k rest = rest
+
+pub kept_extents_are : (skip : Bool) (ss : List Placed) → extents_of (kept_of skip ss) ≡ kept_extents skip (extents_of ss)
+kept_extents_are false ss = refl
+kept_extents_are true ss = kept_among ss ss
+
+-- ---- what is known of the kept extents, in whichever order, of the kept sequences
+
+pub kept_are : (skip : Bool) (ss : List Placed) (es ys : List Extent) → es ≡ extents_of ss → IsPermutation (kept_extents skip es) ys
+    → IsPermutation (extents_of (kept_of skip ss)) ys
+kept_are skip ss es ys are h =
+    subst (λ (list : List Extent). IsPermutation list ys) (ap (kept_extents skip) are ∙ sym (kept_extents_are skip ss)) h
+
+pub kept_some : (ss : List Placed) (ys : List Extent) → IsPermutation (extents_of ss) ys → All (λ (e : Extent). IsBelow e.low e.high) ys
+kept_some ss ys h = All-permutation (λ (e : Extent). IsBelow e.low e.high) (extents_of ss) ys h (extents_some ss)
+
+pub ids_permuted : (xs ys : List Extent) → IsPermutation xs ys → AllPairs (λ (a : Extent) (b : Extent). a.id ≢ b.id) xs
+    → AllPairs (λ (a : Extent) (b : Extent). a.id ≢ b.id) ys
+ids_permuted xs ys h ids =
+    let R : Extent → Extent → Type 0 = λ a b. a.id ≢ b.id in
+    pairs_from_each_two R ys (each_two_permutation R xs ys h (each_two_from_pairs R (λ x y ne e. ne (sym e)) xs ids))
+
+pub kept_apart : (ss : List Placed) (ys : List Extent) → IsPermutation (extents_of ss) ys → AllPairs ExtentsDisjoint ys → AreApart ss
+kept_apart ss ys h disjoint =
+    apart_from_disjoint ss
+    (pairs_from_each_two ExtentsDisjoint (extents_of ss)
+    (each_two_permutation ExtentsDisjoint ys (extents_of ss) (IsPermutation-sym (extents_of ss) ys h)
+    (each_two_from_pairs ExtentsDisjoint (λ a b d p x y. d p y x) ys disjoint)))
+
+pub kept_overlap : (ss : List Placed) (ys : List Extent) (overlap : Overlap) → IsPermutation (extents_of ss) ys → ExtentsOverlap ys overlap
+    → IsFirstOverlap ss overlap
+kept_overlap ss ys overlap h o = overlap_of_sequences ss overlap (record {
+  one = o.one;
+  other = o.other;
+  first_is = o.first_is;
+  second_is = o.second_is;
+  position_is = o.position_is;
+  first = first_overlap_permuted (extents_of ss) ys o.one o.other h o.first;
+})
+
+pub ids_kept : (skip : Bool) (ss : List Placed) (es ys : List Extent) → es ≡ extents_of ss → AreDistinct ss
+    → IsPermutation (kept_extents skip es) ys
+    → AllPairs (λ (a : Extent) (b : Extent). a.id ≢ b.id) ys
+ids_kept skip ss es ys are distinct h =
+    ids_permuted (extents_of (kept_of skip ss)) ys (kept_are skip ss es ys are h)
+    (extents_ids (kept_of skip ss) (kept_distinct skip ss distinct))
+
+-- what a vector holds whose items were put in order
+pub written_back : {X : Type 0} (n : ℕ) (xs rest : List X) → n ≡ length xs → take n (xs ++ rest) ≡ xs
+written_back n xs rest e = ap (λ (k : ℕ). take k (xs ++ rest)) e ∙ take-append_seam xs rest

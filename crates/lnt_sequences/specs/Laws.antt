@@ -1,0 +1,117 @@
+pub mod Found
+pub mod Kept
+pub mod Units
+pub mod Walks
+-- What the laws of rows say.
+use Rattle.std.specs.Prelude.{◌≡◌, ◌≢◌, ℕ, ◌^◌, ◌<◌, Bool, true, false, List, ◌∷◌, ◌++◌, get_or, length, None, Some, Option}
+use Rattle.std.specs.List.{AllByRecursion, AllPairs, Contains}
+use Rattle.std.specs.Option.{option_map}
+use Rattle.lnt_wire.specs.declared.format.Format.{Format}
+use Rattle.lnt_wire.specs.declared.format.Order.{Order}
+use Rattle.lnt_unit.specs.Converting.{IsConverted}
+use Rattle.lnt_unit.specs.declared.unit.Parts.{Parts}
+use Rattle.lnt_machine.specs.declared.row.Row.{Row}
+use Rattle.lnt_machine.specs.Matrix.{rows, Runs}
+use Rattle.lnt_spans.specs.declared.answer.Answer.{Answer}
+use Rattle.lnt_spans.specs.declared.position.Position.{Position}
+use Rattle.lnt_spans.specs.Positions.{IsAtMost, IsBelow}
+use Rattle.lnt_spans.specs.Spans.{span_answer}
+use Rattle.lnt_sequences.specs.declared.collected.Collected.{Collected}
+use Rattle.lnt_sequences.specs.declared.extent.Overlap.{Overlap}
+use Rattle.lnt_sequences.specs.declared.watch.MissingFile.{MissingFile}
+use Rattle.lnt_sequences.specs.Evidence.{IsFall, IsMissingFile}
+use Rattle.lnt_sequences.specs.Extents.{IsFirstOverlap}
+use Rattle.lnt_sequences.specs.RowSpans.{row_spans, spans_of}
+use Rattle.lnt_sequences.specs.Rules.{AreApart, AreDistinct, AreOrdered, HaveFiles, IsOrdered}
+use Rattle.lnt_sequences.specs.Sequences.{Placed, Holds, answer_in, answer_of, hold_alike, kept_sequences, line_answer}
+use Rattle.lnt_sequences.specs.Sequences.{live_in, live_of, live_sequences, position_of, row_at}
+use Rattle.lnt_sequences.specs.Watching.{Collects, CollectsRows}
+
+-- The spans of ordered sequences answer as their rows do.
+abbrev pub SpansAnswer : Type 0
+SpansAnswer = (sequences : List Placed) → AreOrdered sequences → (p : Position) → span_answer (spans_of sequences) p ≡ answer_in sequences p
+
+-- The spans of an ordered sequence hold what it holds, and answer there as its last row that isn't after the position.
+abbrev pub SequenceSpans : Type 0
+SequenceSpans = (unit : ℕ) (rows : List Row) (p : Position) → IsOrdered rows
+    → (Holds rows p → span_answer (row_spans unit rows) p ≡ option_map (answer_of unit) (row_at p rows))
+    × ((Holds rows p → ⊥) → span_answer (row_spans unit rows) p ≡ None)
+
+-- Sequences that overlap aren't apart.
+abbrev pub OverlapIsNotApart : Type 0
+OverlapIsNotApart = (sequences : List Placed) (overlap : Overlap) → IsFirstOverlap sequences overlap → AreApart sequences → ⊥
+
+-- Sequences of which a row falls aren't ordered.
+abbrev pub FallIsNotOrdered : Type 0
+FallIsNotOrdered =
+    (dead : Option ℕ) (sequences : List Placed) (index : ℕ) → IsFall dead sequences index → AreOrdered (live_of dead sequences) → ⊥
+
+-- Where a row names a file that isn't there, they don't have their files.
+abbrev pub MissingFileIsNotThere : Type 0
+MissingFileIsNotThere = (dead : Option ℕ) (files : ℕ) (sequences : List Placed) (missing : MissingFile)
+    → IsMissingFile dead files sequences missing → HaveFiles files (live_of dead sequences) → ⊥
+
+-- What is collected of all rows of a unit, whose program runs, is collected of its live sequences.
+abbrev pub CollectedUnit : Type 0
+CollectedUnit =
+    (dead : Option ℕ) (unit : ℕ × Parts) (collected : Collected) (sequences : List Placed) → Runs unit.1 → length (rows unit.1) < 2 ^ 64
+    → CollectsRows dead unit.0 collected sequences (rows unit.1) → Collects collected (sequences ++ live_in dead unit)
+
+-- The live sequences of units at different offsets have different ids.
+abbrev pub DistinctSequences : Type 0
+DistinctSequences =
+    (dead : Option ℕ) (units : List (ℕ × Parts)) → AllPairs (λ one other. one.0 ≢ other.0) units → AreDistinct (live_sequences dead units)
+
+-- Where copies aren't skipped, the kept sequences are the live ones. Where they are, the kept ones are live, and of units at
+-- different offsets no two that hold a position begin and end at the same ones.
+pub record KeptSequences : Type 0 where
+  pub all : (dead : Option ℕ) (units : List (ℕ × Parts)) → kept_sequences dead false units ≡ live_sequences dead units
+  pub live : (dead : Option ℕ) (units : List (ℕ × Parts)) (placed : Placed) → Contains (kept_sequences dead true units) placed
+      → Contains (live_sequences dead units) placed
+  pub differ : (dead : Option ℕ) (units : List (ℕ × Parts)) → AllPairs (λ one other. one.0 ≢ other.0) units
+      → AllPairs (λ (one : Placed) (other : Placed). hold_alike one.rows other.rows ≡ false) (kept_sequences dead true units)
+
+-- The row is the last of the rows, in their order, at or before p: those after it stand above p.
+pub record IsLastAt (p : Position) (rows : List Row) (row : Row) : Type 0 where
+  pub before : List Row
+  pub behind : List Row
+  pub rows_are : rows ≡ before ++ row ∷ behind
+  pub at : IsAtMost (position_of row) p
+  pub above : AllByRecursion (λ later. IsBelow p (position_of later)) behind
+
+-- Of sequences that share no position at most one holds p, and they answer at p what its last row at or before p says. Where none
+-- holds p, they answer nothing.
+pub record AnswersAsHolder : Type 0 where
+  pub one_alone : (sequences : List Placed) (one other : Placed) (p : Position) → AreApart sequences → Contains sequences one
+      → Contains sequences other
+      → Holds one.rows p → Holds other.rows p → one ≡ other
+  pub held : (sequences : List Placed) (placed : Placed) (p : Position) → AreApart sequences → Contains sequences placed
+      → Holds placed.rows p
+      → (row : Row) × IsLastAt p placed.rows row × (answer_in sequences p ≡ Some (answer_of placed.id.unit row))
+  pub none : (sequences : List Placed) (p : Position) → ((placed : Placed) → Contains sequences placed → Holds placed.rows p → ⊥)
+      → answer_in sequences p ≡ None
+
+-- The one offset is that of a unit of the one section, and the other that of the unit with the same place in the other section.
+pub record StandAlike (units others : List (ℕ × Parts)) (offset other : ℕ) : Type 0 where
+  pub place : ℕ
+  pub within : place < length units
+  pub unit_is : (d : ℕ × Parts) → offset ≡ (get_or units place d).0
+  pub other_is : (d : ℕ × Parts) → other ≡ (get_or others place d).0
+
+-- The answers are the same but for the units' offsets, which stand alike.
+pub record IsAlike (units others : List (ℕ × Parts)) (answer other : Answer) : Type 0 where
+  pub stand : StandAlike units others answer.unit other.unit
+  pub same : other ≡ record answer { unit = other.unit }
+
+-- Both sections answer so, or neither answers anything.
+abbrev pub AreAlike : List (ℕ × Parts) → List (ℕ × Parts) → Option Answer → Option Answer → Type 0
+AreAlike units others None None = Unit {0}
+AreAlike units others (Some answer) (Some other) = IsAlike units others answer other
+AreAlike units others _ _ = ⊥
+
+-- A section and what it was converted to answer alike at every position.
+abbrev pub ConvertedAnswers : Type 0
+ConvertedAnswers =
+    (order : Order) (section : List ℕ) (format : Format) (to : Order) (result : List ℕ) → (c : IsConverted order section format to result)
+    → (dead : Option ℕ) (skip : Bool) (p : Position)
+    → AreAlike c.units c.others (line_answer dead skip c.units p) (line_answer dead skip c.others p)

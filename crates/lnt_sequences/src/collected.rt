@@ -1,0 +1,109 @@
+//! What the live sequences of a section hold.
+ghost use Rattle.std.specs.Prelude.{◌≡◌, ◌++◌, [], IfOk, OnOk, IfErr, List};
+ghost use Rattle.std.specs.List.Sorted.{IsPermutation};
+ghost use Rattle.lnt_sequences.specs.Extents.{AreSettled, IsFirstOverlap, extent_between, extents_of};
+ghost use Rattle.lnt_sequences.specs.Rules.{AreApart, AreDistinct};
+ghost use Rattle.lnt_sequences.specs.Sequences as spec;
+ghost use Rattle.lnt_sequences.specs.Sequences.{Placed, kept_of};
+ghost use Rattle.lnt_sequences.specs.Watching.{Collects};
+
+use crate::extent::{Extent, Overlap, first_overlap, kept};
+use crate::sequence::SeqId;
+use lnt_machine::Row;
+use lnt_spans::{Answer, More, Position};
+use std::alloc::{AllocError, Global};
+
+/// What the live sequences of a section hold, as far as a watch on each unit has seen their rows.
+///
+/// It keeps the first and last position of each sequence that holds anything, and no row. Contracts say of which
+/// sequences it is (`Collects`).
+#[derive(Debug, Drop)]
+pub struct Collected {
+    extents: Vec<Extent>,
+}
+
+impl Collected {
+    /// What no sequences hold. It takes no memory.
+    pub fn new(alloc: Global) -> Collected
+        ensures { Collects result [] }
+    {
+        Collected {
+            extents: Vec::new(alloc),
+        }
+    }
+
+    /// The extents of the kept sequences, in order, where no position is held by two of them. All are kept, or where copies
+    /// are skipped all but these: a sequence that holds a position is a copy where one that stands before it in the
+    /// section begins and ends at the same positions.
+    ///
+    /// Else it tells the first overlap: two different sequences that hold one position, where no lower position is held
+    /// by two, the first two that hold it by their first positions and then by their places in the section. A sequence
+    /// that holds nothing overlaps none.
+    ///
+    /// The caller sees to it that no two sequences have the same id. Sequences that come in order cost one pass. It takes
+    /// no memory.
+    pub fn entries(self, skip_copies: bool) -> Result<Vec<Extent>, Overlap>
+        requires { (sequences : List Placed) × Collects self sequences × AreDistinct sequences }
+        ensures settled { IfOk result (λ entries. AreSettled entries.items) }
+        ensures entries { IfOk result (λ entries. (sequences : List Placed) → Collects self sequences
+            → IsPermutation (extents_of (kept_of skip_copies sequences)) entries.items) }
+        ensures apart { OnOk result ((sequences : List Placed) → Collects self sequences → AreApart (kept_of skip_copies sequences)) }
+        ensures overlap { IfErr result (λ overlap. (sequences : List Placed) → Collects self sequences
+            → IsFirstOverlap (kept_of skip_copies sequences) overlap) }
+    {
+        let Collected { extents } = self;
+        let mut extents = kept(extents, skip_copies);
+        match first_overlap(&mut extents) {
+            Some(overlap) => Err(overlap),
+            None => Ok(extents),
+        }
+    }
+
+    // Adds the extent of a sequence, from `first` up to `last`, if it holds any position.
+    pub(crate) fn push_extent(
+        &mut self,
+        id: SeqId,
+        first: Position,
+        last: Position,
+    ) -> Result<(), AllocError>
+        ensures { IfOk result (λ _. self.new.extents.items ≡ self.old.extents.items ++ extent_between id first last) }
+    {
+        if first.is_below(last) {
+            self.extents.push(Extent {
+                low: first,
+                high: last,
+                id,
+            })?;
+        }
+        Ok(())
+    }
+}
+
+// The position of a row.
+#[inline(always)]
+pub(crate) fn position_of(row: &Row) -> Position
+    ensures { result ≡ spec.position_of row.now }
+{
+    Position {
+        address: row.address,
+        op: row.op_index,
+    }
+}
+
+// The answer that a row gives at the positions from its own on.
+#[inline(always)]
+pub(crate) fn answer_of(unit: u64, row: &Row) -> Answer
+    ensures { result ≡ spec.answer_of unit row.now }
+{
+    Answer {
+        unit,
+        file: row.file,
+        line: row.line,
+        column: row.column,
+        is_stmt: row.is_stmt,
+        more: Some(More {
+            isa: row.isa,
+            discriminator: row.discriminator,
+        }),
+    }
+}

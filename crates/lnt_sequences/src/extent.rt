@@ -1,0 +1,124 @@
+//! The positions that sequences hold, and the first that two of them hold.
+ghost use Rattle.std.specs.Prelude.{◌≡◌, ◌≢◌, ◌+◌, ◌-◌, ◌<◌, length, slice_index_or, IfNone, IfSome, MatchOption};
+ghost use Rattle.std.specs.List.{All, AllPairs};
+ghost use Rattle.std.specs.List.Sorted.{IsPermutation};
+ghost use Rattle.lnt_spans.specs.Positions.{IsBelow};
+ghost use Rattle.lnt_sequences.specs.declared.extent.Extent.{Extent};
+ghost use Rattle.lnt_sequences.specs.Extents.{AreApartUpTo, AreGathered, AreSettled, AreSorted, ExtentsDisjoint, ExtentsOverlap, kept_extents};
+
+use crate::sequence::SeqId;
+use lnt_spans::Position;
+
+/// Two different sequences that hold one position, the first such position and the first two that hold it.
+#[derive(Clone, Copy, Debug, PartialEq, Eq)]
+pub struct Overlap {
+    /// Of the two, the one that begins first, by its first position and then by its place in the section.
+    pub first: SeqId,
+    /// The other one.
+    pub second: SeqId,
+    /// The position. The second sequence begins there.
+    pub position: Position,
+}
+
+/// The positions that a sequence holds: from `low` up to `high`, which is not among them.
+#[derive(Clone, Copy, Debug, PartialEq, Eq)]
+pub struct Extent {
+    /// The position of its first row.
+    pub low: Position,
+    /// The position of its end row.
+    pub high: Position,
+    /// Which sequence it is.
+    pub id: SeqId,
+}
+
+// The extents without the copies, where these are skipped: of those that begin and end at the same positions the one is
+// kept that stands first in the section. It takes no memory.
+pub(crate) fn kept(extents: Vec<Extent>, skip_copies: bool) -> Vec<Extent>
+    requires { AllPairs (λ one other. one.id ≢ other.id) extents.items }
+    ensures { IsPermutation (kept_extents skip_copies extents.items) result.items }
+{
+    if !skip_copies {
+        return extents;
+    }
+    let mut extents = gathered(extents);
+    extents.dedup_by(|next, last| {
+        (next.low.address == last.low.address && next.low.op == last.low.op)
+            && (next.high.address == last.high.address && next.high.op == last.high.op)
+    });
+    extents
+}
+
+// The extents in order by first position, then by last position, and then by place: copies stand one after another.
+fn gathered(mut extents: Vec<Extent>) -> Vec<Extent>
+    ensures permutation { IsPermutation extents.items result.items }
+    ensures gathered { AreGathered result.items }
+{
+    gather(&mut extents);
+    extents
+}
+
+// Sorts extents in this order.
+fn gather(extents: &mut [Extent])
+    ensures permutation { IsPermutation extents.old extents.new }
+    ensures gathered { AreGathered extents.new }
+{
+    extents.sort_unstable_by_key(|one| {
+        (
+            one.low.address,
+            one.low.op,
+            one.high.address,
+            one.high.op,
+            one.id.unit,
+            one.id.index,
+        )
+    });
+}
+
+// Sorts the extents by first position, and then by place in the section, and gives the first overlap, if there is one.
+pub(crate) fn first_overlap(extents: &mut [Extent]) -> Option<Overlap>
+    requires some { All (λ extent. IsBelow extent.low extent.high) extents.old }
+    requires ids { AllPairs (λ one other. one.id ≢ other.id) extents.old }
+    ensures apart { IfNone result (AllPairs ExtentsDisjoint extents.old) }
+    ensures overlap { IfSome result (ExtentsOverlap extents.old) }
+    ensures permutation { IsPermutation extents.old extents.new }
+    ensures settled { IfNone result (AreSettled extents.new) }
+{
+    sort(extents);
+    let place = first_crossed(extents)?;
+    let one = extents[place];
+    let other = extents[place + 1];
+    Some(Overlap {
+        first: one.id,
+        second: other.id,
+        position: other.low,
+    })
+}
+
+// Sorts extents by first position, and then by place in the section.
+fn sort(extents: &mut [Extent])
+    ensures permutation { IsPermutation extents.old extents.new }
+    ensures sorted { AreSorted extents.new }
+{
+    extents.sort_unstable_by_key(|extent| {
+        (
+            extent.low.address,
+            extent.low.op,
+            extent.id.unit,
+            extent.id.index,
+        )
+    });
+}
+
+// The index of the first extent that goes on above the first position of the next.
+fn first_crossed(extents: &[Extent]) -> Option<usize>
+    ensures { MatchOption result (AreApartUpTo (length extents.now - 1) extents.now)
+        (λ k. (k + 1 < length extents.now) × AreApartUpTo k extents.now
+        × ((d : Extent) → IsBelow (slice_index_or extents.now (k + 1) d).low (slice_index_or extents.now k d).high)) }
+{
+    for i in 1..extents.len() {
+        if extents[i].low.is_below(extents[i - 1].high) {
+            return Some(i - 1);
+        }
+    }
+    None
+}

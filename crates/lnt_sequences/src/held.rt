@@ -1,0 +1,64 @@
+//! What is answered at a position, by the extents of sequences and by the rows of the one that holds it.
+ghost use Rattle.std.specs.Prelude.{◌≡◌, ◌+◌, ◌^◌, ◌<◌, ◌≤◌, ℕ, List, length, MatchOption};
+ghost use Rattle.std.specs.Option.{option_map};
+ghost use Rattle.lnt_machine.specs.Walking.{WillGive};
+ghost use Rattle.lnt_machine.specs.declared.row.Row as spec;
+ghost use Rattle.lnt_sequences.specs.Extents.{AreSettled, IsHolder, NoneHolds};
+ghost use Rattle.lnt_sequences.specs.Sequences as sequence;
+
+use crate::collected::{answer_of, position_of};
+use crate::extent::Extent;
+use lnt_machine::{Row, SequenceRows};
+use lnt_spans::{Answer, Position, Probes, Side, probe};
+
+/// The extent that holds the position, or none where none does.
+///
+/// It compares the position with at most as many extents as their number has binary digits, which is none where there
+/// are no extents: `probes` rises by the comparisons. The caller sees to it that the extents are settled, as `entries`
+/// gives them, and that `probes` stands at 2^63 or below. It takes no memory.
+pub fn holder(extents: &[Extent], position: Position, probes: &mut Probes) -> Option<Extent>
+    requires settled { AreSettled extents.now }
+    requires count { probes.old ≤ 2 ^ 63 }
+    ensures found { MatchOption result (NoneHolds extents.now position) (IsHolder extents.now position) }
+
+    // The count rises. However many binary digits the number of extents is written in, it rises by no more.
+    ensures rises { probes.old ≤ probes.new }
+    ensures counted { (digits : ℕ) → length extents.now < 2 ^ digits → probes.new ≤ probes.old + digits }
+{
+    let mut low = 0;
+    let mut high = extents.len();
+    while low < high {
+        let middle = low + (high - low) / 2;
+        let extent = extents[middle];
+        match probe(extent.low, extent.high, position, probes) {
+            Side::Below => high = middle,
+            Side::Inside => return Some(extent),
+            Side::Above => low = middle + 1,
+        }
+    }
+    None
+}
+
+/// The last row of a sequence that isn't above the position.
+pub fn row_at(rows: SequenceRows<'_>, position: Position) -> Option<Row>
+    ensures { (list : List spec.Row) → WillGive list rows.entry → result ≡ sequence.row_at position list }
+{
+    let mut found = None;
+    for row in rows {
+        if !position.is_below(position_of(&row)) {
+            found = Some(row);
+        }
+    }
+    found
+}
+
+/// What a sequence of the unit at an offset answers at a position that it holds.
+pub fn answer_at(unit: u64, rows: SequenceRows<'_>, position: Position) -> Option<Answer>
+    ensures { (list : List spec.Row) → WillGive list rows.entry
+        → result ≡ option_map (sequence.answer_of unit) (sequence.row_at position list) }
+{
+    match row_at(rows, position) {
+        Some(row) => Some(answer_of(unit, &row)),
+        None => None,
+    }
+}

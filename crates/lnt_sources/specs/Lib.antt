@@ -1,0 +1,3 @@
+pub mod FaultTexts
+pub mod Files
+pub mod Halts

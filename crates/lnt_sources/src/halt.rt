@@ -1,0 +1,67 @@
+//! Why the work on a file was stopped.
+ghost use Rattle.std.specs.Prelude.{◌≡◌, Some};
+ghost use Rattle.lnt_sources.specs.FaultTexts.{halt_text};
+ghost use Rattle.lnt_sources.specs.Halts.{halt_of_source};
+ghost use Rattle.lnt_sources.specs.declared.halt.Halt.TheVariants.{Memory, Write};
+
+use lnt_wire::Stop;
+use std::alloc::AllocError;
+use std::error::Error;
+use std::{fmt, io};
+
+/// Why the work on a file was stopped. It judges nothing.
+#[derive(Clone, Copy, Debug, PartialEq, Eq)]
+pub enum Halt {
+    /// The file can't be opened or read.
+    Read,
+    /// The file has more bytes than are read of a file, [`LIMIT`](crate::LIMIT).
+    TooLong,
+    /// The writer failed.
+    Write,
+    /// Memory ran out.
+    Memory,
+}
+
+impl fmt::Display for Halt {
+    ghost output = { λ halt. Some (halt_text halt) };
+
+    fn fmt<W: fmt::Write>(&self, f: &mut fmt::Formatter<W>) -> fmt::Result {
+        match self {
+            Halt::Read => write!(f, "cannot read"),
+            Halt::TooLong => write!(f, "too long"),
+            Halt::Write => write!(f, "cannot write"),
+            Halt::Memory => write!(f, "out of memory"),
+        }
+    }
+}
+
+impl Error for Halt {}
+
+impl From<Stop> for Halt {
+    ghost from_gives = { λ stop halt. halt ≡ halt_of_source stop };
+
+    fn from(stop: Stop) -> Halt {
+        match stop {
+            Stop::Memory => Halt::Memory,
+            Stop::Read => Halt::Read,
+            Stop::TooLong => Halt::TooLong,
+        }
+    }
+}
+
+impl From<AllocError> for Halt {
+    ghost from_gives = { λ _ halt. halt ≡ Memory };
+
+    fn from(_error: AllocError) -> Halt {
+        Halt::Memory
+    }
+}
+
+// Only writes fail so: a failed read is told by its source.
+impl From<io::Error> for Halt {
+    ghost from_gives = { λ _ halt. halt ≡ Write };
+
+    fn from(_error: io::Error) -> Halt {
+        Halt::Write
+    }
+}

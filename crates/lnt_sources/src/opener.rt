@@ -1,0 +1,96 @@
+//! The files of names.
+ghost use Rattle.std.specs.Prelude.{◌≡◌, ◌≢◌, ◌^◌, ℕ, List, Option, IfOk, IfErr, IfSome, ⊤, false};
+ghost use Rattle.lnt_sources.specs.Files.{AreBytesOf, TellsNoMore};
+ghost use Rattle.lnt_sources.specs.Halts.{IsOpening};
+ghost use Rattle.lnt_sources.specs.declared.halt.Halt.TheVariants.{Memory, Write};
+
+use crate::halt::Halt;
+use lnt_wire::{Counted, Source, read_all};
+use std::alloc::Global;
+use std::io::{BufReader, Read};
+
+/// The most bytes that are read of a file, 2^40.
+pub const LIMIT: u64 = 1 << 40;
+
+// How many bytes are read of a file at once.
+const BLOCK: usize = 1 << 16;
+
+/// Gives readers of files by their names.
+///
+/// Contracts see it by a ghost member, `tells`: what may be told of the file of a name. That is all its bytes; or None,
+/// where its reader doesn't tell them. By default all of this may be told of each file, and so nothing is said of any.
+pub trait Opener {
+    /// Reads a file from its first byte on.
+    type Reader: Read + Drop;
+
+    ghost tells: { Self → List ℕ → Option (List ℕ) → Type 0 } = { λ _ _ _. ⊤ };
+
+    /// A reader of the file of this name, or none where it can't be opened.
+    fn reader_of(&mut self, name: &str) -> Option<Self::Reader>
+        ensures told { IfSome result (λ reader. tells self.old name.now (Self.Reader.remaining reader)) }
+        ensures later { TellsNoMore (tells self.old) (tells self.new) };
+
+    /// Another reader of a file that was read before. None where its bytes can't be read a second time, as those of
+    /// standard input or of a pipe.
+    fn reader_again(&mut self, _name: &str) -> Option<Self::Reader> {
+        None
+    }
+
+    /// Why the last file that failed couldn't be opened or read, as the system says it. None where it says nothing, or
+    /// where memory ran out.
+    fn reason(&mut self, _alloc: Global) -> Option<String> {
+        None
+    }
+}
+
+/// The file of this name, as a source of the bytes that it holds. It is read block by block, as they are asked for.
+///
+/// The source has not failed, wasn't found too long, and may give 2^40 bytes. It has to give what the opener tells of the
+/// file. It answers `Read` where the opener gives no reader, and else `Memory`, and nothing else.
+pub fn open_file<O: Opener>(
+    alloc: Global,
+    opener: &mut O,
+    name: &str,
+) -> Result<Counted<BufReader<O::Reader>>, Halt>
+    ensures failures { IfOk result (λ source. ⟦<Counted<BufReader<O::Reader>> as Source>⟧.failures source ≡ 0) }
+    ensures too_long { IfOk result (λ source. ⟦<Counted<BufReader<O::Reader>> as Source>⟧.too_long source ≡ false) }
+    ensures left { IfOk result (λ source. ⟦<Counted<BufReader<O::Reader>> as Source>⟧.left source ≡ 2 ^ 40) }
+    ensures told { IfOk result (λ source. O.tells opener.old name.now (⟦<Counted<BufReader<O::Reader>> as Source>⟧.remaining source)) }
+    ensures later { TellsNoMore (O.tells opener.old) (O.tells opener.new) }
+    ensures err { IfErr result IsOpening }
+{
+    match opener.reader_of(name) {
+        Some(reader) => source_of(alloc, reader),
+        None => Err(Halt::Read),
+    }
+}
+
+/// A reader's bytes as a source, read block by block, as they are asked for.
+///
+/// The source has not failed, wasn't found too long, and may give 2^40 bytes: those that the reader has to give. It
+/// answers `Memory`, and nothing else.
+pub fn source_of<R: Read + Drop>(alloc: Global, reader: R) -> Result<Counted<BufReader<R>>, Halt>
+    ensures failures { IfOk result (λ source. ⟦<Counted<BufReader<R>> as Source>⟧.failures source ≡ 0) }
+    ensures too_long { IfOk result (λ source. ⟦<Counted<BufReader<R>> as Source>⟧.too_long source ≡ false) }
+    ensures left { IfOk result (λ source. ⟦<Counted<BufReader<R>> as Source>⟧.left source ≡ 2 ^ 40) }
+    ensures remaining { IfOk result (λ source. ⟦<Counted<BufReader<R>> as Source>⟧.remaining source ≡ R.remaining reader) }
+    ensures err { IfErr result (λ halt. halt ≡ Memory) }
+{
+    match BufReader::with_capacity(alloc, BLOCK, reader) {
+        Ok(reader) => Ok(Counted::new(reader, LIMIT)),
+        Err(_) => Err(Halt::Memory),
+    }
+}
+
+/// All bytes of the file of this name, as the opener tells them.
+///
+/// It answers `Read` where the file can't be opened or read, `TooLong` where it has more bytes than are read of a file,
+/// and `Memory`; never `Write`.
+pub fn bytes_of_file<O: Opener>(alloc: Global, opener: &mut O, name: &str) -> Result<Vec<u8>, Halt>
+    ensures bytes { IfOk result (λ bytes. AreBytesOf (O.tells opener.old name.now) bytes.items) }
+    ensures later { TellsNoMore (O.tells opener.old) (O.tells opener.new) }
+    ensures err { IfErr result (λ halt. halt ≢ Write) }
+{
+    let mut source = open_file(alloc, opener, name)?;
+    Ok(read_all(alloc, &mut source)?)
+}
