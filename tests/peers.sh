@@ -68,6 +68,19 @@ compare() { # SECTION LINE_STR ORDER DEAD
   expect "$1 and a table of llvm-dwarfdump's rows" 0 $'yes\n' '' ./linetab check $big "${dead[@]}" "$1" "$work/table" --line-str "$2"
   lookups $big "${dead[@]}" "$1" --line-str "$2"
   same "lookups in $1 by llvm-dwarfdump"
+  llvm-dwarfdump --debug-line "$work/image" | examples/from-llvm "${dead[@]}" >"$work/theirs"
+  ./linetab table --paths $big "${dead[@]}" "$1" --line-str "$2" >"$work/ours"
+  same "the table by path of $1 by llvm-dwarfdump"
+}
+
+# A program of this machine's compiler, and its table of what addr2line says of where the spans of another begin and end.
+by_addr2line() {
+  printf '%s\n' 'static int twice(int x) { return x + x; }' 'int main(int n, char **v) {' '  while (--n)' '    v += twice(n);' \
+    '  return v == 0;' '}' >"$work/loop.c"
+  (cd "$work" && cc -gdwarf-5 -O1 -o loop loop.c) && ./linetab-object table "$work/loop" 2>"$work/err" >"$work/table" || { echo "skipped: cc makes no DWARF 5"; return; }
+  awk -F, 'NR > 1 { print $1; print $3 }' "$work/table" | addr2line -a -e "$work/loop" | examples/from-addr2line >"$work/theirs"
+  ./linetab-object table "$work/loop" --lines >"$work/ours" 2>"$work/err"
+  same "the table of a program's lines by addr2line"
 }
 
 for tool in llvm-objcopy llvm-dwarfdump readelf; do
@@ -80,6 +93,10 @@ if [ $# -eq 0 ]; then
   set -- "$@" examples/gc-sections.debug_line examples/gc-sections.debug_line_str little 0x0000000000000000
   set -- "$@" examples/powerpc64.debug_line examples/powerpc64.debug_line_str big -
 fi
+for tool in cc addr2line; do
+  command -v "$tool" >/dev/null || { echo "skipped: $tool isn't here"; without=$tool; }
+done
+[ -n "${without:-}" ] || by_addr2line
 while [ $# -ge 4 ]; do
   compare "$1" "$2" "$3" "$4"
   shift 4

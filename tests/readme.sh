@@ -70,6 +70,13 @@ done
 page README.md
 expect 'the table of app' 0 '' '' cmp "$there/app.csv" examples/hello.csv
 page docs/STORES.md
+# The Python of a page, block after block: a table that is the program's own, and an answer from it.
+sed -n '/^```python$/,/^```$/{/^```/!p}' docs/TABLES.md >"$work/page.py"
+if command -v python3 >/dev/null; then
+  expect "a table of one's own, and an answer from it" 0 $'/w/src/small/a.c 2\n' '' bash -c 'cd "$0" && python3 "$1"' "$there" "$work/page.py"
+  expect 'it is the one that is printed' 0 "$(<"$there/mine.csv")"$'\n' '' \
+    ./linetab table --lines examples/hello.debug_line --line-str examples/hello.debug_line_str
+fi
 command -v make >/dev/null && expect 'the answers of a store' 0 $'yes\nyes\n' '' bash -c 'cat "$0"/store/*/*.answer' "$there"
 while IFS= read -r command; do
   runs "$command"
