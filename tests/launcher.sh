@@ -18,12 +18,15 @@ cat >"$work/bin/rt" <<END
 #!/usr/bin/env bash
 echo "\$1" >>"$work/asked"
 case \$1 in
-  lib) [ "\${PWD##*/}" != lnt_header ] || [ ! -e "$work/no_header" ] ;;
+  lib) [ ! -e "$work/no_\${PWD##*/}" ] ;;
   all) sleep 1; printf '== %s\n' lnt_wire lnt_header linetab summary; [ ! -e "$work/broken" ] ;;
   run) mkdir -p out && cp "$top/crates/linetab/out/linetab" out/linetab ;;
 esac
 END
-chmod +x "$work/bin/rt"
+# The machine has as many processors as a file says.
+printf '#!/usr/bin/env bash\ncat "%s"\n' "$work/processors" >"$work/bin/nproc"
+echo 1 >"$work/processors"
+chmod +x "$work/bin/rt" "$work/bin/nproc"
 with_rt() { env PATH="$work/bin:$work/without" "$@"; }
 without_rt() { env PATH="$work/without" "$@"; }
 # The same, with what is said of seconds and of the folder made plain.
@@ -39,10 +42,10 @@ section=$top/examples/hello.debug_line
 
 expect 'no program and no toolchain' 127 '' "linetab: the program isn't built: it would be WORK/tree/crates/linetab/out/linetab. To prove and build it, install the Rattle toolchain, so that its command rt is on the PATH"$'\n' \
   plainly without_rt "$tree/linetab" units "$section"
-touch "$work/no_header"
+touch "$work/no_lnt_header"
 expect 'a crate that others wait for is not proved' 126 '' $'linetab: proving and building the program, which takes some minutes the first time\nlinetab: proved lnt_wire (1 of '"$all"$'), N s\n== lnt_wire\nlinetab: the program isn\'t proved\n' \
   plainly with_rt "$tree/linetab" units "$section"
-mv "$work/no_header" "$work/broken"
+mv "$work/no_lnt_header" "$work/broken"
 expect 'a crate that is not proved' 126 '' $'linetab: proving and building the program, which takes some minutes the first time\nlinetab: proved lnt_wire (1 of '"$all"$'), N s\nlinetab: proved lnt_header (2 of '"$all"$'), N s\nlinetab: proved lnt_header_bytes (3 of '"$all"$'), N s\nlinetab: proved lnt_ops (4 of '"$all"$'), N s\nlinetab: proved linetab (5 of '"$all"$'), N s\n== lnt_wire\n== lnt_header\n== lnt_header_bytes\n== lnt_ops\n== lnt_wire\n== lnt_header\n== linetab\n== summary\nlinetab: the program isn\'t proved\n' \
   plainly with_rt "$tree/linetab" units "$section"
 rm "$work/broken" "$work/asked"
@@ -59,4 +62,18 @@ rm "$work/asked"
 expect 'a changed source, and two that ask at once' 0 $'0x0 64 172\n' '' \
   env PATH="$work/bin:$work/without" bash -c '"$0" convert "$1" --format 64 --order little 2>/dev/null | "$0" units - 2>/dev/null' "$tree/linetab" "$section"
 expect 'are one build' 0 $'lib\nlib\nlib\nlib\nall\nrun\n' '' cat "$work/asked"
+# Where four work at a time, which wants 12 GB, the crates are proved in three lists side by side.
+if [ "$(awk '/^MemAvailable:/ { print int($2 / 3000000) }' /proc/meminfo)" -ge 4 ]; then
+  echo 4 >"$work/processors"
+  rm "$work/asked"
+  echo '// changed again' >>"$tree/crates/lnt_wire/src/lib.rt"
+  touch "$work/no_lnt_text"
+  expect 'four at a time, and a crate that is not proved' 126 '' '' bash -c '"$@" 2>/dev/null' '' env PATH="$work/bin:$work/without" "$tree/linetab" units "$section"
+  rm "$work/no_lnt_text" "$work/asked"
+  expect 'four at a time' 0 $'0x0 32 156\n' '' bash -c '"$@" 2>"$0"' "$work/told" env PATH="$work/bin:$work/without" "$tree/linetab" units "$section"
+  expect 'each crate is told of, but that which lnt_wire alone stands on' 0 "$((all - 1))"$'\n' '' bash -c 'sed -n "s/^linetab: proved \([a-z_]*\) .*/\1/p" "$0" | sort -u | wc -l' "$work/told"
+  expect 'and asked for once' 0 $'1 all\n'"$((all - 2))"$' lib\n1 run\n' '' bash -c 'sort "$0" | uniq -c | sed "s/^ *//"' "$work/asked"
+else
+  echo 'skipped: too little memory for four at a time'
+fi
 finish
