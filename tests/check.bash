@@ -1,6 +1,7 @@
 # For the scripts of tests/: runs a command and compares what it writes and its exit status with what is wanted.
 passed=0
 failed=0
+skipped=0
 work=$(mktemp -d) || exit 1
 trap 'rm -rf "$work"' EXIT
 
@@ -45,9 +46,17 @@ is_written() {
   diff "$work/err.wanted" "$work/err" | head -n 10
 }
 
-# Prints the counts, and ends the script.
+# Leaves something out, and says why.
+skip() { # TEXT
+  skipped=$((skipped + 1))
+  echo "skipped: $1"
+}
+
+# Prints the counts, with what was left out, and ends the script.
 finish() {
-  echo "$passed passed, $failed failed"
+  local left_out=
+  [ "$skipped" -eq 0 ] || left_out=", $skipped skipped"
+  echo "$passed passed, $failed failed$left_out"
   [ "$failed" -eq 0 ]
   exit
 }

@@ -10,7 +10,7 @@ hello=(examples/hello.debug_line examples/hello.csv --line-str examples/hello.de
 
 # Whether a tool is here; else this is told, and what needs it is left out.
 here() {
-  command -v "$1" >/dev/null || { echo "skipped: $1 isn't here"; return 1; }
+  command -v "$1" >/dev/null || { skip "$1 isn't here"; return 1; }
 }
 # The words of the help, and the options of one of them, or of none, each on a line, in order.
 words() {
@@ -125,7 +125,7 @@ release() {
   expect 'what it is linked with' 0 $'ld-linux-x86-64.so.2\nlibc.so.6\n' '' \
     bash -c 'cd "$0" && find . -name "*.so*" | sed "s,.*/,," | sort' "$root"
   "${enter[@]}" "$root" /opt/bin/linetab --help >"$work/help" 2>&1 || [ -s "$work/help" ] && ! grep -q '^Usage' "$work/help" &&
-    { echo "skipped: no other root can be entered"; return; }
+    { skip "no other root can be entered"; return; }
   expect 'under a bare root' 0 $'yes\n' '' "${enter[@]}" "$root" /opt/bin/linetab check "${hello[@]}"
 }
 

@@ -74,6 +74,6 @@ if [ "$(awk '/^MemAvailable:/ { print int($2 / 3000000) }' /proc/meminfo)" -ge 4
   expect 'each crate is told of, but that which lnt_wire alone stands on' 0 "$((all - 1))"$'\n' '' bash -c 'sed -n "s/^linetab: proved \([a-z_]*\) .*/\1/p" "$0" | sort -u | wc -l' "$work/told"
   expect 'and asked for once' 0 $'1 all\n'"$((all - 2))"$' lib\n1 run\n' '' bash -c 'sort "$0" | uniq -c | sed "s/^ *//"' "$work/asked"
 else
-  echo 'skipped: too little memory for four at a time'
+  skip 'there is too little memory for four at a time'
 fi
 finish

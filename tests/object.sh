@@ -4,7 +4,6 @@
 cd "$(dirname "$0")/.." || exit 1
 . tests/check.bash
 work=$(cd "$work" && pwd -P)
-skipped=0
 hello=(.debug_line=examples/hello.debug_line .debug_line_str=examples/hello.debug_line_str)
 dead=(.debug_line=examples/gc-sections.debug_line .debug_line_str=examples/gc-sections.debug_line_str)
 table=$(cat examples/hello.csv)$'\n'
@@ -344,7 +343,7 @@ installed() {
     "$says note: the debug information of $file is in $found"$'\n' object units "$file"
 }
 
-command -v python3 >/dev/null || { echo "skipped: python3 isn't here"; finish; }
+command -v python3 >/dev/null || { skip "python3 isn't here"; finish; }
 # The interpreter itself, where python3 is a script that looks for one.
 PATH=$(dirname "$(python3 -c 'import sys; print(sys.executable)')"):$PATH
 formats
@@ -358,5 +357,4 @@ cuts
 changes
 compiled
 installed
-[ "$skipped" -eq 0 ] || echo "skipped: $skipped cases of tools that aren't here"
 finish

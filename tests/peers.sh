@@ -77,14 +77,14 @@ compare() { # SECTION LINE_STR ORDER DEAD
 by_addr2line() {
   printf '%s\n' 'static int twice(int x) { return x + x; }' 'int main(int n, char **v) {' '  while (--n)' '    v += twice(n);' \
     '  return v == 0;' '}' >"$work/loop.c"
-  (cd "$work" && cc -gdwarf-5 -O1 -o loop loop.c) && ./linetab-object table "$work/loop" 2>"$work/err" >"$work/table" || { echo "skipped: cc makes no DWARF 5"; return; }
+  (cd "$work" && cc -gdwarf-5 -O1 -o loop loop.c) && ./linetab-object table "$work/loop" 2>"$work/err" >"$work/table" || { skip "cc makes no DWARF 5"; return; }
   awk -F, 'NR > 1 { print $1; print $3 }' "$work/table" | addr2line -a -e "$work/loop" | examples/from-addr2line >"$work/theirs"
   ./linetab-object table "$work/loop" --lines >"$work/ours" 2>"$work/err"
   same "the table of a program's lines by addr2line"
 }
 
 for tool in llvm-objcopy llvm-dwarfdump readelf; do
-  command -v "$tool" >/dev/null || { echo "skipped: $tool isn't here"; finish; }
+  command -v "$tool" >/dev/null || { skip "$tool isn't here"; finish; }
 done
 if [ $# -eq 0 ]; then
   for name in hello hello-clang; do
@@ -94,7 +94,7 @@ if [ $# -eq 0 ]; then
   set -- "$@" examples/powerpc64.debug_line examples/powerpc64.debug_line_str big -
 fi
 for tool in cc addr2line; do
-  command -v "$tool" >/dev/null || { echo "skipped: $tool isn't here"; without=$tool; }
+  command -v "$tool" >/dev/null || { skip "$tool isn't here"; without=$tool; }
 done
 [ -n "${without:-}" ] || by_addr2line
 while [ $# -ge 4 ]; do

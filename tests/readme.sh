@@ -13,7 +13,7 @@ lacks() { # COMMAND
   for tool in parallel make python3; do
     [[ " $1" == *" $tool "* || $tool == python3 && $1 == *linetab-object* || $tool == parallel && $1 == *tables.log* ]] &&
       ! command -v "$tool" >/dev/null &&
-      echo "skipped: $tool isn't here: $1" && return
+      skip "$tool isn't here: $1" && return
   done
   return 1
 }

@@ -3,7 +3,7 @@
 cd "$(dirname "$0")/.." || exit 1
 . tests/check.bash
 for tool in clang objcopy; do
-  command -v "$tool" >/dev/null || { echo "skipped: $tool isn't here"; finish; }
+  command -v "$tool" >/dev/null || { skip "$tool isn't here"; finish; }
 done
 folder=$(cd "$work" && pwd -P)
 source=$folder/sum.c
