@@ -1,11 +1,18 @@
--- The opcode and the operand of each operation, and which operations a header admits (DWARF 5, sections 6.2.5 and 7.22).
-use Rattle.std.specs.Prelude.{◌≡◌, ◌≢◌, ℕ, ◌-◌, ◌^◌, ◌<◌, ◌≤◌, ℤ, List, length, slice_index}
+-- The opcode and the operand of each operation, which operations a header admits, and such whose unknown operands are borrowed (DWARF 5,
+-- sections 6.2.5 and 7.22).
+use Rattle.std.specs.Prelude.{◌≡◌, ◌≢◌, ℕ, ◌-◌, ◌^◌, ◌<◌, ◌≤◌, ℤ, List, [], ◌∷◌, length, slice_index}
+use Rattle.lnt_wire.specs.Leb128.{UnsignedLeb}
 use Rattle.lnt_header.specs.declared.header.HeaderParts.{HeaderParts}
 use Rattle.lnt_header.specs.declared.op.Op.{Op}
 use Rattle.lnt_header.specs.declared.op.Op.TheVariants.{Special, Copy, AdvancePc, AdvanceLine, SetFile, SetColumn}
 use Rattle.lnt_header.specs.declared.op.Op.TheVariants.{NegateStmt, SetBasicBlock, ConstAddPc, FixedAdvancePc}
 use Rattle.lnt_header.specs.declared.op.Op.TheVariants.{SetPrologueEnd, SetEpilogueBegin, SetIsa, UnknownStandard}
 use Rattle.lnt_header.specs.declared.op.Op.TheVariants.{EndSequence, SetAddress, SetDiscriminator, UnknownExtended}
+use Rattle.lnt_header.specs.declared.op.OpView.{OpView}
+use Rattle.lnt_header.specs.declared.op.OpView.TheVariants as views
+use Rattle.lnt_header.specs.declared.op.Operands.{Operands}
+use Rattle.lnt_header.specs.declared.op.Operands.TheVariants.{Spelled, Listed}
+use Rattle.lnt_header.specs.Joins.{Each}
 
 -- ---- opcodes and operands
 
@@ -48,6 +55,10 @@ coding (SetAddress address) = extended_address 2 address
 coding (SetDiscriminator n) = extended_number 4 n
 coding (UnknownExtended code bytes) = unknown_extended code bytes
 
+-- how many operands each of the standard opcodes 1 to 12 has
+abbrev pub known_lengths : List ℕ
+known_lengths = 0 ∷ 1 ∷ 1 ∷ 1 ∷ 1 ∷ 0 ∷ 0 ∷ 0 ∷ 1 ∷ 0 ∷ 0 ∷ 1 ∷ []
+
 -- ---- what a header admits
 
 -- how many operands the header gives standard opcode k
@@ -71,3 +82,58 @@ AdmitsCoding h (unknown_extended code bytes) = (code ≢ 1) × (code ≢ 2) × (
 -- The header admits the operation: its number belongs to its kind, and its operands fit.
 abbrev pub Admits : HeaderParts → Op → Type 0
 Admits h op = AdmitsCoding h (coding op)
+
+-- ---- operations whose unknown operands are borrowed
+
+-- the numbers that borrowed operands stand for
+abbrev pub AreOperands : Operands → List ℕ → Type 0
+AreOperands (Spelled bytes) numbers = Each UnsignedLeb numbers bytes.now
+AreOperands (Listed listed) numbers = listed.now ≡ numbers
+
+-- The view stands for the operation: it is of the same kind and has the same operands.
+abbrev pub StandsFor : OpView → Op → Type 0
+StandsFor (views.Special c) (Special d) = c ≡ d
+StandsFor views.Copy Copy = Unit {0}
+StandsFor (views.AdvancePc m) (AdvancePc n) = m ≡ n
+StandsFor (views.AdvanceLine y) (AdvanceLine z) = y ≡ z
+StandsFor (views.SetFile m) (SetFile n) = m ≡ n
+StandsFor (views.SetColumn m) (SetColumn n) = m ≡ n
+StandsFor views.NegateStmt NegateStmt = Unit {0}
+StandsFor views.SetBasicBlock SetBasicBlock = Unit {0}
+StandsFor views.ConstAddPc ConstAddPc = Unit {0}
+StandsFor (views.FixedAdvancePc m) (FixedAdvancePc n) = m ≡ n
+StandsFor views.SetPrologueEnd SetPrologueEnd = Unit {0}
+StandsFor views.SetEpilogueBegin SetEpilogueBegin = Unit {0}
+StandsFor (views.SetIsa m) (SetIsa n) = m ≡ n
+StandsFor (views.UnknownStandard j operands) (UnknownStandard k numbers) = (j ≡ k) × AreOperands operands numbers
+StandsFor views.EndSequence EndSequence = Unit {0}
+StandsFor (views.SetAddress m) (SetAddress n) = m ≡ n
+StandsFor (views.SetDiscriminator m) (SetDiscriminator n) = m ≡ n
+StandsFor (views.UnknownExtended c bytes) (UnknownExtended d operand) = (c ≡ d) × (bytes.now ≡ operand)
+StandsFor view op = ⊥
+
+-- the operation of a view, with these operands where it is an unknown standard one
+abbrev pub op_of : OpView → List ℕ → Op
+op_of (views.Special c) operands = Special c
+op_of views.Copy operands = Copy
+op_of (views.AdvancePc n) operands = AdvancePc n
+op_of (views.AdvanceLine z) operands = AdvanceLine z
+op_of (views.SetFile n) operands = SetFile n
+op_of (views.SetColumn n) operands = SetColumn n
+op_of views.NegateStmt operands = NegateStmt
+op_of views.SetBasicBlock operands = SetBasicBlock
+op_of views.ConstAddPc operands = ConstAddPc
+op_of (views.FixedAdvancePc n) operands = FixedAdvancePc n
+op_of views.SetPrologueEnd operands = SetPrologueEnd
+op_of views.SetEpilogueBegin operands = SetEpilogueBegin
+op_of (views.SetIsa n) operands = SetIsa n
+op_of (views.UnknownStandard k spelled) operands = UnknownStandard k operands
+op_of views.EndSequence operands = EndSequence
+op_of (views.SetAddress n) operands = SetAddress n
+op_of (views.SetDiscriminator n) operands = SetDiscriminator n
+op_of (views.UnknownExtended c bytes) operands = UnknownExtended c bytes.now
+
+-- the operands of an unknown standard operation; of others none
+abbrev pub operands_of : Op → List ℕ
+operands_of (UnknownStandard k operands) = operands
+operands_of op = []

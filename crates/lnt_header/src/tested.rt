@@ -8,10 +8,8 @@ ghost use Rattle.lnt_header.specs.HeaderTests.{IsFirstNot, HasNumbersAndFormats,
 
 use crate::fault::UnitFault;
 use crate::header::{Entry, HeaderParts, Pair, Which};
+use crate::op::KNOWN_LENGTHS;
 use lnt_wire::FormValue;
-
-// How many operands each of the known opcodes 1 to 12 has.
-const KNOWN_LENGTHS: [u8; 12] = [0, 1, 1, 1, 1, 0, 0, 0, 1, 0, 0, 1];
 
 /// What is wrong with the parts, if no header has them.
 #[tactic(auto, using(crate::proofs::TestLemmas::tests_passed))]

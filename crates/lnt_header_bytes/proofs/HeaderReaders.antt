@@ -18,7 +18,8 @@ use Rattle.lnt_header_bytes.specs.TableFaults.{IsTableFault}
 use Rattle.lnt_header_bytes.specs.FieldsBytes.{FieldsBytes, BehindSingles, BehindLengths, TwoTables, TwoTablesFault, BehindSinglesFault, IsHeaderFault}
 use Rattle.lnt_header_bytes.specs.Laws.Tables.{same_table}
 use Rattle.lnt_header_bytes.specs.declared.numbers.Singles.{Singles}
-use Rattle.lnt_header.specs.HeaderRules.{known_lengths, AreStandardLengths}
+use Rattle.lnt_header.specs.HeaderRules.{AreStandardLengths}
+use Rattle.lnt_header.specs.OpRules.{known_lengths}
 use Rattle.lnt_header_bytes.specs.HeaderFaults.{SinglesBytes, AreCutSingles, IsSinglesFault, LengthsBytes, AreCutLengths, IsLengthsFault}
 
 -- a fault behind so many bytes

@@ -14,7 +14,8 @@ use Rattle.lnt_wire.specs.FormBytes.{IsUnknownForm}
 use Rattle.lnt_wire.specs.FrameBytes.{version_five}
 use Rattle.lnt_wire.specs.FrameFaults.{InFrame, IsCutFrame, IsReserved, IsOtherVersion, IsFrameFault}
 use Rattle.lnt_header.specs.FieldFaults.{IsCutField, IsLargeLeb, IsWrongLength}
-use Rattle.lnt_header.specs.HeaderRules.{IsAddressSize, known_lengths, AreStandardLengths}
+use Rattle.lnt_header.specs.HeaderRules.{IsAddressSize, AreStandardLengths}
+use Rattle.lnt_header.specs.OpRules.{known_lengths}
 use Rattle.lnt_header_bytes.specs.FieldsBytes.{IsHeaderFault}
 use Rattle.lnt_header_bytes.specs.HeaderBytes.{HeaderBytesIn}
 use Rattle.lnt_header_bytes.specs.StartBytes.{IsStartFault}

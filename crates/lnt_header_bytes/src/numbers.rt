@@ -1,9 +1,10 @@
 //! The fields of one byte of a header.
 ghost use Rattle.std.specs.Prelude.{◌≡◌, ◌≢◌, ◌-◌, ◌+◌, ◌<◌, ◌≤◌, ◌^◌, ℕ, length, take, slice_index, IfOk, IfErr};
 ghost use Rattle.lnt_wire.specs.Reading.{Reads, Refuses};
-ghost use Rattle.lnt_header.specs.HeaderRules.{known_lengths};
+ghost use Rattle.lnt_header.specs.OpRules.{known_lengths};
 ghost use Rattle.lnt_header_bytes.specs.HeaderFaults.{SinglesBytes, IsSinglesFault, LengthsBytes, IsLengthsFault};
 
+use lnt_header::known_length;
 use lnt_wire::{Cursor, Fault, Reason};
 
 /// The fields of one byte up to the standard opcode lengths.
@@ -56,18 +57,6 @@ pub(crate) fn read_singles(cursor: &mut Cursor<'_>) -> Result<Singles, Fault>
             place: place + bytes.len() as u64,
             reason: Reason::Truncated,
         }),
-    }
-}
-
-/// How many operands a known opcode has.
-fn known_length(opcode: u8) -> u8
-    requires low { 1 ≤ opcode }
-    requires high { opcode ≤ 12 }
-    ensures { result ≡ slice_index known_lengths (opcode - 1) }
-{
-    match opcode {
-        2 | 3 | 4 | 5 | 9 | 12 => 1,
-        _ => 0,
     }
 }
 

@@ -20,7 +20,7 @@ use Rattle.lnt_header.specs.declared.op.Op.TheVariants as ops
 use Rattle.lnt_header.specs.declared.op.OpView.{OpView}
 use Rattle.lnt_header.specs.declared.op.OpView.TheVariants as views
 use Rattle.lnt_header.specs.FieldFaults.{IsWrongOperand}
-use Rattle.lnt_header.specs.OpViews.{StandsFor}
+use Rattle.lnt_header.specs.OpRules.{StandsFor}
 use Rattle.lnt_ops.proofs.StandardReaders.{behind_byte}
 use Rattle.lnt_ops.specs.Laws.Ops.{tag, extended_tag}
 use Rattle.lnt_ops.specs.OpBytes.{Extended, OpBytes}

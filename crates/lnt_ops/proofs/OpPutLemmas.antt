@@ -24,9 +24,8 @@ use Rattle.lnt_header.specs.declared.op.OpView.{OpView}
 use Rattle.lnt_header.specs.declared.op.OpView.TheVariants as views
 use Rattle.lnt_header.specs.declared.op.Operands.{Operands}
 use Rattle.lnt_header.specs.declared.op.Operands.TheVariants.{Spelled, Listed}
-use Rattle.lnt_header.specs.OpViews.{AreOperands, StandsFor, op_of, operands_of}
+use Rattle.lnt_header.specs.OpRules.{AreOperands, StandsFor, op_of, operands_of, Admits}
 use Rattle.lnt_header.specs.Joins.{Each}
-use Rattle.lnt_header.specs.OpRules.{Admits}
 use Rattle.lnt_header.specs.Laws.Puts.{put_as, each_begun, each_put, each_more, each_done}
 use Rattle.lnt_ops.specs.Laws.Ops.{same_whole}
 use Rattle.lnt_ops.specs.Laws.Views.{leb_is_some, is_op_of}

@@ -16,7 +16,7 @@ use Rattle.lnt_header.specs.declared.op.OpView.TheVariants as views
 use Rattle.lnt_header.specs.Laws.Readers.{reads_map}
 use Rattle.lnt_ops.specs.Laws.Ops.{tag, standard_tag}
 use Rattle.lnt_ops.specs.OpBytes.{Standard, OpBytes}
-use Rattle.lnt_ops.specs.OpFaults.{IsFirstFault}
+use Rattle.lnt_ops.specs.OpFaults.{following, IsFirstFault}
 use Rattle.lnt_ops.specs.OpFaults.IsFirstFault.{unsigned_operand, signed_operand, fixed_operand}
 use Rattle.lnt_ops.specs.OpSteps.{BehindBytes, IsFaultBehind, GivesBehind}
 
@@ -207,7 +207,7 @@ pub refuses_advance_pc : (h : HeaderParts) (k : ℕ) (old : At) (fault : Fault) 
     → RefusesField (IsLebFault IsLargeUnsigned) UnsignedLeb old fault
     → Refuses (IsFaultBehind h k) (BehindBytes h k) old fault
 refuses_advance_pc h k old fault e lt r =
-    operand_refused UnsignedLeb h k 2 old fault e (omega arith) lt (operand_2 h) (λ p. unsigned_operand k (inl e) lt refl p) r
+    operand_refused UnsignedLeb h k 2 old fault e (omega arith) lt (operand_2 h) (λ p. unsigned_operand k (ap following e) lt refl p) r
 
 pub refuses_advance_line : (h : HeaderParts) (k : ℕ) (old : At) (fault : Fault) → k ≡ 3 → k < h.opcode_base
     → RefusesField (IsLebFault IsLargeSigned) SignedLeb old fault
@@ -220,13 +220,13 @@ pub refuses_set_file : (h : HeaderParts) (k : ℕ) (old : At) (fault : Fault) �
     → RefusesField (IsLebFault IsLargeUnsigned) UnsignedLeb old fault
     → Refuses (IsFaultBehind h k) (BehindBytes h k) old fault
 refuses_set_file h k old fault e lt r =
-    operand_refused UnsignedLeb h k 4 old fault e (omega arith) lt (operand_4 h) (λ p. unsigned_operand k (inr (inl e)) lt refl p) r
+    operand_refused UnsignedLeb h k 4 old fault e (omega arith) lt (operand_4 h) (λ p. unsigned_operand k (ap following e) lt refl p) r
 
 pub refuses_set_column : (h : HeaderParts) (k : ℕ) (old : At) (fault : Fault) → k ≡ 5 → k < h.opcode_base
     → RefusesField (IsLebFault IsLargeUnsigned) UnsignedLeb old fault
     → Refuses (IsFaultBehind h k) (BehindBytes h k) old fault
 refuses_set_column h k old fault e lt r =
-    operand_refused UnsignedLeb h k 5 old fault e (omega arith) lt (operand_5 h) (λ p. unsigned_operand k (inr (inr (inl e))) lt refl p) r
+    operand_refused UnsignedLeb h k 5 old fault e (omega arith) lt (operand_5 h) (λ p. unsigned_operand k (ap following e) lt refl p) r
 
 pub refuses_fixed_advance_pc : (h : HeaderParts) (k : ℕ) (old : At) (fault : Fault) → k ≡ 9 → k < h.opcode_base → old.order ≡ h.order
     → RefusesField (IsCutShort 2) (NumberBytes old.order 2) old fault
@@ -241,4 +241,4 @@ pub refuses_set_isa : (h : HeaderParts) (k : ℕ) (old : At) (fault : Fault) →
     → RefusesField (IsLebFault IsLargeUnsigned) UnsignedLeb old fault
     → Refuses (IsFaultBehind h k) (BehindBytes h k) old fault
 refuses_set_isa h k old fault e lt r =
-    operand_refused UnsignedLeb h k 12 old fault e (omega arith) lt (operand_12 h) (λ p. unsigned_operand k (inr (inr (inr e))) lt refl p) r
+    operand_refused UnsignedLeb h k 12 old fault e (omega arith) lt (operand_12 h) (λ p. unsigned_operand k (ap following e) lt refl p) r

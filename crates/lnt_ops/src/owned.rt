@@ -2,7 +2,7 @@
 ghost use Rattle.std.specs.Prelude.{IfOk};
 ghost use Rattle.lnt_wire.specs.Leb128.{UnsignedLeb};
 ghost use Rattle.lnt_header.specs.Joins.{Each};
-ghost use Rattle.lnt_header.specs.OpViews.{AreOperands, StandsFor};
+ghost use Rattle.lnt_header.specs.OpRules.{AreOperands, StandsFor};
 ghost use Rattle.lnt_ops.specs.OperandLists.{IsOperands, SpellsNumbers};
 ghost use Rattle.lnt_ops.specs.Programs.{IsView};
 

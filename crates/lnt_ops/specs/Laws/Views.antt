@@ -8,7 +8,7 @@ use Rattle.lnt_header.specs.declared.op.OpView.{OpView}
 use Rattle.lnt_header.specs.declared.op.OpView.TheVariants as views
 use Rattle.lnt_header.specs.declared.op.Operands.{Operands}
 use Rattle.lnt_header.specs.declared.op.Operands.TheVariants.{Spelled, Listed}
-use Rattle.lnt_header.specs.OpViews.{AreOperands, op_of, operands_of, StandsFor}
+use Rattle.lnt_header.specs.OpRules.{AreOperands, op_of, operands_of, StandsFor}
 use Rattle.lnt_ops.specs.Laws.Ops.{same_whole}
 
 some_leb : (bytes : List ℕ) → IsLeb bytes → 0 < length bytes
