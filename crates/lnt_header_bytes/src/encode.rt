@@ -76,7 +76,7 @@ pub(crate) fn add_around(
     Ok(())
 }
 
-// How many bytes a unit has behind its initial length.
+// How many bytes a unit has after its initial length.
 fn unit_length(format: Format, fields: usize, program: usize) -> Result<u64, EncodeFault>
     ensures ok { IfOk result (λ length. (length ≡ 4 + offset_size format + fields + program) × LengthFits format length) }
     ensures err { IfErr result (λ fault. (fault ≡ EncodeFault.TooLarge) × (LengthFits format (4 + offset_size format + fields + program) → ⊥)) }
