@@ -52,7 +52,7 @@ fn put_start(text: &mut Vec<u8>, index: u64) -> Result<(), AllocError> {
     put_one(text, b' ')
 }
 
-// Adds an operation.
+// Adds the name and the operands of an operation, as its line has them.
 fn put_op(text: &mut Vec<u8>, op: &OpView<'_>) -> Result<(), AllocError> {
     match op {
         OpView::Special(opcode) => put_named(text, b"special ", u64::from(*opcode)),

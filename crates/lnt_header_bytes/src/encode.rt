@@ -143,7 +143,7 @@ fn counted_fields(alloc: Global, parts: &HeaderParts) -> Result<Vec<u8>, EncodeF
     Ok(out)
 }
 
-// Adds a table.
+// Adds a table: its format, the number of its entries, and these.
 #[tactic(auto, using(crate::proofs::EncodeLemmas::table_put, crate::proofs::EncodeLemmas::table_refused, lnt_header::specs::Laws::Puts::refused_memory, crate::proofs::LargeLemmas::memory_not_large))]
 fn add_table(
     out: &mut Vec<u8>,

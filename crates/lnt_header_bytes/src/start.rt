@@ -14,7 +14,7 @@ pub(crate) struct Start<'a> {
     pub header: &'a [u8],
 }
 
-/// The fields.
+/// Reads the address size, which is 2, 4 or 8, the segment selector size, which is 0, and the bytes that header_length counts.
 #[tactic(auto, using(crate::proofs::StartReaders::size_refused, crate::proofs::StartReaders::selector_refused, crate::proofs::StartReaders::counted_refused, crate::proofs::StartReaders::start_read))]
 pub(crate) fn read_start<'a>(cursor: &mut Cursor<'a>, format: Format) -> Result<Start<'a>, Fault>
     ensures ok { IfOk result (λ s. Reads (StartBytes format cursor.old.order) (s.address_size, (s.selector_size, s.header.now)) cursor.old cursor.new) }

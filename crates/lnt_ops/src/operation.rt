@@ -6,7 +6,7 @@ ghost use Rattle.lnt_ops.specs.OpBytes.{OpBytes};
 ghost use Rattle.lnt_ops.specs.OpFaults.{IsFirstFault, IsOpFault};
 ghost use Rattle.lnt_ops.specs.OpReading.{GivesOp};
 ghost use Rattle.lnt_ops.specs.Programs.{IsView};
-ghost use Rattle.lnt_ops.specs.OpSteps.{BehindBytes, IsFaultBehind, GivesBehind};
+ghost use Rattle.lnt_ops.specs.OpSteps.{BytesAfter, IsFaultAfter, GivesAfter};
 
 use crate::extended::read_extended;
 use crate::owned::owned_operands;
@@ -23,7 +23,7 @@ use std::alloc::{AllocError, Global};
 /// An extended operation whose length isn't that of its code and operand is `ExtendedLength` at the length; where
 /// the bytes end before the length does, it is `Truncated` at the first byte that the length counts.
 #[inline(always)]
-#[tactic(auto, using(crate::proofs::OpReaders::gives_special, crate::proofs::OpReaders::gives_behind, crate::proofs::OpReaders::first_opcode, crate::proofs::OpReaders::first_behind, crate::proofs::OpReaders::refuses_opcode, crate::proofs::OpReaders::refuses_behind))]
+#[tactic(auto, using(crate::proofs::OpReaders::gives_special, crate::proofs::OpReaders::gives_after, crate::proofs::OpReaders::first_opcode, crate::proofs::OpReaders::first_after, crate::proofs::OpReaders::refuses_opcode, crate::proofs::OpReaders::refuses_after))]
 pub fn read_op<'a>(cursor: &mut Cursor<'a>, header: &Header) -> Result<OpView<'a>, Fault>
     requires { cursor.old.order ≡ header.now.order }
     ensures ok { IfOk result (λ view. GivesOp header.now view cursor.old cursor.new) }
@@ -37,7 +37,7 @@ pub fn read_op<'a>(cursor: &mut Cursor<'a>, header: &Header) -> Result<OpView<'a
         *cursor = ahead;
         return Ok(OpView::Special(opcode));
     }
-    let view = read_behind(&mut ahead, header, opcode)?;
+    let view = read_operand(&mut ahead, header, opcode)?;
     *cursor = ahead;
     Ok(view)
 }
@@ -45,15 +45,15 @@ pub fn read_op<'a>(cursor: &mut Cursor<'a>, header: &Header) -> Result<OpView<'a
 // What follows an opcode below the first special one, which was read.
 #[inline(always)]
 #[tactic(auto, using(crate::proofs::StandardReaders::gives_copy, crate::proofs::StandardReaders::gives_advance_pc, crate::proofs::StandardReaders::gives_advance_line, crate::proofs::StandardReaders::gives_set_file, crate::proofs::StandardReaders::gives_set_column, crate::proofs::StandardReaders::gives_negate_stmt, crate::proofs::StandardReaders::gives_set_basic_block, crate::proofs::StandardReaders::gives_const_add_pc, crate::proofs::StandardReaders::gives_fixed_advance_pc, crate::proofs::StandardReaders::gives_set_prologue_end, crate::proofs::StandardReaders::gives_set_epilogue_begin, crate::proofs::StandardReaders::gives_set_isa, crate::proofs::StandardReaders::refuses_advance_pc, crate::proofs::StandardReaders::refuses_advance_line, crate::proofs::StandardReaders::refuses_set_file, crate::proofs::StandardReaders::refuses_set_column, crate::proofs::StandardReaders::refuses_fixed_advance_pc, crate::proofs::StandardReaders::refuses_set_isa))]
-fn read_behind<'a>(
+fn read_operand<'a>(
     cursor: &mut Cursor<'a>,
     header: &Header,
     opcode: u8,
 ) -> Result<OpView<'a>, Fault>
     requires standard { opcode < header.now.opcode_base }
     requires order { cursor.old.order ≡ header.now.order }
-    ensures ok { IfOk result (λ view. GivesBehind header.now opcode view cursor.old cursor.new) }
-    ensures err { IfErr result (λ fault. Refuses (IsFaultBehind header.now opcode) (BehindBytes header.now opcode) cursor.old fault) }
+    ensures ok { IfOk result (λ view. GivesAfter header.now opcode view cursor.old cursor.new) }
+    ensures err { IfErr result (λ fault. Refuses (IsFaultAfter header.now opcode) (BytesAfter header.now opcode) cursor.old fault) }
 {
     match opcode {
         0 => read_apart(cursor, header, 0),
@@ -80,8 +80,8 @@ fn read_apart<'a>(cursor: &mut Cursor<'a>, header: &Header, opcode: u8) -> Resul
     requires standard { opcode < header.now.opcode_base }
     requires rare { (opcode ≡ 0) ⊎ (13 ≤ opcode) }
     requires order { cursor.old.order ≡ header.now.order }
-    ensures ok { IfOk result (λ view. GivesBehind header.now opcode view cursor.old cursor.new) }
-    ensures err { IfErr result (λ fault. Refuses (IsFaultBehind header.now opcode) (BehindBytes header.now opcode) cursor.old fault) }
+    ensures ok { IfOk result (λ view. GivesAfter header.now opcode view cursor.old cursor.new) }
+    ensures err { IfErr result (λ fault. Refuses (IsFaultAfter header.now opcode) (BytesAfter header.now opcode) cursor.old fault) }
 {
     let mut ahead = Cursor::new(cursor.rest(), cursor.place(), cursor.order());
     let view = if opcode == 0 {
