@@ -23,9 +23,11 @@ def read(module):
             use = re.fullmatch(r"(?:pub )?use (Rattle\.lnt_\w+\.specs\.[\w.+-]+)\.\{(.*)\}", line)
             head = re.match(WORDS + r"(\S+)", line)
             if use:
+                place, _, data = use[1].rpartition(".")
+                constructors = not os.path.exists(os.path.join(TOP, file_of(use[1])))
                 for word in use[2].split(","):
                     original, _, short = word.strip().partition(" as ")
-                    brought[short or original] = use[1], original
+                    brought[short or original] = (place, data) if constructors and ".declared." not in use[1] else (use[1], original)
             elif head:
                 name = head[1]
             if re.match("use |pub use |--", line):

@@ -13,7 +13,7 @@ use Rattle.lnt_text.specs.Texts.{malformed_text}
 abbrev pub IsPrintedIn : (List ℕ → Type 0) → Option (List ℕ) → Option (List ℕ) → Type 0
 IsPrintedIn Is old new = (text : List ℕ) × Is text × Appends old new text
 
--- a writer that held these bytes still holds them, and behind them what it has gained
+-- a writer that held these bytes still holds them, and after them what it has gained
 abbrev pub Gains : Option (List ℕ) → Option (List ℕ) → Type 0
 Gains old new = (text : List ℕ) × Appends old new text
 

@@ -13,7 +13,7 @@ use lnt_wire::{Fault, Order, Source};
 use std::alloc::{AllocError, Global};
 use std::io::Write;
 
-/// What is printed of a unit behind its header.
+/// What is printed of a unit after its header.
 #[derive(Clone, Copy, Debug, PartialEq, Eq)]
 pub struct Shown {
     /// A line for each operation.

@@ -63,7 +63,7 @@ fn print_entries<W: Write>(
     Ok(())
 }
 
-// Prints the components of the next entry, which is there, and moves behind it.
+// Prints the components of the next entry, which is there, and moves past it.
 #[tactic(auto, using(crate::proofs::Entries::read_none, crate::proofs::Entries::read_more, crate::proofs::Entries::read_all, crate::proofs::Entries::none_there))]
 fn print_entry<W: Write>(
     alloc: Global,

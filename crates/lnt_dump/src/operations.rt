@@ -52,7 +52,7 @@ fn put_start(text: &mut Vec<u8>, index: u64) -> Result<(), AllocError> {
     put_one(text, b' ')
 }
 
-// Adds an operation.
+// Adds the name and the operands of an operation, as its line has them.
 fn put_op(text: &mut Vec<u8>, op: &OpView<'_>) -> Result<(), AllocError> {
     match op {
         OpView::Special(opcode) => put_named(text, b"special ", u64::from(*opcode)),
@@ -98,7 +98,7 @@ fn put_line(text: &mut Vec<u8>, change: i64) -> Result<(), AllocError> {
     put_decimal(text, change.unsigned_abs())
 }
 
-// Adds numbers, each behind a space.
+// Adds numbers, each after a space.
 fn put_operands(text: &mut Vec<u8>, operands: &Operands<'_>) -> Result<(), AllocError> {
     match operands {
         Operands::Listed(numbers) => {
@@ -111,7 +111,7 @@ fn put_operands(text: &mut Vec<u8>, operands: &Operands<'_>) -> Result<(), Alloc
     }
 }
 
-// Adds the numbers that the bytes spell, each behind a space.
+// Adds the numbers that the bytes spell, each after a space.
 fn put_spelled(text: &mut Vec<u8>, bytes: &[u8]) -> Result<(), AllocError> {
     // The order of bytes is of no concern to these numbers.
     let mut cursor = Cursor::new(bytes, 0, Order::Little);

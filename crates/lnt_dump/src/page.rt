@@ -20,7 +20,7 @@ pub(crate) struct Sheet<'a> {
 }
 
 // The text of a unit that isn't written yet. It is held back until the unit is known to be sound: then its header is
-// written, and behind that the text as it comes.
+// written, and after that the text as it comes.
 #[derive(Drop)]
 pub(crate) struct Page {
     pub(crate) text: Vec<u8>,

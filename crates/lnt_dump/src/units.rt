@@ -15,7 +15,7 @@ use std::io::Write;
 /// Prints a line for each unit that the source has to give: its offset, the width of its format, and its length.
 ///
 /// It answers `Done` where all of them were printed. Where no unit begins what is left, it prints the line of the
-/// fault, and answers `No`. In both cases the writer holds what it held, and behind it what was printed. It stops by
+/// fault, and answers `No`. In both cases the writer holds what it held, and after it what was printed. It stops by
 /// `Read` where the source failed, by `TooLong` where it has more bytes than it may give, by `Write` where the writer
 /// failed, and by `Memory`; what was printed before stays. The caller sees to it that the number of the source's
 /// failures is below `u64::MAX`.

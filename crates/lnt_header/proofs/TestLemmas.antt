@@ -16,7 +16,8 @@ use Rattle.lnt_header.specs.declared.header.HeaderParts.{HeaderParts}
 use Rattle.lnt_header.specs.declared.header.Pair.{Pair}
 use Rattle.lnt_header.specs.declared.header.Which.TheVariants.{Directories, Files}
 use Rattle.lnt_header.specs.Laws.Firsts.{first_is_wrong}
-use Rattle.lnt_header.specs.HeaderRules.{IsAddressSize, AreStandardLengths, known_lengths, six_bytes, HasHeaderNumbers}
+use Rattle.lnt_header.specs.HeaderRules.{IsAddressSize, AreStandardLengths, six_bytes, HasHeaderNumbers}
+use Rattle.lnt_header.specs.OpRules.{known_lengths}
 use Rattle.lnt_header.specs.HeaderRules.{IsEntryOf, IsTable, IsHeader}
 use Rattle.lnt_header.specs.HeaderTests.{IsFormat, IsPartsFault, FitsItsForm, HoldsNoZero, FitsPair, IsOfFormat, HasSoundTexts}
 

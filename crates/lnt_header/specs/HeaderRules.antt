@@ -6,13 +6,10 @@ use Rattle.lnt_wire.specs.FormBytes.{form_of, HasSpelling}
 use Rattle.lnt_header.specs.declared.header.Entry.{Entry}
 use Rattle.lnt_header.specs.declared.header.HeaderParts.{HeaderParts}
 use Rattle.lnt_header.specs.declared.header.Pair.{Pair}
+use Rattle.lnt_header.specs.OpRules.{known_lengths}
 
 abbrev pub IsAddressSize : ℕ → Type 0
 IsAddressSize size = (size ≡ 2) ⊎ (size ≡ 4) ⊎ (size ≡ 8)
-
--- how many operands each of the standard opcodes 1 to 12 has
-abbrev pub known_lengths : List ℕ
-known_lengths = 0 ∷ 1 ∷ 1 ∷ 1 ∷ 1 ∷ 0 ∷ 0 ∷ 0 ∷ 1 ∷ 0 ∷ 0 ∷ 1 ∷ []
 
 -- Lengths of the opcodes from 1 on, of which those of the known opcodes are as stated.
 abbrev pub AreStandardLengths : List ℕ → Type 0

@@ -8,4 +8,3 @@ pub mod HeaderTests
 pub mod Joins
 pub mod Laws
 pub mod OpRules
-pub mod OpViews

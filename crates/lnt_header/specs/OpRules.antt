@@ -1,11 +1,65 @@
--- Which operations a header admits, whatever bytes spell them (DWARF 5, sections 6.2.5 and 7.22).
-use Rattle.std.specs.Prelude.{◌≡◌, ◌≢◌, ℕ, ◌-◌, ◌^◌, ◌<◌, ◌≤◌, length, slice_index}
+-- The opcode and the operand of each operation, which operations a header admits, and such whose unknown operands are borrowed (DWARF 5,
+-- sections 6.2.5 and 7.22).
+use Rattle.std.specs.Prelude.{◌≡◌, ◌≢◌, ℕ, ◌-◌, ◌^◌, ◌<◌, ◌≤◌, ℤ, List, [], ◌∷◌, length, slice_index}
+use Rattle.lnt_wire.specs.Leb128.{UnsignedLeb}
 use Rattle.lnt_header.specs.declared.header.HeaderParts.{HeaderParts}
 use Rattle.lnt_header.specs.declared.op.Op.{Op}
 use Rattle.lnt_header.specs.declared.op.Op.TheVariants.{Special, Copy, AdvancePc, AdvanceLine, SetFile, SetColumn}
 use Rattle.lnt_header.specs.declared.op.Op.TheVariants.{NegateStmt, SetBasicBlock, ConstAddPc, FixedAdvancePc}
 use Rattle.lnt_header.specs.declared.op.Op.TheVariants.{SetPrologueEnd, SetEpilogueBegin, SetIsa, UnknownStandard}
 use Rattle.lnt_header.specs.declared.op.Op.TheVariants.{EndSequence, SetAddress, SetDiscriminator, UnknownExtended}
+use Rattle.lnt_header.specs.declared.op.OpView.{OpView}
+use Rattle.lnt_header.specs.declared.op.OpView.TheVariants as views
+use Rattle.lnt_header.specs.declared.op.Operands.{Operands}
+use Rattle.lnt_header.specs.declared.op.Operands.TheVariants.{Spelled, Listed}
+use Rattle.lnt_header.specs.Joins.{Each}
+
+-- ---- opcodes and operands
+
+-- the operand of a standard operation: none, an unsigned or a signed LEB128 number, or a number of 2 bytes
+pub data Operand : Type 0 where
+  bare : Operand
+  unsigned : ℕ → Operand
+  signed : ℤ → Operand
+  half : ℕ → Operand
+
+-- A special opcode; a standard one with its operand, or an unknown one with its numbers; an extended one alone, with a number, or with
+-- an address, or an unknown one with its bytes.
+pub data Coding : Type 0 where
+  special : ℕ → Coding
+  standard : ℕ → Operand → Coding
+  unknown_standard : ℕ → List ℕ → Coding
+  extended : ℕ → Coding
+  extended_number : ℕ → ℕ → Coding
+  extended_address : ℕ → ℕ → Coding
+  unknown_extended : ℕ → List ℕ → Coding
+
+-- how each operation is coded
+abbrev pub coding : Op → Coding
+coding (Special c) = special c
+coding Copy = standard 1 bare
+coding (AdvancePc n) = standard 2 (unsigned n)
+coding (AdvanceLine z) = standard 3 (signed z)
+coding (SetFile n) = standard 4 (unsigned n)
+coding (SetColumn n) = standard 5 (unsigned n)
+coding NegateStmt = standard 6 bare
+coding SetBasicBlock = standard 7 bare
+coding ConstAddPc = standard 8 bare
+coding (FixedAdvancePc n) = standard 9 (half n)
+coding SetPrologueEnd = standard 10 bare
+coding SetEpilogueBegin = standard 11 bare
+coding (SetIsa n) = standard 12 (unsigned n)
+coding (UnknownStandard k operands) = unknown_standard k operands
+coding EndSequence = extended 1
+coding (SetAddress address) = extended_address 2 address
+coding (SetDiscriminator n) = extended_number 4 n
+coding (UnknownExtended code bytes) = unknown_extended code bytes
+
+-- how many operands each of the standard opcodes 1 to 12 has
+abbrev pub known_lengths : List ℕ
+known_lengths = 0 ∷ 1 ∷ 1 ∷ 1 ∷ 1 ∷ 0 ∷ 0 ∷ 0 ∷ 1 ∷ 0 ∷ 0 ∷ 1 ∷ []
+
+-- ---- what a header admits
 
 -- how many operands the header gives standard opcode k
 abbrev pub standard_length : HeaderParts → ℕ → ℕ
@@ -15,23 +69,71 @@ standard_length h k = slice_index h.standard_lengths (k - 1)
 abbrev pub IsUnknownOf : HeaderParts → ℕ → ℕ → Type 0
 IsUnknownOf h k count = (13 ≤ k) × (k < h.opcode_base) × (count ≡ standard_length h k)
 
+-- The header admits the opcode, and the operand fits.
+abbrev pub AdmitsCoding : HeaderParts → Coding → Type 0
+AdmitsCoding h (special c) = h.opcode_base ≤ c
+AdmitsCoding h (standard k operand) = k < h.opcode_base
+AdmitsCoding h (unknown_standard k operands) = IsUnknownOf h k (length operands)
+AdmitsCoding h (extended code) = Unit {0}
+AdmitsCoding h (extended_number code n) = Unit {0}
+AdmitsCoding h (extended_address code address) = address < 256 ^ h.address_size
+AdmitsCoding h (unknown_extended code bytes) = (code ≢ 1) × (code ≢ 2) × (code ≢ 4)
+
 -- The header admits the operation: its number belongs to its kind, and its operands fit.
 abbrev pub Admits : HeaderParts → Op → Type 0
-Admits h (Special c) = h.opcode_base ≤ c
-Admits h Copy = 1 < h.opcode_base
-Admits h (AdvancePc n) = 2 < h.opcode_base
-Admits h (AdvanceLine z) = 3 < h.opcode_base
-Admits h (SetFile n) = 4 < h.opcode_base
-Admits h (SetColumn n) = 5 < h.opcode_base
-Admits h NegateStmt = 6 < h.opcode_base
-Admits h SetBasicBlock = 7 < h.opcode_base
-Admits h ConstAddPc = 8 < h.opcode_base
-Admits h (FixedAdvancePc n) = 9 < h.opcode_base
-Admits h SetPrologueEnd = 10 < h.opcode_base
-Admits h SetEpilogueBegin = 11 < h.opcode_base
-Admits h (SetIsa n) = 12 < h.opcode_base
-Admits h (UnknownStandard k operands) = IsUnknownOf h k (length operands)
-Admits h EndSequence = Unit {0}
-Admits h (SetAddress address) = address < 256 ^ h.address_size
-Admits h (SetDiscriminator n) = Unit {0}
-Admits h (UnknownExtended code bytes) = (code ≢ 1) × (code ≢ 2) × (code ≢ 4)
+Admits h op = AdmitsCoding h (coding op)
+
+-- ---- operations whose unknown operands are borrowed
+
+-- the numbers that borrowed operands stand for
+abbrev pub AreOperands : Operands → List ℕ → Type 0
+AreOperands (Spelled bytes) numbers = Each UnsignedLeb numbers bytes.now
+AreOperands (Listed listed) numbers = listed.now ≡ numbers
+
+-- The view stands for the operation: it is of the same kind and has the same operands.
+abbrev pub StandsFor : OpView → Op → Type 0
+StandsFor (views.Special c) (Special d) = c ≡ d
+StandsFor views.Copy Copy = Unit {0}
+StandsFor (views.AdvancePc m) (AdvancePc n) = m ≡ n
+StandsFor (views.AdvanceLine y) (AdvanceLine z) = y ≡ z
+StandsFor (views.SetFile m) (SetFile n) = m ≡ n
+StandsFor (views.SetColumn m) (SetColumn n) = m ≡ n
+StandsFor views.NegateStmt NegateStmt = Unit {0}
+StandsFor views.SetBasicBlock SetBasicBlock = Unit {0}
+StandsFor views.ConstAddPc ConstAddPc = Unit {0}
+StandsFor (views.FixedAdvancePc m) (FixedAdvancePc n) = m ≡ n
+StandsFor views.SetPrologueEnd SetPrologueEnd = Unit {0}
+StandsFor views.SetEpilogueBegin SetEpilogueBegin = Unit {0}
+StandsFor (views.SetIsa m) (SetIsa n) = m ≡ n
+StandsFor (views.UnknownStandard j operands) (UnknownStandard k numbers) = (j ≡ k) × AreOperands operands numbers
+StandsFor views.EndSequence EndSequence = Unit {0}
+StandsFor (views.SetAddress m) (SetAddress n) = m ≡ n
+StandsFor (views.SetDiscriminator m) (SetDiscriminator n) = m ≡ n
+StandsFor (views.UnknownExtended c bytes) (UnknownExtended d operand) = (c ≡ d) × (bytes.now ≡ operand)
+StandsFor view op = ⊥
+
+-- the operation of a view, with these operands where it is an unknown standard one
+abbrev pub op_of : OpView → List ℕ → Op
+op_of (views.Special c) operands = Special c
+op_of views.Copy operands = Copy
+op_of (views.AdvancePc n) operands = AdvancePc n
+op_of (views.AdvanceLine z) operands = AdvanceLine z
+op_of (views.SetFile n) operands = SetFile n
+op_of (views.SetColumn n) operands = SetColumn n
+op_of views.NegateStmt operands = NegateStmt
+op_of views.SetBasicBlock operands = SetBasicBlock
+op_of views.ConstAddPc operands = ConstAddPc
+op_of (views.FixedAdvancePc n) operands = FixedAdvancePc n
+op_of views.SetPrologueEnd operands = SetPrologueEnd
+op_of views.SetEpilogueBegin operands = SetEpilogueBegin
+op_of (views.SetIsa n) operands = SetIsa n
+op_of (views.UnknownStandard k spelled) operands = UnknownStandard k operands
+op_of views.EndSequence operands = EndSequence
+op_of (views.SetAddress n) operands = SetAddress n
+op_of (views.SetDiscriminator n) operands = SetDiscriminator n
+op_of (views.UnknownExtended c bytes) operands = UnknownExtended c bytes.now
+
+-- the operands of an unknown standard operation; of others none
+abbrev pub operands_of : Op → List ℕ
+operands_of (UnknownStandard k operands) = operands
+operands_of op = []

@@ -2,7 +2,6 @@
 //! writes headers.
 #![tactic(auto)]
 
-mod admits;
 mod fault;
 mod header;
 mod op;
@@ -11,5 +10,5 @@ mod tested;
 pub use fault::UnitFault;
 pub use header::{Entry, Header, HeaderParts, Pair, Which};
 pub use lnt_lists::ShortList;
-pub use op::{Op, OpView, Operands};
+pub use op::{Op, OpView, Operands, known_length};
 pub use tested::is_address_size;

@@ -1,5 +1,23 @@
-//! The operations of a line number program (DWARF 5, sections 6.2.5 and 7.22), with operands of their own and with borrowed ones.
+//! The operations of a line number program (DWARF 5, sections 6.2.5 and 7.22), with operands of their own and with borrowed
+//! ones, and which of them a header admits.
+ghost use Rattle.std.specs.Prelude.{◌≡◌, ◌+◌, ◌-◌, ◌^◌, ◌<◌, ◌≤◌, ◌↔◌, IsTrue, length, slice_index};
+ghost use Rattle.lnt_header.specs.HeaderRules.{IsAddressSize, IsHeader};
+ghost use Rattle.lnt_header.specs.OpRules.{Admits, IsUnknownOf, known_lengths};
+
+use crate::header::Header;
 use lnt_lists::Items;
+
+/// How many operands each of the known standard opcodes 1 to 12 has (DWARF 5, section 6.2.5.2).
+pub(crate) const KNOWN_LENGTHS: [u8; 12] = [0, 1, 1, 1, 1, 0, 0, 0, 1, 0, 0, 1];
+
+/// How many operands a known standard opcode has, one of 1 to 12 (DWARF 5, section 6.2.5.2).
+pub fn known_length(opcode: u8) -> u8
+    requires low { 1 ≤ opcode }
+    requires high { opcode ≤ 12 }
+    ensures { result ≡ slice_index known_lengths (opcode - 1) }
+{
+    KNOWN_LENGTHS[usize::from(opcode) - 1]
+}
 
 /// An operation that owns its operands.
 #[derive(Debug, Drop, PartialEq, Eq)]
@@ -75,7 +93,7 @@ pub enum OpView<'a> {
 }
 
 impl Op {
-    ghost use Rattle.lnt_header.specs.OpViews.{StandsFor};
+    ghost use Rattle.lnt_header.specs.OpRules.{StandsFor};
 
     /// The operation with its operands borrowed.
     pub fn view(&self) -> OpView<'_>
@@ -103,5 +121,60 @@ impl Op {
             Op::SetDiscriminator(n) => OpView::SetDiscriminator(*n),
             Op::UnknownExtended(code, bytes) => OpView::UnknownExtended(*code, bytes.as_slice()),
         }
+    }
+}
+
+impl Header {
+    /// Whether a unit with this header can have the operation: its opcode is one of the header's of its kind, an
+    /// unknown standard one has as many operands as the header says, and an address fits the header's address size.
+    /// It takes no memory.
+    pub fn admits(&self, op: &Op) -> bool
+        ensures { IsTrue result ↔ Admits self.now op.now }
+    {
+        let base = self.opcode_base();
+        match op {
+            Op::Special(opcode) => *opcode >= base,
+            Op::Copy => base > 1,
+            Op::AdvancePc(_) => base > 2,
+            Op::AdvanceLine(_) => base > 3,
+            Op::SetFile(_) => base > 4,
+            Op::SetColumn(_) => base > 5,
+            Op::NegateStmt => base > 6,
+            Op::SetBasicBlock => base > 7,
+            Op::ConstAddPc => base > 8,
+            Op::FixedAdvancePc(_) => base > 9,
+            Op::SetPrologueEnd => base > 10,
+            Op::SetEpilogueBegin => base > 11,
+            Op::SetIsa(_) => base > 12,
+            Op::UnknownStandard(opcode, operands) => {
+                self.admits_unknown(*opcode, operands.as_slice().len())
+            }
+            Op::EndSequence | Op::SetDiscriminator(_) => true,
+            Op::SetAddress(address) => fits_address(*address, self.address_size()),
+            Op::UnknownExtended(code, _) => !matches!(code, 1 | 2 | 4),
+        }
+    }
+
+    // Whether the opcode is an unknown standard one with as many operands.
+    fn admits_unknown(&self, opcode: u8, count: usize) -> bool
+        ensures { IsTrue result ↔ IsUnknownOf self.now opcode count }
+    {
+        let parts = self.parts();
+        let lengths = parts.standard_lengths.as_slice();
+        opcode >= 13
+            && opcode < parts.opcode_base
+            && usize::from(lengths[usize::from(opcode) - 1]) == count
+    }
+}
+
+// Whether the address fits as many bytes.
+fn fits_address(address: u64, size: u8) -> bool
+    requires { IsAddressSize size }
+    ensures { IsTrue result ↔ (address < 256 ^ size) }
+{
+    match size {
+        2 => address < 1 << 16,
+        4 => address < 1 << 32,
+        _ => true,
     }
 }

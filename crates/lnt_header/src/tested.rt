@@ -8,12 +8,10 @@ ghost use Rattle.lnt_header.specs.HeaderTests.{IsFirstNot, HasNumbersAndFormats,
 
 use crate::fault::UnitFault;
 use crate::header::{Entry, HeaderParts, Pair, Which};
+use crate::op::KNOWN_LENGTHS;
 use lnt_wire::FormValue;
 
-// How many operands each of the known opcodes 1 to 12 has.
-const KNOWN_LENGTHS: [u8; 12] = [0, 1, 1, 1, 1, 0, 0, 0, 1, 0, 0, 1];
-
-/// What is wrong with the parts, if no header has them.
+/// The first rule that the parts break, in the order of `UnitFault`; none where some header has them.
 #[tactic(auto, using(crate::proofs::TestLemmas::tests_passed))]
 pub(crate) fn parts_fault(parts: &HeaderParts) -> Option<UnitFault>
     ensures { MatchOption result (IsHeader parts.now) (λ fault. IsPartsFault fault parts.now) }
@@ -45,6 +43,7 @@ pub(crate) fn parts_fault(parts: &HeaderParts) -> Option<UnitFault>
     None
 }
 
+// Whether a header can have the numbers: an address size, no zero where none may be, and lengths that fit `opcode_base`.
 #[tactic(auto, using(crate::proofs::TestLemmas::header_numbers))]
 fn has_numbers(parts: &HeaderParts) -> bool
     ensures { IsTrue result ↔ HasHeaderNumbers parts.now }
@@ -73,6 +72,7 @@ fn has_no_zero_number(fields: &[u8], line_base: i8) -> bool
     fields[1] != 0 && fields[4] != 0
 }
 
+// Whether the known opcodes among these have as many operands as they have; those from 13 on may have any number.
 fn are_standard_lengths(lengths: &[u8]) -> bool
     ensures bytes { AllByRecursion (λ byte. byte < 256) lengths.now }
     ensures known { IsTrue result ↔ AreStandardLengths lengths.now }
@@ -81,13 +81,14 @@ fn are_standard_lengths(lengths: &[u8]) -> bool
     lengths[..known] == KNOWN_LENGTHS[..known]
 }
 
+// Whether there are at most 255 pairs, and one at least where there are entries.
 fn is_format(pairs: &[Pair], entries: &[Entry]) -> bool
     ensures { IsTrue result ↔ IsFormat pairs.now entries.now }
 {
     pairs.len() < 256 && (!pairs.is_empty() || entries.is_empty())
 }
 
-// The first of the entries that hasn't the format.
+// The index of the first entry that hasn't one value of the right form for each pair; none where each has.
 #[tactic(auto, using(crate::specs::Laws::Firsts::all_more, crate::specs::Laws::Firsts::all_taken, crate::specs::Laws::Firsts::first_not))]
 fn first_of_no_format(entries: &[Entry], pairs: &[Pair]) -> Option<u64>
     ensures { MatchOption result (AllByRecursion (IsOfFormat pairs.now) entries.now)
@@ -117,6 +118,7 @@ fn is_of_format(entry: &Entry, pairs: &[Pair]) -> bool
     true
 }
 
+// Whether the value has the pair's form, and a number of bytes that this can count.
 fn fits_pair(value: &FormValue, pair: &Pair) -> bool
     ensures { IsTrue result ↔ FitsPair pair.now value.now }
 {
@@ -132,7 +134,7 @@ fn fits_its_form(value: &FormValue) -> bool
     }
 }
 
-// The first of the entries that has a text with a zero byte in it.
+// The index of the first entry with a zero byte in a text, at which a reader would end it; none where there is none.
 #[tactic(auto, using(crate::specs::Laws::Firsts::all_more, crate::specs::Laws::Firsts::all_taken, crate::specs::Laws::Firsts::first_not))]
 fn first_with_zero(entries: &[Entry]) -> Option<u64>
     ensures { MatchOption result (AllByRecursion HasSoundTexts entries.now) (λ index. IsFirstNot HasSoundTexts entries.now index) }

@@ -11,7 +11,8 @@ use Rattle.lnt_wire.proofs.LengthLaws.{same_front, same_rest}
 use Rattle.lnt_header_bytes.specs.FieldsBytes.{BehindLengths, BehindSingles, BehindSinglesFault, FieldsBytes, IsHeaderFault, TwoTables}
 use Rattle.lnt_header_bytes.specs.FieldsBytes.{TwoTablesFault}
 use Rattle.lnt_header_bytes.specs.HeaderFaults.{AreCutSingles, IsLengthsFault, IsSinglesFault, LengthsBytes, SinglesBytes}
-use Rattle.lnt_header.specs.HeaderRules.{AreStandardLengths, known_lengths}
+use Rattle.lnt_header.specs.HeaderRules.{AreStandardLengths}
+use Rattle.lnt_header.specs.OpRules.{known_lengths}
 use Rattle.lnt_header_bytes.specs.TableBytes.{TableOf}
 use Rattle.lnt_header_bytes.specs.TableFaults.{IsTableFault}
 use Rattle.lnt_header_bytes.specs.declared.numbers.Singles.{Singles}

@@ -25,7 +25,7 @@ use Rattle.lnt_header_bytes.proofs.StartFaultLaws.{start_fault}
 
 -- ---- the body of a unit
 
--- the fields behind the version, up to a place among those that header_length counts
+-- the fields after the version, up to a place among those that header_length counts
 abbrev up_to : Format → Order → ℕ → ℕ → List ℕ → List ℕ
 up_to format order size count behind = size ∷ 0 ∷ (number_bytes order (offset_size format) count ++ behind)
 
@@ -39,7 +39,7 @@ data IsBodyFault (order : Order) (format : Format) (reason : Reason) (fields lef
       → IsHeaderFault format order reason behind later
       → IsBodyFault order format reason fields left
 
--- what stands behind the version
+-- what stands after the version
 behind_version : (order : Order) (fields behind left : List ℕ) → fields ≡ version_five order ++ behind
     → fields ++ left ≡ version_five order ++ (behind ++ left)
 behind_version order fields behind left e = ap (λ (z : List ℕ). z ++ left) e ∙ append_assoc (version_five order) behind left

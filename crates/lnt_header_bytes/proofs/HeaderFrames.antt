@@ -60,7 +60,7 @@ candidate order format body fits unit x more p e =
       small = subst (λ (f : Format). length s.fields < 256 ^ offset_size f) lengths.format small;
     }
 
--- what stands behind the version
+-- what stands after the version
 behind_laid : (order : Order) (size a : ℕ) (fields program rest : List ℕ) → version_five order ++ rest ≡ laid order size a fields program
     → rest ≡ (a ∷ 0 ∷ []) ++ (number_bytes order size (length fields) ++ (fields ++ program))
 behind_laid order size a fields program rest e =
@@ -90,7 +90,7 @@ no_start order format body rest unit joined none c =
     })
     (ap (λ (z : List ℕ). a ∷ 0 ∷ z) (append_assoc number c.fields unit.1) ∙ sym behind)
 
--- the bytes of a frame up to behind its version
+-- the bytes of a frame up to the end of its version
 head_of : Order → Format → List ℕ → List ℕ
 head_of order format body = initial_length format order (length body) ++ version_five order
 

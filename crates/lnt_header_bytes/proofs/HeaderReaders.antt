@@ -18,10 +18,11 @@ use Rattle.lnt_header_bytes.specs.TableFaults.{IsTableFault}
 use Rattle.lnt_header_bytes.specs.FieldsBytes.{FieldsBytes, BehindSingles, BehindLengths, TwoTables, TwoTablesFault, BehindSinglesFault, IsHeaderFault}
 use Rattle.lnt_header_bytes.specs.Laws.Tables.{same_table}
 use Rattle.lnt_header_bytes.specs.declared.numbers.Singles.{Singles}
-use Rattle.lnt_header.specs.HeaderRules.{known_lengths, AreStandardLengths}
+use Rattle.lnt_header.specs.HeaderRules.{AreStandardLengths}
+use Rattle.lnt_header.specs.OpRules.{known_lengths}
 use Rattle.lnt_header_bytes.specs.HeaderFaults.{SinglesBytes, AreCutSingles, IsSinglesFault, LengthsBytes, AreCutLengths, IsLengthsFault}
 
--- a fault behind so many bytes
+-- a fault after so many bytes
 behind : {X : Type 0} {IsSo : Reason → List ℕ → List ℕ → Type 0} (Spells : X → List ℕ → Type 0) (old : At) (fault : Fault) (reason : Reason) (i : ℕ)
     → i ≤ length old.rest → fault.place ≡ old.place + i → fault.reason ≡ reason → IsSo reason (take i old.rest) (drop i old.rest) → NoneSpelled Spells old.rest → Refuses IsSo Spells old fault
 behind {X} {IsSo} Spells old fault reason i le place same so none = record {

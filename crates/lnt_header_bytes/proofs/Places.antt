@@ -27,7 +27,7 @@ cut_at order (b ∷ before) left from some w h = (left, w, h)
 place : (order : Order) (b c l m before from : List ℕ) → InHeader order b l before from → b ≡ c → l ≡ m → InHeader order c m before from
 place order b c l m before from w e g = subst (λ (z : List ℕ). InHeader order z m before from) e (subst (λ (z : List ℕ). InHeader order b z before from) g w)
 
--- what is wrong behind header_length is what the table of places says, wherever the unit stands
+-- what is wrong after header_length is what the table of places says, wherever the unit stands
 at_singles : (order : Order) (reason : Reason) (head b l from : List ℕ) → InHeader order b l (head ++ b) from → 0 < length (head ++ b) → IsSinglesFault reason b l → IsAt order reason (head ++ b) from
 at_singles order Truncated head b l from w some h = cut_at order (head ++ b) l from some (inr (b, w)) (number 1 (omega arith) (omega (arith, ap length h.ends)))
 at_singles order MaxOpsZero head b l from w some h = (h.0, h.1, place order b (h.0 ∷ []) l (0 ∷ h.1) (head ++ b) from w h.2 h.3)

@@ -116,7 +116,7 @@ counted_one format order reason other bytes h k = absurd h
 counted_fault : (format : Format) (order : Order) → IsOneFieldFault (CountedBytes format order) (IsCountedFault format order)
 counted_fault format order = record { none = counted_none format order; one = counted_one format order }
 
--- the fields behind the version as parts that are joined
+-- the fields after the version as parts that are joined
 abbrev FirstOfStart : Format → Order → Reason → List ℕ → List ℕ → Type 0
 FirstOfStart format order =
     FirstOf AddressSizeBytes (IsHere IsSizeFault)

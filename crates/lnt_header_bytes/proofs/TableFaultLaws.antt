@@ -82,7 +82,7 @@ entry_none format order pairs reason before left (no_value done pair behind valu
     ((value_fault format order pair.form).none reason left h) entry.values x more
     (subst (λ (ps : List Pair). ValuesBytes format order ps entry.values x) is q) e
 
--- behind values that are there the fault of the next is one
+-- after values that are there the fault of the next is one
 values_one : (format : Format) (order : Order) (done done' : List Pair) (pair pair' : Pair) (behind behind' : List Pair)
     (values values' : List FormValue) (reason other : Reason)
     (before before' left left' : List ℕ) → done ++ pair ∷ behind ≡ done' ++ pair' ∷ behind' → ValuesBytes format order done values before

@@ -32,7 +32,7 @@ use Rattle.lnt_header.specs.declared.header.Pair.{Pair}
 abbrev IsUnknownCode : ℕ → List ℕ → Type 0
 IsUnknownCode code left = (spelling : List ℕ) × (rest : List ℕ) × (left ≡ spelling ++ rest) × UnsignedLeb code spelling × IsUnknownForm code
 
--- a number of entries behind a format of no pairs
+-- a number of entries after a format of no pairs
 abbrev IsEmptyFormat : List ℕ → List ℕ → Type 0
 IsEmptyFormat before left =
     (n : ℕ) × (spelling : List ℕ) × (rest : List ℕ) × (earlier : List ℕ) × (left ≡ spelling ++ rest) × UnsignedLeb n spelling × (0 < n) × (before ≡ earlier ++ 0 ∷ [])
@@ -91,7 +91,7 @@ value_so format order forms.Block1 reason bytes h = sized_so order 1 reason byte
 value_so format order forms.Block2 reason bytes h = sized_so order 2 reason bytes (omega arith) h
 value_so format order forms.Block4 reason bytes h = sized_so order 4 reason bytes (omega arith) h
 
--- behind bytes of which nothing is asked
+-- after bytes of which nothing is asked
 pub wrong_behind : (reason : Reason) (front behind before left : List ℕ) → before ≡ front ++ behind → IsWrongTable reason behind left → IsWrongTable reason before left
 wrong_behind reason front behind before left e h = subst (λ (z : List ℕ). IsWrongTable reason z left) (sym e) (later reason front behind left h)
 
@@ -116,7 +116,7 @@ no_pairs : (pairs : List Pair) (x : List ℕ) → Each PairBytes pairs x → pai
 no_pairs [] x p e = p
 no_pairs (pair ∷ pairs) x p e = absurd cc
 
--- behind the pairs of a format, where the byte that counts them stands before them
+-- after the pairs of a format, where the byte that counts them stands before them
 wrong_behind_pairs : (format : Format) (order : Order) (n : ℕ) (pairs : List Pair) (count kinds behind left : List ℕ) (reason : Reason) → NumberBytes order 1 n count → Several n PairBytes pairs kinds
     → BehindPairsFault format order pairs reason behind left → IsWrongTable reason (count ++ (kinds ++ behind)) left
 wrong_behind_pairs format order n pairs count kinds behind left reason p q (first (no_size h)) = later reason count (kinds ++ behind) left (later reason kinds behind left (wrong_number reason behind left h))

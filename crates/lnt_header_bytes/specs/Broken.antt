@@ -14,7 +14,8 @@ use Rattle.lnt_wire.specs.FormBytes.{IsUnknownForm}
 use Rattle.lnt_wire.specs.FrameBytes.{version_five}
 use Rattle.lnt_wire.specs.FrameFaults.{InFrame, IsCutFrame, IsReserved, IsOtherVersion, IsFrameFault}
 use Rattle.lnt_header.specs.FieldFaults.{IsCutField, IsLargeLeb, IsWrongLength}
-use Rattle.lnt_header.specs.HeaderRules.{IsAddressSize, known_lengths, AreStandardLengths}
+use Rattle.lnt_header.specs.HeaderRules.{IsAddressSize, AreStandardLengths}
+use Rattle.lnt_header.specs.OpRules.{known_lengths}
 use Rattle.lnt_header_bytes.specs.FieldsBytes.{IsHeaderFault}
 use Rattle.lnt_header_bytes.specs.HeaderBytes.{HeaderBytesIn}
 use Rattle.lnt_header_bytes.specs.StartBytes.{IsStartFault}
@@ -25,7 +26,7 @@ use Rattle.lnt_header_bytes.specs.StartBytes.{IsStartFault}
 abbrev pub sound_start : Order → ℕ → List ℕ
 sound_start order address_size = version_five order ++ address_size ∷ 0 ∷ []
 
--- The place lies in the header that header_length counts: it has the fields `fields` up to the place, and `left` behind them.
+-- The place lies in the header that header_length counts: it has the fields `fields` up to the place, and `left` after them.
 pub record InHeader (order : Order) (fields left before from : List ℕ) : Type 0 where
   pub format : Format
   pub address_size : ℕ
@@ -100,7 +101,7 @@ pub record Broken {X : Type 0} (Spells : X → List ℕ → Type 0) (order : Ord
 
 -- ---- headers
 
--- The first field of a header that isn't there, behind the fields before it: the initial length or the version, a field up to header_length, or one of those that this counts.
+-- The first field of a header that isn't there, after the fields before it: the initial length or the version, a field up to header_length, or one of those that this counts.
 pub data IsFirstField (order : Order) (reason : Reason) (before from : List ℕ) : Type 0 where
   frame : IsFrameFault order reason before from → IsFirstField order reason before from
   start : (format : Format) (fields left : List ℕ) → InFrame order format (version_five order ++ fields) left before from → IsStartFault format order reason fields left → IsFirstField order reason before from

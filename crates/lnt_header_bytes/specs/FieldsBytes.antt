@@ -1,4 +1,4 @@
--- The fields of a header behind header_length, one after another, and what is wrong where they aren't read.
+-- The fields of a header after header_length, one after another, and what is wrong where they aren't read.
 use Rattle.std.specs.Prelude.{ℕ, List}
 use Rattle.lnt_wire.specs.declared.format.Format.{Format}
 use Rattle.lnt_wire.specs.declared.format.Order.{Order}

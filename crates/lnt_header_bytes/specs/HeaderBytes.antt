@@ -17,7 +17,7 @@ pub record HeaderFieldsBytes (h : HeaderParts) (bytes : List ℕ) : Type 0 where
   pub file_table : TableBytes h.format h.order h.file_format h.files files
   pub joined : bytes ≡ single_bytes h ++ directories ++ files ++ h.extra
 
--- what unit_length counts: the fields behind it, and the program
+-- what unit_length counts: the fields after it, and the program
 abbrev pub unit_body : HeaderParts → List ℕ → List ℕ → List ℕ
 unit_body h fields program =
     version_five h.order ++ (h.address_size ∷ 0 ∷ []) ++ number_bytes h.order (offset_size h.format) (length fields) ++ fields ++ program

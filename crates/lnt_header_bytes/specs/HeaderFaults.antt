@@ -3,7 +3,8 @@ use Rattle.std.specs.Prelude.{◌≡◌, ◌≢◌, ℕ, ◌+◌, ◌<◌, ◌�
 use Rattle.lnt_wire.specs.declared.fault.Reason.{Reason}
 use Rattle.lnt_wire.specs.declared.fault.Reason.TheVariants.{Truncated, MaxOpsZero, LineRangeZero, OpcodeBaseZero, StandardLength}
 use Rattle.lnt_header_bytes.specs.declared.numbers.Singles.{Singles}
-use Rattle.lnt_header.specs.HeaderRules.{known_lengths, AreStandardLengths}
+use Rattle.lnt_header.specs.HeaderRules.{AreStandardLengths}
+use Rattle.lnt_header.specs.OpRules.{known_lengths}
 
 -- The bytes of the six fields before the standard opcode lengths.
 pub record SinglesBytes (s : Singles) (bytes : List ℕ) : Type 0 where

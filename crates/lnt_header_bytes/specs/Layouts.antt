@@ -1,4 +1,4 @@
--- Entries of the forms that compilers write, and entries that are read one behind the other.
+-- Entries of the forms that compilers write, and entries that are read one after the other.
 use Rattle.std.specs.Prelude.{◌≡◌, ℕ, List, [], ◌∷◌, ◌++◌, map}
 use Rattle.lnt_wire.specs.At.{At}
 use Rattle.lnt_wire.specs.Reading.{Reads}

@@ -11,7 +11,7 @@ stride = 64
 abbrev pub from_entry : ℕ → BorrowedTable → BorrowedTable
 from_entry number table = record table { entries = drop number table.entries }
 
--- The entry of this number begins at this place: the bytes from there on spell it and those behind it.
+-- The entry of this number begins at this place: the bytes from there on spell it and those after it.
 pub record BeginsAt (table : BorrowedTable) (bytes : List ℕ) (number place : ℕ) : Type 0 where
   pub there : number ≤ length table.entries
   pub within : place ≤ length bytes

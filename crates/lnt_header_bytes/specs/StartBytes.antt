@@ -1,4 +1,4 @@
--- The fields of a header behind its version up to header_length, with the bytes that this counts, and what is wrong where they aren't read.
+-- The fields of a header after its version up to header_length, with the bytes that this counts, and what is wrong where they aren't read.
 use Rattle.std.specs.Prelude.{◌≡◌, ℕ, ◌^◌, ◌<◌, List, [], ◌∷◌, ◌++◌, length}
 use Rattle.lnt_wire.specs.declared.format.Format.{Format}
 use Rattle.lnt_wire.specs.declared.format.Order.{Order}
@@ -44,7 +44,7 @@ IsCountedFault format order HeaderLength bytes =
     (n : ℕ) × (more : List ℕ) × (n < 256 ^ offset_size format) × (length more < n) × (bytes ≡ number_bytes order (offset_size format) n ++ more)
 IsCountedFault format order _ bytes = ⊥
 
--- the field that is refused, behind the sound ones before it
+-- the field that is refused, after the sound ones before it
 pub data IsStartFault (format : Format) (order : Order) (reason : Reason) (before left : List ℕ) : Type 0 where
   address_size : before ≡ [] → IsSizeFault reason left → IsStartFault format order reason before left
   selector : (size : ℕ) → IsAddressSize size → before ≡ size ∷ [] → IsSelectorFault reason left → IsStartFault format order reason before left

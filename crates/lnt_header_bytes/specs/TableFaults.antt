@@ -28,7 +28,7 @@ pub data IsCodeFault (reason : Reason) (before left : List ℕ) : Type 0 where
   no_code : IsNumberFault reason before left → IsCodeFault reason before left
   unknown : (code : ℕ) (spelling rest : List ℕ) → reason ≡ UnknownForm code → before ≡ [] → UnsignedLeb code spelling → left ≡ spelling ++ rest → IsUnknownForm code → IsCodeFault reason before left
 
--- a content type, or the form code behind it
+-- a content type, or the form code after it
 abbrev pub IsPairFault : Reason → List ℕ → List ℕ → Type 0
 IsPairFault = FirstOf UnsignedLeb IsNumberFault (λ _. IsCodeFault)
 
@@ -37,7 +37,7 @@ IsPairsFault count = FirstOfSeveral count PairBytes IsPairFault
 
 -- ---- entries
 
--- the value of a pair, behind those of the pairs before it
+-- the value of a pair, after those of the pairs before it
 pub data IsEntryFault (format : Format) (order : Order) (pairs : List Pair) (reason : Reason) (before left : List ℕ) : Type 0 where
   no_value : (done : List Pair) (pair : Pair) (behind : List Pair) (values : List FormValue) → pairs ≡ done ++ pair ∷ behind → ValuesBytes format order done values before
       → IsValueFault format order pair.form reason left → IsEntryFault format order pairs reason before left
@@ -56,11 +56,11 @@ pub data IsSizeFault (pairs : List Pair) (reason : Reason) (before left : List �
 abbrev pub IsCountFault : Reason → List ℕ → List ℕ → Type 0
 IsCountFault reason before left = (before ≡ []) × IsCutShort 1 reason left
 
--- behind the pairs
+-- after the pairs
 abbrev pub BehindPairsFault : Format → Order → List Pair → Reason → List ℕ → List ℕ → Type 0
 BehindPairsFault format order pairs = FirstOf UnsignedLeb (IsSizeFault pairs) (IsEntriesFault format order pairs)
 
--- behind their count
+-- after their count
 abbrev pub BehindCountFault : Format → Order → ℕ → Reason → List ℕ → List ℕ → Type 0
 BehindCountFault format order count = FirstOf (Several count PairBytes) (IsPairsFault count) (BehindPairsFault format order)
 

@@ -34,7 +34,7 @@ pub fn decode_header<'a>(
     }
 }
 
-/// A cursor behind the version.
+/// A cursor after the version of the frame, which goes to the end of its body.
 pub(crate) fn behind_version<'a>(frame: &Frame<'a>, order: Order) -> Cursor<'a>
     requires { IsPlacedFrame order frame.now }
     ensures { IsBehindVersion order frame.now.format frame.now.offset frame.now.body.now result }

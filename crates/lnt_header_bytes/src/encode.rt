@@ -76,7 +76,7 @@ pub(crate) fn add_around(
     Ok(())
 }
 
-// How many bytes a unit has behind its initial length.
+// How many bytes a unit has after its initial length.
 fn unit_length(format: Format, fields: usize, program: usize) -> Result<u64, EncodeFault>
     ensures ok { IfOk result (λ length. (length ≡ 4 + offset_size format + fields + program) × LengthFits format length) }
     ensures err { IfErr result (λ fault. (fault ≡ EncodeFault.TooLarge) × (LengthFits format (4 + offset_size format + fields + program) → ⊥)) }
@@ -143,7 +143,7 @@ fn counted_fields(alloc: Global, parts: &HeaderParts) -> Result<Vec<u8>, EncodeF
     Ok(out)
 }
 
-// Adds a table.
+// Adds a table: its format, the number of its entries, and these.
 #[tactic(auto, using(crate::proofs::EncodeLemmas::table_put, crate::proofs::EncodeLemmas::table_refused, lnt_header::specs::Laws::Puts::refused_memory, crate::proofs::LargeLemmas::memory_not_large))]
 fn add_table(
     out: &mut Vec<u8>,

@@ -107,7 +107,7 @@ impl<'a> HeaderInPlace<'a> {
     }
 }
 
-// These bytes, one behind the other.
+// These bytes, one after the other, in memory of their own.
 fn joined(alloc: Global, first: &[u8], second: &[u8], third: &[u8]) -> Result<Vec<u8>, AllocError>
     ensures { IfOk result (λ bytes. bytes.items ≡ first.now ++ (second.now ++ third.now)) }
 {

@@ -58,7 +58,7 @@ pub(crate) fn marks_of(
     Ok(marks)
 }
 
-/// The last marked entry that isn't behind the one of this number: its own number, and where it begins. None where no
+/// The last marked entry that isn't after the one of this number: its own number, and where it begins. None where no
 /// such entry is marked.
 pub(crate) fn marked_before(marks: &[usize], number: u64) -> Option<(u64, usize)>
     ensures before { IfSome result (λ found. found.0 ≤ number) }

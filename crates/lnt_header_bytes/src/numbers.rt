@@ -1,9 +1,10 @@
 //! The fields of one byte of a header.
 ghost use Rattle.std.specs.Prelude.{◌≡◌, ◌≢◌, ◌-◌, ◌+◌, ◌<◌, ◌≤◌, ◌^◌, ℕ, length, take, slice_index, IfOk, IfErr};
 ghost use Rattle.lnt_wire.specs.Reading.{Reads, Refuses};
-ghost use Rattle.lnt_header.specs.HeaderRules.{known_lengths};
+ghost use Rattle.lnt_header.specs.OpRules.{known_lengths};
 ghost use Rattle.lnt_header_bytes.specs.HeaderFaults.{SinglesBytes, IsSinglesFault, LengthsBytes, IsLengthsFault};
 
+use lnt_header::known_length;
 use lnt_wire::{Cursor, Fault, Reason};
 
 /// The fields of one byte up to the standard opcode lengths.
@@ -17,7 +18,7 @@ pub(crate) struct Singles {
     pub opcode_base: u8,
 }
 
-/// The six fields.
+/// Reads the six fields of one byte before the standard lengths. It refuses a zero where none may be, at that field.
 #[tactic(auto, using(crate::proofs::HeaderReaders::max_ops_zero, crate::proofs::HeaderReaders::line_range_zero, crate::proofs::HeaderReaders::opcode_base_zero, crate::proofs::HeaderReaders::cut_singles, crate::proofs::HeaderReaders::reads_singles))]
 pub(crate) fn read_singles(cursor: &mut Cursor<'_>) -> Result<Singles, Fault>
     ensures ok { IfOk result (λ s. Reads SinglesBytes s cursor.old cursor.new) }
@@ -59,19 +60,7 @@ pub(crate) fn read_singles(cursor: &mut Cursor<'_>) -> Result<Singles, Fault>
     }
 }
 
-/// How many operands a known opcode has.
-fn known_length(opcode: u8) -> u8
-    requires low { 1 ≤ opcode }
-    requires high { opcode ≤ 12 }
-    ensures { result ≡ slice_index known_lengths (opcode - 1) }
-{
-    match opcode {
-        2 | 3 | 4 | 5 | 9 | 12 => 1,
-        _ => 0,
-    }
-}
-
-/// The first opcode that isn't both standard and known.
+/// Where the known standard opcodes end: at `opcode_base`, or at 13 where that is more.
 fn known_end(opcode_base: u8) -> u8
     ensures low { result ≤ opcode_base }
     ensures high { result ≤ 13 }
@@ -80,7 +69,8 @@ fn known_end(opcode_base: u8) -> u8
     if opcode_base < 13 { opcode_base } else { 13 }
 }
 
-/// The lengths of the standard opcodes.
+/// Reads the lengths of the standard opcodes, `opcode_base - 1` bytes, which stay where they lie. It refuses the first one
+/// that isn't the length of its known opcode.
 #[tactic(auto, using(crate::proofs::HeaderReaders::refuses_length, crate::proofs::HeaderReaders::cut_lengths, crate::proofs::HeaderReaders::reads_lengths))]
 pub(crate) fn read_lengths<'a>(cursor: &mut Cursor<'a>, opcode_base: u8) -> Result<&'a [u8], Fault>
     requires { 0 < opcode_base }

@@ -11,7 +11,7 @@ use lnt_header::Pair;
 use lnt_wire::{Cursor, Fault, Format, Reason};
 use std::alloc::Global;
 
-/// Entries that lie one behind the other: how many there are, and their bytes.
+/// Entries that lie one after the other: how many there are, and their bytes.
 #[derive(Clone, Copy, Debug)]
 pub struct EntriesInPlace<'a> {
     /// How many there are.

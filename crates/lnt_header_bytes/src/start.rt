@@ -1,4 +1,4 @@
-//! The fields of a header behind its version up to header_length.
+//! The fields of a header after its version up to header_length.
 ghost use Rattle.std.specs.Prelude.{IfOk, IfErr};
 ghost use Rattle.lnt_wire.specs.Reading.{Reads, RefusesField, Refuses};
 ghost use Rattle.lnt_header_bytes.specs.StartBytes.{AddressSizeBytes, IsSizeFault, SelectorBytes, IsSelectorFault, CountedBytes, IsCountedFault, StartBytes, IsStartFault};
@@ -14,7 +14,7 @@ pub(crate) struct Start<'a> {
     pub header: &'a [u8],
 }
 
-/// The fields.
+/// Reads the address size, which is 2, 4 or 8, the segment selector size, which is 0, and the bytes that header_length counts.
 #[tactic(auto, using(crate::proofs::StartReaders::size_refused, crate::proofs::StartReaders::selector_refused, crate::proofs::StartReaders::counted_refused, crate::proofs::StartReaders::start_read))]
 pub(crate) fn read_start<'a>(cursor: &mut Cursor<'a>, format: Format) -> Result<Start<'a>, Fault>
     ensures ok { IfOk result (λ s. Reads (StartBytes format cursor.old.order) (s.address_size, (s.selector_size, s.header.now)) cursor.old cursor.new) }

@@ -151,7 +151,7 @@ pub(crate) fn layout_of(pairs: &[Pair]) -> Layout
     }
 }
 
-// The next entry, which is put behind those before it.
+// The next entry, which is put after those before it.
 #[inline(always)]
 fn read_entry(
     alloc: Global,
@@ -173,7 +173,7 @@ fn read_entry(
     }
 }
 
-// The next path, which is put behind those before it.
+// The next path, which is put after those before it.
 #[inline(always)]
 #[tactic(auto, using(crate::proofs::ShortLemmas::path_entry, crate::proofs::ShortLemmas::first_refused))]
 fn read_path(
@@ -191,7 +191,7 @@ fn read_path(
     push_entry(cursor, entries, ShortList::one(path))
 }
 
-// The next path and the index of its directory, which are put behind those before them.
+// The next path and the index of its directory, which are put after those before them.
 #[inline(always)]
 #[tactic(auto, using(crate::proofs::ShortLemmas::indexed_path_entry, crate::proofs::ShortLemmas::first_refused, crate::proofs::ShortLemmas::second_refused))]
 fn read_indexed_path(
@@ -210,7 +210,7 @@ fn read_indexed_path(
     push_entry(cursor, entries, ShortList::two(path, directory))
 }
 
-// The next path, the index of its directory and its MD5 sum, which are put behind those before them.
+// The next path, the index of its directory and its MD5 sum, which are put after those before them.
 #[inline(always)]
 #[tactic(auto, using(crate::proofs::ShortLemmas::summed_path_entry, crate::proofs::ShortLemmas::first_refused, crate::proofs::ShortLemmas::second_refused, crate::proofs::ShortLemmas::third_refused))]
 fn read_summed_path(
@@ -230,7 +230,7 @@ fn read_summed_path(
     push_entry(cursor, entries, ShortList::three(path, directory, sum))
 }
 
-// The next entry, whatever its forms, which is put behind those before it.
+// The next entry, whatever its forms, which is put after those before it.
 #[inline(never)]
 fn read_other_entry(
     alloc: Global,
@@ -246,7 +246,7 @@ fn read_other_entry(
     push_entry(cursor, entries, values)
 }
 
-// Puts an entry of the values behind those before it.
+// Puts an entry of the values after those before it.
 #[inline(always)]
 fn push_entry(
     cursor: &Cursor<'_>,

@@ -78,7 +78,7 @@ impl<'a> TableView<'a> {
         self.format
     }
 
-    /// A cursor before the first entry. Its bytes are those of the entries, one behind the other.
+    /// A cursor before the first entry. Its bytes are those of the entries, one after the other.
     pub fn cursor(&self) -> Cursor<'_>
         ensures order { result.order ≡ self.now.order }
         ensures rest { AreEntryBytes self.now result.rest }

@@ -8,8 +8,7 @@ use Rattle.lnt_header.specs.declared.header.HeaderParts.{HeaderParts}
 use Rattle.lnt_header.specs.declared.op.Op.{Op}
 use Rattle.lnt_header.specs.declared.op.OpView.{OpView}
 use Rattle.lnt_header.specs.HeaderRules.{IsHeader}
-use Rattle.lnt_header.specs.OpRules.{Admits}
-use Rattle.lnt_header.specs.OpViews.{StandsFor}
+use Rattle.lnt_header.specs.OpRules.{Admits, StandsFor}
 use Rattle.lnt_ops.specs.Laws.Left.{left_at, left_ends, left_fails, left_next}
 use Rattle.lnt_ops.specs.Walks as walks
 use Rattle.lnt_ops.specs.Walks.{Walk, Ends, Fails}

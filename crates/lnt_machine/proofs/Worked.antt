@@ -9,7 +9,7 @@ use Rattle.lnt_header.specs.declared.op.Op.{Op}
 use Rattle.lnt_header.specs.declared.op.Op.TheVariants.{Special, Copy, AdvancePc, AdvanceLine, SetFile, NegateStmt}
 use Rattle.lnt_header.specs.declared.op.Op.TheVariants.{SetBasicBlock, ConstAddPc, FixedAdvancePc, SetPrologueEnd}
 use Rattle.lnt_header.specs.declared.op.Op.TheVariants.{UnknownStandard, EndSequence, SetAddress, SetDiscriminator}
-use Rattle.lnt_header.specs.HeaderRules.{known_lengths}
+use Rattle.lnt_header.specs.OpRules.{known_lengths}
 use Rattle.lnt_machine.specs.declared.row.Row.{Row}
 use Rattle.lnt_machine.specs.declared.fault.RunFault.TheVariants.{LineOutOfRange}
 use Rattle.lnt_machine.specs.Registers.{line, IsLine}

@@ -8,7 +8,7 @@ use Rattle.lnt_header.specs.declared.op.Op.TheVariants.{NegateStmt, SetBasicBloc
 use Rattle.lnt_header.specs.declared.op.Op.TheVariants.{SetPrologueEnd, SetEpilogueBegin, SetIsa}
 use Rattle.lnt_header.specs.declared.op.Op.TheVariants.{EndSequence, SetAddress, SetDiscriminator}
 use Rattle.lnt_header.specs.declared.op.OpView.{OpView}
-use Rattle.lnt_header.specs.OpViews.{op_of}
+use Rattle.lnt_header.specs.OpRules.{op_of}
 use Rattle.lnt_machine.specs.declared.row.Row.{Row}
 use Rattle.lnt_machine.specs.Registers.{IsLine, advance_of_special, line_increment}
 

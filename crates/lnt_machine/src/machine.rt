@@ -3,8 +3,7 @@ ghost use Rattle.std.specs.Prelude.{◌≡◌, List, [], ◌∷◌, IfOk, IsOk, 
 ghost use Rattle.lnt_machine.specs.Registers.{IsLine, line};
 ghost use Rattle.lnt_machine.specs.State.{StandsAfter};
 ghost use Rattle.lnt_machine.specs.Steps.{LeavesRange, Steps};
-ghost use Rattle.lnt_header.specs.OpViews.{StandsFor};
-ghost use Rattle.lnt_header.specs.OpRules.{Admits};
+ghost use Rattle.lnt_header.specs.OpRules.{StandsFor, Admits};
 ghost use Rattle.lnt_header.specs.declared.op.Op.{Op};
 
 use crate::fault::RunFault;

@@ -83,7 +83,7 @@ fn next_row(machine: &mut Machine<'_>, ops: &mut Ops<'_>) -> Option<Row>
     if let Some(row) = short_row(machine, ops) {
         return Some(row);
     }
-    // The machine and the walk aren't lent, so that they needn't lie in memory.
+    // The slow path works on copies of both, which are written back, so that these stay in registers.
     let mut own = machine.fork();
     let mut ahead = ops.fork();
     let row = any_row(&mut own, &mut ahead);
@@ -92,7 +92,7 @@ fn next_row(machine: &mut Machine<'_>, ops: &mut Ops<'_>) -> Option<Row>
     row
 }
 
-// The same, whatever operations come.
+// The next row, whatever operations come: the slow path.
 #[tactic(auto, using(crate::proofs::WalkingLemmas::may_step))]
 #[inline(never)]
 fn any_row(machine: &mut Machine<'_>, ops: &mut Ops<'_>) -> Option<Row>

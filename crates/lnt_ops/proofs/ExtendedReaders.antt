@@ -20,12 +20,12 @@ use Rattle.lnt_header.specs.declared.op.Op.TheVariants as ops
 use Rattle.lnt_header.specs.declared.op.OpView.{OpView}
 use Rattle.lnt_header.specs.declared.op.OpView.TheVariants as views
 use Rattle.lnt_header.specs.FieldFaults.{IsWrongOperand}
-use Rattle.lnt_header.specs.OpViews.{StandsFor}
-use Rattle.lnt_ops.proofs.StandardReaders.{behind_byte}
+use Rattle.lnt_header.specs.OpRules.{StandsFor}
+use Rattle.lnt_ops.proofs.StandardReaders.{after_byte}
 use Rattle.lnt_ops.specs.Laws.Ops.{tag, extended_tag}
 use Rattle.lnt_ops.specs.OpBytes.{Extended, OpBytes}
 use Rattle.lnt_ops.specs.OpFaults.IsFirstFault.{no_length, cut_counted, wrong_counted, large_counted}
-use Rattle.lnt_ops.specs.OpSteps.{BehindBytes, IsFaultBehind, GivesBehind, CountedBytes, IsRightOperand, GivesCounted, IsCountedFault}
+use Rattle.lnt_ops.specs.OpSteps.{BytesAfter, IsFaultAfter, GivesAfter, CountedBytes, IsRightOperand, GivesCounted, IsCountedFault}
 use Rattle.lnt_ops.specs.OpSteps.IsCountedFault.{wrong_operand, large_discriminator}
 
 -- ---- a number in groups of seven bits, and nothing else
@@ -244,7 +244,7 @@ none_large h (ops.SetAddress address) operand large p =
     let whole : 4 ∷ operand ≡ 2 ∷ p.back = p.joined ∙ ap (λ (z : List ℕ). z ++ p.back) p.first in
     cc
 none_large h (ops.SetDiscriminator n) operand large p =
-    let leb = behind_byte 4 4 (UnsignedLeb n) operand p in
+    let leb = after_byte 4 4 (UnsignedLeb n) operand p in
     omega (arith, leb.fits, leb.value, large)
 none_large h (ops.UnknownExtended code operand') operand large p =
     let whole : 4 ∷ operand ≡ code ∷ p.4.back = p.4.joined ∙ ap (λ (z : List ℕ). z ++ p.4.back) p.4.first in
@@ -272,7 +272,7 @@ in_count : (h : HeaderParts) (op : Op) (code : ℕ) (Operand : List ℕ → Type
 in_count h op code Operand y is p = record {
   counted = p.0;
   is = is p.0 p.1;
-  spelled = behind_byte 0 0 (UnsignedLeb (length p.0) ⨾ Exactly p.0) y p.2;
+  spelled = after_byte 0 0 (UnsignedLeb (length p.0) ⨾ Exactly p.0) y p.2;
 }
 
 counted_of : (h : HeaderParts) (op : Op) (y : List ℕ) → (code : ℕ) → tag op ≡ 2 * code + 2 → OpBytes h op (0 ∷ y) → InCount h op y
@@ -298,7 +298,7 @@ op_of h op counted y q p = absurd q
 
 pub gives_extended : (h : HeaderParts) (n : ℕ) (view : OpView) (counted : List ℕ) (old middle new : At) → Reads UnsignedLeb n old middle
     → Reads (TakenBytes n) counted middle new → GivesCounted h view counted
-    → GivesBehind h 0 view old new
+    → GivesAfter h 0 view old new
 gives_extended h n view counted old middle new r t g =
     let size : n ≡ length counted = sym t.spelled.count_is ∙ ap length (sym t.spelled.taken_is) in
     let block : BlockBytes UnsignedLeb counted (r.spelling ++ t.spelling) = record {
@@ -322,7 +322,7 @@ gives_extended h n view counted old middle new r t g =
     }
 
 -- what stands at the front of a candidate
-counted_at : (h : HeaderParts) (op : Op) (y : List ℕ) → 0 < h.opcode_base → BehindBytes h 0 op y → InCount h op y
+counted_at : (h : HeaderParts) (op : Op) (y : List ℕ) → 0 < h.opcode_base → BytesAfter h 0 op y → InCount h op y
 counted_at h op y some p = let kind = extended_tag h op y some p.whole in counted_of h op y kind.0 kind.1 p.whole
 
 front_of : {P Q : List ℕ → Type 0} (y more rest : List ℕ) → (t : Then P Q y) → y ++ more ≡ rest → t.front ++ (t.back ++ more) ≡ rest
@@ -330,7 +330,7 @@ front_of y more rest t e = sym (append_assoc t.front t.back more) ∙ ap (λ (z 
 
 pub refuses_length : (h : HeaderParts) (old : At) (fault : Fault) → 0 < h.opcode_base
     → RefusesField (IsLebFault IsLargeUnsigned) UnsignedLeb old fault
-    → Refuses (IsFaultBehind h 0) (BehindBytes h 0) old fault
+    → Refuses (IsFaultAfter h 0) (BytesAfter h 0) old fault
 refuses_length h old fault some r = record {
   before = [];
   left = old.rest;
@@ -354,7 +354,7 @@ same_count h n op y more old middle r q e =
 
 pub refuses_cut : (h : HeaderParts) (n : ℕ) (old middle : At) (fault : Fault) → 0 < h.opcode_base → Reads UnsignedLeb n old middle
     → RefusesField (IsCutShort n) (TakenBytes n) middle fault
-    → Refuses (IsFaultBehind h 0) (BehindBytes h 0) old fault
+    → Refuses (IsFaultAfter h 0) (BytesAfter h 0) old fault
 refuses_cut h n old middle fault some r t = record {
   before = r.spelling;
   left = middle.rest;
@@ -369,7 +369,7 @@ refuses_cut h n old middle fault some r t = record {
 
 none_in_count : (h : HeaderParts) (n length_place start : ℕ) (counted : List ℕ) (old middle new : At) (fault : Fault) → 0 < h.opcode_base
     → Reads UnsignedLeb n old middle → Reads (TakenBytes n) counted middle new
-    → IsCountedFault h.address_size length_place start fault counted → (op : Op) (y more : List ℕ) → BehindBytes h 0 op y
+    → IsCountedFault h.address_size length_place start fault counted → (op : Op) (y more : List ℕ) → BytesAfter h 0 op y
     → y ++ more ≡ old.rest → ⊥
 none_in_count h n length_place start counted old middle new fault some r t f op y more p e =
     let q = counted_at h op y some p in
@@ -387,7 +387,7 @@ counted_joined n counted old middle new r t =
 pub refuses_counted : (h : HeaderParts) (n length_place start : ℕ) (counted : List ℕ) (old middle new : At) (fault : Fault)
     → 0 < h.opcode_base → length_place ≡ old.place → start ≡ middle.place
     → Reads UnsignedLeb n old middle → Reads (TakenBytes n) counted middle new
-    → IsCountedFault h.address_size length_place start fault counted → Refuses (IsFaultBehind h 0) (BehindBytes h 0) old fault
+    → IsCountedFault h.address_size length_place start fault counted → Refuses (IsFaultAfter h 0) (BytesAfter h 0) old fault
 refuses_counted h n length_place start counted old middle new fault some at_length at_start r t (wrong_operand reason place wrong) =
     let size : n ≡ length counted = sym t.spelled.count_is ∙ ap length (sym t.spelled.taken_is) in
     record {

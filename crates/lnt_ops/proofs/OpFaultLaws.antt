@@ -17,16 +17,15 @@ use Rattle.lnt_header.specs.FirstFaults.{FirstOfSeveral}
 use Rattle.lnt_header.specs.FirstFaults.FirstOfSeveral.{next}
 use Rattle.lnt_header.specs.HeaderRules.{HasHeaderNumbers}
 use Rattle.lnt_header.specs.Joins.{Each, Several}
-use Rattle.lnt_header.specs.OpRules.{standard_length}
+use Rattle.lnt_header.specs.OpRules.{Coding, coding, Operand, standard_length}
 use Rattle.lnt_header.specs.declared.header.HeaderParts.{HeaderParts}
 use Rattle.lnt_header.specs.declared.op.Op.{Op}
-use Rattle.lnt_header.specs.declared.op.Op.TheVariants.{Special, Copy, AdvancePc, AdvanceLine, SetFile, SetColumn, NegateStmt}
-use Rattle.lnt_header.specs.declared.op.Op.TheVariants.{SetBasicBlock, ConstAddPc, FixedAdvancePc, SetPrologueEnd, SetEpilogueBegin, SetIsa}
-use Rattle.lnt_header.specs.declared.op.Op.TheVariants.{UnknownStandard, EndSequence, SetAddress, SetDiscriminator, UnknownExtended}
+use Rattle.lnt_header.specs.declared.op.Op.TheVariants.{Special}
 use Rattle.lnt_header.proofs.FirstFaultLaws.{AreOne, each_one, field_fault, IsHere, IsOneFault, several_of}
 use Rattle.lnt_ops.specs.Laws.Ops.{op_code, op_is_some}
-use Rattle.lnt_ops.specs.OpBytes.{Extended, OpBytes, Standard}
-use Rattle.lnt_ops.specs.OpFaults.{IsFirstFault, TakesUnsigned}
+use Rattle.lnt_ops.specs.OpBytes.{CodingBytes, Extended, OpBytes, OperandBytes, Standard}
+use Rattle.lnt_ops.specs.OpFaults.{Following, following, IsFirstFault, TakesUnsigned}
+use Rattle.lnt_ops.specs.OpFaults.Following.{counted, unsigned, signed, fixed, bare, listed}
 use Rattle.lnt_ops.specs.OpFaults.IsFirstFault.{no_opcode, unsigned_operand, signed_operand, fixed_operand, unknown_operand, no_length}
 use Rattle.lnt_ops.specs.OpFaults.IsFirstFault.{cut_counted, wrong_counted, large_counted}
 use Rattle.lnt_ops.specs.OpSteps.{IsRightOperand}
@@ -181,20 +180,7 @@ extended_none size reason behind left code operand spelling more (large x o rest
 
 -- ---- operands, by their opcodes
 
--- What stands after an opcode: a length and as many bytes, a number, no operand, or as many numbers as the header lists.
-data Operand : Type 0 where
-  counted : Operand
-  unsigned : Operand
-  signed : Operand
-  fixed : Operand
-  bare : Operand
-  listed : Operand
-
-abbrev operand_of : ℕ → Operand
-operand_of code =
-    get_or (counted ∷ bare ∷ unsigned ∷ signed ∷ unsigned ∷ unsigned ∷ bare ∷ bare ∷ bare ∷ fixed ∷ bare ∷ bare ∷ unsigned ∷ []) code listed
-
-abbrev OfOperand : HeaderParts → ℕ → Operand → Reason → List ℕ → List ℕ → Type 0
+abbrev OfOperand : HeaderParts → ℕ → Following → Reason → List ℕ → List ℕ → Type 0
 OfOperand h code counted reason behind left = IsExtendedFault h.address_size reason behind left
 OfOperand h code unsigned reason behind left = IsHere (IsLebFault IsLargeUnsigned) reason behind left
 OfOperand h code signed reason behind left = IsHere (IsLebFault IsLargeSigned) reason behind left
@@ -215,7 +201,7 @@ fixed_here h = field_fault (NumberBytes h.order 2) (IsCutShort 2) (number_fault 
 listed_here : (n : ℕ) → IsOneFault (Several n UnsignedLeb) (FirstOfSeveral n UnsignedLeb (IsHere (IsLebFault IsLargeUnsigned)))
 listed_here n = several_of UnsignedLeb (IsHere (IsLebFault IsLargeUnsigned)) unsigned_code unsigned_here n
 
-operand_one : (h : HeaderParts) (code : ℕ) (kind : Operand) → AreOne (OfOperand h code kind)
+operand_one : (h : HeaderParts) (code : ℕ) (kind : Following) → AreOne (OfOperand h code kind)
 operand_one h code counted reason other before before' left left' p q e =
     extended_one h.address_size reason other before before' left left' p q e
 operand_one h code unsigned reason other before before' left left' p q e = unsigned_here.one reason other before before' left left' p q e
@@ -231,19 +217,13 @@ record IsOperandFault (h : HeaderParts) (reason : Reason) (before left : List �
   behind : List ℕ
   within : code < h.opcode_base
   joined : before ≡ code ∷ behind
-  fault : OfOperand h code (operand_of code) reason behind left
+  fault : OfOperand h code (following code) reason behind left
 
 data IsOpcodeFault (h : HeaderParts) (reason : Reason) (before left : List ℕ) : Type 0 where
   nothing : reason ≡ Truncated → before ≡ [] → left ≡ [] → IsOpcodeFault h reason before left
   operand : IsOperandFault h reason before left → IsOpcodeFault h reason before left
 
-takes_unsigned : (code : ℕ) → TakesUnsigned code → operand_of code ≡ unsigned
-takes_unsigned code (inl e) = ap operand_of e
-takes_unsigned code (inr (inl e)) = ap operand_of e
-takes_unsigned code (inr (inr (inl e))) = ap operand_of e
-takes_unsigned code (inr (inr (inr e))) = ap operand_of e
-
-takes_listed : (code : ℕ) → 13 ≤ code → operand_of code ≡ listed
+takes_listed : (code : ℕ) → 13 ≤ code → following code ≡ listed
 takes_listed code le =
     get_or_past (counted ∷ bare ∷ unsigned ∷ signed ∷ unsigned ∷ unsigned ∷ bare ∷ bare ∷ bare ∷ fixed ∷ bare ∷ bare ∷ unsigned ∷ []) code
     listed le
@@ -257,8 +237,8 @@ opcode_fault h reason before left some (unsigned_operand k takes lt b p) =
       behind = [];
       within = lt;
       joined = b;
-      fault = subst (λ (kind : Operand). OfOperand h k kind reason [] left)
-          (sym (takes_unsigned k takes)) (refl, p);
+      fault = subst (λ (kind : Following). OfOperand h k kind reason [] left)
+          (sym takes) (refl, p);
     })
 opcode_fault h reason before left some (signed_operand lt b p) =
     operand (record { code = 3; behind = []; within = lt; joined = b; fault = (refl, p) })
@@ -270,7 +250,7 @@ opcode_fault h reason before left some (unknown_operand k numbers spelling le lt
       behind = spelling;
       within = lt;
       joined = b;
-      fault = subst (λ (kind : Operand). OfOperand h k kind reason spelling left) (sym (takes_listed k le))
+      fault = subst (λ (kind : Following). OfOperand h k kind reason spelling left) (sym (takes_listed k le))
           (next numbers spelling [] fewer each (sym (append-nil spelling)) (refl, p));
     })
 opcode_fault h reason before left some (no_length b p) =
@@ -297,9 +277,9 @@ opcode_one h reason other before before' left left' (operand f) (operand g) e =
     ap (λ (z : List ℕ). z ++ left) (sym f.joined) ∙ e ∙ ap (λ (z : List ℕ). z ++ left') g.joined in
     let codes : f.code ≡ g.code = cc in
     let tails : f.behind ++ left ≡ g.behind ++ left' = cc in
-    let here : OfOperand h g.code (operand_of g.code) reason f.behind left =
-    subst (λ (c : ℕ). OfOperand h c (operand_of c) reason f.behind left) codes f.fault in
-    let found = operand_one h g.code (operand_of g.code) reason other f.behind g.behind left left' here g.fault tails in
+    let here : OfOperand h g.code (following g.code) reason f.behind left =
+    subst (λ (c : ℕ). OfOperand h c (following c) reason f.behind left) codes f.fault in
+    let found = operand_one h g.code (following g.code) reason other f.behind g.behind left left' here g.fault tails in
     (found.0, f.joined ∙ ap (λ (c : ℕ). c ∷ f.behind) codes ∙ ap (λ (z : List ℕ). g.code ∷ z) found.1 ∙ sym g.joined)
 
 -- ---- operations that are there
@@ -309,7 +289,7 @@ record StandardAt (h : HeaderParts) (k : ℕ) (OfOpcode : List ℕ → Type 0) (
   bytes : List ℕ
   spelled : OfOpcode bytes
   joined : bytes ++ more ≡ behind ++ left
-  fault : OfOperand h k (operand_of k) reason behind left
+  fault : OfOperand h k (following k) reason behind left
 
 standard_at : (h : HeaderParts) (k : ℕ) (OfOpcode : List ℕ → Type 0) (reason : Reason) (before left x more : List ℕ)
     → (f : IsOperandFault h reason before left) → Standard h k OfOpcode x
@@ -325,7 +305,7 @@ standard_at h k OfOpcode reason before left x more f p e =
       spelled = p.1.second;
       joined = tails;
       fault = subst
-          (λ (c : ℕ). OfOperand h c (operand_of c) reason f.behind left) codes f.fault;
+          (λ (c : ℕ). OfOperand h c (following c) reason f.behind left) codes f.fault;
     }
 
 extended_at : (h : HeaderParts) (code : ℕ) (OfCode : List ℕ → Type 0) (reason : Reason) (before left x more : List ℕ)
@@ -344,75 +324,80 @@ extended_at h code OfCode reason before left x more f p e right =
     let codes : f.code ≡ 0 = cc in
     let tails : (inner.front ++ (code ∷ bytes)) ++ more ≡ f.behind ++ left = cc in
     let fault : IsExtendedFault h.address_size reason f.behind left =
-    subst (λ (c : ℕ). OfOperand h c (operand_of c) reason f.behind left) codes f.fault in
+    subst (λ (c : ℕ). OfOperand h c (following c) reason f.behind left) codes f.fault in
     let spelled : UnsignedLeb (length (code ∷ bytes)) inner.front =
     subst (λ (z : List ℕ). UnsignedLeb (length z) inner.front) rest inner.first in
     let is = right bytes p.1.second in
     extended_none h.address_size reason f.behind left code bytes inner.front more fault spelled is.0 is.1
     (sym (append_assoc inner.front (code ∷ bytes) more) ∙ tails)
 
+-- the operand that a standard opcode is coded with
+abbrev coded : Operand → Following
+coded Operand.bare = bare
+coded (Operand.unsigned n) = unsigned
+coded (Operand.signed z) = signed
+coded (Operand.half n) = fixed
+
+-- Each opcode is coded with the operand that it takes.
+abbrev TakesIts : Coding → Type 0
+TakesIts (Coding.standard k taken) = following k ≡ coded taken
+TakesIts (Coding.extended code) = code ≡ 1
+TakesIts (Coding.extended_number code n) = code ≡ 4
+TakesIts (Coding.extended_address code address) = code ≡ 2
+TakesIts c = c ≡ c
+
+takes_its : (op : Op) → TakesIts (coding op)
+takes_its (Special c) = refl
+takes_its op = refl
+
+fault_none : (h : HeaderParts) (k : ℕ) (taken : Operand) (reason : Reason) (more behind left : List ℕ)
+    → (s : StandardAt h k (OperandBytes h taken) reason more behind left) → OfOperand h k (coded taken) reason behind left → ⊥
+fault_none h k Operand.bare reason more behind left s fault = fault
+fault_none h k (Operand.unsigned n) reason more behind left s fault =
+    unsigned_here.none reason behind left fault n s.bytes more s.spelled s.joined
+fault_none h k (Operand.signed z) reason more behind left s fault =
+    signed_here.none reason behind left fault z s.bytes more s.spelled s.joined
+fault_none h k (Operand.half n) reason more behind left s fault =
+    (fixed_here h).none reason behind left fault n s.bytes more s.spelled s.joined
+
 -- no operation stands where an operand has a fault
-operand_none : (h : HeaderParts) (reason : Reason) (before left : List ℕ) (op : Op) (x more : List ℕ) → IsOperandFault h reason before left
-    → OpBytes h op x → x ++ more ≡ before ++ left → ⊥
-operand_none h reason before left (Special c) x more f p e =
+coding_none : (h : HeaderParts) (reason : Reason) (before left : List ℕ) (c : Coding) (x more : List ℕ) → TakesIts c
+    → IsOperandFault h reason before left → CodingBytes h c x → x ++ more ≡ before ++ left → ⊥
+coding_none h reason before left (Coding.special c) x more takes f p e =
     let all : c ∷ more ≡ f.code ∷ (f.behind ++ left) =
     ap (λ (z : List ℕ). z ++ more) (sym p.2) ∙ e ∙ ap (λ (z : List ℕ). z ++ left) f.joined in
     let codes : c ≡ f.code = cc in
     omega (arith, codes, p.0, f.within)
-operand_none h reason before left Copy x more f p e = (standard_at h 1 (Exactly []) reason before left x more f p e).fault
-operand_none h reason before left (AdvancePc n) x more f p e =
-    let s =
-    standard_at h 2 (UnsignedLeb n) reason before left x more f p e in unsigned_here.none reason f.behind left s.fault n s.bytes more
-    s.spelled s.joined
-operand_none h reason before left (AdvanceLine z) x more f p e =
-    let s =
-    standard_at h 3 (SignedLeb z) reason before left x more f p e in signed_here.none reason f.behind left s.fault z s.bytes more s.spelled
-    s.joined
-operand_none h reason before left (SetFile n) x more f p e =
-    let s =
-    standard_at h 4 (UnsignedLeb n) reason before left x more f p e in unsigned_here.none reason f.behind left s.fault n s.bytes more
-    s.spelled s.joined
-operand_none h reason before left (SetColumn n) x more f p e =
-    let s =
-    standard_at h 5 (UnsignedLeb n) reason before left x more f p e in unsigned_here.none reason f.behind left s.fault n s.bytes more
-    s.spelled s.joined
-operand_none h reason before left NegateStmt x more f p e = (standard_at h 6 (Exactly []) reason before left x more f p e).fault
-operand_none h reason before left SetBasicBlock x more f p e = (standard_at h 7 (Exactly []) reason before left x more f p e).fault
-operand_none h reason before left ConstAddPc x more f p e = (standard_at h 8 (Exactly []) reason before left x more f p e).fault
-operand_none h reason before left (FixedAdvancePc n) x more f p e =
-    let s =
-    standard_at h 9 (NumberBytes h.order 2 n) reason before left x more f p e in (fixed_here h).none reason f.behind left s.fault n s.bytes
-    more s.spelled s.joined
-operand_none h reason before left SetPrologueEnd x more f p e = (standard_at h 10 (Exactly []) reason before left x more f p e).fault
-operand_none h reason before left SetEpilogueBegin x more f p e = (standard_at h 11 (Exactly []) reason before left x more f p e).fault
-operand_none h reason before left (SetIsa n) x more f p e =
-    let s =
-    standard_at h 12 (UnsignedLeb n) reason before left x more f p e in unsigned_here.none reason f.behind left s.fault n s.bytes more
-    s.spelled s.joined
-operand_none h reason before left (UnknownStandard k numbers) x more f p e =
+coding_none h reason before left (Coding.standard k taken) x more takes f p e =
+    let s = standard_at h k (OperandBytes h taken) reason before left x more f p e in
+    fault_none h k taken reason more f.behind left s
+    (subst (λ (kind : Following). OfOperand h k kind reason f.behind left) takes s.fault)
+coding_none h reason before left (Coding.unknown_standard k numbers) x more takes f p e =
     let s = standard_at h k (Each UnsignedLeb numbers) reason before left x more f p.2 e in
     let fault : OfOperand h k listed reason f.behind left =
-    subst (λ (kind : Operand). OfOperand h k kind reason f.behind left) (takes_listed k p.0) s.fault in
+    subst (λ (kind : Following). OfOperand h k kind reason f.behind left) (takes_listed k p.0) s.fault in
     (listed_here (standard_length h k)).none reason f.behind left fault numbers s.bytes more (p.1, s.spelled) s.joined
-operand_none h reason before left EndSequence x more f p e =
-    extended_at h 1 (Exactly []) reason before left x more f p e
-    (λ bytes q. ((λ _. q, λ two. absurd (omega (arith, two)), λ four. absurd (omega (arith, four))), λ four. omega (arith, four)))
-operand_none h reason before left (SetAddress address) x more f p e =
-    extended_at h 2 (NumberBytes h.order h.address_size address) reason before left x more f p e (λ bytes q. (
+coding_none h reason before left (Coding.extended code) x more takes f p e =
+    extended_at h code (Exactly []) reason before left x more f p e (λ bytes q. (
+      (λ _. q, λ two. absurd (omega (arith, takes, two)), λ four. absurd (omega (arith, takes, four))),
+      λ four. absurd (omega (arith, takes, four)),
+    ))
+coding_none h reason before left (Coding.extended_address code address) x more takes f p e =
+    extended_at h code (NumberBytes h.order h.address_size address) reason before left x more f p e (λ bytes q. (
       (
-        λ one. absurd (omega (arith, one)),
+        λ one. absurd (omega (arith, takes, one)),
         λ _. ap length q.spelled
             ∙ length-number_bytes h.order h.address_size address,
-        λ four. absurd (omega (arith, four)),
+        λ four. absurd (omega (arith, takes, four)),
       ),
-      λ four. omega (arith, four),
+      λ four. absurd (omega (arith, takes, four)),
     ))
-operand_none h reason before left (SetDiscriminator n) x more f p e =
-    extended_at h 4 (UnsignedLeb n) reason before left x more f p e (λ bytes q. (
-      (λ one. absurd (omega (arith, one)), λ two. absurd (omega (arith, two)), λ _. q.shape),
+coding_none h reason before left (Coding.extended_number code n) x more takes f p e =
+    extended_at h code (UnsignedLeb n) reason before left x more f p e (λ bytes q. (
+      (λ one. absurd (omega (arith, takes, one)), λ two. absurd (omega (arith, takes, two)), λ _. q.shape),
       λ _ much. omega (arith, much, q.value, q.fits),
     ))
-operand_none h reason before left (UnknownExtended code taken) x more f p e =
+coding_none h reason before left (Coding.unknown_extended code taken) x more takes f p e =
     extended_at h code (Exactly taken) reason before left x more f p.4 e (λ bytes q. (
       (λ one. absurd (p.0 one), λ two. absurd (p.1 two), λ four. absurd (p.2 four)),
       λ four. absurd (p.2 four),
@@ -422,7 +407,7 @@ opcode_none : (h : HeaderParts) (reason : Reason) (before left : List ℕ) → I
     → NoneSpelled (OpBytes h) (before ++ left)
 opcode_none h reason before left (nothing is b l) op x more p e =
     omega (arith, op_is_some h op x p, ap length e, length-append x more, length-append before left, ap length b, ap length l)
-opcode_none h reason before left (operand f) op x more p e = operand_none h reason before left op x more f p e
+opcode_none h reason before left (operand f) op x more p e = coding_none h reason before left (coding op) x more (takes_its op) f p e
 
 -- ---- operations, and programs
 

@@ -24,13 +24,12 @@ use Rattle.lnt_header.specs.declared.op.OpView.{OpView}
 use Rattle.lnt_header.specs.declared.op.OpView.TheVariants as views
 use Rattle.lnt_header.specs.declared.op.Operands.{Operands}
 use Rattle.lnt_header.specs.declared.op.Operands.TheVariants.{Spelled, Listed}
-use Rattle.lnt_header.specs.OpViews.{AreOperands, StandsFor, op_of, operands_of}
+use Rattle.lnt_header.specs.OpRules.{AreOperands, StandsFor, op_of, operands_of, Admits, AdmitsCoding, Coding, coding, Operand}
 use Rattle.lnt_header.specs.Joins.{Each}
-use Rattle.lnt_header.specs.OpRules.{Admits}
 use Rattle.lnt_header.specs.Laws.Puts.{put_as, each_begun, each_put, each_more, each_done}
 use Rattle.lnt_ops.specs.Laws.Ops.{same_whole}
 use Rattle.lnt_ops.specs.Laws.Views.{leb_is_some, is_op_of}
-use Rattle.lnt_ops.specs.OpBytes.{OpBytes, Standard, Extended}
+use Rattle.lnt_ops.specs.OpBytes.{CodingBytes, OpBytes, OperandBytes, Standard, Extended}
 use Rattle.lnt_ops.specs.OpPuts.{IsOpOf, AddsView, AddsSpelled, AddsOperands}
 use Rattle.lnt_ops.specs.OperandLists.{IsOperands, SpellsNumbers, NumbersSoFar}
 use Rattle.lnt_ops.specs.OpSpellings.{Coded, ExtendedCoded, ExtendedStart}
@@ -142,10 +141,10 @@ shortest_extended Operand code x number operand p q = record {
 }
 
 -- an operand after its start
-extended_behind : {X : Type 0} (Operand : X → List ℕ → Type 0) (code count : ℕ) (x : X) (old middle new : List ℕ)
+extended_after : {X : Type 0} (Operand : X → List ℕ → Type 0) (code count : ℕ) (x : X) (old middle new : List ℕ)
     → Appends (ExtendedStart code) count old middle → (p : Appends Operand x middle new)
     → count ≡ suc (length p.spelling) → Appends (ExtendedCoded code Operand) x old new
-extended_behind Operand code count x old middle new s p is =
+extended_after Operand code count x old middle new s p is =
     let number = s.spelled.spelled.number in
     let shortest : IsShortest UnsignedLeb (suc (length p.spelling)) number = record {
       spelled = subst (λ (n : ℕ). UnsignedLeb n number) is s.spelled.spelled.spelled;
@@ -181,13 +180,13 @@ pub extended_put : (code count : ℕ) (operand old middle new : List ℕ) → Ap
     → new ≡ middle ++ operand → count ≡ length operand + 1 → Appends (ExtendedCoded code Exactly) operand old new
 extended_put code count operand old middle new s put is =
     let p = exactly_put operand middle in
-    rw put (extended_behind Exactly code count operand old middle (middle ++ operand) s p (omega (arith, is, ap length p.spelled.spelled)))
+    rw put (extended_after Exactly code count operand old middle (middle ++ operand) s p (omega (arith, is, ap length p.spelled.spelled)))
 
 pub address_put : (order : Order) (size address count : ℕ) (old middle new : List ℕ) → Appends (ExtendedStart 2) count old middle
     → count ≡ size + 1 → Appends (NumberBytes order size) address middle new
     → Appends (ExtendedCoded 2 (NumberBytes order size)) address old new
 address_put order size address count old middle new s is p =
-    extended_behind (NumberBytes order size) 2 count address old middle new s p
+    extended_after (NumberBytes order size) 2 count address old middle new s p
     (omega (arith, is, ap length p.spelled.spelled.spelled, length-number_bytes order size address))
 
 -- ---- a discriminator, whose length is written last
@@ -263,12 +262,6 @@ alone code old new put = record {
   joined = put;
 }
 
--- a standard operation without operands
-plain_as : (h : HeaderParts) (code : ℕ) (op : Op) (old new : List ℕ) → ((y : List ℕ) → Standard h code (Exactly []) y → OpBytes h op y)
-    → ((y : List ℕ) → OpBytes h op y → Standard h code (Exactly []) y) → code < h.opcode_base
-    → new ≡ old ++ code ∷ [] → Appends (OpBytes h) op old new
-plain_as h code op old new to from low put = standard_as Exactly h code [] op old new to from low (alone code old new put)
-
 -- what was put is of the operation that a view stands for
 put_known : (h : HeaderParts) (op known : Op) (old new : List ℕ) → op ≡ known → Admits h op
     → (Admits h known → Appends (OpBytes h) known old new) → Appends (OpBytes h) op old new
@@ -297,75 +290,78 @@ pub special_put : (order : Order) (size : ℕ) (view : OpView) (c : ℕ) (old ne
 special_put order size view c old new is low put =
     put_of order size view (views.Special c) old new is (λ h op o s stands a. special_as h c old new low a put)
 
-pub copy_put : (order : Order) (size : ℕ) (view : OpView) (old new : List ℕ) → view ≡ views.Copy → new ≡ old ++ 1 ∷ []
+-- ---- standard operations, by how they are coded
+
+-- how the operations that a view stands for are coded, but for the operands of an unknown standard one
+abbrev pub coded : OpView → Coding
+coded view = coding (op_of view [])
+
+coded_alike : (view : OpView) (operands : List ℕ) (k : ℕ) (taken : Operand) → coded view ≡ Coding.standard k taken
+    → coding (op_of view operands) ≡ Coding.standard k taken
+coded_alike (views.UnknownStandard j spelled) operands k taken e = absurd cc
+coded_alike view operands k taken e = e
+
+coded_as : {X : Type 0} (Spells : X → List ℕ → Type 0) (x : X) (h : HeaderParts) (k : ℕ) (taken : Operand) (op : Op) (old new : List ℕ)
+    → coding op ≡ Coding.standard k taken → ((y : List ℕ) → Spells x y → OperandBytes h taken y)
+    → ((y : List ℕ) → OperandBytes h taken y → Spells x y) → Admits h op → Appends (Coded k Spells) x old new
+    → Appends (OpBytes h) op old new
+coded_as Spells x h k taken op old new is to from admits p =
+    let low : k < h.opcode_base = subst (AdmitsCoding h) is admits in
+    put_as (Coded k Spells) (OpBytes h) x op old new
+    (λ y t.
+    let s : Standard h k (OperandBytes h taken) y = (
+      low,
+      record {
+        front = k ∷ [];
+        back = t.operand;
+        first = refl;
+        second = to t.operand t.spelled;
+        joined = t.joined;
+      },
+    ) in
+    subst (λ (c : Coding). CodingBytes h c y) (sym is) s)
+    (λ y t.
+    let s : Standard h k (OperandBytes h taken) y = subst (λ (c : Coding). CodingBytes h c y) is t in
+    record {
+      operand = s.1.back;
+      spelled = from s.1.back s.1.second;
+      joined = s.1.joined ∙ ap (λ (z : List ℕ). z ++ s.1.back) s.1.first;
+    }) p
+
+view_put : (order : Order) (size : ℕ) (view : OpView) (k : ℕ) (taken : Operand) (old new : List ℕ) → coded view ≡ Coding.standard k taken
+    → ((h : HeaderParts) (op : Op) → h.order ≡ order → coding op ≡ Coding.standard k taken → Admits h op → Appends (OpBytes h) op old new)
     → AddsView order size view old new
-copy_put order size view old new is put =
-    put_of order size view views.Copy old new is (λ h op o s stands a. plain_as h 1 Copy old new (λ y t. t) (λ y t. t) a put)
+view_put order size view k taken old new e put = record {
+  adds = λ h op ordered sized stands admits.
+      put h op ordered (ap coding (is_op_of view op stands) ∙ coded_alike view (operands_of op) k taken e) admits;
+}
 
-pub advance_pc_put : (order : Order) (size : ℕ) (view : OpView) (n : ℕ) (old new : List ℕ) → view ≡ views.AdvancePc n
-    → Appends (Coded 2 UnsignedLeb) n old new → AddsView order size view old new
-advance_pc_put order size view n old new is p =
-    put_of order size view (views.AdvancePc n) old new is
-    (λ h op o s stands a. standard_as UnsignedLeb h 2 n (AdvancePc n) old new (λ y t. t) (λ y t. t) a p)
+pub plain_put : (order : Order) (size : ℕ) (view : OpView) (k : ℕ) (old new : List ℕ) → coded view ≡ Coding.standard k Operand.bare
+    → new ≡ old ++ k ∷ [] → AddsView order size view old new
+plain_put order size view k old new e put =
+    view_put order size view k Operand.bare old new e
+    (λ h op o is a. coded_as Exactly [] h k Operand.bare op old new is (λ y t. t) (λ y t. t) a (alone k old new put))
 
-pub advance_line_put : (order : Order) (size : ℕ) (view : OpView) (z : ℤ) (old new : List ℕ) → view ≡ views.AdvanceLine z
-    → Appends (Coded 3 SignedLeb) z old new → AddsView order size view old new
-advance_line_put order size view z old new is p =
-    put_of order size view (views.AdvanceLine z) old new is
-    (λ h op o s stands a. standard_as SignedLeb h 3 z (AdvanceLine z) old new (λ y t. t) (λ y t. t) a p)
+pub unsigned_put : (order : Order) (size : ℕ) (view : OpView) (k n : ℕ) (old new : List ℕ)
+    → coded view ≡ Coding.standard k (Operand.unsigned n) → Appends (Coded k UnsignedLeb) n old new → AddsView order size view old new
+unsigned_put order size view k n old new e p =
+    view_put order size view k (Operand.unsigned n) old new e
+    (λ h op o is a. coded_as UnsignedLeb n h k (Operand.unsigned n) op old new is (λ y t. t) (λ y t. t) a p)
 
-pub set_file_put : (order : Order) (size : ℕ) (view : OpView) (n : ℕ) (old new : List ℕ) → view ≡ views.SetFile n
-    → Appends (Coded 4 UnsignedLeb) n old new → AddsView order size view old new
-set_file_put order size view n old new is p =
-    put_of order size view (views.SetFile n) old new is
-    (λ h op o s stands a. standard_as UnsignedLeb h 4 n (SetFile n) old new (λ y t. t) (λ y t. t) a p)
+pub signed_put : (order : Order) (size : ℕ) (view : OpView) (k : ℕ) (z : ℤ) (old new : List ℕ)
+    → coded view ≡ Coding.standard k (Operand.signed z) → Appends (Coded k SignedLeb) z old new → AddsView order size view old new
+signed_put order size view k z old new e p =
+    view_put order size view k (Operand.signed z) old new e
+    (λ h op o is a. coded_as SignedLeb z h k (Operand.signed z) op old new is (λ y t. t) (λ y t. t) a p)
 
-pub set_column_put : (order : Order) (size : ℕ) (view : OpView) (n : ℕ) (old new : List ℕ) → view ≡ views.SetColumn n
-    → Appends (Coded 5 UnsignedLeb) n old new → AddsView order size view old new
-set_column_put order size view n old new is p =
-    put_of order size view (views.SetColumn n) old new is
-    (λ h op o s stands a. standard_as UnsignedLeb h 5 n (SetColumn n) old new (λ y t. t) (λ y t. t) a p)
+pub half_put : (order : Order) (size : ℕ) (view : OpView) (k n : ℕ) (old new : List ℕ) → coded view ≡ Coding.standard k (Operand.half n)
+    → Appends (Coded k (NumberBytes order 2)) n old new → AddsView order size view old new
+half_put order size view k n old new e p =
+    view_put order size view k (Operand.half n) old new e
+    (λ h op o is a. coded_as (NumberBytes h.order 2) n h k (Operand.half n) op old new is (λ y t. t) (λ y t. t) a
+    (subst (λ (w : Order). Appends (Coded k (NumberBytes w 2)) n old new) (sym o) p))
 
-pub negate_stmt_put : (order : Order) (size : ℕ) (view : OpView) (old new : List ℕ) → view ≡ views.NegateStmt → new ≡ old ++ 6 ∷ []
-    → AddsView order size view old new
-negate_stmt_put order size view old new is put =
-    put_of order size view views.NegateStmt old new is (λ h op o s stands a. plain_as h 6 NegateStmt old new (λ y t. t) (λ y t. t) a put)
-
-pub set_basic_block_put : (order : Order) (size : ℕ) (view : OpView) (old new : List ℕ) → view ≡ views.SetBasicBlock → new ≡ old ++ 7 ∷ []
-    → AddsView order size view old new
-set_basic_block_put order size view old new is put =
-    put_of order size view views.SetBasicBlock old new is
-    (λ h op o s stands a. plain_as h 7 SetBasicBlock old new (λ y t. t) (λ y t. t) a put)
-
-pub const_add_pc_put : (order : Order) (size : ℕ) (view : OpView) (old new : List ℕ) → view ≡ views.ConstAddPc → new ≡ old ++ 8 ∷ []
-    → AddsView order size view old new
-const_add_pc_put order size view old new is put =
-    put_of order size view views.ConstAddPc old new is (λ h op o s stands a. plain_as h 8 ConstAddPc old new (λ y t. t) (λ y t. t) a put)
-
-pub fixed_advance_pc_put : (order : Order) (size : ℕ) (view : OpView) (n : ℕ) (old new : List ℕ) → view ≡ views.FixedAdvancePc n
-    → Appends (Coded 9 (NumberBytes order 2)) n old new → AddsView order size view old new
-fixed_advance_pc_put order size view n old new is p =
-    put_of order size view (views.FixedAdvancePc n) old new is
-    (λ h op o s stands a. standard_as (NumberBytes h.order 2) h 9 n (FixedAdvancePc n) old new (λ y t. t) (λ y t. t) a
-    (subst (λ (w : Order). Appends (Coded 9 (NumberBytes w 2)) n old new) (sym o) p))
-
-pub set_prologue_end_put : (order : Order) (size : ℕ) (view : OpView) (old new : List ℕ) → view ≡ views.SetPrologueEnd
-    → new ≡ old ++ 10 ∷ [] → AddsView order size view old new
-set_prologue_end_put order size view old new is put =
-    put_of order size view views.SetPrologueEnd old new is
-    (λ h op o s stands a. plain_as h 10 SetPrologueEnd old new (λ y t. t) (λ y t. t) a put)
-
-pub set_epilogue_begin_put : (order : Order) (size : ℕ) (view : OpView) (old new : List ℕ) → view ≡ views.SetEpilogueBegin
-    → new ≡ old ++ 11 ∷ [] → AddsView order size view old new
-set_epilogue_begin_put order size view old new is put =
-    put_of order size view views.SetEpilogueBegin old new is
-    (λ h op o s stands a. plain_as h 11 SetEpilogueBegin old new (λ y t. t) (λ y t. t) a put)
-
-pub set_isa_put : (order : Order) (size : ℕ) (view : OpView) (n : ℕ) (old new : List ℕ) → view ≡ views.SetIsa n
-    → Appends (Coded 12 UnsignedLeb) n old new → AddsView order size view old new
-set_isa_put order size view n old new is p =
-    put_of order size view (views.SetIsa n) old new is
-    (λ h op o s stands a. standard_as UnsignedLeb h 12 n (SetIsa n) old new (λ y t. t) (λ y t. t) a p)
+-- ---- the others
 
 -- the operands of an unknown standard operation
 are_operands : (k : ℕ) (operands : Operands) (op : Op) → StandsFor (views.UnknownStandard k operands) op

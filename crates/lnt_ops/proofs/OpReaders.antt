@@ -17,7 +17,7 @@ use Rattle.lnt_ops.specs.OpFaults.{IsOpFault, IsFirstFault}
 use Rattle.lnt_ops.specs.OpFaults.IsFirstFault.{no_opcode}
 use Rattle.lnt_ops.specs.Laws.Faults.{refuses_op}
 use Rattle.lnt_ops.specs.OpReading.{GivesOp}
-use Rattle.lnt_ops.specs.OpSteps.{BehindBytes, IsFaultBehind, GivesBehind}
+use Rattle.lnt_ops.specs.OpSteps.{BytesAfter, IsFaultAfter, GivesAfter}
 
 -- ---- a cursor that stands where another does
 
@@ -61,10 +61,10 @@ gives_special h k old ahead middle place rest order r le =
       reads = reads_from (OpBytes h) (ops.Special k) old ahead middle place rest order read;
     }
 
-pub gives_behind : (h : HeaderParts) (k : ℕ) (view : OpView) (old ahead middle new : At) → ahead.place ≡ old.place → ahead.rest ≡ old.rest
+pub gives_after : (h : HeaderParts) (k : ℕ) (view : OpView) (old ahead middle new : At) → ahead.place ≡ old.place → ahead.rest ≡ old.rest
     → ahead.order ≡ old.order → Reads (NumberBytes ahead.order 1) k ahead middle
-    → GivesBehind h k view middle new → GivesOp h view old new
-gives_behind h k view old ahead middle new place rest order r g =
+    → GivesAfter h k view middle new → GivesOp h view old new
+gives_after h k view old ahead middle new place rest order r g =
     let s = g.reads in
     let first = byte_is h k ahead middle r in
     let spelled : OpBytes h g.op (r.spelling ++ s.spelling) = subst (λ (x : List ℕ). OpBytes h g.op (x ++ s.spelling)) (sym first)
@@ -97,19 +97,19 @@ pub refuses_opcode : (h : HeaderParts) (old ahead : At) (fault : Fault) → ahea
 refuses_opcode h old ahead fault place rest r = refuses_op h old fault (first_opcode h old ahead fault place rest r)
 
 -- no operation has the first byte, and goes on as its bytes do
-none_behind : (h : HeaderParts) (k : ℕ) (rest bytes : List ℕ) → bytes ≡ k ∷ rest → NoneSpelled (BehindBytes h k) rest
+none_after : (h : HeaderParts) (k : ℕ) (rest bytes : List ℕ) → bytes ≡ k ∷ rest → NoneSpelled (BytesAfter h k) rest
     → NoneSpelled (OpBytes h) bytes
-none_behind h k rest bytes whole none op [] more p e = omega (arith, op_is_some h op [] p)
-none_behind h k rest bytes whole none op (b ∷ x) more p e =
+none_after h k rest bytes whole none op [] more p e = omega (arith, op_is_some h op [] p)
+none_after h k rest bytes whole none op (b ∷ x) more p e =
     let all : b ∷ (x ++ more) ≡ k ∷ rest = e ∙ whole in
     let first : b ≡ k = cc in
     let behind : x ++ more ≡ rest = cc in
     none op x more (record { whole = subst (λ (a : ℕ). OpBytes h op (a ∷ x)) first p }) behind
 
-pub first_behind : (h : HeaderParts) (k : ℕ) (old ahead middle : At) (fault : Fault) → ahead.place ≡ old.place → ahead.rest ≡ old.rest
+pub first_after : (h : HeaderParts) (k : ℕ) (old ahead middle : At) (fault : Fault) → ahead.place ≡ old.place → ahead.rest ≡ old.rest
     → Reads (NumberBytes ahead.order 1) k ahead middle
-    → Refuses (IsFaultBehind h k) (BehindBytes h k) middle fault → Refuses (IsFirstFault h) (OpBytes h) old fault
-first_behind h k old ahead middle fault place rest r s =
+    → Refuses (IsFaultAfter h k) (BytesAfter h k) middle fault → Refuses (IsFirstFault h) (OpBytes h) old fault
+first_after h k old ahead middle fault place rest r s =
     let first = byte_is h k ahead middle r in
     let whole : old.rest ≡ k ∷ middle.rest = sym rest ∙ r.whole ∙ ap (λ (z : List ℕ). z ++ middle.rest) first in
     record {
@@ -118,10 +118,10 @@ first_behind h k old ahead middle fault place rest r s =
       split = whole ∙ ap (λ (z : List ℕ). k ∷ z) s.split;
       place = omega (arith, s.place, r.place, place, ap length first);
       reason = s.reason.whole;
-      none = none_behind h k middle.rest old.rest whole s.none;
+      none = none_after h k middle.rest old.rest whole s.none;
     }
 
-pub refuses_behind : (h : HeaderParts) (k : ℕ) (old ahead middle : At) (fault : Fault) → ahead.place ≡ old.place → ahead.rest ≡ old.rest
+pub refuses_after : (h : HeaderParts) (k : ℕ) (old ahead middle : At) (fault : Fault) → ahead.place ≡ old.place → ahead.rest ≡ old.rest
     → Reads (NumberBytes ahead.order 1) k ahead middle
-    → Refuses (IsFaultBehind h k) (BehindBytes h k) middle fault → Refuses (IsOpFault h.address_size) (OpBytes h) old fault
-refuses_behind h k old ahead middle fault place rest r s = refuses_op h old fault (first_behind h k old ahead middle fault place rest r s)
+    → Refuses (IsFaultAfter h k) (BytesAfter h k) middle fault → Refuses (IsOpFault h.address_size) (OpBytes h) old fault
+refuses_after h k old ahead middle fault place rest r s = refuses_op h old fault (first_after h k old ahead middle fault place rest r s)

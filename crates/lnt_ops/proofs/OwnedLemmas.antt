@@ -9,7 +9,7 @@ use Rattle.lnt_wire.specs.declared.fault.Fault.{Fault}
 use Rattle.lnt_wire.specs.Reading.{Reads, RefusesField}
 use Rattle.lnt_header.specs.Joins.{Each}
 use Rattle.lnt_header.specs.Laws.Readers.{each_more}
-use Rattle.lnt_header.specs.OpViews.{StandsFor}
+use Rattle.lnt_header.specs.OpRules.{StandsFor}
 use Rattle.lnt_header.specs.declared.op.Op.{Op}
 use Rattle.lnt_header.specs.declared.op.Op.TheVariants as ops
 use Rattle.lnt_header.specs.declared.op.OpView.TheVariants as views

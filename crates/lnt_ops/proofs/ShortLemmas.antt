@@ -14,8 +14,7 @@ use Rattle.lnt_header.specs.declared.op.Op.{Op}
 use Rattle.lnt_header.specs.declared.op.Op.TheVariants as ops
 use Rattle.lnt_header.specs.declared.op.OpView.{OpView}
 use Rattle.lnt_header.specs.declared.op.OpView.TheVariants as views
-use Rattle.lnt_header.specs.OpRules.{Admits}
-use Rattle.lnt_header.specs.OpViews.{StandsFor}
+use Rattle.lnt_header.specs.OpRules.{Admits, StandsFor}
 use Rattle.lnt_ops.proofs.StandardReaders.{standard}
 use Rattle.lnt_ops.proofs.WalkLemmas.{steps_on}
 use Rattle.lnt_ops.specs.OpBytes.{Extended, OpBytes, Standard}
@@ -40,9 +39,9 @@ three_taken (b ∷ []) some = absurd (omega arith)
 three_taken (b ∷ c ∷ []) some = absurd (omega arith)
 three_taken (b ∷ c ∷ d ∷ bytes) some = refl
 
-behind_one : (bytes : List ℕ) (n : ℕ) → 0 < length bytes → take (n + 1) bytes ≡ get_or bytes 0 0 ∷ take n (drop 1 bytes)
-behind_one [] n some = absurd (omega arith)
-behind_one (b ∷ bytes) n some = simp add-one
+after_one : (bytes : List ℕ) (n : ℕ) → 0 < length bytes → take (n + 1) bytes ≡ get_or bytes 0 0 ∷ take n (drop 1 bytes)
+after_one [] n some = absurd (omega arith)
+after_one (b ∷ bytes) n some = simp add-one
 
 one_less : (bytes : List ℕ) → 0 < length bytes → length bytes ≡ length (drop 1 bytes) + 1
 one_less [] some = absurd (omega arith)
@@ -112,7 +111,7 @@ front h k view op n bytes operand some is same le stands admitted spelled = reco
   admitted = admitted;
   within = omega (arith, le, one_less bytes some, ap length same);
   spelled = subst (OpBytes h op) (sym
-      (behind_one bytes n some ∙ ap (λ (b : ℕ). b ∷ take n (drop 1 bytes)) is ∙ ap (λ (z : List ℕ). k ∷ take n z) (sym same))) spelled;
+      (after_one bytes n some ∙ ap (λ (b : ℕ). b ∷ take n (drop 1 bytes)) is ∙ ap (λ (z : List ℕ). k ∷ take n z) (sym same))) spelled;
 }
 
 pub front_special : (h : HeaderParts) (k : ℕ) (bytes : List ℕ) → 0 < length bytes → get_or bytes 0 0 ≡ k → h.opcode_base ≤ k → k < 256
@@ -238,7 +237,7 @@ opcode_is : (h : HeaderParts) (k n : ℕ) (Operand : List ℕ → Type 0) (bytes
     → (get_or bytes 0 0 ≡ k) × Operand (take n (drop 1 bytes))
 opcode_is h k n Operand bytes some s =
     let t = s.1 in
-    let same : get_or bytes 0 0 ∷ take n (drop 1 bytes) ≡ k ∷ t.back = sym (behind_one bytes n some) ∙ t.joined
+    let same : get_or bytes 0 0 ∷ take n (drop 1 bytes) ≡ k ∷ t.back = sym (after_one bytes n some) ∙ t.joined
     ∙ ap (λ (z : List ℕ). z ++ t.back) t.first in
     (ap (λ (z : List ℕ). get_or z 0 0) same, subst Operand (sym (ap (λ (z : List ℕ). drop 1 z) same)) t.second)
 
@@ -351,7 +350,7 @@ discriminator_begins : (h : HeaderParts) (n : ℕ) (op : Op) (bytes : List ℕ) 
     → (get_or bytes 0 0 ≡ 0) × (NoDiscriminator (drop 1 bytes) → ⊥)
 discriminator_begins h n (ops.SetDiscriminator m) bytes le s b =
     let found = discriminator_bytes m (take 4 bytes) b (length-take-le 4 bytes le) in
-    let same : get_or bytes 0 0 ∷ take 3 (drop 1 bytes) ≡ 0 ∷ 2 ∷ 4 ∷ found.0 ∷ [] = sym (behind_one bytes 3 (omega (arith, le)))
+    let same : get_or bytes 0 0 ∷ take 3 (drop 1 bytes) ≡ 0 ∷ 2 ∷ 4 ∷ found.0 ∷ [] = sym (after_one bytes 3 (omega (arith, le)))
     ∙ found.2 in
     (ap (λ (z : List ℕ). get_or z 0 0) same, λ long. long.none found.0 found.1 (ap (λ (z : List ℕ). drop 1 z) same))
 discriminator_begins h n _ bytes le s b = absurd s

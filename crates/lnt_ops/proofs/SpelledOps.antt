@@ -11,17 +11,13 @@ use Rattle.lnt_wire.specs.Numbers.{NumberBytes, number_bytes}
 use Rattle.lnt_wire.specs.Spelled.{HasShortest}
 use Rattle.lnt_header.specs.declared.header.HeaderParts.{HeaderParts}
 use Rattle.lnt_header.specs.declared.op.Op.{Op}
-use Rattle.lnt_header.specs.declared.op.Op.TheVariants.{Special, Copy, AdvancePc, AdvanceLine, SetFile, SetColumn}
-use Rattle.lnt_header.specs.declared.op.Op.TheVariants.{NegateStmt, SetBasicBlock, ConstAddPc, FixedAdvancePc}
-use Rattle.lnt_header.specs.declared.op.Op.TheVariants.{SetPrologueEnd, SetEpilogueBegin, SetIsa, UnknownStandard}
-use Rattle.lnt_header.specs.declared.op.Op.TheVariants.{EndSequence, SetAddress, SetDiscriminator, UnknownExtended}
 use Rattle.lnt_header.specs.HeaderRules.{HasHeaderNumbers, IsAddressSize}
 use Rattle.lnt_header.specs.Joins.{Each}
 use Rattle.lnt_header.specs.Laws.Shortest.{each_shortest}
-use Rattle.lnt_header.specs.OpRules.{Admits}
+use Rattle.lnt_header.specs.OpRules.{Admits, AdmitsCoding, Coding, coding, Operand}
 use Rattle.lnt_ops.specs.Laws.{AllowedOpsAreSpelled}
-use Rattle.lnt_ops.specs.OpBytes.{Extended, OpBytes, Standard}
-use Rattle.lnt_ops.specs.Spelled.{FitsOp}
+use Rattle.lnt_ops.specs.OpBytes.{CodingBytes, Extended, OpBytes, OperandBytes, Standard}
+use Rattle.lnt_ops.specs.Spelled.{FitsCoding, FitsOp, FitsOperand}
 use Rattle.lnt_ops.proofs.LebSizes.{at_most_ten, shortest_of_less}
 
 -- ---- bytes of a kind than which none of the kind are fewer
@@ -115,34 +111,34 @@ numbers_spelled : wire.SpelledValues → (numbers : List ℕ) → AllByRecursion
 numbers_spelled law [] fits = tt
 numbers_spelled law (n ∷ numbers) fits = (law.unsigned n fits.0, numbers_spelled law numbers fits.1)
 
-least_op : wire.SpelledValues → (h : HeaderParts) (op : Op) → HasHeaderNumbers h → Admits h op → FitsOp op → Least (OpBytes h op)
-least_op law h (Special c) numbers admits fits = record {
+least_operand : wire.SpelledValues → (h : HeaderParts) (operand : Operand) → FitsOperand operand → Least (OperandBytes h operand)
+least_operand law h Operand.bare fits = least_exactly []
+least_operand law h (Operand.unsigned n) fits = least_of UnsignedLeb n (law.unsigned n fits)
+least_operand law h (Operand.signed z) fits = least_of SignedLeb z (law.signed z fits)
+least_operand law h (Operand.half n) fits = least_number h.order 2 n (omega (arith, fits))
+
+least_coding : wire.SpelledValues → (h : HeaderParts) (c : Coding) → HasHeaderNumbers h → AdmitsCoding h c → FitsCoding c
+    → Least (CodingBytes h c)
+least_coding law h (Coding.special c) numbers admits fits = record {
   bytes = c ∷ [];
   is = (admits, omega (arith, fits), refl);
   least = λ other p. omega (arith, ap length p.2);
 }
-least_op law h Copy numbers admits fits = least_standard h 1 (Exactly []) admits (least_exactly [])
-least_op law h (AdvancePc n) numbers admits fits = least_standard h 2 (UnsignedLeb n) admits (least_of UnsignedLeb n (law.unsigned n fits))
-least_op law h (AdvanceLine z) numbers admits fits = least_standard h 3 (SignedLeb z) admits (least_of SignedLeb z (law.signed z fits))
-least_op law h (SetFile n) numbers admits fits = least_standard h 4 (UnsignedLeb n) admits (least_of UnsignedLeb n (law.unsigned n fits))
-least_op law h (SetColumn n) numbers admits fits = least_standard h 5 (UnsignedLeb n) admits (least_of UnsignedLeb n (law.unsigned n fits))
-least_op law h NegateStmt numbers admits fits = least_standard h 6 (Exactly []) admits (least_exactly [])
-least_op law h SetBasicBlock numbers admits fits = least_standard h 7 (Exactly []) admits (least_exactly [])
-least_op law h ConstAddPc numbers admits fits = least_standard h 8 (Exactly []) admits (least_exactly [])
-least_op law h (FixedAdvancePc n) numbers admits fits =
-    least_standard h 9 (NumberBytes h.order 2 n) admits (least_number h.order 2 n (omega (arith, fits)))
-least_op law h SetPrologueEnd numbers admits fits = least_standard h 10 (Exactly []) admits (least_exactly [])
-least_op law h SetEpilogueBegin numbers admits fits = least_standard h 11 (Exactly []) admits (least_exactly [])
-least_op law h (SetIsa n) numbers admits fits = least_standard h 12 (UnsignedLeb n) admits (least_of UnsignedLeb n (law.unsigned n fits))
-least_op law h (UnknownStandard k operands) numbers admits fits =
+least_coding law h (Coding.standard k operand) numbers admits fits =
+    least_standard h k (OperandBytes h operand) admits (least_operand law h operand fits)
+least_coding law h (Coding.unknown_standard k operands) numbers admits fits =
     let one = least_standard h k (Each UnsignedLeb operands) admits.1
     (least_of (Each UnsignedLeb) operands (each_shortest UnsignedLeb operands (numbers_spelled law operands fits))) in
     record { bytes = one.bytes; is = (admits.0, admits.2, one.is); least = λ other p. one.least other p.2 }
-least_op law h EndSequence numbers admits fits =
-    least_extended law 1 (Exactly []) (least_exactly []) (omega (arith, ap length (least_exactly []).is))
-least_op law h (SetAddress address) numbers admits fits =
+least_coding law h (Coding.extended code) numbers admits fits =
+    least_extended law code (Exactly []) (least_exactly []) (omega (arith, ap length (least_exactly []).is))
+least_coding law h (Coding.extended_number code n) numbers admits fits =
+    let operand = least_of UnsignedLeb n (law.unsigned n fits) in
+    least_extended law code (UnsignedLeb n) operand
+    (omega (arith, at_most_ten n operand.bytes (record { spelled = operand.is; shortest = operand.least })))
+least_coding law h (Coding.extended_address code address) numbers admits fits =
     let operand = least_number h.order h.address_size address admits in
-    least_extended law 2 (NumberBytes h.order h.address_size address) operand
+    least_extended law code (NumberBytes h.order h.address_size address) operand
     (omega (
       arith,
       ap length operand.is.spelled,
@@ -150,17 +146,13 @@ least_op law h (SetAddress address) numbers admits fits =
       short_address h.address_size
           numbers.address_size,
     ))
-least_op law h (SetDiscriminator n) numbers admits fits =
-    let operand = least_of UnsignedLeb n (law.unsigned n fits) in
-    least_extended law 4 (UnsignedLeb n) operand
-    (omega (arith, at_most_ten n operand.bytes (record { spelled = operand.is; shortest = operand.least })))
-least_op law h (UnknownExtended code operand) numbers admits fits =
+least_coding law h (Coding.unknown_extended code operand) numbers admits fits =
     let one = least_extended law code (Exactly operand) (least_exactly operand)
     (omega (arith, fits.1, ap length (least_exactly operand).is)) in
     record { bytes = one.bytes; is = (admits.0, admits.1, admits.2, omega (arith, fits.0), one.is); least = λ other p. one.least other p.4 }
 
 op_spelled : wire.SpelledValues → (h : HeaderParts) (op : Op) → HasHeaderNumbers h → Admits h op → FitsOp op → HasShortest (OpBytes h) op
-op_spelled law h op numbers admits fits = shortest_of (OpBytes h) op (least_op law h op numbers admits fits)
+op_spelled law h op numbers admits fits = shortest_of (OpBytes h) op (least_coding law h (coding op) numbers admits fits)
 
 ops_spelled : wire.SpelledValues → (h : HeaderParts) (ops : List Op) → HasHeaderNumbers h → AllByRecursion (Admits h) ops
     → AllByRecursion FitsOp ops → AllByRecursion (HasShortest (OpBytes h)) ops
@@ -174,25 +166,20 @@ numbers_fit : (numbers : List ℕ) (x : List ℕ) → Each UnsignedLeb numbers x
 numbers_fit [] x p = tt
 numbers_fit (n ∷ numbers) x p = (p.first.fits, numbers_fit numbers p.back p.second)
 
-op_allowed : (h : HeaderParts) (op : Op) (x : List ℕ) → OpBytes h op x → Admits h op × FitsOp op
-op_allowed h (Special c) x p = (p.0, omega (arith, p.1))
-op_allowed h Copy x p = (p.0, tt)
-op_allowed h (AdvancePc n) x p = (p.0, p.1.second.fits)
-op_allowed h (AdvanceLine z) x p = (p.0, p.1.second.fits)
-op_allowed h (SetFile n) x p = (p.0, p.1.second.fits)
-op_allowed h (SetColumn n) x p = (p.0, p.1.second.fits)
-op_allowed h NegateStmt x p = (p.0, tt)
-op_allowed h SetBasicBlock x p = (p.0, tt)
-op_allowed h ConstAddPc x p = (p.0, tt)
-op_allowed h (FixedAdvancePc n) x p = (p.0, omega (arith, p.1.second.fits))
-op_allowed h SetPrologueEnd x p = (p.0, tt)
-op_allowed h SetEpilogueBegin x p = (p.0, tt)
-op_allowed h (SetIsa n) x p = (p.0, p.1.second.fits)
-op_allowed h (UnknownStandard k operands) x p = ((p.0, p.2.0, p.1), numbers_fit operands p.2.1.back p.2.1.second)
-op_allowed h EndSequence x p = (tt, tt)
-op_allowed h (SetAddress address) x p = (p.1.second.fits, tt)
-op_allowed h (SetDiscriminator n) x p = (tt, p.1.second.fits)
-op_allowed h (UnknownExtended code operand) x p =
+operand_fits : (h : HeaderParts) (operand : Operand) (x : List ℕ) → OperandBytes h operand x → FitsOperand operand
+operand_fits h Operand.bare x p = tt
+operand_fits h (Operand.unsigned n) x p = p.fits
+operand_fits h (Operand.signed z) x p = p.fits
+operand_fits h (Operand.half n) x p = omega (arith, p.fits)
+
+coding_allowed : (h : HeaderParts) (c : Coding) (x : List ℕ) → CodingBytes h c x → AdmitsCoding h c × FitsCoding c
+coding_allowed h (Coding.special c) x p = (p.0, omega (arith, p.1))
+coding_allowed h (Coding.standard k operand) x p = (p.0, operand_fits h operand p.1.back p.1.second)
+coding_allowed h (Coding.unknown_standard k operands) x p = ((p.0, p.2.0, p.1), numbers_fit operands p.2.1.back p.2.1.second)
+coding_allowed h (Coding.extended code) x p = (tt, tt)
+coding_allowed h (Coding.extended_number code n) x p = (tt, p.1.second.fits)
+coding_allowed h (Coding.extended_address code address) x p = (p.1.second.fits, tt)
+coding_allowed h (Coding.unknown_extended code operand) x p =
     let body = p.4.1 in (
       (p.0, p.1, p.2),
       (
@@ -208,6 +195,9 @@ op_allowed h (UnknownExtended code operand) x p =
         ),
       ),
     )
+
+op_allowed : (h : HeaderParts) (op : Op) (x : List ℕ) → OpBytes h op x → Admits h op × FitsOp op
+op_allowed h op x p = coding_allowed h (coding op) x p
 
 ops_allowed : (h : HeaderParts) (ops : List Op) (x : List ℕ) → Each (OpBytes h) ops x → AllByRecursion (Admits h) ops
     × AllByRecursion FitsOp ops

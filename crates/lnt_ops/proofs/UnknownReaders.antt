@@ -14,13 +14,12 @@ use Rattle.lnt_header.specs.declared.op.OpView.{OpView}
 use Rattle.lnt_header.specs.HeaderRules.{IsHeader}
 use Rattle.lnt_header.specs.Joins.{Each, Several}
 use Rattle.lnt_header.specs.Laws.Readers.{any_local, nothing_asked, moved_field, reads_none, reads_more, refuses_more, reads_map}
-use Rattle.lnt_header.specs.OpRules.{standard_length}
-use Rattle.lnt_header.specs.OpViews.{StandsFor}
-use Rattle.lnt_ops.proofs.StandardReaders.{standard, behind_byte}
+use Rattle.lnt_header.specs.OpRules.{standard_length, StandsFor}
+use Rattle.lnt_ops.proofs.StandardReaders.{standard, after_byte}
 use Rattle.lnt_ops.specs.Laws.Ops.{tag, standard_tag}
 use Rattle.lnt_ops.specs.OpBytes.{OpBytes}
 use Rattle.lnt_ops.specs.OpFaults.IsFirstFault.{unknown_operand}
-use Rattle.lnt_ops.specs.OpSteps.{BehindBytes, IsFaultBehind, GivesBehind, PassesOperands, IsOperandFault}
+use Rattle.lnt_ops.specs.OpSteps.{BytesAfter, IsFaultAfter, GivesAfter, PassesOperands, IsOperandFault}
 
 -- ---- operands one by one
 
@@ -54,7 +53,7 @@ opcode_there h k header some lt = omega (arith, header.numbers.opcode_base, some
 pub gives_unknown : (h : HeaderParts) (k count : ℕ) (view : OpView) (old new : At) → 13 ≤ k → k < h.opcode_base
     → count ≡ standard_length h k → PassesOperands count old new
     → ((operands : List ℕ) → Each UnsignedLeb operands (take (length old.rest - length new.rest) old.rest)
-    → StandsFor view (ops.UnknownStandard k operands)) → GivesBehind h k view old new
+    → StandsFor view (ops.UnknownStandard k operands)) → GivesAfter h k view old new
 gives_unknown h k count view old new some lt counted p stands =
     let r = p.reads in
     let size : length old.rest - length new.rest ≡ length r.spelling = omega
@@ -67,7 +66,7 @@ gives_unknown h k count view old new some lt counted p stands =
       op = op;
       stands = stands p.operands (subst (λ (x : List ℕ). Each UnsignedLeb p.operands x) (sym taken) r.spelled);
       admitted = (some, lt, several);
-      reads = reads_map (Each UnsignedLeb) (BehindBytes h k) p.operands op old new
+      reads = reads_map (Each UnsignedLeb) (BytesAfter h k) p.operands op old new
           (λ y q. record { whole = (some, several, standard h k k (Each UnsignedLeb p.operands) y refl lt q) }) r;
     }
 
@@ -75,11 +74,11 @@ unknown_operands : (h : HeaderParts) (op : Op) (k : ℕ) (y : List ℕ) → 13 �
     → (operands : List ℕ) × Several (standard_length h k) UnsignedLeb operands y
 unknown_operands h (ops.UnknownStandard j operands) k y some t p =
     let same : j ≡ k = omega arith in
-    (operands, (p.1 ∙ ap (standard_length h) same, behind_byte k j (Each UnsignedLeb operands) y p.2.1))
+    (operands, (p.1 ∙ ap (standard_length h) same, after_byte k j (Each UnsignedLeb operands) y p.2.1))
 unknown_operands h op k y some t p = absurd (omega arith)
 
 pub refuses_unknown : (h : HeaderParts) (k count : ℕ) (old : At) (fault : Fault) → 13 ≤ k → k < h.opcode_base → count ≡ standard_length h k
-    → Refuses (IsOperandFault count) (Several count UnsignedLeb) old fault → Refuses (IsFaultBehind h k) (BehindBytes h k) old fault
+    → Refuses (IsOperandFault count) (Several count UnsignedLeb) old fault → Refuses (IsFaultAfter h k) (BytesAfter h k) old fault
 refuses_unknown h k count old fault some lt counted r = record {
   before = r.before;
   left = r.left;

@@ -5,12 +5,11 @@ use Rattle.lnt_wire.specs.Leb128.{UnsignedLeb, SignedLeb}
 use Rattle.lnt_wire.specs.Numbers.{NumberBytes}
 use Rattle.lnt_header.specs.declared.header.HeaderParts.{HeaderParts}
 use Rattle.lnt_header.specs.declared.op.Op.{Op}
-use Rattle.lnt_header.specs.declared.op.Op.TheVariants.{Special, Copy, AdvancePc, AdvanceLine, SetFile, SetColumn}
-use Rattle.lnt_header.specs.declared.op.Op.TheVariants.{NegateStmt, SetBasicBlock, ConstAddPc, FixedAdvancePc}
-use Rattle.lnt_header.specs.declared.op.Op.TheVariants.{SetPrologueEnd, SetEpilogueBegin, SetIsa, UnknownStandard}
-use Rattle.lnt_header.specs.declared.op.Op.TheVariants.{EndSequence, SetAddress, SetDiscriminator, UnknownExtended}
 use Rattle.lnt_header.specs.Joins.{Each}
-use Rattle.lnt_header.specs.OpRules.{standard_length}
+use Rattle.lnt_header.specs.OpRules.{Coding, coding, Operand, standard_length}
+use Rattle.lnt_header.specs.OpRules.Coding.{special, standard, unknown_standard, extended, extended_number, extended_address}
+use Rattle.lnt_header.specs.OpRules.Coding.{unknown_extended}
+use Rattle.lnt_header.specs.OpRules.Operand.{bare, unsigned, signed, half}
 
 -- a standard opcode and its operand
 abbrev pub Standard : HeaderParts → ℕ → (List ℕ → Type 0) → List ℕ → Type 0
@@ -21,25 +20,25 @@ abbrev pub Extended : ℕ → (List ℕ → Type 0) → List ℕ → Type 0
 Extended code Operand bytes =
     (rest : List ℕ) × (Exactly (code ∷ []) ⨾ Operand) rest × (Exactly (0 ∷ []) ⨾ UnsignedLeb (length rest) ⨾ Exactly rest) bytes
 
+-- the bytes of the operand of a standard operation
+abbrev pub OperandBytes : HeaderParts → Operand → List ℕ → Type 0
+OperandBytes h bare = Exactly []
+OperandBytes h (unsigned n) = UnsignedLeb n
+OperandBytes h (signed z) = SignedLeb z
+OperandBytes h (half n) = NumberBytes h.order 2 n
+
+-- the bytes of an opcode and its operand in a unit with this header
+abbrev pub CodingBytes : HeaderParts → Coding → List ℕ → Type 0
+CodingBytes h (special c) bytes = (h.opcode_base ≤ c) × (c < 256) × (bytes ≡ c ∷ [])
+CodingBytes h (standard k operand) bytes = Standard h k (OperandBytes h operand) bytes
+CodingBytes h (unknown_standard k operands) bytes =
+    (13 ≤ k) × (length operands ≡ standard_length h k) × Standard h k (Each UnsignedLeb operands) bytes
+CodingBytes h (extended code) bytes = Extended code (Exactly []) bytes
+CodingBytes h (extended_number code n) bytes = Extended code (UnsignedLeb n) bytes
+CodingBytes h (extended_address code address) bytes = Extended code (NumberBytes h.order h.address_size address) bytes
+CodingBytes h (unknown_extended code operand) bytes =
+    (code ≢ 1) × (code ≢ 2) × (code ≢ 4) × (code < 256) × Extended code (Exactly operand) bytes
+
 -- The bytes of an operation in a unit with this header.
 abbrev pub OpBytes : HeaderParts → Op → List ℕ → Type 0
-OpBytes h (Special c) bytes = (h.opcode_base ≤ c) × (c < 256) × (bytes ≡ c ∷ [])
-OpBytes h Copy bytes = Standard h 1 (Exactly []) bytes
-OpBytes h (AdvancePc n) bytes = Standard h 2 (UnsignedLeb n) bytes
-OpBytes h (AdvanceLine z) bytes = Standard h 3 (SignedLeb z) bytes
-OpBytes h (SetFile n) bytes = Standard h 4 (UnsignedLeb n) bytes
-OpBytes h (SetColumn n) bytes = Standard h 5 (UnsignedLeb n) bytes
-OpBytes h NegateStmt bytes = Standard h 6 (Exactly []) bytes
-OpBytes h SetBasicBlock bytes = Standard h 7 (Exactly []) bytes
-OpBytes h ConstAddPc bytes = Standard h 8 (Exactly []) bytes
-OpBytes h (FixedAdvancePc n) bytes = Standard h 9 (NumberBytes h.order 2 n) bytes
-OpBytes h SetPrologueEnd bytes = Standard h 10 (Exactly []) bytes
-OpBytes h SetEpilogueBegin bytes = Standard h 11 (Exactly []) bytes
-OpBytes h (SetIsa n) bytes = Standard h 12 (UnsignedLeb n) bytes
-OpBytes h (UnknownStandard k operands) bytes =
-    (13 ≤ k) × (length operands ≡ standard_length h k) × Standard h k (Each UnsignedLeb operands) bytes
-OpBytes h EndSequence bytes = Extended 1 (Exactly []) bytes
-OpBytes h (SetAddress address) bytes = Extended 2 (NumberBytes h.order h.address_size address) bytes
-OpBytes h (SetDiscriminator n) bytes = Extended 4 (UnsignedLeb n) bytes
-OpBytes h (UnknownExtended code operand) bytes =
-    (code ≢ 1) × (code ≢ 2) × (code ≢ 4) × (code < 256) × Extended code (Exactly operand) bytes
+OpBytes h op bytes = CodingBytes h (coding op) bytes

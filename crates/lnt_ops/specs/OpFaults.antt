@@ -1,7 +1,7 @@
 -- What is wrong where no operation begins some bytes (DWARF 5, section 6.2.5).
 --     before   the bytes up to the place of the fault
 --     left     the bytes from the place on, up to the end of the program
-use Rattle.std.specs.Prelude.{◌≡◌, ℕ, ◌+◌, ◌<◌, ◌≤◌, ◌⊎◌, List, [], ◌∷◌, ◌++◌, length}
+use Rattle.std.specs.Prelude.{◌≡◌, ℕ, ◌+◌, ◌<◌, ◌≤◌, List, [], ◌∷◌, ◌++◌, get_or, length}
 use Rattle.lnt_wire.specs.declared.fault.Reason.{Reason}
 use Rattle.lnt_wire.specs.declared.fault.Reason.TheVariants.{Truncated, LebTooLarge, ExtendedLength}
 use Rattle.lnt_wire.specs.Leb128.{IsLeb, UnsignedLeb, IsLargeUnsigned, IsLargeSigned, IsLebFault}
@@ -17,9 +17,23 @@ pub data IsOpFault (address_size : ℕ) (reason : Reason) (before left : List �
   wrong_length : (earlier : List ℕ) → reason ≡ ExtendedLength → before ≡ earlier ++ 0 ∷ [] → IsWrongLength address_size left
       → IsOpFault address_size reason before left
 
+-- what follows an opcode that isn't special: a length and as many bytes, a number, nothing, or as many numbers as the header lists
+pub data Following : Type 0 where
+  counted : Following
+  unsigned : Following
+  signed : Following
+  fixed : Following
+  bare : Following
+  listed : Following
+
+-- the opcodes from 0 on, and those from 13 on
+abbrev pub following : ℕ → Following
+following code =
+    get_or (counted ∷ bare ∷ unsigned ∷ signed ∷ unsigned ∷ unsigned ∷ bare ∷ bare ∷ bare ∷ fixed ∷ bare ∷ bare ∷ unsigned ∷ []) code listed
+
 -- the standard opcodes up to 12 with an unsigned LEB128 as operand
 abbrev pub TakesUnsigned : ℕ → Type 0
-TakesUnsigned k = (k ≡ 2) ⊎ (k ≡ 4) ⊎ (k ≡ 5) ⊎ (k ≡ 12)
+TakesUnsigned k = following k ≡ unsigned
 
 -- The first field of an operation that isn't there, by the fields of the operation before it. Where the bytes that a length
 -- counts are all there, they are judged as one.

@@ -8,8 +8,7 @@ use Rattle.lnt_header.specs.declared.op.Op.{Op}
 use Rattle.lnt_header.specs.declared.op.OpView.{OpView}
 use Rattle.lnt_header.specs.declared.op.Operands.{Operands}
 use Rattle.lnt_header.specs.Joins.{Each}
-use Rattle.lnt_header.specs.OpRules.{Admits}
-use Rattle.lnt_header.specs.OpViews.{AreOperands, StandsFor}
+use Rattle.lnt_header.specs.OpRules.{Admits, AreOperands, StandsFor}
 use Rattle.lnt_ops.specs.OpBytes.{OpBytes}
 use Rattle.lnt_ops.specs.OpSpellings.{Coded}
 

@@ -4,8 +4,7 @@ use Rattle.lnt_wire.specs.Reading.{Reads}
 use Rattle.lnt_header.specs.declared.header.HeaderParts.{HeaderParts}
 use Rattle.lnt_header.specs.declared.op.Op.{Op}
 use Rattle.lnt_header.specs.declared.op.OpView.{OpView}
-use Rattle.lnt_header.specs.OpRules.{Admits}
-use Rattle.lnt_header.specs.OpViews.{StandsFor}
+use Rattle.lnt_header.specs.OpRules.{Admits, StandsFor}
 use Rattle.lnt_ops.specs.OpBytes.{OpBytes}
 
 -- The view stands for an operation that the header admits, and the read moved past the bytes that spell it.

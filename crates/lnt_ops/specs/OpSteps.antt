@@ -14,27 +14,26 @@ use Rattle.lnt_header.specs.declared.op.Op.TheVariants.{EndSequence, SetAddress,
 use Rattle.lnt_header.specs.declared.op.OpView.{OpView}
 use Rattle.lnt_header.specs.FieldFaults.{IsWrongOperand}
 use Rattle.lnt_header.specs.Joins.{Each}
-use Rattle.lnt_header.specs.OpRules.{Admits}
-use Rattle.lnt_header.specs.OpViews.{StandsFor}
+use Rattle.lnt_header.specs.OpRules.{Admits, StandsFor}
 use Rattle.lnt_ops.specs.OpBytes.{OpBytes}
 use Rattle.lnt_ops.specs.OpFaults.{IsFirstFault}
 
 -- ---- after the first byte
 
 -- the bytes of an operation after its first byte
-pub record BehindBytes (h : HeaderParts) (opcode : ℕ) (op : Op) (bytes : List ℕ) : Type 0 where
+pub record BytesAfter (h : HeaderParts) (opcode : ℕ) (op : Op) (bytes : List ℕ) : Type 0 where
   pub whole : OpBytes h op (opcode ∷ bytes)
 
 -- the reasons for which no operation is read after its first byte
-pub record IsFaultBehind (h : HeaderParts) (opcode : ℕ) (reason : Reason) (before left : List ℕ) : Type 0 where
+pub record IsFaultAfter (h : HeaderParts) (opcode : ℕ) (reason : Reason) (before left : List ℕ) : Type 0 where
   pub whole : IsFirstFault h reason (opcode ∷ before) left
 
 -- a read of an operation after its first byte
-pub record GivesBehind (h : HeaderParts) (opcode : ℕ) (view : OpView) (old new : At) : Type 0 where
+pub record GivesAfter (h : HeaderParts) (opcode : ℕ) (view : OpView) (old new : At) : Type 0 where
   pub op : Op
   pub stands : StandsFor view op
   pub admitted : Admits h op
-  pub reads : Reads (BehindBytes h opcode) op old new
+  pub reads : Reads (BytesAfter h opcode) op old new
 
 -- the numbers that a standard operation has, as many as the count says, were passed
 pub record PassesOperands (count : ℕ) (old new : At) : Type 0 where

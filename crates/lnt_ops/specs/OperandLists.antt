@@ -4,7 +4,7 @@ use Rattle.lnt_wire.specs.At.{At}
 use Rattle.lnt_wire.specs.Leb128.{UnsignedLeb}
 use Rattle.lnt_header.specs.declared.op.Operands.{Operands}
 use Rattle.lnt_header.specs.Joins.{Each}
-use Rattle.lnt_header.specs.OpViews.{AreOperands}
+use Rattle.lnt_header.specs.OpRules.{AreOperands}
 
 -- the operands are some numbers
 pub record IsOperands (operands : Operands) : Type 0 where

@@ -6,8 +6,7 @@ use Rattle.lnt_header.specs.declared.op.Op.{Op}
 use Rattle.lnt_header.specs.declared.op.OpView.{OpView}
 use Rattle.lnt_header.specs.declared.op.OpView.TheVariants.{Special, Copy, AdvancePc, AdvanceLine, SetFile, SetColumn}
 use Rattle.lnt_header.specs.declared.op.OpView.TheVariants.{NegateStmt, ConstAddPc, SetDiscriminator}
-use Rattle.lnt_header.specs.OpRules.{Admits}
-use Rattle.lnt_header.specs.OpViews.{StandsFor}
+use Rattle.lnt_header.specs.OpRules.{Admits, StandsFor}
 use Rattle.lnt_ops.specs.OpBytes.{OpBytes}
 
 -- So many bytes at the front spell an operation that the header admits, for which the view stands.

@@ -3,20 +3,28 @@ use Rattle.std.specs.Prelude.{◌+◌, ◌^◌, ◌<◌, length, FitsSigned}
 use Rattle.std.specs.Int.{w64}
 use Rattle.std.specs.List.{AllByRecursion}
 use Rattle.lnt_header.specs.declared.op.Op.{Op}
-use Rattle.lnt_header.specs.declared.op.Op.TheVariants.{Special, AdvancePc, AdvanceLine, SetFile, SetColumn}
-use Rattle.lnt_header.specs.declared.op.Op.TheVariants.{FixedAdvancePc, SetIsa, UnknownStandard, SetDiscriminator}
-use Rattle.lnt_header.specs.declared.op.Op.TheVariants.{UnknownExtended}
+use Rattle.lnt_header.specs.OpRules.{Coding, coding, Operand}
+use Rattle.lnt_header.specs.OpRules.Coding.{special, standard, unknown_standard, extended, extended_number, extended_address}
+use Rattle.lnt_header.specs.OpRules.Coding.{unknown_extended}
+use Rattle.lnt_header.specs.OpRules.Operand.{bare, unsigned, signed, half}
+
+-- a number that the operand of a standard operation can say
+abbrev pub FitsOperand : Operand → Type 0
+FitsOperand bare = Unit {0}
+FitsOperand (unsigned n) = n < 2 ^ 64
+FitsOperand (signed z) = FitsSigned w64 z
+FitsOperand (half n) = n < 2 ^ 16
+
+-- numbers that an opcode and its operand can say; that an address fits the size of addresses is the header's rule
+abbrev pub FitsCoding : Coding → Type 0
+FitsCoding (special c) = c < 2 ^ 8
+FitsCoding (standard k operand) = FitsOperand operand
+FitsCoding (unknown_standard k operands) = AllByRecursion (λ n. n < 2 ^ 64) operands
+FitsCoding (extended code) = Unit {0}
+FitsCoding (extended_number code n) = n < 2 ^ 64
+FitsCoding (extended_address code address) = Unit {0}
+FitsCoding (unknown_extended code operand) = (code < 2 ^ 8) × (length operand + 1 < 2 ^ 64)
 
 -- The numbers of an operation are ones that its opcode and its operands can say. An `Op` holds no others.
 abbrev pub FitsOp : Op → Type 0
-FitsOp (Special c) = c < 2 ^ 8
-FitsOp (AdvancePc n) = n < 2 ^ 64
-FitsOp (AdvanceLine z) = FitsSigned w64 z
-FitsOp (SetFile n) = n < 2 ^ 64
-FitsOp (SetColumn n) = n < 2 ^ 64
-FitsOp (FixedAdvancePc n) = n < 2 ^ 16
-FitsOp (SetIsa n) = n < 2 ^ 64
-FitsOp (UnknownStandard opcode operands) = AllByRecursion (λ n. n < 2 ^ 64) operands
-FitsOp (SetDiscriminator n) = n < 2 ^ 64
-FitsOp (UnknownExtended code operand) = (code < 2 ^ 8) × (length operand + 1 < 2 ^ 64)
-FitsOp _ = Unit {0}
+FitsOp op = FitsCoding (coding op)

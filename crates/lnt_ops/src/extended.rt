@@ -4,7 +4,7 @@ ghost use Rattle.lnt_wire.specs.Leb128.{IsLeb};
 ghost use Rattle.lnt_wire.specs.Numbers.{NumberBytes};
 ghost use Rattle.lnt_wire.specs.Reading.{Refuses};
 ghost use Rattle.lnt_header.specs.FieldFaults.{IsWrongOperand};
-ghost use Rattle.lnt_ops.specs.OpSteps.{BehindBytes, IsFaultBehind, GivesBehind, IsRightOperand, GivesCounted, IsCountedFault};
+ghost use Rattle.lnt_ops.specs.OpSteps.{BytesAfter, IsFaultAfter, GivesAfter, IsRightOperand, GivesCounted, IsCountedFault};
 
 use lnt_header::{Header, OpView};
 use lnt_wire::{Cursor, Fault, Reason};
@@ -17,8 +17,8 @@ pub(crate) fn read_extended<'a>(
     header: &Header,
 ) -> Result<OpView<'a>, Fault>
     requires standard { 0 < header.now.opcode_base }
-    ensures ok { IfOk result (λ view. GivesBehind header.now 0 view cursor.old cursor.new) }
-    ensures err { IfErr result (λ fault. Refuses (IsFaultBehind header.now 0) (BehindBytes header.now 0) cursor.old fault) }
+    ensures ok { IfOk result (λ view. GivesAfter header.now 0 view cursor.old cursor.new) }
+    ensures err { IfErr result (λ fault. Refuses (IsFaultAfter header.now 0) (BytesAfter header.now 0) cursor.old fault) }
 {
     let length_place = cursor.place();
     let length = cursor.uleb()?;

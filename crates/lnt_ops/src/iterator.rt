@@ -79,7 +79,7 @@ impl<'a> Ops<'a> {
         Ops::new(header, rest, place + skipped as u64)
     }
 
-    /// Another walk at the same place. A call that isn't in line works on it, so that this one needn't lie in memory.
+    /// Another walk at the same place. A call that isn't in line works on it, so that this one stays in registers.
     #[inline(always)]
     pub fn fork(&self) -> Ops<'a>
         ensures { result ≡ self.now }

@@ -1,15 +1,20 @@
-//! One operation, from its first byte on.
+//! One operation: read from its first byte on, and kept.
 ghost use Rattle.std.specs.Prelude.{◌≡◌, ◌<◌, ◌≤◌, ◌⊎◌, IfOk, IfErr, OnErr};
 ghost use Rattle.lnt_wire.specs.Reading.{Refuses};
+ghost use Rattle.lnt_header.specs.OpRules.{StandsFor};
 ghost use Rattle.lnt_ops.specs.OpBytes.{OpBytes};
 ghost use Rattle.lnt_ops.specs.OpFaults.{IsFirstFault, IsOpFault};
 ghost use Rattle.lnt_ops.specs.OpReading.{GivesOp};
-ghost use Rattle.lnt_ops.specs.OpSteps.{BehindBytes, IsFaultBehind, GivesBehind};
+ghost use Rattle.lnt_ops.specs.Programs.{IsView};
+ghost use Rattle.lnt_ops.specs.OpSteps.{BytesAfter, IsFaultAfter, GivesAfter};
 
 use crate::extended::read_extended;
+use crate::owned::owned_operands;
 use crate::unknown::read_unknown;
-use lnt_header::{Header, OpView};
+use lnt_header::{Header, Op, OpView};
+use lnt_lists::Items;
 use lnt_wire::{Cursor, Fault};
+use std::alloc::{AllocError, Global};
 
 /// The next operation of a program in a unit with this header (DWARF 5, section 6.2.5). It takes no memory.
 ///
@@ -18,7 +23,7 @@ use lnt_wire::{Cursor, Fault};
 /// An extended operation whose length isn't that of its code and operand is `ExtendedLength` at the length; where
 /// the bytes end before the length does, it is `Truncated` at the first byte that the length counts.
 #[inline(always)]
-#[tactic(auto, using(crate::proofs::OpReaders::gives_special, crate::proofs::OpReaders::gives_behind, crate::proofs::OpReaders::first_opcode, crate::proofs::OpReaders::first_behind, crate::proofs::OpReaders::refuses_opcode, crate::proofs::OpReaders::refuses_behind))]
+#[tactic(auto, using(crate::proofs::OpReaders::gives_special, crate::proofs::OpReaders::gives_after, crate::proofs::OpReaders::first_opcode, crate::proofs::OpReaders::first_after, crate::proofs::OpReaders::refuses_opcode, crate::proofs::OpReaders::refuses_after))]
 pub fn read_op<'a>(cursor: &mut Cursor<'a>, header: &Header) -> Result<OpView<'a>, Fault>
     requires { cursor.old.order ≡ header.now.order }
     ensures ok { IfOk result (λ view. GivesOp header.now view cursor.old cursor.new) }
@@ -32,23 +37,23 @@ pub fn read_op<'a>(cursor: &mut Cursor<'a>, header: &Header) -> Result<OpView<'a
         *cursor = ahead;
         return Ok(OpView::Special(opcode));
     }
-    let view = read_behind(&mut ahead, header, opcode)?;
+    let view = read_operand(&mut ahead, header, opcode)?;
     *cursor = ahead;
     Ok(view)
 }
 
-// What follows the opcode of an operation that isn't special.
+// What follows an opcode below the first special one, which was read.
 #[inline(always)]
 #[tactic(auto, using(crate::proofs::StandardReaders::gives_copy, crate::proofs::StandardReaders::gives_advance_pc, crate::proofs::StandardReaders::gives_advance_line, crate::proofs::StandardReaders::gives_set_file, crate::proofs::StandardReaders::gives_set_column, crate::proofs::StandardReaders::gives_negate_stmt, crate::proofs::StandardReaders::gives_set_basic_block, crate::proofs::StandardReaders::gives_const_add_pc, crate::proofs::StandardReaders::gives_fixed_advance_pc, crate::proofs::StandardReaders::gives_set_prologue_end, crate::proofs::StandardReaders::gives_set_epilogue_begin, crate::proofs::StandardReaders::gives_set_isa, crate::proofs::StandardReaders::refuses_advance_pc, crate::proofs::StandardReaders::refuses_advance_line, crate::proofs::StandardReaders::refuses_set_file, crate::proofs::StandardReaders::refuses_set_column, crate::proofs::StandardReaders::refuses_fixed_advance_pc, crate::proofs::StandardReaders::refuses_set_isa))]
-fn read_behind<'a>(
+fn read_operand<'a>(
     cursor: &mut Cursor<'a>,
     header: &Header,
     opcode: u8,
 ) -> Result<OpView<'a>, Fault>
     requires standard { opcode < header.now.opcode_base }
     requires order { cursor.old.order ≡ header.now.order }
-    ensures ok { IfOk result (λ view. GivesBehind header.now opcode view cursor.old cursor.new) }
-    ensures err { IfErr result (λ fault. Refuses (IsFaultBehind header.now opcode) (BehindBytes header.now opcode) cursor.old fault) }
+    ensures ok { IfOk result (λ view. GivesAfter header.now opcode view cursor.old cursor.new) }
+    ensures err { IfErr result (λ fault. Refuses (IsFaultAfter header.now opcode) (BytesAfter header.now opcode) cursor.old fault) }
 {
     match opcode {
         0 => read_apart(cursor, header, 0),
@@ -68,14 +73,15 @@ fn read_behind<'a>(
     }
 }
 
-// What follows an opcode of which few are there. The cursor isn't lent, so that it needn't lie in memory.
+// What follows an extended opcode, or one that DWARF 5 doesn't know: the slow path for rare ones. They are read by a copy of the
+// cursor, which isn't lent to the call, so that it stays in registers.
 #[inline(always)]
 fn read_apart<'a>(cursor: &mut Cursor<'a>, header: &Header, opcode: u8) -> Result<OpView<'a>, Fault>
     requires standard { opcode < header.now.opcode_base }
     requires rare { (opcode ≡ 0) ⊎ (13 ≤ opcode) }
     requires order { cursor.old.order ≡ header.now.order }
-    ensures ok { IfOk result (λ view. GivesBehind header.now opcode view cursor.old cursor.new) }
-    ensures err { IfErr result (λ fault. Refuses (IsFaultBehind header.now opcode) (BehindBytes header.now opcode) cursor.old fault) }
+    ensures ok { IfOk result (λ view. GivesAfter header.now opcode view cursor.old cursor.new) }
+    ensures err { IfErr result (λ fault. Refuses (IsFaultAfter header.now opcode) (BytesAfter header.now opcode) cursor.old fault) }
 {
     let mut ahead = Cursor::new(cursor.rest(), cursor.place(), cursor.order());
     let view = if opcode == 0 {
@@ -85,4 +91,37 @@ fn read_apart<'a>(cursor: &mut Cursor<'a>, header: &Header, opcode: u8) -> Resul
     };
     *cursor = ahead;
     Ok(view)
+}
+
+/// The operation that the view stands for. The only error is that memory ran out.
+#[tactic(auto, using(crate::proofs::OwnedLemmas::some_operands))]
+pub(crate) fn owned_op(alloc: Global, view: OpView<'_>) -> Result<Op, AllocError>
+    requires { IsView view }
+    ensures { IfOk result (λ op. StandsFor view.entry op) }
+{
+    match view {
+        OpView::Special(opcode) => Ok(Op::Special(opcode)),
+        OpView::Copy => Ok(Op::Copy),
+        OpView::AdvancePc(n) => Ok(Op::AdvancePc(n)),
+        OpView::AdvanceLine(z) => Ok(Op::AdvanceLine(z)),
+        OpView::SetFile(n) => Ok(Op::SetFile(n)),
+        OpView::SetColumn(n) => Ok(Op::SetColumn(n)),
+        OpView::NegateStmt => Ok(Op::NegateStmt),
+        OpView::SetBasicBlock => Ok(Op::SetBasicBlock),
+        OpView::ConstAddPc => Ok(Op::ConstAddPc),
+        OpView::FixedAdvancePc(n) => Ok(Op::FixedAdvancePc(n)),
+        OpView::SetPrologueEnd => Ok(Op::SetPrologueEnd),
+        OpView::SetEpilogueBegin => Ok(Op::SetEpilogueBegin),
+        OpView::SetIsa(n) => Ok(Op::SetIsa(n)),
+        OpView::UnknownStandard(opcode, operands) => {
+            Ok(Op::UnknownStandard(opcode, owned_operands(alloc, operands)?))
+        }
+        OpView::EndSequence => Ok(Op::EndSequence),
+        OpView::SetAddress(address) => Ok(Op::SetAddress(address)),
+        OpView::SetDiscriminator(n) => Ok(Op::SetDiscriminator(n)),
+        OpView::UnknownExtended(code, bytes) => Ok(Op::UnknownExtended(
+            code,
+            Items::new(Vec::from_slice(alloc, bytes)?),
+        )),
+    }
 }

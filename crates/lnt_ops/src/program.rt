@@ -7,7 +7,7 @@ ghost use Rattle.lnt_ops.specs.OpBytes.{OpBytes};
 ghost use Rattle.lnt_ops.specs.Programs.{BrokenProgram};
 
 use crate::iterator::Ops;
-use crate::owned::owned_op;
+use crate::operation::owned_op;
 use lnt_header::{Header, Op};
 use lnt_lists::Items;
 use lnt_wire::{Fault, Reason};

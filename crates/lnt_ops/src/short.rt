@@ -37,7 +37,7 @@ pub(crate) fn short_op<'a>(bytes: &'a [u8], header: &Header) -> Option<(OpView<'
     }
 }
 
-// The number that one byte spells.
+// The number at the front, where one byte spells it; none where it is longer, or cut.
 #[inline(always)]
 #[tactic(auto, using(crate::proofs::ShortLemmas::one_unsigned))]
 fn short_number(bytes: &[u8]) -> Option<u64>
@@ -84,7 +84,7 @@ fn short_signed(bytes: &[u8]) -> Option<(i64, usize)>
     Some((second * 128 + i64::from(first % 128), 2))
 }
 
-// A last byte in two's complement.
+// The value of a last byte, which is below 128, in two's complement of seven bits.
 #[inline(always)]
 #[tactic(auto, using(crate::proofs::ShortLemmas::group_low, crate::proofs::ShortLemmas::group_high))]
 fn last_group(byte: u8) -> i64

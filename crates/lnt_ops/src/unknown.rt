@@ -3,12 +3,12 @@ ghost use Rattle.std.specs.Prelude.{◌<◌, ◌≤◌, IfOk, IfErr, OnOk};
 ghost use Rattle.lnt_wire.specs.Leb128.{UnsignedLeb};
 ghost use Rattle.lnt_wire.specs.Reading.{Refuses};
 ghost use Rattle.lnt_header.specs.Joins.{Several};
-ghost use Rattle.lnt_ops.specs.OpSteps.{BehindBytes, IsFaultBehind, GivesBehind, PassesOperands, IsOperandFault};
+ghost use Rattle.lnt_ops.specs.OpSteps.{BytesAfter, IsFaultAfter, GivesAfter, PassesOperands, IsOperandFault};
 
 use lnt_header::{Header, OpView, Operands};
 use lnt_wire::{Cursor, Fault};
 
-/// The operands of a standard operation from 13 on.
+/// Reads the operands of a standard operation from 13 on: as many numbers as the header lists, which stay where they lie.
 #[inline(never)]
 #[tactic(auto, using(crate::proofs::UnknownReaders::opcode_there, crate::proofs::UnknownReaders::gives_unknown, crate::proofs::UnknownReaders::refuses_unknown))]
 pub(crate) fn read_unknown<'a>(
@@ -18,8 +18,8 @@ pub(crate) fn read_unknown<'a>(
 ) -> Result<OpView<'a>, Fault>
     requires unknown { 13 ≤ opcode }
     requires standard { opcode < header.now.opcode_base }
-    ensures ok { IfOk result (λ view. GivesBehind header.now opcode view cursor.old cursor.new) }
-    ensures err { IfErr result (λ fault. Refuses (IsFaultBehind header.now opcode) (BehindBytes header.now opcode) cursor.old fault) }
+    ensures ok { IfOk result (λ view. GivesAfter header.now opcode view cursor.old cursor.new) }
+    ensures err { IfErr result (λ fault. Refuses (IsFaultAfter header.now opcode) (BytesAfter header.now opcode) cursor.old fault) }
 {
     let count = header.standard_lengths()[usize::from(opcode) - 1];
     let bytes = cursor.rest();

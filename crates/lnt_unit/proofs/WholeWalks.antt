@@ -9,7 +9,7 @@ use Rattle.lnt_wire.specs.FrameBytes.{FrameBytes}
 use Rattle.lnt_wire.specs.InitialLength.{initial_length}
 use Rattle.lnt_wire.proofs.LengthLaws.{length-initial}
 use Rattle.lnt_header_bytes.specs.Borrowed.{without_entries}
-use Rattle.lnt_header.specs.OpViews.{StandsFor}
+use Rattle.lnt_header.specs.OpRules.{StandsFor}
 use Rattle.lnt_header.specs.declared.op.Op.{Op}
 use Rattle.lnt_header.specs.declared.op.OpView.{OpView}
 use Rattle.lnt_ops.specs.Walks.{Steps, Walk}

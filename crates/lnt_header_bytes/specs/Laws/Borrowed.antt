@@ -66,7 +66,7 @@ first_found format order pairs count entry x rest bytes p whole =
     ap (λ (vs : List FormValue). entry_of vs ∷ first_entries format order pairs count (drop (first_values_size format order pairs bytes) bytes)) values
     ∙ ap (λ (z : List ℕ). entry ∷ first_entries format order pairs count z) behind
 
--- the others, behind it
+-- the others, after it
 pub others_spelled : (format : Format) (order : Order) (pairs : List Pair) (entry : Entry) (entries : List Entry) (x rest bytes : List ℕ) → Each (EntryBytes format order pairs) (entry ∷ entries) bytes
     → EntryBytes format order pairs entry x → bytes ≡ x ++ rest → Each (EntryBytes format order pairs) entries rest
 others_spelled format order pairs entry entries x rest bytes each p whole =

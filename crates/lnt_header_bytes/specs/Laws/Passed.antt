@@ -1,11 +1,11 @@
--- What lies behind the first of several spellings, and that so many are there. These are proofs: nothing here is to be believed.
+-- What lies after the first of several spellings, and that so many are there. These are proofs: nothing here is to be believed.
 use Rattle.std.proofs.Common.{◌≡◌, ℕ, zero, suc, ◌+◌, ◌<◌, ◌≤◌, List, [], ◌∷◌, ◌++◌, length, take, drop, refl, sym, ap, subst, ◌∙◌, append_assoc, drop-drop, length-drop, length-take-le, arith}
 use Rattle.std.proofs.lemmas.List.{append-nil}
 use Rattle.lnt_wire.specs.Bytes.{IsCode, NoneSpelled}
 use Rattle.lnt_wire.proofs.CodeLaws.{peel}
 use Rattle.lnt_header.specs.Joins.{Each, Several}
 
--- behind spellings of as many values lie the others
+-- after spellings of as many values lie the others
 pub others_behind : {X : Type 0} (P : X → List ℕ → Type 0) → IsCode P → (us vs : List X) (x rest bytes : List ℕ) → length us ≤ length vs → Each P us x → Each P vs bytes → bytes ≡ x ++ rest
     → Each P (drop (length us) vs) rest
 others_behind P code [] vs x rest bytes le p q e = subst (Each P vs) (e ∙ ap (λ (z : List ℕ). z ++ rest) p) q
@@ -39,7 +39,7 @@ several_there P n vs bytes le q none =
     let r = front_of P n vs bytes q in
     none (take n vs) r.front r.back (length-take-le n vs le, r.spelled) (sym r.joined)
 
--- the same of one value behind some others
+-- the same of one value after some others
 pub one_behind : {X : Type 0} (P : X → List ℕ → Type 0) → IsCode P → (vs : List X) (n : ℕ) (u : X) (x rest bytes : List ℕ) → n < length vs → P u x → Each P (drop n vs) bytes → bytes ≡ x ++ rest → Each P (drop (n + 1) vs) rest
 one_behind {X = X} P code vs n u x rest bytes lt p q e =
     let one : Each P (u ∷ []) x = record { front = x; back = []; first = p; second = refl; joined = sym (append-nil x) } in

@@ -12,7 +12,7 @@ use Rattle.lnt_header.specs.declared.op.Op.{Op}
 use Rattle.lnt_header.specs.declared.op.OpView.{OpView}
 use Rattle.lnt_header.specs.HeaderRules.{IsHeader}
 use Rattle.lnt_header.specs.Joins.{Each}
-use Rattle.lnt_header.specs.OpViews.{StandsFor}
+use Rattle.lnt_header.specs.OpRules.{StandsFor}
 use Rattle.lnt_ops.specs.Laws.Ops.{op_code, op_is_some}
 use Rattle.lnt_ops.specs.Left.{IsLeft, IsNextOf, IsPlace}
 use Rattle.lnt_ops.specs.OpBytes.{OpBytes}

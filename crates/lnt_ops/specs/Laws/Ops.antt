@@ -2,46 +2,36 @@
 use Rattle.std.proofs.Common.{◌≡◌, ℕ, ◌+◌, ◌*◌, ◌<◌, ◌≤◌, inl, inr, List, [], ◌∷◌, ◌++◌, length, refl, sym, ap, subst}
 use Rattle.std.proofs.Common.{◌∙◌, append_assoc, arith}
 use Rattle.std.proofs.lemmas.List.{length-append, append-nil}
+use Rattle.std.specs.Prelude.{ℤ}
 use Rattle.lnt_wire.specs.Bytes.{Exactly, IsCode}
 use Rattle.lnt_wire.specs.Leb128.{UnsignedLeb}
 use Rattle.lnt_wire.proofs.CodeLaws.{same_leb, unsigned_code, signed_code, number_code, peel, same_join}
 use Rattle.lnt_wire.proofs.LengthLaws.{IsWidth, width_2, width_4, width_8, same_front, same_rest}
 use Rattle.lnt_header.specs.declared.header.HeaderParts.{HeaderParts}
 use Rattle.lnt_header.specs.declared.op.Op.{Op}
-use Rattle.lnt_header.specs.declared.op.Op.TheVariants.{Special, Copy, AdvancePc, AdvanceLine, SetFile, SetColumn}
-use Rattle.lnt_header.specs.declared.op.Op.TheVariants.{NegateStmt, SetBasicBlock, ConstAddPc, FixedAdvancePc}
-use Rattle.lnt_header.specs.declared.op.Op.TheVariants.{SetPrologueEnd, SetEpilogueBegin, SetIsa, UnknownStandard}
-use Rattle.lnt_header.specs.declared.op.Op.TheVariants.{EndSequence, SetAddress, SetDiscriminator, UnknownExtended}
+use Rattle.lnt_header.specs.declared.op.Op.TheVariants.{Special}
 use Rattle.lnt_header.specs.HeaderRules.{IsAddressSize, HasHeaderNumbers}
 use Rattle.lnt_header.specs.Joins.{Each}
 use Rattle.lnt_header.specs.Laws.Lists.{same_each}
 use Rattle.lnt_header.specs.Laws.Bytes.{byte_code}
-use Rattle.lnt_header.specs.OpRules.{standard_length}
+use Rattle.lnt_header.specs.OpRules.{Coding, coding, Operand, standard_length}
 use Rattle.lnt_ops.specs.Laws.{OneProgram}
-use Rattle.lnt_ops.specs.OpBytes.{Standard, Extended, OpBytes}
+use Rattle.lnt_ops.specs.OpBytes.{CodingBytes, Standard, Extended, OpBytes}
 
 -- ---- which operation it is
 
--- a number of each kind of operation: special ones, standard ones by their odd numbers, extended ones by their even ones
+-- a number of each opcode: 0 of special ones, odd numbers of standard ones, even ones of extended ones
+abbrev pub tag_of : Coding → ℕ
+tag_of (Coding.special c) = 0
+tag_of (Coding.standard k operand) = 2 * k + 1
+tag_of (Coding.unknown_standard k operands) = 2 * k + 1
+tag_of (Coding.extended code) = 2 * code + 2
+tag_of (Coding.extended_number code n) = 2 * code + 2
+tag_of (Coding.extended_address code address) = 2 * code + 2
+tag_of (Coding.unknown_extended code operand) = 2 * code + 2
+
 abbrev pub tag : Op → ℕ
-tag (Special c) = 0
-tag Copy = 3
-tag (AdvancePc n) = 5
-tag (AdvanceLine z) = 7
-tag (SetFile n) = 9
-tag (SetColumn n) = 11
-tag NegateStmt = 13
-tag SetBasicBlock = 15
-tag ConstAddPc = 17
-tag (FixedAdvancePc n) = 19
-tag SetPrologueEnd = 21
-tag SetEpilogueBegin = 23
-tag (SetIsa n) = 25
-tag (UnknownStandard k operands) = 2 * k + 1
-tag EndSequence = 4
-tag (SetAddress address) = 6
-tag (SetDiscriminator n) = 10
-tag (UnknownExtended code operand) = 2 * code + 2
+tag op = tag_of (coding op)
 
 -- what the first bytes of an operation say of its kind
 data Shape (opcode_base t : ℕ) (x : List ℕ) : Type 0 where
@@ -64,25 +54,26 @@ extended_shape h code t Operand x e p =
     ∙ ap (λ (z : List ℕ). 0 ∷ z) behind in
     extended code p.1.back inner.front e (subst (λ (z : List ℕ). UnsignedLeb (length z) inner.front) rest inner.first) whole
 
+-- no standard opcode is 0
+abbrev IsPositive : Coding → Type 0
+IsPositive (Coding.standard k operand) = 0 < k
+IsPositive c = 0 < 1
+
+positive : (op : Op) → IsPositive (coding op)
+positive (Special c) = omega arith
+positive op = omega arith
+
+coding_shape : (h : HeaderParts) (c : Coding) (x : List ℕ) → IsPositive c → CodingBytes h c x → Shape h.opcode_base (tag_of c) x
+coding_shape h (Coding.special c) x some p = special c refl p.0 p.2
+coding_shape h (Coding.standard k operand) x some p = standard_shape h k (2 * k + 1) _ x refl some p
+coding_shape h (Coding.unknown_standard k operands) x some p = standard_shape h k (2 * k + 1) _ x refl (omega (arith, p.0)) p.2
+coding_shape h (Coding.extended code) x some p = extended_shape h code (2 * code + 2) _ x refl p
+coding_shape h (Coding.extended_number code n) x some p = extended_shape h code (2 * code + 2) _ x refl p
+coding_shape h (Coding.extended_address code address) x some p = extended_shape h code (2 * code + 2) _ x refl p
+coding_shape h (Coding.unknown_extended code operand) x some p = extended_shape h code (2 * code + 2) _ x refl p.4
+
 shape_of : (h : HeaderParts) (op : Op) (x : List ℕ) → OpBytes h op x → Shape h.opcode_base (tag op) x
-shape_of h (Special c) x p = special c refl p.0 p.2
-shape_of h Copy x p = standard_shape h 1 3 _ x refl (omega arith) p
-shape_of h (AdvancePc n) x p = standard_shape h 2 5 _ x refl (omega arith) p
-shape_of h (AdvanceLine z) x p = standard_shape h 3 7 _ x refl (omega arith) p
-shape_of h (SetFile n) x p = standard_shape h 4 9 _ x refl (omega arith) p
-shape_of h (SetColumn n) x p = standard_shape h 5 11 _ x refl (omega arith) p
-shape_of h NegateStmt x p = standard_shape h 6 13 _ x refl (omega arith) p
-shape_of h SetBasicBlock x p = standard_shape h 7 15 _ x refl (omega arith) p
-shape_of h ConstAddPc x p = standard_shape h 8 17 _ x refl (omega arith) p
-shape_of h (FixedAdvancePc n) x p = standard_shape h 9 19 _ x refl (omega arith) p
-shape_of h SetPrologueEnd x p = standard_shape h 10 21 _ x refl (omega arith) p
-shape_of h SetEpilogueBegin x p = standard_shape h 11 23 _ x refl (omega arith) p
-shape_of h (SetIsa n) x p = standard_shape h 12 25 _ x refl (omega arith) p
-shape_of h (UnknownStandard k operands) x p = standard_shape h k (2 * k + 1) _ x refl (omega (arith, p.0)) p.2
-shape_of h EndSequence x p = extended_shape h 1 4 _ x refl p
-shape_of h (SetAddress address) x p = extended_shape h 2 6 _ x refl p
-shape_of h (SetDiscriminator n) x p = extended_shape h 4 10 _ x refl p
-shape_of h (UnknownExtended code operand) x p = extended_shape h code (2 * code + 2) _ x refl p.4
+shape_of h op x p = coding_shape h (coding op) x (positive op) p
 
 -- the same bytes in front say the same
 heads_of : (a b : ℕ) (x y u v r s : List ℕ) → x ≡ a ∷ u → y ≡ b ∷ v → x ++ r ≡ y ++ s → (a ≡ b) × (u ++ r ≡ v ++ s)
@@ -144,16 +135,21 @@ extended_tag h op y some p = extended_of h.opcode_base (tag op) y some (shape_of
 -- ---- its operand
 
 -- a standard operation with an operand
-same_operand : {X : Type 0} {P : X → List ℕ → Type 0} → IsCode P → (make : X → Op) (h : HeaderParts) (k : ℕ) (m n : X) (x y r s : List ℕ)
-    → Standard h k (P m) x → Standard h k (P n) y → x ++ r ≡ y ++ s → (make m ≡ make n) × (x ≡ y)
-same_operand code make h k m n x y r s p q e =
-    let opcode = peel byte_code k k x y r s p.1 q.1 e in
+same_operand : {X : Type 0} {P : X → List ℕ → Type 0} → IsCode P → (make : ℕ → X → Coding) (h : HeaderParts) (j k : ℕ) (m n : X)
+    (x y r s : List ℕ)
+    → Standard h j (P m) x → Standard h k (P n) y → x ++ r ≡ y ++ s → (make j m ≡ make k n) × (x ≡ y)
+same_operand code make h j k m n x y r s p q e =
+    let opcode = peel byte_code j k x y r s p.1 q.1 e in
     let operand = code.one m n p.1.back q.1.back r s p.1.second q.1.second opcode.behind in
-    (ap make operand.0, same_join x y p.1 q.1 opcode.bytes operand.1)
+    (ap (λ (i : ℕ). make i m) opcode.value ∙ ap (make k) operand.0, same_join x y p.1 q.1 opcode.bytes operand.1)
 
 -- and one without
-same_opcode : (h : HeaderParts) (k : ℕ) (x y : List ℕ) → Standard h k (Exactly []) x → Standard h k (Exactly []) y → x ≡ y
-same_opcode h k x y p q = same_join x y p.1 q.1 (p.1.first ∙ sym q.1.first) (p.1.second ∙ sym q.1.second)
+same_opcode : (h : HeaderParts) (j k : ℕ) (x y r s : List ℕ) → Standard h j (Exactly []) x → Standard h k (Exactly []) y
+    → x ++ r ≡ y ++ s
+    → (Coding.standard j Operand.bare ≡ Coding.standard k Operand.bare) × (x ≡ y)
+same_opcode h j k x y r s p q e =
+    let opcode = peel byte_code j k x y r s p.1 q.1 e in
+    (ap (λ (i : ℕ). Coding.standard i Operand.bare) opcode.value, same_join x y p.1 q.1 opcode.bytes (p.1.second ∙ sym q.1.second))
 
 -- what follows the length of an extended operation
 same_extended : {P Q : List ℕ → Type 0} (c d : ℕ) (x y r s : List ℕ) → (p : Extended c P x) → (q : Extended d Q y) → x ++ r ≡ y ++ s
@@ -167,16 +163,24 @@ same_extended c d x y r s p q e =
     let same : p2.back ≡ q2.back = same_front p2.back q2.back r s len size.behind in
     (sym p2.second ∙ same ∙ q2.second, same_join x y p.2 q.2 zero_byte.bytes (same_join p.2.back q.2.back p2 q2 size.bytes same))
 
-same_extended_operand : {X : Type 0} {P : X → List ℕ → Type 0} → IsCode P → (make : X → Op) (c : ℕ) (m n : X) (x y r s : List ℕ)
-    → Extended c (P m) x → Extended c (P n) y → x ++ r ≡ y ++ s → (make m ≡ make n) × (x ≡ y)
-same_extended_operand code make c m n x y r s p q e =
-    let found = same_extended c c x y r s p q e in
-    let inner = peel byte_code c c p.0 q.0 [] [] p.1 q.1 (ap (λ (z : List ℕ). z ++ []) found.0) in
+same_extended_operand : {X : Type 0} {P : X → List ℕ → Type 0} → IsCode P → (make : ℕ → X → Coding) (c d : ℕ) (m n : X)
+    (x y r s : List ℕ)
+    → Extended c (P m) x → Extended d (P n) y → x ++ r ≡ y ++ s → (make c m ≡ make d n) × (x ≡ y)
+same_extended_operand code make c d m n x y r s p q e =
+    let found = same_extended c d x y r s p q e in
+    let inner = peel byte_code c d p.0 q.0 [] [] p.1 q.1 (ap (λ (z : List ℕ). z ++ []) found.0) in
     let operand = code.one m n p.1.back q.1.back [] [] p.1.second q.1.second inner.behind in
-    (ap make operand.0, found.1)
+    (ap (λ (i : ℕ). make i m) inner.value ∙ ap (make d) operand.0, found.1)
+
+same_extended_code : (c d : ℕ) (x y r s : List ℕ) → Extended c (Exactly []) x → Extended d (Exactly []) y → x ++ r ≡ y ++ s
+    → (Coding.extended c ≡ Coding.extended d) × (x ≡ y)
+same_extended_code c d x y r s p q e =
+    let found = same_extended c d x y r s p q e in
+    let inner = peel byte_code c d p.0 q.0 [] [] p.1 q.1 (ap (λ (z : List ℕ). z ++ []) found.0) in
+    (ap Coding.extended inner.value, found.1)
 
 same_unknown : (c d : ℕ) (t t' x y r s : List ℕ) → Extended c (Exactly t) x → Extended d (Exactly t') y → x ++ r ≡ y ++ s
-    → (UnknownExtended c t ≡ UnknownExtended d t') × (x ≡ y)
+    → (Coding.unknown_extended c t ≡ Coding.unknown_extended d t') × (x ≡ y)
 same_unknown c d t t' x y r s p q e =
     let found = same_extended c d x y r s p q e in
     let inner = peel byte_code c d p.0 q.0 [] [] p.1 q.1 (ap (λ (z : List ℕ). z ++ []) found.0) in
@@ -184,50 +188,80 @@ same_unknown c d t t' x y r s p q e =
     ∙ found.0 ∙ (q.1.joined ∙ ap (λ (z : List ℕ). z ++ q.1.back) q.1.first ∙ ap (λ (z : List ℕ). d ∷ z) q.1.second) in
     let codes : c ≡ d = inner.value in
     let operands : t ≡ t' = cc in
-    (ap (λ (a : ℕ). UnknownExtended a t) codes ∙ ap (UnknownExtended d) operands, found.1)
+    (ap (λ (a : ℕ). Coding.unknown_extended a t) codes ∙ ap (Coding.unknown_extended d) operands, found.1)
 
 same_unknown_standard : (h : HeaderParts) (k l : ℕ) (us vs x y r s : List ℕ) → length us ≡ standard_length h k
     → length vs ≡ standard_length h l
     → Standard h k (Each UnsignedLeb us) x → Standard h l (Each UnsignedLeb vs) y → x ++ r ≡ y ++ s
-    → (UnknownStandard k us ≡ UnknownStandard l vs) × (x ≡ y)
+    → (Coding.unknown_standard k us ≡ Coding.unknown_standard l vs) × (x ≡ y)
 same_unknown_standard h k l us vs x y r s m n p q e =
     let opcode = peel byte_code k l x y r s p.1 q.1 e in
     let codes : k ≡ l = opcode.value in
     let len : length us ≡ length vs = m ∙ ap (standard_length h) codes ∙ sym n in
     let all = same_each unsigned_code us vs p.1.back q.1.back r s len p.1.second q.1.second opcode.behind in
-    (ap (λ (a : ℕ). UnknownStandard a us) codes ∙ ap (UnknownStandard l) all.0, same_join x y p.1 q.1 opcode.bytes all.1)
+    (ap (λ (a : ℕ). Coding.unknown_standard a us) codes ∙ ap (Coding.unknown_standard l) all.0, same_join x y p.1 q.1 opcode.bytes all.1)
 
 pub address_width : (size : ℕ) → IsAddressSize size → IsWidth size
 address_width size (inl two) = subst IsWidth (sym two) width_2
 address_width size (inr (inl four)) = subst IsWidth (sym four) width_4
 address_width size (inr (inr eight)) = subst IsWidth (sym eight) width_8
 
+-- a number of each kind of operand, and of each kind of coding
+operand_kind : Operand → ℕ
+operand_kind Operand.bare = 0
+operand_kind (Operand.unsigned n) = 1
+operand_kind (Operand.signed z) = 2
+operand_kind (Operand.half n) = 3
+
+abbrev kind : Coding → ℕ
+kind (Coding.special c) = 0
+kind (Coding.unknown_standard k operands) = 1
+kind (Coding.extended code) = 2
+kind (Coding.extended_number code n) = 3
+kind (Coding.extended_address code address) = 4
+kind (Coding.unknown_extended code operand) = 5
+kind (Coding.standard k operand) = 6 + operand_kind operand
+
+-- An opcode has one kind of operand. The clauses are for each pair of operations.
+same_kind : (h : HeaderParts) (u v : Op) (x y : List ℕ) → tag u ≡ tag v → OpBytes h u x → OpBytes h v y → kind (coding u) ≡ kind (coding v)
+unfolding operand_kind
+same_kind h (Special c) (Special d) x y t p q = refl
+same_kind h u (Special d) x y t p q = absurd (omega arith)
+same_kind h u v x y t p q = omega arith
+
+same_coding : (h : HeaderParts) (width : IsWidth h.address_size) (c d : Coding) (x y r s : List ℕ) → kind c ≡ kind d → CodingBytes h c x
+    → CodingBytes h d y → x ++ r ≡ y ++ s → (c ≡ d) × (x ≡ y)
+unfolding operand_kind
+same_coding h width (Coding.special c) (Coding.special d) x y r s t p q e =
+    let both = heads_of c d x y [] [] r s p.2 q.2 e in (ap Coding.special both.0, p.2 ∙ ap (λ (a : ℕ). a ∷ []) both.0 ∙ sym q.2)
+same_coding h width (Coding.standard j Operand.bare) (Coding.standard k Operand.bare) x y r s t p q e = same_opcode h j k x y r s p q e
+same_coding h width (Coding.standard j (Operand.unsigned m)) (Coding.standard k (Operand.unsigned n)) x y r s t p q e =
+    same_operand unsigned_code (λ (i a : ℕ). Coding.standard i (Operand.unsigned a)) h j k m n x y r s p q e
+same_coding h width (Coding.standard j (Operand.signed m)) (Coding.standard k (Operand.signed n)) x y r s t p q e =
+    same_operand signed_code (λ (i : ℕ) (a : ℤ). Coding.standard i (Operand.signed a)) h j k m n x y r s p q e
+same_coding h width (Coding.standard j (Operand.half m)) (Coding.standard k (Operand.half n)) x y r s t p q e =
+    same_operand (number_code h.order 2 width_2) (λ (i a : ℕ). Coding.standard i (Operand.half a)) h j k m n x y r s p q e
+same_coding h width (Coding.unknown_standard k us) (Coding.unknown_standard l vs) x y r s t p q e =
+    same_unknown_standard h k l us vs x y r s p.1 q.1 p.2 q.2 e
+same_coding h width (Coding.extended c) (Coding.extended d) x y r s t p q e = same_extended_code c d x y r s p q e
+same_coding h width (Coding.extended_number c m) (Coding.extended_number d n) x y r s t p q e =
+    same_extended_operand unsigned_code Coding.extended_number c d m n x y r s p q e
+same_coding h width (Coding.extended_address c m) (Coding.extended_address d n) x y r s t p q e =
+    same_extended_operand (number_code h.order h.address_size width) Coding.extended_address c d m n x y r s p q e
+same_coding h width (Coding.unknown_extended c m) (Coding.unknown_extended d n) x y r s t p q e = same_unknown c d m n x y r s p.4 q.4 e
+same_coding h width c d x y r s t p q e = absurd (omega arith)
+
+-- each coding is that of one operation
+one_coding : (u v : Op) → coding u ≡ coding v → u ≡ v
+one_coding (Special c) (Special d) e = cc
+one_coding u (Special d) e = cc
+one_coding u v e = cc
+
 same_of_tag : (h : HeaderParts) (width : IsWidth h.address_size) (u v : Op) (x y r s : List ℕ) → tag u ≡ tag v → OpBytes h u x
     → OpBytes h v y → x ++ r ≡ y ++ s → (u ≡ v) × (x ≡ y)
-same_of_tag h width (Special c) (Special d) x y r s t p q e =
-    let both = heads_of c d x y [] [] r s p.2 q.2 e in (ap Special both.0, p.2 ∙ ap (λ (a : ℕ). a ∷ []) both.0 ∙ sym q.2)
-same_of_tag h width Copy Copy x y r s t p q e = (refl, same_opcode h 1 x y p q)
-same_of_tag h width (AdvancePc m) (AdvancePc n) x y r s t p q e = same_operand unsigned_code AdvancePc h 2 m n x y r s p q e
-same_of_tag h width (AdvanceLine m) (AdvanceLine n) x y r s t p q e = same_operand signed_code AdvanceLine h 3 m n x y r s p q e
-same_of_tag h width (SetFile m) (SetFile n) x y r s t p q e = same_operand unsigned_code SetFile h 4 m n x y r s p q e
-same_of_tag h width (SetColumn m) (SetColumn n) x y r s t p q e = same_operand unsigned_code SetColumn h 5 m n x y r s p q e
-same_of_tag h width NegateStmt NegateStmt x y r s t p q e = (refl, same_opcode h 6 x y p q)
-same_of_tag h width SetBasicBlock SetBasicBlock x y r s t p q e = (refl, same_opcode h 7 x y p q)
-same_of_tag h width ConstAddPc ConstAddPc x y r s t p q e = (refl, same_opcode h 8 x y p q)
-same_of_tag h width (FixedAdvancePc m) (FixedAdvancePc n) x y r s t p q e =
-    same_operand (number_code h.order 2 width_2) FixedAdvancePc h 9 m n x y r s p q e
-same_of_tag h width SetPrologueEnd SetPrologueEnd x y r s t p q e = (refl, same_opcode h 10 x y p q)
-same_of_tag h width SetEpilogueBegin SetEpilogueBegin x y r s t p q e = (refl, same_opcode h 11 x y p q)
-same_of_tag h width (SetIsa m) (SetIsa n) x y r s t p q e = same_operand unsigned_code SetIsa h 12 m n x y r s p q e
-same_of_tag h width (UnknownStandard k us) (UnknownStandard l vs) x y r s t p q e =
-    same_unknown_standard h k l us vs x y r s p.1 q.1 p.2 q.2 e
-same_of_tag h width EndSequence EndSequence x y r s t p q e = (refl, (same_extended 1 1 x y r s p q e).1)
-same_of_tag h width (SetAddress m) (SetAddress n) x y r s t p q e =
-    same_extended_operand (number_code h.order h.address_size width) SetAddress 2 m n x y r s p q e
-same_of_tag h width (SetDiscriminator m) (SetDiscriminator n) x y r s t p q e =
-    same_extended_operand unsigned_code SetDiscriminator 4 m n x y r s p q e
-same_of_tag h width (UnknownExtended c m) (UnknownExtended d n) x y r s t p q e = same_unknown c d m n x y r s p.4 q.4 e
-same_of_tag h width u v x y r s t p q e = absurd (omega arith)
+same_of_tag h width u v x y r s t p q e =
+    let found = same_coding h width (coding u) (coding v) x y r s (same_kind h u v x y t p q) p q e in
+    (one_coding u v found.0, found.1)
 
 pub op_code : (h : HeaderParts) → HasHeaderNumbers h → IsCode (OpBytes h)
 op_code h numbers =

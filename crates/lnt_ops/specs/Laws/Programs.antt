@@ -15,8 +15,7 @@ use Rattle.lnt_header.specs.declared.op.OpView.{OpView}
 use Rattle.lnt_header.specs.HeaderRules.{IsHeader}
 use Rattle.lnt_header.specs.Joins.{Each}
 use Rattle.lnt_header.specs.Laws.Readers.{each_more}
-use Rattle.lnt_header.specs.OpRules.{Admits}
-use Rattle.lnt_header.specs.OpViews.{StandsFor}
+use Rattle.lnt_header.specs.OpRules.{Admits, StandsFor}
 use Rattle.lnt_ops.specs.Laws.Faults.{op_fault, op_later}
 use Rattle.lnt_ops.specs.Laws.Ops.{op_code, op_is_some}
 use Rattle.lnt_ops.specs.Laws.Views.{same_op}

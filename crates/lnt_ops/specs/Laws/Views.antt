@@ -8,7 +8,7 @@ use Rattle.lnt_header.specs.declared.op.OpView.{OpView}
 use Rattle.lnt_header.specs.declared.op.OpView.TheVariants as views
 use Rattle.lnt_header.specs.declared.op.Operands.{Operands}
 use Rattle.lnt_header.specs.declared.op.Operands.TheVariants.{Spelled, Listed}
-use Rattle.lnt_header.specs.OpViews.{AreOperands, op_of, operands_of, StandsFor}
+use Rattle.lnt_header.specs.OpRules.{AreOperands, op_of, operands_of, StandsFor}
 use Rattle.lnt_ops.specs.Laws.Ops.{same_whole}
 
 some_leb : (bytes : List ℕ) → IsLeb bytes → 0 < length bytes
@@ -24,26 +24,11 @@ same_operands (Spelled bytes) us vs p q = same_whole unsigned_code leb_is_some u
 same_operands (Listed listed) us vs p q = sym p ∙ q
 
 pub is_op_of : (view : OpView) (op : Op) → StandsFor view op → op ≡ op_of view (operands_of op)
-is_op_of (views.Special c) (ops.Special d) p = ap ops.Special (sym p)
-is_op_of views.Copy ops.Copy p = refl
-is_op_of (views.AdvancePc m) (ops.AdvancePc n) p = ap ops.AdvancePc (sym p)
-is_op_of (views.AdvanceLine y) (ops.AdvanceLine z) p = ap ops.AdvanceLine (sym p)
-is_op_of (views.SetFile m) (ops.SetFile n) p = ap ops.SetFile (sym p)
-is_op_of (views.SetColumn m) (ops.SetColumn n) p = ap ops.SetColumn (sym p)
-is_op_of views.NegateStmt ops.NegateStmt p = refl
-is_op_of views.SetBasicBlock ops.SetBasicBlock p = refl
-is_op_of views.ConstAddPc ops.ConstAddPc p = refl
-is_op_of (views.FixedAdvancePc m) (ops.FixedAdvancePc n) p = ap ops.FixedAdvancePc (sym p)
-is_op_of views.SetPrologueEnd ops.SetPrologueEnd p = refl
-is_op_of views.SetEpilogueBegin ops.SetEpilogueBegin p = refl
-is_op_of (views.SetIsa m) (ops.SetIsa n) p = ap ops.SetIsa (sym p)
 is_op_of (views.UnknownStandard j spelled) (ops.UnknownStandard k operands) p = ap (λ (i : ℕ). ops.UnknownStandard i operands) (sym p.0)
-is_op_of views.EndSequence ops.EndSequence p = refl
-is_op_of (views.SetAddress m) (ops.SetAddress n) p = ap ops.SetAddress (sym p)
-is_op_of (views.SetDiscriminator m) (ops.SetDiscriminator n) p = ap ops.SetDiscriminator (sym p)
 is_op_of (views.UnknownExtended c bytes) (ops.UnknownExtended d operand) p =
     ap (λ (i : ℕ). ops.UnknownExtended i operand) (sym p.0) ∙ ap (ops.UnknownExtended c) (sym p.1)
-is_op_of view op p = absurd p
+is_op_of view (ops.Special d) p = grind arith
+is_op_of view op p = grind arith
 
 same_listed : (view : OpView) (u v : Op) → StandsFor view u → StandsFor view v → op_of view (operands_of u) ≡ op_of view (operands_of v)
 same_listed (views.UnknownStandard i spelled) (ops.UnknownStandard j us) (ops.UnknownStandard k vs) p q =

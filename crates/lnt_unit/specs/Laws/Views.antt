@@ -5,7 +5,7 @@ use Rattle.lnt_wire.specs.declared.fault.Fault.{Fault}
 use Rattle.lnt_header.specs.declared.op.Op.{Op}
 use Rattle.lnt_header.specs.declared.op.OpView.{OpView}
 use Rattle.lnt_header.specs.HeaderRules.{IsHeader}
-use Rattle.lnt_header.specs.OpViews.{StandsFor}
+use Rattle.lnt_header.specs.OpRules.{StandsFor}
 use Rattle.lnt_ops.specs.Laws.Programs.{ops_none, walk_more, walk_done, walk_broken}
 use Rattle.lnt_ops.specs.Walks.{Walk, Ends, Steps, Fails}
 use Rattle.lnt_unit.specs.BrokenUnits.{BrokenUnit}
