@@ -11,7 +11,7 @@ use lnt_sources::{Halt, LIMIT, Opener, Status};
 use lnt_sums::{Agreement, md5_agrees};
 use lnt_text::Quoted;
 use lnt_unit::Header;
-use lnt_wire::{Counted, Stop, Strings};
+use lnt_wire::{Counted, Strings};
 use std::alloc::Global;
 use std::io::Write;
 use std::str;
@@ -51,15 +51,28 @@ fn print_unit<O: Opener, W: Write>(
 ) -> Result<Status, Halt>
     ensures err { IfErr result IsPrinting }
 {
-    let header = match index.header(alloc, unit) {
-        Ok(Some(header)) => header,
-        Ok(None) | Err(Stop::Read | Stop::TooLong) => return Ok(Status::Done),
-        Err(Stop::Memory) => return Err(Halt::Memory),
-    };
-    let strings = index.strings();
+    match index.header(alloc, unit) {
+        Ok(Some(header)) => print_files_of(alloc, &header, &index.strings(), unit, opener, out),
+        Ok(None) => Ok(Status::Done),
+        Err(_) => Err(Halt::Memory),
+    }
+}
+
+// Prints the lines of the files of a unit with this header.
+fn print_files_of<O: Opener, W: Write>(
+    alloc: Global,
+    header: &Header,
+    strings: &Strings<'_>,
+    unit: u64,
+    opener: &mut O,
+    out: &mut W,
+) -> Result<Status, Halt>
+    requires { AreUsableTables strings.now.line.now strings.now.general.now header.now }
+    ensures err { IfErr result IsPrinting }
+{
     let mut status = Status::Done;
-    for file in 0..file_count(&header) {
-        if print_sum(alloc, &header, &strings, unit, file, opener, out)? == Status::No {
+    for file in 0..file_count(header) {
+        if print_sum(alloc, header, strings, unit, file, opener, out)? == Status::No {
             status = Status::No;
         }
     }
@@ -100,6 +113,22 @@ fn print_sum<O: Opener, W: Write>(
     };
     let agreement = agreement_of(&path, &listed, opener);
     write!(out, "unit {unit} file {file} ")?;
+    print_agreement(alloc, agreement, out)?;
+    writeln!(out, " {}", Quoted(&path))?;
+    Ok(match agreement {
+        Some(Agreement::Same) => Status::Done,
+        _ => Status::No,
+    })
+}
+
+// Prints whether a file has its sum, and else its own; none where it can't be read.
+fn print_agreement<W: Write>(
+    alloc: Global,
+    agreement: Option<Agreement>,
+    out: &mut W,
+) -> Result<(), Halt>
+    ensures err { IfErr result IsPrinting }
+{
     match agreement {
         Some(Agreement::Same) => write!(out, "same")?,
         Some(Agreement::Differs(sum)) => {
@@ -107,11 +136,7 @@ fn print_sum<O: Opener, W: Write>(
         }
         None => write!(out, "unreadable")?,
     }
-    writeln!(out, " {}", Quoted(&path))?;
-    Ok(match agreement {
-        Some(Agreement::Same) => Status::Done,
-        _ => Status::No,
-    })
+    Ok(())
 }
 
 // Whether the file at the path has the sum. None where it can't be read.

@@ -1,7 +1,6 @@
 -- One unit whose program ran to its end, judged.
 use Rattle.std.proofs.Common.{◌≡◌, ℕ, List, length, sym, subst}
 use Rattle.std.specs.Prelude.{Option}
-use Rattle.lnt_stream.specs.Units.{UnitBytes}
 use Rattle.lnt_header.specs.declared.header.HeaderParts.{HeaderParts}
 use Rattle.lnt_unit.specs.Views.{View}
 use Rattle.lnt_files.specs.declared.tables.TableFault.{TableFault}
@@ -13,10 +12,13 @@ use Rattle.lnt_sequences.specs.declared.watch.Watch.{Watch}
 use Rattle.lnt_sequences.specs.Evidence.{IsFirstFall, IsFirstMissingFile}
 use Rattle.lnt_sequences.specs.Laws.Units.{collects_more}
 use Rattle.lnt_sequences.specs.Rules.{AreOrdered, HaveFiles}
-use Rattle.lnt_sequences.specs.Sequences.{live_in, live_sequences, placed_in}
+use Rattle.lnt_sequences.specs.Sequences.{live_of, live_sequences, placed_rows}
+use Rattle.lnt_sequences.specs.Watching.{HasSeenAll}
+use Rattle.lnt_machine.specs.declared.row.Row.{Row}
+use Rattle.lnt_machine.specs.Matrix.{rows}
 use Rattle.lnt_lines.specs.declared.no.No.TheVariants.{Falls, FileNumber}
 use Rattle.lnt_lines.specs.Good.{IsWellFormed}
-use Rattle.lnt_lines.specs.Judging.{HasFlaw, HasRun, IsJudgedSound, IsUnitNo}
+use Rattle.lnt_lines.specs.Judging.{HasRun, IsFlawedRun, IsSoundRun, IsUnitNo}
 use Rattle.lnt_lines.specs.Refusals.{table_no}
 
 -- ---- what is wrong with it
@@ -30,51 +32,67 @@ flaw_in_tables text general dead view unit places old new watch (StringOutside w
 flaw_in_tables text general dead view unit places old new watch (DirectoryNumber file) run at f =
     record { unit = run.unit; spelled = run.spelled; flaw = (at, run.runs, subst (λ (h : HeaderParts). IsTablesFault text general h (DirectoryNumber file)) (sym run.header_is) f) }
 
-pub tables_no : (text general : List ℕ) (dead : Option ℕ) (buffer : UnitBytes) (view : View) (header : HeaderParts) (unit : ℕ) (places : List ℕ) (old new : Collected) (watch : Watch) (fault : TableFault)
-    → view.unit ≡ buffer → HasRun dead view places old new watch → unit ≡ buffer.offset → header ≡ view.header → IsTablesFault text general header fault
-    → IsUnitNo text general dead buffer (table_no unit fault)
-tables_no text general dead buffer view header unit places old new watch fault same run at header_is f =
-    subst (λ (b : UnitBytes). IsUnitNo text general dead b (table_no unit fault)) same
-    (flaw_in_tables text general dead view unit places old new watch fault run (subst (λ (b : UnitBytes). unit ≡ b.offset) (sym same) at)
-    (subst (λ (h : HeaderParts). IsTablesFault text general h fault) header_is f))
+pub tables_no : (text general : List ℕ) (view : View) (header : HeaderParts) (unit : ℕ) (watch : Watch) (fault : TableFault)
+    → unit ≡ view.unit.offset → header ≡ view.header → IsTablesFault text general header fault → IsFlawedRun text general view watch (table_no unit fault)
+tables_no text general view header unit watch fault at header_is f dead places old new run =
+    flaw_in_tables text general dead view unit places old new watch fault run at (subst (λ (h : HeaderParts). IsTablesFault text general h fault) header_is f)
 
 well_formed : (text general : List ℕ) (dead : Option ℕ) (view : View) (header : HeaderParts) (places : List ℕ) (old new : Collected) (watch : Watch) → (run : HasRun dead view places old new watch) → header ≡ view.header
     → AreUsableTables text general header → IsWellFormed text general run.unit
 well_formed text general dead view header places old new watch run header_is usable =
     record { runs = run.runs; tables = rw run.header_is (rw (← header_is) usable) }
 
-pub missing_no : (text general : List ℕ) (dead : Option ℕ) (buffer : UnitBytes) (view : View) (header : HeaderParts) (unit : ℕ) (places : List ℕ) (old new : Collected) (watch : Watch) (missing : MissingFile)
-    → view.unit ≡ buffer → (run : HasRun dead view places old new watch) → unit ≡ buffer.offset → header ≡ view.header → AreUsableTables text general header
-    → IsFirstMissingFile dead (length run.unit.header.files) (placed_in (view.unit.offset, run.unit)) missing → HasFlaw text general dead buffer (FileNumber unit missing.row missing.file)
-missing_no text general dead buffer view header unit places old new watch missing same run at header_is usable f =
-    subst (λ (b : UnitBytes). HasFlaw text general dead b (FileNumber unit missing.row missing.file)) same (record {
-      unit = run.unit;
-      spelled = run.spelled;
-      flaw = (subst (λ (b : UnitBytes). unit ≡ b.offset) (sym same) at, well_formed text general dead view header places old new watch run header_is usable, f);
-    })
+-- what the watch says of the live sequences of whichever unit it has seen
+abbrev SaysMissing : Watch → MissingFile → Type 0
+SaysMissing watch missing = (dead : Option ℕ) (unit files : ℕ) (rows : List Row) → HasSeenAll dead unit files watch rows → IsFirstMissingFile dead files (placed_rows unit rows) missing
 
-pub falls_no : (text general : List ℕ) (dead : Option ℕ) (buffer : UnitBytes) (view : View) (header : HeaderParts) (unit : ℕ) (places : List ℕ) (old new : Collected) (watch : Watch) (row : ℕ)
-    → view.unit ≡ buffer → (run : HasRun dead view places old new watch) → unit ≡ buffer.offset → header ≡ view.header → AreUsableTables text general header
-    → HaveFiles (length run.unit.header.files) (live_in dead (view.unit.offset, run.unit))
-    → IsFirstFall dead (placed_in (view.unit.offset, run.unit)) row → HasFlaw text general dead buffer (Falls unit row)
-falls_no text general dead buffer view header unit places old new watch row same run at header_is usable files f =
-    subst (λ (b : UnitBytes). HasFlaw text general dead b (Falls unit row)) same (record {
+abbrev SaysNamed : Watch → Type 0
+SaysNamed watch = (dead : Option ℕ) (unit files : ℕ) (rows : List Row) → HasSeenAll dead unit files watch rows → HaveFiles files (live_of dead (placed_rows unit rows))
+
+abbrev SaysFall : Watch → ℕ → Type 0
+SaysFall watch row = (dead : Option ℕ) (unit files : ℕ) (rows : List Row) → HasSeenAll dead unit files watch rows → IsFirstFall dead (placed_rows unit rows) row
+
+abbrev SaysOrdered : Watch → Type 0
+SaysOrdered watch = (dead : Option ℕ) (unit files : ℕ) (rows : List Row) → HasSeenAll dead unit files watch rows → AreOrdered (live_of dead (placed_rows unit rows))
+
+pub missing_no : (text general : List ℕ) (view : View) (header : HeaderParts) (unit : ℕ) (watch : Watch) (missing : MissingFile)
+    → unit ≡ view.unit.offset → header ≡ view.header → AreUsableTables text general header → SaysMissing watch missing
+    → IsFlawedRun text general view watch (FileNumber unit missing.row missing.file)
+missing_no text general view header unit watch missing at header_is usable says dead places old new run =
+    record {
       unit = run.unit;
       spelled = run.spelled;
-      flaw = (subst (λ (b : UnitBytes). unit ≡ b.offset) (sym same) at, well_formed text general dead view header places old new watch run header_is usable, files, f);
-    })
+      flaw = (at, well_formed text general dead view header places old new watch run header_is usable, says dead view.unit.offset (length run.unit.header.files) (rows run.unit) run.seen);
+    }
+
+pub falls_no : (text general : List ℕ) (view : View) (header : HeaderParts) (unit : ℕ) (watch : Watch) (row : ℕ)
+    → unit ≡ view.unit.offset → header ≡ view.header → AreUsableTables text general header → SaysNamed watch → SaysFall watch row
+    → IsFlawedRun text general view watch (Falls unit row)
+falls_no text general view header unit watch row at header_is usable named says dead places old new run =
+    record {
+      unit = run.unit;
+      spelled = run.spelled;
+      flaw = (
+        at,
+        well_formed text general dead view header places old new watch run header_is usable,
+        named dead view.unit.offset (length run.unit.header.files) (rows run.unit) run.seen,
+        says dead view.unit.offset (length run.unit.header.files) (rows run.unit) run.seen,
+      );
+    }
 
 -- ---- nothing is wrong with it
 
-pub judged_sound : (text general : List ℕ) (dead : Option ℕ) (buffer : UnitBytes) (view : View) (header : HeaderParts) (places : List ℕ) (old new : Collected) (watch : Watch)
-    → view.unit ≡ buffer → (run : HasRun dead view places old new watch) → header ≡ view.header → AreUsableTables text general header
-    → HaveFiles (length run.unit.header.files) (live_in dead (view.unit.offset, run.unit)) → AreOrdered (live_in dead (view.unit.offset, run.unit))
-    → IsJudgedSound text general dead buffer old new (record { header = view.header; program = view.program; places = places })
-judged_sound text general dead buffer view header places old new watch same run header_is usable named ordered =
-    subst (λ (b : UnitBytes). IsJudgedSound text general dead b old new (record { header = view.header; program = view.program; places = places })) same (record {
+pub judged_sound : (text general : List ℕ) (view : View) (header : HeaderParts) (watch : Watch) → header ≡ view.header → AreUsableTables text general header → SaysNamed watch → SaysOrdered watch
+    → IsSoundRun text general view watch
+judged_sound text general view header watch header_is usable named ordered dead places old new run =
+    record {
       unit = run.unit;
       spelled = run.spelled;
-      sound = record { well_formed = well_formed text general dead view header places old new watch run header_is usable; files = named; ordered = ordered };
+      sound = record {
+        well_formed = well_formed text general dead view header places old new watch run header_is usable;
+        files = named dead view.unit.offset (length run.unit.header.files) (rows run.unit) run.seen;
+        ordered = ordered dead view.unit.offset (length run.unit.header.files) (rows run.unit) run.seen;
+      };
       keeps = run.kept;
       collects = λ units c. collects_more dead units (view.unit.offset, run.unit) new run.runs run.seen.few (run.collects (live_sequences dead units) c);
-    })
+    }

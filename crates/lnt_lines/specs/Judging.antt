@@ -68,3 +68,13 @@ pub record IsJudgedSound (line general : List ℕ) (dead : Option ℕ) (buffer :
   pub sound : IsSound line general dead (buffer.offset, unit)
   pub keeps : Keeps kept unit
   pub collects : (units : List (ℕ × Parts)) → Collects old (live_sequences dead units) → Collects new (live_sequences dead (units ++ (buffer.offset, unit) ∷ []))
+
+-- A unit whose program ran to its end, and whose rows the watch has seen, has this flaw; or it is sound.
+abbrev pub IsFlawedRun : List ℕ → List ℕ → View → Watch → No → Type 0
+IsFlawedRun line general view watch reason =
+    (dead : Option ℕ) (places : List ℕ) (old new : Collected) → HasRun dead view places old new watch → IsUnitNo line general dead view.unit reason
+
+abbrev pub IsSoundRun : List ℕ → List ℕ → View → Watch → Type 0
+IsSoundRun line general view watch =
+    (dead : Option ℕ) (places : List ℕ) (old new : Collected) → HasRun dead view places old new watch
+    → IsJudgedSound line general dead view.unit old new (record { header = view.header; program = view.program; places = places })

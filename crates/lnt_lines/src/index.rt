@@ -195,10 +195,18 @@ fn files_of(
 {
     let mut all = Vec::new(alloc);
     for program in programs {
-        let header = program.header().to_header(alloc)?;
-        all.push(Files::of(alloc, &header, strings)?)?;
+        all.push(files_in(alloc, program, strings)?)?;
     }
     Ok(all)
+}
+
+// The files of the header of a program.
+fn files_in(alloc: Global, program: &Program, strings: &Strings<'_>) -> Result<Files, AllocError>
+    requires { AreUsableTables strings.now.line.now strings.now.general.now program.now.header }
+    ensures { IfOk result (AreFilesOf strings.now.line.now strings.now.general.now program.now.header) }
+{
+    let header = program.header().to_header(alloc)?;
+    Files::of(alloc, &header, strings)
 }
 
 // The rows of the sequence with an id.

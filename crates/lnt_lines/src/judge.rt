@@ -1,7 +1,7 @@
 //! One unit, judged.
 ghost use Rattle.std.specs.Prelude.{◌≡◌, ◌≤◌, length, IfOk, IfErr, MatchOption};
 ghost use Rattle.lnt_files.specs.Tables.{AreUsableTables, IsTablesFault};
-ghost use Rattle.lnt_lines.specs.Judging.{IsJudgedSound, IsUnitRefusal, kept_of};
+ghost use Rattle.lnt_lines.specs.Judging.{IsFlawedRun, IsJudgedSound, IsSoundRun, IsUnitRefusal, kept_of};
 ghost use Rattle.lnt_lines.specs.Refusals.{table_no};
 
 use crate::no::No;
@@ -9,10 +9,10 @@ use crate::refusal::Refusal;
 use crate::run::run_unit;
 use lnt_files::in_place::tables_fault;
 use lnt_files::{StringEnds, TableFault};
-use lnt_sequences::Collected;
+use lnt_sequences::{Collected, Watch};
 use lnt_stream::UnitBuffer;
 use lnt_unit::{KeptHeader, UnitInPlace};
-use std::alloc::Global;
+use std::alloc::{AllocError, Global};
 
 /// What is kept of a sound unit, but for its program.
 #[derive(Drop)]
@@ -45,19 +45,44 @@ pub(crate) fn judge_unit(
     let view = UnitInPlace::over(alloc, buffer)?;
     let mut places = Vec::new(alloc);
     let watch = run_unit(&view, unit, dead, collected, &mut places)?;
+    if let Some(no) = flaw_of(&view, unit, &watch, ends) {
+        return Err(Refusal::No(no));
+    }
+    Ok(sound_unit(alloc, view, places, other)?)
+}
+
+// The first thing that is wrong with the unit at an offset, whose program ran to its end, and whose rows the watch has
+// seen. None where it is sound.
+fn flaw_of(view: &UnitInPlace<'_>, unit: u64, watch: &Watch, ends: &StringEnds<'_>) -> Option<No>
+    requires { unit ≡ view.now.unit.offset }
+    ensures { MatchOption result (IsSoundRun ends.now.line ends.now.general view.now watch.now) (IsFlawedRun ends.now.line ends.now.general view.now watch.now) }
+{
     if let Some(fault) = tables_fault(&view.header(), ends) {
-        return Err(Refusal::No(table_no(unit, fault)));
+        return Some(table_no(unit, fault));
     }
     if let Some(missing) = watch.missing_file() {
-        return Err(Refusal::No(No::FileNumber {
+        return Some(No::FileNumber {
             unit,
             row: missing.row,
             file: missing.file,
-        }));
+        });
     }
     if let Some(row) = watch.falls() {
-        return Err(Refusal::No(No::Falls { unit, row }));
+        return Some(No::Falls { unit, row });
     }
+    None
+}
+
+// What is kept of a sound unit, whose sequences begin at these places. It refuses only where memory runs out.
+fn sound_unit(
+    alloc: Global,
+    view: UnitInPlace<'_>,
+    mut places: Vec<usize>,
+    other: Option<&KeptHeader>,
+) -> Result<SoundUnit, AllocError>
+    ensures kept { IfOk result (λ unit. kept_of view.entry.unit unit ≡ record { header = view.entry.header; program = view.entry.program; places = places.items }) }
+    ensures within { IfOk result (λ unit. unit.start ≤ length view.entry.unit.bytes) }
+{
     let (header, start) = view.into_parts();
     let header = header.keep(alloc, other)?;
     places.shrink_to_fit();

@@ -30,21 +30,56 @@ within an instruction, and the status is 1 (docs/TABLES.md).";
 const SUMS: &str = "A file is the same, differs, or is unreadable: it can't be opened or read. \
 Where one isn't the same, the status is 1.";
 
-// The command with all that it takes.
+// The command with all that it takes. Help lists the subcommands in this order.
 pub(crate) fn command_of<'a>(alloc: Global) -> Result<Command<'a>, AllocError> {
-    Command::new(alloc, "linetab")
+    let command = Command::new(alloc, "linetab")
         .about("Reads and checks DWARF 5 line number sections")
         .version(VERSION)
-        .subcommand_required(true)
-        .subcommand(units_command(alloc)?)?
-        .subcommand(dump_command(alloc)?)?
-        .subcommand(check_command(alloc)?)?
-        .subcommand(verify_command(alloc)?)?
-        .subcommand(lookup_command(alloc)?)?
-        .subcommand(files_command(alloc)?)?
-        .subcommand(table_command(alloc)?)?
-        .subcommand(convert_command(alloc)?)?
-        .subcommand(md5_command(alloc)?)
+        .subcommand_required(true);
+    let command = with_verdicts(alloc, with_listings(alloc, command)?)?;
+    with_others(alloc, with_answers(alloc, command)?)
+}
+
+// The subcommands that print what stands in a section.
+fn with_listings<'a>(alloc: Global, command: Command<'a>) -> Result<Command<'a>, AllocError> {
+    let command = with_subcommand(command, units_command(alloc))?;
+    with_subcommand(command, dump_command(alloc))
+}
+
+// The subcommands that answer yes or no.
+fn with_verdicts<'a>(alloc: Global, command: Command<'a>) -> Result<Command<'a>, AllocError> {
+    let command = with_subcommand(command, check_command(alloc))?;
+    with_subcommand(command, verify_command(alloc))
+}
+
+// The subcommands that print what a good section says.
+fn with_answers<'a>(alloc: Global, command: Command<'a>) -> Result<Command<'a>, AllocError> {
+    let command = with_subcommand(command, lookup_command(alloc))?;
+    let command = with_subcommand(command, files_command(alloc))?;
+    with_subcommand(command, table_command(alloc))
+}
+
+// The subcommands that write another section, or look at the files that one names.
+fn with_others<'a>(alloc: Global, command: Command<'a>) -> Result<Command<'a>, AllocError> {
+    let command = with_subcommand(command, convert_command(alloc))?;
+    with_subcommand(command, md5_command(alloc))
+}
+
+// The command with a subcommand, where that could be made. A `?` of the subcommand's, while the command is held, would
+// let the command go in each function that has one, and that is dear to prove.
+fn with_subcommand<'a>(
+    command: Command<'a>,
+    made: Result<Command<'a>, AllocError>,
+) -> Result<Command<'a>, AllocError> {
+    command.subcommand(made?)
+}
+
+// The command with an argument, where that could be made.
+fn with_argument<'a>(
+    command: Command<'a>,
+    made: Result<Arg<'a>, AllocError>,
+) -> Result<Command<'a>, AllocError> {
+    command.arg(made?)
 }
 
 fn units_command<'a>(alloc: Global) -> Result<Command<'a>, AllocError> {
@@ -91,32 +126,30 @@ fn verify_command<'a>(alloc: Global) -> Result<Command<'a>, AllocError> {
 fn lookup_command<'a>(alloc: Global) -> Result<Command<'a>, AllocError> {
     let command = Command::new(alloc, "lookup")
         .about("Prints what a section says of addresses, in a line for each")
-        .arg(section_argument(alloc))?
-        .arg(
-            argument(
-                alloc,
-                "ADDRESS",
-                "An address: 0x and 1 to 16 hexadecimal digits",
-            )
-            .required(false)
-            .required_unless_present("addresses")?
-            .conflicts_with("addresses")?
-            .num_args(1..)
-            .action(ArgAction::Append),
-        )?
-        .arg(valued(
-            alloc,
-            "addresses",
-            "FILE",
-            "A file with a line ADDRESS or ADDRESS,N for each lookup, or - for standard input",
-        ))?
-        .arg(valued(
-            alloc,
-            "op",
-            "N",
-            "The operation of the instruction there, from 0 on; it is 0 by default",
-        ))?;
-    with_judging(alloc, command)
+        .arg(section_argument(alloc))?;
+    let command = with_argument(command, addresses_argument(alloc))?;
+    with_judging(alloc, with_positions(alloc, command)?)
+}
+
+// The addresses that are looked up, where no file tells them.
+fn addresses_argument<'a>(alloc: Global) -> Result<Arg<'a>, AllocError> {
+    let help = "An address: 0x and 1 to 16 hexadecimal digits";
+    argument(alloc, "ADDRESS", help)
+        .required(false)
+        .num_args(1..)
+        .action(ArgAction::Append)
+        .required_unless_present("addresses")?
+        .conflicts_with("addresses")
+}
+
+// The options that tell which positions are looked up.
+fn with_positions<'a>(alloc: Global, command: Command<'a>) -> Result<Command<'a>, AllocError> {
+    let addresses =
+        "A file with a line ADDRESS or ADDRESS,N for each lookup, or - for standard input";
+    let op = "The operation of the instruction there, from 0 on; it is 0 by default";
+    command
+        .arg(valued(alloc, "addresses", "FILE", addresses))?
+        .arg(valued(alloc, "op", "N", op))
 }
 
 fn files_command<'a>(alloc: Global) -> Result<Command<'a>, AllocError> {
@@ -132,28 +165,25 @@ fn table_command<'a>(alloc: Global) -> Result<Command<'a>, AllocError> {
     let command = Command::new(alloc, "table")
         .about("Prints the address table of a section")
         .after_help(WHOLE)
-        .arg(section_argument(alloc))?
-        .arg(
-            flag(
-                alloc,
-                "wide",
-                "Tells the instruction set and the discriminator too",
-            )
-            .conflicts_with("paths")?
-            .conflicts_with("lines")?,
-        )?
-        .arg(flag(
-            alloc,
-            "paths",
-            "Tells the path of the file, the line and the column, and nothing else",
-        )
-        .conflicts_with("lines")?)?
-        .arg(flag(
-            alloc,
-            "lines",
-            "Tells the path of the file and the line, and nothing else",
-        ))?;
-    with_judging(alloc, command)
+        .arg(section_argument(alloc))?;
+    let command = with_argument(command, wide_flag(alloc))?;
+    with_judging(alloc, with_paths(alloc, command)?)
+}
+
+// The flag for all that an answer tells.
+fn wide_flag<'a>(alloc: Global) -> Result<Arg<'a>, AllocError> {
+    let help = "Tells the instruction set and the discriminator too";
+    flag(alloc, "wide", help)
+        .conflicts_with("paths")?
+        .conflicts_with("lines")
+}
+
+// The flags for the paths of files.
+fn with_paths<'a>(alloc: Global, command: Command<'a>) -> Result<Command<'a>, AllocError> {
+    let paths = "Tells the path of the file, the line and the column, and nothing else";
+    let lines = "Tells the path of the file and the line, and nothing else";
+    let paths = flag(alloc, "paths", paths).conflicts_with("lines");
+    with_argument(command, paths)?.arg(flag(alloc, "lines", lines))
 }
 
 fn convert_command<'a>(alloc: Global) -> Result<Command<'a>, AllocError> {
@@ -190,30 +220,20 @@ fn with_reading<'a>(alloc: Global, command: Command<'a>) -> Result<Command<'a>, 
 
 // The options of a command that judges a section.
 fn with_judging<'a>(alloc: Global, command: Command<'a>) -> Result<Command<'a>, AllocError> {
-    with_reading(alloc, command)?
-        .arg(valued(
-            alloc,
-            "line-str",
-            "FILE",
-            "The file with the bytes of .debug_line_str",
-        ))?
-        .arg(valued(
-            alloc,
-            "str",
-            "FILE",
-            "The file with the bytes of .debug_str",
-        ))?
-        .arg(valued(
-            alloc,
-            "dead",
-            "ADDRESS",
-            "Where sequences of discarded code begin: they answer nothing",
-        ))?
-        .arg(flag(
-            alloc,
-            "skip-copies",
-            "Leaves out sequences that begin and end at the same positions as one before them",
-        ))
+    let dead = "Where sequences of discarded code begin: they answer nothing";
+    let copies = "Leaves out sequences that begin and end at the same positions as one before them";
+    with_strings(alloc, with_reading(alloc, command)?)?
+        .arg(valued(alloc, "dead", "ADDRESS", dead))?
+        .arg(flag(alloc, "skip-copies", copies))
+}
+
+// The options for the sections of strings.
+fn with_strings<'a>(alloc: Global, command: Command<'a>) -> Result<Command<'a>, AllocError> {
+    let line = "The file with the bytes of .debug_line_str";
+    let general = "The file with the bytes of .debug_str";
+    command
+        .arg(valued(alloc, "line-str", "FILE", line))?
+        .arg(valued(alloc, "str", "FILE", general))
 }
 
 fn section_argument<'a>(alloc: Global) -> Arg<'a> {

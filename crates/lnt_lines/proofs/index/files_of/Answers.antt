@@ -11,10 +11,10 @@ loop-program-preserved c =
     let programs = c.args.programs.now in
     let i = c.loop-program.program-index in
     let R : Kept → List KeptFile → Type 0 = λ kept files. AreFilesOf c.args.strings.now.line.now c.args.strings.now.general.now kept.header files in
-    let d : Kept = record { header = c.header.result; program = []; places = [] } in
-    let item : get_or programs i d ≡ c.program-item.result = sym (c.program-item.is ∙ get_or_default programs i _ d c.loop-program-test.true) in
-    subst (λ (all : List (List KeptFile)). AllZip R (take (i + 1) programs) all) (sym c.in_ok-push.ensures.items)
-    (subst (λ (ks : List Kept). AllZip R ks (c.loop-program.all.items ++ c.in_ok-of.field-0 ∷ [])) (sym (take_more programs i d c.loop-program-test.true))
-    (zip_push R (take i programs) c.loop-program.all.items (get_or programs i d) c.in_ok-of.field-0 c.loop-program.invariant
-    (subst (λ (k : Kept). AreFilesOf c.args.strings.now.line.now c.args.strings.now.general.now k.header c.in_ok-of.field-0) (sym item)
-    (subst (λ h. AreFilesOf c.args.strings.now.line.now c.args.strings.now.general.now h c.in_ok-of.field-0) (c.in_ok-header.ensures ∙ c.header.ensures) c.in_ok-of.ensures))))
+    let d : Kept = c.program-item.result in
+    let files = c.in_ok-files_in.field-0 in
+    let item : get_or programs i d ≡ d = sym (c.program-item.is ∙ get_or_default programs i _ d c.loop-program-test.true) in
+    subst (λ (all : List (List KeptFile)). AllZip R (take (i + 1) programs) all) (sym {A = List (List KeptFile)} c.in_ok-push.ensures.items)
+    (subst (λ (ks : List Kept). AllZip R ks (c.loop-program.all.items ++ files ∷ [])) (sym (take_more programs i d c.loop-program-test.true))
+    (zip_push R (take i programs) c.loop-program.all.items (get_or programs i d) files c.loop-program.invariant
+    (subst (λ (k : Kept). R k files) (sym item) c.in_ok-files_in.ensures)))
