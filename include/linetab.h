@@ -101,8 +101,10 @@ struct linetab_verdict {
 size_t linetab_verify(const struct linetab_section *section, struct linetab_span *spans, size_t len,
                       struct linetab_verdict *verdict);
 
-/* Whether the spans, as linetab_verify gave them, answer something at the position, and what. It takes no memory and calls
- * nothing, so it may run in a signal handler. It always returns, whatever the spans are. */
+/* Whether the spans, as linetab_verify gave them, answer something at the position, and what; if not, answer stays as it was.
+ * The address is one of the image as linked: of a running program, subtract where it was loaded. op is 0, but for machines
+ * whose instructions hold several operations, where it is the index of one. It takes no memory and calls nothing, so it may
+ * run in a signal handler. It always returns, whatever the spans are. */
 bool linetab_lookup(const struct linetab_span *spans, size_t len, uint64_t address, uint64_t op,
                     struct linetab_answer *answer);
 
@@ -111,9 +113,10 @@ bool linetab_lookup(const struct linetab_span *spans, size_t len, uint64_t addre
 size_t linetab_units(const struct linetab_section *section, struct linetab_unit *units, size_t len,
                      struct linetab_verdict *verdict);
 
-/* Judges the section, and answers whether the unit at this offset has the file. Its path of *count bytes is put into the
- * front of path, where len is enough for all of them. No zero byte stands behind it. The bytes of one unit, up to the offset
- * of the next one, are a section too, which is judged sooner than all of them: the unit stands at 0 there. */
+/* Judges the section, and answers whether the unit at this offset has the file: where it answers false and the verdict is
+ * yes, there is no such unit or file. Its path of *count bytes is put into the front of path, where len is enough for all of
+ * them. No zero byte stands behind it. The bytes of one unit, up to the offset of the next one, are a section too, which is
+ * judged sooner than all of them: the unit stands at 0 there. */
 bool linetab_path(const struct linetab_section *section, uint64_t unit, uint64_t file, uint8_t *path, size_t len,
                   size_t *count, struct linetab_verdict *verdict);
 

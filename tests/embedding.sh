@@ -1,12 +1,20 @@
 #!/usr/bin/env bash
-# The static library, called from C, C++, Rust and Python: what it tells is what the built program prints. Each request for memory is
-# refused in turn, and eight threads call at once. What isn't here, as a compiler, is left out and counted.
+# embedding.sh [FOLDER..]: the static library, called from C, C++, Rust and Python: what it tells is what the built program prints,
+# of the sections in FOLDERs too, as tests/embedding/callers.py names them. Each request for memory is refused in turn, and eight
+# threads call at once. What isn't here, as a compiler, is left out and counted.
+folders=()
+for folder; do
+  folders+=("$(cd "$folder" && pwd)") || exit 1
+done
 cd "$(dirname "$0")/.." || exit 1
 . tests/check.bash
+top=$PWD
+. ./sources.bash
 work=$(cd "$work" && pwd -P)
 skipped=0
 prefix=$work/prefix
 hello=(examples/hello.debug_line examples/hello.debug_line_str)
+callers=()
 strict=(-O1 -Wall -Wextra -Werror -Wno-format-nonliteral -I"$prefix/include")
 
 # Leaves something out, and says why.
@@ -33,11 +41,6 @@ paths() {
   expect "the paths of $1" 0 "$(./linetab files "${from[@]}" --quiet | sed '1d; s/,[^,]*$//')"$'\n' '' "$work/calls" files "${from[@]}"
 }
 
-# Without what earlier checks kept of the crates below it, the library would have all of them proved once more.
-if [ ! -e crates/lnt_ffi/out/liblnt_ffi.a.sources ] && [ ! -e crates/lnt_table/out/rlib/stamp ]; then
-  skip 'the library is not built: ./library PREFIX builds it'
-  end
-fi
 ./library "$prefix" 2>"$work/log" || { cat "$work/log"; exit 1; }
 expect 'beside the programs' 0 '' '' ./install --library "$work/installed"
 expect 'in a release' 0 "linetab-$(<VERSION)-x86_64-linux/lib/liblinetab.a"$'\n' '' \
@@ -60,22 +63,25 @@ sed -n '/^```c$/,/^```$/{/^```/!p}' docs/EMBEDDING.md >"$work/page.h"
 expect 'the page compiles' 0 '' '' cc "${strict[@]}" -I"$work" -std=c11 -o "$work/page" tests/embedding/page.c "$heap" "$library"
 expect 'what the page prints' 0 $'/w/src/small/a.c:1\n' '' "$work/page" "${hello[@]}" 0x1137
 expect 'what the page prints of no section' 25 '' '' "$work/page" docs/EMBEDDING.md "${hello[1]}" 0x1137
+callers+=(--caller "$work/lookup")
 if here g++; then
-  expect 'C++: the header' 0 '' '' g++ "${strict[@]}" -std=c++11 -fsyntax-only -x c++ tests/embedding/calls.cc
   expect 'C++ compiles' 0 '' '' \
-    bash -c 'cc -c -I"$1/include" -o "$2/heap.o" "$1/share/linetab/linetab_heap.c" && g++ -std=c++11 -Wall -Wextra -Werror -I"$1/include" -o "$2/calls_cc" tests/embedding/calls.cc "$2/heap.o" "$1/lib/liblinetab.a"' \
-    '' "$prefix" "$work"
-  expect 'C++: a lookup' 0 $'yes 18 spans\n' '' "$work/calls_cc" "${hello[@]}"
+    bash -c 'cc -c -I"$1/include" -o "$2/heap.o" "$1/share/linetab/linetab_heap.c" && g++ -std=c++11 "${@:3}" -o "$2/lookup_cc" examples/cpp/lookup.cc "$2/heap.o" "$1/lib/liblinetab.a"' \
+    '' "$prefix" "$work" "${strict[@]}"
+  expect 'C++: lookups' 0 "$wanted" '' "$work/lookup_cc" "${hello[@]}" 0x1129 0x1137 0x1
+  callers+=(--caller "$work/lookup_cc")
 fi
 if here cargo; then
   cp -r examples/rust "$work/rust"
   expect 'Rust compiles, and looks up' 0 "$wanted" '' \
     bash -c 'LINETAB=$1 cargo run --offline --quiet --manifest-path "$2/rust/Cargo.toml" --bin lookup -- "${@:3}"' \
     '' "$prefix" "$work" "${hello[@]}" 0x1129 0x1137 0x1
+  callers+=(--caller "$work/rust/target/debug/lookup")
 fi
 if here python3; then
   expect 'a shared object' 0 '' '' cc -shared -fPIC -I"$prefix/include" -o "$work/liblinetab.so" -Wl,--whole-archive "$library" -Wl,--no-whole-archive "$heap"
   expect 'Python: lookups' 0 "$wanted" '' python3 examples/python/lookup.py "$work/liblinetab.so" "${hello[@]}" 0x1129 0x1137 0x1
+  callers+=(--caller "python3 examples/python/lookup.py $work/liblinetab.so")
 fi
 
 # ---- each call beside the program, on the generated cases
@@ -91,6 +97,15 @@ for archive in tests/cases/{words,copies}.tar.gz; do
   tar xzf "$archive" -C "$work/cases"
 done
 expect 'each call tells what the generated cases want' 0 '' '' python3 tests/embedding/cases.py "$work/calls" "$work/cases"
+
+# ---- each caller beside the program, on each good section
+for folder in examples "$work/cases" "${folders[@]}"; do
+  expect "each caller answers as the program does, in ${folder##*/}" 0 '' '' \
+    python3 tests/embedding/callers.py "$program" "${callers[@]}" "$folder"
+done
+
+calls freeze tests/embedding/freeze.c "$heap"
+expect 'spans in a file' 0 $'18 spans, 25 lines, 1 unit of 2 files, a table of 669 bytes: 0\n' '' "$work/freeze" "${hello[@]}" "$work/spans"
 
 paths hello-clang
 paths gc-sections --dead 0x0

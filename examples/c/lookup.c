@@ -1,9 +1,10 @@
 /* Looks addresses up in a section, and prints each answer as `linetab lookup` does:
- * lookup SECTION LINE_STR ADDRESS.. */
+ * lookup SECTION LINE_STR [--str FILE] [--dead ADDRESS] [--big] [--skip-copies] ADDRESS.. */
 #include "linetab.h"
 #include <inttypes.h>
 #include <stdio.h>
 #include <stdlib.h>
+#include <string.h>
 
 /* Reads a whole file. */
 static uint8_t *read_file(const char *name, size_t *len) {
@@ -51,20 +52,39 @@ static void print_path(const struct linetab_section *section, const struct linet
     free(path);
 }
 
+/* Sets what the options say, and gives the place behind them. */
+static int read_options(struct linetab_section *section, int argc, char **argv, int i) {
+    for (; i < argc && strncmp(argv[i], "--", 2) == 0; i++) {
+        if (strcmp(argv[i], "--big") == 0)
+            section->is_big = true;
+        else if (strcmp(argv[i], "--skip-copies") == 0)
+            section->skip_copies = true;
+        else if (strcmp(argv[i], "--dead") == 0 && i + 1 < argc)
+            section->has_dead = true, section->dead = strtoull(argv[++i], NULL, 16);
+        else if (strcmp(argv[i], "--str") == 0 && i + 1 < argc)
+            section->str = read_file(argv[++i], &section->str_len);
+        else
+            exit(2);
+    }
+    return i;
+}
+
 int main(int argc, char **argv) {
     if (argc < 3) {
-        fprintf(stderr, "usage: lookup SECTION LINE_STR ADDRESS..\n");
+        fprintf(stderr, "usage: lookup SECTION LINE_STR [--str FILE] [--dead ADDRESS] [--big] [--skip-copies] ADDRESS..\n");
         return 2;
     }
     if (linetab_version() != LINETAB_VERSION) {
         fprintf(stderr, "lookup: the library has another version than its header\n");
         return 3;
     }
-    struct linetab_section section = {.str = (const uint8_t *)""};
+    static const uint8_t none_there[1];
+    struct linetab_section section = {.str = none_there};
     uint8_t *line = read_file(argv[1], &section.line_len);
     uint8_t *line_str = read_file(argv[2], &section.line_str_len);
     section.line = line;
     section.line_str = line_str;
+    int first = read_options(&section, argc, argv, 3);
 
     struct linetab_verdict verdict;
     struct linetab_span none[1];
@@ -74,7 +94,7 @@ int main(int argc, char **argv) {
     count = linetab_verify(&section, spans, count, &verdict);
     stop_unless_yes(&verdict);
 
-    for (int i = 3; i < argc; i++) {
+    for (int i = first; i < argc; i++) {
         uint64_t address = strtoull(argv[i], NULL, 16);
         struct linetab_answer answer;
         if (linetab_lookup(spans, count, address, 0, &answer)) {
@@ -86,6 +106,8 @@ int main(int argc, char **argv) {
         }
     }
     free(spans);
+    if (section.str != none_there)
+        free((void *)section.str);
     free(line_str);
     free(line);
     return 0;

@@ -1,9 +1,11 @@
 #!/usr/bin/env python3
-"""Looks addresses up in a section, as `linetab lookup` does: lookup.py LIBRARY SECTION LINE_STR ADDRESS..
+"""Looks addresses up in a section, as `linetab lookup` does: lookup.py LIBRARY SECTION LINE_STR [--str FILE]
+[--dead ADDRESS] [--big] [--skip-copies] ADDRESS..
+
 LIBRARY is liblinetab.a as a shared object: cc -shared -fPIC -Iinclude -o liblinetab.so -Wl,--whole-archive liblinetab.a
 -Wl,--no-whole-archive linetab_heap.c"""
 
-import sys
+import argparse
 from ctypes import CDLL, POINTER, Structure, byref, c_bool, c_size_t, c_ubyte, c_uint32, c_uint64, sizeof
 
 Bytes = POINTER(c_ubyte)
@@ -45,14 +47,15 @@ class NotGood(Exception):
 class Lines:
     """The lines of a section, whose bytes are kept as long as this is."""
 
-    def __init__(self, library, line, line_str=b"", text=b""):
+    def __init__(self, library, line, line_str=b"", text=b"", dead=None, is_big=False, skip_copies=False):
         self.library = CDLL(library)
         self.library.linetab_verify.restype = c_size_t
         self.library.linetab_lookup.restype = c_bool
         self.library.linetab_path.restype = c_bool
         self.kept = [(c_ubyte * max(1, len(part))).from_buffer_copy(part or b"\0") for part in (line, line_str, text)]
         sizes = len(line), len(line_str), len(text)
-        self.section = Section(*[field for part in zip(self.kept, sizes) for field in part])
+        parts = [field for part in zip(self.kept, sizes) for field in part]
+        self.section = Section(*parts, dead or 0, dead is not None, is_big, skip_copies)
         self.spans = (Span * 1)()
         count = self.verify(0)
         self.spans = (Span * max(1, count))()
@@ -85,13 +88,24 @@ class Lines:
         return bytes(room[: count.value]) if found else None
 
 
+def read(name):
+    with open(name, "rb") as file:
+        return file.read()
+
+
 def main():
-    if len(sys.argv) < 4:
-        sys.exit(__doc__)
-    library, line, line_str = sys.argv[1:4]
-    with open(line, "rb") as section, open(line_str, "rb") as texts:
-        lines = Lines(library, section.read(), texts.read())
-    for word in sys.argv[4:]:
+    words = argparse.ArgumentParser(usage=__doc__)
+    for name in ("library", "line", "line_str"):
+        words.add_argument(name)
+    words.add_argument("--str")
+    words.add_argument("--dead", type=lambda word: int(word, 16))
+    words.add_argument("--big", action="store_true")
+    words.add_argument("--skip-copies", action="store_true")
+    words.add_argument("addresses", nargs="*")
+    said = words.parse_intermixed_args()
+    text = read(said.str) if said.str else b""
+    lines = Lines(said.library, read(said.line), read(said.line_str), text, said.dead, said.big, said.skip_copies)
+    for word in said.addresses:
         address = int(word, 16)
         answer = lines.lookup(address)
         if answer is None:

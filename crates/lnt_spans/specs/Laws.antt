@@ -1,6 +1,7 @@
 pub mod Answering
 pub mod Between
 pub mod Bisection
+pub mod Bracket
 pub mod Coming
 pub mod EachTwo
 pub mod Positions
