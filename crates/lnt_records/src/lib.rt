@@ -33,5 +33,5 @@ pub use differing::{Differing, compare_all};
 pub use fault::{TableFault, TableStop, WriteStop};
 pub use reading::{read_first, read_next, reader_of};
 pub use remaining::Remaining;
-pub use stream::compare_table;
+pub use stream::{TableRead, compare_or_take, compare_table};
 pub use write::write_spans;
