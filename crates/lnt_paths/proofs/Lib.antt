@@ -1,7 +1,10 @@
 pub mod BorderLemmas
+pub mod ComparisonLemmas
 pub mod JoiningLemmas
 pub mod LineLemmas
+pub mod MergingLemmas
 pub mod PathSpanLemmas
+pub mod ReadingLemmas
 pub mod StepLemmas
 pub mod UniqueLemmas
 pub mod WriteLemmas

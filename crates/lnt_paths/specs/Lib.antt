@@ -1,7 +1,11 @@
 pub mod Borders
 pub mod Joining
 pub mod Laws
+pub mod Merging
 pub mod PathAnswers
+pub mod PathDifferences
+pub mod PathFaults
 pub mod PathSpans
 pub mod PathTables
+pub mod Reading
 pub mod Written

@@ -6,15 +6,23 @@
 //! table of spans that come.
 #![tactic(auto)]
 
+mod answer;
 mod border;
+mod comparison;
 mod field;
+mod header;
 mod joined;
+mod known;
 pub mod laws;
 mod line;
+mod merge;
 mod paths;
+mod record;
 mod version;
 mod write;
 
+pub use answer::{AnswerByPath, ComparedByPath, DifferenceByPath};
+pub use comparison::compare_by_path;
 pub use lnt_records::WriteStop;
 pub use paths::Paths;
 pub use version::{PathTable, PathVersion};

@@ -175,6 +175,14 @@ no_record bytes fields none x =
     let some = first.1 in
     cc (last, some)
 
+-- record 0, and that there is no other
+pub first_read : (found : Bool) (reader : BytesReader) (bytes : List ℕ) (fields : Fields)
+    → MatchBool found (HasRead reader bytes (fields ∷ [])) (RecordsOf bytes [])
+    → MatchBool found (HasRead reader bytes (fields ∷ []) × ((other : Fields) → BeginsWith bytes (other ∷ []) → other ≡ fields))
+    ((other : Fields) → BeginsWith bytes (other ∷ []) → ⊥)
+first_read true reader bytes fields h = (h, λ other x. first_same bytes other fields x (begins reader bytes (fields ∷ []) h))
+first_read false reader bytes fields h = λ other x. no_record bytes other h x
+
 pub no_header : (reader : BytesReader) (bytes : List ℕ) (fields : Fields) → HasRead reader bytes (fields ∷ []) → ((version : Version) → fields ≢ column_names version)
     → (version : Version) → BeginsWith bytes (column_names version ∷ []) → ⊥
 no_header reader bytes fields h other version x = other version (first_same bytes fields (column_names version) (begins reader bytes (fields ∷ []) h) x)

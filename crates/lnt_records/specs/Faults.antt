@@ -7,6 +7,8 @@ use Rattle.lnt_spans.specs.Differences.{Agree, IsLeastDifference}
 use Rattle.lnt_spans.specs.Spans.{AreInOrder, span_answer, version_answer}
 use Rattle.lnt_records.specs.declared.comparison.Compared.{Compared}
 use Rattle.lnt_records.specs.declared.comparison.Compared.TheVariants.{Same, Fault, Differs}
+use Rattle.lnt_records.specs.declared.stream.TableRead.{TableRead}
+use Rattle.lnt_records.specs.declared.stream.TableRead.TheVariants.{Compared as Read, Other}
 use Rattle.lnt_records.specs.declared.fault.TableFault.{TableFault}
 use Rattle.lnt_records.specs.declared.fault.TableFault.TheVariants as fault
 use Rattle.lnt_records.specs.Table.{BeginsWith, Fields, IsSound, IsSpanRecord, IsTable, IsTableOf, column_count, column_names}
@@ -65,3 +67,8 @@ abbrev pub IsComparison : List ℕ → List Span → Compared → Type 0
 IsComparison bytes section Same = AnswersAs bytes section
 IsComparison bytes section (Fault told) = IsFault bytes told
 IsComparison bytes section (Differs difference) = DiffersSo bytes section difference
+
+-- The table was compared; or the bytes begin with the header of neither version, and they were given.
+abbrev pub IsTableRead : List ℕ → List Span → TableRead → Type 0
+IsTableRead bytes section (Read told) = IsComparison bytes section told
+IsTableRead bytes section (Other text) = (text.items ≡ bytes) × ((version : Version) → BeginsWith bytes (column_names version ∷ []) → ⊥)

@@ -1,4 +1,5 @@
--- How far a table is read and compared. The bodies of this crate use it among themselves.
+-- How far a table is read and compared. The bodies of this crate use it among themselves, and those of the crate of tables by
+-- path.
 use Rattle.std.specs.Prelude.{◌≡◌, ◌≢◌, ℕ, ◌+◌, ◌<◌, ◌≤◌, true, false, List, [], ◌∷◌, Option, Some, None, length, get_or, suc}
 use Rattle.std.proofs.Common.{Bor}
 use Rattle.csv.specs.Machine.{ends_at_end}

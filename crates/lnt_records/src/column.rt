@@ -10,17 +10,17 @@ ghost use Rattle.lnt_records.specs.Table as table;
 use crate::record::RecordFault;
 use csv::ByteRecord;
 
-// The field in a column.
+/// The field in a column of a record. The caller sees to it that there is one.
 #[tactic(auto, using(crate::proofs::ColumnLemmas::field_is, crate::proofs::ColumnLemmas::field_there))]
-pub(crate) fn field(row: &ByteRecord, i: usize) -> &[u8]
+pub fn field(row: &ByteRecord, i: usize) -> &[u8]
     requires { i < length (fields_of row.now) }
     ensures { result.now ≡ get_or (fields_of row.now) i [] }
 {
     row.get(i).unwrap_or(&[])
 }
 
-// Whether the field in a column is this text.
-pub(crate) fn is_field(row: &ByteRecord, i: usize, text: &[u8]) -> bool
+/// Whether the field in a column of a record is this text. The caller sees to it that there is one.
+pub fn is_field(row: &ByteRecord, i: usize, text: &[u8]) -> bool
     requires { i < length (fields_of row.now) }
     ensures { MatchBool result (get_or (fields_of row.now) i [] ≡ text.now) (get_or (fields_of row.now) i [] ≢ text.now) }
 {

@@ -27,9 +27,11 @@ mod window;
 mod write;
 
 pub use canonical::write_canonical;
+pub use column::{field, is_field};
 pub use comparison::{Compared, compare};
 pub use differing::{Differing, compare_all};
 pub use fault::{TableFault, TableStop, WriteStop};
+pub use reading::{read_first, read_next, reader_of};
 pub use remaining::Remaining;
-pub use stream::compare_table;
+pub use stream::{TableRead, compare_or_take, compare_table};
 pub use write::write_spans;

@@ -12,9 +12,9 @@ use csv::{ByteRecord, Reader, ReaderBuilder};
 use lnt_spans::Version;
 use std::alloc::Global;
 
-// A reader of the records of some bytes: no record is a header of the reader's own, and each may have any number of
-// fields.
-pub(crate) fn reader_of<'a>(alloc: Global, bytes: &'a [u8]) -> Reader<&'a [u8]>
+/// A reader of the records of some bytes: no record is a header of the reader's own, and each may have any number of
+/// fields.
+pub fn reader_of<'a>(alloc: Global, bytes: &'a [u8]) -> Reader<&'a [u8]>
     ensures { HasRead result bytes.now [] }
 {
     ReaderBuilder::new()
@@ -23,9 +23,9 @@ pub(crate) fn reader_of<'a>(alloc: Global, bytes: &'a [u8]) -> Reader<&'a [u8]>
         .from_reader(alloc, bytes)
 }
 
-// The next record into `row`, and whether there was one. An error of the reader over bytes in memory is answered as
-// `Memory`.
-pub(crate) fn read_next(reader: &mut Reader<&[u8]>, row: &mut ByteRecord) -> Result<bool, TableStop>
+/// The next record into `row`, and whether there was one. The reader is one that `reader_of` gave. An error of the reader
+/// over bytes in memory is answered as `Memory`.
+pub fn read_next(reader: &mut Reader<&[u8]>, row: &mut ByteRecord) -> Result<bool, TableStop>
     requires { (bytes : List ℕ) × (records : List Fields) × HasRead reader.old bytes records }
     ensures read { IfOk result (λ found. (bytes : List ℕ) (records : List Fields) → HasRead reader.old bytes records
         → MatchBool found (HasRead reader.new bytes (records ++ fields_of row.new ∷ [])) (RecordsOf bytes records)) }
@@ -35,6 +35,17 @@ pub(crate) fn read_next(reader: &mut Reader<&[u8]>, row: &mut ByteRecord) -> Res
         return Err(TableStop::Memory);
     };
     Ok(found)
+}
+
+/// Record 0 into `row`, and whether there is one. The reader is one that `reader_of` gave, and no record was read of it. The
+/// bytes begin with no other record than that. An error of the reader over bytes in memory is answered as `Memory`.
+pub fn read_first(reader: &mut Reader<&[u8]>, row: &mut ByteRecord) -> Result<bool, TableStop>
+    requires { (bytes : List ℕ) × HasRead reader.old bytes [] }
+    ensures { IfOk result (λ found. (bytes : List ℕ) → HasRead reader.old bytes [] → MatchBool found
+        (HasRead reader.new bytes (fields_of row.new ∷ []) × ((other : Fields) → BeginsWith bytes (other ∷ []) → other ≡ fields_of row.new))
+        ((other : Fields) → BeginsWith bytes (other ∷ []) → ⊥)) }
+{
+    read_next(reader, row)
 }
 
 // The version that record 0 names, if it is a header.

@@ -3,10 +3,10 @@ ghost use Rattle.std.specs.Prelude.{◌≡◌, ◌≢◌, ◌+◌, ◌-◌, ◌^
 ghost use Rattle.lnt_spans.specs.declared.span.Span.{Span};
 ghost use Rattle.lnt_spans.specs.Spans.{AreInOrder};
 ghost use Rattle.lnt_wire.specs.Pulling.{HasMoreThan};
-ghost use Rattle.lnt_records.specs.Faults.{IsComparison};
+ghost use Rattle.lnt_records.specs.Faults.{IsComparison, IsTableRead};
 
-use crate::comparison::{Compared, compare_behind, compare_records};
-use crate::fault::TableStop;
+use crate::comparison::{Compared, compare_behind, compare_records, header_of};
+use crate::fault::{TableFault, TableStop};
 use crate::header::header_line;
 use crate::lines::{pass_header, push_lines};
 use crate::passing::pass_spans;
@@ -43,20 +43,72 @@ pub fn compare_table<S: SpanSource + Drop, T: Source>(
     ensures too_long { IsErrOf result Stop.TooLong → IsTrue (T.too_long table.new) }
     ensures more { IsErrOf result Stop.TooLong → HasMoreThan (T.remaining table.old) (T.left table.old) }
 {
+    match compare_or_take(alloc, table, spans)? {
+        TableRead::Compared(compared) => Ok(compared),
+        TableRead::Other(_) => Ok(Compared::Fault(TableFault::Header)),
+    }
+}
+
+/// What became of a table.
+#[derive(Drop)]
+pub enum TableRead {
+    /// It was compared, and this was found.
+    Compared(Compared),
+    /// Record 0 names the columns of neither version. These are all of its bytes.
+    Other(Vec<u8>),
+}
+
+/// The same, but for a table that names the columns of neither version: its bytes are given, and nothing is said of them.
+/// It stops as `compare_table` does.
+pub fn compare_or_take<S: SpanSource + Drop, T: Source>(
+    alloc: Global,
+    table: &mut T,
+    spans: S,
+) -> Result<TableRead, Stop>
+    requires failures { T.failures table.old < 2 ^ 64 - 1 }
+    requires spans { (list : List Span) × S.to_come spans list × AreInOrder list }
+    ensures ok { IfOk result (λ read. (list : List Span) → S.to_come spans list → AreInOrder list → IfSome (T.remaining table.old) (λ bytes. IsTableRead bytes list read)) }
+    ensures read { IsErrOf result Stop.Read → T.failures table.new ≡ T.failures table.old + 1 }
+    ensures no_failure { result ≢ Err Stop.Read → T.failures table.new ≡ T.failures table.old }
+    ensures too_long { IsErrOf result Stop.TooLong → IsTrue (T.too_long table.new) }
+    ensures more { IsErrOf result Stop.TooLong → HasMoreThan (T.remaining table.old) (T.left table.old) }
+{
     // A table has no more records than its source may give bytes, and their number fits.
     let _may_give = table.left();
     let mut window = Window::new(alloc);
     window.fill(alloc, table)?;
     let Some(version) = pass_header(&mut window) else {
         let text = window.rest_behind(alloc, &[], table)?;
-        return told(compare_records(alloc, &text, spans));
+        return compare_taken(alloc, text, spans);
     };
     let passed = pass_spans::<S, T, Compared>(alloc, spans, version, table, &mut window)?;
     let mut merge = Merge::behind(passed.spans, version, passed.end);
     let mut count = passed.count;
     push_lines(alloc, &mut merge, &mut count, version, table, &mut window)?;
     let text = window.rest_behind(alloc, header_line(version), table)?;
-    told(compare_behind(alloc, &text, merge, version, count))
+    let compared = told(compare_behind(alloc, &text, merge, version, count))?;
+    Ok(TableRead::Compared(compared))
+}
+
+// The same of all bytes.
+fn compare_taken<S: SpanSource + Drop>(
+    alloc: Global,
+    text: Vec<u8>,
+    spans: S,
+) -> Result<TableRead, Stop>
+    requires { (list : List Span) × S.to_come spans list × AreInOrder list }
+    ensures ok { IfOk result (λ read. (list : List Span) → S.to_come spans list → AreInOrder list → IsTableRead text.items list read) }
+    ensures not_read { IsErrOf result Stop.Read → ⊥ }
+    ensures not_long { IsErrOf result Stop.TooLong → ⊥ }
+{
+    match header_of(alloc, &text) {
+        Ok(Some(_)) => {
+            let compared = told(compare_records(alloc, &text, spans))?;
+            Ok(TableRead::Compared(compared))
+        }
+        Ok(None) => Ok(TableRead::Other(text)),
+        Err(TableStop::Memory) => Err(Stop::Memory),
+    }
 }
 
 // What a comparison of bytes in memory tells.

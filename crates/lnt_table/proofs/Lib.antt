@@ -1,3 +1,4 @@
+pub mod AnyLemmas
 mod CheckLemmas
 mod LawLemmas
 mod PathLemmas

@@ -1,5 +1,5 @@
 -- What becomes of a table by path of what is answered alike.
-use Rattle.std.proofs.Common.{◌≡◌, ◌∙◌, ℕ, List, Option, sym}
+use Rattle.std.proofs.Common.{◌≡◌, ◌∙◌, ℕ, List, Option}
 use Rattle.lnt_paths.specs.declared.version.PathTable.{PathTable}
 use Rattle.lnt_paths.specs.declared.version.PathTable.TheVariants.{OperationIndex, Written}
 use Rattle.lnt_paths.specs.declared.version.PathVersion.{PathVersion}

@@ -1,3 +1,4 @@
+pub mod AnyVersion
 pub mod ByPath
 pub mod Headline
 pub mod Laws

@@ -6,6 +6,7 @@
 //! those of `lnt_records`.
 #![tactic(auto)]
 
+mod by_path;
 mod checking;
 pub mod laws;
 mod paths;
@@ -13,9 +14,10 @@ mod stretches;
 mod verdict;
 mod write;
 
+pub use by_path::{Checked, check_any};
 pub use checking::check;
 pub use lnt_lines::{No, Options, Stop};
-pub use lnt_paths::{PathTable, PathVersion};
+pub use lnt_paths::{AnswerByPath, ComparedByPath, DifferenceByPath, PathTable, PathVersion};
 pub use lnt_records::{Differing, WriteStop};
 pub use paths::write_paths;
 pub use stretches::differences;

@@ -12,8 +12,8 @@ use std::io::Write;
 
 // The paths of the files of an index.
 #[derive(Drop)]
-struct IndexPaths<'i, 'a> {
-    index: &'i Index<'a>,
+pub(crate) struct IndexPaths<'i, 'a> {
+    pub(crate) index: &'i Index<'a>,
 }
 
 impl<'i, 'a> Paths for IndexPaths<'i, 'a> {

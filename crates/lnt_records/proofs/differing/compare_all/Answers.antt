@@ -1,7 +1,7 @@
 use Rattle.std.proofs.Common.{◌^◌, ◌<◌, ◌++◌, ℕ, List, [], arith, refl}
 use Rattle.std.proofs.lemmas.Result.{IfOk-weaker}
 use Rattle.lnt_spans.specs.Spans.{span_answer}
-use Rattle.lnt_records.specs.Passing.{Ends, Passes}
+use Rattle.lnt_records.specs.Passing.{Ends}
 use Rattle.lnt_records.specs.Table.{column_names}
 use Rattle.lnt_records.specs.Written.{line_text}
 use Rattle.lnt_records.proofs.GatherLemmas.{gathered_is, goes_on, judges_off, order_alone, started}

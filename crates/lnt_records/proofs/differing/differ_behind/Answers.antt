@@ -1,5 +1,4 @@
-use Rattle.std.proofs.Common.{◌++◌, List, ℕ, subst}
-use Rattle.std.specs.Result.{IfOk}
+use Rattle.std.proofs.Common.{◌++◌}
 use Rattle.lnt_records.specs.Table.{IsTableOf}
 use Rattle.lnt_records.proofs.GatherLemmas.{version_order, version_told}
 use Rattle.lnt_records.proofs.differing.differ_behind.Goals as goal

@@ -1,11 +1,10 @@
 use Rattle.std.proofs.Common.{◌^◌, ◌<◌, ◌++◌, ℕ, List, [], append_assoc, arith, subst}
-use Rattle.std.proofs.lemmas.Result.{IfOk-weaker}
 use Rattle.lnt_records.specs.Passing.{Ends, Passes}
 use Rattle.lnt_records.specs.Table.{column_names}
 use Rattle.lnt_records.specs.Written.{line_text}
 use Rattle.lnt_records.proofs.PassingLemmas.{longer_from_start, passes_both}
 use Rattle.lnt_records.proofs.StreamLemmas.{begun, few_all, few_lines, judges_passed, passed_behind, rest_begins, whole_told}
-use Rattle.lnt_records.proofs.stream.compare_table.Goals as goal
+use Rattle.lnt_records.proofs.stream.compare_or_take.Goals as goal
 
 pub push_lines-requires-clause-few : goal.push_lines-requires-clause-few
 push_lines-requires-clause-few g c =
@@ -42,8 +41,8 @@ compare_behind-requires-clause-begins g c =
     let both = passes_both _ _ _ _ _ _ [] c.pass_spans.new.window behind (line_text (column_names version) ++ spans.0) lines.0 first lines.1 in
     let taken = subst (λ (t : List ℕ). Passes (g.T.Source.remaining c.args.table.now) (g.T.Source.remaining c.push_lines.new.source) (g.T.Source.left c.args.table.now) (g.T.Source.left c.push_lines.new.source) [] behind t)
     (append_assoc (line_text (column_names version)) spans.0 lines.0) both in
-    let ends : Ends (g.T.Source.remaining c.push_lines.new.source) (g.T.Source.left c.push_lines.new.source) (c.header_line.result.now ++ behind) c.deref-2.result.now = rw (← c.deref-2.ensures.value) at c.in_ok-text-2.ensures.ok in
-    rest_begins version _ _ c.header_line.result.now behind c.deref-2.result.now c.header_line.ensures ends
+    let ends : Ends (g.T.Source.remaining c.push_lines.new.source) (g.T.Source.left c.push_lines.new.source) (c.header_line.result.now ++ behind) c.deref.result.now = rw (← c.deref.ensures.value) at c.in_ok-text-2.ensures.ok in
+    rest_begins version _ _ c.header_line.result.now behind c.deref.result.now c.header_line.ensures ends
 
 pub compare_behind-requires-clause-few : goal.compare_behind-requires-clause-few
 compare_behind-requires-clause-few g c =
@@ -56,11 +55,11 @@ compare_behind-requires-clause-few g c =
     let both = passes_both _ _ _ _ _ _ [] c.pass_spans.new.window behind (line_text (column_names version) ++ spans.0) lines.0 first lines.1 in
     let taken = subst (λ (t : List ℕ). Passes (g.T.Source.remaining c.args.table.now) (g.T.Source.remaining c.push_lines.new.source) (g.T.Source.left c.args.table.now) (g.T.Source.left c.push_lines.new.source) [] behind t)
     (append_assoc (line_text (column_names version)) spans.0 lines.0) both in
-    let ends : Ends (g.T.Source.remaining c.push_lines.new.source) (g.T.Source.left c.push_lines.new.source) (c.header_line.result.now ++ behind) c.deref-2.result.now = rw (← c.deref-2.ensures.value) at c.in_ok-text-2.ensures.ok in
+    let ends : Ends (g.T.Source.remaining c.push_lines.new.source) (g.T.Source.left c.push_lines.new.source) (c.header_line.result.now ++ behind) c.deref.result.now = rw (← c.deref.ensures.value) at c.in_ok-text-2.ensures.ok in
     let known = c.requires.spans in
     let passed = lines.2 known.0 spans.0 (passed_behind _ _ c.behind-merge.result version known.0 spans.0 c.in_ok-passed.passed.count c.in_ok-passed.passed.end (spans.2 known.0 known.1 known.2) c.behind-merge.ensures.version c.behind-merge.ensures.compares) in
     let fits : g.T.Source.left c.args.table.now < 2 ^ 64 = omega (arith, c.left-may_give.ensures, c.left-may_give.type_inv) in
-    few_all version _ _ _ _ c.header_line.result.now behind (spans.0 ++ lines.0) c.deref-2.result.now passed.table c.push_lines.new.count c.header_line.ensures taken ends passed.lines fits
+    few_all version _ _ _ _ c.header_line.result.now behind (spans.0 ++ lines.0) c.deref.result.now passed.table c.push_lines.new.count c.header_line.ensures taken ends passed.lines fits
 
 pub compare_behind-requires-clause-judged : goal.compare_behind-requires-clause-judged
 compare_behind-requires-clause-judged g c =
@@ -78,9 +77,7 @@ compare_behind-requires-clause-judged g c =
     (passed.follows.spans, passed.lines.records, judges_passed _ c.push_lines.new.merge version known.0 (spans.0 ++ lines.0) c.push_lines.new.count passed)
 
 pub returns-clause-ok : goal.returns-clause-ok
-returns-clause-ok g c =
-    IfOk-weaker c.told-2.result _ _
-    (λ compared is list coming order.
+returns-clause-ok g c list coming order =
     let version = c.in-Some.version in
     let begun = begun version _ _ _ _ c.new-window.result c.fill.new.self c.pass_header.new.window c.new-window.ensures c.in_ok-fill.ensures.taken c.in-Some.ensures in
     let spans = c.in_ok-passed.ensures.ok in
@@ -90,7 +87,7 @@ returns-clause-ok g c =
     let both = passes_both _ _ _ _ _ _ [] c.pass_spans.new.window behind (line_text (column_names version) ++ spans.0) lines.0 first lines.1 in
     let taken = subst (λ (t : List ℕ). Passes (g.T.Source.remaining c.args.table.now) (g.T.Source.remaining c.push_lines.new.source) (g.T.Source.left c.args.table.now) (g.T.Source.left c.push_lines.new.source) [] behind t)
     (append_assoc (line_text (column_names version)) spans.0 lines.0) both in
-    let ends : Ends (g.T.Source.remaining c.push_lines.new.source) (g.T.Source.left c.push_lines.new.source) (c.header_line.result.now ++ behind) c.deref-2.result.now = rw (← c.deref-2.ensures.value) at c.in_ok-text-2.ensures.ok in
+    let ends : Ends (g.T.Source.remaining c.push_lines.new.source) (g.T.Source.left c.push_lines.new.source) (c.header_line.result.now ++ behind) c.deref.result.now = rw (← c.deref.ensures.value) at c.in_ok-text-2.ensures.ok in
     let passed = lines.2 list spans.0 (passed_behind _ _ c.behind-merge.result version list spans.0 c.in_ok-passed.passed.count c.in_ok-passed.passed.end (spans.2 list coming order) c.behind-merge.ensures.version c.behind-merge.ensures.compares) in
-    whole_told _ c.push_lines.new.merge version list _ _ _ _ c.header_line.result.now behind (spans.0 ++ lines.0) c.deref-2.result.now c.push_lines.new.count compared c.header_line.ensures taken ends passed
-    (rw is at c.compare_behind.ensures)) c.told-2.ensures.ok
+    whole_told _ c.push_lines.new.merge version list _ _ _ _ c.header_line.result.now behind (spans.0 ++ lines.0) c.deref.result.now c.push_lines.new.count c.in_ok-compared.compared c.header_line.ensures taken ends passed
+    (rw c.in_ok-compared.ensures.ok at c.compare_behind.ensures)

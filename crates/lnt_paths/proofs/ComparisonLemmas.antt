@@ -1,0 +1,141 @@
+-- The records of a table by path, compared with a section one after another.
+use Rattle.std.proofs.Common.{◌≡◌, ℕ, ◌+◌, ◌<◌, ◌≤◌, List, [], ◌∷◌, ◌++◌, None, length, length-append, refl, subst, sym, arith, ⊎_elim}
+use Rattle.std.specs.List.{AllZip}
+use Rattle.std.proofs.lemmas.Bool.{cases_lt}
+use Rattle.lnt_digits.specs.Digits.{IsAddress, IsDecimal}
+use Rattle.lnt_records.specs.declared.fault.TableFault.{TableFault}
+use Rattle.lnt_records.specs.declared.fault.TableFault.TheVariants as fault
+use Rattle.lnt_records.specs.Progress.{BytesReader, HasRead}
+use Rattle.lnt_records.specs.Table.{BeginsWith, Fields, RecordsOf}
+use Rattle.csv.specs.Reading.{reader_state}
+use Rattle.lnt_spans.specs.declared.answer.Answer.{Answer}
+use Rattle.lnt_spans.specs.declared.position.Position.{Position}
+use Rattle.lnt_spans.specs.declared.span.Span.{Span}
+use Rattle.lnt_spans.specs.Positions.{IsBelow, IsAtMost}
+use Rattle.lnt_spans.specs.Spans.{AreInOrder}
+use Rattle.lnt_paths.specs.declared.answer.DifferenceByPath.{DifferenceByPath}
+use Rattle.lnt_paths.specs.declared.comparison.PathComparison.{PathComparison}
+use Rattle.lnt_paths.specs.declared.record.PathRecord.{PathRecord}
+use Rattle.lnt_paths.specs.declared.version.PathVersion.{PathVersion}
+use Rattle.lnt_paths.specs.Merging.{IsLeft, IsMerged, JudgesByPath, answer_told, path_end}
+use Rattle.lnt_paths.specs.PathAnswers.{PathAnswer}
+use Rattle.lnt_paths.specs.PathDifferences.{AnswersByPath, DiffersByPath, IsLeastPathDifference}
+use Rattle.lnt_paths.specs.PathFaults.{IsFaultyRecord, IsPathFault}
+use Rattle.lnt_paths.specs.PathSpans.{PathSpan, StandInOrder, path_span_answer}
+use Rattle.lnt_paths.specs.PathTables.{IsPathRecord, IsPathTable, SaysPath, path_column_names}
+use Rattle.lnt_paths.specs.Reading.{record_answer, record_span, whole}
+use Rattle.lnt_paths.proofs.MergingLemmas.{low_high, merged_none}
+
+-- ---- the order
+
+origin_first : (p : Position) → IsAtMost (whole 0) p
+origin_first p = record { address = omega arith; op = λ e. omega arith }
+
+order_push : (table : List PathSpan) (span : PathSpan) → StandInOrder table → IsAtMost (path_end table) span.low → IsBelow span.low span.high
+    → StandInOrder (table ++ span ∷ [])
+order_push [] span o le lt = lt
+order_push (r ∷ []) span o le lt = (o, le, lt)
+order_push (r ∷ next ∷ table) span o le lt = (o.0, o.1, order_push (next ∷ table) span o.2 le lt)
+
+order_pushed : (table : List PathSpan) (span : PathSpan) → StandInOrder (table ++ span ∷ [])
+    → IsAtMost (path_end table) span.low × IsBelow span.low span.high
+order_pushed [] span o = (origin_first span.low, o)
+order_pushed (r ∷ []) span o = (o.1, o.2)
+order_pushed (r ∷ next ∷ table) span o = order_pushed (next ∷ table) span o.2
+
+holds_some : (low high : ℕ) → IsBelow (whole low) (whole high) → low < high
+holds_some low high b = ⊎_elim (λ (h : low < high). h) (λ (h : high ≤ low). absurd (let le = b.address in let z = b.op (omega (arith, h, le)) in omega (arith, z))) (cases_lt low high)
+
+-- ---- one more record
+
+zip_push : {A B : Type 0} (R : A → B → Type 0) (xs : List A) (ys : List B) (x : A) (y : B) → AllZip R xs ys → R x y → AllZip R (xs ++ x ∷ []) (ys ++ y ∷ [])
+zip_push R [] [] x y z h = (h, tt)
+zip_push R [] (b ∷ ys) x y z h = absurd z
+zip_push R (a ∷ xs) [] x y z h = absurd z
+zip_push R (a ∷ xs) (b ∷ ys) x y z h = (z.0, zip_push R xs ys x y z.1 h)
+
+table_push : (version : PathVersion) (records : List Fields) (table : List PathSpan) (fields : Fields) (span : PathSpan) → IsPathTable version records table
+    → IsPathRecord version fields span → IsAtMost (path_end table) span.low → IsBelow span.low span.high
+    → IsPathTable version (records ++ fields ∷ []) (table ++ span ∷ [])
+table_push version [] table fields span t s le lt = absurd t
+table_push version (first ∷ records) table fields span t s le lt =
+    (t.0, record { each = zip_push (IsPathRecord version) records table fields span t.1.each s; in_order = order_push table span t.1.in_order le lt })
+
+says_span : (version : PathVersion) (fields : Fields) (said : PathRecord) → SaysPath IsAddress IsDecimal version fields said.low said.high (record_answer said)
+    → IsPathRecord version fields (record_span said)
+says_span version fields said h = record { says = h; low_op = refl; high_op = refl }
+
+pub record_taken : {S : Type 0} (to_come : S → List Span → Type 0) (tell : Answer → PathAnswer) (version : PathVersion) (old new : PathComparison S)
+    (section : List Span) (records : List Fields) (fields : Fields) (said : PathRecord) → (j : JudgesByPath to_come tell version old section records)
+    → SaysPath IsAddress IsDecimal version fields said.low said.high (record_answer said) → old.at ≤ said.low → said.low < said.high
+    → new.count ≡ old.count + 1
+    → ((list : List Span) (table : List PathSpan)
+    → IsMerged tell (IsLeft to_come old.section.next old.section.spans) (whole old.at) old.first list table
+    → IsMerged tell (IsLeft to_come new.section.next new.section.spans) (whole new.at) new.first list (table ++ record_span said ∷ []))
+    → JudgesByPath to_come tell version new section (records ++ fields ∷ [])
+record_taken to_come tell version old new section records fields said j says le lt count step =
+    let behind : IsAtMost (whole old.at) (whole said.low) = record { address = le; op = λ e. omega arith } in
+    record {
+      table = j.table ++ record_span said ∷ [];
+      is_table = table_push version records j.table fields (record_span said) j.is_table (says_span version fields said says)
+          (subst (λ (p : Position). IsAtMost p (whole said.low)) j.merged.at_is behind) (low_high said lt);
+      count = omega (arith, j.count, count, length-append records (fields ∷ []));
+      merged = step section j.table j.merged;
+    }
+
+-- it begins too early, or holds nothing
+pub order_fault : {S : Type 0} (to_come : S → List Span → Type 0) (tell : Answer → PathAnswer) (version : PathVersion) (old : PathComparison S)
+    (section : List Span) (records : List Fields) (fields : Fields) (said : PathRecord) → (j : JudgesByPath to_come tell version old section records)
+    → SaysPath IsAddress IsDecimal version fields said.low said.high (record_answer said) → (old.at ≤ said.low → said.low < said.high → ⊥)
+    → IsFaultyRecord version j.table (length records) fields (fault.Order old.count)
+order_fault to_come tell version old section records fields said j says not = (
+  j.count,
+  record_span said,
+  says_span version fields said says,
+  λ o.
+      let both = order_pushed j.table (record_span said) o in
+      let behind : IsAtMost (whole old.at) (whole said.low) = subst (λ (p : Position). IsAtMost p (whole said.low)) (sym j.merged.at_is) both.0 in
+      not behind.address (holds_some said.low said.high both.1),
+)
+
+-- ---- what is told
+
+pub fault_told : (bytes : List ℕ) (version : PathVersion) (records : List Fields) (fields : Fields) (table : List PathSpan) (told : TableFault)
+    → BeginsWith bytes (records ++ fields ∷ []) → IsPathTable version records table → IsFaultyRecord version table (length records) fields told
+    → IsPathFault bytes told
+fault_told bytes version records fields table fault.Header h t f = absurd f
+fault_told bytes version records fields table (fault.Fields k) h t f =
+    record { version = version; records = records; spans = table; fields = fields; begins = h; table = t; faulty = f }
+fault_told bytes version records fields table (fault.Number k i) h t f =
+    record { version = version; records = records; spans = table; fields = fields; begins = h; table = t; faulty = f }
+fault_told bytes version records fields table (fault.Order k) h t f =
+    record { version = version; records = records; spans = table; fields = fields; begins = h; table = t; faulty = f }
+
+pub begins : (reader : BytesReader) (bytes : List ℕ) (records : List Fields) → HasRead reader bytes records → BeginsWith bytes records
+begins reader bytes records h = (reader_state reader, h.rest, h.reached)
+
+-- the header alone
+pub judges_none : {S : Type 0} (to_come : S → List Span → Type 0) (tell : Answer → PathAnswer) (version : PathVersion) (comparison : PathComparison S)
+    (list : List Span) → IsLeft to_come comparison.section.next comparison.section.spans list → AreInOrder list
+    → (comparison.at ≡ 0) × (comparison.first ≡ None) × (comparison.count ≡ 1)
+    → JudgesByPath to_come tell version comparison list (path_column_names version ∷ [])
+judges_none to_come tell version comparison list left order e = record {
+  table = [];
+  is_table = (refl, record { each = tt; in_order = tt });
+  count = e.2;
+  merged = rw (e.0, e.1) (merged_none to_come tell list comparison.section.next comparison.section.spans left order);
+}
+
+pub same_told : {S : Type 0} (to_come : S → List Span → Type 0) (tell : PathVersion → Answer → PathAnswer) (version : PathVersion) (comparison : PathComparison S)
+    (bytes : List ℕ) (list : List Span) (records : List Fields) → (j : JudgesByPath to_come (tell version) version comparison list records) → RecordsOf bytes records
+    → ((p : Position) → answer_told (tell version) list p ≡ path_span_answer j.table p)
+    → AnswersByPath bytes (λ version. answer_told (tell version) list)
+same_told to_come tell version comparison bytes list records j all agree =
+    record { version = version; table = j.table; is_table = (records, all, j.is_table); agree = agree }
+
+pub difference_told : {S : Type 0} (to_come : S → List Span → Type 0) (tell : PathVersion → Answer → PathAnswer) (version : PathVersion) (comparison : PathComparison S)
+    (bytes : List ℕ) (list : List Span) (records : List Fields) (difference : DifferenceByPath) → (j : JudgesByPath to_come (tell version) version comparison list records)
+    → RecordsOf bytes records → IsLeastPathDifference (answer_told (tell version) list) (path_span_answer j.table) difference
+    → DiffersByPath bytes (λ version. answer_told (tell version) list) difference
+difference_told to_come tell version comparison bytes list records difference j all least =
+    record { version = version; table = j.table; is_table = (records, all, j.is_table); least = least }

@@ -1,0 +1,94 @@
+-- A section's spans compared with the records of a table by path, as far as these have come. The bodies of this crate use it
+-- among themselves. What is told of an answer is `tell`.
+use Rattle.std.specs.Prelude.{◌≡◌, ℕ, Bool, true, false, List, [], ◌∷◌, Option, Some, None, IfSome, length}
+use Rattle.std.specs.List.{All}
+use Rattle.std.specs.Option.{option_map}
+use Rattle.lnt_records.specs.Table.{Fields}
+use Rattle.lnt_spans.specs.declared.answer.Answer.{Answer}
+use Rattle.lnt_spans.specs.declared.position.Position.{Position}
+use Rattle.lnt_spans.specs.declared.span.Span.{Span}
+use Rattle.lnt_spans.specs.Positions.{IsBelow, IsAtMost}
+use Rattle.lnt_spans.specs.Spans.{AreInOrder, span_answer}
+use Rattle.lnt_paths.specs.declared.answer.DifferenceByPath.{DifferenceByPath}
+use Rattle.lnt_paths.specs.declared.comparison.PathComparison.{PathComparison}
+use Rattle.lnt_paths.specs.declared.known.KnownPath.{KnownPath}
+use Rattle.lnt_paths.specs.declared.merge.Apart.{Apart}
+use Rattle.lnt_paths.specs.declared.record.PathRecord.{PathRecord}
+use Rattle.lnt_paths.specs.declared.version.PathVersion.{PathVersion}
+use Rattle.lnt_paths.specs.PathAnswers.{PathAnswer}
+use Rattle.lnt_paths.specs.PathDifferences.{DifferFirst, IsLeastPathDifference}
+use Rattle.lnt_paths.specs.PathSpans.{PathSpan, path_span_answer}
+use Rattle.lnt_paths.specs.PathTables.{IsPathTable}
+use Rattle.lnt_paths.specs.Reading.{record_answer, record_span, whole}
+
+-- Each path that is kept is that of its file.
+abbrev pub AreKnownOf : (ℕ → ℕ → List ℕ) → List (Option KnownPath) → Type 0
+AreKnownOf path slots = All (λ slot. IfSome slot (λ kept. kept.path.items ≡ path kept.unit kept.file)) slots
+
+-- ---- the section
+
+-- This span is next, if there is one, and these are to come with it.
+abbrev pub IsLeft : {S : Type 0} → (S → List Span → Type 0) → Option Span → S → List Span → Type 0
+IsLeft to_come next spans [] = next ≡ None
+IsLeft to_come next spans (first ∷ rest) = (next ≡ Some first) × to_come spans rest
+
+-- The first span, if there is one, doesn't begin below p.
+abbrev pub BeginFrom : Position → List Span → Type 0
+BeginFrom p [] = Unit {0}
+BeginFrom p (span ∷ spans) = IsAtMost p span.low
+
+-- what spans answer, as it is told
+abbrev pub answer_told : (Answer → PathAnswer) → List Span → Position → Option PathAnswer
+answer_told tell spans p = option_map tell (span_answer spans p)
+
+-- Below `to` the spans answer as the table. Those are left that answer from there on.
+pub record ArePassed (tell : Answer → PathAnswer) (spans : List Span) (by_table : Position → Option PathAnswer) (to : Position)
+    (AreLeft : List Span → Type 0) : Type 0 where
+  pub rest : List Span
+  pub left : AreLeft rest
+  pub order : AreInOrder rest
+  pub from : BeginFrom to rest
+  pub agree : (p : Position) → IsBelow p to → answer_told tell spans p ≡ by_table p
+  pub same : (p : Position) → IsAtMost to p → span_answer spans p ≡ span_answer rest p
+
+-- ---- one record
+
+-- the table's answer, where it has one
+abbrev pub table_side : Bool → PathAnswer → Option PathAnswer
+table_side true answer = Some answer
+table_side false answer = None
+
+-- Below the end of the record alone, this is where the spans differ from it first.
+pub record AreApart (tell : Answer → PathAnswer) (spans : List Span) (said : PathRecord) (apart : Apart) : Type 0 where
+  pub first : DifferFirst (answer_told tell spans) (path_span_answer (record_span said ∷ [])) apart.position
+      (table_side apart.by_table (record_answer said)) (option_map tell apart.by_section)
+  pub below : IsBelow apart.position (whole said.high)
+
+-- ---- all records so far
+
+-- where spans end
+abbrev pub path_end : List PathSpan → Position
+path_end [] = whole 0
+path_end (first ∷ []) = first.high
+path_end (first ∷ next ∷ spans) = path_end (next ∷ spans)
+
+-- Nothing differs below the end of the records, or this is what differs first.
+abbrev pub IsMergedBy : Option DifferenceByPath → (Answer → PathAnswer) → (List Span → Type 0) → Position → List Span → List PathSpan → Type 0
+IsMergedBy None tell AreLeft at section table = ArePassed tell section (path_span_answer table) at AreLeft
+IsMergedBy (Some difference) tell AreLeft at section table =
+    IsLeastPathDifference (answer_told tell section) (path_span_answer table) difference × IsBelow difference.position at
+
+-- The section is compared with these spans of a table.
+pub record IsMerged (tell : Answer → PathAnswer) (AreLeft : List Span → Type 0) (at : Position) (first : Option DifferenceByPath)
+    (section : List Span) (table : List PathSpan) : Type 0 where
+  pub at_is : at ≡ path_end table
+  pub ended : (p : Position) → IsAtMost at p → path_span_answer table p ≡ None
+  pub merged : IsMergedBy first tell AreLeft at section table
+
+-- These records are a table so far, and compared with the section.
+pub record JudgesByPath {S : Type 0} (to_come : S → List Span → Type 0) (tell : Answer → PathAnswer) (version : PathVersion)
+    (comparison : PathComparison S) (section : List Span) (records : List Fields) : Type 0 where
+  pub table : List PathSpan
+  pub is_table : IsPathTable version records table
+  pub count : comparison.count ≡ length records
+  pub merged : IsMerged tell (IsLeft to_come comparison.section.next comparison.section.spans) (whole comparison.at) comparison.first section table

@@ -1,0 +1,45 @@
+-- One record of a table by path, as it is read. The bodies of this crate use it among themselves.
+use Rattle.std.specs.Prelude.{◌≡◌, ◌≢◌, ℕ, ◌<◌, [], ◌∷◌, length, get_or, codes}
+use Rattle.lnt_records.specs.Table.{Fields}
+use Rattle.lnt_spans.specs.declared.position.Position.{Position}
+use Rattle.lnt_paths.specs.declared.record.FieldFault.{FieldFault}
+use Rattle.lnt_paths.specs.declared.record.FieldFault.TheVariants as field_fault
+use Rattle.lnt_paths.specs.declared.record.PathRecord.{PathRecord}
+use Rattle.lnt_paths.specs.declared.version.PathVersion.{PathVersion}
+use Rattle.lnt_paths.specs.PathAnswers.{PathAnswer}
+use Rattle.lnt_paths.specs.PathFaults.{IsFaultyField, IsSoundField, PathKind, path_kinds, text}
+use Rattle.lnt_paths.specs.PathSpans.{PathSpan}
+use Rattle.lnt_paths.specs.PathTables.{path_column_count}
+
+-- the columns of both versions
+abbrev pub place_names : Fields
+place_names = codes "low" ∷ codes "high" ∷ codes "path" ∷ codes "line" ∷ []
+
+abbrev pub IsFieldOfKind : PathKind → ℕ → Type 0
+IsFieldOfKind kind i = get_or path_kinds i text ≡ kind
+
+-- each column before this one is of its kind
+abbrev pub AreSoundUpTo : Fields → ℕ → Type 0
+AreSoundUpTo fields i = (k : ℕ) → k < i → IsSoundField fields k
+
+-- a column is the first that isn't of its kind
+abbrev pub IsFieldFault : Fields → FieldFault → Type 0
+IsFieldFault fields field_fault.Count = ⊥
+IsFieldFault fields (field_fault.Number i) = IsFaultyField fields i
+
+-- the same, or the record hasn't the columns of the version
+abbrev pub IsPathRecordFault : PathVersion → Fields → FieldFault → Type 0
+IsPathRecordFault version fields field_fault.Count = length fields ≢ path_column_count version
+IsPathRecordFault version fields (field_fault.Number i) = (length fields ≡ path_column_count version) × IsFaultyField fields i
+
+-- the position of a whole instruction
+abbrev pub whole : ℕ → Position
+whole address = record { address = address; op = 0 }
+
+-- what a record answers
+abbrev pub record_answer : PathRecord → PathAnswer
+record_answer said = record { path = said.path.now; line = said.line; column = said.column }
+
+-- the span that it says
+abbrev pub record_span : PathRecord → PathSpan
+record_span said = record { low = whole said.low; high = whole said.high; answer = record_answer said }

@@ -1,0 +1,261 @@
+//! A table by path compared with the spans of a section, record by record.
+ghost use Rattle.std.specs.Prelude.{◌≡◌, ◌+◌, ◌^◌, ◌<◌, ◌≤◌, List, [], ◌∷◌, ◌++◌, length, IfOk, MatchOption, None, OnOk, ℕ};
+ghost use Rattle.std.specs.Bool.{MatchBool};
+ghost use Rattle.std.specs.Option.{option_map};
+ghost use Rattle.csv.specs.Records.{fields_of};
+ghost use Rattle.lnt_records.specs.Table.{Fields};
+ghost use Rattle.lnt_spans.specs.declared.position.Position as position;
+ghost use Rattle.lnt_spans.specs.declared.span.Span as spec;
+ghost use Rattle.lnt_spans.specs.Spans.{AreInOrder};
+ghost use Rattle.lnt_paths.specs.Merging.{AreKnownOf, IsLeft, IsMerged, JudgesByPath, answer_told, table_side};
+ghost use Rattle.lnt_paths.specs.PathAnswers.{path_answer, spans_by_path};
+ghost use Rattle.lnt_paths.specs.PathDifferences.{IsLeastPathDifference, IsPathComparison, told_path_answer};
+ghost use Rattle.lnt_paths.specs.PathFaults.{IsFaultyRecord};
+ghost use Rattle.lnt_paths.specs.PathSpans.{PathSpan, path_span_answer};
+ghost use Rattle.lnt_paths.specs.PathTables.{IsPathTable};
+ghost use Rattle.lnt_paths.specs.Reading.{record_answer, record_span, whole};
+
+use crate::answer::{AnswerByPath, ComparedByPath, DifferenceByPath};
+use crate::header::version_of;
+use crate::known::KnownPaths;
+use crate::merge::{Apart, Section, column_in, first_apart};
+use crate::paths::Paths;
+use crate::record::{FieldFault, PathRecord, record_of};
+use crate::version::PathVersion;
+use csv::ByteRecord;
+use lnt_records::{TableFault, TableStop, read_first, read_next, reader_of};
+use lnt_spans::{Answer, SpanSource};
+use std::alloc::{AllocError, Global};
+
+/// Compares the table by path in some bytes with the spans of a section, which come from a source.
+///
+/// The records are read one by one, as `csv` reads them, and none is kept. `Same`: the bytes are a table by path that answers
+/// at every position as the spans do, told by path as the table's version tells: paths are compared byte for byte. `Fault`:
+/// they are no such table. The first faulty record is told, whatever was different before it. `Differs`: all records are
+/// well formed, and at no lower position do the answers differ; both are told in the table's version.
+///
+/// No list of the spans is made, and a path is made again only where it was asked for long ago. The caller sees to it that the
+/// spans are in order and none is empty. The one error is that memory ran out.
+pub fn compare_by_path<S: SpanSource + Drop, P: Paths>(
+    alloc: Global,
+    table: &[u8],
+    spans: S,
+    paths: &P,
+) -> Result<ComparedByPath, TableStop>
+    ensures { IfOk result (λ compared. (list : List spec.Span) → S.to_come spans list → AreInOrder list
+        → IsPathComparison table.now (λ version. spans_by_path version (P.bytes_of paths.now) list) compared) }
+{
+    let mut reader = reader_of(alloc, table);
+    let mut row = ByteRecord::new(alloc);
+    if !read_first(&mut reader, &mut row)? {
+        return Ok(ComparedByPath::Fault(TableFault::Header));
+    }
+    let Some(version) = version_of(&row) else {
+        return Ok(ComparedByPath::Fault(TableFault::Header));
+    };
+    let Ok(mut comparison) = PathComparison::new(alloc, spans) else {
+        return Err(TableStop::Memory);
+    };
+    while read_next(&mut reader, &mut row)? {
+        let Ok(found) = comparison.take_record(alloc, paths, version, &row) else {
+            return Err(TableStop::Memory);
+        };
+        if let Some(fault) = found {
+            return Ok(ComparedByPath::Fault(fault));
+        }
+    }
+    match comparison.finish(alloc, paths, version) {
+        Ok(Some(difference)) => Ok(ComparedByPath::Differs(difference)),
+        Ok(None) => Ok(ComparedByPath::Same),
+        Err(_) => Err(TableStop::Memory),
+    }
+}
+
+// The spans of a section, compared with the records of a table by path so far.
+#[derive(Drop)]
+pub(crate) struct PathComparison<S> {
+    pub(crate) section: Section<S>,
+    pub(crate) known: KnownPaths,
+    // where the records end
+    pub(crate) at: u64,
+    // what differs first below that
+    pub(crate) first: Option<DifferenceByPath>,
+    // how many records there were, with the header
+    pub(crate) count: u64,
+}
+
+impl<S: SpanSource + Drop> PathComparison<S> {
+    // With the header alone.
+    fn new(alloc: Global, spans: S) -> Result<PathComparison<S>, AllocError>
+        ensures known { IfOk result (λ comparison. (path : ℕ → ℕ → List ℕ) → AreKnownOf path comparison.known.slots.items) }
+        ensures left { IfOk result (λ comparison. (list : List spec.Span) → S.to_come spans list → IsLeft S.to_come comparison.section.next comparison.section.spans list) }
+        ensures none { IfOk result (λ comparison. (comparison.at ≡ 0) × (comparison.first ≡ None) × (comparison.count ≡ 1)) }
+    {
+        let known = KnownPaths::new(alloc)?;
+        Ok(PathComparison {
+            section: Section::of(spans),
+            known,
+            at: 0,
+            first: None,
+            count: 1,
+        })
+    }
+
+    // Compares one more record, which holds something and begins where the records end or behind that.
+    fn push<P: Paths>(
+        &mut self,
+        alloc: Global,
+        paths: &P,
+        version: PathVersion,
+        said: &PathRecord<'_>,
+    ) -> Result<(), AllocError>
+        requires known { AreKnownOf (P.bytes_of paths.now) self.old.known.slots.items }
+        requires behind { self.old.at ≤ said.now.low }
+        requires holds { said.now.low < said.now.high }
+        ensures known { OnOk result (AreKnownOf (P.bytes_of paths.now) self.new.known.slots.items) }
+        ensures count { OnOk result (self.new.count ≡ self.old.count) }
+        ensures merged { OnOk result ((list : List spec.Span) (table : List PathSpan)
+            → IsMerged (path_answer version (P.bytes_of paths.now)) (IsLeft S.to_come self.old.section.next self.old.section.spans) (whole self.old.at) self.old.first list table
+            → IsMerged (path_answer version (P.bytes_of paths.now)) (IsLeft S.to_come self.new.section.next self.new.section.spans) (whole self.new.at) self.new.first list (table ++ record_span said.now ∷ [])) }
+    {
+        self.at = said.high;
+        if self.first.is_some() {
+            return Ok(());
+        }
+        let found = first_apart(
+            alloc,
+            paths,
+            version,
+            &mut self.known,
+            &mut self.section,
+            said,
+        )?;
+        let Some(apart) = found else {
+            return Ok(());
+        };
+        self.first = Some(difference_of(alloc, paths, version, &apart, said)?);
+        Ok(())
+    }
+
+    // Whether a record begins where the records end or behind that, and holds something.
+    fn takes(&self, said: &PathRecord<'_>) -> bool
+        ensures { MatchBool result ((self.now.at ≤ said.now.low) × (said.now.low < said.now.high)) (self.now.at ≤ said.now.low → said.now.low < said.now.high → ⊥) }
+    {
+        self.at <= said.low && said.low < said.high
+    }
+
+    // Takes the next record, if it isn't faulty.
+    fn take_record<P: Paths>(
+        &mut self,
+        alloc: Global,
+        paths: &P,
+        version: PathVersion,
+        row: &ByteRecord,
+    ) -> Result<Option<TableFault>, AllocError>
+        requires known { AreKnownOf (P.bytes_of paths.now) self.old.known.slots.items }
+        requires few { self.old.count + 1 < 2 ^ 64 }
+        ensures known { OnOk result (AreKnownOf (P.bytes_of paths.now) self.new.known.slots.items) }
+        ensures judged { IfOk result (λ found. (list : List spec.Span) (records : List Fields)
+            → JudgesByPath S.to_come (path_answer version (P.bytes_of paths.now)) version self.old list records
+            → MatchOption found (JudgesByPath S.to_come (path_answer version (P.bytes_of paths.now)) version self.new list (records ++ fields_of row.now ∷ []))
+            (λ fault. (table : List PathSpan) × IsPathTable version records table × IsFaultyRecord version table (length records) (fields_of row.now) fault)) }
+        ensures count { IfOk result (λ found. MatchOption found (self.new.count ≡ self.old.count + 1) (λ _. Unit {0})) }
+    {
+        let said = match record_of(row, version) {
+            Ok(said) => said,
+            Err(FieldFault::Count) => return Ok(Some(TableFault::Fields(self.count))),
+            Err(FieldFault::Number(column)) => {
+                return Ok(Some(TableFault::Number(self.count, column)));
+            }
+        };
+        if !self.takes(&said) {
+            return Ok(Some(TableFault::Order(self.count)));
+        }
+        self.push(alloc, paths, version, &said)?;
+        self.count += 1;
+        Ok(None)
+    }
+
+    // The least position at which the section and the table answer differently, where no record follows.
+    fn finish<P: Paths>(
+        self,
+        alloc: Global,
+        paths: &P,
+        version: PathVersion,
+    ) -> Result<Option<DifferenceByPath>, AllocError>
+        ensures { IfOk result (λ found. (list : List spec.Span) (table : List PathSpan)
+            → IsMerged (path_answer version (P.bytes_of paths.now)) (IsLeft S.to_come self.section.next self.section.spans) (whole self.at) self.first list table
+            → MatchOption found ((p : position.Position) → answer_told (path_answer version (P.bytes_of paths.now)) list p ≡ path_span_answer table p)
+            (λ difference. IsLeastPathDifference (answer_told (path_answer version (P.bytes_of paths.now)) list) (path_span_answer table) difference)) }
+    {
+        if self.first.is_some() {
+            return Ok(self.first);
+        }
+        let Some(span) = self.section.next else {
+            return Ok(None);
+        };
+        let by_section = told_of(alloc, paths, version, &span.answer)?;
+        Ok(Some(DifferenceByPath {
+            position: span.low,
+            by_table: None,
+            by_section: Some(by_section),
+        }))
+    }
+}
+
+// What a section answers, as it is told.
+fn told_of<P: Paths>(
+    alloc: Global,
+    paths: &P,
+    version: PathVersion,
+    answer: &Answer,
+) -> Result<AnswerByPath, AllocError>
+    ensures { IfOk result (λ told. told_path_answer told ≡ path_answer version (P.bytes_of paths.now) answer.now) }
+{
+    let path = paths.path_of(alloc, answer.unit, answer.file)?;
+    Ok(AnswerByPath {
+        path,
+        line: answer.line,
+        column: column_in(version, answer.column),
+    })
+}
+
+// What a record answers, as it is told.
+fn said_of(alloc: Global, said: &PathRecord<'_>) -> Result<AnswerByPath, AllocError>
+    ensures { IfOk result (λ told. told_path_answer told ≡ record_answer said.now) }
+{
+    let path = Vec::from_slice(alloc, said.path)?;
+    Ok(AnswerByPath {
+        path,
+        line: said.line,
+        column: said.column,
+    })
+}
+
+// Where a section and a record answer differently, with both answers as they are told.
+fn difference_of<P: Paths>(
+    alloc: Global,
+    paths: &P,
+    version: PathVersion,
+    apart: &Apart,
+    said: &PathRecord<'_>,
+) -> Result<DifferenceByPath, AllocError>
+    ensures position { IfOk result (λ difference. difference.position ≡ apart.now.position) }
+    ensures table { IfOk result (λ difference. option_map told_path_answer difference.by_table ≡ table_side apart.now.by_table (record_answer said.now)) }
+    ensures section { IfOk result (λ difference. option_map told_path_answer difference.by_section ≡ option_map (path_answer version (P.bytes_of paths.now)) apart.now.by_section) }
+{
+    let by_table = if apart.by_table {
+        Some(said_of(alloc, said)?)
+    } else {
+        None
+    };
+    let by_section = match &apart.by_section {
+        Some(answer) => Some(told_of(alloc, paths, version, answer)?),
+        None => None,
+    };
+    Ok(DifferenceByPath {
+        position: apart.position,
+        by_table,
+        by_section,
+    })
+}

@@ -1,0 +1,71 @@
+//! The paths of the files that were asked for lately.
+ghost use Rattle.std.specs.Prelude.{◌≡◌, ◌≢◌, ℕ, List, IfOk, OnOk};
+ghost use Rattle.std.specs.Bool.{MatchBool};
+ghost use Rattle.lnt_paths.specs.Merging.{AreKnownOf};
+
+use crate::paths::Paths;
+use lnt_spans::Answer;
+use std::alloc::{AllocError, Global};
+
+// As many paths are kept at most.
+const SLOTS: u64 = 4096;
+
+// The path of a file.
+#[derive(Drop)]
+pub(crate) struct KnownPath {
+    unit: u64,
+    file: u64,
+    path: Vec<u8>,
+}
+
+// Paths of files, each in the place that the numbers of its unit and file give: a path is made again only where another
+// file that has the same place was asked for in between.
+#[derive(Drop)]
+pub(crate) struct KnownPaths {
+    slots: Vec<Option<KnownPath>>,
+}
+
+impl KnownPaths {
+    // None is kept.
+    pub(crate) fn new(alloc: Global) -> Result<KnownPaths, AllocError>
+        ensures { IfOk result (λ known. (path : ℕ → ℕ → List ℕ) → AreKnownOf path known.slots.items) }
+    {
+        let mut slots = Vec::new(alloc);
+        for _ in 0..SLOTS {
+            slots.push(None)?;
+        }
+        Ok(KnownPaths { slots })
+    }
+
+    // Whether the file that an answer names has this path, byte for byte.
+    pub(crate) fn has_path<P: Paths>(
+        &mut self,
+        alloc: Global,
+        paths: &P,
+        answer: &Answer,
+        path: &[u8],
+    ) -> Result<bool, AllocError>
+        requires { AreKnownOf (P.bytes_of paths.now) self.old.slots.items }
+        ensures kept { OnOk result (AreKnownOf (P.bytes_of paths.now) self.new.slots.items) }
+        ensures same { IfOk result (λ same. MatchBool same (P.bytes_of paths.now answer.now.unit answer.now.file ≡ path.now)
+            (P.bytes_of paths.now answer.now.unit answer.now.file ≢ path.now)) }
+    {
+        let (unit, file) = (answer.unit, answer.file);
+        let place = (unit.wrapping_add(file) % SLOTS) as usize;
+        if let Some(Some(kept)) = self.slots.get(place) {
+            if kept.unit == unit && kept.file == file {
+                return Ok(kept.path.as_slice() == path);
+            }
+        }
+        let made = paths.path_of(alloc, unit, file)?;
+        let same = made.as_slice() == path;
+        if let Some(slot) = self.slots.get_mut(place) {
+            *slot = Some(KnownPath {
+                unit,
+                file,
+                path: made,
+            });
+        }
+        Ok(same)
+    }
+}

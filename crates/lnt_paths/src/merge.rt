@@ -1,0 +1,158 @@
+//! The spans of a section compared with one record of a table by path.
+ghost use Rattle.std.specs.Prelude.{◌≡◌, ◌≢◌, ◌<◌, true, List, [], ◌∷◌, IfOk, IfSome, MatchOption, None, OnOk, Some};
+ghost use Rattle.std.specs.Bool.{MatchBool};
+ghost use Rattle.lnt_spans.specs.declared.answer.Answer as spec_answer;
+ghost use Rattle.lnt_spans.specs.declared.span.Span as spec;
+ghost use Rattle.lnt_spans.specs.Positions.{IsAtMost, IsBelow};
+ghost use Rattle.lnt_spans.specs.Spans.{AreInOrder};
+ghost use Rattle.lnt_paths.specs.Merging.{AreApart, AreKnownOf, ArePassed, IsLeft};
+ghost use Rattle.lnt_paths.specs.PathAnswers.{path_answer, told_column};
+ghost use Rattle.lnt_paths.specs.PathSpans.{path_span_answer};
+ghost use Rattle.lnt_paths.specs.Reading.{record_answer, record_span, whole};
+
+use crate::known::KnownPaths;
+use crate::paths::Paths;
+use crate::record::PathRecord;
+use crate::version::PathVersion;
+use lnt_spans::{Answer, Position, Span, SpanSource};
+use std::alloc::{AllocError, Global};
+
+// The spans of a section that may matter from some position on: the next one, of which the part before that position was cut
+// off, and those behind it.
+#[derive(Drop)]
+pub(crate) struct Section<S> {
+    pub(crate) next: Option<Span>,
+    pub(crate) spans: S,
+}
+
+// Where a section and a record answer differently.
+#[derive(Clone, Copy)]
+pub(crate) struct Apart {
+    pub(crate) position: Position,
+    // whether the record holds the position
+    pub(crate) by_table: bool,
+    // what the section answers there
+    pub(crate) by_section: Option<Answer>,
+}
+
+impl<S: SpanSource> Section<S> {
+    // All spans of the source.
+    pub(crate) fn of(mut spans: S) -> Section<S>
+        ensures { (list : List spec.Span) → S.to_come spans list → IsLeft S.to_come result.next result.spans list }
+    {
+        let next = spans.next_span();
+        Section { next, spans }
+    }
+}
+
+// The position of a whole instruction.
+pub(crate) fn whole(address: u64) -> Position
+    ensures { result ≡ whole address }
+{
+    Position { address, op: 0 }
+}
+
+// Where a section differs first from a table that has this record alone, up to the record's end. Where it doesn't, the
+// section goes on with what is left of it from there on.
+pub(crate) fn first_apart<S: SpanSource, P: Paths>(
+    alloc: Global,
+    paths: &P,
+    version: PathVersion,
+    known: &mut KnownPaths,
+    section: &mut Section<S>,
+    said: &PathRecord<'_>,
+) -> Result<Option<Apart>, AllocError>
+    requires known { AreKnownOf (P.bytes_of paths.now) known.old.slots.items }
+    requires holds { said.now.low < said.now.high }
+    ensures known { OnOk result (AreKnownOf (P.bytes_of paths.now) known.new.slots.items) }
+    ensures apart { IfOk result (λ found. (list : List spec.Span) → IsLeft S.to_come section.old.next section.old.spans list → AreInOrder list
+        → MatchOption found (ArePassed (path_answer version (P.bytes_of paths.now)) list (path_span_answer (record_span said.now ∷ [])) (whole said.now.high) (IsLeft S.to_come section.new.next section.new.spans))
+        (λ apart. AreApart (path_answer version (P.bytes_of paths.now)) list said.now apart)) }
+{
+    let mut at = whole(said.low);
+    let end = whole(said.high);
+    if let Some(span) = begun_below(section.next, at) {
+        return Ok(Some(Apart {
+            position: span.low,
+            by_table: false,
+            by_section: Some(span.answer),
+        }));
+    }
+    while at.is_below(end) {
+        let Some(span) = section.next else {
+            return Ok(Some(Apart::none_at(at)));
+        };
+        if at.is_below(span.low) {
+            return Ok(Some(Apart::none_at(at)));
+        }
+        if !answers_so(alloc, paths, version, known, &span.answer, said)? {
+            return Ok(Some(Apart {
+                position: at,
+                by_table: true,
+                by_section: Some(span.answer),
+            }));
+        }
+        if end.is_below(span.high) {
+            section.next = Some(Span { low: end, ..span });
+            return Ok(None);
+        }
+        section.next = section.spans.next_span();
+        at = span.high;
+    }
+    Ok(None)
+}
+
+// A span, if it begins below a position.
+fn begun_below(next: Option<Span>, at: Position) -> Option<Span>
+    ensures { MatchOption result (IfSome next (λ span. IsAtMost at span.low)) (λ span. (next ≡ Some span) × IsBelow span.low at) }
+{
+    let span = next?;
+    if span.low.is_below(at) {
+        Some(span)
+    } else {
+        None
+    }
+}
+
+impl Apart {
+    // The record answers at the position, and the section doesn't.
+    fn none_at(position: Position) -> Apart
+        ensures { result ≡ (record { position = position; by_table = true; by_section = None }) }
+    {
+        Apart {
+            position,
+            by_table: true,
+            by_section: None,
+        }
+    }
+}
+
+// Whether an answer of a section is that of a record.
+fn answers_so<P: Paths>(
+    alloc: Global,
+    paths: &P,
+    version: PathVersion,
+    known: &mut KnownPaths,
+    answer: &Answer,
+    said: &PathRecord<'_>,
+) -> Result<bool, AllocError>
+    requires { AreKnownOf (P.bytes_of paths.now) known.old.slots.items }
+    ensures kept { OnOk result (AreKnownOf (P.bytes_of paths.now) known.new.slots.items) }
+    ensures same { IfOk result (λ same. MatchBool same (path_answer version (P.bytes_of paths.now) answer.now ≡ record_answer said.now)
+        (path_answer version (P.bytes_of paths.now) answer.now ≢ record_answer said.now)) }
+{
+    if answer.line != said.line || column_in(version, answer.column) != said.column {
+        return Ok(false);
+    }
+    known.has_path(alloc, paths, answer, said.path)
+}
+
+// The column, where the version tells it.
+pub(crate) fn column_in(version: PathVersion, column: u64) -> Option<u64>
+    ensures { result ≡ told_column version column }
+{
+    match version {
+        PathVersion::Three => Some(column),
+        PathVersion::Four => None,
+    }
+}

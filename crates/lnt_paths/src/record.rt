@@ -1,0 +1,114 @@
+//! The span that a record of a table by path says.
+ghost use Rattle.std.specs.Prelude.{◌≡◌, ◌+◌, ◌<◌, [], length, get_or, IfOk, IfErr, OnOk};
+ghost use Rattle.csv.specs.Records.{fields_of};
+ghost use Rattle.lnt_digits.specs.Digits.{IsAddress, IsDecimal};
+ghost use Rattle.lnt_paths.specs.PathFaults as kind;
+ghost use Rattle.lnt_paths.specs.PathTables.{SaysColumn, SaysPath, path_column_count};
+ghost use Rattle.lnt_paths.specs.Reading.{AreSoundUpTo, IsFieldFault, IsFieldOfKind, IsPathRecordFault, record_answer};
+
+use crate::header::columns;
+use crate::version::PathVersion;
+use csv::ByteRecord;
+use lnt_records::field;
+
+// What a record says, its path where the record has it.
+#[derive(Clone, Copy)]
+pub(crate) struct PathRecord<'r> {
+    pub(crate) low: u64,
+    pub(crate) high: u64,
+    pub(crate) path: &'r [u8],
+    pub(crate) line: u64,
+    // where the version tells it
+    pub(crate) column: Option<u64>,
+}
+
+// Why a record says no span.
+#[derive(Clone, Copy)]
+pub(crate) enum FieldFault {
+    // It hasn't as many fields as the table has columns.
+    Count,
+    // This column is the first that isn't of its kind.
+    Number(u64),
+}
+
+// What a record says.
+pub(crate) fn record_of<'r>(
+    row: &'r ByteRecord,
+    version: PathVersion,
+) -> Result<PathRecord<'r>, FieldFault>
+    ensures ok { IfOk result (λ said. SaysPath IsAddress IsDecimal version (fields_of row.now) said.low said.high (record_answer said)) }
+    ensures err { IfErr result (λ fault. IsPathRecordFault version (fields_of row.now) fault) }
+{
+    if row.len() != columns(version) {
+        return Err(FieldFault::Count);
+    }
+    record_in(row, version)
+}
+
+#[tactic(auto, using(crate::proofs::ReadingLemmas::four_columns, crate::proofs::ReadingLemmas::none_before, crate::proofs::ReadingLemmas::path_is_sound, crate::proofs::ReadingLemmas::says_path, crate::proofs::ReadingLemmas::field_fault))]
+fn record_in<'r>(row: &'r ByteRecord, version: PathVersion) -> Result<PathRecord<'r>, FieldFault>
+    requires { length (fields_of row.now) ≡ path_column_count version }
+    ensures ok { IfOk result (λ said. SaysPath IsAddress IsDecimal version (fields_of row.now) said.low said.high (record_answer said)) }
+    ensures err { IfErr result (λ fault. IsPathRecordFault version (fields_of row.now) fault) }
+{
+    let low = address_at(row, 0)?;
+    let high = address_at(row, 1)?;
+    let path = field(row, 2);
+    let line = decimal_at(row, 3)?;
+    let column = column_in(row, version)?;
+    Ok(PathRecord {
+        low,
+        high,
+        path,
+        line,
+        column,
+    })
+}
+
+// The column that version 3 tells.
+fn column_in(row: &ByteRecord, version: PathVersion) -> Result<Option<u64>, FieldFault>
+    requires count { length (fields_of row.now) ≡ path_column_count version }
+    requires before { AreSoundUpTo (fields_of row.now) 4 }
+    ensures ok { IfOk result (λ column. SaysColumn IsDecimal version (fields_of row.now) column) }
+    ensures err { IfErr result (λ fault. IsFieldFault (fields_of row.now) fault) }
+{
+    match version {
+        PathVersion::Three => {
+            let column = decimal_at(row, 4)?;
+            Ok(Some(column))
+        }
+        PathVersion::Four => Ok(None),
+    }
+}
+
+// The address in a column, where each column before it is of its kind.
+#[tactic(auto, using(crate::proofs::ReadingLemmas::sound_address, crate::proofs::ReadingLemmas::no_address))]
+fn address_at(row: &ByteRecord, i: usize) -> Result<u64, FieldFault>
+    requires there { i < length (fields_of row.now) }
+    requires kind { IsFieldOfKind kind.address i }
+    requires before { AreSoundUpTo (fields_of row.now) i }
+    ensures ok { IfOk result (λ n. IsAddress (get_or (fields_of row.now) i []) n) }
+    ensures after { OnOk result (AreSoundUpTo (fields_of row.now) (i + 1)) }
+    ensures err { IfErr result (λ fault. IsFieldFault (fields_of row.now) fault) }
+{
+    match lnt_digits::address(field(row, i)) {
+        Some(address) => Ok(address),
+        None => Err(FieldFault::Number(i as u64)),
+    }
+}
+
+// The same of a decimal number.
+#[tactic(auto, using(crate::proofs::ReadingLemmas::sound_decimal, crate::proofs::ReadingLemmas::no_decimal))]
+fn decimal_at(row: &ByteRecord, i: usize) -> Result<u64, FieldFault>
+    requires there { i < length (fields_of row.now) }
+    requires kind { IsFieldOfKind kind.decimal i }
+    requires before { AreSoundUpTo (fields_of row.now) i }
+    ensures ok { IfOk result (λ n. IsDecimal (get_or (fields_of row.now) i []) n) }
+    ensures after { OnOk result (AreSoundUpTo (fields_of row.now) (i + 1)) }
+    ensures err { IfErr result (λ fault. IsFieldFault (fields_of row.now) fault) }
+{
+    match lnt_digits::decimal(field(row, i)) {
+        Some(number) => Ok(number),
+        None => Err(FieldFault::Number(i as u64)),
+    }
+}

@@ -1,0 +1,84 @@
+-- What a comparison of a table of any version with a good section says of the two.
+use Rattle.std.proofs.Common.{◌≡◌, ◌∙◌, Bool, ℕ, List, [], ◌∷◌, Option, Some, None, IfSome, sym, ap, refl, subst}
+use Rattle.std.specs.Option.{option_map}
+use Rattle.lnt_unit.specs.declared.unit.Parts.{Parts}
+use Rattle.lnt_spans.specs.declared.answer.Version.{Version}
+use Rattle.lnt_spans.specs.declared.position.Position.{Position}
+use Rattle.lnt_spans.specs.declared.span.Span.{Span}
+use Rattle.lnt_spans.specs.Spans.{span_answer}
+use Rattle.lnt_sequences.specs.Sequences.{line_answer}
+use Rattle.lnt_records.specs.declared.comparison.Compared.{Compared}
+use Rattle.lnt_records.specs.Faults.{IsComparison}
+use Rattle.lnt_records.specs.Table.{BeginsWith, column_names}
+use Rattle.lnt_paths.specs.declared.answer.ComparedByPath.{ComparedByPath}
+use Rattle.lnt_paths.specs.declared.answer.ComparedByPath.TheVariants.{Same, Fault, Differs}
+use Rattle.lnt_paths.specs.declared.version.PathVersion.{PathVersion}
+use Rattle.lnt_paths.specs.PathAnswers.{PathAnswer, path_answer, spans_by_path}
+use Rattle.lnt_paths.specs.PathDifferences.{IsPathComparison}
+use Rattle.lnt_lines.specs.declared.options.Options.{Options}
+use Rattle.lnt_lines.specs.Drafts.{IsIndexOfSection}
+use Rattle.lnt_lines.specs.Indexed.{Indexed, IsIndexOf}
+use Rattle.lnt_table.specs.declared.by_path.Checked.{Checked}
+use Rattle.lnt_table.specs.declared.by_path.Checked.TheVariants.{Numbered, ByPath}
+use Rattle.lnt_table.specs.AnyVersion.{IsCheckedWith, IsComparedByPath, IsTrueCheck}
+use Rattle.lnt_table.specs.ByPath.{path_at, told_path}
+use Rattle.lnt_table.specs.Headline.{IsTrueVerdict}
+use Rattle.lnt_table.specs.Verdicts.{IsComparedWith, verdict_of}
+use Rattle.lnt_table.proofs.CheckLemmas.{compared_told}
+
+-- a comparison with what is answered alike
+compared_so : (bytes : List ℕ) (f g : PathVersion → Position → Option PathAnswer) (compared : ComparedByPath)
+    → ((version : PathVersion) (p : Position) → f version p ≡ g version p) → IsPathComparison bytes f compared → IsPathComparison bytes g compared
+compared_so bytes f g Same e h =
+    record { version = h.version; table = h.table; is_table = h.is_table; agree = λ p. sym (e h.version p) ∙ h.agree p }
+compared_so bytes f g (Fault told) e h = h
+compared_so bytes f g (Differs difference) e h = record {
+  version = h.version;
+  table = h.table;
+  is_table = h.is_table;
+  least = record {
+    section_is = h.least.section_is ∙ e h.version difference.position;
+    table_is = h.least.table_is;
+    differ = h.least.differ;
+    before = λ p k. sym (e h.version p) ∙ h.least.before p k;
+  };
+}
+
+pub path_told : (text : Option (List ℕ)) (taken : List ℕ) (index : Indexed) (dead : Option ℕ) (skip : Bool) (units : List (ℕ × Parts)) (spans : List Span) (compared : ComparedByPath)
+    → IfSome text (λ bytes. (taken ≡ bytes) × ((version : Version) → BeginsWith bytes (column_names version ∷ []) → ⊥))
+    → ((p : Position) → span_answer spans p ≡ line_answer dead skip units p)
+    → IsPathComparison taken (λ version. spans_by_path version (path_at index) spans) compared
+    → IfSome text (λ bytes. IsComparedByPath index dead skip units bytes compared)
+path_told None taken index dead skip units spans compared other answers h = tt
+path_told (Some bytes) taken index dead skip units spans compared other answers h = record {
+  unnumbered = other.1;
+  comparison = subst (λ (b : List ℕ). IsPathComparison b (λ version. told_path version index dead skip units) compared) other.0
+      (compared_so taken (λ version. spans_by_path version (path_at index) spans) (λ version. told_path version index dead skip units) compared
+      (λ version p. ap (option_map (path_answer version (path_at index))) (answers p)) h);
+}
+
+pub numbered_told : (text : Option (List ℕ)) (dead : Option ℕ) (skip : Bool) (units : List (ℕ × Parts)) (spans : List Span) (compared : Compared)
+    → ((p : Position) → span_answer spans p ≡ line_answer dead skip units p) → IfSome text (λ bytes. IsComparison bytes spans compared)
+    → IfSome text (λ bytes. (compared' : Compared) × IsComparedWith dead skip units bytes compared' × (verdict_of compared ≡ verdict_of compared'))
+numbered_told None dead skip units spans compared answers h = tt
+numbered_told (Some bytes) dead skip units spans compared answers h = (compared, record { spans = spans; answers = answers; comparison = h }, refl)
+
+check_told : (line general : List ℕ) (options : Options) (section table : List ℕ) (index : Indexed) (checked : Checked)
+    → (i : IsIndexOfSection line general options section index) → IsCheckedWith index options.dead options.skip_copies i.units table checked
+    → IsTrueCheck line general options section table checked
+check_told line general options section table index (Numbered verdict) i h =
+    subst (IsTrueVerdict line general options section table) (sym h.2)
+    (compared_told line general options section table index h.1.spans h.0 i h.1.answers h.1.comparison)
+check_told line general options section table index (ByPath compared) i h = record { index = index; of_section = i; told = h }
+
+pub any_told : (line general : List ℕ) (options : Options) (section table : Option (List ℕ)) (index : Indexed) (checked : Checked)
+    → IfSome section (λ bytes. IsIndexOfSection line general options bytes index)
+    → ((dead : Option ℕ) (skip : Bool) (units : List (ℕ × Parts)) → IsIndexOf dead skip units index → IfSome table (λ text. IsCheckedWith index dead skip units text checked))
+    → IfSome section (λ bytes. IfSome table (λ text. IsTrueCheck line general options bytes text checked))
+any_told line general options None table index checked i h = tt
+any_told line general options (Some section) table index checked i h = of_table table (h options.dead options.skip_copies i.units i.index_is)
+  where
+    of_table : (text : Option (List ℕ)) → IfSome text (λ bytes. IsCheckedWith index options.dead options.skip_copies i.units bytes checked)
+        → IfSome text (λ bytes. IsTrueCheck line general options section bytes checked)
+    of_table None k = tt
+    of_table (Some bytes) k = check_told line general options section bytes index checked i k

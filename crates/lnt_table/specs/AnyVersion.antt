@@ -1,0 +1,42 @@
+-- What is said of a section and an address table of any version.
+--     line, general    the bytes of .debug_line_str and of .debug_str
+--     section, table   the bytes of .debug_line, and those of the address table
+use Rattle.std.specs.Prelude.{◌≡◌, ℕ, Bool, List, [], ◌∷◌, Option}
+use Rattle.lnt_unit.specs.declared.unit.Parts.{Parts}
+use Rattle.lnt_spans.specs.declared.answer.Version.{Version}
+use Rattle.lnt_records.specs.Table.{BeginsWith, column_names}
+use Rattle.lnt_records.specs.declared.comparison.Compared.{Compared}
+use Rattle.lnt_paths.specs.declared.answer.ComparedByPath.{ComparedByPath}
+use Rattle.lnt_paths.specs.PathDifferences.{IsPathComparison}
+use Rattle.lnt_lines.specs.declared.options.Options.{Options}
+use Rattle.lnt_lines.specs.Drafts.{IsIndexOfSection}
+use Rattle.lnt_lines.specs.Indexed.{Indexed}
+use Rattle.lnt_table.specs.declared.by_path.Checked.{Checked}
+use Rattle.lnt_table.specs.declared.by_path.Checked.TheVariants.{Numbered, ByPath}
+use Rattle.lnt_table.specs.ByPath.{told_path}
+use Rattle.lnt_table.specs.Headline.{IsTrueVerdict}
+use Rattle.lnt_table.specs.Verdicts.{IsComparedWith, verdict_of}
+
+-- The bytes don't begin with the header of version 1 or 2. This is what their comparison with what the rows of the units
+-- answer tells, with the whole path of each file, as versions 3 and 4 tell answers; `Fault` of the header, where they begin
+-- with the header of neither of these.
+pub record IsComparedByPath (index : Indexed) (dead : Option ℕ) (skip : Bool) (units : List (ℕ × Parts)) (table : List ℕ) (compared : ComparedByPath) : Type 0 where
+  pub unnumbered : (version : Version) → BeginsWith table (column_names version ∷ []) → ⊥
+  pub comparison : IsPathComparison table (λ version. told_path version index dead skip units) compared
+
+-- The section is good, and that is so of it.
+pub record IsTrueByPath (line general : List ℕ) (options : Options) (section table : List ℕ) (compared : ComparedByPath) : Type 0 where
+  pub index : Indexed
+  pub of_section : IsIndexOfSection line general options section index
+  pub told : IsComparedByPath index options.dead options.skip_copies of_section.units table compared
+
+-- What is told is so, and it is the first thing that is wrong.
+abbrev pub IsTrueCheck : List ℕ → List ℕ → Options → List ℕ → List ℕ → Checked → Type 0
+IsTrueCheck line general options section table (Numbered verdict) = IsTrueVerdict line general options section table verdict
+IsTrueCheck line general options section table (ByPath compared) = IsTrueByPath line general options section table compared
+
+-- ---- what a comparison with a good section makes of the two. The bodies of this crate use it among themselves.
+
+abbrev pub IsCheckedWith : Indexed → Option ℕ → Bool → List (ℕ × Parts) → List ℕ → Checked → Type 0
+IsCheckedWith index dead skip units table (Numbered verdict) = (compared : Compared) × IsComparedWith dead skip units table compared × (verdict ≡ verdict_of compared)
+IsCheckedWith index dead skip units table (ByPath compared) = IsComparedByPath index dead skip units table compared

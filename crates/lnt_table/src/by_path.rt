@@ -1,0 +1,78 @@
+//! A section checked against an address table of any version.
+ghost use Rattle.std.specs.Prelude.{◌≡◌, ◌≢◌, ◌+◌, ◌-◌, ◌^◌, ◌<◌, ◌⊎◌, Bool, ℕ, List, Option, IfOk, IfSome, IsErrOf};
+ghost use Rattle.lnt_wire.specs.declared.stop.Stop.TheVariants.{Read, TooLong};
+ghost use Rattle.lnt_unit.specs.declared.unit.Parts.{Parts};
+ghost use Rattle.lnt_lines.specs.Indexed.{IsIndexOf};
+ghost use Rattle.lnt_table.specs.AnyVersion.{IsCheckedWith, IsTrueCheck};
+ghost use Rattle.lnt_table.specs.Headline.{IsTooLong};
+
+use crate::paths::IndexPaths;
+use crate::verdict::{TableNo, Verdict, verdict_of};
+use lnt_lines::{Index, JudgedIndex, Options, index_section};
+use lnt_paths::{ComparedByPath, compare_by_path};
+use lnt_records::{TableRead, TableStop, compare_or_take};
+use lnt_wire::{Source, Stop, Strings};
+use std::alloc::Global;
+
+/// What a check of a table of any version answers.
+#[derive(Drop)]
+pub enum Checked {
+    /// The section isn't good, or the table is one of version 1 or 2, as far as its header tells: this is the verdict.
+    Numbered(Verdict),
+    /// The section is good, and the table's header isn't that of version 1 or 2. This is what its comparison with the section
+    /// tells, in versions 3 and 4: `Fault` of the header, where it isn't that of these either.
+    ByPath(ComparedByPath),
+}
+
+/// Checks a section as `check` does, against an address table of any of the four versions.
+///
+/// Of a table with the header of version 1 or 2 it answers what `check` answers. Of another one it tells whether it is one of
+/// version 3 or 4 that answers at every position as the rows of the section do, with the whole path of each file byte for
+/// byte, and with line and, in version 3, column (`IsTrueCheck`); else the first fault or the least difference.
+///
+/// The bytes of a table by path are held, and neither its records nor the section's spans. It stops as `check` does.
+pub fn check_any<R: Source, T: Source>(
+    alloc: Global,
+    section: &mut R,
+    strings: &Strings<'_>,
+    table: &mut T,
+    options: &Options,
+) -> Result<Checked, Stop>
+    requires section_fails { R.failures section.old < 2 ^ 64 - 1 }
+    requires table_fails { T.failures table.old < 2 ^ 64 - 1 }
+    ensures checked { IfOk result (λ checked. IfSome (R.remaining section.old) (λ bytes. IfSome (T.remaining table.old) (λ text.
+        IsTrueCheck strings.now.line.now strings.now.general.now options.now bytes text checked))) }
+    ensures read { IsErrOf result Stop.Read → R.failures section.new + T.failures table.new ≡ R.failures section.old + T.failures table.old + 1 }
+    ensures section_fine { result ≢ Err Stop.Read → R.failures section.new ≡ R.failures section.old }
+    ensures table_fine { result ≢ Err Stop.Read → T.failures table.new ≡ T.failures table.old }
+    ensures too_long { IsErrOf result Stop.TooLong → IsTooLong (R.too_long section.new) (R.remaining section.old) (R.left section.old)
+        ⊎ IsTooLong (T.too_long table.new) (T.remaining table.old) (T.left table.old) }
+{
+    let index = match index_section(alloc, section, strings, options)? {
+        JudgedIndex::Good(index) => index,
+        JudgedIndex::Bad(no) => return Ok(Checked::Numbered(Verdict::No(TableNo::Section(no)))),
+    };
+    let checked = check_index(alloc, table, &index)?;
+    Ok(checked)
+}
+
+// What a comparison of the table with the spans of the index makes of the two.
+fn check_index<T: Source>(alloc: Global, table: &mut T, index: &Index<'_>) -> Result<Checked, Stop>
+    requires { T.failures table.old < 2 ^ 64 - 1 }
+    ensures ok { IfOk result (λ checked. (dead : Option ℕ) (skip : Bool) (units : List (ℕ × Parts)) → IsIndexOf dead skip units index.now
+        → IfSome (T.remaining table.old) (λ text. IsCheckedWith index.now dead skip units text checked)) }
+    ensures read { IsErrOf result Stop.Read → T.failures table.new ≡ T.failures table.old + 1 }
+    ensures no_failure { result ≢ Err Stop.Read → T.failures table.new ≡ T.failures table.old }
+    ensures too_long { IsErrOf result Stop.TooLong → IsTooLong (T.too_long table.new) (T.remaining table.old) (T.left table.old) }
+{
+    let read = compare_or_take(alloc, table, index.spans())?;
+    let text = match read {
+        TableRead::Compared(compared) => return Ok(Checked::Numbered(verdict_of(compared))),
+        TableRead::Other(text) => text,
+    };
+    let paths = IndexPaths { index };
+    match compare_by_path(alloc, &text, index.spans(), &paths) {
+        Ok(compared) => Ok(Checked::ByPath(compared)),
+        Err(TableStop::Memory) => Err(Stop::Memory),
+    }
+}
