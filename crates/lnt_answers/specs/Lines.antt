@@ -24,11 +24,6 @@ abbrev pub IsTold : JudgedIndex → Option (List ℕ) → Option (List ℕ) → 
 IsTold (Good index) old new = Keeps old new
 IsTold (Bad reason) old new = Appends old new (no_text reason ++ codes "\n")
 
--- a writer that held these bytes has gained the verdict on the section
-abbrev pub IsVerdict : JudgedIndex → Option (List ℕ) → Option (List ℕ) → Type 0
-IsVerdict (Good index) old new = Appends old new (codes "yes\n")
-IsVerdict (Bad reason) old new = Appends old new (no_text reason ++ codes "\n")
-
 -- the line of a position without an answer
 abbrev pub none_text : Position → List ℕ
 none_text position = position_text position ++ codes " none\n"

@@ -1,7 +1,7 @@
 //! A section that is judged.
 ghost use Rattle.std.specs.Prelude.{◌≡◌, ◌+◌, ◌-◌, ◌^◌, ◌<◌, IfOk, IfSome, IsErrOf, IsTrue};
 ghost use Rattle.lnt_lines.specs.Drafts.{IsJudgedIndex};
-ghost use Rattle.lnt_answers.specs.Lines.{IsIndexGiven, IsTold, IsVerdict};
+ghost use Rattle.lnt_answers.specs.Lines.{IsIndexGiven, IsTold};
 
 use crate::no::NoLine;
 use lnt_lines::{JudgedIndex, Options, index_section};
@@ -39,26 +39,4 @@ pub fn judge_section<'s, R: Source, W: Write>(
         }
         Err(stop) => Err(Halt::from(stop)),
     }
-}
-
-/// Judges the section as `judge_section` does, and prints `yes` where it is good. Its stops are those of `judge_section`.
-pub fn print_verdict<'s, R: Source, W: Write>(
-    alloc: Global,
-    section: &mut R,
-    strings: &Strings<'s>,
-    options: &Options,
-    out: &mut W,
-) -> Result<JudgedIndex<'s>, Halt>
-    requires { R.failures section.old < 2 ^ 64 - 1 }
-    ensures judged { IfOk result (λ judged. IfSome (R.remaining section.old) (λ bytes.
-        IsJudgedIndex strings.now.line.now strings.now.general.now options.now bytes judged)) }
-    ensures verdict { IfOk result (λ judged. IsVerdict judged (W.contents out.old) (W.contents out.new)) }
-    ensures read { IsErrOf result Halt.Read → R.failures section.new ≡ R.failures section.old + 1 }
-    ensures too_long { IsErrOf result Halt.TooLong → IsTrue (R.too_long section.new) }
-{
-    let judged = judge_section(alloc, section, strings, options, out)?;
-    if let JudgedIndex::Good(_) = &judged {
-        writeln!(out, "yes")?;
-    }
-    Ok(judged)
 }

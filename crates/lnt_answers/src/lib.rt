@@ -1,9 +1,8 @@
 //! What a judged section answers, as text.
 //!
-//! [`judge_section`] prints the line of a section that isn't good, and gives the index of one that is; [`print_verdict`]
-//! prints `yes` of it too. Of the index [`print_lookups`] and [`print_addresses`] print the answers at positions,
-//! [`print_files`] the files, and [`print_sums`] whether these have the sums that are listed. [`print_differences`] prints
-//! where a table answers otherwise.
+//! [`judge_section`] prints the line of a section that isn't good, and gives the index of one that is. Of the index
+//! [`print_lookups`] and [`print_addresses`] print the answers at positions, [`print_files`] the files, and [`print_sums`]
+//! whether these have the sums that are listed. [`print_differences`] prints where a table answers otherwise.
 #![tactic(auto)]
 
 mod addresses;
@@ -17,7 +16,7 @@ mod sums;
 pub use addresses::print_addresses;
 pub use differences::{DifferenceLine, print_differences};
 pub use files::print_files;
-pub use judge::{judge_section, print_verdict};
+pub use judge::judge_section;
 pub use lookup::{print_lookup, print_lookups};
 pub use no::NoLine;
 pub use sums::{lists_sums, print_sums};

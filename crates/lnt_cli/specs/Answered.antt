@@ -1,18 +1,26 @@
 -- What is answered, and of which bytes it is so.
 --     tells       what may be told of the files of names as the run begins
 --     old, new    what the writer of the answer holds before and afterwards
-use Rattle.std.specs.Prelude.{◌≡◌, ℕ, List, [], Option, None, Some, IfSome, false, string_bytes}
+use Rattle.std.specs.Prelude.{◌≡◌, ℕ, List, [], Option, None, Some, IfSome, true, false, string_bytes}
 use Rattle.std.specs.Option.{option_copied}
 use Rattle.std.specs.Io.KnownBytes.{Appends}
 use Rattle.lnt_sources.specs.Files.{AreBytesOf}
 use Rattle.lnt_sources.specs.declared.status.Status.{Status}
 use Rattle.lnt_sources.specs.declared.status.Status.TheVariants.{Done}
+use Rattle.lnt_wire.specs.declared.format.Order.{Order}
 use Rattle.lnt_lines.specs.declared.options.Options.{Options}
+use Rattle.lnt_lines.specs.declared.section.JudgedIndex.{JudgedIndex}
+use Rattle.lnt_lines.specs.Drafts.{IsJudgedIndex}
 use Rattle.lnt_words.specs.declared.request.Judging.{Judging}
+use Rattle.lnt_words.specs.declared.request.Question.{Question}
+use Rattle.lnt_words.specs.declared.request.Reading.{Reading}
 use Rattle.lnt_words.specs.declared.request.Request.{Request}
-use Rattle.lnt_words.specs.declared.request.Request.TheVariants.{Help, Check}
+use Rattle.lnt_words.specs.declared.request.Request.TheVariants.{Help, Read, Judge, Check}
 use Rattle.lnt_table.specs.declared.verdict.Verdict.{Verdict}
 use Rattle.lnt_table.specs.Headline.{IsTrueVerdict}
+use Rattle.lnt_cli.specs.Questions.{AnswersJudged}
+use Rattle.lnt_cli.specs.Readings.{AnswersReading}
+use Rattle.lnt_cli.specs.Stretches.{ArePlacesTold}
 use Rattle.lnt_cli.specs.Verdicts.{verdict_status, verdict_text}
 
 -- how a section is to be read
@@ -47,8 +55,46 @@ pub record AnswersCheck (tells : List ℕ → Option (List ℕ) → Type 0) (fro
   pub checked : IsChecked tells from table old new verdict
   pub status_is : status ≡ verdict_status verdict
 
--- What is answered to a request. Of the requests that aren't named here nothing is said.
+-- ---- sections that are judged
+
+-- What is told of the section whose file is named is so, and this is the answer to the question.
+pub record AnswersQuestion (tells : List ℕ → Option (List ℕ) → Type 0) (from : Judging) (question : Question) (old new : Option (List ℕ)) (status : Status) : Type 0 where
+  pub line : List ℕ
+  pub general : List ℕ
+  pub texts : AreTextsOf tells from line general
+  pub section_bytes : Option (List ℕ)
+  pub of_section : tells from.section.now section_bytes
+  pub judged : JudgedIndex
+  pub is_true : IfSome section_bytes (λ section. IsJudgedIndex line general (options_in from) section judged)
+  pub answered : AnswersJudged (options_in from) question judged old new status
+
+-- What is told of the section whose file is named is so, and so are the places at which the table of its name answers otherwise.
+pub record AnswersPlaces (tells : List ℕ → Option (List ℕ) → Type 0) (from : Judging) (table : List ℕ) (old new : Option (List ℕ)) (status : Status) : Type 0 where
+  pub line : List ℕ
+  pub general : List ℕ
+  pub texts : AreTextsOf tells from line general
+  pub section_bytes : Option (List ℕ)
+  pub of_section : tells from.section.now section_bytes
+  pub judged : JudgedIndex
+  pub is_true : IfSome section_bytes (λ section. IsJudgedIndex line general (options_in from) section judged)
+  pub table_bytes : Option (List ℕ)
+  pub of_table : tells table table_bytes
+  pub answered : ArePlacesTold (options_in from) judged table_bytes old new status
+
+-- ---- sections that are read
+
+-- So it is of the section whose file is named.
+pub record AnswersRead (tells : List ℕ → Option (List ℕ) → Type 0) (section : List ℕ) (order : Order) (reading : Reading) (old new : Option (List ℕ)) (status : Status) : Type 0 where
+  pub section_bytes : Option (List ℕ)
+  pub of_section : tells section section_bytes
+  pub answered : IfSome section_bytes (λ bytes. AnswersReading order reading bytes old new status)
+
+-- ---- requests
+
+-- What is answered to a request.
 abbrev pub IsAnswered : (List ℕ → Option (List ℕ) → Type 0) → Request → Option (List ℕ) → Option (List ℕ) → Status → Type 0
 IsAnswered tells (Help text) old new status = Appends old new (string_bytes text) × (status ≡ Done)
+IsAnswered tells (Read section order reading) old new status = AnswersRead tells section.now order reading old new status
+IsAnswered tells (Judge from question) old new status = AnswersQuestion tells from question old new status
 IsAnswered tells (Check from table false) old new status = AnswersCheck tells from table.now old new status
-IsAnswered tells other old new status = Unit {0}
+IsAnswered tells (Check from table true) old new status = AnswersPlaces tells from table.now old new status

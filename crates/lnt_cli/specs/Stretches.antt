@@ -1,5 +1,5 @@
 -- What `check` prints where it tells all places at which a table answers otherwise than a good section.
-use Rattle.std.specs.Prelude.{◌≡◌, ◌++◌, Bool, ℕ, List, Option, codes}
+use Rattle.std.specs.Prelude.{◌≡◌, ◌++◌, Bool, ℕ, List, Option, IfSome, codes}
 use Rattle.std.specs.Io.KnownBytes.{Appends}
 use Rattle.lnt_unit.specs.declared.unit.Parts.{Parts}
 use Rattle.lnt_spans.specs.declared.answer.Version.{Version}
@@ -13,8 +13,16 @@ use Rattle.lnt_table.specs.Headline.{told_answer}
 use Rattle.lnt_answers.specs.DifferenceLines.{stretches_status, stretches_text}
 use Rattle.lnt_cli.specs.declared.stretches.Stretches.{Stretches}
 use Rattle.lnt_cli.specs.declared.stretches.Stretches.TheVariants.{Faulty, Told}
+use Rattle.lnt_cli.specs.declared.stretches.Places.{Places}
+use Rattle.lnt_cli.specs.declared.stretches.Places.TheVariants.{Section, Table}
+use Rattle.lnt_cli.specs.Questions.{ForUnitsOf, IsNoTold}
 use Rattle.lnt_cli.specs.Verdicts.{reason_of, table_no_text}
+use Rattle.lnt_lines.specs.declared.options.Options.{Options}
+use Rattle.lnt_lines.specs.Indexed.{Indexed}
+use Rattle.lnt_lines.specs.declared.section.JudgedIndex.{JudgedIndex}
+use Rattle.lnt_lines.specs.declared.section.JudgedIndex.TheVariants.{Good, Bad}
 use Rattle.lnt_sources.specs.declared.status.Status.{Status}
+use Rattle.lnt_sources.specs.declared.status.Status.TheVariants as ending
 
 -- The bytes are a table. These are exactly the stretches at which it answers otherwise than the rows of the units, as far as
 -- its version tells, and a writer that held these bytes has gained their lines, or `yes` where there is none.
@@ -36,3 +44,25 @@ AreStretchesOf dead skip units table old new (Told status) = AreToldOf dead skip
 abbrev pub IsFaultTold : Stretches → Option (List ℕ) → Option (List ℕ) → Type 0
 IsFaultTold (Faulty told) old new = Appends old new (table_no_text (reason_of told) ++ codes "\n")
 IsFaultTold (Told status) old new = Unit {0}
+
+-- how a run ends that tells it
+abbrev pub told_status : Stretches → Status
+told_status (Faulty told) = ending.No
+told_status (Told status) = status
+
+-- The same of a section too, whatever was found of it.
+abbrev pub places_status : Places → Status
+places_status (Section reason) = ending.No
+places_status (Table told) = told_status told
+
+-- What is told of a good section with this index and of a table: its first fault, or all places where the two differ.
+pub record AreTableTold (options : Options) (index : Indexed) (table old new : Option (List ℕ)) (status : Status) : Type 0 where
+  pub told : Stretches
+  pub fault : IsFaultTold told old new
+  pub status_is : status ≡ told_status told
+  pub so : ForUnitsOf options index (λ units. IfSome table (λ text. AreStretchesOf options.dead options.skip_copies units text old new told))
+
+-- What is told of a section that was judged so and of a table.
+abbrev pub ArePlacesTold : Options → JudgedIndex → Option (List ℕ) → Option (List ℕ) → Option (List ℕ) → Status → Type 0
+ArePlacesTold options (Good index) table old new status = AreTableTold options index table old new status
+ArePlacesTold options (Bad reason) table old new status = IsNoTold reason old new status

@@ -9,6 +9,7 @@ mod inputs;
 mod judge;
 mod path_table;
 mod program;
+mod question;
 mod session;
 mod stop;
 mod stretches;

@@ -45,8 +45,15 @@ pub fn run<O: Opener, W: Write, N: Write>(
 ///
 /// Where a check of a table is asked for, `out` has gained one line, and nothing else: `yes`, where all that `check` of
 /// `lnt_table` says of Yes is so of the bytes that the opener tells of the files; or the first thing that is wrong, which is
-/// so of them (`AnswersCheck`). It answers `Done` exactly where that line is `yes`, and else `No`. It stops as `run` does, and
-/// never by `Usage`.
+/// so of them (`AnswersCheck`). It answers `Done` exactly where that line is `yes`, and else `No`. Where all places are asked
+/// for, `out` has gained a line for each of them, or `yes` where there is none (`AnswersPlaces`).
+///
+/// Where a question about a section is asked, and the section isn't good, `out` has gained the line that says why, which is
+/// so, and it answers `No`; of a good one, what its rows and headers say (`AnswersQuestion`). Where a section is converted,
+/// `out` has gained the converted one, or the line that says why there is none (`AnswersRead`).
+///
+/// Nothing is said of what units, dumps, sums and the answers to the lines of a file print, nor of `out` where it stops. It
+/// stops as `run` does, and never by `Usage`.
 pub fn answer<O: Opener, W: Write, N: Write>(
     alloc: Global,
     asked: &Asked<'_>,

@@ -1,6 +1,7 @@
 //! What a run works with, and how it answers.
-ghost use Rattle.std.specs.Prelude.{◌≡◌, IfErr, IfOk};
-ghost use Rattle.lnt_cli.specs.Answered.{IsAnswered};
+ghost use Rattle.std.specs.Prelude.{◌≡◌, ◌-◌, ◌^◌, ◌<◌, IfErr, IfOk, IfSome};
+ghost use Rattle.lnt_cli.specs.Answered.{AnswersRead, IsAnswered};
+ghost use Rattle.lnt_cli.specs.Readings.{AnswersReading};
 ghost use Rattle.lnt_cli.specs.Stops.{IsUsage};
 
 use crate::inputs::{of_file, open_section};
@@ -8,7 +9,7 @@ use crate::stop::CliStop;
 use lnt_dump::{Shown, print_converted, print_dump, print_units};
 use lnt_notes::{Seen, tell_refused};
 use lnt_sources::{Halt, Opener, Status};
-use lnt_wire::Order;
+use lnt_wire::{Order, Source};
 use lnt_words::{Reading, Request};
 use std::alloc::Global;
 use std::cell::Cell;
@@ -90,23 +91,35 @@ impl<O: Opener, W: Write, N: Write> Session<'_, '_, '_, O, W, N> {
         order: Order,
         reading: Reading,
     ) -> Result<Status, Halt>
-        ensures { self.new.out.ghost_name ≡ self.old.out.ghost_name }
+        ensures answer { IfOk result (λ status. AnswersRead (O.tells self.old.opener.now) section.now order reading
+            (W.contents self.old.out.now) (W.contents self.new.out.now) status) }
+        ensures same_reference { self.new.out.ghost_name ≡ self.old.out.ghost_name }
     {
         let seen = Cell::new(Seen::nothing());
         let mut source = open_section(self.alloc, self.opener, section, &seen)?;
-        let (alloc, out) = (self.alloc, &mut *self.out);
-        let status = match reading {
-            Reading::Units => print_units(alloc, &mut source, order, out)?,
-            Reading::Dump { ops, rows } => {
-                print_dump(alloc, &mut source, order, Shown { ops, rows }, out)?
-            }
-            Reading::Convert { format, to } => {
-                print_converted(alloc, &mut source, order, format, to, out)?
-            }
-        };
+        let status = print_reading(self.alloc, &mut source, order, reading, self.out)?;
         if status == Status::No && !self.quiet {
             let _ = tell_refused(&seen.get(), order, self.notes);
         }
         Ok(status)
+    }
+}
+
+// Prints a section, as it is to be read.
+fn print_reading<R: Source, W: Write>(
+    alloc: Global,
+    source: &mut R,
+    order: Order,
+    reading: Reading,
+    out: &mut W,
+) -> Result<Status, Halt>
+    requires { R.failures source.old < 2 ^ 64 - 1 }
+    ensures { IfOk result (λ status. IfSome (R.remaining source.old) (λ bytes.
+        AnswersReading order reading bytes (W.contents out.old) (W.contents out.new) status)) }
+{
+    match reading {
+        Reading::Units => print_units(alloc, source, order, out),
+        Reading::Dump { ops, rows } => print_dump(alloc, source, order, Shown { ops, rows }, out),
+        Reading::Convert { format, to } => print_converted(alloc, source, order, format, to, out),
     }
 }

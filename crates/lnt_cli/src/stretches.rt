@@ -7,7 +7,7 @@ ghost use Rattle.lnt_unit.specs.declared.unit.Parts.{Parts};
 
 use crate::verdict::TableNoLine;
 use lnt_answers::print_differences;
-use lnt_lines::Index;
+use lnt_lines::{Index, No};
 use lnt_records::TableFault;
 use lnt_sources::{Halt, Status};
 use lnt_table::{Differing, TableNo, differences};
@@ -22,6 +22,15 @@ pub(crate) enum Stretches {
     Faulty(TableFault),
     // It is one, and the places were told where it answers otherwise: `Done` where there is none.
     Told(Status),
+}
+
+// What was told of a section and a table.
+#[derive(Drop)]
+pub(crate) enum Places {
+    // The section isn't good, for this reason.
+    Section(No),
+    // It is good, and this was told of the table.
+    Table(Stretches),
 }
 
 // Prints the No line of each stretch at which the table answers otherwise than a good section, in rising order, or `yes`

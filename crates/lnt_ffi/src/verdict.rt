@@ -1,11 +1,13 @@
 //! Verdicts as C sees them.
 ghost use Rattle.std.specs.Prelude.{◌≡◌};
 ghost use Rattle.lnt_ffi.specs.Verdicts.{numbered, of_malformed, of_run, verdict_of_no, verdict_of_stop, verdict_of_table, which_number};
+ghost use Rattle.lnt_lines.specs.declared.no.No.TheVariants.{Overlap};
 
 use crate::flat::{FlatAnswer, NOTHING, flat_side};
 use lnt_header::Which;
 use lnt_lines::No;
 use lnt_machine::RunFault;
+use lnt_sequences::SeqId;
 use lnt_spans::Position;
 use lnt_table::{TableNo, Verdict};
 use lnt_wire::{Fault, Reason, Stop};
@@ -174,13 +176,20 @@ pub(crate) fn verdict_of_no(no: No) -> FlatVerdict
             first,
             second,
             position,
-        } => FlatVerdict {
-            offset: first.unit,
-            index: first.index,
-            other_offset: second.unit,
-            other_index: second.index,
-            ..at(position, 32)
-        },
+        } => of_overlap(first, second, position),
+    }
+}
+
+// Two sequences that hold one position.
+fn of_overlap(first: SeqId, second: SeqId, position: Position) -> FlatVerdict
+    ensures { result ≡ verdict_of_no (Overlap first second position) }
+{
+    FlatVerdict {
+        offset: first.unit,
+        index: first.index,
+        other_offset: second.unit,
+        other_index: second.index,
+        ..at(position, 32)
     }
 }
 

@@ -1,0 +1,63 @@
+-- What is answered to a question about a section that was judged.
+--     old, new    what the writer of the answer holds before and afterwards
+use Rattle.std.specs.Prelude.{◌≡◌, ℕ, List, ◌++◌, Option, true, false, codes}
+use Rattle.std.specs.List.{flat_map}
+use Rattle.std.specs.Io.KnownBytes.{Appends}
+use Rattle.lnt_sources.specs.declared.status.Status.{Status}
+use Rattle.lnt_sources.specs.declared.status.Status.TheVariants as ending
+use Rattle.lnt_unit.specs.declared.unit.Parts.{Parts}
+use Rattle.lnt_spans.specs.declared.answer.Version.{Version}
+use Rattle.lnt_spans.specs.declared.position.Position.{Position}
+use Rattle.lnt_lines.specs.declared.no.No.{No}
+use Rattle.lnt_lines.specs.declared.options.Options.{Options}
+use Rattle.lnt_lines.specs.declared.section.JudgedIndex.{JudgedIndex}
+use Rattle.lnt_lines.specs.declared.section.JudgedIndex.TheVariants.{Good, Bad}
+use Rattle.lnt_lines.specs.Indexed.{Indexed, IsIndexOf}
+use Rattle.lnt_words.specs.declared.request.Question.{Question}
+use Rattle.lnt_words.specs.declared.request.Question.TheVariants.{Verify, Lookup, Files, Table, TableByPath}
+use Rattle.lnt_paths.specs.declared.version.PathVersion.{PathVersion}
+use Rattle.lnt_paths.specs.declared.version.PathVersion.TheVariants.{Three, Four}
+use Rattle.lnt_table.specs.ByPath.{told_path}
+use Rattle.lnt_table.specs.Written.{IsTableOfUnits}
+use Rattle.lnt_answers.specs.FileLines.{files_text}
+use Rattle.lnt_answers.specs.Lines.{lookup_line}
+use Rattle.lnt_answers.specs.Texts.{no_text}
+use Rattle.lnt_cli.specs.PathTables.{IsPrintedTable}
+
+-- It is so of all units that the index is of, by these options.
+abbrev pub ForUnitsOf : Options → Indexed → (List (ℕ × Parts) → Type 0) → Type 0
+ForUnitsOf options index IsSo = (units : List (ℕ × Parts)) → IsIndexOf options.dead options.skip_copies units index → IsSo units
+
+-- The line of what the units answer at each of these positions was printed, and nothing else.
+abbrev pub AreLookupsTold : Options → Indexed → List Position → Option (List ℕ) → Option (List ℕ) → Type 0
+AreLookupsTold options index positions old new =
+    ForUnitsOf options index (λ units. Appends old new (flat_map (lookup_line index options.dead options.skip_copies units) positions))
+
+-- The table of what the units answer was printed, and nothing else.
+abbrev pub IsTableTold : Version → Options → Indexed → Option (List ℕ) → Option (List ℕ) → Type 0
+IsTableTold version options index old new =
+    (bytes : List ℕ) × Appends old new bytes × ForUnitsOf options index (λ units. IsTableOfUnits version options.dead options.skip_copies units bytes)
+
+-- The same of the table by path, or that it can't be.
+abbrev pub IsPathTableTold : PathVersion → Options → Indexed → Option (List ℕ) → Option (List ℕ) → Status → Type 0
+IsPathTableTold version options index old new status =
+    ForUnitsOf options index (λ units. IsPrintedTable version (told_path version index options.dead options.skip_copies units) old new status)
+
+-- What is answered of a good section with this index. Of the questions that aren't named here nothing is said.
+abbrev pub AnswersGood : Options → Question → Indexed → Option (List ℕ) → Option (List ℕ) → Status → Type 0
+AnswersGood options Verify index old new status = Appends old new (codes "yes\n") × (status ≡ ending.Done)
+AnswersGood options (Lookup positions) index old new status = AreLookupsTold options index positions.items old new × (status ≡ ending.Done)
+AnswersGood options Files index old new status = Appends old new (files_text index) × (status ≡ ending.Done)
+AnswersGood options (Table version) index old new status = IsTableTold version options index old new × (status ≡ ending.Done)
+AnswersGood options (TableByPath true) index old new status = IsPathTableTold Three options index old new status
+AnswersGood options (TableByPath false) index old new status = IsPathTableTold Four options index old new status
+AnswersGood options other index old new status = Unit {0}
+
+-- The line of what is wrong with the section was printed, and nothing else, and the run ends so.
+abbrev pub IsNoTold : No → Option (List ℕ) → Option (List ℕ) → Status → Type 0
+IsNoTold reason old new status = Appends old new (no_text reason ++ codes "\n") × (status ≡ ending.No)
+
+-- What is answered of a section that was judged so.
+abbrev pub AnswersJudged : Options → Question → JudgedIndex → Option (List ℕ) → Option (List ℕ) → Status → Type 0
+AnswersJudged options question (Good index) old new status = AnswersGood options question index old new status
+AnswersJudged options question (Bad reason) old new status = IsNoTold reason old new status

@@ -1,0 +1,176 @@
+//! Questions about a good section.
+ghost use Rattle.std.specs.Prelude.{◌≡◌, IfErr, IfOk};
+ghost use Rattle.lnt_cli.specs.Answered.{AnswersQuestion};
+ghost use Rattle.lnt_cli.specs.Questions.{AnswersGood};
+ghost use Rattle.lnt_cli.specs.Stops.{IsUsage};
+ghost use Rattle.lnt_words.specs.declared.request.Question.TheVariants.{Addresses};
+ghost use Rattle.lnt_lines.specs.declared.options.Options.{Options as OptionsSpec};
+
+use crate::inputs::{of_file, open, open_section, read_texts};
+use crate::judge::options_of;
+use crate::path_table::print_path_table;
+use crate::session::Session;
+use crate::stop::CliStop;
+use crate::table::print_table;
+use lnt_answers::{
+    judge_section, lists_sums, print_addresses, print_files, print_lookups, print_sums,
+};
+use lnt_lines::{Index, JudgedIndex, No};
+use lnt_notes::{Hints, Seen, hints_of};
+use lnt_sources::{Halt, Opener, Status};
+use lnt_table::PathVersion;
+use lnt_words::{Judging, Question};
+use std::alloc::Global;
+use std::cell::Cell;
+use std::io::Write;
+
+// What the section gives notes occasion for.
+#[derive(Clone, Copy)]
+enum Occasion {
+    Good(Hints),
+    Bad(No),
+}
+
+// How a question was answered, and what may be noted of the section.
+#[derive(Clone, Copy)]
+struct Answered {
+    status: Status,
+    occasion: Occasion,
+}
+
+impl<O: Opener, W: Write, N: Write> Session<'_, '_, '_, O, W, N> {
+    // Answers a question about a good section. Of another one its line is printed.
+    pub(crate) fn answer_question(
+        &mut self,
+        from: &Judging<'_>,
+        question: &Question<'_>,
+    ) -> Result<Status, CliStop>
+        ensures usage { IfErr result (λ stop. IsUsage stop → ⊥) }
+        ensures answer { IfOk result (λ status. AnswersQuestion (O.tells self.old.opener.now) from.now question.now
+            (W.contents self.old.out.now) (W.contents self.new.out.now) status) }
+        ensures same_reference { self.new.out.ghost_name ≡ self.old.out.ghost_name }
+    {
+        let seen = Cell::new(Seen::nothing());
+        let answered = match question {
+            Question::Addresses { file, op } => {
+                answer_lines(self.alloc, from, file, *op, self.opener, &seen, self.out)?
+            }
+            _ => answer_alone(self.alloc, from, question, self.opener, &seen, self.out)?,
+        };
+        match &answered.occasion {
+            Occasion::Good(hints) => self.tell_good(hints, from),
+            Occasion::Bad(no) => self.tell_bad(no, &seen.get(), from),
+        }
+        Ok(answered.status)
+    }
+}
+
+// Answers a question that names no other file. Of the section's bytes is kept what was seen.
+fn answer_alone<O: Opener, W: Write>(
+    alloc: Global,
+    from: &Judging<'_>,
+    question: &Question<'_>,
+    opener: &mut O,
+    seen: &Cell<Seen>,
+    out: &mut W,
+) -> Result<Answered, CliStop>
+    ensures usage { IfErr result (λ stop. IsUsage stop → ⊥) }
+    ensures answer { IfOk result (λ answered. AnswersQuestion (O.tells opener.old) from.now question.now
+        (W.contents out.old) (W.contents out.new) answered.status) }
+{
+    let texts = read_texts(alloc, opener, from)?;
+    let opened = open_section(alloc, opener, from.section, seen);
+    let mut section = of_file(alloc, from.section, opened)?;
+    let options = options_of(from);
+    let strings = texts.strings();
+    let judged = judge_section(alloc, &mut section, &strings, &options, out);
+    let index = match of_file(alloc, from.section, judged)? {
+        JudgedIndex::Good(index) => index,
+        JudgedIndex::Bad(no) => return Ok(refused(no)),
+    };
+    let printed = print_answer(alloc, &index, question, opener, out);
+    let status = of_file(alloc, from.section, printed)?;
+    let occasion = Occasion::Good(hints_to(&index, question));
+    Ok(Answered { status, occasion })
+}
+
+// Answers what is asked by the lines of a file, which is opened before the section is judged.
+fn answer_lines<O: Opener, W: Write>(
+    alloc: Global,
+    from: &Judging<'_>,
+    file: &str,
+    op: u64,
+    opener: &mut O,
+    seen: &Cell<Seen>,
+    out: &mut W,
+) -> Result<Answered, CliStop>
+    ensures usage { IfErr result (λ stop. IsUsage stop → ⊥) }
+    ensures answer { IfOk result (λ answered. AnswersQuestion (O.tells opener.old) from.now (Addresses file.entry op)
+        (W.contents out.old) (W.contents out.new) answered.status) }
+{
+    let texts = read_texts(alloc, opener, from)?;
+    let opened = open_section(alloc, opener, from.section, seen);
+    let mut section = of_file(alloc, from.section, opened)?;
+    let mut lines = open(alloc, opener, file)?;
+    let options = options_of(from);
+    let strings = texts.strings();
+    let judged = judge_section(alloc, &mut section, &strings, &options, out);
+    let index = match of_file(alloc, from.section, judged)? {
+        JudgedIndex::Good(index) => index,
+        JudgedIndex::Bad(no) => return Ok(refused(no)),
+    };
+    let printed = print_addresses(alloc, &index, &mut lines, op, out);
+    let status = of_file(alloc, file, printed)?;
+    let occasion = Occasion::Good(hints_of(&index));
+    Ok(Answered { status, occasion })
+}
+
+// The answer where the section isn't good.
+fn refused(no: No) -> Answered
+    ensures { result.status ≡ Status.No }
+{
+    Answered {
+        status: Status::No,
+        occasion: Occasion::Bad(no),
+    }
+}
+
+// Prints the answer of a good section.
+fn print_answer<O: Opener, W: Write>(
+    alloc: Global,
+    index: &Index<'_>,
+    question: &Question<'_>,
+    opener: &mut O,
+    out: &mut W,
+) -> Result<Status, Halt>
+    ensures { IfOk result (λ status. (options : OptionsSpec)
+        → AnswersGood options question.now index.now (W.contents out.old) (W.contents out.new) status) }
+{
+    match question {
+        Question::Verify => {
+            writeln!(out, "yes")?;
+            Ok(Status::Done)
+        }
+        Question::Lookup(positions) => print_lookups(alloc, index, positions, out),
+        Question::Files => print_files(alloc, index, out),
+        Question::Table(version) => print_table(alloc, index, *version, out),
+        Question::TableByPath { columns: true } => {
+            print_path_table(alloc, index, PathVersion::Three, out)
+        }
+        Question::TableByPath { columns: false } => {
+            print_path_table(alloc, index, PathVersion::Four, out)
+        }
+        Question::Md5 => print_sums(alloc, index, opener, out),
+        // It is answered line by line.
+        Question::Addresses { .. } => Ok(Status::Done),
+    }
+}
+
+// What a good section gives notes occasion for, where this was asked.
+fn hints_to(index: &Index<'_>, question: &Question<'_>) -> Hints {
+    let hints = hints_of(index);
+    Hints {
+        lists_no_sum: matches!(question, Question::Md5) && !lists_sums(index),
+        ..hints
+    }
+}
