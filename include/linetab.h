@@ -115,7 +115,7 @@ size_t linetab_units(const struct linetab_section *section, struct linetab_unit 
 
 /* Judges the section, and answers whether the unit at this offset has the file: where it answers false and the verdict is
  * yes, there is no such unit or file. Its path of *count bytes is put into the front of path, where len is enough for all of
- * them. No zero byte stands behind it. The bytes of one unit, up to the offset of the next one, are a section too, which is
+ * them. No zero byte stands after it. The bytes of one unit, up to the offset of the next one, are a section too, which is
  * judged sooner than all of them: the unit stands at 0 there. */
 bool linetab_path(const struct linetab_section *section, uint64_t unit, uint64_t file, uint8_t *path, size_t len,
                   size_t *count, struct linetab_verdict *verdict);

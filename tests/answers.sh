@@ -27,7 +27,7 @@ end=000101
 plain_program=${at_1000}144b0202$end
 
 # A little-endian unit of such parts, with both lengths told as they are: less than 256 bytes, with a header of this
-# many bytes behind the field.
+# many bytes after the field.
 unit() { # NUMBERS LENGTHS DIRECTORIES FILES PROGRAM
   local header_bytes=$(((${#1} + ${#2} + ${#3} + ${#4}) / 2))
   local rest=$1$2$3$4$5
@@ -125,7 +125,7 @@ says 'no unit' 0 '' units /dev/null
 expect 'a unit on standard input' 0 $'0x0 32 67\n' '' bash -c './linetab units - <"$0"' "$work/section"
 reads 'a unit and a reserved length' 1 $'0x0 32 67\nno 25 malformed at 0x47: reserved length\n' "${plain}f0ffffff" units
 reads 'a big-endian unit in the 64-bit format' 0 $'0x0 64 71\n' "$wide" units --big
-says 'an option behind the section' 0 $'0x0 64 71\n' units "$work/section" --big
+says 'an option after the section' 0 $'0x0 64 71\n' units "$work/section" --big
 reads 'one byte of a unit' 1 $'no 25 malformed at 0x4: truncated\n' 0100000005 units
 reads 'a reserved length' 1 $'no 25 malformed at 0x0: reserved length\n' f0ffffff units
 reads 'version 4' 1 $'no 25 malformed at 0x4: version 4\n' "$(with "$plain" 4 04)" units
@@ -170,7 +170,7 @@ for block in "$block_1" "$block_2" "$block_4"; do
   expect 'a directory with a block' 0 $'dir 0 1="/s" 8193=block:aabb\n' '' bash -c './linetab dump "$0" | grep dir' "$work/section"
 done
 
-# A unit of which one byte is another, behind a whole one.
+# A unit of which one byte is another, after a whole one.
 is_faulty() { # PLACE DIGITS REASON
   reads "a second unit with $2 at $1" 1 "${plain_text}no 25 malformed at $3"$'\n' "$plain$(with "$plain" "$1" "$2")" dump
 }
@@ -322,7 +322,7 @@ is_at_fault 'no header' '36 table header' "$first$second"
 is_at_fault 'a record of eight fields' '37 table fields record 1' "$names"$'0x1000,0,0x1004,0,0,1,3,0\n'"$second"
 is_at_fault 'a record of nine fields in a wide table' '37 table fields record 1' "$wide_names$first$second"
 is_at_fault 'a record of eleven fields in a narrow table' '37 table fields record 1' "$names"$'0x1000,0,0x1004,0,0,1,3,0,1,0,0\n'"$second"
-is_at_fault 'a fault behind a difference' '37 table fields record 2' "$names"$'0x1000,0,0x1004,0,0,1,9,0,1\n0x1004,0,0x1006,0,0,1,4,0\n'
+is_at_fault 'a fault after a difference' '37 table fields record 2' "$names"$'0x1000,0,0x1004,0,0,1,9,0,1\n0x1004,0,0x1006,0,0,1,4,0\n'
 is_at_fault 'a flag of 2' '38 table number record 1 column 8' "$names"$'0x1000,0,0x1004,0,0,1,3,0,2\n'"$second"
 is_at_fault 'a line of 2^64' '38 table number record 2 column 6' "$names$first"$'0x1004,0,0x1006,0,0,1,18446744073709551616,0,1\n'
 is_at_fault 'an instruction set that is no number' '38 table number record 1 column 9' "$wide_names"$'0x1000,0,0x1004,0,0,1,3,0,1,x,0\n'
@@ -348,7 +348,7 @@ is_bad 'a reserved length' 'no 25 malformed at 0x0: reserved length' f0ffffff00
 is_bad 'a big-endian unit taken as a little-endian one' 'no 25 malformed at 0x0: truncated' "$wide"
 is_bad 'a line below 0' 'no 26 run unit 0x0: line out of range at operation 1' "$line_below_zero"
 is_bad 'a line below 0, and a byte that begins no unit' 'no 26 run unit 0x0: line out of range at operation 1' "${line_below_zero}00"
-is_bad 'a line below 0, and an extended operation of no byte behind it' 'no 25 malformed at 0x46: extended length' "$(with "$line_below_zero" 70 00)"
+is_bad 'a line below 0, and an extended operation of no byte after it' 'no 25 malformed at 0x46: extended length' "$(with "$line_below_zero" 70 00)"
 is_bad 'an open sequence' 'no 26 run unit 0x0: open sequence' "$(program ${at_1000}144b0202)"
 is_bad 'directories without a path' 'no 27 entry format unit 0x0 directories' "$(with "$plain" 31 03)"
 is_bad 'files without a path' 'no 27 entry format unit 0x0 files' "$(with "$plain" 38 03)"
@@ -393,7 +393,7 @@ agrees 'one sequence twice, dead, and two between' "$same" "$names"$'0x8,0,0xc,0
 writes 'a table' "$first$second" "$plain"
 writes 'the table of no unit' '' ''
 writes 'the table of a unit without a program' '' "$listed"
-writes 'a table behind a marker in the middle of a sequence' "$first$second" "$plain" --dead 0x1004
+writes 'a table after a marker in the middle of a sequence' "$first$second" "$plain" --dead 0x1004
 writes 'the table of dead code' '' "$plain" --dead 0x1000
 writes 'two rows at one address' $'0x1000,0,0x1004,0,0,1,9,0,1\n' "$two_rows_at_one_address"
 writes 'rows within an instruction that say the same' $'0x2000,0,0x2010,1,0,1,3,0,1\n0x2010,1,0x2020,0,0,1,4,0,1\n' "$three_operations"
@@ -401,9 +401,9 @@ writes 'sequences that touch and say the same' $'0x1000,0,0x1002,0,0,1,3,0,1\n' 
 writes 'sequences that say the same apart' $'0x1000,0,0x1001,0,0,1,3,0,1\n0x2000,0,0x2001,0,0,1,3,0,1\n' "$parted"
 writes 'sequences in falling order' $'0x1000,0,0x1001,0,0,1,3,0,1\n0x1001,0,0x1002,0,0,1,4,0,1\n0x2000,0,0x2001,0,0,1,5,0,1\n' \
   "$(program "${at_2000}0304010201$end${at_1001}0303010201$end${at_1000}0302010201$end")"
-writes 'two rows behind a sequence at a greater address' $'0x1000,0,0x1004,0,0,1,1,0,1\n0x1004,0,0x1008,0,0,1,2,0,1\n0x2000,0,0x2004,0,0,1,3,0,1\n' \
+writes 'two rows after a sequence at a greater address' $'0x1000,0,0x1004,0,0,1,1,0,1\n0x1004,0,0x1008,0,0,1,2,0,1\n0x2000,0,0x2004,0,0,1,3,0,1\n' \
   "$(program "${at_2000}0302010204$end${at_1000}0102040301010204$end")"
-writes 'empty sequences behind another' "$first$second" "$(program "$plain_program$at_1002$end${at_1002}030601$end")"
+writes 'empty sequences after another' "$first$second" "$(program "$plain_program$at_1002$end${at_1002}030601$end")"
 writes 'rows that differ in what is not told' $'0x1000,0,0x1006,0,0,1,1,0,1\n' "$(program "${at_1000}01000204070202010204$end")"
 put section "$plain"
 says 'a wide table written' 0 "$wide_plain" table --wide "$work/section"
@@ -470,7 +470,7 @@ expect 'a unit that ends early' 0 "$(wanted)"$'\n' '' shorter
 
 a_c='column 0 stmt 1 path "/s/a.c"'
 looks 'the last position' "0x1005,0 unit 0 file 1 line 4 $a_c" "$plain" 0x1005
-looks 'behind the last position' '0x1006,0 none' "$plain" 0x1006
+looks 'after the last position' '0x1006,0 none' "$plain" 0x1006
 looks 'before the first position' '0xfff,0 none' "$plain" 0xfff
 looks 'the first position' "0x1000,0 unit 0 file 1 line 3 $a_c" "$plain" 0x1000
 looks 'an operation index' "0x1003,7 unit 0 file 1 line 3 $a_c" "$plain" 0x1003 --op 7
@@ -479,7 +479,7 @@ looks 'dead code' '0x1005,0 none' "$plain" 0x1005 --dead 0x1000
 looks 'no unit' '0x0,0 none' '' 0x0
 looks 'two rows at one address' "0x1000,0 unit 0 file 1 line 9 $a_c" "$two_rows_at_one_address" 0x1000
 looks 'before a border within an instruction' "0x2010,0 unit 0 file 1 line 3 $a_c" "$three_operations" 0x2010
-looks 'behind a border within an instruction' "0x2010,1 unit 0 file 1 line 4 $a_c" "$three_operations" 0x2010 --op 1
+looks 'after a border within an instruction' "0x2010,1 unit 0 file 1 line 4 $a_c" "$three_operations" 0x2010 --op 1
 looks 'before a row within an instruction' "0x2000,1 unit 0 file 1 line 3 $a_c" "$three_operations" 0x2000 --op 1
 looks 'a second unit' "0x2010,1 unit 71 file 1 line 4 $a_c" "$plain$three_operations" 0x2010 --op 1
 looks 'a big-endian unit' "0x1005,0 unit 0 file 1 line 4 $a_c" "$wide" 0x1005 --big

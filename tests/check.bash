@@ -13,7 +13,7 @@ bytes() {
   printf '%b' "$(printf '%s' "$*" | tr -d ' \n' | sed 's/../\\x&/g')"
 }
 
-# expect NAME STATUS STDOUT STDERR COMMAND..: STDOUT and STDERR as $'..' texts, byte for byte, but for the notes behind
+# expect NAME STATUS STDOUT STDERR COMMAND..: STDOUT and STDERR as $'..' texts, byte for byte, but for the notes after
 # what is wanted on standard error.
 expect() {
   local name=$1 status=$2 out=$3 err=$4

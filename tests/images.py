@@ -81,7 +81,7 @@ def elf(words, wide, big):
 
 
 def pe(words, wide):
-    """Sections in whole blocks of 512 bytes, their long names behind an empty table of symbols."""
+    """Sections in whole blocks of 512 bytes, their long names after an empty table of symbols."""
     parts = list(parts_of(words, "<", wide))
     optional = struct.pack("<H22xQ", 0x20B, 0x140000000) if wide else struct.pack("<H26xI", 0x10B, 0x400000)
     size = 64 + 24 + len(optional) + 40 * len(parts)

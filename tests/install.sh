@@ -51,7 +51,7 @@ manual() {
 
 in_bash() {
   local file=$prefix/share/bash-completion/completions/linetab word
-  # What is offered behind these words.
+  # What is offered after these words.
   offered() {
     bash -c 'complete() { :; }; . "$0"; COMP_WORDS=("$@") COMP_CWORD=$(($# - 1)); _linetab
       printf "%s\n" "${COMPREPLY[@]}" | sort' "$file" "$@"

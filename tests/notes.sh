@@ -1,12 +1,12 @@
 #!/usr/bin/env bash
-# The notes on standard error: each kind of them, behind what is printed without them, and none with --quiet.
+# The notes on standard error: each kind of them, after what is printed without them, and none with --quiet.
 cd "$(dirname "$0")/.." || exit 1
 . tests/check.bash
 program=$PWD/crates/linetab/out/linetab
 hello=(examples/hello.debug_line --line-str examples/hello.debug_line_str)
 truncated=$'no 25 malformed at 0x0: truncated\n'
 
-# notes NAME STATUS STDOUT STDERR NOTE WORD..: STDERR and behind it the note, and with --quiet STDERR alone. Standard
+# notes NAME STATUS STDOUT STDERR NOTE WORD..: STDERR and after it the note, and with --quiet STDERR alone. Standard
 # input is the file $input.
 input=/dev/null
 notes() {

@@ -188,7 +188,7 @@ END
   cat examples/hello.debug_line "$work/old4" >"$work/mixed"
   echo 'clang LLVM (rustc version 1.95.0)' >"$work/said"
   image elf64 unit .debug_line="$work/mixed" "${hello[1]}" z:.debug_str="$work/said"
-  expect 'version 4 behind version 5, by rustc' 1 $'no 25 malformed at 0xa4: version 4\n' \
+  expect 'version 4 after version 5, by rustc' 1 $'no 25 malformed at 0xa4: version 4\n' \
     "$says note: 1 of its 2 units, of src/a.c, is of version 4; ${hint% compile with} $rust"$'\n' \
     object table "$work/unit"
   cat examples/hello.debug_line examples/hello.debug_line >"$work/twice"
@@ -234,7 +234,7 @@ apart() {
 
 refusals() {
   local loose="it is a relocatable object, whose relocations aren't applied and whose addresses all begin at 0: link it"
-  local cut="its headers reach behind the end of the file, or aren't whole: it is cut or damaged"
+  local cut="its headers reach past the end of the file, or aren't whole: it is cut or damaged"
   image elf64 no "${hello[@]}" object && refuses 'a relocatable object' no "$loose"
   image macho no "${hello[@]}" object && refuses 'one of Mach-O' no \
     'it is a relocatable object: take the dSYM of the linked program, which dsymutil makes'
@@ -262,7 +262,7 @@ refusals() {
   for format in elf64 elf32-big pe macho wasm; do
     image "$format" whole "${hello[@]}"
     head -c 70 "$work/whole" >"$work/no"
-    [ "$format" != wasm ] || cut='section .debug_line reaches behind the end of the file, which is cut or damaged'
+    [ "$format" != wasm ] || cut='section .debug_line reaches past the end of the file, which is cut or damaged'
     refuses "a cut file, $format" no "$cut"
   done
   refuses 'a file that is not there' nothing 'cannot read it: No such file or directory'

@@ -14,7 +14,7 @@ expect 'a pipe' 0 $'0x0 32 156\n' '' bash -c 'cat examples/hello.debug_line | ./
 expect 'another folder' 0 $'0x0 32 156\n' '' bash -c "cd /tmp && '$top/linetab' units '$top/examples/hello.debug_line'"
 expect 'a link to the launcher' 0 $'0x0 32 156\n' '' bash -c "ln -s '$top/linetab' '$work/link' && '$work/link' units examples/hello.debug_line"
 expect 'an empty section' 0 '' '' ./linetab units /dev/null
-expect 'behind two dashes' 0 $'0x0 32 156\n' '' ./linetab units -- examples/hello.debug_line
+expect 'after two dashes' 0 $'0x0 32 156\n' '' ./linetab units -- examples/hello.debug_line
 
 head -c 100 examples/hello.debug_line >"$work/cut"
 expect 'a cut section' 1 $'no 25 malformed at 0x0: truncated\n' '' ./linetab units "$work/cut"

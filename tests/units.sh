@@ -204,7 +204,7 @@ worked_units() {
     "$fields$block" "$plain_ops" "$plain_rows"
   worked 'a block with a length of 4 bytes' "$(unit "${numbers}${lengths}020108 814004 01 2f7300 02000000aabb $files" "$at $rows $end")" \
     "$fields$block" "$plain_ops" "$plain_rows"
-  worked 'bytes behind the files' "$(unit "${header}aabb" "$at $rows $end")" "$fields$tables" "$plain_ops" "$plain_rows"
+  worked 'bytes after the files' "$(unit "${header}aabb" "$at $rows $end")" "$fields$tables" "$plain_ops" "$plain_rows"
 
   # What isn't written as it was read, or isn't little-endian.
   local padded
@@ -241,12 +241,12 @@ sections() {
   prints 'no frames' 0 '' '' units
   converts 'no units, converted' '' '' 64 big
   converts 'two wide units, narrowed' "$wide$wide" "$plain$plain" 32 little --big
-  prints 'a byte behind a unit' 1 "${plain}00" $'0x0 32 67\nno 25 malformed at 0x47: truncated\n' units
-  prints 'a byte behind a header' 1 "${plain}00" "unit 0x0 32 67"$'\n'"$fields$tables"$'no 25 malformed at 0x47: truncated\n' dump
+  prints 'a byte after a unit' 1 "${plain}00" $'0x0 32 67\nno 25 malformed at 0x47: truncated\n' units
+  prints 'a byte after a header' 1 "${plain}00" "unit 0x0 32 67"$'\n'"$fields$tables"$'no 25 malformed at 0x47: truncated\n' dump
   bytes "$plain$(front "$plain" 70)" >"$work/unit"
   expect 'a cut unit is not converted' 1 $'no 25 malformed at 0x47: truncated\n' '' "$program" convert "$work/unit" --format 64 --order little
   bytes "$plain$(with "$plain" 69 00)" >"$work/unit"
-  expect 'a fault of the second unit is told behind the first' 1 \
+  expect 'a fault of the second unit is told after the first' 1 \
     $'unit 0x0 32 67\n'"$fields$tables"$'no 25 malformed at 0x8c: extended length\n' '' "$program" dump "$work/unit"
   prints 'a fault of the first unit is told alone' 1 "$(with "$plain" 69 00)$plain" $'no 25 malformed at 0x45: extended length\n' dump
 
@@ -261,9 +261,9 @@ sections() {
   cat "$work/plain" "$work/plain" >"$work/two"
   convert "$work/two" "$work/units" --format 64 --order little
   cat "$work/large" "$work/large" >>"$work/units"
-  expect 'a large offset behind two units' 1 $'no 20 too large unit 0xa6\n' '' "$program" convert "$work/units" --format 32 --order little
+  expect 'a large offset after two units' 1 $'no 20 too large unit 0xa6\n' '' "$program" convert "$work/units" --format 32 --order little
   cat "$work/plain" "$work/large" "$work/large" >"$work/units"
-  expect 'a large offset behind a unit of 32 bits' 1 $'no 20 too large unit 0x47\n' '' "$program" convert "$work/units" --format 32 --order little
+  expect 'a large offset after a unit of 32 bits' 1 $'no 20 too large unit 0x47\n' '' "$program" convert "$work/units" --format 32 --order little
   convert "$work/units" "$work/converted" --format 64 --order little
   expect 'the same in 64 bits' 0 $'0x0 64 71\n0x53 64 44\n0x8b 64 44\n' '' "$program" units "$work/converted"
 }
@@ -278,12 +278,12 @@ faults_of_frames() {
   local two=0400000005000809020000000500
   prints 'two short units' 0 "$two" $'0x0 32 4\n0x8 32 2\n' units
   prints 'a short wide unit' 0 "$narrow" $'0x0 64 3\n' units --big
-  frames 'a reserved length behind two units' "${two}f0ffffff" $'0x0 32 4\n0x8 32 2\nno 25 malformed at 0xe: reserved length'
-  frames 'a byte behind two units' "${two}f0" $'0x0 32 4\n0x8 32 2\nno 25 malformed at 0xe: truncated'
+  frames 'a reserved length after two units' "${two}f0ffffff" $'0x0 32 4\n0x8 32 2\nno 25 malformed at 0xe: reserved length'
+  frames 'a byte after two units' "${two}f0" $'0x0 32 4\n0x8 32 2\nno 25 malformed at 0xe: truncated'
   frames 'a second unit that is cut' "$(front "$two" 13)" $'0x0 32 4\nno 25 malformed at 0x8: truncated'
   frames 'a reserved length' f0ffffff 'no 25 malformed at 0x0: reserved length'
   frames 'the greatest reserved length' feffffff 'no 25 malformed at 0x0: reserved length'
-  frames 'a reserved length behind the plain unit' "${plain}f0ffffff" $'0x0 32 67\nno 25 malformed at 0x47: reserved length'
+  frames 'a reserved length after the plain unit' "${plain}f0ffffff" $'0x0 32 67\nno 25 malformed at 0x47: reserved length'
   frames 'a wide length that is cut' ffffffff 'no 25 malformed at 0x0: truncated'
   cut 'a short unit' "$short"
   cut 'a short wide unit' "$narrow" --big
@@ -321,7 +321,7 @@ faults_of_headers() {
   faulty 'too many files' "$(unit "${numbers}${lengths}${directory}020108020b${most}02${files:12}" "$at $rows $end")" 0x2a 'number too large'
 }
 
-# The unit with a directory of this form, and nothing behind the value.
+# The unit with a directory of this form, and nothing after the value.
 of_form() { # FORM VALUE
   unit "${numbers}${lengths}0101${1}01$2" ''
 }
@@ -481,7 +481,7 @@ operations() {
   refused 'an extended length out of range' "00${high}02" 1 'number too large'
   refused 'a discriminator out of range' "000b04${high}02" 3 'number too large'
   refused 'a discriminator out of range that ends early' "000c04${high}0200" 1 'extended length'
-  refused 'a fault behind other operations' 160002010016 2 'extended length'
+  refused 'a fault after other operations' 160002010016 2 'extended length'
   faulty 'the end of the plain unit with a length of 0' "$(with "$plain" 69 00)" 0x45 'extended length' --ops
   faulty 'the end of the plain unit with a length of 2' "$(with "$plain" 69 02)" 0x46 truncated --rows
 }
@@ -494,7 +494,7 @@ run() {
 }
 
 runs() {
-  run 'rows behind the last end' "$at $rows" 'open sequence'
+  run 'rows after the last end' "$at $rows" 'open sequence'
   run 'one row' 01 'open sequence'
   run 'a line below 0' "$at 037e 01 0202 $end" 'line out of range at operation 1'
   run 'a line below 0 in an open sequence' "$at 01 037e" 'line out of range at operation 2'
@@ -546,7 +546,7 @@ texts() {
   text_of 'an empty line string' "$(in_directory 1f 02000000)" 0 "$found \"a.c\""
   text_of 'a line string without an end' "$(in_directory 1f 03000000)" 1 "$outside"
   text_of 'the end of the line strings' "$(in_directory 1f 04000000)" 1 "$outside"
-  text_of 'an offset behind the line strings' "$(in_directory 1f ffffffff)" 1 "$outside"
+  text_of 'an offset after the line strings' "$(in_directory 1f ffffffff)" 1 "$outside"
   text_of 'the greatest offset' "$(wide_unit "${numbers}${lengths}01011f01$(repeated ff 8)$files" "$at $rows $end")" 1 "$outside"
   text_of 'a string' "$(in_directory 0e 00000000)" 0 "$found \"b/a.c\""
   text_of 'the end of the strings' "$(in_directory 0e 02000000)" 1 "$outside"

@@ -37,7 +37,7 @@ says 'a cut section' 1 $'no 25 malformed at 0x0: truncated\n' verify "$work/cut"
 says 'one address' 0 "$at_1137" lookup "${hello[@]}" 0x1137
 says 'three addresses, in their order' 0 "$at_1137"$'0xfff,0 none\n'"$at_1130" lookup "${hello[@]}" 0x1137 0xfff 0x1130
 says 'addresses around an option' 0 "$at_1137"$'0xfff,0 none\n' lookup "${hello[@]}" 0x1137 --op 0 0xfff
-expect 'a bad address behind an option' 2 '' $'linetab: bad word yes\n' "$program" lookup "${hello[@]}" 0x1137 --skip-copies yes
+expect 'a bad address after an option' 2 '' $'linetab: bad word yes\n' "$program" lookup "${hello[@]}" 0x1137 --skip-copies yes
 says 'an operation index for all' 0 $'0x0,7 none\n0xfff,7 none\n' lookup "${hello[@]}" 0x0 0xfff --op 7
 asks 'lines' 0 "$at_1137"$'0xfff,0 none\n' '0x1137\n0xfff\n'
 asks 'a last line without its end' 0 "$at_1137$at_1130" '0x1137\n0x1130'

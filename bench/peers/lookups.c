@@ -1,9 +1,9 @@
 /* Lookups by linetab_lookup, for bench/embedding: the spans of a good section are made once, and then addresses are looked up.
  *   lookups prepare SECTION LINE_STR STR RANGES ADDRESSES COUNT [--dead ADDRESS] [--skip-copies]
  * writes to RANGES, for each stretch of addresses of one unit, the unit's offset and the first and the last address but one
- * behind it, and to ADDRESSES so many addresses, each within a span picked at random; all as 64-bit numbers.
+ * after it, and to ADDRESSES so many addresses, each within a span picked at random; all as 64-bit numbers.
  *   lookups alone|indexed SECTION LINE_STR STR ADDRESSES [--dead ADDRESS] [--skip-copies]
- * prints the nanoseconds of processor time of a lookup, over PASSES passes behind one that isn't counted, and a sum of the answers;
+ * prints the nanoseconds of processor time of a lookup, over PASSES passes after one that isn't counted, and a sum of the answers;
  * `indexed` calls linetab_lookup on the eight spans that an index of first addresses names, as docs/EMBEDDING.md shows. */
 #include "linetab.h"
 #include <inttypes.h>
@@ -93,8 +93,8 @@ static bool indexed_lookup(const struct linetab_span *spans, size_t count, const
     size_t at = 0;
     for (size_t left = (count + EACH - 1) / EACH; left > 1; left -= left / 2)
         at = firsts[at + left / 2] <= address ? at + left / 2 : at;
-    size_t behind = count - at * EACH;
-    return linetab_lookup(spans + at * EACH, behind < EACH ? behind : EACH, address, 0, answer);
+    size_t after = count - at * EACH;
+    return linetab_lookup(spans + at * EACH, after < EACH ? after : EACH, address, 0, answer);
 }
 
 /* The answers to all addresses, by the index where there is one. */
@@ -117,14 +117,14 @@ static double processor_seconds(void) {
 
 int main(int argc, char **argv) {
     bool prepares = argc > 1 && strcmp(argv[1], "prepare") == 0;
-    int behind = prepares ? 8 : 6;
-    if (argc < behind)
+    int after = prepares ? 8 : 6;
+    if (argc < after)
         fail("see its first lines", "");
     struct linetab_section section = {0};
     section.line = read_file(argv[2], &section.line_len);
     section.line_str = read_file(argv[3], &section.line_str_len);
     section.str = read_file(argv[4], &section.str_len);
-    for (int i = behind; i < argc; i++) {
+    for (int i = after; i < argc; i++) {
         section.skip_copies |= strcmp(argv[i], "--skip-copies") == 0;
         if (strcmp(argv[i], "--dead") == 0 && i + 1 < argc)
             section.has_dead = true, section.dead = strtoull(argv[i + 1], NULL, 16);

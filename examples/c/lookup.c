@@ -52,7 +52,7 @@ static void print_path(const struct linetab_section *section, const struct linet
     free(path);
 }
 
-/* Sets what the options say, and gives the place behind them. */
+/* Sets what the options say, and gives the place after them. */
 static int read_options(struct linetab_section *section, int argc, char **argv, int i) {
     for (; i < argc && strncmp(argv[i], "--", 2) == 0; i++) {
         if (strcmp(argv[i], "--big") == 0)

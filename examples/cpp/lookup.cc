@@ -15,7 +15,7 @@ namespace {
 
 using Bytes = std::vector<unsigned char>;
 
-// The bytes of a file, with one more behind them, so that there is a first one to point to.
+// The bytes of a file, with one more after them, so that there is a first one to point to.
 Bytes read_file(const std::string &name) {
     std::ifstream file(name, std::ios::binary);
     if (!file)

@@ -115,8 +115,8 @@ static int print_lookup(const struct linetab_section *section, const char *word)
         free(spans);
         return print_verdict(&verdict);
     }
-    char *behind;
-    uint64_t address = strtoull(word, &behind, 16), op = *behind == ':' ? strtoull(behind + 1, NULL, 10) : 0;
+    char *after;
+    uint64_t address = strtoull(word, &after, 16), op = *after == ':' ? strtoull(after + 1, NULL, 10) : 0;
     struct linetab_answer answer;
     int status = 0;
     printf("0x%" PRIx64 ",%" PRIu64 " ", address, op);

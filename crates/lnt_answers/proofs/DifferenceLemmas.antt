@@ -12,7 +12,7 @@ use Rattle.lnt_spans.specs.declared.stretches.Differences.{Differences}
 use Rattle.lnt_spans.specs.Differing.{HasTold}
 use Rattle.lnt_answers.specs.DifferenceLines.{difference_line}
 
--- A first stretch was told, and others behind it, and a writer has gained their lines.
+-- A first stretch was told, and others after it, and a writer has gained their lines.
 pub record HasPrinted {S T : Type 0} (of_section : S → List Span → Type 0) (of_table : T → List Span → Type 0) (differences : Differences S T) (f g : Position → Option Answer) (old new : Option (List ℕ)) : Type 0 where
   pub first : Difference
   pub more : List Difference

@@ -35,7 +35,7 @@ place_text position answer = position_text position ++ (codes " unit " ++ (decim
 abbrev pub row_text : Answer → List ℕ
 row_text answer = codes "line " ++ (decimal answer.line ++ (codes " column " ++ (decimal answer.column ++ (codes " stmt " ++ decimal (if answer.is_stmt then 1 else 0)))))
 
--- the path of the file behind it, if it is there
+-- the path of the file after it, if it is there
 abbrev pub path_text : Option (List ℕ) → List ℕ
 path_text (Some path) = codes " path " ++ (quoted_text path ++ codes "\n")
 path_text None = codes "\n"
@@ -49,7 +49,7 @@ answer_line index position (Some answer) = (place_text position answer ++ row_te
 abbrev pub lookup_line : Indexed → Option ℕ → Bool → List (ℕ × Parts) → Position → List ℕ
 lookup_line index dead skip units position = answer_line index position (line_answer dead skip units position)
 
--- What a line with its first comma at such a place tells: an address, and behind the comma an operation index. Without a
+-- What a line with its first comma at such a place tells: an address, and after the comma an operation index. Without a
 -- comma it tells an address, and the operation index is that of all such lines.
 abbrev pub TellsPositionAt : ℕ → List ℕ → Option ℕ → Position → Type 0
 TellsPositionAt op line None place = IsAddress line place.address × (place.op ≡ op)

@@ -1,7 +1,7 @@
 -- The texts that are printed.
 use Rattle.std.specs.Prelude.{ℕ, List, ◌++◌, codes, decimal}
-use Rattle.lnt_header.specs.declared.header.Which.{Which}
-use Rattle.lnt_header.specs.declared.header.Which.TheVariants.{Directories, Files}
+use Rattle.lnt_header.specs.declared.header.EntryTable.{EntryTable}
+use Rattle.lnt_header.specs.declared.header.EntryTable.TheVariants.{Directories, Files}
 use Rattle.lnt_sequences.specs.declared.sequence.SeqId.{SeqId}
 use Rattle.lnt_lines.specs.declared.no.No.{No}
 use Rattle.lnt_lines.specs.declared.no.No.TheVariants.{Malformed, Run, EntryFormat, StringOutside, DirectoryNumber, FileNumber, Falls, Overlap}
@@ -13,7 +13,7 @@ abbrev pub sequence_text : SeqId → List ℕ
 sequence_text sequence = hexadecimal sequence.unit ++ (codes ":" ++ decimal sequence.index)
 
 -- one of the two tables of a header
-abbrev pub table_text : Which → List ℕ
+abbrev pub table_text : EntryTable → List ℕ
 table_text Directories = codes "directories"
 table_text Files = codes "files"
 

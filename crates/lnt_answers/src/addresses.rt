@@ -79,7 +79,7 @@ struct Asked {
 }
 
 impl Asked {
-    // Answers the lines that end in a block, and keeps what comes behind them.
+    // Answers the lines that end in a block, and keeps what comes after them.
     fn answer_block<W: Write>(
         &mut self,
         alloc: Global,

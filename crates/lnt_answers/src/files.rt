@@ -14,7 +14,7 @@ use lnt_sources::{Halt, Status};
 use std::alloc::Global;
 use std::io::Write;
 
-/// Prints a line with the names of the columns, `unit,file,path,md5`, and behind it a record for each file of each unit:
+/// Prints a line with the names of the columns, `unit,file,path,md5`, and after it a record for each file of each unit:
 /// the unit's offset and the file's index, from 0 on, as decimal numbers, the whole path, and the listed sum in
 /// hexadecimal, or nothing.
 ///

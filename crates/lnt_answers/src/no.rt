@@ -5,7 +5,7 @@ ghost use Rattle.lnt_answers.specs.Texts.{no_text, sequence_text, table_text};
 use lnt_lines::No;
 use lnt_sequences::SeqId;
 use lnt_text::{MalformedLine, PositionText, RunLine};
-use lnt_unit::Which;
+use lnt_unit::EntryTable;
 use std::fmt;
 
 /// The line that says why a section isn't good, without its line feed.
@@ -64,15 +64,15 @@ impl fmt::Display for SequenceText {
 
 // Which of the two tables of a header.
 #[derive(Clone, Copy)]
-struct WhichText(Which);
+struct WhichText(EntryTable);
 
 impl fmt::Display for WhichText {
     ghost output = { λ text. Some (table_text text.0) };
 
     fn fmt<W: fmt::Write>(&self, f: &mut fmt::Formatter<W>) -> fmt::Result {
         match self.0 {
-            Which::Directories => write!(f, "directories"),
-            Which::Files => write!(f, "files"),
+            EntryTable::Directories => write!(f, "directories"),
+            EntryTable::Files => write!(f, "files"),
         }
     }
 }

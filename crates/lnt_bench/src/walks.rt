@@ -8,7 +8,7 @@ use lnt_unit::{OpView, SectionReader, UnitBuffer, UnitView, decode_section};
 use lnt_wire::{Counted, Cursor, Order};
 use std::alloc::Global;
 
-// The sum of the unsigned LEB128 numbers that stand one behind the other, up to the end or the first fault.
+// The sum of the unsigned LEB128 numbers that stand one after the other, up to the end or the first fault.
 pub(crate) fn sum_of_lebs(bytes: &[u8], order: Order) -> u64 {
     let mut cursor = Cursor::new(bytes, 0, order);
     let mut sum = 0u64;

@@ -20,7 +20,7 @@ use std::io::Write;
 /// `out` failed, and then it holds a front of the text; and by `Memory`. What the words ask for, by `lnt_words::request_of`,
 /// is answered as [`answer`] does.
 ///
-/// What helps a person is written to `notes`, a line for each note, to be shown behind the answer; nothing, where the
+/// What helps a person is written to `notes`, a line for each note, to be shown after the answer; nothing, where the
 /// words ask for no notes. A run isn't stopped where `notes` fails.
 pub fn run<O: Opener, W: Write, N: Write>(
     alloc: Global,

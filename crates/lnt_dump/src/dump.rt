@@ -18,7 +18,7 @@ use std::io::Write;
 pub struct Shown {
     /// A line for each operation.
     pub ops: bool,
-    /// Behind these a line for each row, and a line of refusal for a program that doesn't run.
+    /// After these a line for each row, and a line of refusal for a program that doesn't run.
     pub rows: bool,
 }
 

@@ -20,7 +20,7 @@ none_put list room AreLeft left = record { given = []; has_given = none_given li
 one_more : (given : List Span) (span : Span) (count : ℕ) → count ≡ length given → count + 1 ≡ length (given ++ span ∷ [])
 one_more given span count e = let l = length-append given (span ∷ []) in omega (arith, e, l)
 
--- a span that is stored behind those before it
+-- a span that is stored after those before it
 pub stored : (room : List FlatSpan) (place : ℕ) (flat : FlatSpan) (span : Span) → span_of flat ≡ span → place < length room
     → map span_of (take (place + 1) (set room place flat)) ≡ map span_of (take place room) ++ span ∷ []
 stored room place flat span is few =

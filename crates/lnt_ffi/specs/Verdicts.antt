@@ -3,8 +3,8 @@ use Rattle.std.specs.Prelude.{◌≡◌, ℕ, false, is_some, None, Option, Some
 use Rattle.lnt_wire.specs.declared.fault.Fault.{Fault}
 use Rattle.lnt_wire.specs.declared.fault.Reason.{Reason}
 use Rattle.lnt_wire.specs.declared.fault.Reason.TheVariants as reason
-use Rattle.lnt_header.specs.declared.header.Which.{Which}
-use Rattle.lnt_header.specs.declared.header.Which.TheVariants.{Directories, Files}
+use Rattle.lnt_header.specs.declared.header.EntryTable.{EntryTable}
+use Rattle.lnt_header.specs.declared.header.EntryTable.TheVariants.{Directories, Files}
 use Rattle.lnt_machine.specs.declared.fault.RunFault.{RunFault}
 use Rattle.lnt_machine.specs.declared.fault.RunFault.TheVariants as run
 use Rattle.lnt_lines.specs.declared.no.No.{No}
@@ -77,7 +77,7 @@ run_numbers run.Memory = (24, 0)
 abbrev pub of_run : ℕ → RunFault → FlatVerdict
 of_run unit fault = record (numbered 26 (run_numbers fault).0) { offset = unit; index = (run_numbers fault).1 }
 
-abbrev pub which_number : Which → ℕ
+abbrev pub which_number : EntryTable → ℕ
 which_number Directories = 0
 which_number Files = 1
 

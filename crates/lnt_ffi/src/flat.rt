@@ -1,4 +1,4 @@
-//! Spans and answers as C sees them: structs of numbers, one behind another.
+//! Spans and answers as C sees them: structs of numbers, one after another.
 ghost use Rattle.std.specs.Prelude.{◌≡◌};
 ghost use Rattle.lnt_ffi.specs.Flat.{answer_of, flat_answer, flat_side, span_of};
 
@@ -34,7 +34,7 @@ pub struct FlatSpan {
     pub low: u64,
     /// The operation of it.
     pub low_op: u64,
-    /// The address of the first position behind it.
+    /// The address of the first position after it.
     pub high: u64,
     /// The operation of it.
     pub high_op: u64,

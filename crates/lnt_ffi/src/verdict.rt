@@ -4,7 +4,7 @@ ghost use Rattle.lnt_ffi.specs.Verdicts.{numbered, of_malformed, of_run, verdict
 ghost use Rattle.lnt_lines.specs.declared.no.No.TheVariants.{Overlap};
 
 use crate::flat::{FlatAnswer, NOTHING, flat_side};
-use lnt_header::Which;
+use lnt_header::EntryTable;
 use lnt_lines::No;
 use lnt_machine::RunFault;
 use lnt_sequences::SeqId;
@@ -131,12 +131,12 @@ fn of_run(unit: u64, fault: RunFault) -> FlatVerdict
     }
 }
 
-fn which_number(which: Which) -> u32
+fn which_number(which: EntryTable) -> u32
     ensures { result ≡ which_number which }
 {
     match which {
-        Which::Directories => 0,
-        Which::Files => 1,
+        EntryTable::Directories => 0,
+        EntryTable::Files => 1,
     }
 }
 

@@ -18,7 +18,7 @@ use Rattle.lnt_files.specs.Walks.{Says, EntryStep}
 use Rattle.lnt_files.proofs.PathLemmas.{path_there, within}
 use Rattle.lnt_files.proofs.JudgedLemmas.{seen_more, says_in, some_left}
 
--- a walk stands behind so many entries
+-- a walk stands after so many entries
 pub record IsBehind (table walk : BorrowedTable) (count : ℕ) : Type 0 where
   pub seen : List Entry
   pub has_seen : HasSeen seen table walk count

@@ -23,7 +23,7 @@ zero_ends (zero ∷ bytes) i lt e = refl
 zero_ends (suc b ∷ bytes) zero lt e = absurd (omega arith)
 zero_ends (suc b ∷ bytes) (suc i) lt e = some_mapped (λ text. suc b ∷ text) (up_to_zero bytes) (zero_ends bytes i (omega arith) e)
 
--- the same behind an offset
+-- the same after an offset
 zero_ends_behind : (section : List ℕ) (offset i : ℕ) → offset ≤ i → i < length section → get_or section i 0 ≡ 0 → IsSome (up_to_zero (drop offset section))
 zero_ends_behind section zero i le lt e = zero_ends section i lt e
 zero_ends_behind [] (suc offset) i le lt e = absurd (omega arith)
@@ -73,7 +73,7 @@ below : (section : List ℕ) (end offset : ℕ) → NoneFrom end section → IsS
 below section end offset h some =
     elim (split_lt offset end) [ inl lt ↦ lt | inr le ↦ absurd (none_is_not_some (up_to_zero (drop offset section)) (no_end (drop offset section) (no_zero_later section end offset le h.none)) some) ]
 
--- the byte before the end is zero, and none behind it
+-- the byte before the end is zero, and none after it
 pub last_zero : (section : List ℕ) (end : ℕ) → 0 < end → end ≤ length section → NoneFrom end section → get_or section (end - 1) 0 ≡ 0 → TextsEndAt end section
 last_zero section end some le h e = record { texts = λ offset. (below section end offset h, λ lt. zero_ends_behind section offset (end - 1) (omega arith) (omega arith) e) }
 

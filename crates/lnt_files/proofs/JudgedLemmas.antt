@@ -8,9 +8,9 @@ use Rattle.lnt_header.specs.HeaderTests.{IsFirstNot}
 use Rattle.lnt_header.specs.declared.header.Entry.{Entry}
 use Rattle.lnt_header.specs.declared.header.HeaderParts.{HeaderParts}
 use Rattle.lnt_header.specs.declared.header.Pair.{Pair}
-use Rattle.lnt_files.specs.declared.tables.TableFault.{TableFault}
-use Rattle.lnt_files.specs.declared.tables.TableFault.TheVariants.{StringOutside, DirectoryNumber}
-use Rattle.lnt_header.specs.declared.header.Which.TheVariants.{Files}
+use Rattle.lnt_files.specs.declared.tables.EntryTableFault.{EntryTableFault}
+use Rattle.lnt_files.specs.declared.tables.EntryTableFault.TheVariants.{StringOutside, DirectoryNumber}
+use Rattle.lnt_header.specs.declared.header.EntryTable.TheVariants.{Files}
 use Rattle.lnt_files.specs.declared.walk.EntryView.{EntryView}
 use Rattle.lnt_files.specs.Contents.{directory_number}
 use Rattle.lnt_files.specs.Seen.{first_missing, IsBelow, HasAll, IsFilesFault, HasSeen}
@@ -220,7 +220,7 @@ numbers_of line general h d f count j p =
     subst (λ (n : ℕ). AllByRecursion (IsBelow n h.file_format) h.files) (count_of line general h d f count j)
     (moved (λ ps es. AllByRecursion (IsBelow count ps) es) f.pairs h.file_format f.entries h.files j.file_pairs j.files p)
 
-pub judged : (line general : List ℕ) (h : HeaderParts) (d f : BorrowedTable) (count : ℕ) (found : Option TableFault) → AreJudged line general h d f count
+pub judged : (line general : List ℕ) (h : HeaderParts) (d f : BorrowedTable) (count : ℕ) (found : Option EntryTableFault) → AreJudged line general h d f count
     → MatchOption found (HasAll line general count f) (λ fault. IsFilesFault line general count f fault) → MatchOption found (AreUsableTables line general h) (λ fault. IsTablesFault line general h fault)
 judged line general h d f count None j m = record {
   directories = record { format = directory_format_of line general h d f count j; paths = directory_paths_of line general h d f count j };

@@ -43,7 +43,7 @@ walk_ended table left at none = ap (λ (n : ℕ). first_entries table.format tab
 one_less : (n : ℕ) → n ≢ 0 → n ≡ suc (n - 1)
 one_less n some = omega (arith, some)
 
--- the entry that was read, and those behind it
+-- the entry that was read, and those after it
 record IsStepped (table : BorrowedTable) (left : ℕ) (entry : Entry) (at new : At) : Type 0 where
   entries_are : (left_of table left at).entries ≡ entry ∷ (left_of table (left - 1) new).entries
   bytes : AreEntryBytes (left_of table (left - 1) new) new.rest

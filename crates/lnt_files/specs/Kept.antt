@@ -1,4 +1,4 @@
--- How files are kept: their paths stand one behind the other.
+-- How files are kept: their paths stand one after the other.
 use Rattle.std.specs.Prelude.{◌≡◌, ℕ, zero, suc, ◌≤◌, List, [], ◌∷◌, length, Some}
 use Rattle.std.specs.List.{AllZip, slice_range}
 use Rattle.lnt_header.specs.declared.header.Entry.{Entry}

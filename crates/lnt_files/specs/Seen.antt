@@ -5,9 +5,9 @@ use Rattle.lnt_header_bytes.specs.Borrowed.{BorrowedTable}
 use Rattle.lnt_header.specs.HeaderTests.{IsFirstNot}
 use Rattle.lnt_header.specs.declared.header.Entry.{Entry}
 use Rattle.lnt_header.specs.declared.header.Pair.{Pair}
-use Rattle.lnt_header.specs.declared.header.Which.TheVariants.{Files}
-use Rattle.lnt_files.specs.declared.tables.TableFault.{TableFault}
-use Rattle.lnt_files.specs.declared.tables.TableFault.TheVariants.{StringOutside, DirectoryNumber}
+use Rattle.lnt_header.specs.declared.header.EntryTable.TheVariants.{Files}
+use Rattle.lnt_files.specs.declared.tables.EntryTableFault.{EntryTableFault}
+use Rattle.lnt_files.specs.declared.tables.EntryTableFault.TheVariants.{StringOutside, DirectoryNumber}
 use Rattle.lnt_files.specs.declared.walk.EntryView.{EntryView}
 use Rattle.lnt_files.specs.Contents.{directory_number}
 use Rattle.lnt_files.specs.Tables.{HasPath}
@@ -29,7 +29,7 @@ pub record HasAll (line general : List ℕ) (count : ℕ) (files : BorrowedTable
   pub numbers : AllByRecursion (IsBelow count files.pairs) files.entries
 
 -- the first file without the text of its path; else the first without its directory
-abbrev pub IsFilesFault : List ℕ → List ℕ → ℕ → BorrowedTable → TableFault → Type 0
+abbrev pub IsFilesFault : List ℕ → List ℕ → ℕ → BorrowedTable → EntryTableFault → Type 0
 IsFilesFault line general count files (StringOutside Files index) = IsFirstNot (HasPath line general files.pairs) files.entries index
 IsFilesFault line general count files (DirectoryNumber index) =
     AllByRecursion (HasPath line general files.pairs) files.entries × IsFirstNot (IsBelow count files.pairs) files.entries index
@@ -40,7 +40,7 @@ abbrev pub EntryAt : BorrowedTable → ℕ → Option EntryView → Type 0
 EntryAt table number None = slice_get table.entries number ≡ None
 EntryAt table number (Some view) = (entry : Entry) × (slice_get table.entries number ≡ Some entry) × Says table.pairs entry view
 
--- A walk over the table stands behind these entries.
+-- A walk over the table stands after these entries.
 pub record HasSeen (seen : List Entry) (table walk : BorrowedTable) (count : ℕ) : Type 0 where
   pub joined : table.entries ≡ seen ++ walk.entries
   pub count_is : length seen ≡ count

@@ -7,10 +7,10 @@ use Rattle.lnt_wire.specs.declared.form.Form.TheVariants.{Data1, Data2, Data4, D
 use Rattle.lnt_header.specs.declared.header.Entry.{Entry}
 use Rattle.lnt_header.specs.declared.header.HeaderParts.{HeaderParts}
 use Rattle.lnt_header.specs.declared.header.Pair.{Pair}
-use Rattle.lnt_header.specs.declared.header.Which.TheVariants.{Directories, Files}
+use Rattle.lnt_header.specs.declared.header.EntryTable.TheVariants.{Directories, Files}
 use Rattle.lnt_header.specs.HeaderTests.{IsFirstNot}
-use Rattle.lnt_files.specs.declared.tables.TableFault.{TableFault}
-use Rattle.lnt_files.specs.declared.tables.TableFault.TheVariants.{EntryFormat, StringOutside, DirectoryNumber}
+use Rattle.lnt_files.specs.declared.tables.EntryTableFault.{EntryTableFault}
+use Rattle.lnt_files.specs.declared.tables.EntryTableFault.TheVariants.{EntryFormat, StringOutside, DirectoryNumber}
 use Rattle.lnt_files.specs.Contents.{content_path, content_directory_index, content_md5, form_at, path_text, directory_number}
 
 -- the forms of paths
@@ -70,7 +70,7 @@ pub record HaveUsableFormats (h : HeaderParts) : Type 0 where
   pub files : HasUsableFormat h.file_format h.files
 
 -- What is wrong. Whatever is tested earlier is sound.
-abbrev pub IsTablesFault : List ℕ → List ℕ → HeaderParts → TableFault → Type 0
+abbrev pub IsTablesFault : List ℕ → List ℕ → HeaderParts → EntryTableFault → Type 0
 IsTablesFault line general h (EntryFormat Directories) = HasUsableFormat h.directory_format h.directories → ⊥
 IsTablesFault line general h (EntryFormat Files) = HasUsableFormat h.directory_format h.directories × (HasUsableFormat h.file_format h.files → ⊥)
 IsTablesFault line general h (StringOutside Directories index) =

@@ -29,7 +29,7 @@ pub record Says (pairs : List Pair) (entry : Entry) (view : EntryView) : Type 0 
   pub directory : option_map value_of view.directory ≡ component content_directory_index pairs entry
   pub sum : option_map value_of view.sum ≡ component content_md5 pairs entry
 
--- The next entry of a walk: what it says, and the entries that are left behind it.
+-- The next entry of a walk: what it says, and the entries that are left after it.
 pub record GivesEntry (old : BorrowedTable) (view : EntryView) (new : BorrowedTable) : Type 0 where
   pub entry : Entry
   pub entries_are : old.entries ≡ entry ∷ new.entries

@@ -27,7 +27,7 @@ pub(crate) struct Kept {
 /// the string sections. Contracts see a list, with a path and a sum for each file. Files count from 0.
 #[derive(Debug, Drop)]
 pub struct Files {
-    // The paths, one behind the other.
+    // The paths, one after the other.
     paths: Vec<u8>,
     kept: Vec<Kept>,
 }

@@ -4,17 +4,17 @@ ghost use Rattle.lnt_files.specs.Contents.{content_path, content_directory_index
 ghost use Rattle.lnt_files.specs.Tables.{IsPathForm, IsNumberForm, IsSumForm, IsUsableFormat};
 
 use crate::contents::{DIRECTORY_INDEX, MD5, PATH, form_at};
-use lnt_header::{Pair, Which};
+use lnt_header::{EntryTable, Pair};
 use lnt_wire::Form;
 
 /// Why the directories and files of a header can't be used. Indices count from 0.
 #[derive(Clone, Copy, Debug, PartialEq, Eq)]
-pub enum TableFault {
+pub enum EntryTableFault {
     /// A table with entries whose format has no path, or a path, a directory number or an MD5 sum in a form that it
     /// may not have.
-    EntryFormat(Which),
+    EntryFormat(EntryTable),
     /// The first entry whose path's text isn't there.
-    StringOutside(Which, u64),
+    StringOutside(EntryTable, u64),
     /// The first file that names a directory that isn't there.
     DirectoryNumber(u64),
 }

@@ -79,7 +79,7 @@ impl<'t> Entries<'t> {
         (first, entries)
     }
 
-    /// What the next entry says. None behind the last one.
+    /// What the next entry says. None after the last one.
     #[inline(always)]
     #[tactic(auto, using(crate::proofs::WalkLemmas::walk_ended, crate::proofs::WalkLemmas::walk_steps, crate::proofs::WalkLemmas::walk_goes_on, crate::proofs::WalkLemmas::walk_never_stops))]
     pub fn next_entry(&mut self) -> Option<EntryView<'t>>

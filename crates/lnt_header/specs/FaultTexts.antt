@@ -2,11 +2,11 @@
 use Rattle.std.specs.Prelude.{ℕ, List, ◌++◌, codes, decimal}
 use Rattle.lnt_header.specs.declared.fault.UnitFault.{UnitFault}
 use Rattle.lnt_header.specs.declared.fault.UnitFault.TheVariants.{HeaderNumber, EntryNotOfFormat, TextHoldsZero, OpNotOfUnit}
-use Rattle.lnt_header.specs.declared.header.Which.{Which}
-use Rattle.lnt_header.specs.declared.header.Which.TheVariants.{Directories, Files}
+use Rattle.lnt_header.specs.declared.header.EntryTable.{EntryTable}
+use Rattle.lnt_header.specs.declared.header.EntryTable.TheVariants.{Directories, Files}
 
 -- an entry of a table
-abbrev pub entry_text : Which → List ℕ
+abbrev pub entry_text : EntryTable → List ℕ
 entry_text Directories = codes "directory"
 entry_text Files = codes "file"
 

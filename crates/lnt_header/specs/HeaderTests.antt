@@ -9,7 +9,7 @@ use Rattle.lnt_header.specs.declared.fault.UnitFault.TheVariants.{HeaderNumber, 
 use Rattle.lnt_header.specs.declared.header.Entry.{Entry}
 use Rattle.lnt_header.specs.declared.header.HeaderParts.{HeaderParts}
 use Rattle.lnt_header.specs.declared.header.Pair.{Pair}
-use Rattle.lnt_header.specs.declared.header.Which.TheVariants.{Directories, Files}
+use Rattle.lnt_header.specs.declared.header.EntryTable.TheVariants.{Directories, Files}
 use Rattle.lnt_header.specs.HeaderRules.{HasHeaderNumbers}
 
 -- the first of the values that isn't so, and its index

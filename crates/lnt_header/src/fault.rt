@@ -2,7 +2,7 @@
 ghost use Rattle.std.specs.Prelude.{Some};
 ghost use Rattle.lnt_header.specs.FaultTexts.{unit_fault_text};
 
-use crate::header::Which;
+use crate::header::EntryTable;
 use std::error::Error;
 use std::fmt;
 
@@ -15,9 +15,9 @@ pub enum UnitFault {
     HeaderNumber,
     /// The first entry that hasn't one value for each pair of its format, in the pair's form, or that has a block
     /// of more bytes than its length can count.
-    EntryNotOfFormat(Which, u64),
+    EntryNotOfFormat(EntryTable, u64),
     /// The first entry that has a text with a zero byte in it.
-    TextHoldsZero(Which, u64),
+    TextHoldsZero(EntryTable, u64),
     /// The first operation that the header doesn't admit.
     OpNotOfUnit(u64),
 }

@@ -27,19 +27,19 @@ pub struct Entry {
 
 /// One of the two tables of a header.
 #[derive(Clone, Copy, Debug, PartialEq, Eq)]
-pub enum Which {
+pub enum EntryTable {
     Directories,
     Files,
 }
 
 /// An entry of the table is printed as `directory` or `file`.
-impl fmt::Display for Which {
+impl fmt::Display for EntryTable {
     ghost output = { λ which. Some (entry_text which) };
 
     fn fmt<W: fmt::Write>(&self, f: &mut fmt::Formatter<W>) -> fmt::Result {
         match self {
-            Which::Directories => write!(f, "directory"),
-            Which::Files => write!(f, "file"),
+            EntryTable::Directories => write!(f, "directory"),
+            EntryTable::Files => write!(f, "file"),
         }
     }
 }

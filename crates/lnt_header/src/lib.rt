@@ -8,7 +8,7 @@ mod op;
 mod tested;
 
 pub use fault::UnitFault;
-pub use header::{Entry, Header, HeaderParts, Pair, Which};
+pub use header::{Entry, EntryTable, Header, HeaderParts, Pair};
 pub use lnt_lists::ShortList;
 pub use op::{Op, OpView, Operands, known_length};
 pub use tested::is_address_size;

@@ -7,7 +7,7 @@ ghost use Rattle.lnt_header.specs.HeaderTests.{FitsItsForm, FitsPair, HoldsNoZer
 ghost use Rattle.lnt_header.specs.HeaderTests.{IsFirstNot, HasNumbersAndFormats, IsPartsFault};
 
 use crate::fault::UnitFault;
-use crate::header::{Entry, HeaderParts, Pair, Which};
+use crate::header::{Entry, EntryTable, HeaderParts, Pair};
 use crate::op::KNOWN_LENGTHS;
 use lnt_wire::FormValue;
 
@@ -29,16 +29,16 @@ pub(crate) fn parts_fault(parts: &HeaderParts) -> Option<UnitFault>
         parts.directories.as_slice(),
         parts.directory_format.as_slice(),
     ) {
-        return Some(UnitFault::EntryNotOfFormat(Which::Directories, index));
+        return Some(UnitFault::EntryNotOfFormat(EntryTable::Directories, index));
     }
     if let Some(index) = first_of_no_format(parts.files.as_slice(), parts.file_format.as_slice()) {
-        return Some(UnitFault::EntryNotOfFormat(Which::Files, index));
+        return Some(UnitFault::EntryNotOfFormat(EntryTable::Files, index));
     }
     if let Some(index) = first_with_zero(parts.directories.as_slice()) {
-        return Some(UnitFault::TextHoldsZero(Which::Directories, index));
+        return Some(UnitFault::TextHoldsZero(EntryTable::Directories, index));
     }
     if let Some(index) = first_with_zero(parts.files.as_slice()) {
-        return Some(UnitFault::TextHoldsZero(Which::Files, index));
+        return Some(UnitFault::TextHoldsZero(EntryTable::Files, index));
     }
     None
 }

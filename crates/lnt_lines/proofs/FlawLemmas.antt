@@ -6,7 +6,7 @@ use Rattle.std.proofs.lemmas.List.{length-append}
 use Rattle.lnt_wire.specs.declared.format.Order.{Order}
 use Rattle.lnt_wire.proofs.LengthLaws.{same_rest}
 use Rattle.lnt_header.specs.declared.header.HeaderParts.{HeaderParts}
-use Rattle.lnt_header.specs.declared.header.Which.TheVariants.{Directories, Files}
+use Rattle.lnt_header.specs.declared.header.EntryTable.TheVariants.{Directories, Files}
 use Rattle.lnt_header.specs.Laws.Firsts.{first_is_wrong}
 use Rattle.lnt_unit.specs.declared.unit.Parts.{Parts}
 use Rattle.lnt_unit.specs.Laws.Units.{one_section, one_spelling, unit_is_some}
@@ -14,8 +14,8 @@ use Rattle.lnt_unit.specs.UnitBytes.{UnitsFrom}
 use Rattle.lnt_machine.specs.declared.fault.RunFault.{RunFault}
 use Rattle.lnt_machine.specs.declared.fault.RunFault.TheVariants as run
 use Rattle.lnt_machine.specs.Matrix.{IsRunFault, Runs}
-use Rattle.lnt_files.specs.declared.tables.TableFault.{TableFault}
-use Rattle.lnt_files.specs.declared.tables.TableFault.TheVariants as table
+use Rattle.lnt_files.specs.declared.tables.EntryTableFault.{EntryTableFault}
+use Rattle.lnt_files.specs.declared.tables.EntryTableFault.TheVariants as table
 use Rattle.lnt_files.specs.Tables.{AreUsableTables, IsTablesFault}
 use Rattle.lnt_sequences.specs.Laws.{FallIsNotOrdered, MissingFileIsNotThere, OverlapIsNotApart}
 use Rattle.lnt_sequences.specs.Rules.{AreApart}
@@ -34,7 +34,7 @@ runs_well unit (run.LineOutOfRange k) runs some f = f.2 (runs.lines (k + 1) (ome
 runs_well unit run.OpenSequence runs some f = f.1 runs.closed
 runs_well unit run.Memory runs some f = some refl
 
-pub tables_well : (text general : List ℕ) (h : HeaderParts) (fault : TableFault) → AreUsableTables text general h → IsTablesFault text general h fault → ⊥
+pub tables_well : (text general : List ℕ) (h : HeaderParts) (fault : EntryTableFault) → AreUsableTables text general h → IsTablesFault text general h fault → ⊥
 tables_well text general h (table.EntryFormat Directories) usable f = f usable.directories.format
 tables_well text general h (table.EntryFormat Files) usable f = f.1 usable.files.format
 tables_well text general h (table.StringOutside Directories entry) usable f = first_is_wrong f.1 usable.directories.paths

@@ -3,8 +3,8 @@ use Rattle.std.proofs.Common.{◌≡◌, ℕ, List, length, sym, subst}
 use Rattle.std.specs.Prelude.{Option}
 use Rattle.lnt_header.specs.declared.header.HeaderParts.{HeaderParts}
 use Rattle.lnt_unit.specs.Views.{View}
-use Rattle.lnt_files.specs.declared.tables.TableFault.{TableFault}
-use Rattle.lnt_files.specs.declared.tables.TableFault.TheVariants.{DirectoryNumber, EntryFormat, StringOutside}
+use Rattle.lnt_files.specs.declared.tables.EntryTableFault.{EntryTableFault}
+use Rattle.lnt_files.specs.declared.tables.EntryTableFault.TheVariants.{DirectoryNumber, EntryFormat, StringOutside}
 use Rattle.lnt_files.specs.Tables.{AreUsableTables, IsTablesFault}
 use Rattle.lnt_sequences.specs.declared.collected.Collected.{Collected}
 use Rattle.lnt_sequences.specs.declared.watch.MissingFile.{MissingFile}
@@ -23,7 +23,7 @@ use Rattle.lnt_lines.specs.Refusals.{table_no}
 
 -- ---- what is wrong with it
 
-flaw_in_tables : (text general : List ℕ) (dead : Option ℕ) (view : View) (unit : ℕ) (places : List ℕ) (old new : Collected) (watch : Watch) (fault : TableFault) → HasRun dead view places old new watch
+flaw_in_tables : (text general : List ℕ) (dead : Option ℕ) (view : View) (unit : ℕ) (places : List ℕ) (old new : Collected) (watch : Watch) (fault : EntryTableFault) → HasRun dead view places old new watch
     → unit ≡ view.unit.offset → IsTablesFault text general view.header fault → IsUnitNo text general dead view.unit (table_no unit fault)
 flaw_in_tables text general dead view unit places old new watch (EntryFormat which) run at f =
     record { unit = run.unit; spelled = run.spelled; flaw = (at, run.runs, subst (λ (h : HeaderParts). IsTablesFault text general h (EntryFormat which)) (sym run.header_is) f) }
@@ -32,7 +32,7 @@ flaw_in_tables text general dead view unit places old new watch (StringOutside w
 flaw_in_tables text general dead view unit places old new watch (DirectoryNumber file) run at f =
     record { unit = run.unit; spelled = run.spelled; flaw = (at, run.runs, subst (λ (h : HeaderParts). IsTablesFault text general h (DirectoryNumber file)) (sym run.header_is) f) }
 
-pub tables_no : (text general : List ℕ) (view : View) (header : HeaderParts) (unit : ℕ) (watch : Watch) (fault : TableFault)
+pub tables_no : (text general : List ℕ) (view : View) (header : HeaderParts) (unit : ℕ) (watch : Watch) (fault : EntryTableFault)
     → unit ≡ view.unit.offset → header ≡ view.header → IsTablesFault text general header fault → IsFlawedRun text general view watch (table_no unit fault)
 tables_no text general view header unit watch fault at header_is f dead places old new run =
     flaw_in_tables text general dead view unit places old new watch fault run at (subst (λ (h : HeaderParts). IsTablesFault text general h fault) header_is f)

@@ -5,7 +5,7 @@ use Rattle.std.specs.List.{AllByRecursion}
 use Rattle.std.proofs.lemmas.Bool.{cases_lt}
 use Rattle.std.proofs.lemmas.Grind.{flat_map-append}
 use Rattle.lnt_header.specs.declared.header.HeaderParts.{HeaderParts}
-use Rattle.lnt_header.specs.declared.header.Which.TheVariants.{Directories, Files}
+use Rattle.lnt_header.specs.declared.header.EntryTable.TheVariants.{Directories, Files}
 use Rattle.lnt_header.specs.HeaderTests.{IsFirstNot}
 use Rattle.lnt_header.specs.Laws.Firsts.{first_is_wrong}
 use Rattle.lnt_unit.specs.declared.unit.Parts.{Parts}
@@ -13,8 +13,8 @@ use Rattle.lnt_machine.specs.declared.fault.RunFault.{RunFault}
 use Rattle.lnt_machine.specs.declared.fault.RunFault.TheVariants as run
 use Rattle.lnt_machine.specs.declared.row.Row.{Row}
 use Rattle.lnt_machine.specs.Matrix.{IsRunFault, Runs}
-use Rattle.lnt_files.specs.declared.tables.TableFault.{TableFault}
-use Rattle.lnt_files.specs.declared.tables.TableFault.TheVariants as table
+use Rattle.lnt_files.specs.declared.tables.EntryTableFault.{EntryTableFault}
+use Rattle.lnt_files.specs.declared.tables.EntryTableFault.TheVariants as table
 use Rattle.lnt_files.specs.Tables.{IsTablesFault}
 use Rattle.lnt_sequences.specs.declared.watch.MissingFile.{MissingFile}
 use Rattle.lnt_sequences.specs.Evidence.{IsFirstFall, IsFirstMissingFile, rows_of, StandsIn}
@@ -71,7 +71,7 @@ one_run unit run.OpenSequence run.Memory m n f g = absurd (n refl)
 
 -- ---- tables
 
-one_table : (text general : List ℕ) (h : HeaderParts) (f g : TableFault) → IsTablesFault text general h f → IsTablesFault text general h g → f ≡ g
+one_table : (text general : List ℕ) (h : HeaderParts) (f g : EntryTableFault) → IsTablesFault text general h f → IsTablesFault text general h g → f ≡ g
 one_table text general h (table.EntryFormat Directories) (table.EntryFormat Directories) f g = refl
 one_table text general h (table.EntryFormat Directories) (table.EntryFormat Files) f g = absurd (f g.0)
 one_table text general h (table.EntryFormat Directories) (table.StringOutside Directories j) f g = absurd (f g.0.directories)
@@ -131,7 +131,7 @@ one_fall dead ss i j f g = same_least i j (λ lt. g.first i lt f.fall) (λ lt. f
 
 data Flaw (text general : List ℕ) (dead : Option ℕ) (unit : ℕ × Parts) (reason : No) : Type 0 where
   of_run : (fault : RunFault) → reason ≡ no.Run unit.0 fault → fault ≢ run.Memory → IsRunFault unit.1 fault → Flaw text general dead unit reason
-  of_tables : (fault : TableFault) → reason ≡ table_no unit.0 fault → Runs unit.1 → IsTablesFault text general unit.1.header fault → Flaw text general dead unit reason
+  of_tables : (fault : EntryTableFault) → reason ≡ table_no unit.0 fault → Runs unit.1 → IsTablesFault text general unit.1.header fault → Flaw text general dead unit reason
   of_file : (missing : MissingFile) → reason ≡ no.FileNumber unit.0 missing.row missing.file → IsWellFormed text general unit.1
       → IsFirstMissingFile dead (length unit.1.header.files) (placed_in unit) missing → Flaw text general dead unit reason
   of_fall : (row : ℕ) → reason ≡ no.Falls unit.0 row → IsWellFormed text general unit.1 → HaveFiles (length unit.1.header.files) (live_in dead unit) → IsFirstFall dead (placed_in unit) row

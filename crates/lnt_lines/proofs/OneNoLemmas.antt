@@ -44,7 +44,7 @@ same_head order offset u v x y x' y' r s at at' p q e =
 -- ---- the first flaw
 
 module _ (falls : FallIsNotOrdered) (missing : MissingFileIsNotThere) (text general : List ℕ) (dead : Option ℕ) (order : Order) where
-  -- behind sound units the first with a flaw is one
+  -- after sound units the first with a flaw is one
   same_flawed : (offset : ℕ) (us vs : List (ℕ × Parts)) (u v : ℕ × Parts) (x y r s : List ℕ) (one two : No) → UnitsFrom order offset (us ++ u ∷ []) x → UnitsFrom order offset (vs ++ v ∷ []) y
       → x ++ r ≡ y ++ s → AllByRecursion (IsSound text general dead) us → AllByRecursion (IsSound text general dead) vs → IsFlaw text general dead u one → IsFlaw text general dead v two → u ≡ v
   same_flawed offset [] [] u v x y r s one two p q e sound sound' f g =
@@ -60,7 +60,7 @@ module _ (falls : FallIsNotOrdered) (missing : MissingFileIsNotThere) (text gene
       let later : UnitsFrom order (offset + length p.0) (vs ++ v ∷ []) q.1 = subst (λ (z : List ℕ). UnitsFrom order (offset + length z) (vs ++ v ∷ []) q.1) (sym h.bytes) q.5 in
       same_flawed (offset + length p.0) us vs u v p.1 q.1 r s one two p.5 later h.behind sound.1 sound'.1 f g
 
-  -- where no unit stands behind sound ones, none has a flaw
+  -- where no unit stands after sound ones, none has a flaw
   none_flawed : (offset : ℕ) (us vs : List (ℕ × Parts)) (v : ℕ × Parts) (x y r s : List ℕ) (two : No) → UnitsFrom order offset us x → UnitsFrom order offset (vs ++ v ∷ []) y
       → x ++ r ≡ y ++ s → NoneSpelled (UnitBytesIn order) r → AllByRecursion (IsSound text general dead) us → IsFlaw text general dead v two → ⊥
   none_flawed offset [] [] v x y r s two p q e none sound g =

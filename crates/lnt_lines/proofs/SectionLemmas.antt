@@ -68,7 +68,7 @@ judged_more text general options old now now' order offset offset' buffer draft 
 frame_is_some : (order : Order) (frame : Format × List ℕ) (bytes : List ℕ) → FrameBytes order frame bytes → 0 < length bytes
 frame_is_some order frame bytes f = omega (arith, ap length f.joined, length-append (initial_length frame.0 order (length frame.1)) frame.1, length-initial frame.0 order (length frame.1))
 
--- the unit behind the sound ones has the flaw
+-- the unit after the sound ones has the flaw
 first_flaw : (text general : List ℕ) (options : Options) (old now : Option (List ℕ)) (bytes rest : List ℕ) (offset : ℕ) (draft : Draft) (buffer : UnitBytes) (reason : No)
     → (so_far : JudgedSoFar text general options old now offset draft) → buffer.offset ≡ offset → buffer.order ≡ options.order → bytes ≡ so_far.front ++ (buffer.bytes ++ rest)
     → HasFlaw text general options.dead buffer reason → IsFirstFlaw text general options bytes reason
@@ -85,7 +85,7 @@ first_flaw text general options old now bytes rest offset draft buffer reason so
       flaw = flaw.flaw;
     }
 
--- no unit begins what stands behind the sound ones
+-- no unit begins what stands after the sound ones
 malformed : (text general : List ℕ) (options : Options) (old now : Option (List ℕ)) (bytes rest : List ℕ) (offset : ℕ) (draft : Draft) (fault : Fault)
     → (so_far : JudgedSoFar text general options old now offset draft) → bytes ≡ so_far.front ++ rest → 0 < length rest → BrokenUnit options.order fault offset rest
     → IsMalformed text general options bytes fault

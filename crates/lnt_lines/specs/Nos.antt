@@ -9,7 +9,7 @@ use Rattle.lnt_unit.specs.BrokenUnits.{BrokenSection}
 use Rattle.lnt_unit.specs.UnitBytes.{SectionBytes}
 use Rattle.lnt_machine.specs.declared.fault.RunFault.TheVariants as run
 use Rattle.lnt_machine.specs.Matrix.{IsRunFault, Runs}
-use Rattle.lnt_files.specs.declared.tables.TableFault.TheVariants as table
+use Rattle.lnt_files.specs.declared.tables.EntryTableFault.TheVariants as table
 use Rattle.lnt_files.specs.Tables.{IsTablesFault}
 use Rattle.lnt_sequences.specs.declared.extent.Overlap.{Overlap}
 use Rattle.lnt_sequences.specs.Evidence.{IsFirstFall, IsFirstMissingFile}
@@ -37,7 +37,7 @@ IsFlaw line general dead unit (no.Falls offset row) =
     (offset ≡ unit.0) × IsWellFormed line general unit.1 × HaveFiles (length unit.1.header.files) (live_in dead unit) × IsFirstFall dead (placed_in unit) row
 IsFlaw line general dead unit _ = ⊥
 
--- A front of the section is the bytes of sound units, and of one behind them that has the flaw.
+-- A front of the section is the bytes of sound units, and of one after them that has the flaw.
 pub record IsFirstFlaw (line general : List ℕ) (options : Options) (section : List ℕ) (reason : No) : Type 0 where
   pub units : List (ℕ × Parts)
   pub unit : ℕ × Parts
@@ -48,7 +48,7 @@ pub record IsFirstFlaw (line general : List ℕ) (options : Options) (section : 
   pub sound : AllByRecursion (IsSound line general options.dead) units
   pub flaw : IsFlaw line general options.dead unit reason
 
--- No list of units spells the section. It begins with sound units, and no unit begins the bytes behind them, for the fault.
+-- No list of units spells the section. It begins with sound units, and no unit begins the bytes after them, for the fault.
 pub record IsMalformed (line general : List ℕ) (options : Options) (section : List ℕ) (fault : Fault) : Type 0 where
   pub broken : BrokenSection options.order fault section
   pub sound : AllByRecursion (IsSound line general options.dead) broken.true_fault.units

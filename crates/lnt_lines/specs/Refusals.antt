@@ -4,8 +4,8 @@ use Rattle.lnt_wire.specs.declared.fault.Fault.{Fault}
 use Rattle.lnt_wire.specs.declared.fault.Reason.TheVariants.{Memory}
 use Rattle.lnt_stream.specs.declared.stop.SectionStop.{SectionStop}
 use Rattle.lnt_stream.specs.declared.stop.SectionStop.TheVariants as section
-use Rattle.lnt_files.specs.declared.tables.TableFault.{TableFault}
-use Rattle.lnt_files.specs.declared.tables.TableFault.TheVariants as table
+use Rattle.lnt_files.specs.declared.tables.EntryTableFault.{EntryTableFault}
+use Rattle.lnt_files.specs.declared.tables.EntryTableFault.TheVariants as table
 use Rattle.lnt_lines.specs.declared.no.No as no
 use Rattle.lnt_lines.specs.declared.no.No.TheVariants.{Malformed, EntryFormat, StringOutside, DirectoryNumber}
 use Rattle.lnt_lines.specs.declared.refusal.Refusal.{Refusal}
@@ -26,7 +26,7 @@ stop_refusal section.TooLong = Stop stop.TooLong
 stop_refusal section.Failed = Stop stop.Read
 
 -- what is wrong with the tables of the unit at an offset
-abbrev pub table_no : ℕ → TableFault → no.No
+abbrev pub table_no : ℕ → EntryTableFault → no.No
 table_no unit (table.EntryFormat which) = EntryFormat unit which
 table_no unit (table.StringOutside which entry) = StringOutside unit which entry
 table_no unit (table.DirectoryNumber file) = DirectoryNumber unit file

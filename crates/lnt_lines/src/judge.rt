@@ -8,7 +8,7 @@ use crate::no::No;
 use crate::refusal::Refusal;
 use crate::run::run_unit;
 use lnt_files::in_place::tables_fault;
-use lnt_files::{StringEnds, TableFault};
+use lnt_files::{EntryTableFault, StringEnds};
 use lnt_sequences::{Collected, Watch};
 use lnt_stream::UnitBuffer;
 use lnt_unit::{KeptHeader, UnitInPlace};
@@ -94,12 +94,12 @@ fn sound_unit(
 }
 
 // What is wrong with the tables of the unit at an offset.
-fn table_no(unit: u64, fault: TableFault) -> No
+fn table_no(unit: u64, fault: EntryTableFault) -> No
     ensures { result ≡ table_no unit fault }
 {
     match fault {
-        TableFault::EntryFormat(which) => No::EntryFormat(unit, which),
-        TableFault::StringOutside(which, entry) => No::StringOutside(unit, which, entry),
-        TableFault::DirectoryNumber(file) => No::DirectoryNumber(unit, file),
+        EntryTableFault::EntryFormat(which) => No::EntryFormat(unit, which),
+        EntryTableFault::StringOutside(which, entry) => No::StringOutside(unit, which, entry),
+        EntryTableFault::DirectoryNumber(file) => No::DirectoryNumber(unit, file),
     }
 }

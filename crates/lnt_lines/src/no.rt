@@ -1,5 +1,5 @@
 //! Why a section isn't good.
-use lnt_header::Which;
+use lnt_header::EntryTable;
 use lnt_machine::RunFault;
 use lnt_sequences::SeqId;
 use lnt_spans::Position;
@@ -8,7 +8,7 @@ use lnt_wire::Fault;
 /// Why a section isn't good. Each reason has a number, from 25 to 32.
 ///
 /// The first one is told. Units are judged in the order in which they stand, each in the order of these numbers, and
-/// `Overlap` is judged behind the last one. A unit is named by its offset in the section. Rows count from 0 over all
+/// `Overlap` is judged after the last one. A unit is named by its offset in the section. Rows count from 0 over all
 /// rows of the unit, end rows too; entries and files count from 0.
 #[derive(Clone, Copy, Debug, PartialEq, Eq)]
 pub enum No {
@@ -18,9 +18,9 @@ pub enum No {
     Run(u64, RunFault),
     /// 27: the unit at this offset has such a table, with entries, whose format has no path, or a path, a directory
     /// number or an MD5 sum in a form that it may not have (section 6.2.4.1).
-    EntryFormat(u64, Which),
+    EntryFormat(u64, EntryTable),
     /// 28: the unit at this offset has such a table, and in it this entry, the first whose path has no text.
-    StringOutside(u64, Which, u64),
+    StringOutside(u64, EntryTable, u64),
     /// 29: the unit at this offset has this file, the first one whose directory isn't there.
     DirectoryNumber(u64, u64),
     /// 30: the first row of a live sequence that names a file which isn't there. End rows name none.

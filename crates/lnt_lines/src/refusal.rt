@@ -38,7 +38,7 @@ impl From<SectionStop> for Refusal {
             SectionStop::Fault(fault) => Refusal::No(No::Malformed(fault)),
             SectionStop::Memory => Refusal::Stop(Stop::Memory),
             SectionStop::TooLong => Refusal::Stop(Stop::TooLong),
-            // No unit is asked for behind a stop, so `Failed` doesn't come.
+            // No unit is asked for after a stop, so `Failed` doesn't come.
             SectionStop::Read | SectionStop::Failed => Refusal::Stop(Stop::Read),
         }
     }

@@ -40,7 +40,7 @@ pub enum JudgedIndex<'a> {
 /// It is good where its bytes are those of units one after another, and nothing else, whose programs run, whose tables
 /// are usable and whose live sequences name files that are there, never fall, and share no position, but for copies where
 /// these are skipped. Its lines answer
-/// at each position what the last row says that isn't behind the position, in the live sequence that holds it. Else the
+/// at each position what the last row says that isn't after the position, in the live sequence that holds it. Else the
 /// first thing that is wrong is told (`No`). Units are taken from the source one at a time, so what is wrong with one is
 /// told before later bytes are asked for.
 ///

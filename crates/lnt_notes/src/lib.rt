@@ -1,4 +1,4 @@
-//! Notes: what helps a person behind an answer, which stays as it is.
+//! Notes: what helps a person after an answer, which stays as it is.
 //!
 //! A [`Watched`] reader keeps the first bytes of a section for them. [`tell_bad`], [`tell_good`], [`tell_refused`] and
 //! [`tell_table`] print what there is to say of an answer. Some of it takes a second look into a file, which only comes

@@ -10,7 +10,7 @@ use crate::marks::may_be_mark;
 use crate::survey::{Survey, survey_of};
 use crate::texts::strings_of;
 use crate::watched::Seen;
-use lnt_header::Which;
+use lnt_header::EntryTable;
 use lnt_lines::{Index, No};
 use lnt_records::TableFault;
 use lnt_sequences::SeqId;
@@ -164,7 +164,7 @@ pub fn tell_good<O: Opener, N: Write>(
 fn tell_strings<O: Opener, N: Write>(
     alloc: Global,
     unit: u64,
-    which: Which,
+    which: EntryTable,
     given: &Given<'_>,
     opener: &mut O,
     notes: &mut N,
@@ -185,7 +185,7 @@ fn tell_strings<O: Opener, N: Write>(
 fn strings_again<O: Opener>(
     alloc: Global,
     unit: u64,
-    which: Which,
+    which: EntryTable,
     given: &Given<'_>,
     opener: &mut O,
 ) -> Option<StringSection> {

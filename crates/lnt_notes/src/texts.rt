@@ -1,7 +1,7 @@
 //! In which section the texts of entries lie.
 ghost use Rattle.std.specs.Prelude.{◌-◌, ◌^◌, ◌<◌};
 
-use lnt_header::{Header, Pair, Which};
+use lnt_header::{EntryTable, Header, Pair};
 use lnt_stream::{SectionReader, UnitBuffer};
 use lnt_text::StringSection;
 use lnt_unit::UnitView;
@@ -18,7 +18,7 @@ pub(crate) fn strings_of<R: Source>(
     source: &mut R,
     order: Order,
     unit: u64,
-    which: Which,
+    which: EntryTable,
 ) -> Option<StringSection>
     requires { R.failures source.old < 2 ^ 64 - 1 }
 {
@@ -33,15 +33,15 @@ pub(crate) fn strings_of<R: Source>(
     None
 }
 
-fn strings_in(alloc: Global, buffer: &UnitBuffer, which: Which) -> Option<StringSection> {
+fn strings_in(alloc: Global, buffer: &UnitBuffer, which: EntryTable) -> Option<StringSection> {
     let view = UnitView::over(alloc, buffer).ok()?;
     strings_by(format_of(view.header(), which))
 }
 
-fn format_of(header: &Header, which: Which) -> &[Pair] {
+fn format_of(header: &Header, which: EntryTable) -> &[Pair] {
     match which {
-        Which::Directories => header.directory_format(),
-        Which::Files => header.file_format(),
+        EntryTable::Directories => header.directory_format(),
+        EntryTable::Files => header.file_format(),
     }
 }
 

@@ -75,14 +75,14 @@ field_made path text new n e l f =
 
 -- ---- a line
 
--- what stands in a line behind the two addresses and the path
+-- what stands in a line after the two addresses and the path
 line_fields : (low high path line : List ℕ) (more : Fields) → field_text default_writer low ≡ low → field_text default_writer high ≡ high → field_text default_writer line ≡ line
     → row_text default_writer (low ∷ high ∷ path ∷ line ∷ more)
     ≡ low ++ (44 ∷ high ++ (44 ∷ field_text default_writer path ++ (44 ∷ line ++ (fields_text default_writer more ++ 10 ∷ []))))
 unfolding is_blank fields_text
 line_fields low high path line more a b c = rw (a, b, c) (simp append_assoc)
 
--- what the fields behind the line say
+-- what the fields after the line say
 abbrev EndSays : PathVersion → Fields → Answer → Type 0
 EndSays Three fields answer = (text : List ℕ) × (fields ≡ text ∷ []) × IsPlainDecimal text answer.column
 EndSays Four fields answer = fields ≡ []

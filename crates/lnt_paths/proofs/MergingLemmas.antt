@@ -165,7 +165,7 @@ apart_before to_come tell list said next spans span holds is lt left order =
       below = below_at_most lt (below_is_at_most (low_high said holds));
     }
 
--- it begins at the record or behind, or has no span
+-- it begins at the record or after, or has no span
 pub begun : {S : Type 0} (to_come : S → List Span → Type 0) (tell : Answer → PathAnswer) (list : List Span) (said : PathRecord)
     (next : Option Span) (spans : S) → IfSome next (λ span. IsAtMost (whole said.low) span.low) → IsLeft to_come next spans list → AreInOrder list
     → ArePassed tell list (alone said) (whole said.low) (IsLeft to_come next spans)
@@ -309,7 +309,7 @@ merged_none to_come tell list next spans left order = record {
     from [] = tt
     from (span ∷ xs) = origin_first span.low
 
--- a record behind those that say nothing
+-- a record after those that say nothing
 answer_push_none : (table more : List PathSpan) (p : Position) → path_span_answer table p ≡ None
     → path_span_answer (table ++ more) p ≡ path_span_answer more p
 answer_push_none [] more p e = refl
@@ -321,7 +321,7 @@ answer_push_none (r ∷ table) more p e = elim (order_cases p r.low) [
   ]
 ]
 
--- a record behind p
+-- a record after p
 answer_push_before : (table : List PathSpan) (span : PathSpan) (p : Position) → IsBelow p span.low
     → path_span_answer (table ++ span ∷ []) p ≡ path_span_answer table p
 answer_push_before [] span p h = answer_before span [] p h
@@ -338,7 +338,7 @@ end_pushed [] span = refl
 end_pushed (r ∷ []) span = refl
 end_pushed (r ∷ next ∷ table) span = end_pushed (next ∷ table) span
 
--- a record behind the end of those that were compared
+-- a record after the end of those that were compared
 pub record Follows (at : Position) (said : PathRecord) : Type 0 where
   pub behind : IsAtMost at (whole said.low)
   pub holds : IsBelow (whole said.low) (whole said.high)

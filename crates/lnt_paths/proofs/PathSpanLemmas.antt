@@ -10,7 +10,7 @@ use Rattle.lnt_paths.specs.PathSpans.{PathSpan, StandInOrder, path_span_answer}
 pub answer_in : (s : PathSpan) (rest : List PathSpan) (p : Position) → IsAtMost s.low p → IsBelow p s.high → path_span_answer (s ∷ rest) p ≡ Some s.answer
 answer_in s rest p h k = rw (test_at_most s.low p h, test_below p s.high k) refl
 
--- p is before it, or behind
+-- p is before it, or after
 pub answer_before : (s : PathSpan) (rest : List PathSpan) (p : Position) → IsBelow p s.low → path_span_answer (s ∷ rest) p ≡ path_span_answer rest p
 answer_before s rest p h = rw (test_not_at_most s.low p h) refl
 

@@ -31,7 +31,7 @@ GoesOn tell span next = (span.high ≡ next.low) × (tell span.answer ≡ tell n
 abbrev pub grown : Span → Position → Span
 grown span high = record span { high = high }
 
--- Of a span and those behind it, these are left where each that goes on with the one before it is joined with it.
+-- Of a span and those after it, these are left where each that goes on with the one before it is joined with it.
 abbrev pub JoinsTo : (Answer → PathAnswer) → Span → List Span → List Span → Type 0
 JoinsTo tell last [] joined = joined ≡ last ∷ []
 JoinsTo tell last (next ∷ rest) joined = (GoesOn tell last next × JoinsTo tell (grown last next.high) rest joined)
@@ -46,7 +46,7 @@ AllJoinTo tell (first ∷ rest) joined = JoinsTo tell first rest joined
 abbrev pub GrowsTo : (Answer → PathAnswer) → Span → (List Span → Type 0) → List Span → Type 0
 GrowsTo tell last left joined = (rest : List Span) × left rest × JoinsTo tell last rest joined
 
--- the same of a span, if there is one, and those that are still to come behind it
+-- the same of a span, if there is one, and those that are still to come after it
 abbrev pub WillGive : (Answer → PathAnswer) → Option Span → (List Span → Type 0) → List Span → Type 0
 WillGive tell None left joined = joined ≡ []
 WillGive tell (Some first) left joined = GrowsTo tell first left joined
@@ -83,7 +83,7 @@ pub record AddsPathLine (tell : Answer → PathAnswer) (version : PathVersion) (
   pub joined : new ≡ old ++ row_text default_writer fields
   pub says : SaysPath IsPlainAddress IsPlainDecimal version fields span.low.address span.high.address (tell span.answer)
 
--- what stands behind the line: in version 3 a comma and the column, and a line feed
+-- what stands after the line: in version 3 a comma and the column, and a line feed
 abbrev pub IsPlaceEnd : PathVersion → ℕ → List ℕ → Type 0
 IsPlaceEnd Three column more = (text : List ℕ) × IsPlainDecimal text column × (more ≡ 44 ∷ text ++ 10 ∷ [])
 IsPlaceEnd Four column more = more ≡ 10 ∷ []

@@ -34,7 +34,7 @@ pub record IsFaultyField (fields : Fields) (i : ℕ) : Type 0 where
   pub before : (k : ℕ) → k < i → IsSoundField fields k
   pub faulty : IsSoundField fields i → ⊥
 
--- Behind the records of these spans this record, which has that number, is faulty so.
+-- After the records of these spans this record, which has that number, is faulty so.
 abbrev pub IsFaultyRecord : PathVersion → List PathSpan → ℕ → Fields → TableFault → Type 0
 IsFaultyRecord version spans number fields fault.Header = ⊥
 IsFaultyRecord version spans number fields (fault.Fields k) = (k ≡ number) × (length fields ≢ path_column_count version)
@@ -45,7 +45,7 @@ IsFaultyRecord version spans number fields (fault.Order k) =
 
 -- ---- all records
 
--- A faulty record behind records that are a table.
+-- A faulty record after records that are a table.
 pub record HasFaultyPathRecord (bytes : List ℕ) (told : TableFault) : Type 0 where
   pub version : PathVersion
   pub records : List Fields

@@ -101,7 +101,7 @@ impl<S: SpanSource + Drop> PathComparison<S> {
         })
     }
 
-    // Compares one more record, which holds something and begins where the records end or behind that.
+    // Compares one more record, which holds something and begins where the records end or after that.
     fn push<P: Paths>(
         &mut self,
         alloc: Global,
@@ -137,7 +137,7 @@ impl<S: SpanSource + Drop> PathComparison<S> {
         Ok(())
     }
 
-    // Whether a record begins where the records end or behind that, and holds something.
+    // Whether a record begins where the records end or after that, and holds something.
     fn takes(&self, said: &PathRecord<'_>) -> bool
         ensures { MatchBool result ((self.now.at ≤ said.now.low) × (said.now.low < said.now.high)) (self.now.at ≤ said.now.low → said.now.low < said.now.high → ⊥) }
     {

@@ -11,7 +11,7 @@ use std::alloc::{AllocError, Global};
 // As many files are kept at most.
 const SLOTS: u64 = 256;
 
-// The path of a file as a field of a record, with a comma behind it.
+// The path of a file as a field of a record, with a comma after it.
 #[derive(Drop)]
 pub(crate) struct PathField {
     unit: u64,
@@ -37,7 +37,7 @@ impl PathFields {
         Ok(PathFields { slots })
     }
 
-    // Adds the path of a file to a line, with a comma behind it.
+    // Adds the path of a file to a line, with a comma after it.
     pub(crate) fn put<P: Paths>(
         &mut self,
         alloc: Global,
@@ -66,7 +66,7 @@ impl PathFields {
     }
 }
 
-// The path of a file as a field of a record, with a comma behind it.
+// The path of a file as a field of a record, with a comma after it.
 fn field_of<P: Paths>(alloc: Global, paths: &P, unit: u64, file: u64) -> Result<Vec<u8>, WriteStop>
     ensures { IfOk result (λ text. text.items ≡ field_with_comma (P.bytes_of paths.now unit file)) }
 {

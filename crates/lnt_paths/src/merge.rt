@@ -18,7 +18,7 @@ use lnt_spans::{Answer, Position, Span, SpanSource};
 use std::alloc::{AllocError, Global};
 
 // The spans of a section that may matter from some position on: the next one, of which the part before that position was cut
-// off, and those behind it.
+// off, and those after it.
 #[derive(Drop)]
 pub(crate) struct Section<S> {
     pub(crate) next: Option<Span>,

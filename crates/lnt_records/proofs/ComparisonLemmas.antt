@@ -97,9 +97,9 @@ difference_told to_come bytes comparison list section records difference j all s
       least = record { section = own.section ∙ same difference.position; table = own.table; differ = own.differ; least = λ p below. sym (same p) ∙ own.least p below };
     }
 
--- ---- records behind lines that were cut out
+-- ---- records after lines that were cut out
 
--- From one state of a comparison to another these records were read behind the header of a text.
+-- From one state of a comparison to another these records were read after the header of a text.
 pub record HasCompared {S : Type 0} (to_come : S → List Span → Type 0) (reader : BytesReader) (text : List ℕ) (version : Version) (old new : Comparison S) : Type 0 where
   pub more : List Fields
   pub read : HasRead reader text (column_names version ∷ more)

@@ -115,7 +115,7 @@ hexadecimal_more text at i value worth true true lt h is says e few =
 hexadecimal_more text at i value worth true false lt h is says e few = absurd (cc e)
 hexadecimal_more text at i value worth false is lt h m says e few = absurd (cc e)
 
--- behind 0x
+-- after 0x
 pub address_begins : (s0 s1 s2 rest : List ℕ) (n end : ℕ) → s0 ≡ 48 ∷ s1 → s1 ≡ 120 ∷ s2 → Begins (IsNumber Sixteen) s2 n end rest → Begins IsAddress s0 n end rest
 address_begins s0 s1 s2 rest n end e f b = record {
   front = 48 ∷ 120 ∷ b.front;

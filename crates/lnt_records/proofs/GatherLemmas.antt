@@ -34,7 +34,7 @@ zip_both R [] xs' (b ∷ ys) ys' z h = absurd z
 zip_both R (a ∷ xs) xs' [] ys' z h = absurd z
 zip_both R (a ∷ xs) xs' (b ∷ ys) ys' z h = (z.0, zip_both R xs xs' ys ys' z.1 h)
 
--- the spans of the records that were read behind the header
+-- the spans of the records that were read after the header
 pub record HasGathered {S : Type 0} (to_come : S → List Span → Type 0) (reader : BytesReader) (text : List ℕ) (version : Version) (old new : Comparison S) (spans : List Span) : Type 0 where
   pub compared : HasCompared to_come reader text version old new
   pub each : AllZip (IsSpanRecord version) compared.more spans
@@ -81,7 +81,7 @@ gathered_none to_come reader text version comparison spans read same none = rw n
   each = tt;
 })
 
--- ---- the stretches behind the records that a table has in common with a section
+-- ---- the stretches after the records that a table has in common with a section
 
 pub version_told : (version : Version) (bytes : List ℕ) (table : List Span) → IsTableOf version bytes table → AllByRecursion (IsTold version) table
 version_told version bytes table t = by_records t.0 t.2
@@ -129,7 +129,7 @@ judges_none to_come merge version same compares = (
 pub order_alone : (table rest : List Span) → AreInOrder (table ++ rest) → AreInOrder (table ++ [])
 order_alone table rest o = subst AreInOrder (sym (append-nil table)) (front_in_order table rest o)
 
--- what is gathered behind the records of some spans
+-- what is gathered after the records of some spans
 pub gathered_is : {S : Type 0} (to_come : S → List Span → Type 0) (comparison : Comparison S) (list table : List Span) (passed : List Fields) (bytes : List ℕ) (version : Version) (text : List ℕ) (gathered : Result Gathered TableStop)
     → (j : Judges to_come comparison list (column_names version ∷ passed)) → j.table ≡ table → IsCut version text bytes passed
     → IfOk gathered (λ it. (list : List Span) (passed : List Fields) (bytes : List ℕ) → (j : Judges to_come comparison list (column_names version ∷ passed)) → IsCut version text bytes passed → IsGathered bytes version j.table it)

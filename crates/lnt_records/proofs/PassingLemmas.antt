@@ -67,7 +67,7 @@ passes_all a b la lb w0 w1 p none = record {
 pub longer_from_start : (a b : Option (List ℕ)) (la lb : ℕ) (w0 w1 text : List ℕ) → Passes a b la lb w0 w1 text → HasMoreThan b lb → HasMoreThan a la
 longer_from_start a b la lb w0 w1 text p more = more_from_start a b p.given la lb p.pulls p.count more
 
--- the bytes behind a text at a place
+-- the bytes after a text at a place
 pub text_passed : (block text window : List ℕ) (at : ℕ) → window ≡ drop at block → window ≡ text ++ drop (length text) window → window ≡ text ++ drop (at + length text) block
 text_passed block text window at e f =
     f ∙ ap (λ (t : List ℕ). text ++ drop (length text) t) e ∙ ap (λ (t : List ℕ). text ++ t) (drop-drop (length text) at block)
@@ -199,7 +199,7 @@ front_rest : (table xs : List Span) (first : Option Span) → (table ++ cons_opt
 front_rest table xs None = ap (λ (t : List Span). t ++ xs) (append-nil table)
 front_rest table xs (Some first) = append_assoc table (first ∷ []) xs
 
--- the spans that are left behind those whose lines were passed
+-- the spans that are left after those whose lines were passed
 record AreRest (version : Version) (all front rest : List Span) : Type 0 where
   order : AreInOrder (front ++ rest)
   same : (p : Position) → span_answer (front ++ rest) p ≡ version_answer version all p

@@ -52,7 +52,7 @@ step_ends st.AfterQuote c = by_test (c == 34) (st.InQuoted, act.Copy) (in_field 
 step_ends st.InComment c = by_test (c == 10) (st.StartRecord, act.Skip) (st.InComment, act.Skip) (λ e. absurd (cc e)) (λ e. absurd (cc e))
 step_ends st.AfterCr c = by_test (c == 10) (st.StartRecord, act.Skip) (start_record default_config c) (λ e. absurd (cc e)) (start_record_ends c)
 
--- what is left behind a record
+-- what is left after a record
 record Left (s : State) (bytes : List ℕ) (p : Read) : Type 0 where
   between : ends_at_end p.1 ≡ false
   no_more : length p.2 ≤ length bytes

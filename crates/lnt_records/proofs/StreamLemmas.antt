@@ -1,4 +1,4 @@
--- A table of which lines were passed, and the rest was read behind its header.
+-- A table of which lines were passed, and the rest was read after its header.
 use Rattle.std.proofs.Common.{◌≡◌, ◌∙◌, ℕ, ◌+◌, ◌^◌, ◌<◌, List, [], ◌∷◌, ◌++◌, Option, Some, None, IfSome, append_assoc, length, length-append, refl, ap, subst, sym, arith}
 use Rattle.std.specs.List.{AllByRecursion, AllZip}
 use Rattle.csv.specs.Reading.{Reached, default_config, strip_bom}
@@ -39,7 +39,7 @@ lines_reached version (f ∷ records) (s ∷ table) rest more after left z r =
 same_some : (p q : Read) → Some p ≡ Some q → p ≡ q
 same_some p q e = cc
 
--- what is read behind the header
+-- what is read after the header
 behind_header : (version : Version) (rest : List ℕ) (more : List Fields) (after : State) (left : List ℕ) → Reached default_config st.StartRecord (strip_bom (line_text (column_names version) ++ rest)) (column_names version ∷ more) after left
     → Reached default_config st.StartRecord rest more after left
 unfolding Reached
@@ -92,7 +92,7 @@ judges_passed to_come merge version section text count h = record {
 
 -- ---- the rest
 
--- The text of the rest, behind the names of the columns.
+-- The text of the rest, after the names of the columns.
 record IsRest (version : Version) (window given all : List ℕ) : Type 0 where
   joined : all ≡ line_text (column_names version) ++ (window ++ given)
 
@@ -149,7 +149,7 @@ whole_told to_come merge version section a d la ld names window text all count c
     told_bytes a (p.given ++ ends.given) (λ (bytes : List ℕ). IsComparison bytes section compared) (whole_bytes a d p.given ends.given p.pulls ends.whole)
     (compare h.follows.spans section records (p.given ++ ends.given) (judges_passed to_come merge version section text count h) cut_both h.follows.same)
 
--- the bytes of which the rest, behind the names of the columns, is a text with lines cut out
+-- the bytes of which the rest, after the names of the columns, is a text with lines cut out
 pub rest_cut : (version : Version) (a d : Option (List ℕ)) (la ld : ℕ) (names window text all : List ℕ) (table : List Span) (count : ℕ) → names ≡ line_text (column_names version)
     → (p : Passes a d la ld [] window (line_text (column_names version) ++ text)) → (ends : Ends d ld (names ++ window) all) → (lines : AreLines version text table count)
     → IsCut version all (p.given ++ ends.given) lines.records

@@ -24,7 +24,7 @@ set_before text end c some long =
     let back : end - 1 + 1 ≡ end = omega (arith, some) in
     drop-set text (end - 1) c within ∙ ap (λ (k : ℕ). c ∷ drop k text) back
 
--- a number, and a byte behind it
+-- a number, and a byte after it
 pub put_before : (Spells : List ℕ → ℕ → Type 0) (room new : List ℕ) (start end n behind : ℕ) → length room ≡ 256 → length new ≡ 256 → start < end - 1 → end ≤ 256
     → Spells (drop start (take (end - 1) new)) n → drop (end - 1) new ≡ drop (end - 1) (slice_set room (end - 1) behind) → Begins Spells (drop start new) n behind (drop end room)
 put_before Spells room new start end n behind long long' within le spells after =

@@ -38,13 +38,13 @@ IsStarted of_section of_table (differing.Fault told) = Unit {0}
 IsStarted of_section of_table (differing.Table differences) =
     (by_section : Position → Option Answer) × (by_table : Position → Option Answer) × HasTold of_section of_table differences by_section by_table []
 
--- Behind the records of these spans the bytes have records of these others, or a fault. The bodies of this crate use it
+-- After the records of these spans the bytes have records of these others, or a fault. The bodies of this crate use it
 -- among themselves.
 abbrev pub IsGathered : List ℕ → Version → List Span → Gathered → Type 0
 IsGathered bytes version table (gathered.Fault told) = IsFault bytes told
 IsGathered bytes version table (gathered.Spans spans) = IsTableOf version bytes (table ++ spans.items)
 
--- Behind these first spans of a list in order, which end at the position, the others are to come, and it answers as the
+-- After these first spans of a list in order, which end at the position, the others are to come, and it answers as the
 -- section does, as the version tells answers.
 pub record GoesOn (version : Version) (section : Position → Option Answer) (table rest : List Span) (at : Position) : Type 0 where
   pub order : AreInOrder (table ++ rest)

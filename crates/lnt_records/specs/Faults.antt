@@ -21,7 +21,7 @@ pub record IsFaultyColumn (fields : Fields) (i : ℕ) : Type 0 where
   pub before : (k : ℕ) → k < i → IsSound fields k
   pub faulty : IsSound fields i → ⊥
 
--- Behind the records of these spans this record, which has that number, is faulty so.
+-- After the records of these spans this record, which has that number, is faulty so.
 abbrev pub IsFaulty : Version → List Span → ℕ → Fields → TableFault → Type 0
 IsFaulty version spans number fields fault.Header = ⊥
 IsFaulty version spans number fields (fault.Fields k) = (k ≡ number) × (length fields ≢ column_count version)
@@ -30,7 +30,7 @@ IsFaulty version spans number fields (fault.Order k) = (k ≡ number) × (span :
 
 -- ---- all records
 
--- A faulty record behind records that are a table.
+-- A faulty record after records that are a table.
 pub record HasFaultyRecord (bytes : List ℕ) (told : TableFault) : Type 0 where
   pub version : Version
   pub records : List Fields

@@ -10,15 +10,15 @@ use Rattle.lnt_spans.specs.declared.span.Span.{Span}
 use Rattle.lnt_records.specs.Table.{Fields, IsFlag, SaysSpan}
 use Rattle.lnt_records.specs.Written.{following, line_text}
 
--- ---- what the bytes begin with, and what is behind it
+-- ---- what the bytes begin with, and what is after it
 
--- The text begins with one that spells n, up to a byte, and this is what is behind that byte.
+-- The text begins with one that spells n, up to a byte, and this is what is after that byte.
 pub record Begins (Spells : List ℕ → ℕ → Type 0) (text : List ℕ) (n end : ℕ) (rest : List ℕ) : Type 0 where
   pub front : List ℕ
   pub joined : text ≡ front ++ end ∷ rest
   pub spells : Spells front n
 
--- two fields that say a position, each with a comma behind it, where addresses and numbers are written in these ways
+-- two fields that say a position, each with a comma after it, where addresses and numbers are written in these ways
 pub record IsPosition (Address Number : List ℕ → ℕ → Type 0) (position : Position) (bytes rest : List ℕ) : Type 0 where
   pub address : List ℕ
   pub op : List ℕ

@@ -23,7 +23,7 @@ pub record Passes (old new : Option (List ℕ)) (may_give may_still : ℕ) (befo
   pub pulls : Pulls old new given
   pub count : may_still + length given ≡ may_give
 
--- Behind these bytes stands all that the source has to give.
+-- After these bytes stands all that the source has to give.
 pub record Ends (old : Option (List ℕ)) (may_give : ℕ) (before all : List ℕ) : Type 0 where
   pub given : List ℕ
   pub joined : all ≡ before ++ given
@@ -47,7 +47,7 @@ pub record Follows {S : Type 0} (to_come : S → List Span → Type 0) (merge : 
   pub version_is : merge.version ≡ version
   pub compares : Compares to_come merge spans table
 
--- Behind the line with the names of the columns these lines were passed, which say records that the merge has compared.
+-- After the line with the names of the columns these lines were passed, which say records that the merge has compared.
 pub record HasPassed {S : Type 0} (to_come : S → List Span → Type 0) (merge : Merging S) (version : Version) (section : List Span) (text : List ℕ) (count : ℕ) : Type 0 where
   pub table : List Span
   pub order : AreInOrder table
@@ -62,7 +62,7 @@ AreLeft true to_come rest = rest ≡ []
 AreLeft false to_come rest = to_come rest
 
 -- The lines of a text say the first spans of a list in order, which answers as the section does, as far as the version
--- tells. The spans behind them are to come, and the text's last span ends at `end`.
+-- tells. The spans after them are to come, and the text's last span ends at `end`.
 pub record LeavesOff (ToCome : List Span → Type 0) (version : Version) (section : List Span) (text : List ℕ) (count : ℕ) (end : Position) : Type 0 where
   pub table : List Span
   pub rest : List Span
@@ -75,7 +75,7 @@ pub record LeavesOff (ToCome : List Span → Type 0) (version : Version) (sectio
 
 -- ---- a text with the lines that were passed cut out
 
--- What `csv` reads of the text behind the line with the names of the columns it reads of the bytes too, behind these
+-- What `csv` reads of the text after the line with the names of the columns it reads of the bytes too, after these
 -- records.
 abbrev pub IsCut : Version → List ℕ → List ℕ → List Fields → Type 0
 IsCut version text bytes passed = (more : List Fields) (after : State) (rest : List ℕ)

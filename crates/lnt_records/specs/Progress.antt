@@ -48,7 +48,7 @@ pub record SaysPosition (fields : Fields) (i : ℕ) (position : Position) : Type
   pub address : IsAddress (get_or fields i []) position.address
   pub op : IsDecimal (get_or fields (i + 1) []) position.op
 
--- what the columns behind the positions say
+-- what the columns after the positions say
 pub record SaysAnswer (version : Version) (fields : Fields) (answer : Answer) : Type 0 where
   pub unit : IsDecimal (get_or fields 4 []) answer.unit
   pub file : IsDecimal (get_or fields 5 []) answer.file

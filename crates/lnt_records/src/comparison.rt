@@ -66,7 +66,7 @@ pub(crate) fn header_of(alloc: Global, table: &[u8]) -> Result<Option<Version>, 
     read_header(&mut reader, &mut row)
 }
 
-// The same of a text that begins with a header, and from which records behind that were cut out, so many with the header,
+// The same of a text that begins with a header, and from which records after that were cut out, so many with the header,
 // which the merge has compared with the spans.
 pub(crate) fn compare_behind<S: SpanSource + Drop>(
     alloc: Global,

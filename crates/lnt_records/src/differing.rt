@@ -95,7 +95,7 @@ fn compare_text<S: SpanSource + Drop>(
     differ_behind(gathered, all, version, Position { address: 0, op: 0 })
 }
 
-// What was gathered of a table's records, compared with the spans that come behind those that both begin with.
+// What was gathered of a table's records, compared with the spans that come after those that both begin with.
 fn differ_behind<S: SpanSource + Drop>(
     gathered: Result<Gathered, TableStop>,
     spans: Remaining<S>,

@@ -1,4 +1,4 @@
-//! Numbers read from a place of a text on, up to a byte behind them.
+//! Numbers read from a place of a text on, up to a byte after them.
 ghost use Rattle.std.specs.Prelude.{◌≡◌, ◌∷◌, drop, IfSome};
 ghost use Rattle.lnt_digits.specs.Digits.{IsAddress, IsDecimal, IsNumber};
 ghost use Rattle.lnt_records.specs.Lines.{Begins};
@@ -11,8 +11,8 @@ const DECIMAL_DIGITS: usize = 18;
 
 const HEXADECIMAL_DIGITS: usize = 16;
 
-// The number that 1 to 18 decimal digits from a place of the text on say, where a byte is behind them, and the place
-// behind that byte. Longer numbers are left to `decimal`.
+// The number that 1 to 18 decimal digits from a place of the text on say, where a byte is after them, and the place
+// after that byte. Longer numbers are left to `decimal`.
 #[inline(always)]
 pub(crate) fn decimal_before(text: &[u8], at: usize, end: u8) -> Option<(u64, usize)>
     ensures { IfSome result (λ found. Begins IsDecimal (drop at text.now) found.0 end (drop found.1 text.now)) }
@@ -66,7 +66,7 @@ pub(crate) fn address_before(text: &[u8], at: usize, end: u8) -> Option<(u64, us
     Some((number, next))
 }
 
-// The place behind a byte, where that stands at a place of the text.
+// The place after a byte, where that stands at a place of the text.
 #[inline(always)]
 pub(crate) fn behind(text: &[u8], at: usize, byte: u8) -> Option<usize>
     ensures { IfSome result (λ next. drop at text.now ≡ byte ∷ drop next text.now) }
@@ -78,7 +78,7 @@ pub(crate) fn behind(text: &[u8], at: usize, byte: u8) -> Option<usize>
     }
 }
 
-// The number that 1 to 16 hexadecimal digits from a place on say, where a byte is behind them, and the place behind it.
+// The number that 1 to 16 hexadecimal digits from a place on say, where a byte is after them, and the place after it.
 // Nothing branches on what the digits are.
 #[inline(never)]
 fn hexadecimal_before(text: &[u8], at: usize, end: u8) -> Option<(u64, usize)>

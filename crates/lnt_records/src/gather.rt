@@ -23,7 +23,7 @@ pub(crate) enum Gathered {
     Spans(Vec<Span>),
 }
 
-// The spans of a text that begins with a header, and from which records behind that were cut out, so many with the header,
+// The spans of a text that begins with a header, and from which records after that were cut out, so many with the header,
 // which the merge has compared with some spans.
 pub(crate) fn gather_behind<S: SpanSource + Drop>(
     alloc: Global,

@@ -17,7 +17,7 @@ use lnt_wire::{Source, Stop};
 use std::alloc::Global;
 
 // Reads the lines of a table, up to the first that is no sound record on a line of its own, with nothing in quotes and no
-// number of more than 18 digits, or whose span isn't behind that of the record before it; and pushes the others.
+// number of more than 18 digits, or whose span isn't after that of the record before it; and pushes the others.
 pub(crate) fn push_lines<S: SpanSource + Drop, T: Source>(
     alloc: Global,
     merge: &mut Merge<S>,
@@ -62,7 +62,7 @@ pub(crate) fn pass_header(window: &mut Window) -> Option<Version>
     None
 }
 
-// The span that the line at a place says, and the place behind that line.
+// The span that the line at a place says, and the place after that line.
 #[inline(always)]
 fn span_at(table: &[u8], at: usize, version: Version) -> Option<(Span, usize)>
     ensures { IfSome result (λ found. IsLine version found.0 (drop at table.now) (drop found.1 table.now)) }

@@ -14,7 +14,7 @@ use lnt_spans::{Answer, Joiner, Merge, Position, Span, SpanSource, Version};
 use lnt_wire::{Source, Stop};
 use std::alloc::Global;
 
-// How far a table was passed: the spans behind those that it says so far, how many records it has with them, and where
+// How far a table was passed: the spans after those that it says so far, how many records it has with them, and where
 // the last one ends.
 #[derive(Drop)]
 pub(crate) struct Passed<S> {

@@ -58,7 +58,7 @@ fn position_at(row: &ByteRecord, i: usize) -> Result<Position, RecordFault>
     Ok(Position { address, op })
 }
 
-// The answer in the columns behind the positions, where those before it are of their kinds.
+// The answer in the columns after the positions, where those before it are of their kinds.
 #[tactic(auto, using(crate::proofs::RecordLemmas::common_columns))]
 fn answer_in(row: &ByteRecord, version: Version) -> Result<Answer, RecordFault>
     requires count { length (fields_of row.now) ≡ column_count version }

@@ -7,7 +7,7 @@ ghost use Rattle.lnt_records.specs.Passing.{AreLeft};
 
 use lnt_spans::{Span, SpanSource, Version};
 
-/// Up to two spans, and behind them those of a source as a version tells them, unless it was found to have none left.
+/// Up to two spans, and after them those of a source as a version tells them, unless it was found to have none left.
 #[derive(Drop)]
 pub struct Remaining<S> {
     pub(crate) first: Option<Span>,

@@ -24,7 +24,7 @@ use std::alloc::Global;
 ///
 /// As long as the table's lines are those that `write_canonical` writes of the spans, they are compared as text and not
 /// read. The lines from there on are read one by one, as long as each is a sound record on a line of its own with nothing
-/// in quotes, and the records behind these are read by `csv`, of bytes held at once. So neither a table that is written
+/// in quotes, and the records after these are read by `csv`, of bytes held at once. So neither a table that is written
 /// so nor the spans are held: the memory that it takes is one block.
 ///
 /// The caller sees to it that the spans are in order and none is empty, and that the number of the source's failures is

@@ -23,7 +23,7 @@ pub(crate) fn line_of(room: &mut [u8; ROOM], span: &Span) -> usize
     position_before(room, at, span.low)
 }
 
-// Writes two fields that say a position, each with a comma behind it, so that they end before `end`.
+// Writes two fields that say a position, each with a comma after it, so that they end before `end`.
 #[inline(always)]
 fn position_before(room: &mut [u8; ROOM], end: usize, position: Position) -> usize
     requires { (40 ≤ end) × (end ≤ 256) }
@@ -81,7 +81,7 @@ fn flag_before(room: &mut [u8; ROOM], end: usize, on: bool) -> usize
     end - 1
 }
 
-// Writes a decimal number and the byte behind it, so that they end before `end`.
+// Writes a decimal number and the byte after it, so that they end before `end`.
 #[inline(always)]
 fn number_before(room: &mut [u8; ROOM], end: usize, n: u64, behind: u8) -> usize
     requires { (21 ≤ end) × (end ≤ 256) }

@@ -97,7 +97,7 @@ impl Window {
         Ok(())
     }
 
-    // A text with the bytes at hand behind it, and all that the source has left.
+    // A text with the bytes at hand after it, and all that the source has left.
     pub(crate) fn rest_behind<T: Source>(
         self,
         alloc: Global,
@@ -119,7 +119,7 @@ impl Window {
     }
 }
 
-// Two texts, one behind the other.
+// Two texts, one after the other.
 fn joined(alloc: Global, first: &[u8], second: &[u8]) -> Result<Vec<u8>, AllocError>
     ensures { IfOk result (λ all. all.items ≡ first.now ++ second.now) }
 {
@@ -128,7 +128,7 @@ fn joined(alloc: Global, first: &[u8], second: &[u8]) -> Result<Vec<u8>, AllocEr
     Ok(all)
 }
 
-// Takes bytes of a source behind those in a block, until there are as many as a line may have, or no more come.
+// Takes bytes of a source after those in a block, until there are as many as a line may have, or no more come.
 #[tactic(auto, using(crate::proofs::PassingLemmas::passes_none, crate::proofs::PassingLemmas::passes_block))]
 fn fill_block<T: Source>(source: &mut T, block: &mut Vec<u8>) -> Result<(), Stop>
     requires { T.failures source.old < 2 ^ 64 - 1 }
@@ -145,7 +145,7 @@ fn fill_block<T: Source>(source: &mut T, block: &mut Vec<u8>) -> Result<(), Stop
     Ok(())
 }
 
-// Takes all bytes that a source has left, behind those that were taken.
+// Takes all bytes that a source has left, after those that were taken.
 #[tactic(auto, using(crate::proofs::PassingLemmas::passes_none, crate::proofs::PassingLemmas::passes_block, crate::proofs::PassingLemmas::passes_all, crate::proofs::PassingLemmas::longer_from_start))]
 fn read_rest<T: Source>(source: &mut T, all: &mut Vec<u8>) -> Result<(), Stop>
     requires { T.failures source.old < 2 ^ 64 - 1 }

@@ -17,7 +17,7 @@ use std::alloc::Global;
 ///
 /// Where the bytes are no table, it tells their first fault, as `check` does. Else it gives the stretches at which the
 /// table answers otherwise than the rows of the units, as its version tells answers, one after another: a stretch is a
-/// longest run of positions, one behind another, at which the two answers differ and stay the same two
+/// longest run of positions, one after another, at which the two answers differ and stay the same two
 /// (`Differences::next_difference`). Where there is none, `check` answers Yes; else the first begins with the difference
 /// that `check` tells.
 ///

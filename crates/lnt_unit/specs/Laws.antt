@@ -92,7 +92,7 @@ pub record WholeWalk : Type 0 where
       → BrokenUnit view.unit.order fault view.unit.offset view.unit.bytes
 
 -- What a fault of `next_unit` says, and one of the unit at hand, after units that were given: no list of units spells the section,
--- whatever follows, and the fault is true of it. Behind frames that spell no unit, the fault of `next_unit` is so of what is left.
+-- whatever follows, and the fault is true of it. After frames that spell no unit, the fault of `next_unit` is so of what is left.
 pub record FaultOfSection : Type 0 where
   pub next : (order : Order) (units : List (ℕ × Parts)) (front rest : List ℕ) (fault : Fault) → SectionBytes order units front
       → EndsBy (record { place = length front; rest = rest; order = order }) (Some fault) → BrokenSection order fault (front ++ rest)

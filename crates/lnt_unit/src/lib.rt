@@ -16,7 +16,7 @@ pub use decode::{decode_section, decode_unit};
 pub use encode::encode_unit;
 pub use in_place::UnitInPlace;
 pub use lnt_header::{
-    Entry, Header, HeaderParts, Op, OpView, Operands, Pair, ShortList, UnitFault, Which,
+    Entry, EntryTable, Header, HeaderParts, Op, OpView, Operands, Pair, ShortList, UnitFault,
 };
 pub use lnt_header_bytes::{HeaderInPlace, HeaderView, KeptHeader, decode_header, encode_header};
 pub use lnt_ops::Ops;

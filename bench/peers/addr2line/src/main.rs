@@ -2,7 +2,7 @@
 //! find_location: lookups_by_addr2line FOLDER ADDRESSES
 //!
 //! FOLDER has the files line, line_str, str, info, abbrev and rnglists. It prints the nanoseconds of processor time of a lookup,
-//! over PASSES passes behind one that isn't counted, in which the line programs are run, and a sum of the answers.
+//! over PASSES passes after one that isn't counted, in which the line programs are run, and a sum of the answers.
 use addr2line::Context;
 use gimli::{Dwarf, EndianSlice, LittleEndian, SectionId};
 

@@ -6,9 +6,9 @@ ghost use Rattle.lnt_files.specs.Seen.{first_missing, HasAll, IsFilesFault, IsBe
 ghost use Rattle.lnt_files.specs.Tables.{HasUsableFormat, HasPath, AreUsableTables, IsTablesFault};
 
 use crate::ends::StringEnds;
-use crate::tables::{TableFault, is_usable_format};
+use crate::tables::{EntryTableFault, is_usable_format};
 use crate::walk::Entries;
-use lnt_header::Which;
+use lnt_header::EntryTable;
 use lnt_header_bytes::{HeaderView, TableView};
 
 /// What is wrong with the directories and files of the header, if its tables aren't usable (DWARF 5, section 6.2.4.1).
@@ -19,20 +19,20 @@ use lnt_header_bytes::{HeaderView, TableView};
 /// A table with entries needs a path in the form `string`, `line_strp` or `strp`; a directory number, where it has
 /// one, has the form `udata`, `data1`, `data2`, `data4` or `data8`, and an MD5 sum `data16`. Other components may have
 /// any form. Each path's text is there, and each file's directory number is below the number of directories.
-pub fn tables_fault(header: &HeaderView<'_>, ends: &StringEnds<'_>) -> Option<TableFault>
+pub fn tables_fault(header: &HeaderView<'_>, ends: &StringEnds<'_>) -> Option<EntryTableFault>
     ensures { MatchOption result (AreUsableTables ends.now.line ends.now.general header.now)
         (λ fault. IsTablesFault ends.now.line ends.now.general header.now fault) }
 {
     let directories = header.directories();
     let files = header.files();
     if !has_usable_format(directories) {
-        return Some(TableFault::EntryFormat(Which::Directories));
+        return Some(EntryTableFault::EntryFormat(EntryTable::Directories));
     }
     if !has_usable_format(files) {
-        return Some(TableFault::EntryFormat(Which::Files));
+        return Some(EntryTableFault::EntryFormat(EntryTable::Files));
     }
     if let Some(index) = first_without_path(directories, ends) {
-        return Some(TableFault::StringOutside(Which::Directories, index));
+        return Some(EntryTableFault::StringOutside(EntryTable::Directories, index));
     }
     files_fault(files, ends, directories.count())
 }
@@ -65,7 +65,11 @@ fn first_without_path(table: &TableView<'_>, ends: &StringEnds<'_>) -> Option<u6
 
 // What is wrong with the files, of which the format is usable, where so many directories are there.
 #[tactic(auto, using(crate::proofs::JudgedLemmas::files_begun, crate::proofs::JudgedLemmas::files_stepped, crate::proofs::JudgedLemmas::files_never_end, crate::proofs::JudgedLemmas::files_but, crate::proofs::JudgedLemmas::files_sound, crate::proofs::JudgedLemmas::files_missing))]
-fn files_fault(files: &TableView<'_>, ends: &StringEnds<'_>, directories: u64) -> Option<TableFault>
+fn files_fault(
+    files: &TableView<'_>,
+    ends: &StringEnds<'_>,
+    directories: u64,
+) -> Option<EntryTableFault>
     ensures { MatchOption result (HasAll ends.now.line ends.now.general directories files.now)
         (λ fault. IsFilesFault ends.now.line ends.now.general directories files.now fault) }
 {
@@ -77,12 +81,12 @@ fn files_fault(files: &TableView<'_>, ends: &StringEnds<'_>, directories: u64) -
             unreachable!()
         };
         if !file.has_path(ends) {
-            return Some(TableFault::StringOutside(Which::Files, index));
+            return Some(EntryTableFault::StringOutside(EntryTable::Files, index));
         }
         missing = first_missing(missing, index, file.directory_number() < directories);
     }
     match missing {
-        Some(index) => Some(TableFault::DirectoryNumber(index)),
+        Some(index) => Some(EntryTableFault::DirectoryNumber(index)),
         None => None,
     }
 }
