@@ -7,6 +7,8 @@
 #![tactic(auto)]
 
 #[cfg(test)]
+mod by_path;
+#[cfg(test)]
 mod entries;
 #[cfg(test)]
 mod lines;
