@@ -23,10 +23,7 @@ case \$1 in
   run) mkdir -p out && cp "$top/crates/linetab/out/linetab" out/linetab ;;
 esac
 END
-# The machine has as many processors as a file says.
-printf '#!/usr/bin/env bash\ncat "%s"\n' "$work/processors" >"$work/bin/nproc"
-echo 1 >"$work/processors"
-chmod +x "$work/bin/rt" "$work/bin/nproc"
+chmod +x "$work/bin/rt"
 with_rt() { env PATH="$work/bin:$work/without" "$@"; }
 without_rt() { env PATH="$work/without" "$@"; }
 # The same, with what is said of seconds and of the folder made plain.
@@ -62,18 +59,4 @@ rm "$work/asked"
 expect 'a changed source, and two that ask at once' 0 $'0x0 64 172\n' '' \
   env PATH="$work/bin:$work/without" bash -c '"$0" convert "$1" --format 64 --order little 2>/dev/null | "$0" units - 2>/dev/null' "$tree/linetab" "$section"
 expect 'are one build' 0 $'lib\nlib\nlib\nlib\nall\nrun\n' '' cat "$work/asked"
-# Where four work at a time, which wants 12 GB, the crates are proved in three lists side by side.
-if [ "$(awk '/^MemAvailable:/ { print int($2 / 3000000) }' /proc/meminfo)" -ge 4 ]; then
-  echo 4 >"$work/processors"
-  rm "$work/asked"
-  echo '// changed again' >>"$tree/crates/lnt_wire/src/lib.rt"
-  touch "$work/no_lnt_text"
-  expect 'four at a time, and a crate that is not proved' 126 '' '' bash -c '"$@" 2>/dev/null' '' env PATH="$work/bin:$work/without" "$tree/linetab" units "$section"
-  rm "$work/no_lnt_text" "$work/asked"
-  expect 'four at a time' 0 $'0x0 32 156\n' '' bash -c '"$@" 2>"$0"' "$work/told" env PATH="$work/bin:$work/without" "$tree/linetab" units "$section"
-  expect 'each crate is told of, but that which lnt_wire alone stands on' 0 "$((all - 1))"$'\n' '' bash -c 'sed -n "s/^linetab: proved \([a-z_]*\) .*/\1/p" "$0" | sort -u | wc -l' "$work/told"
-  expect 'and asked for once' 0 $'1 all\n'"$((all - 2))"$' lib\n1 run\n' '' bash -c 'sort "$0" | uniq -c | sed "s/^ *//"' "$work/asked"
-else
-  skip 'there is too little memory for four at a time'
-fi
 finish
