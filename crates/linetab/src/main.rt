@@ -1,9 +1,11 @@
 //! The program `linetab`: the words, the files and the streams of the process, and its exit status.
 #![tactic(auto)]
 
+mod exit;
 mod output;
 mod system;
 
+use exit::exit_code;
 use lnt_cli::{CliStop, Status, run};
 use output::Output;
 use std::alloc::Global;
@@ -22,13 +24,7 @@ fn main(rt: HostRuntime) -> ExitCode {
     if !(is_unread.get() && matches!(&ended, Err(CliStop::Write))) {
         tell(&rt, &ended, &notes);
     }
-    ExitCode::from(match ended {
-        Ok(Status::Done) => 0,
-        Ok(Status::No) => 1,
-        Err(CliStop::Usage(_)) => 2,
-        Err(CliStop::Read(_) | CliStop::TooLong(_) | CliStop::Write) => 3,
-        Err(CliStop::Memory) => 4,
-    })
+    exit_code(&ended)
 }
 
 // Tells why the run was stopped, if it was, and its notes.
