@@ -12,7 +12,7 @@ use crate::stretches::{Places, Stretches, print_stretches};
 use crate::table::print_check;
 use lnt_answers::judge_section;
 use lnt_lines::{JudgedIndex, No, Options};
-use lnt_notes::{Given, Hints, Seen, tell_agreed, tell_bad, tell_good, tell_table};
+use lnt_notes::{Columns, Given, Hints, Seen, tell_agreed, tell_bad, tell_good, tell_table};
 use lnt_records::TableFault;
 use lnt_sources::{Opener, Status};
 use lnt_table::{Checked, ComparedByPath, TableNo, Verdict};
@@ -105,7 +105,9 @@ impl<O: Opener, W: Write, N: Write> Session<'_, '_, '_, O, W, N> {
                 self.tell_bad(&no, &seen.get(), from);
                 Ok(Status::No)
             }
-            Places::Table(Stretches::Faulty(fault)) => Ok(self.tell_fault(fault, table)),
+            Places::Table(Stretches::Faulty(fault)) => {
+                Ok(self.tell_fault(fault, Columns::Numbered, table))
+            }
             Places::Table(Stretches::Told(Status::Done)) => Ok(self.tell_agreed(from, table)),
             Places::Table(Stretches::Told(Status::No)) => Ok(Status::No),
         }
@@ -198,7 +200,7 @@ impl<O: Opener, W: Write, N: Write> Session<'_, '_, '_, O, W, N> {
     {
         match compared {
             ComparedByPath::Same => self.tell_agreed(from, table),
-            ComparedByPath::Fault(fault) => self.tell_fault(*fault, table),
+            ComparedByPath::Fault(fault) => self.tell_fault(*fault, Columns::ByPath, table),
             ComparedByPath::Differs(_) => Status::No,
         }
     }
@@ -222,7 +224,7 @@ impl<O: Opener, W: Write, N: Write> Session<'_, '_, '_, O, W, N> {
             Verdict::Yes => return self.tell_agreed(from, table),
         };
         match fault_of(no) {
-            Some(fault) => self.tell_fault(fault, table),
+            Some(fault) => self.tell_fault(fault, Columns::Numbered, table),
             None => Status::No,
         }
     }
@@ -238,12 +240,12 @@ impl<O: Opener, W: Write, N: Write> Session<'_, '_, '_, O, W, N> {
         Status::Done
     }
 
-    fn tell_fault(&mut self, fault: TableFault, table: &str) -> Status
+    fn tell_fault(&mut self, fault: TableFault, columns: Columns, table: &str) -> Status
         ensures status { result ≡ Status.No }
         ensures same { self.new.out ≡ self.old.out }
     {
         if !self.quiet {
-            let _ = tell_table(self.alloc, fault, table, self.opener, self.notes);
+            let _ = tell_table(self.alloc, fault, columns, table, self.opener, self.notes);
         }
         Status::No
     }
