@@ -24,18 +24,19 @@ pub checked_of : (tells : List ℕ → Option (List ℕ) → Type 0) (from : Jud
     → IfSome section (λ bytes. IfSome text (λ table_bytes. IsTrueCheck line' general' options bytes table_bytes checked))
     → Appends old new (checked_text checked)
     → IsChecked tells from table old new checked
-checked_of tells from table old new checked options line general line' general' section text texts line_is general_is options_are of_section of_table is_true printed = record {
-  line = line';
-  general = general';
-  texts = subst (λ bytes. AreTextsOf tells from bytes general') (sym line_is) (subst (λ bytes. AreTextsOf tells from line bytes) (sym general_is) texts);
-  section_bytes = section;
-  of_section = of_section;
-  table_bytes = text;
-  of_table = of_table;
-  is_true = subst (λ (given : Options). IfSome section (λ bytes. IfSome text (λ table_bytes.
-      IsTrueCheck line' general' given bytes table_bytes checked))) options_are is_true;
-  printed = printed;
-}
+checked_of tells from table old new checked options line general line' general' section text
+    texts line_is general_is options_are of_section of_table is_true printed = record {
+      line = line';
+      general = general';
+      texts = subst (λ bytes. AreTextsOf tells from bytes general') (sym line_is) (subst (λ bytes. AreTextsOf tells from line bytes) (sym general_is) texts);
+      section_bytes = section;
+      of_section = of_section;
+      table_bytes = text;
+      of_table = of_table;
+      is_true = subst (λ (given : Options). IfSome section (λ bytes. IfSome text (λ table_bytes.
+          IsTrueCheck line' general' given bytes table_bytes checked))) options_are is_true;
+      printed = printed;
+    }
 
 -- the same of all places where a table answers otherwise than a good section, of which nothing was printed
 pub places_of : (tells : List ℕ → Option (List ℕ) → Type 0) (from : Judging) (table : List ℕ) (old middle new : Option (List ℕ)) (told : Stretches) (options : Options) (line general line' general' : List ℕ) (section text : Option (List ℕ)) (result : Result JudgedIndex Halt) (index : Indexed) (printed : Result Stretches Halt)
