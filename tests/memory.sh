@@ -55,6 +55,10 @@ in_turn 'headers with sums' dump --big examples/powerpc64.debug_line
 in_turn 'operations and rows' dump --ops --rows examples/hello.debug_line
 in_turn 'a table' table examples/hello.debug_line --line-str examples/hello.debug_line_str
 in_turn 'a check' check examples/hello.debug_line examples/hello.csv --line-str examples/hello.debug_line_str
+"$program" table --paths examples/hello.debug_line --line-str examples/hello.debug_line_str >"$work/paths"
+in_turn 'a check by path' check examples/hello.debug_line "$work/paths" --line-str examples/hello.debug_line_str
+sed '$d' "$work/paths" >"$work/shorter"
+in_turn 'a difference by path' check examples/hello.debug_line "$work/shorter" --line-str examples/hello.debug_line_str
 in_turn 'a lookup' lookup examples/hello.debug_line 0x1137 --line-str examples/hello.debug_line_str
 in_turn 'a conversion' convert examples/hello.debug_line --format 64 --order big
 in_turn 'sums' md5 examples/hello-clang.debug_line --line-str examples/hello-clang.debug_line_str

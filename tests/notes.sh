@@ -173,7 +173,8 @@ faulty() { # NAME STDOUT NOTE TEXT
 names='low,low_op,high,high_op,unit,file,line,column,is_stmt'
 first=0x1129,0,0x1130,0,0,1,1,27,1
 second=0x1130,0,0x1137,0,0,1,1,36,1
-header="the table has to begin with $names or with this and ,isa,discriminator"
+numbered="the table has to begin with $names or with this and ,isa,discriminator"
+header="$numbered, or with low,high,path,line or with this and ,column"
 faulty 'no header' 'no 36 table header' "$header" ''
 faulty 'another header' 'no 36 table header' "$header" "$first\n"
 faulty 'too few fields' 'no 37 table fields record 2' 'line 3 of the table: each record has as many fields as the header has names' "$names\n$first\n0x1130,0\n"
@@ -194,6 +195,21 @@ done
 faulty 'a bad isa' 'no 38 table number record 1 column 9' "line 2 of the table: isa is $decimal" "$names,isa,discriminator\n$first,x,0\n"
 faulty 'a bad discriminator' 'no 38 table number record 1 column 10' "line 2 of the table: discriminator is $decimal" "$names,isa,discriminator\n$first,0,x\n"
 faulty 'spans in disorder' 'no 39 table order record 2' "line 3 of the table: each span ends above its low, which isn't below the high of the span before" "$names\n$second\n$first\n"
+for ((column = 0; column < 5; column++)); do
+  fields=(0x1130 0x1137 /w/src/small/a.c 1 36)
+  titles=(low high path line column)
+  [ "$column" -ne 2 ] || continue
+  fields[column]=x
+  kind=$decimal
+  [ "$column" -gt 1 ] || kind='0x and 1 to 16 hexadecimal digits'
+  faulty "by path, a bad ${titles[column]}" "no 38 table number record 1 column $column" "line 2 of the table: ${titles[column]} is $kind" \
+    "low,high,path,line,column\n$(IFS=,; echo "${fields[*]}")\n"
+done
+faulty 'by path, too many fields' 'no 37 table fields record 1' 'line 2 of the table: each record has as many fields as the header has names' 'low,high,path,line\n0x1130,0x1137,a,b,1\n'
+faulty 'by path, an empty span' 'no 39 table order record 1' "line 2 of the table: each span ends above its low, which isn't below the high of the span before" 'low,high,path,line\n0x1130,0x1130,a,1\n'
+printf 'low,high,path,line\n' >"$work/table"
+notes 'by path, nothing held' 0 $'yes\n' '' "$nothing" check /dev/null "$work/table"
+notes 'by path, all places' 1 $'no 36 table header\n' '' "with --all $numbered" check /dev/null "$work/table" --all
 faulty 'a field of two lines' 'no 38 table number record 3 column 1' "line 4 of the table: low_op is $decimal" "$names\n\"0x1129\",0,0x1130,0,0,1,1,27,1\n$second\n0x1137,\"x\n\",0x1139,0,0,1,1,50,1\n"
 input=$work/table
 notes 'a table on standard input' 1 $'no 38 table number record 3 column 1\n' '' "low_op is $decimal" check "${hello[@]:0:1}" - "${hello[@]:1}"

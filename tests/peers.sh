@@ -71,6 +71,8 @@ compare() { # SECTION LINE_STR ORDER DEAD
   llvm-dwarfdump --debug-line "$work/image" | examples/from-llvm "${dead[@]}" >"$work/theirs"
   ./linetab table --paths $big "${dead[@]}" "$1" --line-str "$2" >"$work/ours"
   same "the table by path of $1 by llvm-dwarfdump"
+  expect "$1 and its table by path by llvm-dwarfdump" 0 $'yes\n' '' \
+    ./linetab check $big "${dead[@]}" "$1" "$work/theirs" --line-str "$2"
 }
 
 # A program of this machine's compiler, and its table of what addr2line says of where the spans of another begin and end.
@@ -81,6 +83,7 @@ by_addr2line() {
   awk -F, 'NR > 1 { print $1; print $3 }' "$work/table" | addr2line -a -e "$work/loop" | examples/from-addr2line >"$work/theirs"
   ./linetab-object table "$work/loop" --lines >"$work/ours" 2>"$work/err"
   same "the table of a program's lines by addr2line"
+  expect "a program and the table of its lines by addr2line" 0 $'yes\n' '' ./linetab-object check "$work/loop" "$work/theirs"
 }
 
 for tool in llvm-objcopy llvm-dwarfdump readelf; do

@@ -76,6 +76,10 @@ if command -v python3 >/dev/null; then
   expect "a table of one's own, and an answer from it" 0 $'/w/src/small/a.c 2\n' '' bash -c 'cd "$0" && python3 "$1"' "$there" "$work/page.py"
   expect 'it is the one that is printed' 0 "$(<"$there/mine.csv")"$'\n' '' \
     ./linetab table --lines examples/hello.debug_line --line-str examples/hello.debug_line_str
+  expect 'it is checked' 0 $'yes\n' '' \
+    ./linetab check examples/hello.debug_line "$there/mine.csv" --line-str examples/hello.debug_line_str
+  expect 'it is checked with another line' 1 $'no 40 differs at 0x117f,0 table "/w/src/small/a.c",4 section "/w/src/small/a.c",3\n' '' \
+    ./linetab check examples/hello.debug_line - --line-str examples/hello.debug_line_str < <(sed 's/,3$/,4/' "$there/mine.csv")
 fi
 command -v make >/dev/null && expect 'the answers of a store' 0 $'yes\nyes\n' '' bash -c 'cat "$0"/store/*/*.answer' "$there"
 while IFS= read -r command; do

@@ -16,6 +16,16 @@ judge() { # NAME [OPTION..]
   expect "$1 and its table" 0 $'yes\n' '' ./linetab check "$section" "$work/table" "${words[@]}"
   expect "$1 and its wide table" 0 $'yes\n' '' ./linetab check "$section" "$work/wide" "${words[@]}"
   expect "$1 and its table on standard input" 0 $'yes\n' '' ./linetab check "$section" - "${words[@]}" <"$work/table"
+  for flag in --paths --lines; do
+    ./linetab table "$flag" "$section" "${words[@]}" >"$work/other"
+    expect "$1 and its table $flag" 0 $'yes\n' '' ./linetab check "$section" "$work/other" "${words[@]}"
+    IFS=, read -r low _ path rest < <(tail -n 1 "$work/other")
+    expect "$1 and its table $flag without the last record" 1 "no 40 differs at $low,0 table none section \"$path\",$rest"$'\n' '' \
+      ./linetab check "$section" - "${words[@]}" < <(head -n -1 "$work/other")
+    expect "$1 and its table $flag with another path at its end" 1 \
+      "no 40 differs at $low,0 table \"$path/\",$rest section \"$path\",$rest"$'\n' '' \
+      ./linetab check "$section" - "${words[@]}" < <(sed "\$s!$path!$path/!" "$work/other")
+  done
   records=$(($(wc -l <"$work/table") - 1))
   # Three records, picked by a fixed rule, with another line.
   for record in 1 $((records / 3 + 1)) "$records"; do

@@ -11,27 +11,32 @@ use Rattle.lnt_lines.specs.Indexed.{Indexed, IsIndexOf}
 use Rattle.lnt_words.specs.declared.request.Judging.{Judging}
 use Rattle.lnt_cli.specs.declared.stretches.Stretches.{Stretches}
 use Rattle.lnt_cli.specs.Stretches.{AreStretchesOf, IsFaultTold, told_status}
-use Rattle.lnt_table.specs.declared.verdict.Verdict.{Verdict}
-use Rattle.lnt_table.specs.Headline.{IsTrueVerdict}
+use Rattle.lnt_table.specs.declared.by_path.Checked.{Checked}
+use Rattle.lnt_table.specs.AnyVersion.{IsTrueCheck}
 use Rattle.lnt_cli.specs.Answered.{AnswersPlaces, AreTextsOf, IsChecked, options_in}
-use Rattle.lnt_cli.specs.Verdicts.{verdict_text}
+use Rattle.lnt_cli.specs.Verdicts.{checked_text}
 
 -- what is so of the texts and the options that were handed on is so of those that the words name
-pub checked_of : (tells : List ℕ → Option (List ℕ) → Type 0) (from : Judging) (table : List ℕ) (old new : Option (List ℕ)) (verdict : Verdict) (options : Options) (line general line' general' : List ℕ) (section text : Option (List ℕ))
+pub checked_of : (tells : List ℕ → Option (List ℕ) → Type 0) (from : Judging) (table : List ℕ)
+    (old new : Option (List ℕ)) (checked : Checked) (options : Options)
+    (line general line' general' : List ℕ) (section text : Option (List ℕ))
     → AreTextsOf tells from line general → line' ≡ line → general' ≡ general → options ≡ options_in from → tells from.section.now section → tells table text
-    → IfSome section (λ bytes. IfSome text (λ table_bytes. IsTrueVerdict line' general' options bytes table_bytes verdict)) → Appends old new (verdict_text verdict)
-    → IsChecked tells from table old new verdict
-checked_of tells from table old new verdict options line general line' general' section text texts line_is general_is options_are of_section of_table is_true printed = record {
-  line = line';
-  general = general';
-  texts = subst (λ bytes. AreTextsOf tells from bytes general') (sym line_is) (subst (λ bytes. AreTextsOf tells from line bytes) (sym general_is) texts);
-  section_bytes = section;
-  of_section = of_section;
-  table_bytes = text;
-  of_table = of_table;
-  is_true = subst (λ (given : Options). IfSome section (λ bytes. IfSome text (λ table_bytes. IsTrueVerdict line' general' given bytes table_bytes verdict))) options_are is_true;
-  printed = printed;
-}
+    → IfSome section (λ bytes. IfSome text (λ table_bytes. IsTrueCheck line' general' options bytes table_bytes checked))
+    → Appends old new (checked_text checked)
+    → IsChecked tells from table old new checked
+checked_of tells from table old new checked options line general line' general' section text
+    texts line_is general_is options_are of_section of_table is_true printed = record {
+      line = line';
+      general = general';
+      texts = subst (λ bytes. AreTextsOf tells from bytes general') (sym line_is) (subst (λ bytes. AreTextsOf tells from line bytes) (sym general_is) texts);
+      section_bytes = section;
+      of_section = of_section;
+      table_bytes = text;
+      of_table = of_table;
+      is_true = subst (λ (given : Options). IfSome section (λ bytes. IfSome text (λ table_bytes.
+          IsTrueCheck line' general' given bytes table_bytes checked))) options_are is_true;
+      printed = printed;
+    }
 
 -- the same of all places where a table answers otherwise than a good section, of which nothing was printed
 pub places_of : (tells : List ℕ → Option (List ℕ) → Type 0) (from : Judging) (table : List ℕ) (old middle new : Option (List ℕ)) (told : Stretches) (options : Options) (line general line' general' : List ℕ) (section text : Option (List ℕ)) (result : Result JudgedIndex Halt) (index : Indexed) (printed : Result Stretches Halt)

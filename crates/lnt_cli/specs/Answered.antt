@@ -16,12 +16,12 @@ use Rattle.lnt_words.specs.declared.request.Question.{Question}
 use Rattle.lnt_words.specs.declared.request.Reading.{Reading}
 use Rattle.lnt_words.specs.declared.request.Request.{Request}
 use Rattle.lnt_words.specs.declared.request.Request.TheVariants.{Help, Read, Judge, Check}
-use Rattle.lnt_table.specs.declared.verdict.Verdict.{Verdict}
-use Rattle.lnt_table.specs.Headline.{IsTrueVerdict}
+use Rattle.lnt_table.specs.declared.by_path.Checked.{Checked}
+use Rattle.lnt_table.specs.AnyVersion.{IsTrueCheck}
 use Rattle.lnt_cli.specs.Questions.{AnswersJudged}
 use Rattle.lnt_cli.specs.Readings.{AnswersReading}
 use Rattle.lnt_cli.specs.Stretches.{ArePlacesTold}
-use Rattle.lnt_cli.specs.Verdicts.{verdict_status, verdict_text}
+use Rattle.lnt_cli.specs.Verdicts.{checked_status, checked_text}
 
 -- how a section is to be read
 abbrev pub options_in : Judging → Options
@@ -37,8 +37,10 @@ pub record AreTextsOf (tells : List ℕ → Option (List ℕ) → Type 0) (from 
   pub line_is : AreStringsOf tells (option_copied from.line_strings) line
   pub general_is : AreStringsOf tells (option_copied from.strings) general
 
--- The verdict is true of the section and the table whose files are named, and the writer has gained its line and nothing else.
-pub record IsChecked (tells : List ℕ → Option (List ℕ) → Type 0) (from : Judging) (table : List ℕ) (old new : Option (List ℕ)) (verdict : Verdict) : Type 0 where
+-- What the check answers is true of the section and the table, of any version, whose files are named, and the writer has gained
+-- its line and nothing else.
+pub record IsChecked (tells : List ℕ → Option (List ℕ) → Type 0) (from : Judging) (table : List ℕ)
+    (old new : Option (List ℕ)) (checked : Checked) : Type 0 where
   pub line : List ℕ
   pub general : List ℕ
   pub texts : AreTextsOf tells from line general
@@ -46,14 +48,16 @@ pub record IsChecked (tells : List ℕ → Option (List ℕ) → Type 0) (from :
   pub of_section : tells from.section.now section_bytes
   pub table_bytes : Option (List ℕ)
   pub of_table : tells table table_bytes
-  pub is_true : IfSome section_bytes (λ section. IfSome table_bytes (λ text. IsTrueVerdict line general (options_in from) section text verdict))
-  pub printed : Appends old new (verdict_text verdict)
+  pub is_true : IfSome section_bytes (λ section. IfSome table_bytes (λ text.
+      IsTrueCheck line general (options_in from) section text checked))
+  pub printed : Appends old new (checked_text checked)
 
--- That, and the run ends as the verdict is.
-pub record AnswersCheck (tells : List ℕ → Option (List ℕ) → Type 0) (from : Judging) (table : List ℕ) (old new : Option (List ℕ)) (status : Status) : Type 0 where
-  pub verdict : Verdict
-  pub checked : IsChecked tells from table old new verdict
-  pub status_is : status ≡ verdict_status verdict
+-- That, and the run ends as the answer is.
+pub record AnswersCheck (tells : List ℕ → Option (List ℕ) → Type 0) (from : Judging) (table : List ℕ)
+    (old new : Option (List ℕ)) (status : Status) : Type 0 where
+  pub checked : Checked
+  pub so : IsChecked tells from table old new checked
+  pub status_is : status ≡ checked_status checked
 
 -- ---- sections that are judged
 

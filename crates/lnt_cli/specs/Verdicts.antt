@@ -1,15 +1,23 @@
--- What is printed of a verdict on a section and a table.
-use Rattle.std.specs.Prelude.{ℕ, List, ◌++◌, codes, decimal}
+-- What is printed of a check of a section and a table.
+use Rattle.std.specs.Prelude.{ℕ, List, [], ◌++◌, Option, None, Some, codes, decimal}
 use Rattle.lnt_sources.specs.declared.status.Status.{Status}
 use Rattle.lnt_sources.specs.declared.status.Status.TheVariants as status
 use Rattle.lnt_records.specs.declared.fault.TableFault.{TableFault}
 use Rattle.lnt_records.specs.declared.fault.TableFault.TheVariants as fault
+use Rattle.lnt_paths.specs.declared.answer.AnswerByPath.{AnswerByPath}
+use Rattle.lnt_paths.specs.declared.answer.ComparedByPath.{ComparedByPath}
+use Rattle.lnt_paths.specs.declared.answer.ComparedByPath.TheVariants.{Same, Fault, Differs}
+use Rattle.lnt_paths.specs.declared.answer.DifferenceByPath.{DifferenceByPath}
+use Rattle.lnt_table.specs.declared.by_path.Checked.{Checked}
+use Rattle.lnt_table.specs.declared.by_path.Checked.TheVariants.{Numbered, ByPath}
 use Rattle.lnt_table.specs.declared.verdict.TableNo.{TableNo}
 use Rattle.lnt_table.specs.declared.verdict.TableNo.TheVariants as no
 use Rattle.lnt_table.specs.declared.verdict.Verdict.{Verdict}
 use Rattle.lnt_table.specs.declared.verdict.Verdict.TheVariants.{Yes, No}
 use Rattle.lnt_answers.specs.DifferenceLines.{difference_text}
 use Rattle.lnt_answers.specs.Texts.{no_text}
+use Rattle.lnt_text.specs.Quotes.{quoted_text}
+use Rattle.lnt_text.specs.Texts.{position_text}
 
 -- why a table doesn't answer as the section does
 abbrev pub table_no_text : TableNo → List ℕ
@@ -36,3 +44,46 @@ reason_of fault.Header = no.Header
 reason_of (fault.Fields record_number) = no.Fields record_number
 reason_of (fault.Number record_number column) = no.Number record_number column
 reason_of (fault.Order record_number) = no.Order record_number
+
+-- ---- tables by path
+
+-- the column of an answer, where the version tells it
+abbrev pub column_text : Option ℕ → List ℕ
+column_text None = []
+column_text (Some column) = codes "," ++ decimal column
+
+-- what is answered by path, as the fields of a table's record after its positions, the path always in quotes
+abbrev pub path_answer_text : Option AnswerByPath → List ℕ
+path_answer_text None = codes "none"
+path_answer_text (Some answer) =
+    quoted_text answer.path.items ++ (codes "," ++ (decimal answer.line ++ column_text answer.column))
+
+-- that a table by path answers otherwise at a position, with both answers
+abbrev pub path_difference_text : DifferenceByPath → List ℕ
+path_difference_text difference =
+    codes "no 40 differs at " ++ (position_text difference.position ++ (codes " table " ++
+    (path_answer_text difference.by_table ++ (codes " section " ++ path_answer_text difference.by_section))))
+
+-- the line of what a comparison by path tells
+abbrev pub compared_text : ComparedByPath → List ℕ
+compared_text Same = codes "yes\n"
+compared_text (Fault told) = table_no_text (reason_of told) ++ codes "\n"
+compared_text (Differs difference) = path_difference_text difference ++ codes "\n"
+
+-- how a run ends that tells it
+abbrev pub compared_status : ComparedByPath → Status
+compared_status Same = status.Done
+compared_status (Fault told) = status.No
+compared_status (Differs difference) = status.No
+
+-- ---- tables of any version
+
+-- the line of what a check answers
+abbrev pub checked_text : Checked → List ℕ
+checked_text (Numbered verdict) = verdict_text verdict
+checked_text (ByPath compared) = compared_text compared
+
+-- how a run ends that tells it
+abbrev pub checked_status : Checked → Status
+checked_status (Numbered verdict) = verdict_status verdict
+checked_status (ByPath compared) = compared_status compared

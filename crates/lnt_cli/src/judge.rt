@@ -3,7 +3,7 @@ ghost use Rattle.std.specs.Prelude.{◌≡◌, IfErr, IfOk};
 ghost use Rattle.lnt_cli.specs.Answered.{AnswersCheck, AnswersPlaces, IsChecked, options_in};
 ghost use Rattle.lnt_cli.specs.Stops.{IsUsage};
 ghost use Rattle.lnt_cli.specs.Stretches.{places_status};
-ghost use Rattle.lnt_cli.specs.Verdicts.{verdict_status};
+ghost use Rattle.lnt_cli.specs.Verdicts.{checked_status, compared_status, verdict_status};
 
 use crate::inputs::{of_file, open, open_section, read_texts};
 use crate::session::Session;
@@ -12,10 +12,10 @@ use crate::stretches::{Places, Stretches, print_stretches};
 use crate::table::print_check;
 use lnt_answers::judge_section;
 use lnt_lines::{JudgedIndex, No, Options};
-use lnt_notes::{Given, Hints, Seen, tell_agreed, tell_bad, tell_good, tell_table};
+use lnt_notes::{Columns, Given, Hints, Seen, tell_agreed, tell_bad, tell_good, tell_table};
 use lnt_records::TableFault;
 use lnt_sources::{Opener, Status};
-use lnt_table::{TableNo, Verdict};
+use lnt_table::{Checked, ComparedByPath, TableNo, Verdict};
 use lnt_wire::Source;
 use lnt_words::Judging;
 use std::alloc::Global;
@@ -54,13 +54,13 @@ impl<O: Opener, W: Write, N: Write> Session<'_, '_, '_, O, W, N> {
         ensures same_reference { self.new.out.ghost_name ≡ self.old.out.ghost_name }
     {
         let seen = Cell::new(Seen::nothing());
-        let verdict = judge_table(self.alloc, from, table, self.opener, &seen, self.out)?;
-        Ok(self.tell_verdict(&verdict, &seen.get(), from, table))
+        let checked = judge_table(self.alloc, from, table, self.opener, &seen, self.out)?;
+        Ok(self.tell_checked(&checked, &seen.get(), from, table))
     }
 }
 
-// Judges whether the table of this name answers as the section does, and prints the verdict. Of the section's bytes is kept
-// what was seen.
+// Judges whether the table of this name, of any version, answers as the section does, and prints the answer. Of the section's
+// bytes is kept what was seen.
 fn judge_table<O: Opener, W: Write>(
     alloc: Global,
     from: &Judging<'_>,
@@ -68,10 +68,10 @@ fn judge_table<O: Opener, W: Write>(
     opener: &mut O,
     seen: &Cell<Seen>,
     out: &mut W,
-) -> Result<Verdict, CliStop>
+) -> Result<Checked, CliStop>
     ensures usage { IfErr result (λ stop. IsUsage stop → ⊥) }
-    ensures checked { IfOk result (λ verdict.
-        IsChecked (O.tells opener.old) from.now table.now (W.contents out.old) (W.contents out.new) verdict) }
+    ensures checked { IfOk result (λ checked.
+        IsChecked (O.tells opener.old) from.now table.now (W.contents out.old) (W.contents out.new) checked) }
 {
     let texts = read_texts(alloc, opener, from)?;
     let opened = open_section(alloc, opener, from.section, seen);
@@ -80,7 +80,7 @@ fn judge_table<O: Opener, W: Write>(
     let options = options_of(from);
     let strings = texts.strings();
     match print_check(alloc, &mut section, &strings, &mut records, &options, out) {
-        Ok(verdict) => Ok(verdict),
+        Ok(checked) => Ok(checked),
         // The section is read first: where it was the cause, the table is as it was.
         Err(halt) => {
             let of_section = section.failures() > 0 || section.too_long();
@@ -105,7 +105,9 @@ impl<O: Opener, W: Write, N: Write> Session<'_, '_, '_, O, W, N> {
                 self.tell_bad(&no, &seen.get(), from);
                 Ok(Status::No)
             }
-            Places::Table(Stretches::Faulty(fault)) => Ok(self.tell_fault(fault, table)),
+            Places::Table(Stretches::Faulty(fault)) => {
+                Ok(self.tell_fault(fault, Columns::Numbered, table))
+            }
             Places::Table(Stretches::Told(Status::Done)) => Ok(self.tell_agreed(from, table)),
             Places::Table(Stretches::Told(Status::No)) => Ok(Status::No),
         }
@@ -171,6 +173,38 @@ impl<O: Opener, W: Write, N: Write> Session<'_, '_, '_, O, W, N> {
         }
     }
 
+    fn tell_checked(
+        &mut self,
+        checked: &Checked,
+        seen: &Seen,
+        from: &Judging<'_>,
+        table: &str,
+    ) -> Status
+        ensures status { result ≡ checked_status checked.now }
+        ensures same { self.new.out ≡ self.old.out }
+    {
+        match checked {
+            Checked::Numbered(verdict) => self.tell_verdict(verdict, seen, from, table),
+            Checked::ByPath(compared) => self.tell_compared(compared, from, table),
+        }
+    }
+
+    fn tell_compared(
+        &mut self,
+        compared: &ComparedByPath,
+        from: &Judging<'_>,
+        table: &str,
+    ) -> Status
+        ensures status { result ≡ compared_status compared.now }
+        ensures same { self.new.out ≡ self.old.out }
+    {
+        match compared {
+            ComparedByPath::Same => self.tell_agreed(from, table),
+            ComparedByPath::Fault(fault) => self.tell_fault(*fault, Columns::ByPath, table),
+            ComparedByPath::Differs(_) => Status::No,
+        }
+    }
+
     fn tell_verdict(
         &mut self,
         verdict: &Verdict,
@@ -190,7 +224,7 @@ impl<O: Opener, W: Write, N: Write> Session<'_, '_, '_, O, W, N> {
             Verdict::Yes => return self.tell_agreed(from, table),
         };
         match fault_of(no) {
-            Some(fault) => self.tell_fault(fault, table),
+            Some(fault) => self.tell_fault(fault, Columns::Numbered, table),
             None => Status::No,
         }
     }
@@ -206,12 +240,12 @@ impl<O: Opener, W: Write, N: Write> Session<'_, '_, '_, O, W, N> {
         Status::Done
     }
 
-    fn tell_fault(&mut self, fault: TableFault, table: &str) -> Status
+    fn tell_fault(&mut self, fault: TableFault, columns: Columns, table: &str) -> Status
         ensures status { result ≡ Status.No }
         ensures same { self.new.out ≡ self.old.out }
     {
         if !self.quiet {
-            let _ = tell_table(self.alloc, fault, table, self.opener, self.notes);
+            let _ = tell_table(self.alloc, fault, columns, table, self.opener, self.notes);
         }
         Status::No
     }

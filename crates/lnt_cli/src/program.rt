@@ -43,8 +43,8 @@ pub fn run<O: Opener, W: Write, N: Write>(
 
 /// Answers what is asked for, and writes the answer to `out`, and its notes to `notes`.
 ///
-/// Where a check of a table is asked for, `out` has gained one line, and nothing else: `yes`, where all that `check` of
-/// `lnt_table` says of Yes is so of the bytes that the opener tells of the files; or the first thing that is wrong, which is
+/// Where a check of a table is asked for, `out` has gained one line, and nothing else: `yes`, where all that `check_any` of
+/// `lnt_table` says of it is so of the bytes that the opener tells of the files; or the first thing that is wrong, which is
 /// so of them (`AnswersCheck`). It answers `Done` exactly where that line is `yes`, and else `No`. Where all places are asked
 /// for, `out` has gained a line for each of them, or `yes` where there is none (`AnswersPlaces`).
 ///

@@ -1,16 +1,15 @@
 //! The subcommand `check` where it tells all places.
 ghost use Rattle.std.specs.Prelude.{◌≡◌, ◌-◌, ◌^◌, ◌<◌, ◌+◌, Bool, ℕ, List, Option, IfOk, IfSome, IsErrOf};
 ghost use Rattle.lnt_cli.specs.Stretches.{AreStretchesOf, IsFaultTold};
-ghost use Rattle.lnt_cli.specs.Verdicts.{reason_of};
 ghost use Rattle.lnt_lines.specs.Indexed.{IsIndexOf};
 ghost use Rattle.lnt_unit.specs.declared.unit.Parts.{Parts};
 
-use crate::verdict::TableNoLine;
+use crate::verdict::{TableNoLine, no_of};
 use lnt_answers::print_differences;
 use lnt_lines::{Index, No};
 use lnt_records::TableFault;
 use lnt_sources::{Halt, Status};
-use lnt_table::{Differing, TableNo, differences};
+use lnt_table::{Differing, differences};
 use lnt_wire::Source;
 use std::alloc::Global;
 use std::io::Write;
@@ -57,17 +56,5 @@ pub(crate) fn print_stretches<T: Source, W: Write>(
             Ok(Stretches::Faulty(fault))
         }
         Err(stop) => Err(Halt::from(stop)),
-    }
-}
-
-// The same as a reason.
-fn no_of(fault: TableFault) -> TableNo
-    ensures { result ≡ reason_of fault }
-{
-    match fault {
-        TableFault::Header => TableNo::Header,
-        TableFault::Fields(record) => TableNo::Fields(record),
-        TableFault::Number(record, column) => TableNo::Number { record, column },
-        TableFault::Order(record) => TableNo::Order(record),
     }
 }

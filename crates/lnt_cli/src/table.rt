@@ -2,17 +2,17 @@
 ghost use Rattle.std.specs.Prelude.{◌≡◌, ◌++◌, ◌-◌, ◌^◌, ◌<◌, Bool, ℕ, List, Option, IfOk, IfSome, OnOk};
 ghost use Rattle.std.specs.Io.KnownBytes.{Appends};
 ghost use Rattle.lnt_sources.specs.declared.status.Status.TheVariants.{Done};
-ghost use Rattle.lnt_table.specs.Headline.{IsTrueVerdict};
+ghost use Rattle.lnt_table.specs.AnyVersion.{IsTrueCheck};
 ghost use Rattle.lnt_unit.specs.declared.unit.Parts.{Parts};
 ghost use Rattle.lnt_lines.specs.Indexed.{IsIndexOf};
 ghost use Rattle.lnt_table.specs.Written.{IsTableOfUnits};
-ghost use Rattle.lnt_cli.specs.Verdicts.{verdict_text};
+ghost use Rattle.lnt_cli.specs.Verdicts.{checked_text, compared_text, verdict_text};
 
-use crate::verdict::TableNoLine;
+use crate::verdict::{PathDifferenceLine, TableNoLine, no_of};
 use lnt_lines::{Index, Options};
 use lnt_sources::{Halt, Status};
 use lnt_spans::Version;
-use lnt_table::{Verdict, WriteStop, check, write_index};
+use lnt_table::{Checked, ComparedByPath, Verdict, WriteStop, check_any, write_index};
 use lnt_wire::{Source, Strings};
 use std::alloc::Global;
 use std::io::Write;
@@ -35,7 +35,8 @@ pub(crate) fn print_table<W: Write>(
     }
 }
 
-// Judges whether the table answers as the section does, and prints the line of the verdict, which is so, and nothing else.
+// Judges whether the table, of any version, answers as the section does, and prints the line of the answer, which is so, and
+// nothing else.
 pub(crate) fn print_check<R: Source, T: Source, W: Write>(
     alloc: Global,
     section: &mut R,
@@ -43,17 +44,42 @@ pub(crate) fn print_check<R: Source, T: Source, W: Write>(
     table: &mut T,
     options: &Options,
     out: &mut W,
-) -> Result<Verdict, Halt>
+) -> Result<Checked, Halt>
     requires section_fails { R.failures section.old < 2 ^ 64 - 1 }
     requires table_fails { T.failures table.old < 2 ^ 64 - 1 }
-    ensures verdict { IfOk result (λ verdict. IfSome (R.remaining section.old) (λ bytes. IfSome (T.remaining table.old) (λ text.
-        IsTrueVerdict strings.now.line.now strings.now.general.now options.now bytes text verdict))) }
-    ensures line { IfOk result (λ verdict. Appends (W.contents out.old) (W.contents out.new) (verdict_text verdict)) }
+    ensures checked { IfOk result (λ checked. IfSome (R.remaining section.old) (λ bytes. IfSome (T.remaining table.old) (λ text.
+        IsTrueCheck strings.now.line.now strings.now.general.now options.now bytes text checked))) }
+    ensures line { IfOk result (λ checked. Appends (W.contents out.old) (W.contents out.new) (checked_text checked)) }
 {
-    let verdict = check(alloc, section, strings, table, options)?;
+    let checked = check_any(alloc, section, strings, table, options)?;
+    match &checked {
+        Checked::Numbered(verdict) => print_verdict(*verdict, out)?,
+        Checked::ByPath(compared) => print_compared(compared, out)?,
+    }
+    Ok(checked)
+}
+
+// Prints the line of a verdict on a table of version 1 or 2.
+fn print_verdict<W: Write>(verdict: Verdict, out: &mut W) -> Result<(), Halt>
+    ensures { OnOk result (Appends (W.contents out.old) (W.contents out.new) (verdict_text verdict)) }
+{
     match verdict {
         Verdict::Yes => writeln!(out, "yes")?,
         Verdict::No(no) => writeln!(out, "{}", TableNoLine(no))?,
     }
-    Ok(verdict)
+    Ok(())
+}
+
+// Prints the line of what a comparison by path tells.
+fn print_compared<W: Write>(compared: &ComparedByPath, out: &mut W) -> Result<(), Halt>
+    ensures { OnOk result (Appends (W.contents out.old) (W.contents out.new) (compared_text compared.now)) }
+{
+    match compared {
+        ComparedByPath::Same => writeln!(out, "yes")?,
+        ComparedByPath::Fault(fault) => writeln!(out, "{}", TableNoLine(no_of(*fault)))?,
+        ComparedByPath::Differs(difference) => {
+            writeln!(out, "{}", PathDifferenceLine(difference))?;
+        }
+    }
+    Ok(())
 }

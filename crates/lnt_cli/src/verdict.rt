@@ -1,10 +1,13 @@
 //! How the evidence against a table is printed.
-ghost use Rattle.std.specs.Prelude.{Some};
-ghost use Rattle.lnt_cli.specs.Verdicts.{table_no_text};
+ghost use Rattle.std.specs.Prelude.{◌≡◌, Some};
+ghost use Rattle.lnt_cli.specs.Verdicts.{column_text, path_answer_text, path_difference_text, reason_of, table_no_text};
 
 use lnt_answers::{DifferenceLine, NoLine};
+use lnt_paths::{AnswerByPath, DifferenceByPath};
+use lnt_records::TableFault;
 use lnt_spans::Difference;
 use lnt_table::TableNo;
+use lnt_text::{PositionText, Quoted};
 use std::fmt;
 
 // The line that says why a table isn't one, or doesn't answer as the section does, without its line feed.
@@ -35,6 +38,66 @@ impl fmt::Display for TableNoLine {
                 };
                 write!(f, "{}", DifferenceLine(difference))
             }
+        }
+    }
+}
+
+// The first fault of a table as a reason against it.
+pub(crate) fn no_of(fault: TableFault) -> TableNo
+    ensures { result ≡ reason_of fault }
+{
+    match fault {
+        TableFault::Header => TableNo::Header,
+        TableFault::Fields(record) => TableNo::Fields(record),
+        TableFault::Number(record, column) => TableNo::Number { record, column },
+        TableFault::Order(record) => TableNo::Order(record),
+    }
+}
+
+// The line that says where a table by path answers otherwise than a section, with both answers, without its line feed.
+#[derive(Clone, Copy)]
+pub(crate) struct PathDifferenceLine<'a>(pub(crate) &'a DifferenceByPath);
+
+impl fmt::Display for PathDifferenceLine<'_> {
+    ghost output = { λ line. Some (path_difference_text line.0.now) };
+
+    fn fmt<W: fmt::Write>(&self, f: &mut fmt::Formatter<W>) -> fmt::Result {
+        let at = PositionText(self.0.position);
+        let table = PathAnswerText(&self.0.by_table);
+        let section = PathAnswerText(&self.0.by_section);
+        write!(f, "no 40 differs at {at} table {table} section {section}")
+    }
+}
+
+// What is answered by path, as the fields of a table's record after its positions, the path always in quotes; or `none`.
+#[derive(Clone, Copy)]
+struct PathAnswerText<'a>(&'a Option<AnswerByPath>);
+
+impl fmt::Display for PathAnswerText<'_> {
+    ghost output = { λ text. Some (path_answer_text text.0.now) };
+
+    fn fmt<W: fmt::Write>(&self, f: &mut fmt::Formatter<W>) -> fmt::Result {
+        let Some(answer) = self.0 else {
+            return write!(f, "none");
+        };
+        let path = Quoted(&answer.path);
+        let line = answer.line;
+        let column = ColumnText(answer.column);
+        write!(f, "{path},{line}{column}")
+    }
+}
+
+// The column of an answer after a comma, where the version tells it.
+#[derive(Clone, Copy)]
+struct ColumnText(Option<u64>);
+
+impl fmt::Display for ColumnText {
+    ghost output = { λ text. Some (column_text text.0) };
+
+    fn fmt<W: fmt::Write>(&self, f: &mut fmt::Formatter<W>) -> fmt::Result {
+        match self.0 {
+            Some(column) => write!(f, ",{column}"),
+            None => Ok(()),
         }
     }
 }

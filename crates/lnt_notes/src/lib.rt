@@ -14,6 +14,7 @@ mod tell;
 mod texts;
 mod watched;
 
+pub use lines::Columns;
 pub use tell::{
     Given, Hints, hints_of, print_note, tell_agreed, tell_bad, tell_good, tell_refused, tell_table,
 };

@@ -30,8 +30,35 @@ pub(crate) fn line_of<R: Read + Drop>(
     }
 }
 
-// The column with an index, counted from 0.
-pub(crate) fn column_at(index: u64) -> Column {
+/// Which columns a table has.
+#[derive(Clone, Copy, Debug, PartialEq, Eq)]
+pub enum Columns {
+    /// Those of version 1 or 2, which tell units and file numbers.
+    Numbered,
+    /// Those of version 3 or 4, which tell paths.
+    ByPath,
+}
+
+// The column with an index, counted from 0, of a table with these columns.
+pub(crate) fn column_at(columns: Columns, index: u64) -> Column {
+    match columns {
+        Columns::Numbered => numbered_column(index),
+        Columns::ByPath => path_column(index),
+    }
+}
+
+// The column of version 3 or 4. A path, in column 2, may be any bytes, so that nothing is said of it.
+fn path_column(index: u64) -> Column {
+    match index {
+        0 => Column::Low,
+        1 => Column::High,
+        3 => Column::Line,
+        _ => Column::Column,
+    }
+}
+
+// The column of version 1 or 2.
+fn numbered_column(index: u64) -> Column {
     match index {
         0 => Column::Low,
         1 => Column::LowOp,

@@ -4,7 +4,7 @@ ghost use Rattle.std.specs.Io.KnownBytes.{Appends};
 ghost use Rattle.lnt_text.specs.Notes.{note_line};
 
 use crate::ends::end_alike;
-use crate::lines::{column_at, line_of};
+use crate::lines::{Columns, column_at, line_of};
 use crate::look::look_of;
 use crate::marks::may_be_mark;
 use crate::survey::{Survey, survey_of};
@@ -277,19 +277,25 @@ pub fn tell_agreed<O: Opener, N: Write>(
     Ok(())
 }
 
-/// Prints the note to a fault of the table in the file of this name.
+/// Prints the note to a fault of the table in the file of this name, which was read as one with these columns. `ByPath` says of
+/// a faulty header that it is that of no version at all.
 pub fn tell_table<O: Opener, N: Write>(
     alloc: Global,
     fault: TableFault,
+    columns: Columns,
     table: &str,
     opener: &mut O,
     notes: &mut N,
 ) -> io::Result<()> {
     let note = match fault {
-        TableFault::Header => Note::TableHeader,
+        TableFault::Header => match columns {
+            Columns::Numbered => Note::NumberedHeader,
+            Columns::ByPath => Note::TableHeader,
+        },
         TableFault::Fields(record) => Note::TableFields(line_again(alloc, record, table, opener)),
         TableFault::Number(record, column) => {
-            Note::TableNumber(line_again(alloc, record, table, opener), column_at(column))
+            let line = line_again(alloc, record, table, opener);
+            Note::TableNumber(line, column_at(columns, column))
         }
         TableFault::Order(record) => Note::TableOrder(line_again(alloc, record, table, opener)),
     };

@@ -1,7 +1,7 @@
 //! Notes: what helps a person, after an answer that stays as it is.
 ghost use Rattle.std.specs.Prelude.{Some};
 ghost use Rattle.lnt_text.specs.Notes.{advice_text, argument_text, column_kind, column_name, count_text, line_text};
-ghost use Rattle.lnt_text.specs.Notes.{look_text, note_text, strings_text};
+ghost use Rattle.lnt_text.specs.Notes.{look_text, note_text, numbered_headers, strings_text};
 
 use lnt_wire::Order;
 use std::fmt;
@@ -25,8 +25,10 @@ pub enum Note {
     HoldsNothing,
     /// The good section lists no MD5 sum.
     NoSums,
-    /// The table doesn't begin with a header.
+    /// The table begins with the header of no version.
     TableHeader,
+    /// The table doesn't begin with the header of a version that tells units and file numbers, and `--all` takes no other.
+    NumberedHeader,
     /// A record hasn't as many fields as its table has columns. It begins in this line of the text, where that is known.
     TableFields(Option<u64>),
     /// In this column, a record holds what isn't of its kind.
@@ -137,7 +139,13 @@ impl fmt::Display for Note {
             Note::NoSums => write!(f, "the section lists no MD5 sum, so nothing was compared"),
             Note::TableHeader => write!(
                 f,
-                "the table has to begin with low,low_op,high,high_op,unit,file,line,column,is_stmt or with this and ,isa,discriminator"
+                "the table has to begin with {}, or with low,high,path,line or with this and ,column",
+                NumberedHeaders
+            ),
+            Note::NumberedHeader => write!(
+                f,
+                "with --all the table has to begin with {}",
+                NumberedHeaders
             ),
             Note::TableFields(line) => write!(
                 f,
@@ -157,6 +165,21 @@ impl fmt::Display for Note {
                 LineText(line)
             ),
         }
+    }
+}
+
+// The headers of the versions that tell units and file numbers.
+#[derive(Clone, Copy)]
+struct NumberedHeaders;
+
+impl fmt::Display for NumberedHeaders {
+    ghost output = { λ _. Some numbered_headers };
+
+    fn fmt<W: fmt::Write>(&self, f: &mut fmt::Formatter<W>) -> fmt::Result {
+        write!(
+            f,
+            "low,low_op,high,high_op,unit,file,line,column,is_stmt or with this and ,isa,discriminator"
+        )
     }
 }
 
