@@ -6,11 +6,11 @@ ghost use Rattle.lnt_files.specs.Tables.{AreUsableTables};
 ghost use Rattle.lnt_sources.specs.Halts.{IsPrinting};
 
 use lnt_files::{file_count, listed, path_of};
+use lnt_header::Header;
 use lnt_lines::Index;
 use lnt_sources::{Halt, LIMIT, Opener, Status};
 use lnt_sums::{Agreement, md5_agrees};
 use lnt_text::Quoted;
-use lnt_unit::Header;
 use lnt_wire::{Counted, Strings};
 use std::alloc::Global;
 use std::io::Write;

@@ -1,10 +1,11 @@
 //! The walks that are timed.
 ghost use Rattle.std.specs.Prelude.{◌≡◌, ◌<◌, ◌^◌, length, IfOk};
-ghost use Rattle.lnt_stream.specs.declared.reader.Progress.TheVariants.{Reading};
 
 use anyhow::{Result, anyhow};
+use lnt_header::OpView;
 use lnt_machine::Machine;
-use lnt_unit::{OpView, SectionReader, UnitBuffer, UnitView, decode_section};
+use lnt_stream::{SectionReader, UnitBuffer};
+use lnt_unit::{UnitView, decode_section};
 use lnt_wire::{Counted, Cursor, Order};
 use std::alloc::Global;
 
