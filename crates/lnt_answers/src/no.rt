@@ -2,10 +2,10 @@
 ghost use Rattle.std.specs.Prelude.{Some};
 ghost use Rattle.lnt_answers.specs.Texts.{no_text, sequence_text, table_text};
 
+use lnt_header::EntryTable;
 use lnt_lines::No;
 use lnt_sequences::SeqId;
 use lnt_text::{MalformedLine, PositionText, RunLine};
-use lnt_unit::EntryTable;
 use std::fmt;
 
 /// The line that says why a section isn't good, without its line feed.

@@ -6,11 +6,11 @@ ghost use Rattle.lnt_files.specs.Tables.{AreUsableTables};
 ghost use Rattle.lnt_sources.specs.Halts.{IsPrinting};
 
 use lnt_files::{file_count, listed, path_of};
+use lnt_header::Header;
 use lnt_lines::Index;
 use lnt_sources::{Halt, LIMIT, Opener, Status};
 use lnt_sums::{Agreement, md5_agrees};
 use lnt_text::Quoted;
-use lnt_unit::Header;
 use lnt_wire::{Counted, Strings};
 use std::alloc::Global;
 use std::io::Write;
@@ -82,10 +82,18 @@ fn print_files_of<O: Opener, W: Write>(
 /// Whether a sum is listed of any file. It takes no memory.
 pub fn lists_sums(index: &Index<'_>) -> bool {
     for unit in index.units() {
-        for file in 0..index.file_count(*unit) {
-            if index.listed(*unit, file).is_some() {
-                return true;
-            }
+        if lists_sums_in(index, *unit) {
+            return true;
+        }
+    }
+    false
+}
+
+// Whether one is listed of a file of the unit at this offset.
+fn lists_sums_in(index: &Index<'_>, unit: u64) -> bool {
+    for file in 0..index.file_count(unit) {
+        if index.listed(unit, file).is_some() {
+            return true;
         }
     }
     false

@@ -1,10 +1,11 @@
 //! The walks that are timed.
 ghost use Rattle.std.specs.Prelude.{◌≡◌, ◌<◌, ◌^◌, length, IfOk};
-ghost use Rattle.lnt_stream.specs.declared.reader.Progress.TheVariants.{Reading};
 
 use anyhow::{Result, anyhow};
+use lnt_header::OpView;
 use lnt_machine::Machine;
-use lnt_unit::{OpView, SectionReader, UnitBuffer, UnitView, decode_section};
+use lnt_stream::{SectionReader, UnitBuffer};
+use lnt_unit::{Unit, UnitView, decode_section};
 use lnt_wire::{Counted, Cursor, Order};
 use std::alloc::Global;
 
@@ -109,9 +110,15 @@ pub(crate) fn sum_of_units(alloc: Global, bytes: &[u8]) -> Result<u64> {
     };
     let mut sum = 0u64;
     for (_, unit) in &units {
-        for op in unit.ops() {
-            sum = sum.wrapping_add(weight(&op.view()));
-        }
+        sum = sum.wrapping_add(sum_of_kept(unit));
     }
     Ok(sum)
+}
+
+fn sum_of_kept(unit: &Unit) -> u64 {
+    let mut sum = 0u64;
+    for op in unit.ops() {
+        sum = sum.wrapping_add(weight(&op.view()));
+    }
+    sum
 }

@@ -17,6 +17,7 @@ mod table;
 mod verdict;
 
 pub use lnt_sources::{Opener, Status};
+pub use lnt_sums::{Agreement, md5_agrees, sum_of};
 pub use lnt_words::Asked;
 pub use program::{answer, run};
 pub use stop::CliStop;

@@ -31,10 +31,6 @@ pub fewer_digits : (radix : Radix) (n room : ℕ) → n < base radix ^ (room + 1
 fewer_digits Ten n room h = omega (arith, h, pow_more 10 room)
 fewer_digits Sixteen n room h = omega (arith, h, pow_more 16 room)
 
-pub base_at_most : (radix : Radix) → base radix ≤ 16
-base_at_most Ten = omega arith
-base_at_most Sixteen = omega arith
-
 -- ---- the digit that is worth so much
 
 code_low : (d : ℕ) → d < 10 → digit_code d ≡ 48 + d

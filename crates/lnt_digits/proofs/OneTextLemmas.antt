@@ -8,11 +8,6 @@ use Rattle.lnt_digits.specs.declared.radix.Radix.TheVariants.{Ten, Sixteen}
 use Rattle.lnt_digits.specs.Digits.{IsDigit, IsLower, IsPlain, base, digit_value, digits_value}
 use Rattle.lnt_digits.specs.Laws.{OneAddress, OneDecimal}
 
--- a digit in lower case
-record Digit (radix : Radix) (c : ℕ) : Type 0 where
-  digit : IsDigit radix c
-  lower : IsLower c
-
 worth_below : (radix : Radix) (c : ℕ) → IsDigit radix c → digit_value c < base radix
 worth_below Ten c h = grind (arith, nat_tests)
 worth_below Sixteen c (inl h) = grind (arith, nat_tests)

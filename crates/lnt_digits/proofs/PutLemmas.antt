@@ -7,7 +7,7 @@ use Rattle.std.proofs.lemmas.List.{drop-set-lt, drop_all, length-take-le, take_a
 use Rattle.std.specs.List.{AllByRecursion}
 use Rattle.lnt_digits.specs.declared.radix.Radix.{Radix}
 use Rattle.lnt_digits.specs.declared.radix.Radix.TheVariants.{Ten, Sixteen}
-use Rattle.lnt_digits.specs.Digits.{HasNoLeadingZero, IsDigit, IsLower, IsPlain, IsPlainAddress, base, digit_code}
+use Rattle.lnt_digits.specs.Digits.{HasNoLeadingZero, IsDigit, IsLower, IsPlain, IsPlainAddress, IsPlainDecimal, base, digit_code}
 use Rattle.lnt_digits.specs.Digits.{digit_value, digits_value, most_digits}
 use Rattle.lnt_digits.proofs.DigitLemmas.{code_is_digit, code_is_lower, code_not_zero, code_worth, fewer_digits}
 use Rattle.lnt_digits.proofs.DigitLemmas.{last_digit, last_digit_below, lone_digit}
@@ -236,11 +236,10 @@ pub written_all : (radix : Radix) (n end : ℕ) (old text : List ℕ) (start lef
     → IsPlain radix (drop start (take end text)) n
 written_all radix n end old text start left fits w e = stands_all radix n end (take end text) start left fits w.stands e
 
--- where a text has that length
-pub whole_text : (radix : Radix) (n start : ℕ) (text : List ℕ) → length text ≡ 20 → IsPlain radix (drop start (take 20 text)) n
-    → IsPlain radix (drop start text) n
-whole_text radix n start text long p =
-    subst (λ (z : List ℕ). IsPlain radix (drop start z) n) (take_all 20 text (omega (arith, long))) p
+pub whole_decimal : (n start : ℕ) (text : List ℕ) → length text ≡ 20 → IsPlainDecimal (drop start (take 20 text)) n
+    → IsPlainDecimal (drop start text) n
+whole_decimal n start text long p =
+    subst (λ (z : List ℕ). IsPlainDecimal (drop start z) n) (take_all 20 text (omega (arith, long))) p
 
 -- ---- 0x before the digits of an address
 
@@ -280,9 +279,3 @@ pub address_before : (text : List ℕ) (start : ℕ) → 2 ≤ start
 address_before text start room =
     take-set-le (start - 2) (slice_set text (start - 1) 120) (start - 2) 48 (omega arith)
     ∙ take-set-le (start - 2) text (start - 1) 120 (omega (arith, room))
-
-pub address_after : (text : List ℕ) (start end : ℕ) → start < end → 2 ≤ start
-    → drop end (slice_set (slice_set text (start - 1) 120) (start - 2) 48) ≡ drop end text
-address_after text start end within room =
-    drop-set-lt end (slice_set text (start - 1) 120) (start - 2) 48 (omega (arith, within, room))
-    ∙ drop-set-lt end text (start - 1) 120 (omega (arith, within, room))

@@ -1,6 +1,6 @@
 -- Numbers read from the front.
 use Rattle.std.proofs.Common.{◌≡◌, ◌∙◌, ℕ, zero, suc, ◌+◌, ◌*◌, ◌^◌, ◌<◌, ◌≤◌, List, [], ◌∷◌, ◌++◌, length, get_or}
-use Rattle.std.proofs.Common.{take, drop, refl, sym, ap, subst, arith}
+use Rattle.std.proofs.Common.{take, drop, sym, ap, subst, arith}
 use Rattle.std.proofs.lemmas.List.{drop_all, take_all, take_more, drop_more}
 use Rattle.std.specs.List.{AllByRecursion}
 use Rattle.lnt_digits.specs.declared.radix.Radix.{Radix}
@@ -22,9 +22,6 @@ pub record IsRead (radix : Radix) (text : List ℕ) (i so_far : ℕ) : Type 0 wh
   pub digits : AllByRecursion (IsDigit radix) (take i text)
   pub value : digits_value (base radix) 0 text ≡ digits_value (base radix) so_far (drop i text)
   pub fits : so_far < 2 ^ 64
-
-pub none_read : (radix : Radix) (text : List ℕ) → IsRead radix text 0 0
-none_read radix text = record { digits = tt; value = refl; fits = omega arith }
 
 -- one digit more
 read_digits : (radix : Radix) (text : List ℕ) (i so_far : ℕ) → i < length text → IsRead radix text i so_far
@@ -69,10 +66,6 @@ no_number_of_none radix text e n h = omega (arith, e, h.some)
 
 pub no_number_of_many : (radix : Radix) (text : List ℕ) → most_digits radix < length text → (n : ℕ) → IsNumber radix text n → ⊥
 no_number_of_many radix text lt n h = omega (arith, lt, h.few)
-
-pub no_digit : (radix : Radix) (text : List ℕ) (i : ℕ) → i < length text → (IsDigit radix (get_or text i 0) → ⊥) → (n : ℕ)
-    → IsNumber radix text n → ⊥
-no_digit radix text i lt none n h = none (all_at (IsDigit radix) text i lt h.digits)
 
 -- a number that is too large after a digit stays so
 pub too_large : (radix : Radix) (text : List ℕ) (i so_far d : ℕ) → i < length text → IsRead radix text i so_far

@@ -12,13 +12,15 @@ const MOST_DIGITS: usize = 20;
 /// Adds the decimal digits of a number, with no leading zeros. They are read back as that number.
 ///
 /// The one error is that memory ran out, and then `out` is as before.
+#[tactic(auto, using(crate::proofs::PutLemmas::whole_decimal))]
 pub fn put_decimal(out: &mut Vec<u8>, n: u64) -> Result<(), AllocError>
     ensures ok { OnOk result (Puts IsPlainDecimal n out.old.items out.new.items) }
     ensures err { OnErr result (out.new.items ≡ out.old.items) }
 {
     let mut digits = [0; MOST_DIGITS];
-    let start = put_digits(n, Radix::Ten, &mut digits);
-    out.extend_from_slice(&digits[start..])
+    let start = decimal_before(&mut digits, MOST_DIGITS, n);
+    out.extend_from_slice(&digits[start..])?;
+    Ok(())
 }
 
 /// Adds `0x` and the hexadecimal digits of a number, in lower case and with no leading zeros. They are read back as that
@@ -30,10 +32,8 @@ pub fn put_address(out: &mut Vec<u8>, n: u64) -> Result<(), AllocError>
     ensures err { OnErr result (out.new.items ≡ out.old.items) }
 {
     let mut digits = [0; MOST_DIGITS];
-    let start = put_digits(n, Radix::Sixteen, &mut digits);
-    digits[start - 1] = b'x';
-    digits[start - 2] = b'0';
-    out.extend_from_slice(&digits[start - 2..])
+    let start = address_before(&mut digits, MOST_DIGITS, n);
+    out.extend_from_slice(&digits[start..])
 }
 
 /// Writes the decimal digits of a number, with no leading zeros, into a text, so that they end before the place `end`,
@@ -64,16 +64,6 @@ pub fn address_before(text: &mut [u8], end: usize, n: u64) -> usize
     text[start - 1] = b'x';
     text[start - 2] = b'0';
     start - 2
-}
-
-// Writes the digits of a number one after another, up to the end, and says where they begin.
-#[inline(always)]
-fn put_digits(n: u64, radix: Radix, digits: &mut [u8; MOST_DIGITS]) -> usize
-    ensures within { result < 20 }
-    ensures room { 20 ≤ result + most_digits radix }
-    ensures written { IsPlain radix (drop result digits.new) n }
-{
-    digits_before(digits, MOST_DIGITS, n, radix)
 }
 
 // Writes the digits of a number one after another, up to the place `end` of a text, and says where they begin.

@@ -5,10 +5,10 @@ ghost use Rattle.lnt_header_bytes.specs.Borrowed.{Passes};
 ghost use Rattle.lnt_header_bytes.specs.TableBytes.{EntryBytes};
 
 use crate::width::width_of;
-use lnt_header_bytes::TableView;
+use lnt_header::{Header, Pair};
+use lnt_header_bytes::{HeaderView, TableView};
 use lnt_sources::Halt;
 use lnt_text::Quoted;
-use lnt_unit::{Header, HeaderView, Pair};
 use lnt_wire::{Cursor, Format, Frame, ValueView};
 use std::alloc::Global;
 use std::io::Write;

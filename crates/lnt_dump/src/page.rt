@@ -3,7 +3,8 @@ use crate::dump::{Shown, Stop};
 use crate::header::print_header;
 use crate::run::run;
 use lnt_sources::Halt;
-use lnt_unit::{UnitBuffer, UnitInPlace};
+use lnt_stream::UnitBuffer;
+use lnt_unit::UnitInPlace;
 use std::alloc::{AllocError, Global};
 use std::io::Write;
 

@@ -7,7 +7,7 @@ ghost use Rattle.lnt_dump.specs.Printed.{Gains};
 use crate::faults::print_fault;
 use crate::width::width_of;
 use lnt_sources::{Halt, Status};
-use lnt_unit::{SectionReader, SectionStop, UnitBuffer};
+use lnt_stream::{SectionReader, SectionStop, UnitBuffer};
 use lnt_wire::{Fault, Order, Source};
 use std::alloc::Global;
 use std::io::Write;

@@ -191,9 +191,6 @@ table_put format order pairs entries old m1 m2 m3 new is pushed p q r =
 
 -- ---- what header_length counts
 
-length-single : (h : HeaderParts) → length (single_bytes h) ≡ length (six_bytes h) + length h.standard_lengths
-length-single h = length-append (six_bytes h) h.standard_lengths
-
 length-four : (a b c d : List ℕ) → length (a ++ b ++ c ++ d) ≡ length a + length b + length c + length d
 length-four a b c d = simp length-append refl
 
@@ -265,11 +262,6 @@ around_put order format address_size program fields n count o0 o1 o2 size o3 o4 
     let e5 : o5 ≡ ((((o0 ++ a) ++ v) ++ s) ++ number) ++ fields = counted ∙ ap (λ (z : List ℕ). z ++ fields) e4 in
     let e6 : o6 ≡ o0 ++ (a ++ body) = last ∙ ap (λ (z : List ℕ). z ++ program) e5 ∙ regroup_out o0 a v s number fields program in
     record { fits = subst (LengthFits format) long fits; joined = e6 ∙ ap (λ (k : ℕ). o0 ++ (initial_length format order k ++ body)) long }
-
-pub around_too_long : (order : Order) (format : Format) (size m n : ℕ) (fields program : List ℕ) → m ≡ length fields → n ≡ length program → (LengthFits format (4 + offset_size format + m + n) → ⊥)
-    → LengthFits format (length (around order format size fields program)) → ⊥
-around_too_long order format size m n fields program m_is n_is long fits =
-    long (subst (LengthFits format) (length-around order format size fields program ∙ ap (λ (k : ℕ). 4 + offset_size format + k + length program) (sym m_is) ∙ ap (λ (k : ℕ). 4 + offset_size format + m + k) (sym n_is)) fits)
 
 -- an offset within a unit whose length fits is never too large
 pub offset_fits : (format : Format) (n length_is : ℕ) → n ≤ length_is → LengthFits format length_is → IsLargeOffset format n → ⊥

@@ -138,9 +138,6 @@ agreed (b ∷ bytes) (k ∷ known) h =
     let tails : take (length known) bytes ≡ take (length bytes) known = agreed bytes known (λ j lt small. h (suc j) (omega arith) (omega arith)) in
     cc
 
-pub agrees_none : (bytes : List ℕ) → Agrees 0 bytes
-agrees_none bytes = record { at = λ j lt small. absurd (omega arith) }
-
 split_at : (k n : ℕ) → (n < k) ⊎ (k ≤ n)
 split_at zero n = inr (omega arith)
 split_at (suc k) zero = inl (omega arith)
@@ -148,15 +145,6 @@ split_at (suc k) (suc n) = elim (split_at k n) [ inl lt ↦ inl (omega arith) | 
 
 split_lt : (n : ℕ) → (n < 12) ⊎ (12 ≤ n)
 split_lt n = split_at 12 n
-
-split_le : (j i : ℕ) → j ≤ i → (j < i) ⊎ (j ≡ i)
-split_le zero zero h = inr refl
-split_le zero (suc i) h = inl (omega arith)
-split_le (suc j) zero h = absurd (omega arith)
-split_le (suc j) (suc i) h = elim (split_le j i (omega arith)) [ inl lt ↦ inl (omega arith) | inr e ↦ inr (ap suc e) ]
-
-pub agrees_more : (bytes : List ℕ) (i : ℕ) → Agrees i bytes → (i < length bytes → get_or bytes i 0 ≡ get_or known_lengths i 0) → Agrees (i + 1) bytes
-agrees_more bytes i h k = record { at = λ j lt small. elim (split_le j i (omega arith)) [ inl below ↦ h.at j below small | inr same ↦ subst (λ (n : ℕ). get_or bytes n 0 ≡ get_or known_lengths n 0) (sym same) (k (subst (λ (n : ℕ). n < length bytes) same small)) ] }
 
 -- given_lengths that agree with the table are the table's front
 standard_at : (given_lengths : List ℕ) (i : ℕ) → AreStandardLengths given_lengths → i < 12 → i < length given_lengths → get_or given_lengths i 0 ≡ get_or known_lengths i 0

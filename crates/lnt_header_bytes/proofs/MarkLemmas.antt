@@ -1,5 +1,5 @@
 -- Marks in a table.
-use Rattle.std.proofs.Common.{◌≡◌, ◌≢◌, ℕ, zero, suc, ◌+◌, ◌-◌, ◌*◌, ◌<◌, ◌≤◌, List, [], ◌∷◌, ◌++◌, length, drop, get_or, refl, sym, ap, subst, ◌∙◌, append_assoc, drop-drop, length-drop, arith}
+use Rattle.std.proofs.Common.{◌≡◌, ◌≢◌, ℕ, zero, suc, ◌+◌, ◌-◌, ◌*◌, ◌<◌, ◌≤◌, List, [], ◌∷◌, ◌++◌, length, drop, get_or, sym, ap, subst, ◌∙◌, append_assoc, drop-drop, length-drop, arith}
 use Rattle.std.specs.Prelude.{◌/◌, ◌%◌}
 use Rattle.std.proofs.Math.Seq.{drop-append_seam}
 use Rattle.std.proofs.lemmas.List.{length-append}
@@ -49,9 +49,6 @@ pub record AreMade (table : BorrowedTable) (bytes places : List ℕ) (count : �
   pub front : List ℕ
   pub joined : bytes ≡ front ++ at.rest
   pub lies : AreEntryBytes (from_entry (64 * count) table) at.rest
-
-pub made_none : (table : BorrowedTable) (bytes : List ℕ) (at : At) → at.rest ≡ bytes → at.order ≡ table.order → AreEntryBytes table bytes → AreMade table bytes [] 0 at
-made_none table bytes at rest order lies = record { marks = tt; count_is = refl; order_is = order; front = []; joined = sym rest; lies = subst (AreEntryBytes table) (sym rest) lies }
 
 pub made_more : (table : BorrowedTable) (bytes places : List ℕ) (count place : ℕ) (at new : At) (passed : List ℕ) → AreMade table bytes places count at → 64 * (count + 1) ≤ length table.entries
     → PassesAll 64 (EntryBytes table.format at.order table.pairs) passed at new → place ≡ length bytes - length new.rest → AreMade table bytes (places ++ place ∷ []) (count + 1) new

@@ -24,9 +24,6 @@ use Rattle.lnt_header_bytes.proofs.TableReaders.{refuses_values, entries_more}
 same_head : {X : Type 0} (x y : X) (xs ys : List X) → x ∷ xs ≡ y ∷ ys → x ≡ y
 same_head x y xs ys e = cc
 
-same_tail : {X : Type 0} (x y : X) (xs ys : List X) → x ∷ xs ≡ y ∷ ys → xs ≡ ys
-same_tail x y xs ys e = cc
-
 -- one value more
 next_value : (format : Format) (pairs : List Pair) (a : Pair) (f : Form) (us : List FormValue) (u : FormValue) (old middle new : At) → a.form ≡ f → Reads (ValuesBytes format old.order pairs) us old middle
     → Reads (ValueBytes format middle.order f) u middle new → Reads (ValuesBytes format old.order (pairs ++ a ∷ [])) (us ++ u ∷ []) old new

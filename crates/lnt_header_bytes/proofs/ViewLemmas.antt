@@ -9,7 +9,7 @@ use Rattle.lnt_wire.specs.declared.format.Order.{Order}
 use Rattle.lnt_header.specs.declared.header.Entry.{Entry}
 use Rattle.lnt_header.specs.declared.header.Pair.{Pair}
 use Rattle.lnt_header_bytes.specs.declared.read_table.TableRead.{TableRead}
-use Rattle.lnt_header_bytes.specs.Borrowed.{first_entries, BorrowedTable, borrowed_table, AreEntryBytes, without_entries, IsBorrowedHeader, PassesAll, IsTableRead, AreFieldsRead, ArePlain, lying_table, header_over, directories_over, files_over, IsHeaderOver}
+use Rattle.lnt_header_bytes.specs.Borrowed.{first_entries, BorrowedTable, borrowed_table, AreEntryBytes, without_entries, PassesAll, IsTableRead, AreFieldsRead, ArePlain, lying_table, header_over, directories_over, files_over, IsHeaderOver}
 use Rattle.lnt_header.specs.declared.header.HeaderParts.{HeaderParts}
 use Rattle.lnt_header_bytes.specs.declared.numbers.Singles.{Singles}
 use Rattle.lnt_header_bytes.specs.FieldsBytes.{FieldsBytes}
@@ -144,13 +144,3 @@ view_found format order size bytes s lengths copy d f extra old new h is small r
       };
       numbers = subst IsHeader (sym bare) (header_without_entries whole header);
     }
-
--- a view over bytes is one of tables
-pub over_borrowed : (numbers : HeaderParts) (dc : ℕ) (db : List ℕ) (fc : ℕ) (fb extra : List ℕ) (d f : BorrowedTable) → d ≡ directories_over numbers dc db → f ≡ files_over numbers fc fb
-    → IsHeaderOver numbers dc db fc fb extra → IsBorrowedHeader numbers d f extra
-over_borrowed numbers dc db fc fb extra d f d_is f_is is = rw (d_is, f_is) (record {
-  header = is.header;
-  numbers_are = is.numbers_are;
-  directories_in = record { format_is = refl; order_is = refl };
-  files_in = record { format_is = refl; order_is = refl };
-})

@@ -3,7 +3,7 @@ use Rattle.std.proofs.Common.{◌≡◌, ℕ, zero, suc, ◌+◌, ◌<◌, ◌�
 use Rattle.std.proofs.lemmas.List.{length-append}
 use Rattle.lnt_wire.specs.At.{At}
 use Rattle.lnt_wire.specs.Bytes.{IsShortest, Appends}
-use Rattle.lnt_wire.specs.FormBytes.{FormBytes, ValueBytes, HasSpelling, IsTooLarge}
+use Rattle.lnt_wire.specs.FormBytes.{FormBytes, ValueBytes, IsTooLarge}
 use Rattle.lnt_wire.specs.InitialLength.{LengthFits}
 use Rattle.lnt_wire.proofs.CodeLaws.{peel_by}
 use Rattle.lnt_wire.proofs.ValueLaws.{same_value}
@@ -12,7 +12,7 @@ use Rattle.lnt_wire.specs.declared.form.FormValue.{FormValue}
 use Rattle.lnt_wire.specs.declared.format.Format.{Format}
 use Rattle.lnt_wire.specs.declared.format.Order.{Order}
 use Rattle.lnt_wire.specs.declared.put.EncodeFault.{EncodeFault}
-use Rattle.lnt_wire.specs.declared.put.EncodeFault.TheVariants.{TooLarge, Memory}
+use Rattle.lnt_wire.specs.declared.put.EncodeFault.TheVariants.{TooLarge}
 use Rattle.lnt_header_bytes.specs.Borrowed.{BorrowedTable, AreEntryBytes}
 use Rattle.lnt_header.specs.Conversion.{in_format}
 use Rattle.lnt_header.specs.Encoding.{EntryParts, RefusedPut, NoSpelling}
@@ -28,7 +28,6 @@ use Rattle.lnt_header_bytes.specs.TableBytes.{ValuesBytes, EntryBytes}
 use Rattle.lnt_header.specs.declared.header.Entry.{Entry}
 use Rattle.lnt_header.specs.declared.header.HeaderParts.{HeaderParts}
 use Rattle.lnt_header.specs.declared.header.Pair.{Pair}
-use Rattle.lnt_header_bytes.proofs.Allowed.{spelled_value}
 use Rattle.lnt_header_bytes.proofs.EncodeLemmas.{large_value, header_added, header_too_long}
 
 -- ---- the values of an entry
@@ -58,10 +57,6 @@ entry_done from pairs format order count old new text_old text_new le p = record
   read = entry_read from pairs count p.values old new le p.read;
   put = put_as (Each (FormBytes format order)) (EntryParts format order) p.values (entry_of p.values) text_old text_new (λ x t. t) (λ x t. t) p.put;
 }
-
--- a value that stands in its form has a spelling
-pub value_spelling : (from : Format) (order : Order) (pair : Pair) (value : FormValue) (old new : At) → Reads (ValueBytes from order pair.form) value old new → HasSpelling value
-value_spelling from order pair value old new r = spelled_value from order value r.spelling r.spelled.spelled
 
 -- the values of an entry begin with those that were read
 values_begin : (format : Format) (order : Order) (n : ℕ) (pairs : List Pair) (us vs : List FormValue) (x y r s : List ℕ) → ValuesBytes format order (take n pairs) us y → ValuesBytes format order pairs vs x → x ++ r ≡ y ++ s
@@ -94,9 +89,6 @@ entry_refused from pairs format order i d value old middle new text_old text fau
       let one = each_within (FormBytes format order) p.values value all.0 bytes (subst (λ (vs : List FormValue). Each (FormBytes format order) vs bytes) all.1 t) in
       large_value format order value one.0 (large is) one.1;
 }
-
-pub entry_not_read : (from : Format) (pairs : List Pair) (format : Format) (order : Order) (at : At) (fault : EncodeFault) → fault ≡ Memory → RefusesEntry from pairs format order at fault
-entry_not_read from pairs format order at fault is = record { none = λ large. absurd cc }
 
 -- ---- the entries of a table
 

@@ -86,15 +86,6 @@ begun cursor entry entries found spans is gives later =
     begun_from cursor.units cursor.programs entry entries later.sequences found spans
     (subst (λ (es : List Extent). AllZip (IsEntry cursor.units cursor.programs) es later.sequences) is later.each) gives later.spans_are
 
--- none is left
-pub none_begun : (cursor : Cursor) (spans : List Span) → cursor.entries ≡ [] → ComeLater spans cursor → spans ≡ []
-none_begun cursor spans none later =
-    by_sequences later.sequences (subst (λ (es : List Extent). AllZip (IsEntry cursor.units cursor.programs) es later.sequences) none later.each) later.spans_are
-  where
-    by_sequences : (sequences : List Placed) → AllZip (IsEntry cursor.units cursor.programs) [] sequences → spans ≡ spans_of sequences → spans ≡ []
-    by_sequences [] each are = are
-    by_sequences (placed ∷ sequences) each are = absurd each
-
 room_some : (list : List Kept) → 0 < room_of list
 room_some [] = omega arith
 room_some (first ∷ list) = omega (arith, room_some list)

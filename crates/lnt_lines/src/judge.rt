@@ -9,9 +9,10 @@ use crate::refusal::Refusal;
 use crate::run::run_unit;
 use lnt_files::in_place::tables_fault;
 use lnt_files::{EntryTableFault, StringEnds};
+use lnt_header_bytes::KeptHeader;
 use lnt_sequences::{Collected, Watch};
 use lnt_stream::UnitBuffer;
-use lnt_unit::{KeptHeader, UnitInPlace};
+use lnt_unit::UnitInPlace;
 use std::alloc::{AllocError, Global};
 
 /// What is kept of a sound unit, but for its program.

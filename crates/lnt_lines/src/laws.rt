@@ -1,6 +1,8 @@
 //! Laws of judged sections, each the contract of a function without parameters that does nothing.
 ghost use Rattle.lnt_lines.specs.Laws.{AnswersAsHolder, FilesOfUnits, GoodHasNoFlaw, HeadersOfUnits, OneNo};
 
+pub use lnt_spans::laws::one_canonical;
+
 /// A good section has no flaw: nothing that a `No` tells is true of it. So where `verify` doesn't stop, it answers
 /// `Good` exactly where the section is good.
 #[tactic(auto, using(crate::proofs::FlawLemmas::no_flaw))]

@@ -19,6 +19,8 @@ mod spans;
 
 pub use index::Index;
 pub use lines::Lines;
+pub use lnt_sequences::SeqId;
+pub use lnt_spans::{Answer, More, Position, Probes, Span, Version};
 pub use lnt_wire::Stop;
 pub use no::No;
 pub use options::Options;

@@ -99,10 +99,6 @@ next_out h rows view old new machine has step leaves =
 
 -- ---- one sequence
 
-pub gives_none : (walk : SequenceWalk) → walk.ended ≡ true → GivesRow walk None walk
-gives_none walk ended rows (none e empty) = subst (λ (list : List Row). GivesFirst list None walk) (sym empty) (none ended refl)
-gives_none walk ended rows (some h all going has are) = absurd (true≢false (sym ended ∙ going))
-
 -- whether the sequence has ended with what was given
 abbrev pub ended_by : Option Row → Bool
 ended_by None = true

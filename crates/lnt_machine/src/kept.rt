@@ -6,7 +6,7 @@ ghost use Rattle.lnt_machine.specs.Matrix.{sequences};
 ghost use Rattle.lnt_machine.specs.Walking.{IsKept, Keeps, WillGive};
 
 use crate::walk::SequenceRows;
-use lnt_unit::{HeaderView, KeptHeader};
+use lnt_header_bytes::{HeaderView, KeptHeader};
 use std::marker::Model;
 
 /// The program of a unit that runs, with the place of each of its sequences.

@@ -9,7 +9,7 @@ ghost use Rattle.lnt_header.specs.declared.op.Op.{Op};
 use crate::fault::RunFault;
 use crate::registers::{change, initial, reciprocal_of};
 use crate::row::Row;
-use lnt_unit::{Header, OpView};
+use lnt_header::{Header, OpView};
 use std::marker::Model;
 
 /// The registers of a line number program between two of its operations, and how many were done.

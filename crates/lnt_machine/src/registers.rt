@@ -8,7 +8,7 @@ ghost use Rattle.lnt_header.specs.HeaderRules.{IsAddressSize};
 ghost use Rattle.lnt_header.specs.declared.op.Op.{Op};
 
 use crate::row::Row;
-use lnt_unit::{Header, OpView};
+use lnt_header::{Header, OpView};
 
 // A line below 0, or of 2^32 or more.
 #[derive(Drop)]

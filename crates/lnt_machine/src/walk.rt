@@ -10,7 +10,8 @@ ghost use Rattle.lnt_machine.specs.declared.row.Row as spec;
 
 use crate::machine::Machine;
 use crate::row::Row;
-use lnt_unit::{Header, Ops};
+use lnt_header::Header;
+use lnt_ops::Ops;
 use std::marker::Model;
 
 /// The rows of one sequence of a unit whose program runs, each made of its operations where they lie.

@@ -16,7 +16,7 @@ use lnt_records::TableFault;
 use lnt_sequences::SeqId;
 use lnt_sources::{Opener, source_of};
 use lnt_spans::{Position, Probes, SpanSource};
-use lnt_text::{Note, StringSection};
+use lnt_text::{Note, RecordRule, StringSection};
 use lnt_wire::Order;
 use std::alloc::Global;
 use std::io::{self, Write};
@@ -292,12 +292,18 @@ pub fn tell_table<O: Opener, N: Write>(
             Columns::Numbered => Note::NumberedHeader,
             Columns::ByPath => Note::TableHeader,
         },
-        TableFault::Fields(record) => Note::TableFields(line_again(alloc, record, table, opener)),
+        TableFault::Fields(record) => {
+            let line = line_again(alloc, record, table, opener);
+            Note::TableRecord(line, RecordRule::Fields)
+        }
         TableFault::Number(record, column) => {
             let line = line_again(alloc, record, table, opener);
-            Note::TableNumber(line, column_at(columns, column))
+            Note::TableRecord(line, RecordRule::Kind(column_at(columns, column)))
         }
-        TableFault::Order(record) => Note::TableOrder(line_again(alloc, record, table, opener)),
+        TableFault::Order(record) => {
+            let line = line_again(alloc, record, table, opener);
+            Note::TableRecord(line, RecordRule::Order)
+        }
     };
     print_note(note, notes)
 }

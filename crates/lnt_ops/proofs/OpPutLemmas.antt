@@ -16,10 +16,10 @@ use Rattle.lnt_wire.specs.Numbers.{NumberBytes}
 use Rattle.lnt_wire.proofs.LengthLaws.{length-number_bytes}
 use Rattle.lnt_header.specs.declared.header.HeaderParts.{HeaderParts}
 use Rattle.lnt_header.specs.declared.op.Op.{Op}
-use Rattle.lnt_header.specs.declared.op.Op.TheVariants.{Special, Copy, AdvancePc, AdvanceLine, SetFile, SetColumn}
+use Rattle.lnt_header.specs.declared.op.Op.TheVariants.{Copy, AdvancePc, AdvanceLine, SetFile, SetColumn}
 use Rattle.lnt_header.specs.declared.op.Op.TheVariants.{NegateStmt, SetBasicBlock, ConstAddPc, FixedAdvancePc}
 use Rattle.lnt_header.specs.declared.op.Op.TheVariants.{SetPrologueEnd, SetEpilogueBegin, SetIsa, UnknownStandard}
-use Rattle.lnt_header.specs.declared.op.Op.TheVariants.{EndSequence, SetAddress, SetDiscriminator, UnknownExtended}
+use Rattle.lnt_header.specs.declared.op.Op.TheVariants.{SetAddress, SetDiscriminator, UnknownExtended}
 use Rattle.lnt_header.specs.declared.op.OpView.{OpView}
 use Rattle.lnt_header.specs.declared.op.OpView.TheVariants as views
 use Rattle.lnt_header.specs.declared.op.Operands.{Operands}
@@ -31,7 +31,7 @@ use Rattle.lnt_ops.specs.Laws.Ops.{same_whole}
 use Rattle.lnt_ops.specs.Laws.Views.{leb_is_some, is_op_of}
 use Rattle.lnt_ops.specs.OpBytes.{CodingBytes, OpBytes, OperandBytes, Standard, Extended}
 use Rattle.lnt_ops.specs.OpPuts.{IsOpOf, AddsView, AddsSpelled, AddsOperands}
-use Rattle.lnt_ops.specs.OperandLists.{IsOperands, SpellsNumbers, NumbersSoFar}
+use Rattle.lnt_ops.specs.OperandLists.{SpellsNumbers, NumbersSoFar}
 use Rattle.lnt_ops.specs.OpSpellings.{Coded, ExtendedCoded, ExtendedStart}
 use Rattle.lnt_ops.proofs.OwnedLemmas as owned
 use Rattle.lnt_ops.proofs.LebSizes.{shortest_of_less, at_most_ten, one_group}
@@ -277,19 +277,6 @@ put_of order size view known old new is put = record {
       put_known h op (op_of known (operands_of op)) old new (is_op_of known op s) admits (put h op ordered sized s);
 }
 
-special_as : (h : HeaderParts) (c : ℕ) (old new : List ℕ) → c < 256 → h.opcode_base ≤ c → new ≡ old ++ c ∷ []
-    → Appends (OpBytes h) (Special c) old new
-special_as h c old new low high put = record {
-  spelling = c ∷ [];
-  spelled = record { spelled = (high, low, refl); shortest = λ other q. omega (arith, ap length q.2) };
-  joined = put;
-}
-
-pub special_put : (order : Order) (size : ℕ) (view : OpView) (c : ℕ) (old new : List ℕ) → view ≡ views.Special c → c < 256
-    → new ≡ old ++ c ∷ [] → AddsView order size view old new
-special_put order size view c old new is low put =
-    put_of order size view (views.Special c) old new is (λ h op o s stands a. special_as h c old new low a put)
-
 -- ---- standard operations, by how they are coded
 
 -- how the operations that a view stands for are coded, but for the operands of an unknown standard one
@@ -378,13 +365,6 @@ unknown_standard_put order size view k operands old new is p =
     standard_as (Each UnsignedLeb) h k numbers (UnknownStandard k numbers) old new (λ y t. (a.0, a.2, t)) (λ y t. t.2) a.1
     (p.adds numbers (are_operands k operands op stands)))
 
-pub end_sequence_put : (order : Order) (size : ℕ) (view : OpView) (operand : List ℕ) (old new : List ℕ) → view ≡ views.EndSequence
-    → operand ≡ [] → Appends (ExtendedCoded 1 Exactly) operand old new → AddsView order size view old new
-end_sequence_put order size view operand old new is none p =
-    put_of order size view views.EndSequence old new is
-    (λ h op o s stands a. extended_as Exactly h 1 [] EndSequence old new (λ y t. t) (λ y t. t)
-    (subst (λ (z : List ℕ). Appends (ExtendedCoded 1 Exactly) z old new) none p))
-
 address_as : (h : HeaderParts) (order : Order) (size address : ℕ) (old new : List ℕ) → h.order ≡ order → h.address_size ≡ size
     → Appends (ExtendedCoded 2 (NumberBytes order size)) address old new → Appends (OpBytes h) (SetAddress address) old new
 address_as h order size address old new o s p =
@@ -420,10 +400,6 @@ address_of size address is =
     let admitted : Admits is.header (SetAddress address) = subst (Admits is.header) (is_op_of (views.SetAddress address) is.op is.stands)
     is.admitted in
     subst (λ (n : ℕ). address < 256 ^ n) is.size_is admitted
-
--- the operands of an unknown standard operation are numbers
-pub operands_are : (size k : ℕ) (operands : Operands) → IsOpOf size (views.UnknownStandard k operands) → IsOperands operands
-operands_are size k operands is = record { numbers = operands_of is.op; are = are_operands k operands is.op is.stands }
 
 -- an operation of a header
 pub is_op_of_header : (h : HeaderParts) (op : Op) (view : OpView) (size : ℕ) → Admits h op → StandsFor view op → size ≡ h.address_size
@@ -469,10 +445,6 @@ spelled_more bytes old middle new n at next so r p =
       read = owned.numbers_more bytes so.numbers n at next so.read r;
       put = each_put UnsignedLeb so.numbers n old middle new so.put p;
     }
-
-pub spelled_extends : (bytes old : List ℕ) (at : At) (middle new : List ℕ) → SpelledSoFar bytes old at middle → new ≡ middle
-    → Extends old new
-spelled_extends bytes old at middle new so same = record { more = so.put.spelling; joined = same ∙ so.put.joined }
 
 pub spelled_done : (bytes old new : List ℕ) (at : At) (fault : Fault) → SpellsNumbers bytes → SpelledSoFar bytes old at new
     → RefusesField (IsLebFault IsLargeUnsigned) UnsignedLeb at fault → AddsSpelled bytes old new

@@ -241,10 +241,6 @@ opcode_is h k n Operand bytes some s =
     ∙ ap (λ (z : List ℕ). z ++ t.back) t.first in
     (ap (λ (z : List ℕ). get_or z 0 0) same, subst Operand (sym (ap (λ (z : List ℕ). drop 1 z) same)) t.second)
 
-some_byte : (n : ℕ) (bytes : List ℕ) → UnsignedLeb n bytes → 0 < length bytes
-some_byte n [] u = absurd u.shape
-some_byte n (b ∷ bytes) u = omega arith
-
 low_byte : (n : ℕ) (operand : List ℕ) → UnsignedLeb n (take 1 operand) → NoByte operand → ⊥
 low_byte n [] u none = absurd u.shape
 low_byte n (b ∷ operand) u none = omega (arith, u.shape, none (omega arith))

@@ -8,10 +8,9 @@ use Rattle.lnt_spans.specs.declared.answer.Answer.{Answer}
 use Rattle.lnt_spans.specs.declared.position.Position.{Position}
 use Rattle.lnt_spans.specs.declared.span.Span.{Span}
 use Rattle.lnt_spans.specs.Laws.Answering as answering
-use Rattle.lnt_spans.specs.Laws.Positions.{at_most_below, at_most_itself, at_most_trans, below_at_most, below_is_at_most, not_both, order_cases, same_position}
+use Rattle.lnt_spans.specs.Laws.Positions.{at_most_below, at_most_itself, at_most_trans, below_at_most, below_is_at_most, not_both, order_cases}
 use Rattle.lnt_spans.specs.Positions.{IsBelow, IsAtMost}
 use Rattle.lnt_spans.specs.Spans.{AreInOrder, span_answer}
-use Rattle.lnt_spans.specs.Ahead.{count_ahead}
 use Rattle.lnt_spans.specs.Coming.{GivesFirst}
 use Rattle.lnt_paths.specs.declared.record.PathRecord.{PathRecord}
 use Rattle.lnt_paths.specs.declared.answer.AnswerByPath.{AnswerByPath}
@@ -176,18 +175,6 @@ begun to_come tell list said next spans behind left order =
     from [] first h l = tt
     from (span ∷ xs) first h l = subst (λ (o : Option Span). IfSome o (λ span. IsAtMost (whole said.low) span.low)) l.0 h
 
--- no span is left
-pub apart_none : {S : Type 0} (to_come : S → List Span → Type 0) (tell : Answer → PathAnswer) (list : List Span) (said : PathRecord)
-    (at : Position) (next : Option Span) (spans : S) → next ≡ None → IsAtMost (whole said.low) at → IsBelow at (whole said.high)
-    → ArePassed tell list (alone said) at (IsLeft to_come next spans)
-    → AreApart tell list said (record { position = at; by_table = true; by_section = None })
-apart_none to_come tell list said at next spans is le lt passed = record {
-  first = differs_at tell list (alone said) at (IsLeft to_come next spans) (Some (record_answer said)) None passed
-      (ap (λ (xs : List Span). answer_told tell xs at) (sym (left_none to_come next spans passed.rest is passed.left)))
-      (sym (alone_in said at le lt)) (λ e. cc e);
-  below = lt;
-}
-
 -- the next span begins further on
 pub apart_gap : {S : Type 0} (to_come : S → List Span → Type 0) (tell : Answer → PathAnswer) (list : List Span) (said : PathRecord)
     (at : Position) (next : Option Span) (spans : S) (span : Span) → next ≡ Some span → IsBelow at span.low → IsAtMost (whole said.low) at
@@ -272,18 +259,6 @@ low_behind to_come tell list said at next spans span is le passed =
     let order : AreInOrder (span ∷ first.0) = subst AreInOrder first.1 passed.order in
     let begins : IsAtMost at span.low = subst (BeginFrom at) first.1 passed.from in
     at_most_trans le (at_most_trans begins (below_is_at_most (answering.first_holds span first.0 order)))
-
--- all of the record was passed
-pub passed_all : (tell : Answer → PathAnswer) (list : List Span) (said : PathRecord) (at : Position) (AreLeft : List Span → Type 0)
-    → IsAtMost at (whole said.high) → IsAtMost (whole said.high) at → ArePassed tell list (alone said) at AreLeft
-    → ArePassed tell list (alone said) (whole said.high) AreLeft
-passed_all tell list said at AreLeft le ge passed =
-    subst (λ (p : Position). ArePassed tell list (alone said) p AreLeft) (same_position at (whole said.high) ge le) passed
-
--- a span was taken
-pub fewer_left : (next given : Option Span) (span : Span) (old new : ℕ) → next ≡ Some span → IfSome given (λ _. new < old) → count_ahead given new < count_ahead next old
-fewer_left next None span old new e h = rw e (omega arith)
-fewer_left next (Some given) span old new e h = rw e (omega (arith, h))
 
 -- ---- records one after another
 

@@ -1,8 +1,9 @@
 -- Records of a table by path, and record 0.
-use Rattle.std.proofs.Common.{◌≡◌, ◌≢◌, ℕ, suc, ◌+◌, ◌<◌, ◌≤◌, List, [], ◌∷◌, Option, length, get_or, refl, sym, subst, arith, ⊎_elim}
+use Rattle.std.proofs.Common.{◌≡◌, ◌≢◌, ℕ, ◌+◌, ◌<◌, ◌≤◌, List, [], Option, length, get_or, refl, sym, subst, arith, ⊎_elim}
 use Rattle.std.specs.Prelude.{codes}
 use Rattle.std.proofs.lemmas.Bool.{cases_lt}
 use Rattle.lnt_digits.specs.Digits.{IsAddress, IsDecimal}
+use Rattle.lnt_records.proofs.HeaderLemmas.{all_named}
 use Rattle.lnt_records.specs.Progress.{AreNamed}
 use Rattle.lnt_records.specs.Table.{Fields}
 use Rattle.lnt_paths.specs.declared.record.FieldFault.{FieldFault}
@@ -14,20 +15,6 @@ use Rattle.lnt_paths.specs.PathTables.{SaysColumn, SaysPath, path_column_count, 
 use Rattle.lnt_paths.specs.Reading.{AreSoundUpTo, IsFieldFault, IsFieldOfKind, IsPathRecordFault, place_names}
 
 -- ---- record 0
-
-named_behind : (i : ℕ) (names : Fields) (field : List ℕ) (fields : Fields) → AreNamed (suc i) names (field ∷ fields) → AreNamed i names fields
-named_behind i [] field fields h = tt
-named_behind i (name ∷ names) field fields h = (h.0, named_behind (suc i) names field fields h.1)
-
--- fields that are the names one by one
-all_named : (names fields : Fields) → length fields ≡ length names → AreNamed 0 names fields → fields ≡ names
-all_named [] [] e h = refl
-all_named [] (field ∷ fields) e h = absurd (omega (arith, e))
-all_named (name ∷ names) [] e h = absurd (omega (arith, e))
-all_named (name ∷ names) (field ∷ fields) e h =
-    let first : field ≡ name = h.0 in
-    let rest = all_named names fields (omega (arith, e)) (named_behind 0 names field fields h.1) in
-    cc
 
 pub all_three : (fields : Fields) → length fields ≡ 5 → AreNamed 0 place_names fields → get_or fields 4 [] ≡ codes "column"
     → fields ≡ path_column_names Three

@@ -8,7 +8,7 @@ use Rattle.std.specs.List.{AllByRecursion}
 use Rattle.std.specs.Prelude.{◌&&◌}
 use Rattle.lnt_digits.specs.declared.radix.Radix.{Radix}
 use Rattle.lnt_digits.specs.declared.radix.Radix.TheVariants.{Ten, Sixteen}
-use Rattle.lnt_digits.specs.Digits.{IsAddress, IsDigit, IsHexadecimalDigit, IsNumber, base, digit_value, digits_value, most_digits}
+use Rattle.lnt_digits.specs.Digits.{IsAddress, IsDigit, IsHexadecimalDigit, IsNumber, base, digit_value, digits_value}
 use Rattle.lnt_records.specs.Lines.{Begins}
 
 base_some : (radix : Radix) → 0 < base radix
@@ -32,10 +32,6 @@ pub record HasDigits (radix : Radix) (text : List ℕ) (at i value : ℕ) : Type
   pub value_is : value ≡ digits_value (base radix) 0 front
   pub bound : value < base radix ^ length front
 
-pub no_digits : (radix : Radix) (text : List ℕ) (at : ℕ) → HasDigits radix text at at 0
-no_digits Ten text at = record { front = []; joined = refl; count = omega arith; digits = tt; value_is = refl; bound = omega arith }
-no_digits Sixteen text at = record { front = []; joined = refl; count = omega arith; digits = tt; value_is = refl; bound = omega arith }
-
 bound_more : (radix : Radix) (value d k : ℕ) → value < base radix ^ k → d < base radix → value * base radix + d < base radix ^ (k + 1)
 bound_more Ten value d k h lt = omega (arith, h, lt, pow_more 10 k)
 bound_more Sixteen value d k h lt = omega (arith, h, lt, pow_more 16 k)
@@ -54,41 +50,6 @@ digits_more radix text at i value d more lt h is e small m =
       digits = all_push (IsDigit radix) h.front c h.digits is;
       value_is = rw pushed (rw (sym before) (rw (sym e) m));
       bound = rw (long, m) (bound_more radix value d (length h.front) h.bound small);
-    }
-
--- digits in any number that may be read without a test of their number
-abbrev pub safe_digits : Radix → ℕ
-safe_digits Ten = 18
-safe_digits Sixteen = 16
-
-safe_bound : (radix : Radix) → base radix ^ safe_digits radix ≤ 2 ^ 64
-safe_bound Ten = omega arith
-safe_bound Sixteen = omega arith
-
-safe_few : (radix : Radix) → safe_digits radix ≤ most_digits radix
-safe_few Ten = omega arith
-safe_few Sixteen = omega arith
-
-pub digits_fit : (radix : Radix) (text : List ℕ) (at i value : ℕ) → HasDigits radix text at i value → i ≤ at + safe_digits radix → value < 2 ^ 64
-digits_fit radix text at i value h few =
-    let count : length h.front ≤ safe_digits radix = omega (arith, few, h.count) in
-    let most : base radix ^ length h.front ≤ base radix ^ safe_digits radix = pow-le-pow_right (base_some radix) count in
-    omega (arith, h.bound, most, safe_bound radix)
-
-pub digits_end : (radix : Radix) (text : List ℕ) (at i value end : ℕ) → i < length text → HasDigits radix text at i value → at < i → i ≤ at + safe_digits radix
-    → get_or text i 0 ≡ end → Begins (IsNumber radix) (drop at text) value end (drop (i + 1) text)
-digits_end radix text at i value end lt h some few e =
-    let behind : drop i text ≡ end ∷ drop (i + 1) text = drop_more text i 0 lt ∙ ap (λ (c : ℕ). c ∷ drop (i + 1) text) e in
-    record {
-      front = h.front;
-      joined = h.joined ∙ ap (λ (t : List ℕ). h.front ++ t) behind;
-      spells = record {
-        digits = h.digits;
-        some = omega (arith, some, h.count);
-        few = omega (arith, few, h.count, safe_few radix);
-        value = h.value_is;
-        fits = digits_fit radix text at i value h few;
-      };
     }
 
 -- the number before one more decimal digit

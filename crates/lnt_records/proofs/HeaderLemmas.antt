@@ -11,7 +11,7 @@ named_behind i [] field fields h = tt
 named_behind i (name ∷ names) field fields h = (h.0, named_behind (suc i) names field fields h.1)
 
 -- fields that are the names one by one
-all_named : (names fields : Fields) → length fields ≡ length names → AreNamed 0 names fields → fields ≡ names
+pub all_named : (names fields : Fields) → length fields ≡ length names → AreNamed 0 names fields → fields ≡ names
 all_named [] [] e h = refl
 all_named [] (field ∷ fields) e h = absurd (omega (arith, e))
 all_named (name ∷ names) [] e h = absurd (omega (arith, e))

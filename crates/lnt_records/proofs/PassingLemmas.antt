@@ -1,5 +1,5 @@
 -- Bytes of a table that are taken and passed.
-use Rattle.std.proofs.Common.{◌≡◌, ◌∙◌, ℕ, ◌+◌, ◌<◌, ◌≤◌, Bool, true, false, List, [], ◌∷◌, ◌++◌, Option, Some, None, IfSome, map, subst, append-nil, append_assoc, drop, length, length-append, refl, ap, sym, arith}
+use Rattle.std.proofs.Common.{◌≡◌, ◌∙◌, ℕ, ◌+◌, ◌≤◌, Bool, true, false, List, [], ◌∷◌, ◌++◌, Option, Some, None, IfSome, map, subst, append-nil, append_assoc, drop, length, length-append, refl, ap, sym, arith}
 use Rattle.std.proofs.lemmas.List.{drop-drop}
 use Rattle.std.specs.Bool.{MatchBool}
 use Rattle.std.specs.List.{AllByRecursion, AllZip, cons_option}
@@ -355,8 +355,3 @@ reads_line to_come first old new version n count a b la lb w0 w1 w2 span r line 
   compares = t.compares r.list r.table r.compares;
   few = omega (arith, r.few, line_some line.fields, length-append r.text (line_text line.fields));
 }
-
--- each line that is read leaves fewer bytes
-pub reads_less : (version : Version) (span : Span) (la lb : ℕ) (w1 w2 w3 : List ℕ) (a b : Option (List ℕ)) → Passes a b la lb w1 w2 [] → IsLine version span w2 w3 → length w3 + lb < length w1 + la
-reads_less version span la lb w1 w2 w3 a b p line =
-    omega (arith, few_passed a b la lb w1 w2 [] p, line_some line.fields, ap length line.joined, length-append (line_text line.fields) w3)

@@ -11,8 +11,8 @@ const DECIMAL_DIGITS: usize = 18;
 
 const HEXADECIMAL_DIGITS: usize = 16;
 
-// The number that 1 to 18 decimal digits from a place of the text on say, where a byte is after them, and the place
-// after that byte. Longer numbers are left to `decimal`.
+// Parses 1 to 18 decimal digits from `at` on, and the byte `end` after them: gives their value, and the place after that byte.
+// None says nothing of the text: a number may be longer, and is left to `decimal`.
 #[inline(always)]
 pub(crate) fn decimal_before(text: &[u8], at: usize, end: u8) -> Option<(u64, usize)>
     ensures { IfSome result (λ found. Begins IsDecimal (drop at text.now) found.0 end (drop found.1 text.now)) }
@@ -23,7 +23,7 @@ pub(crate) fn decimal_before(text: &[u8], at: usize, end: u8) -> Option<(u64, us
     digits_before(text, at, end)
 }
 
-// The same of a lone digit, as most numbers of a table are.
+// The same of a single digit, which is tried first: most numbers of a table are that short.
 #[inline(always)]
 fn digit_before(text: &[u8], at: usize, end: u8) -> Option<(u64, usize)>
     ensures { IfSome result (λ found. Begins IsDecimal (drop at text.now) found.0 end (drop found.1 text.now)) }
@@ -66,7 +66,7 @@ pub(crate) fn address_before(text: &[u8], at: usize, end: u8) -> Option<(u64, us
     Some((number, next))
 }
 
-// The place after a byte, where that stands at a place of the text.
+// The place after `at`, where this byte stands at `at`. None where another one does, or the text ends.
 #[inline(always)]
 pub(crate) fn behind(text: &[u8], at: usize, byte: u8) -> Option<usize>
     ensures { IfSome result (λ next. drop at text.now ≡ byte ∷ drop next text.now) }
@@ -78,8 +78,8 @@ pub(crate) fn behind(text: &[u8], at: usize, byte: u8) -> Option<usize>
     }
 }
 
-// The number that 1 to 16 hexadecimal digits from a place on say, where a byte is after them, and the place after it.
-// Nothing branches on what the digits are.
+// Parses 1 to 16 hexadecimal digits of either case from `at` on, and the byte `end` after them, as `decimal_before`. Whether
+// all of them are digits is asked once, at the end, so that nothing branches on what they are.
 #[inline(never)]
 fn hexadecimal_before(text: &[u8], at: usize, end: u8) -> Option<(u64, usize)>
     ensures { IfSome result (λ found. Begins (IsNumber Sixteen) (drop at text.now) found.0 end (drop found.1 text.now)) }

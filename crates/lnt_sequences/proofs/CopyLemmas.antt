@@ -56,9 +56,6 @@ alike_trans a b c h k = record {
   high_op = h.high_op ∙ k.high_op;
 }
 
-alike_itself : (a : Extent) → Alike a a
-alike_itself a = record { low_address = refl; low_op = refl; high_address = refl; high_op = refl }
-
 -- where the relation doesn't hold, the test says so
 not_alike : (a b : Extent) → (Alike a b → ⊥) → end_alike a b ≡ false
 not_alike a b h = by_test (end_alike a b) refl

@@ -1,6 +1,6 @@
 -- Extents in order: disjoint where none begins below the end of the one before it; else the first such neighbours are the
 -- first to overlap.
-use Rattle.std.proofs.Common.{◌≡◌, ◌≢◌, ◌⊎◌, ℕ, zero, suc, ◌+◌, ◌-◌, ◌<◌, ◌≤◌, false, List, [], ◌∷◌, refl, sym, ap}
+use Rattle.std.proofs.Common.{◌≡◌, ◌≢◌, ◌⊎◌, ℕ, zero, suc, ◌+◌, ◌-◌, ◌<◌, ◌≤◌, false, List, sym, ap}
 use Rattle.std.proofs.Common.{subst, arith, length, get_or, inl, inr, ⊎_elim, add-one, is_lt, nat_cmp}
 use Rattle.std.specs.List.{AllPairs, All}
 use Rattle.std.specs.List.Sorted.{IsPermutation}
@@ -13,19 +13,9 @@ use Rattle.std.proofs.lemmas.List.{get_or_default}
 use Rattle.lnt_spans.specs.declared.position.Position.{Position}
 use Rattle.lnt_spans.specs.Positions.{IsBelow, IsAtMost}
 use Rattle.lnt_spans.specs.Laws.EachTwo.{EachTwo, each_two_from_pairs, pairs_from_each_two, each_two_permutation}
-use Rattle.lnt_spans.specs.Laws.Positions.{at_most_itself, at_most_trans, not_both, test_below, test_not_below}
+use Rattle.lnt_spans.specs.Laws.Positions.{at_most_itself, at_most_trans, not_both}
 use Rattle.lnt_sequences.specs.declared.extent.Extent.{Extent}
-use Rattle.lnt_sequences.specs.declared.sequence.SeqId.{SeqId}
-use Rattle.lnt_sequences.specs.Extents.{AreApartUpTo, AreFirstToOverlap, AreSorted, ComesNoLater, extent_between, ExtentsDisjoint, IsIn}
-
--- ---- one extent
-
-pub extent_some : (id : SeqId) (low high : Position) → IsBelow low high
-    → extent_between id low high ≡ record { low = low; high = high; id = id } ∷ []
-extent_some id low high h = rw (test_below low high h) refl
-
-pub extent_none : (id : SeqId) (low high : Position) → IsAtMost high low → extent_between id low high ≡ []
-extent_none id low high h = rw (test_not_below low high h) refl
+use Rattle.lnt_sequences.specs.Extents.{AreApartUpTo, AreFirstToOverlap, AreSorted, ComesNoLater, ExtentsDisjoint, IsIn}
 
 -- ---- extents in order
 

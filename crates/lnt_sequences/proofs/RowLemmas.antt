@@ -23,10 +23,6 @@ use Rattle.lnt_sequences.specs.Laws.Walks.{last_row_is}
 
 -- ---- one span
 
-pub span_some : (unit : ℕ) (row next : Row) → IsBelow (position_of row) (position_of next)
-    → span_between unit row next ≡ record { low = position_of row; high = position_of next; answer = answer_of unit row } ∷ []
-span_some unit row next h = rw (test_below (position_of row) (position_of next) h) refl
-
 pub span_none : (unit : ℕ) (row next : Row) → IsAtMost (position_of next) (position_of row) → span_between unit row next ≡ []
 span_none unit row next h = rw (test_not_below (position_of row) (position_of next) h) refl
 

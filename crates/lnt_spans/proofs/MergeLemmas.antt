@@ -358,27 +358,6 @@ finish_found to_come merge spans records difference e c =
     (λ (f : Option Difference). IsComparedBy f (state_of merge c.rest) spans (span_answer records)) e c.compared.compared in
     found.least
 
--- ---- no record came
-
-pub compares_none : {S : Type 0} (to_come : S → List Span → Type 0) (version : Version) (ahead : Ahead S) (list : List Span)
-    → IsAhead to_come ahead list → AreInOrder list
-    → Compares to_come (record { version = version; spans = ahead; at = record { address = 0; op = 0 }; first = None }) list []
-compares_none to_come version ahead list is order = record {
-  rest = list;
-  ahead = is;
-  sound = record { order = order; behind = λ e. some_end list order };
-  compared = record {
-    order = tt;
-    at = refl;
-    ended = λ p h. refl;
-    compared = record { rest_same = λ p h. refl; agree = λ p h. absurd (not_both h (origin_first p)) };
-  };
-}
-  where
-    some_end : (spans : List Span) → AreInOrder spans → EndsBehind (record { address = 0; op = 0 }) spans
-    some_end [] o = tt
-    some_end (span ∷ spans) o = at_most_below (origin_first span.low) (first_holds span spans o)
-
 -- ---- records that the section begins with
 
 rest_from : (done : List Span) (span : Span) (more : List Span) → AreInOrder (done ++ span ∷ more) → Follows done span

@@ -1,5 +1,5 @@
 -- What spans answer from a position on, a stretch at a time.
-use Rattle.std.proofs.Common.{◌≡◌, ◌≢◌, ◌∙◌, ℕ, ◌+◌, ◌<◌, ◌≤◌, Bool, true, false, cond, List, [], ◌∷◌, ◌⊎◌, inl, inr}
+use Rattle.std.proofs.Common.{◌≡◌, ◌≢◌, ◌∙◌, ◌<◌, ◌≤◌, Bool, true, false, cond, List, [], ◌∷◌, ◌⊎◌, inl, inr}
 use Rattle.std.proofs.Common.{refl, ap, sym, subst, Some, None, Option, arith}
 use Rattle.std.specs.Prelude.{IsSome}
 use Rattle.std.proofs.lemmas.Bool.{true≢false}
@@ -13,11 +13,11 @@ use Rattle.lnt_spans.specs.Answers.{in_version}
 use Rattle.lnt_spans.specs.Positions.{IsBelow, IsAtMost, is_below}
 use Rattle.lnt_spans.specs.declared.ahead.Ahead.{Ahead}
 use Rattle.lnt_spans.specs.Ahead.{BeginsWith, gap_before, IsAhead, rest_of, steps_left}
-use Rattle.lnt_spans.specs.Scanning.{EndsBehind, IsScanned, IsStretch, Says}
+use Rattle.lnt_spans.specs.Scanning.{EndsBehind, IsStretch, Says}
 use Rattle.lnt_spans.specs.Spans.{AreInOrder}
 use Rattle.lnt_spans.specs.Laws.Answering.{answer_behind, answer_in, first_holds, none_before, rest_in_order}
 use Rattle.lnt_spans.specs.Laws.Positions.{at_most_itself, at_most_trans, at_most_below, below_at_most}
-use Rattle.lnt_spans.specs.Laws.Positions.{below_is_at_most, not_both, order_cases, test_below, test_not_below}
+use Rattle.lnt_spans.specs.Laws.Positions.{below_is_at_most, order_cases, test_below, test_not_below}
 
 -- answers as a version tells them
 told : (version : Version) {a b : Option Answer} → a ≡ b → option_map (in_version version) a ≡ option_map (in_version version) b
@@ -175,14 +175,6 @@ fewer_inside next span at to e lt le =
           (at_most_trans le (below_is_at_most lt)),
     ) (omega arith)
 
--- a span was passed, and so far there is a position below `to`
-pub fewer_passed : (count less : ℕ) (next other : Option Span) (at end to : Position) → less < count → IsBelow at to
-    → less + less + steps_left other end to < count + count + steps_left next at to
-fewer_passed count less next other at end to h lt =
-    let gap = gap_at_most_one end other in
-    let one = at_most_one (is_below end to) in
-    rw (test_below at to lt) (omega (arith, h, gap, one))
-
 -- ---- stretch after stretch
 
 -- up to `at` the spans answer so, and the rest is still to come
@@ -193,17 +185,6 @@ pub record SoFar (version : Version) (spans : List Span) (from at to : Position)
   pub says : Says version spans from at answer rest
   pub behind : IsAtMost from at
   pub within : IsAtMost at to
-
-pub so_far_none : (version : Version) (spans : List Span) (from to : Position) (answer : Option Answer) (AreLeft : List Span → Type 0)
-    → AreLeft spans → AreInOrder spans → EndsBehind from spans → IsAtMost from to
-    → SoFar version spans from from to answer AreLeft
-so_far_none version spans from to answer AreLeft left o behind le = record {
-  rest = spans;
-  left = left;
-  says = record { order = o; behind = behind; same = λ p h. refl; says = λ p h k. absurd (not_both k h) };
-  behind = at_most_itself from;
-  within = le;
-}
 
 says_more : (version : Version) (spans rest more : List Span) (from at end to : Position) (answer own : Option Answer)
     → Says version spans from at answer rest
@@ -217,20 +198,6 @@ says_more version spans rest more from at end to answer own s stretch e = let t 
     | inr late ↦ sym (told version (s.same p late)) ∙ t.says p late k ∙ sym e
   ];
 }
-
-says_all : (version : Version) (spans rest : List Span) (from at to : Position) (answer : Option Answer)
-    → Says version spans from at answer rest → IsAtMost at to
-    → IsAtMost to at → Says version spans from to answer rest
-says_all version spans rest from at to answer s le ge = record {
-  order = s.order;
-  behind = upto rest s.behind;
-  same = λ p h. s.same p (at_most_trans le h);
-  says = λ p h k. s.says p h (below_at_most k ge);
-}
-  where
-    upto : (xs : List Span) → EndsBehind at xs → EndsBehind to xs
-    upto [] h = tt
-    upto (x ∷ xs) h = at_most_below ge h
 
 pub begins_with : {S : Type 0} (to_come : S → List Span → Type 0) (ahead : Ahead S) (spans : List Span) → IsAhead to_come ahead spans
     → BeginsWith ahead.next spans
@@ -248,35 +215,6 @@ so_far_more version spans from at end to answer own t AreLeft AreLeft' f stretch
   says = says_more version spans f.rest (rest_of t f.rest) from at end to answer own f.says stretch e;
   behind = at_most_trans f.behind (below_is_at_most stretch.from);
   within = stretch.within;
-}
-
--- it isn't
-pub scanned_differs : (version : Version) (spans : List Span) (from at end to : Position) (answer own : Option Answer) (t : Bool)
-    (AreLeft : List Span → Type 0) (f : SoFar version spans from at to answer AreLeft)
-    → IsStretch version f.rest at to own end (rest_of t f.rest) → IsBelow at to → answer ≢ own
-    → IsScanned version spans from to answer (Some (record { position = at; by_table = answer; by_section = own })) AreLeft
-scanned_differs version spans from at end to answer own t AreLeft f stretch lt ne = record {
-  rest = f.rest;
-  left = f.left;
-  order = f.says.order;
-  cases = record {
-    behind = f.behind;
-    below = lt;
-    table = refl;
-    section = sym (sym (told version (f.says.same at (at_most_itself at))) ∙ stretch.says.says at (at_most_itself at) stretch.from);
-    differ = ne;
-    before = f.says.says;
-  };
-}
-
-pub scanned_all : (version : Version) (spans : List Span) (from at to : Position) (answer : Option Answer) (AreLeft : List Span → Type 0)
-    → SoFar version spans from at to answer AreLeft → IsAtMost to at
-    → IsScanned version spans from to answer None AreLeft
-scanned_all version spans from at to answer AreLeft f ge = record {
-  rest = f.rest;
-  left = f.left;
-  order = f.says.order;
-  cases = says_all version spans f.rest from at to answer f.says f.within ge;
 }
 
 -- the first span was passed

@@ -11,13 +11,13 @@ use Rattle.lnt_spans.specs.declared.difference.Difference.{Difference}
 use Rattle.lnt_spans.specs.declared.position.Position.{Position}
 use Rattle.lnt_spans.specs.declared.span.Span.{Span}
 use Rattle.lnt_spans.specs.Answers.{in_version}
-use Rattle.lnt_spans.specs.Ahead.{BeginsWith, count_ahead, gap_before, IsAhead}
+use Rattle.lnt_spans.specs.Ahead.{BeginsWith, gap_before, IsAhead}
 use Rattle.lnt_spans.specs.Comparing.{IsTold, end_of}
-use Rattle.lnt_spans.specs.Differing.{AreToldBelow, HasTold, IsBefore, IsOpen, IsRun, IsSide, IsUpTo, run_end, runs_left}
+use Rattle.lnt_spans.specs.Differing.{AreToldBelow, HasTold, IsBefore, IsOpen, IsRun, IsSide, IsUpTo, run_end}
 use Rattle.lnt_spans.specs.Positions.{IsBelow, IsAtMost, is_below}
 use Rattle.lnt_spans.specs.Scanning.{EndsBehind}
 use Rattle.lnt_spans.specs.Spans.{AreInOrder, span_answer, version_answer}
-use Rattle.lnt_spans.specs.Stretches.{AreAnswers, AreRising, AreStretches, BeginsStretch, IsInOne, IsInStretch, Stay}
+use Rattle.lnt_spans.specs.Stretches.{AreAnswers, AreRising, BeginsStretch, IsInOne, IsInStretch, Stay}
 use Rattle.lnt_spans.specs.Laws.Answering.{answer_behind, answer_in, answer_same, back_in_order, first_holds}
 use Rattle.lnt_spans.specs.Laws.Answering.{front_in_order, none_before, rest_in_order, rest_none}
 use Rattle.lnt_spans.specs.Laws.Positions.{at_most_below, at_most_itself, at_most_trans, below_at_most}
@@ -77,30 +77,6 @@ up_to_high span more at end o h = elim (order_cases at span.low) [
   | inr in_it ↦ subst (λ (q : Position). IsAtMost end q) (same_Some _ span.high (sym (end_inside (Some span) span at refl in_it))) h
 ]
 
-pub side_none : {S : Type 0} (to_come : S → List Span → Type 0) (version : Version) (ahead : Ahead S) (at end : Position)
-    (answers : Position → Option Answer) → ahead.next ≡ None → IsSide to_come version ahead at answers → IsAtMost at end
-    → IsSide to_come version ahead end answers
-side_none to_come version ahead at end answers none s le = record {
-  rest = s.rest;
-  coming = s.coming;
-  order = s.order;
-  behind = subst (EndsBehind end) (sym (no_first ahead.next s.rest none (begins_with to_come ahead s.rest s.coming))) tt;
-  same = λ p h. s.same p (at_most_trans le h);
-}
-
-pub side_kept : {S : Type 0} (to_come : S → List Span → Type 0) (version : Version) (ahead : Ahead S) (span : Span) (at end : Position)
-    (answers : Position → Option Answer) → ahead.next ≡ Some span → IsBelow end span.high → IsSide to_come version ahead at answers
-    → IsAtMost at end
-    → IsSide to_come version ahead end answers
-side_kept to_come version ahead span at end answers some lt s le = record {
-  rest = s.rest;
-  coming = s.coming;
-  order = s.order;
-  behind = let first = first_is ahead.next span s.rest some (begins_with to_come ahead s.rest s.coming) in subst (EndsBehind end)
-      (sym first.1) lt;
-  same = λ p h. s.same p (at_most_trans le h);
-}
-
 behind_high : (span : Span) (more : List Span) (end : Position) → AreInOrder (span ∷ more) → IsAtMost end span.high → EndsBehind end more
 behind_high span more end o le = upto more (next_behind span more o)
   where
@@ -128,18 +104,6 @@ side_passed to_come version old new span at end answers some high passes s le up
           ∙ ap (λ (xs : List Span). version_answer version xs p) (sym first.1) ∙ s.same p (at_most_trans le h);
     }
 
-pub side_ended : {S : Type 0} (to_come : S → List Span → Type 0) (version : Version) (ahead : Ahead S) (at : Position)
-    (answers : Position → Option Answer) → IsSide to_come version ahead at answers → run_end at ahead.next ≡ None
-    → (p : Position) → IsAtMost at p → answers p ≡ None
-side_ended to_come version ahead at answers s e p h =
-    let none = by_next ahead.next e in
-    sym (s.same p h) ∙ ap (λ (xs : List Span). version_answer version xs p)
-    (no_first ahead.next s.rest none (begins_with to_come ahead s.rest s.coming))
-  where
-    by_next : (next : Option Span) → run_end at next ≡ None → next ≡ None
-    by_next None e = refl
-    by_next (Some span) e = absurd cc
-
 -- ---- fewer runs are left
 
 gap_at_most_one : (at : Position) (next : Option Span) → gap_before at next ≤ 1
@@ -149,36 +113,6 @@ gap_at_most_one at (Some span) = one (is_below at span.low)
     one : (t : Bool) → cond t 1 0 ≤ 1
     one true = omega arith
     one false = omega arith
-
-gap_falls : (at end : Position) (next : Option Span) → IsAtMost at end → gap_before end next ≤ gap_before at next
-gap_falls at end None le = omega arith
-gap_falls at end (Some span) le = elim (order_cases end span.low) [
-  | inl lt ↦ rw (test_below end span.low lt, test_below at span.low (at_most_below le lt)) (omega arith)
-  | inr ge ↦ rw (test_not_below end span.low ge) (omega arith)
-]
-
-pub kept_runs : (at end : Position) (next : Option Span) (left : ℕ) → IsAtMost at end → runs_left end next left ≤ runs_left at next left
-kept_runs at end next left le = let g = gap_falls at end next le in omega (arith, g)
-
--- a span that ends after `end` isn't where its run ends, so that there is its beginning
-pub kept_fewer : (at end : Position) (next : Option Span) (span : Span) (left : ℕ) → next ≡ Some span → IsBelow end span.high
-    → run_end at next ≡ Some end → runs_left end next left < runs_left at next left
-kept_fewer at end next span left some lt e = rw some (elim (order_cases at span.low) [
-  | inl gap ↦
-      let is : span.low ≡ end = same_Some span.low end (end_gap next span at some gap ∙ e) in
-      rw (
-        test_below at span.low gap,
-        test_not_below end span.low
-            (subst (λ (q : Position). IsAtMost span.low q) is (at_most_itself span.low)),
-      ) (omega arith)
-  | inr in_it ↦
-      let is : span.high ≡ end = same_Some span.high end (end_inside next span at some in_it ∙ e) in
-      absurd (not_both lt (subst (λ (q : Position). IsAtMost span.high q) is (at_most_itself span.high)))
-])
-
-pub passed_fewer : (at end : Position) (next other : Option Span) (left less : ℕ) → count_ahead other less < count_ahead next left
-    → runs_left end other less < runs_left at next left
-passed_fewer at end next other left less h = let g = gap_at_most_one end other in omega (arith, h, g)
 
 -- ---- what is told
 
@@ -286,16 +220,6 @@ told_new f g at end s t s' t' told b lt stay differ other =
           | inl same ↦ differ (sym a.table ∙ sym same ∙ a.section)
           | inr old ↦ other (sym a.section ∙ old.section) (sym a.table ∙ old.table)
         ]
-
--- where both sides are through
-pub told_all : (f g : Position → Option Answer) (at : Position) (s t : Option Answer) (told : List Difference)
-    → AreToldBelow f g at s t told → ((p : Position) → IsAtMost at p → f p ≡ None)
-    → ((p : Position) → IsAtMost at p → g p ≡ None) → AreStretches f g told
-told_all f g at s t told b none none' = record {
-  each = b.each;
-  rising = b.rising;
-  all = λ p. elim (order_cases p at) [ inl early ↦ b.all p early | inr late ↦ inl (none p late ∙ sym (none' p late)) ];
-}
 
 -- where both answer alike up to there
 pub told_none : (f g : Position → Option Answer) (at : Position) → ((p : Position) → IsBelow p at → f p ≡ g p)

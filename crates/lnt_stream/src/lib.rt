@@ -12,5 +12,5 @@ mod stop;
 mod taking;
 
 pub use buffer::UnitBuffer;
-pub use reader::SectionReader;
+pub use reader::{Progress, SectionReader};
 pub use stop::SectionStop;

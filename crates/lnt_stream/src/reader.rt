@@ -12,21 +12,21 @@ use crate::taking::take_unit_bytes;
 use lnt_wire::{Order, Source};
 use std::alloc::Global;
 
-// Where a reader stands.
+/// Where a reader of a section stands, and so what its next call does.
 #[derive(Clone, Copy, Debug, PartialEq, Eq)]
-enum Progress {
-    // Before a unit or at the end of the section, which isn't known yet.
+pub enum Progress {
+    /// Before a unit, or at the end of the section, which isn't known yet: the next call reads on.
     Reading,
-    // After the end of the section, which was answered.
+    /// After the end of the section, which was answered: each further call answers none.
     Ended,
-    // After a stop.
+    /// After a stop: each further call is stopped by `Failed`.
     Failed,
 }
 
 /// Reads a section unit by unit from a source, which it borrows.
 ///
-/// A contract sees the source, the byte order, the offset in the section at which the next unit stands, and the progress:
-/// reading, or ended, or failed.
+/// A contract sees the source, the byte order, the offset in the section at which the next unit stands, and the progress. It
+/// sees them as fields, and not over a model: so what is known of the source in the reader is known of it after the loan.
 #[derive(Drop)]
 pub struct SectionReader<'s, R: Source> {
     source: &'s mut R,
@@ -59,6 +59,20 @@ impl<'s, R: Source> SectionReader<'s, R> {
             offset: 0,
             progress: Progress::Reading,
         }
+    }
+
+    /// Where the reader stands: whether it reads on, has told the end of the section, or was stopped.
+    pub fn progress(&self) -> Progress
+        ensures { result ≡ self.now.progress }
+    {
+        self.progress
+    }
+
+    /// The offset in the section, in bytes, at which the next unit stands: how many bytes the units that were given have.
+    pub fn offset(&self) -> u64
+        ensures { result ≡ self.now.offset }
+    {
+        self.offset
     }
 
     /// The next unit of the section, or none at its end (DWARF 5, sections 6.2.4 and 7.4).

@@ -100,9 +100,3 @@ pub good_told : (line general : List ℕ) (options : Options) (section : Option 
     → IfSome section (λ bytes. IsTrueOfSection line general options bytes (verdict_of compared))
 good_told line general options None index compared i = tt
 good_told line general options (Some section) index compared i = section_told line general options section index compared i
-
--- what is told of the section alone is so whatever the table is
-pub bad_told : (P : List ℕ → Type 0) (section table : Option (List ℕ)) → IfSome section P → IfSome section (λ bytes. IfSome table (λ text. P bytes))
-bad_told P None table h = tt
-bad_told P (Some section) None h = tt
-bad_told P (Some section) (Some table) h = h

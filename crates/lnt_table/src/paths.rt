@@ -6,7 +6,8 @@ ghost use Rattle.lnt_paths.specs.Written.{HasBecome};
 ghost use Rattle.lnt_table.specs.ByPath.{path_at, told_path};
 
 use lnt_lines::Index;
-use lnt_paths::{PathTable, PathVersion, Paths, WriteStop, write_by_path};
+use lnt_paths::{PathTable, PathVersion, Paths, write_by_path};
+use lnt_records::WriteStop;
 use std::alloc::{AllocError, Global};
 use std::io::Write;
 

@@ -9,8 +9,9 @@ use Rattle.lnt_text.specs.declared.note.Look.{Look}
 use Rattle.lnt_text.specs.declared.note.Look.TheVariants.{Elf, Pe, MachO, Gzip, Zstd, CompressedSection, Text, InOrder}
 use Rattle.lnt_text.specs.declared.note.Note.{Note}
 use Rattle.lnt_text.specs.declared.note.Note.TheVariants.{Word, NotRaw, NoStrings, MaybeDead, NoneDead, Copies}
-use Rattle.lnt_text.specs.declared.note.Note.TheVariants.{HoldsNothing, NoSums, TableHeader, NumberedHeader}
-use Rattle.lnt_text.specs.declared.note.Note.TheVariants.{TableFields, TableNumber, TableOrder}
+use Rattle.lnt_text.specs.declared.note.Note.TheVariants.{HoldsNothing, NoSums, TableHeader, NumberedHeader, TableRecord}
+use Rattle.lnt_text.specs.declared.note.RecordRule.{RecordRule}
+use Rattle.lnt_text.specs.declared.note.RecordRule.TheVariants.{Fields, Kind, Order}
 use Rattle.lnt_text.specs.declared.note.StringSection.{StringSection}
 use Rattle.lnt_text.specs.declared.note.StringSection.TheVariants.{Line, General}
 use Rattle.lnt_wire.specs.FaultTexts.{hexadecimal}
@@ -76,6 +77,12 @@ column_kind column.High = codes "0x and 1 to 16 hexadecimal digits"
 column_kind column.IsStmt = codes "0 or 1"
 column_kind _ = codes "1 to 20 decimal digits, and below 2^64"
 
+-- which rule a record breaks
+abbrev pub rule_text : RecordRule → List ℕ
+rule_text Fields = codes "each record has as many fields as the header has names"
+rule_text (Kind which) = column_name which ++ (codes " is " ++ column_kind which)
+rule_text Order = codes "each span ends above its low, which isn't below the high of the span before"
+
 -- the headers of the versions of a table that tell units and file numbers
 abbrev pub numbered_headers : List ℕ
 numbered_headers = codes "low,low_op,high,high_op,unit,file,line,column,is_stmt or with this and ,isa,discriminator"
@@ -96,9 +103,7 @@ note_text NoSums = codes "the section lists no MD5 sum, so nothing was compared"
 note_text TableHeader =
     codes "the table has to begin with " ++ (numbered_headers ++ codes ", or with low,high,path,line or with this and ,column")
 note_text NumberedHeader = codes "with --all the table has to begin with " ++ numbered_headers
-note_text (TableFields line) = line_text line ++ codes "each record has as many fields as the header has names"
-note_text (TableNumber line which) = line_text line ++ (column_name which ++ (codes " is " ++ column_kind which))
-note_text (TableOrder line) = line_text line ++ codes "each span ends above its low, which isn't below the high of the span before"
+note_text (TableRecord line rule) = line_text line ++ rule_text rule
 
 -- the line of a note, on standard error
 abbrev pub note_line : Note → List ℕ

@@ -11,7 +11,7 @@ mod shown;
 
 pub use answer::AnswerText;
 pub use fault::{MalformedLine, RunLine};
-pub use note::{Argument, Column, Look, Note, StringSection};
+pub use note::{Argument, Column, Look, Note, RecordRule, StringSection};
 pub use position::PositionText;
 pub use quoted::Quoted;
 pub use shown::Shown;

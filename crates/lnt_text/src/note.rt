@@ -1,7 +1,7 @@
 //! Notes: what helps a person, after an answer that stays as it is.
 ghost use Rattle.std.specs.Prelude.{Some};
 ghost use Rattle.lnt_text.specs.Notes.{advice_text, argument_text, column_kind, column_name, count_text, line_text};
-ghost use Rattle.lnt_text.specs.Notes.{look_text, note_text, numbered_headers, strings_text};
+ghost use Rattle.lnt_text.specs.Notes.{look_text, note_text, numbered_headers, rule_text, strings_text};
 
 use lnt_wire::Order;
 use std::fmt;
@@ -29,12 +29,8 @@ pub enum Note {
     TableHeader,
     /// The table doesn't begin with the header of a version that tells units and file numbers, and `--all` takes no other.
     NumberedHeader,
-    /// A record hasn't as many fields as its table has columns. It begins in this line of the text, where that is known.
-    TableFields(Option<u64>),
-    /// In this column, a record holds what isn't of its kind.
-    TableNumber(Option<u64>, Column),
-    /// The span of a record is empty, or begins below the end of the one before it.
-    TableOrder(Option<u64>),
+    /// A record of the table breaks this rule. It begins in this line of the text, where that is known.
+    TableRecord(Option<u64>, RecordRule),
 }
 
 /// An argument that not every word can be.
@@ -80,6 +76,17 @@ pub enum StringSection {
     Line,
     /// `.debug_str`
     General,
+}
+
+/// What is asked of each record of a table.
+#[derive(Clone, Copy, Debug, PartialEq, Eq)]
+pub enum RecordRule {
+    /// It has as many fields as its table has columns.
+    Fields,
+    /// In this column, it holds what is of the column's kind.
+    Kind(Column),
+    /// Its span isn't empty, and doesn't begin below the end of the one before it.
+    Order,
 }
 
 /// A column of a table.
@@ -147,22 +154,26 @@ impl fmt::Display for Note {
                 "with --all the table has to begin with {}",
                 NumberedHeaders
             ),
-            Note::TableFields(line) => write!(
+            Note::TableRecord(line, rule) => write!(f, "{}{rule}", LineText(line)),
+        }
+    }
+}
+
+impl fmt::Display for RecordRule {
+    ghost output = { λ rule. Some (rule_text rule) };
+
+    fn fmt<W: fmt::Write>(&self, f: &mut fmt::Formatter<W>) -> fmt::Result {
+        match *self {
+            RecordRule::Fields => write!(
                 f,
-                "{}each record has as many fields as the header has names",
-                LineText(line)
+                "each record has as many fields as the header has names"
             ),
-            Note::TableNumber(line, column) => write!(
+            RecordRule::Kind(column) => {
+                write!(f, "{} is {}", ColumnName(column), ColumnKind(column))
+            }
+            RecordRule::Order => write!(
                 f,
-                "{}{} is {}",
-                LineText(line),
-                ColumnName(column),
-                ColumnKind(column)
-            ),
-            Note::TableOrder(line) => write!(
-                f,
-                "{}each span ends above its low, which isn't below the high of the span before",
-                LineText(line)
+                "each span ends above its low, which isn't below the high of the span before"
             ),
         }
     }

@@ -80,9 +80,6 @@ reason_is LebTooLarge = refl
 reason_is ExtendedLength = refl
 reason_is Memory = refl
 
-fault_with : ℕ → ℕ → ℕ → ℕ → Fault
-fault_with place kind m n = record { place = place; reason = reason_with kind m n }
-
 fault_of : ℕ → Reason → Fault
 fault_of place reason = record { place = place; reason = reason }
 

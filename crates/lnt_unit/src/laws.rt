@@ -1,6 +1,8 @@
 //! Laws of the format, each the contract of a function without parameters that does nothing.
 ghost use Rattle.lnt_unit.specs.Laws.{AllowedIsSpelled, FaultOfSection, OneSection, OneSpelling, OneTrueFault, WholeWalk};
 
+pub use lnt_header_bytes::laws::one_header;
+
 /// Under one byte order no unit begins another's bytes, and each spells one unit (DWARF 5, section 6.2.4). So
 /// decoding what was encoded gives it back, whatever follows.
 #[tactic(auto, using(crate::specs::Laws::Units::one_spelling))]

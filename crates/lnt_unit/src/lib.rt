@@ -16,10 +16,11 @@ pub use decode::{decode_section, decode_unit};
 pub use encode::encode_unit;
 pub use in_place::UnitInPlace;
 pub use lnt_header::{
-    Entry, EntryTable, Header, HeaderParts, Op, OpView, Operands, Pair, ShortList, UnitFault,
+    Entry, EntryTable, Header, HeaderParts, Op, OpView, Operands, Pair, UnitFault,
 };
 pub use lnt_header_bytes::{HeaderInPlace, HeaderView, KeptHeader, decode_header, encode_header};
+pub use lnt_lists::ShortList;
 pub use lnt_ops::Ops;
-pub use lnt_stream::{SectionReader, SectionStop, UnitBuffer};
+pub use lnt_stream::{Progress, SectionReader, SectionStop, UnitBuffer};
 pub use unit::{Parts, Unit};
 pub use view::UnitView;

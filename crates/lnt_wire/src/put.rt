@@ -4,7 +4,7 @@ ghost use Rattle.std.specs.Prelude.{◌≡◌, ◌<◌, ◌↔◌, ◌++◌, Som
 ghost use Rattle.std.specs.Int.{int_rem_euclid};
 ghost use Rattle.lnt_wire.specs.Bytes.{Appends, Extends};
 ghost use Rattle.lnt_wire.specs.FaultTexts.{encode_fault_text};
-ghost use Rattle.lnt_wire.specs.FormBytes.{HasNoZero, BlockBytes, FormBytes, TextBytes, HasSpelling, IsTooLarge};
+ghost use Rattle.lnt_wire.specs.FormBytes.{BlockBytes, FormBytes, HasSpelling, IsTooLarge};
 ghost use Rattle.lnt_wire.specs.Leb128.{UnsignedLeb, SignedLeb};
 ghost use Rattle.lnt_wire.specs.Prefixes.{LengthFits, LengthBytes};
 ghost use Rattle.lnt_wire.specs.Numbers.{NumberBytes, OffsetBytes, IsLargeOffset};
@@ -244,7 +244,10 @@ fn add_form(
     ensures extends { OnErr result (Extends out.old.items out.new.items) }
 {
     match value {
-        FormValue::Text(text) => add_text(out, text.as_slice()),
+        FormValue::Text(text) => {
+            out.extend_from_slice(text.as_slice())?;
+            Ok(out.push(0)?)
+        }
         FormValue::LineStrp(offset) => put_offset(out, *offset, format, order),
         FormValue::Strp(offset) => put_offset(out, *offset, format, order),
         FormValue::Udata(n) => put_uleb(out, *n),
@@ -258,18 +261,6 @@ fn add_form(
         FormValue::Block2(block) => add_block(out, block.as_slice(), Prefix::Two, order),
         FormValue::Block4(block) => add_block(out, block.as_slice(), Prefix::Four, order),
     }
-}
-
-// Adds the bytes of a text, and a zero byte. After a refusal a part of it may be there.
-fn add_text(out: &mut Vec<u8>, text: &[u8]) -> Result<(), EncodeFault>
-    requires { HasNoZero text.now }
-    ensures ok { OnOk result (Appends TextBytes text.now out.old.items out.new.items) }
-    ensures err { IfErr result (λ fault. fault ≡ EncodeFault.Memory) }
-    ensures extends { OnErr result (Extends out.old.items out.new.items) }
-{
-    out.extend_from_slice(text)?;
-    out.push(0)?;
-    Ok(())
 }
 
 // Adds the length of a block, spelled as `prefix` says, and its bytes. After a refusal a part of it may be there.

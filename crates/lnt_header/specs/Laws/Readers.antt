@@ -57,11 +57,6 @@ pub any_local : IsLocal any
 unfolding any
 any_local = record { later = λ reason front before left h. tt }
 
-pub refuses_any : {X : Type 0} {IsSo : Reason → List ℕ → List ℕ → Type 0} {P : X → List ℕ → Type 0} (old : At) (fault : Fault)
-    → Refuses IsSo P old fault → Refuses any P old fault
-unfolding any
-refuses_any old fault r = record { before = r.before; left = r.left; split = r.split; place = r.place; reason = tt; none = r.none }
-
 -- a fault at the cursor's own place
 pub refuses_here : {X : Type 0} {IsSo : Reason → List ℕ → List ℕ → Type 0} {Spells : X → List ℕ → Type 0} (old : At) (fault : Fault)
     (reason : Reason)

@@ -1,5 +1,5 @@
 -- The rows of a unit in another format and byte order. These are proofs: nothing here is to be believed.
-use Rattle.std.proofs.Common.{◌≡◌, ℕ, ◌+◌, ◌%◌, ◌≤◌, List, [], ◌∷◌, length, refl, sym, ap, subst, ◌∙◌}
+use Rattle.std.proofs.Common.{◌≡◌, ℕ, ◌+◌, ◌%◌, List, [], ◌∷◌, refl, sym, ap, ◌∙◌}
 use Rattle.std.specs.Prelude.{true, false, ℤ, pos, ◌+ℤ◌, unsigned_abs, Option, Some}
 use Rattle.std.specs.List.{cons_option}
 use Rattle.lnt_wire.specs.declared.format.Format.{Format}
@@ -11,12 +11,11 @@ use Rattle.lnt_header.specs.declared.op.Op.TheVariants.{Special, Copy, AdvanceLi
 use Rattle.lnt_unit.specs.Converting.{unit_in_format}
 use Rattle.lnt_unit.specs.declared.unit.Parts.{Parts}
 use Rattle.lnt_machine.specs.Laws.{SameMatrix}
-use Rattle.lnt_machine.specs.Matrix.{row_of, end_row_of, row_made, rows_behind, rows, sequences_of, joined_rows, done, Runs, IsRunFault}
-use Rattle.lnt_machine.specs.Registers.{advance_of, advances, moved, base, line_increment, line_sum, line, IsLine, part}
+use Rattle.lnt_machine.specs.Laws.Numbers.{fault_over, runs_over}
+use Rattle.lnt_machine.specs.Matrix.{row_of, end_row_of, row_made, rows_behind, rows, sequences_of}
+use Rattle.lnt_machine.specs.Registers.{advance_of, advances, moved, base, line_increment, line_sum, line, part}
 use Rattle.lnt_machine.specs.Registers.{file, column, isa, discriminator, is_stmt, basic_block, prologue_end}
 use Rattle.lnt_machine.specs.Registers.{epilogue_begin, registers_after}
-use Rattle.lnt_machine.specs.declared.fault.RunFault.{RunFault}
-use Rattle.lnt_machine.specs.declared.fault.RunFault.TheVariants.{LineOutOfRange, OpenSequence, Memory}
 use Rattle.lnt_machine.specs.declared.row.Row.{Row}
 
 -- ---- registers
@@ -113,34 +112,6 @@ unit_rows : (unit : Parts) (format : Format) (order : Order) → rows (unit_in_f
 unit_rows unit format order = same_rows unit.header format order [] unit.ops
 
 -- ---- how the program runs
-
--- the lines of one are those of the other
-lines_over : (h other : HeaderParts) (ops : List Op) (k : ℕ) → ((back : List Op) → line h back ≡ line other back)
-    → ((j : ℕ) → j ≤ k → IsLine (line h (done ops j))) → (j : ℕ) → j ≤ k → IsLine (line other (done ops j))
-lines_over h other ops k same fit j le = subst IsLine (same (done ops j)) (fit j le)
-
-closed_over : (us vs : List Row) → us ≡ vs → joined_rows (sequences_of us) ≡ us → joined_rows (sequences_of vs) ≡ vs
-closed_over us vs same closed = subst (λ (rows : List Row). joined_rows (sequences_of rows) ≡ rows) same closed
-
-runs_over : (h other : HeaderParts) (ops : List Op) → ((back : List Op) → line h back ≡ line other back)
-    → rows_behind h [] ops ≡ rows_behind other [] ops
-    → Runs (record { header = h; ops = ops }) → Runs (record { header = other; ops = ops })
-runs_over h other ops lines same runs = record {
-  lines = lines_over h other ops (length ops) lines runs.lines;
-  closed = closed_over (rows_behind h [] ops) (rows_behind other [] ops) same runs.closed;
-}
-
-fault_over : (h other : HeaderParts) (ops : List Op) → ((back : List Op) → line h back ≡ line other back)
-    → rows_behind h [] ops ≡ rows_behind other [] ops
-    → (fault : RunFault) → IsRunFault (record { header = h; ops = ops }) fault → IsRunFault (record { header = other; ops = ops }) fault
-fault_over h other ops lines same (LineOutOfRange k) (within, fit, leaves) =
-    (within, lines_over h other ops k lines fit, λ is. leaves (subst IsLine (sym (lines (done ops (k + 1)))) is))
-fault_over h other ops lines same OpenSequence (fit, left) = (
-  lines_over h other ops (length ops) lines fit,
-  λ closed. left
-      (closed_over (rows_behind other [] ops) (rows_behind h [] ops) (sym same) closed),
-)
-fault_over h other ops lines same Memory is = tt
 
 pub same_matrix : SameMatrix
 same_matrix = record {

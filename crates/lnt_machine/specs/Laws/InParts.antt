@@ -12,7 +12,7 @@ use Rattle.lnt_machine.specs.declared.row.Sequence.{Sequence}
 use Rattle.lnt_machine.specs.Laws.Rows.{cons_option-append, reverse-cons, rows_behind-append}
 use Rattle.lnt_machine.specs.Matrix.{onto_first, row_made, rows_behind, sequences_of}
 use Rattle.lnt_machine.specs.Parts.{AreWhole, AtStart, first_sequence, rows_of_ops, RowsOfParts}
-use Rattle.lnt_machine.specs.Registers.{advance_of, advances, base, part, registers_after}
+use Rattle.lnt_machine.specs.Registers.{advance_of, advances, base, part}
 use Rattle.lnt_machine.specs.State.{StandsAfter, State}
 
 -- ---- looking back
@@ -53,9 +53,6 @@ alike_more h one other op a =
       base_is = a.base_is;
       advances_is = ap (λ (n : ℕ). advance_of h op + n) a.advances_is;
     }
-
-alike_registers : (h : HeaderParts) (one other : List Op) → LeadAlike h one other → registers_after h one ≡ registers_after h other
-alike_registers h one other a = rw (a.part_is, a.base_is, a.advances_is) refl
 
 alike_row : (h : HeaderParts) (one other : List Op) (op : Op) → LeadAlike h one other → row_made h one op ≡ row_made h other op
 alike_row h one other Copy a = rw (a.part_is, a.base_is, a.advances_is) refl

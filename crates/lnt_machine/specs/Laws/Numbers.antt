@@ -119,7 +119,7 @@ lines_over h other ops k same fit j le = subst IsLine (same (done ops j)) (fit j
 closed_over : (us vs : List Row) → us ≡ vs → joined_rows (sequences_of us) ≡ us → joined_rows (sequences_of vs) ≡ vs
 closed_over us vs same closed = subst (λ (rows : List Row). joined_rows (sequences_of rows) ≡ rows) same closed
 
-runs_over : (h other : HeaderParts) (ops : List Op) → ((back : List Op) → line h back ≡ line other back)
+pub runs_over : (h other : HeaderParts) (ops : List Op) → ((back : List Op) → line h back ≡ line other back)
     → rows_behind h [] ops ≡ rows_behind other [] ops
     → Runs (record { header = h; ops = ops }) → Runs (record { header = other; ops = ops })
 runs_over h other ops lines same runs = record {
@@ -127,7 +127,7 @@ runs_over h other ops lines same runs = record {
   closed = closed_over (rows_behind h [] ops) (rows_behind other [] ops) same runs.closed;
 }
 
-fault_over : (h other : HeaderParts) (ops : List Op) → ((back : List Op) → line h back ≡ line other back)
+pub fault_over : (h other : HeaderParts) (ops : List Op) → ((back : List Op) → line h back ≡ line other back)
     → rows_behind h [] ops ≡ rows_behind other [] ops
     → (fault : RunFault) → IsRunFault (record { header = h; ops = ops }) fault → IsRunFault (record { header = other; ops = ops }) fault
 fault_over h other ops lines same (LineOutOfRange k) (within, fit, leaves) =

@@ -8,7 +8,7 @@ use Rattle.lnt_wire.specs.Leb128.{IsLargeUnsigned, IsLargeSigned, IsLebFault}
 use Rattle.lnt_wire.specs.Reading.{Refuses}
 use Rattle.lnt_header.specs.declared.header.HeaderParts.{HeaderParts}
 use Rattle.lnt_header.specs.FieldFaults.IsCutField.{number, leb, operation}
-use Rattle.lnt_header.specs.Laws.Readers.{IsLocal, cut_later}
+use Rattle.lnt_header.specs.Laws.Readers.{cut_later}
 use Rattle.lnt_ops.specs.OpBytes.{OpBytes}
 use Rattle.lnt_ops.specs.OpFaults.{IsOpFault, IsFirstFault}
 use Rattle.lnt_ops.specs.OpFaults.IsOpFault.{cut_field, large_number, wrong_length}
@@ -23,9 +23,6 @@ op_later address_size reason front before left (cut_field e h) = cut_field e (cu
 op_later address_size reason front before left (large_number e h) = large_number e h
 op_later address_size reason front before left (wrong_length earlier e b h) =
     wrong_length (front ++ earlier) e (ap (λ (z : List ℕ). front ++ z) b ∙ sym (append_assoc front earlier (0 ∷ []))) h
-
-pub op_local : (address_size : ℕ) → IsLocal (IsOpFault address_size)
-op_local address_size = record { later = op_later address_size }
 
 -- ---- the first fault is a fault
 

@@ -1,5 +1,5 @@
 -- The sequences of a section, one more unit at a time. These are proofs: nothing here is to be believed.
-use Rattle.std.proofs.Common.{◌≡◌, ◌≢◌, ℕ, suc, ◌+◌, ◌^◌, ◌<◌, ◌≤◌, List, [], ◌∷◌, ◌++◌, Option, refl, sym, ap, ◌∙◌, subst, arith, length}
+use Rattle.std.proofs.Common.{◌≡◌, ◌≢◌, ℕ, suc, ◌+◌, ◌^◌, ◌<◌, ◌≤◌, List, [], ◌∷◌, ◌++◌, Option, refl, sym, ap, ◌∙◌, arith, length}
 use Rattle.std.specs.List.{All, AllPairs}
 use Rattle.std.proofs.lemmas.List.{append-nil, length-append}
 use Rattle.std.proofs.lemmas.List.Concat.{flat_map-append}
@@ -36,12 +36,6 @@ live-append dead units unit =
 pub ordered-append : (xs ys : List Placed) → AreOrdered xs → AreOrdered ys → AreOrdered (xs ++ ys)
 ordered-append [] ys h k = k
 ordered-append (x ∷ xs) ys h k = (h.0, ordered-append xs ys h.1 k)
-
-pub ordered_more : (dead : Option ℕ) (units : List (ℕ × Parts)) (unit : ℕ × Parts) → AreOrdered (live_sequences dead units)
-    → AreOrdered (live_in dead unit)
-    → AreOrdered (live_sequences dead (units ++ unit ∷ []))
-ordered_more dead units unit h k =
-    subst AreOrdered (sym (live-append dead units unit)) (ordered-append (live_sequences dead units) (live_in dead unit) h k)
 
 -- ---- what is collected of them
 

@@ -1,14 +1,10 @@
 -- What a list of spans answers, by its first span. These are proofs: nothing here is to be believed.
-use Rattle.std.proofs.Common.{◌≡◌, ◌∙◌, true, false, Bool, List, [], ◌∷◌, ◌++◌, inl, inr, refl, sym, Some, None, Option}
+use Rattle.std.proofs.Common.{◌≡◌, ◌∙◌, true, false, Bool, List, [], ◌∷◌, ◌++◌, inl, inr, refl, sym, Some, None}
 use Rattle.std.specs.Prelude.{◌&&◌}
-use Rattle.std.specs.Option.{option_map}
 use Rattle.lnt_spans.specs.declared.position.Position.{Position}
 use Rattle.lnt_spans.specs.declared.span.Span.{Span}
-use Rattle.lnt_spans.specs.declared.answer.Answer.{Answer}
-use Rattle.lnt_spans.specs.declared.answer.Version.TheVariants.{Two}
-use Rattle.lnt_spans.specs.Answers.{in_version}
 use Rattle.lnt_spans.specs.Positions.{IsBelow, IsAtMost}
-use Rattle.lnt_spans.specs.Spans.{AreInOrder, span_answer, version_answer}
+use Rattle.lnt_spans.specs.Spans.{AreInOrder, span_answer}
 use Rattle.lnt_spans.specs.Laws.Positions.{test_below, test_not_below, test_at_most, test_not_at_most, below_at_most}
 use Rattle.lnt_spans.specs.Laws.Positions.{below_is_at_most, order_cases}
 
@@ -68,11 +64,3 @@ none_before s (t ∷ rest) p h k =
 pub rest_none : (s : Span) (rest : List Span) (p : Position) → AreInOrder (s ∷ rest) → IsBelow p s.high → span_answer rest p ≡ None
 rest_none s [] p h k = refl
 rest_none s (t ∷ rest) p h k = none_before t rest p h.2 (below_at_most k h.1)
-
--- version 2 tells everything
-pub two_tells_all : (spans : List Span) (p : Position) → version_answer Two spans p ≡ span_answer spans p
-two_tells_all spans p = all_told (span_answer spans p)
-  where
-    all_told : (answer : Option Answer) → option_map (in_version Two) answer ≡ answer
-    all_told None = refl
-    all_told (Some answer) = refl
