@@ -7,6 +7,7 @@ pub mod HeaderPuts
 pub mod HeaderReading
 pub mod Large
 pub mod Laws
+pub mod Kept
 pub mod Layouts
 pub mod Marks
 pub mod Spelled

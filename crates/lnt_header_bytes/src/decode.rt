@@ -1,5 +1,5 @@
 //! Headers, read from the bytes of their units.
-ghost use Rattle.std.specs.Prelude.{◌≡◌, ◌≢◌, IfOk, IfErr};
+ghost use Rattle.std.specs.Prelude.{◌≡◌, ◌≢◌, Ok, IfOk, IfErr};
 ghost use Rattle.lnt_wire.specs.FrameBytes.{frame_bytes, IsPlacedFrame};
 ghost use Rattle.lnt_header_bytes.specs.Broken.{BrokenHeader};
 ghost use Rattle.lnt_header_bytes.specs.HeaderBytes.{HeaderBytesIn};
@@ -8,7 +8,7 @@ ghost use Rattle.lnt_header_bytes.specs.HeaderReading.{IsBehindVersion};
 use crate::in_place::view_header;
 use lnt_header::Header;
 use lnt_wire::{Cursor, Fault, Format, Frame, Order, Reason};
-use std::alloc::Global;
+use std::alloc::{AllocError, Global};
 
 /// The header of a frame, and the bytes of its program (DWARF 5, section 6.2.4).
 ///
@@ -25,10 +25,22 @@ pub fn decode_header<'a>(
     ensures err { IfErr result (λ fault. fault.reason ≢ Reason.Memory → BrokenHeader order fault frame.now.offset (frame_bytes order frame.now.format frame.now.body.now)) }
 {
     let (header, program) = view_header(alloc, frame, order)?;
-    match header.view().to_header(alloc) {
+    with_program(header.view().to_header(alloc), program, frame.offset)
+}
+
+// A header and its program, if there was memory for the header; this is its unit's place.
+fn with_program<'a>(
+    header: Result<Header, AllocError>,
+    program: &'a [u8],
+    place: u64,
+) -> Result<(Header, &'a [u8]), Fault>
+    ensures ok { IfOk result (λ found. (header ≡ Ok found.0) × (found.1.now ≡ program.entry.now)) }
+    ensures err { IfErr result (λ fault. fault.reason ≡ Reason.Memory) }
+{
+    match header {
         Ok(header) => Ok((header, program)),
         Err(_) => Err(Fault {
-            place: frame.offset,
+            place,
             reason: Reason::Memory,
         }),
     }

@@ -100,6 +100,10 @@ impl<'a> HeaderView<'a> {
         ensures { IfOk result (λ header. header ≡ self.now) }
     {
         let numbers = self.numbers;
+        let lengths = Vec::from_slice(alloc, numbers.standard_lengths())?;
+        let directory_format = Vec::from_slice(alloc, numbers.directory_format())?;
+        let file_format = Vec::from_slice(alloc, numbers.file_format())?;
+        let extra = Vec::from_slice(alloc, self.extra)?;
         let directories = self.directories.to_entries(alloc)?;
         let files = self.files.to_entries(alloc)?;
         Ok(Header::of(HeaderParts {
@@ -112,12 +116,12 @@ impl<'a> HeaderView<'a> {
             line_base: numbers.line_base(),
             line_range: numbers.line_range(),
             opcode_base: numbers.opcode_base(),
-            standard_lengths: Items::new(Vec::from_slice(alloc, numbers.standard_lengths())?),
-            directory_format: Items::new(Vec::from_slice(alloc, numbers.directory_format())?),
+            standard_lengths: Items::new(lengths),
+            directory_format: Items::new(directory_format),
             directories: Items::new(directories),
-            file_format: Items::new(Vec::from_slice(alloc, numbers.file_format())?),
+            file_format: Items::new(file_format),
             files: Items::new(files),
-            extra: Items::new(Vec::from_slice(alloc, self.extra)?),
+            extra: Items::new(extra),
         }))
     }
 }

@@ -1,6 +1,7 @@
 //! Headers that are kept without the bytes of their units.
 ghost use Rattle.std.specs.Prelude.{◌≡◌, ◌++◌, IsTrue, IfOk};
-ghost use Rattle.lnt_header_bytes.specs.Borrowed.{without_entries, HasSameForm, HasSameNumbers};
+ghost use Rattle.lnt_header_bytes.specs.Borrowed.{without_entries, IsHeaderOver, HasSameForm, HasSameNumbers};
+ghost use Rattle.lnt_header_bytes.specs.Kept.{AreKept};
 ghost use Rattle.lnt_header.specs.HeaderRules.{IsHeader};
 
 use crate::header_view::HeaderView;
@@ -20,6 +21,12 @@ use std::rc::Rc;
 pub struct KeptHeader {
     // The numbers and the formats, in a header without entries.
     numbers: Rc<Header>,
+    entries: KeptEntries,
+}
+
+// The rest of a kept header.
+#[derive(Drop)]
+struct KeptEntries {
     directories: u64,
     files: u64,
     // Those of the directories, those of the files, and those between the file table and the program.
@@ -33,14 +40,13 @@ pub struct KeptHeader {
 
 impl Model for KeptHeader {
     ghost use Rattle.lnt_header.specs.declared.header.HeaderParts.{HeaderParts};
-    ghost use Rattle.lnt_header_bytes.specs.Borrowed.{header_in_bytes};
-    ghost use Rattle.lnt_header_bytes.specs.Marks.{IsMarkedHeader};
+    ghost use Rattle.lnt_header_bytes.specs.Kept.{kept_header, IsKept};
 
     ghost Value = { HeaderParts };
 
-    ghost view = { λ h. header_in_bytes h.numbers.value h.directories h.files h.bytes.items h.directory_size h.file_size };
+    ghost view = { λ h. kept_header h.numbers.value h.entries };
 
-    ghost invariant = { λ h. IsMarkedHeader h.numbers.value h.directories h.files h.bytes.items h.directory_size h.file_size h.directory_marks.items h.file_marks.items };
+    ghost invariant = { λ h. IsKept h.numbers.value h.entries };
 }
 
 impl KeptHeader {
@@ -48,22 +54,23 @@ impl KeptHeader {
     pub fn view(&self) -> HeaderView<'_>
         ensures { result ≡ self.now }
     {
-        let (directories, rest) = self.bytes.split_at(self.directory_size);
-        let (files, extra) = rest.split_at(self.file_size);
+        let entries = &self.entries;
+        let (directories, rest) = entries.bytes.split_at(entries.directory_size);
+        let (files, extra) = rest.split_at(entries.file_size);
         HeaderView::of(
             self.numbers.as_ref(),
             EntriesInPlace {
-                count: self.directories,
+                count: entries.directories,
                 bytes: directories,
             },
             EntriesInPlace {
-                count: self.files,
+                count: entries.files,
                 bytes: files,
             },
             extra,
             Marks {
-                directories: &self.directory_marks,
-                files: &self.file_marks,
+                directories: &entries.directory_marks,
+                files: &entries.file_marks,
             },
         )
     }
@@ -90,21 +97,39 @@ impl<'a> HeaderInPlace<'a> {
             files,
             extra,
         } = self;
-        let directory_marks = marks_of(alloc, &numbers, numbers.directory_format(), directories)?;
-        let file_marks = marks_of(alloc, &numbers, numbers.file_format(), files)?;
-        let bytes = joined(alloc, directories.bytes, files.bytes, extra)?;
+        let entries = entries_of(alloc, &numbers, directories, files, extra);
         let numbers = shared(alloc, numbers, other)?;
         Ok(KeptHeader {
             numbers,
-            directories: directories.count,
-            files: files.count,
-            bytes,
-            directory_size: directories.bytes.len(),
-            file_size: files.bytes.len(),
-            directory_marks,
-            file_marks,
+            entries: entries?,
         })
     }
+}
+
+// The entries of a header of these numbers, kept without the bytes that they lie in.
+fn entries_of(
+    alloc: Global,
+    numbers: &Header,
+    directories: EntriesInPlace<'_>,
+    files: EntriesInPlace<'_>,
+    extra: &[u8],
+) -> Result<KeptEntries, AllocError>
+    requires { IsHeaderOver numbers.now directories.count directories.bytes.now files.count files.bytes.now extra.now }
+    ensures { IfOk result (λ kept. AreKept numbers.now directories.entry.count directories.entry.bytes.now files.entry.count
+        files.entry.bytes.now extra.now kept) }
+{
+    let directory_marks = marks_of(alloc, numbers, numbers.directory_format(), directories)?;
+    let file_marks = marks_of(alloc, numbers, numbers.file_format(), files)?;
+    let bytes = joined(alloc, directories.bytes, files.bytes, extra)?;
+    Ok(KeptEntries {
+        directories: directories.count,
+        files: files.count,
+        bytes,
+        directory_size: directories.bytes.len(),
+        file_size: files.bytes.len(),
+        directory_marks,
+        file_marks,
+    })
 }
 
 // These bytes, one after the other, in memory of their own.

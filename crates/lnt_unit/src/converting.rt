@@ -1,11 +1,12 @@
 //! Units in another format and byte order, each from the bytes in which it stands (DWARF 5, sections 6.2.4 and 7.4).
-ghost use Rattle.std.specs.Prelude.{◌≡◌, ◌≢◌, ◌+◌, length, IfErr, IfOk, OnOk, OnErr};
+ghost use Rattle.std.specs.Prelude.{◌≡◌, ◌≢◌, ◌+◌, ◌<◌, ◌^◌, length, IfErr, IfOk, OnOk, OnErr};
 ghost use Rattle.lnt_wire.specs.FrameBytes.{frame_bytes, IsPlacedFrame};
+ghost use Rattle.lnt_header_bytes.specs.HeaderBytes.{HeaderBytesIn};
 ghost use Rattle.lnt_unit.specs.BrokenUnits.{BrokenUnit};
 ghost use Rattle.lnt_unit.specs.ConvertedUnits.{ConvertsBytes, ConvertsUnit, IsNextStop, IsToldAs, IsUnitStop, JudgesUnit};
 
 use crate::convert::ConvertFault;
-use lnt_header_bytes::{put_header_view, view_header};
+use lnt_header_bytes::{HeaderInPlace, put_header_view, view_header};
 use lnt_ops::convert_ops;
 use lnt_wire::{Cursor, EncodeFault, Fault, Format, Frame, Order, Reason, take_frame};
 use std::alloc::Global;
@@ -101,6 +102,31 @@ fn convert_frame(
         Err(fault) => return Err(told(fault)),
     };
     let place = end - program.len() as u64;
+    convert_parts(alloc, frame, &header, program, place, format, to, out)
+}
+
+// Adds the bytes of the unit of a frame, with this header and this program, in the format and in the byte order `to`. The
+// program begins at the offset `place` of the section. It borrows the header, so that no way out of it lets one go.
+fn convert_parts(
+    alloc: Global,
+    frame: &Frame<'_>,
+    header: &HeaderInPlace<'_>,
+    program: &[u8],
+    place: u64,
+    format: Format,
+    to: Order,
+    out: &mut Vec<u8>,
+) -> Result<(), ConvertFault>
+    requires spelled { HeaderBytesIn header.now.order (header.now, program.now)
+        (frame_bytes header.now.order frame.now.format frame.now.body.now) }
+    requires room { place + length program.now < 2 ^ 64 }
+    requires place { place + length program.now
+        ≡ frame.now.offset + length (frame_bytes header.now.order frame.now.format frame.now.body.now) }
+    ensures ok { OnOk result (ConvertsBytes header.now.order format to
+        (frame_bytes header.now.order frame.now.format frame.now.body.now) out.old.items out.new.items) }
+    ensures err { IfErr result (IsUnitStop header.now.order format to frame.now.offset
+        (frame_bytes header.now.order frame.now.format frame.now.body.now)) }
+{
     let mut converted = Vec::new(alloc);
     if let Err(fault) = convert_ops(&mut converted, header.numbers(), program, place, to) {
         return Err(told(fault));

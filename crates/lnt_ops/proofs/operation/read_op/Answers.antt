@@ -1,4 +1,4 @@
-use Rattle.std.proofs.Common.{◌∙◌}
+use Rattle.std.proofs.Common.{◌∙◌, rules}
 use Rattle.std.proofs.lemmas.Result.{err_from_is_err_and}
 use Rattle.lnt_ops.proofs.OpReaders.{first_after}
 use Rattle.lnt_ops.proofs.operation.read_op.Goals as goal
@@ -9,3 +9,6 @@ returns-in_err-view-clause-first c =
     rw (p.1, p.2) (first_after c.args.header.now c.in_ok-opcode.opcode c.args.cursor.now c.new-ahead.result c.u8.new.self
     c.in_err-view.field-0.0 (c.new-ahead.ensures.place ∙ c.place.ensures.value) (c.new-ahead.ensures.rest ∙ c.rest.ensures)
     c.in_ok-opcode.ensures.ok c.in_err-view.ensures.err)
+
+pub read_operand-requires-clause-standard : goal.read_operand-requires-clause-standard
+read_operand-requires-clause-standard c = search rules

@@ -1,4 +1,4 @@
-use Rattle.std.proofs.Common.{refl, subst}
+use Rattle.std.proofs.Common.{refl, subst, rules}
 use Rattle.lnt_wire.specs.At.{At}
 use Rattle.lnt_wire.specs.InitialFaults.{IsInitialFault}
 use Rattle.lnt_wire.specs.InitialLength.{InitialBytes}
@@ -17,3 +17,6 @@ returns-in_default-clause-err c =
     subst (λ (at : At). Reads (InitialBytes at.order) c.in-Ok.initial at c.initial_length.new.cursor) c.fork-ahead.ensures
     c.in-Ok.ensures.ok in
     refuses_long _ _ c.in-Ok.initial _ _ read c.in_default.ensures.err c.place-offset.ensures.value refl
+
+pub returns-clause-offset : goal.returns-clause-offset
+returns-clause-offset c = search rules

@@ -1,4 +1,4 @@
-use Rattle.std.proofs.Common.{◌≡◌, ◌<◌, ◌∙◌, ap, length, slice_index_or, subst, sym, List, ℕ, drop}
+use Rattle.std.proofs.Common.{◌≡◌, ◌<◌, ◌∙◌, ap, length, slice_index_or, subst, sym, List, ℕ, drop, rules}
 use Rattle.lnt_machine.specs.Laws.Numbers.{sequence_by_numbers}
 use Rattle.lnt_machine.specs.Walking.{IsSequencePlace, Keeps, Kept}
 use Rattle.lnt_machine.proofs.kept.Program.sequence.Goals as goal
@@ -20,3 +20,6 @@ returns-clause-rows c unit d keeps =
     (λ earlier later is. c.at.ensures.rows earlier later
     (subst (λ (program : List ℕ). IsSequencePlace numbers program earlier later c.in_ok-place.field-0.now)
     (sym (c.split_at.ensures.back ∙ ap (λ (list : List ℕ). drop c.self.inside.start list) c.deref-2.ensures.value)) is))
+
+pub returns-clause-none : goal.returns-clause-none
+returns-clause-none c = search rules

@@ -1,0 +1,9 @@
+use Rattle.std.proofs.Common.{rules}
+use Rattle.lnt_wire.proofs.PutLemmas.{taken_back}
+use Rattle.lnt_wire.proofs.put.put_form.Goals as goal
+
+pub returns-clause-ok : goal.returns-clause-ok
+returns-clause-ok c = search (rules, taken_back)
+
+pub returns-clause-too_large : goal.returns-clause-too_large
+returns-clause-too_large c = search (rules, taken_back)
