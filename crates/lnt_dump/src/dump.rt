@@ -105,11 +105,7 @@ fn print_unit<W: Write>(
 }
 
 // Prints a unit whose header is sound, or the fault of its program.
-fn print_judged<W: Write>(
-    sheet: &Sheet<'_>,
-    page: &mut Page,
-    out: &mut W,
-) -> Result<Status, Halt> {
+fn print_judged<W: Write>(sheet: &Sheet<'_>, page: &mut Page, out: &mut W) -> Result<Status, Halt> {
     page.begin();
     match print_sheet(sheet, page, out) {
         Ok(()) => Ok(Status::Done),
