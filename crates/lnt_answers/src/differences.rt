@@ -45,19 +45,6 @@ pub fn print_differences<S: SpanSource + Drop, T: SpanSource + Drop, W: Write>(
         → (list : List Spec) × AreStretches by_section by_table list × Appends (W.contents out.old) (W.contents out.new) (stretches_text list) × (status ≡ stretches_status list)) }
 {
     let mut differences = differences;
-    print_each(&mut differences, out)
-}
-
-// The same of differences that are lent.
-fn print_each<S: SpanSource + Drop, T: SpanSource + Drop, W: Write>(
-    differences: &mut Differences<S, T>,
-    out: &mut W,
-) -> Result<Status, Halt>
-    requires { (by_section : Position → Option Answer) × (by_table : Position → Option Answer) × HasTold S.to_come T.to_come differences.old by_section by_table [] }
-    ensures err { IfErr result IsPrinting }
-    ensures lines { IfOk result (λ status. (by_section by_table : Position → Option Answer) → HasTold S.to_come T.to_come differences.old by_section by_table []
-        → (list : List Spec) × AreStretches by_section by_table list × Appends (W.contents out.old) (W.contents out.new) (stretches_text list) × (status ≡ stretches_status list)) }
-{
     let Some(first) = differences.next_difference() else {
         writeln!(out, "yes")?;
         return Ok(Status::Done);

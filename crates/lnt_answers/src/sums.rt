@@ -111,25 +111,10 @@ fn print_sum<O: Opener, W: Write>(
     let Some(path) = path_of(alloc, header, strings, file)? else {
         return Ok(Status::Done);
     };
-    print_path_sum(alloc, unit, file, &path, &listed, opener, out)
-}
-
-// Prints the line of a file with this path and this listed sum.
-fn print_path_sum<O: Opener, W: Write>(
-    alloc: Global,
-    unit: u64,
-    file: u64,
-    path: &[u8],
-    listed: &[u8; 16],
-    opener: &mut O,
-    out: &mut W,
-) -> Result<Status, Halt>
-    ensures err { IfErr result IsPrinting }
-{
-    let agreement = agreement_of(path, listed, opener);
+    let agreement = agreement_of(&path, &listed, opener);
     write!(out, "unit {unit} file {file} ")?;
     print_agreement(alloc, agreement, out)?;
-    writeln!(out, " {}", Quoted(path))?;
+    writeln!(out, " {}", Quoted(&path))?;
     Ok(match agreement {
         Some(Agreement::Same) => Status::Done,
         _ => Status::No,

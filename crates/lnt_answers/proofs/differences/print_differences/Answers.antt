@@ -1,6 +1,6 @@
 use Rattle.std.proofs.Common.{rules, [], ◌∷◌, refl}
 use Rattle.lnt_answers.proofs.DifferenceLemmas.{printed_first, printed_more}
-use Rattle.lnt_answers.proofs.differences.print_each.Goals as goal
+use Rattle.lnt_answers.proofs.differences.print_differences.Goals as goal
 
 pub returns-in_default-clause-lines : goal.returns-in_default-clause-lines
 returns-in_default-clause-lines g c f f' h = ([], c.in_default.ensures.told f f' [] h, search rules, refl)

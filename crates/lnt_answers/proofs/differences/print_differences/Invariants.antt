@@ -3,7 +3,7 @@ use Rattle.lnt_spans.specs.declared.answer.Answer.{Answer}
 use Rattle.lnt_spans.specs.declared.position.Position.{Position}
 use Rattle.lnt_spans.specs.Differing.{HasTold, runs_left}
 use Rattle.lnt_answers.proofs.DifferenceLemmas.{HasPrinted}
-use Rattle.lnt_answers.proofs.differences.print_each.Given as goal
+use Rattle.lnt_answers.proofs.differences.print_differences.Given as goal
 
 abbrev pub invariant-loop-difference : goal.invariant-loop-difference
 invariant-loop-difference g l = (f f' : Position → Option Answer) → HasTold g.S.SpanSource.to_come g.T.SpanSource.to_come l.fn.differences f f' []
