@@ -91,21 +91,27 @@ fn print_unit<W: Write>(
     page: &mut Page,
     out: &mut W,
 ) -> Result<Status, Halt> {
-    let unit = match UnitInPlace::over(alloc, buffer) {
-        Ok(unit) => unit,
-        Err(fault) => return print_fault(fault, out),
-    };
-    let sheet = Sheet {
-        alloc,
-        buffer,
-        unit: &unit,
-        shown,
-    };
+    match UnitInPlace::over(alloc, buffer) {
+        Ok(unit) => {
+            let sheet = Sheet {
+                alloc,
+                buffer,
+                unit: &unit,
+                shown,
+            };
+            print_judged(&sheet, page, out)
+        }
+        Err(fault) => print_fault(fault, out),
+    }
+}
+
+// Prints a unit whose header is sound, or the fault of its program.
+fn print_judged<W: Write>(sheet: &Sheet<'_>, page: &mut Page, out: &mut W) -> Result<Status, Halt> {
     page.begin();
-    match print_sheet(&sheet, page, out) {
+    match print_sheet(sheet, page, out) {
         Ok(()) => Ok(Status::Done),
         Err(Stop::Malformed(fault)) => print_fault(fault, out),
-        Err(Stop::NotRun(fault)) => print_run_fault(buffer.offset(), fault, out),
+        Err(Stop::NotRun(fault)) => print_run_fault(sheet.buffer.offset(), fault, out),
         Err(Stop::Halt(halt)) => Err(halt),
     }
 }

@@ -95,7 +95,7 @@ fn print_value<W: Write>(alloc: Global, value: ValueView<'_>, out: &mut W) -> Re
         ValueView::Data1(n) => write!(out, "{n}")?,
         ValueView::Data2(n) => write!(out, "{n}")?,
         ValueView::Data4(n) => write!(out, "{n}")?,
-        ValueView::Data16(bytes) => write!(out, "{}", hex::encode(alloc, bytes.as_slice())?)?,
+        ValueView::Data16(bytes) => print_bytes(alloc, bytes.as_slice(), out)?,
         ValueView::Block(bytes)
         | ValueView::Block1(bytes)
         | ValueView::Block2(bytes)

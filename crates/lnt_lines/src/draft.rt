@@ -44,7 +44,6 @@ impl Draft {
 
     /// Judges the next unit, and adds it if it is sound: then it gives memory for the bytes of another unit. Else it
     /// refuses as `judge_unit`. Nothing is said then of the draft.
-    #[tactic(auto, using(crate::proofs::DraftLemmas::added))]
     pub(crate) fn add_unit(
         &mut self,
         alloc: Global,

@@ -42,14 +42,32 @@ pub(crate) fn judge_unit(
     ensures within { IfOk result (λ unit. unit.start ≤ length buffer.now.bytes) }
     ensures err { IfErr result (IsUnitRefusal ends.now.line ends.now.general dead buffer.now) }
 {
-    let unit = buffer.offset();
     let view = UnitInPlace::over(alloc, buffer)?;
-    let mut places = Vec::new(alloc);
-    let watch = run_unit(&view, unit, dead, collected, &mut places)?;
-    if let Some(no) = flaw_of(&view, unit, &watch, ends) {
-        return Err(Refusal::No(no));
-    }
+    let places = judge_run(alloc, &view, buffer.offset(), ends, dead, collected)?;
     Ok(sound_unit(alloc, view, places, other)?)
+}
+
+// Judges the unit at an offset, whose header is sound, and adds what its live sequences hold to what is collected. Of a
+// sound one it gives where its sequences begin in the program.
+fn judge_run(
+    alloc: Global,
+    view: &UnitInPlace<'_>,
+    unit: u64,
+    ends: &StringEnds<'_>,
+    dead: Option<u64>,
+    collected: &mut Collected,
+) -> Result<Vec<usize>, Refusal>
+    requires { unit ≡ view.now.unit.offset }
+    ensures sound { IfOk result (λ places. IsJudgedSound ends.now.line ends.now.general dead view.now.unit collected.old collected.new
+        (record { header = view.now.header; program = view.now.program; places = places.items })) }
+    ensures err { IfErr result (IsUnitRefusal ends.now.line ends.now.general dead view.now.unit) }
+{
+    let mut places = Vec::new(alloc);
+    let watch = run_unit(view, unit, dead, collected, &mut places)?;
+    match flaw_of(view, unit, &watch, ends) {
+        Some(no) => Err(Refusal::No(no)),
+        None => Ok(places),
+    }
 }
 
 // The first thing that is wrong with the unit at an offset, whose program ran to its end, and whose rows the watch has

@@ -1,5 +1,5 @@
 //! Where the records of a table begin.
-use csv::{ByteRecord, ReaderBuilder};
+use csv::{ByteRecord, Reader, ReaderBuilder};
 use lnt_text::Column;
 use std::alloc::Global;
 use std::io::Read;
@@ -16,18 +16,24 @@ pub(crate) fn line_of<R: Read + Drop>(
         .flexible(true)
         .from_reader(alloc, text);
     let mut row = ByteRecord::new(alloc);
-    for _ in 0..record {
-        if !reader.read_byte_record(&mut row)? {
-            return Ok(None);
-        }
-    }
-    if !reader.read_byte_record(&mut row)? {
+    if !reads(&mut reader, &mut row, record)? {
         return Ok(None);
     }
-    match row.position() {
-        Some(position) => Ok(Some(position.line())),
-        None => Ok(None),
+    Ok(row.position().map(|position| position.line()))
+}
+
+// Reads the records of a table up to this one into `row`, and says whether it is there.
+fn reads<R: Read>(
+    reader: &mut Reader<R>,
+    row: &mut ByteRecord,
+    record: u64,
+) -> Result<bool, csv::Error> {
+    for _ in 0..record {
+        if !reader.read_byte_record(row)? {
+            return Ok(false);
+        }
     }
+    reader.read_byte_record(row)
 }
 
 /// Which columns a table has.

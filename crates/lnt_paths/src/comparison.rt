@@ -3,6 +3,7 @@ ghost use Rattle.std.specs.Prelude.{◌≡◌, ◌+◌, ◌^◌, ◌<◌, ◌≤
 ghost use Rattle.std.specs.Bool.{MatchBool};
 ghost use Rattle.std.specs.Option.{option_map};
 ghost use Rattle.csv.specs.Records.{fields_of};
+ghost use Rattle.lnt_records.specs.Progress.{HasRead};
 ghost use Rattle.lnt_records.specs.Table.{Fields};
 ghost use Rattle.lnt_spans.specs.declared.position.Position as position;
 ghost use Rattle.lnt_spans.specs.declared.span.Span as spec;
@@ -12,7 +13,7 @@ ghost use Rattle.lnt_paths.specs.PathAnswers.{path_answer, spans_by_path};
 ghost use Rattle.lnt_paths.specs.PathDifferences.{IsLeastPathDifference, IsPathComparison, told_path_answer};
 ghost use Rattle.lnt_paths.specs.PathFaults.{IsFaultyRecord};
 ghost use Rattle.lnt_paths.specs.PathSpans.{PathSpan, path_span_answer};
-ghost use Rattle.lnt_paths.specs.PathTables.{IsPathTable};
+ghost use Rattle.lnt_paths.specs.PathTables.{IsPathTable, path_column_names};
 ghost use Rattle.lnt_paths.specs.Reading.{record_answer, record_span, whole};
 
 use crate::answer::{AnswerByPath, ComparedByPath, DifferenceByPath};
@@ -22,7 +23,7 @@ use crate::merge::{Apart, Section, column_in, first_apart};
 use crate::paths::Paths;
 use crate::record::{FieldFault, PathRecord, record_of};
 use crate::version::PathVersion;
-use csv::ByteRecord;
+use csv::{ByteRecord, Reader};
 use lnt_records::{TableFault, TableStop, read_first, read_next, reader_of};
 use lnt_spans::{Answer, SpanSource};
 use std::alloc::{AllocError, Global};
@@ -53,11 +54,28 @@ pub fn compare_by_path<S: SpanSource + Drop, P: Paths>(
     let Some(version) = version_of(&row) else {
         return Ok(ComparedByPath::Fault(TableFault::Header));
     };
+    compare_records(alloc, &mut reader, &mut row, version, spans, paths)
+}
+
+// The same of the records that a reader has to give, which has read the names of the version's columns, into `row`.
+fn compare_records<S: SpanSource + Drop, P: Paths>(
+    alloc: Global,
+    reader: &mut Reader<&[u8]>,
+    row: &mut ByteRecord,
+    version: PathVersion,
+    spans: S,
+    paths: &P,
+) -> Result<ComparedByPath, TableStop>
+    requires { (bytes : List ℕ) × HasRead reader.old bytes (path_column_names version ∷ []) × (length bytes < 2 ^ 64) }
+    ensures { IfOk result (λ compared. (bytes : List ℕ) (list : List spec.Span) → HasRead reader.old bytes (path_column_names version ∷ [])
+        → S.to_come spans list → AreInOrder list
+        → IsPathComparison bytes (λ version. spans_by_path version (P.bytes_of paths.now) list) compared) }
+{
     let Ok(mut comparison) = PathComparison::new(alloc, spans) else {
         return Err(TableStop::Memory);
     };
-    while read_next(&mut reader, &mut row)? {
-        let Ok(found) = comparison.take_record(alloc, paths, version, &row) else {
+    while read_next(reader, row)? {
+        let Ok(found) = comparison.take_record(alloc, paths, version, row) else {
             return Err(TableStop::Memory);
         };
         if let Some(fault) = found {

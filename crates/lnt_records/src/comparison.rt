@@ -6,13 +6,13 @@ ghost use Rattle.lnt_spans.specs.declared.position.Position.{Position};
 ghost use Rattle.lnt_spans.specs.Spans.{AreInOrder, version_answer};
 ghost use Rattle.lnt_records.specs.Faults.{IsComparison, IsFaulty};
 ghost use Rattle.lnt_records.specs.Passing.{IsCut};
-ghost use Rattle.lnt_records.specs.Progress.{Judges};
+ghost use Rattle.lnt_records.specs.Progress.{HasRead, Judges};
 ghost use Rattle.lnt_records.specs.Table.{BeginsWith, Fields, IsSpanRecord, IsTable, column_names};
 
 use crate::fault::{TableFault, TableStop};
 use crate::reading::{read_header, read_next, reader_of};
 use crate::record::{RecordFault, span_of};
-use csv::ByteRecord;
+use csv::{ByteRecord, Reader};
 use lnt_spans::{Difference, Merge, Span, SpanSlice, SpanSource, Version};
 use std::alloc::Global;
 
@@ -84,13 +84,29 @@ pub(crate) fn compare_behind<S: SpanSource + Drop>(
     let mut reader = reader_of(alloc, text);
     let mut row = ByteRecord::new(alloc);
     read_next(&mut reader, &mut row)?;
-    let mut comparison = Comparison {
+    let comparison = Comparison {
         merge,
         version,
         count,
     };
-    while read_next(&mut reader, &mut row)? {
-        if let Some(fault) = comparison.take_record(&row) {
+    compare_rest(&mut reader, &mut row, comparison)
+}
+
+// The same of the records that a reader has to give, which has read the header of a text, each into `row`.
+fn compare_rest<S: SpanSource + Drop>(
+    reader: &mut Reader<&[u8]>,
+    row: &mut ByteRecord,
+    mut comparison: Comparison<S>,
+) -> Result<Compared, TableStop>
+    requires read { (text : List ℕ) × HasRead reader.old text (column_names comparison.version ∷ []) × (comparison.count + length text < 2 ^ 64 + 1) }
+    requires judged { (list : List Span) × (passed : List Fields) × Judges S.to_come comparison list (column_names comparison.version ∷ passed) }
+    ensures { IfOk result (λ compared. (text : List ℕ) (list section : List Span) (passed : List Fields) (bytes : List ℕ)
+        → HasRead reader.old text (column_names comparison.version ∷ []) → Judges S.to_come comparison list (column_names comparison.version ∷ passed)
+        → IsCut comparison.version text bytes passed → ((p : Position) → version_answer comparison.version list p ≡ version_answer comparison.version section p)
+        → IsComparison bytes section compared) }
+{
+    while read_next(reader, row)? {
+        if let Some(fault) = comparison.take_record(row) {
             return Ok(Compared::Fault(fault));
         }
     }

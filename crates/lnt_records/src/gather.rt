@@ -4,13 +4,13 @@ ghost use Rattle.csv.specs.Records.{fields_of};
 ghost use Rattle.lnt_spans.specs.declared.span.Span.{Span};
 ghost use Rattle.lnt_records.specs.Differing.{IsGathered};
 ghost use Rattle.lnt_records.specs.Passing.{IsCut};
-ghost use Rattle.lnt_records.specs.Progress.{Judges};
+ghost use Rattle.lnt_records.specs.Progress.{HasRead, Judges};
 ghost use Rattle.lnt_records.specs.Table.{BeginsWith, Fields, column_names};
 
 use crate::comparison::Comparison;
 use crate::fault::{TableFault, TableStop};
 use crate::reading::{read_next, reader_of};
-use csv::ByteRecord;
+use csv::{ByteRecord, Reader};
 use lnt_spans::{Merge, Span, SpanSource, Version};
 use std::alloc::Global;
 
@@ -46,9 +46,25 @@ pub(crate) fn gather_behind<S: SpanSource + Drop>(
         version,
         count,
     };
+    gather_rest(alloc, &mut reader, &mut row, &mut comparison)
+}
+
+// The same of the records that a reader has to give, which has read the header of the text, each into `row`.
+fn gather_rest<S: SpanSource + Drop>(
+    alloc: Global,
+    reader: &mut Reader<&[u8]>,
+    row: &mut ByteRecord,
+    comparison: &mut Comparison<S>,
+) -> Result<Gathered, TableStop>
+    requires read { (text : List ℕ) × HasRead reader.old text (column_names comparison.old.version ∷ []) × (comparison.old.count + length text < 2 ^ 64 + 1) }
+    requires judged { (list : List Span) × (passed : List Fields) × Judges S.to_come comparison.old list (column_names comparison.old.version ∷ passed) }
+    ensures { IfOk result (λ gathered. (text : List ℕ) (list : List Span) (passed : List Fields) (bytes : List ℕ)
+        → HasRead reader.old text (column_names comparison.old.version ∷ []) → (j : Judges S.to_come comparison.old list (column_names comparison.old.version ∷ passed))
+        → IsCut comparison.old.version text bytes passed → IsGathered bytes comparison.old.version j.table gathered) }
+{
     let mut spans = Vec::new(alloc);
-    while read_next(&mut reader, &mut row)? {
-        let span = match comparison.take_span(&row) {
+    while read_next(reader, row)? {
+        let span = match comparison.take_span(row) {
             Ok(span) => span,
             Err(fault) => return Ok(Gathered::Fault(fault)),
         };

@@ -1,55 +1,15 @@
-use Rattle.std.proofs.Common.{◌∷◌, [], ◌++◌, refl}
+use Rattle.std.proofs.Common.{[]}
+use Rattle.std.proofs.lemmas.Result.{IfOk-weaker}
 use Rattle.csv.specs.Records.{fields_of}
-use Rattle.lnt_records.specs.Table.{column_names}
-use Rattle.lnt_records.proofs.ComparisonLemmas.{AnswersSo, all_behind, compared_few, compared_more, compared_none, difference_told, fault_behind, same_told}
 use Rattle.lnt_records.proofs.ReadingLemmas.{header_passed}
 use Rattle.lnt_records.proofs.comparison.compare_behind.Goals as goal
 
-pub loop-comparison-init : goal.loop-comparison-init
-loop-comparison-init g c =
+pub compare_rest-requires-clause-read : goal.compare_rest-requires-clause-read
+compare_rest-requires-clause-read g c =
     let read = header_passed c.read_next.new.reader c.args.text.now (fields_of c.read_next.new.row) c.in_ok-read_next.field-0 c.args.version c.requires.begins (c.in_ok-read_next.ensures.read c.args.text.now [] c.reader_of-reader.ensures) in
-    compared_none g.S.SpanSource.to_come c.read_next.new.reader c.args.text.now c.args.version (record { merge = c.args.merge; version = c.args.version; count = c.args.count }) read refl
-
-pub read_next-requires-in-loop-comparison : goal.read_next-requires-in-loop-comparison
-read_next-requires-in-loop-comparison g c = let h = c.loop-comparison.invariant in (c.args.text.now, column_names c.args.version ∷ h.more, h.read)
-
-pub take_record-requires : goal.take_record-requires
-take_record-requires g c =
-    let h = c.loop-comparison.invariant in
-    let read = rw c.if-branch.true at c.in_ok-read_next-2.ensures.read c.args.text.now (column_names c.args.version ∷ h.more) h.read in
-    let known = c.requires.judged in
-    let few = compared_few g.S.SpanSource.to_come c.loop-comparison.reader c.read_next-in-loop-comparison.new.reader c.args.text.now c.args.version _ c.loop-comparison.comparison (fields_of c.read_next-in-loop-comparison.new.row) known.0 known.1 h read known.2 c.requires.few in
-    (known.0, column_names c.args.version ∷ (known.1 ++ h.more), h.judged known.0 known.1 known.2, few)
-
-pub returns-in-Some : goal.returns-in-Some
-returns-in-Some g c list section passed bytes j cut same =
-    let h = c.loop-comparison.invariant in
-    let read = rw c.if-branch.true at c.in_ok-read_next-2.ensures.read c.args.text.now (column_names c.args.version ∷ h.more) h.read in
-    let stops = c.in-Some.ensures.judged list (column_names c.args.version ∷ (passed ++ h.more)) (h.judged list passed j) in
-    fault_behind g.S.SpanSource.to_come c.loop-comparison.reader c.read_next-in-loop-comparison.new.reader c.args.text.now bytes c.args.version _ c.loop-comparison.comparison
-    (fields_of c.read_next-in-loop-comparison.new.row) passed stops.0 c.in-Some.fault h read cut stops.1 stops.2
-
-pub loop-comparison-preserved : goal.loop-comparison-preserved
-loop-comparison-preserved g c =
-    let h = c.loop-comparison.invariant in
-    let read = rw c.if-branch.true at c.in_ok-read_next-2.ensures.read c.args.text.now (column_names c.args.version ∷ h.more) h.read in
-    compared_more g.S.SpanSource.to_come c.loop-comparison.reader c.read_next-in-loop-comparison.new.reader c.args.text.now c.args.version _ c.loop-comparison.comparison c.take_record.new.self
-    (fields_of c.read_next-in-loop-comparison.new.row) h read c.take_record.ensures.version c.in_default.ensures.judged
-
-pub returns-in-Some-finish : goal.returns-in-Some-finish
-returns-in-Some-finish g c list section passed bytes j cut same =
-    let h = c.loop-comparison.invariant in
-    let rest = rw c.if-branch.false at c.in_ok-read_next-2.ensures.read c.args.text.now (column_names c.args.version ∷ h.more) h.read in
-    let all = all_behind c.args.text.now bytes c.args.version passed h.more cut rest in
-    let now = h.judged list passed j in
-    let so : AnswersSo c.loop-comparison.comparison.version list section = rw h.version_is same in
-    difference_told g.S.SpanSource.to_come bytes c.loop-comparison.comparison list section _ c.in-Some-finish.difference now all so (c.in-Some-finish.ensures list now.table now.compares)
+    (c.args.text.now, read, c.requires.few)
 
 pub returns : goal.returns
-returns g c list section passed bytes j cut same =
-    let h = c.loop-comparison.invariant in
-    let rest = rw c.if-branch.false at c.in_ok-read_next-2.ensures.read c.args.text.now (column_names c.args.version ∷ h.more) h.read in
-    let all = all_behind c.args.text.now bytes c.args.version passed h.more cut rest in
-    let now = h.judged list passed j in
-    let so : AnswersSo c.loop-comparison.comparison.version list section = rw h.version_is same in
-    same_told g.S.SpanSource.to_come bytes c.loop-comparison.comparison list section _ now all so (c.in-None.ensures list now.table now.compares)
+returns g c =
+    let read = header_passed c.read_next.new.reader c.args.text.now (fields_of c.read_next.new.row) c.in_ok-read_next.field-0 c.args.version c.requires.begins (c.in_ok-read_next.ensures.read c.args.text.now [] c.reader_of-reader.ensures) in
+    IfOk-weaker c.compare_rest.result _ _ (λ compared is list section passed bytes j. is c.args.text.now list section passed bytes read j) c.compare_rest.ensures

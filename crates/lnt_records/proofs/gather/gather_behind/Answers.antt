@@ -1,45 +1,15 @@
-use Rattle.std.proofs.Common.{◌∷◌, [], ◌++◌, refl}
+use Rattle.std.proofs.Common.{[]}
+use Rattle.std.proofs.lemmas.Result.{IfOk-weaker}
 use Rattle.csv.specs.Records.{fields_of}
-use Rattle.lnt_records.specs.Table.{column_names}
-use Rattle.lnt_records.proofs.ComparisonLemmas.{compared_few, fault_behind}
-use Rattle.lnt_records.proofs.GatherLemmas.{gathered_all, gathered_more, gathered_none}
 use Rattle.lnt_records.proofs.ReadingLemmas.{header_passed}
 use Rattle.lnt_records.proofs.gather.gather_behind.Goals as goal
 
-pub loop-spans-init : goal.loop-spans-init
-loop-spans-init g c =
+pub gather_rest-requires-clause-read : goal.gather_rest-requires-clause-read
+gather_rest-requires-clause-read g c =
     let read = header_passed c.read_next.new.reader c.args.text.now (fields_of c.read_next.new.row) c.in_ok-read_next.field-0 c.args.version c.requires.begins (c.in_ok-read_next.ensures.read c.args.text.now [] c.reader_of-reader.ensures) in
-    gathered_none g.S.SpanSource.to_come c.read_next.new.reader c.args.text.now c.args.version (record { merge = c.args.merge; version = c.args.version; count = c.args.count }) c.new-spans.result.items read refl c.new-spans.ensures.items
-
-pub read_next-requires-in-loop-spans : goal.read_next-requires-in-loop-spans
-read_next-requires-in-loop-spans g c = let h = c.loop-spans.invariant.compared in (c.args.text.now, column_names c.args.version ∷ h.more, h.read)
-
-pub take_span-requires : goal.take_span-requires
-take_span-requires g c =
-    let h = c.loop-spans.invariant.compared in
-    let read = rw c.if-branch.true at c.in_ok-read_next-2.ensures.read c.args.text.now (column_names c.args.version ∷ h.more) h.read in
-    let known = c.requires.judged in
-    let few = compared_few g.S.SpanSource.to_come c.loop-spans.reader c.read_next-in-loop-spans.new.reader c.args.text.now c.args.version _ c.loop-spans.comparison (fields_of c.read_next-in-loop-spans.new.row) known.0 known.1 h read known.2 c.requires.few in
-    (known.0, column_names c.args.version ∷ (known.1 ++ h.more), h.judged known.0 known.1 known.2, few)
-
-pub loop-spans-preserved : goal.loop-spans-preserved
-loop-spans-preserved g c =
-    let h = c.loop-spans.invariant in
-    let read = rw c.if-branch.true at c.in_ok-read_next-2.ensures.read c.args.text.now (column_names c.args.version ∷ h.compared.more) h.compared.read in
-    rw c.in-Ok-push.ensures.items
-    (gathered_more g.S.SpanSource.to_come c.loop-spans.reader c.read_next-in-loop-spans.new.reader c.args.text.now c.args.version _ c.loop-spans.comparison c.take_span.new.self
-    (fields_of c.read_next-in-loop-spans.new.row) c.loop-spans.spans.items c.in-Ok.span h read c.take_span.ensures.version c.in-Ok.ensures.taken c.in-Ok.ensures.says)
-
-pub returns-in-Err : goal.returns-in-Err
-returns-in-Err g c list passed bytes j cut =
-    let h = c.loop-spans.invariant.compared in
-    let read = rw c.if-branch.true at c.in_ok-read_next-2.ensures.read c.args.text.now (column_names c.args.version ∷ h.more) h.read in
-    let stops = c.in-Err.ensures.faulty list (column_names c.args.version ∷ (passed ++ h.more)) (h.judged list passed j) in
-    fault_behind g.S.SpanSource.to_come c.loop-spans.reader c.read_next-in-loop-spans.new.reader c.args.text.now bytes c.args.version _ c.loop-spans.comparison
-    (fields_of c.read_next-in-loop-spans.new.row) passed stops.0 c.in-Err.fault h read cut stops.1 stops.2
+    (c.args.text.now, read, c.requires.few)
 
 pub returns : goal.returns
-returns g c list passed bytes j cut =
-    let h = c.loop-spans.invariant in
-    let rest = rw c.if-branch.false at c.in_ok-read_next-2.ensures.read c.args.text.now (column_names c.args.version ∷ h.compared.more) h.compared.read in
-    gathered_all g.S.SpanSource.to_come c.loop-spans.reader c.args.text.now bytes c.args.version _ c.loop-spans.comparison c.loop-spans.spans.items list passed h j refl cut rest
+returns g c =
+    let read = header_passed c.read_next.new.reader c.args.text.now (fields_of c.read_next.new.row) c.in_ok-read_next.field-0 c.args.version c.requires.begins (c.in_ok-read_next.ensures.read c.args.text.now [] c.reader_of-reader.ensures) in
+    IfOk-weaker c.gather_rest.result _ _ (λ gathered is list passed bytes. is c.args.text.now list passed bytes read) c.gather_rest.ensures
