@@ -17,6 +17,7 @@ use Rattle.lnt_records.specs.declared.comparison.Compared.TheVariants.{Fault}
 use Rattle.lnt_records.specs.declared.fault.TableFault.TheVariants as fault
 use Rattle.lnt_records.specs.declared.stream.TableRead.TheVariants.{Compared as Told}
 use Rattle.lnt_records.specs.Faults.{IsComparison, IsTableRead}
+use Rattle.lnt_records.specs.Laws.Beginnings.{first_begins}
 use Rattle.lnt_records.specs.Passing.{AreLines, Ends, HasPassed, IsCut, LeavesOff, Passes}
 use Rattle.lnt_records.specs.Progress.{Judges}
 use Rattle.lnt_records.specs.Table.{BeginsWith, Fields, IsSpanRecord, column_names}
@@ -140,18 +141,11 @@ pub not_header : (bytes : List ℕ) (version : Version) (section : List Span) (c
     → IsComparison bytes section compared → compared ≢ Fault fault.Header
 not_header bytes version section compared begins h e = subst (IsComparison bytes section) e h version begins
 
--- what is read of one record is read of the first of several
-first_reached : (bytes : List ℕ) (first : Fields) (more : List Fields) (after : State) (left : List ℕ)
-    → Reached default_config st.StartRecord bytes (first ∷ more) after left
-    → (after' : State) × (left' : List ℕ) × Reached default_config st.StartRecord bytes (first ∷ []) after' left'
-unfolding Reached
-first_reached bytes first more after left r = (r.0.1, r.0.2, (r.0, r.1, r.2, (refl, refl)))
-
 -- A text with lines cut out begins with the header that its bytes begin with.
 cut_begins : (version : Version) (text bytes : List ℕ) (passed : List Fields) → IsCut version text bytes passed → BeginsWith text (column_names version ∷ [])
     → BeginsWith bytes (column_names version ∷ [])
 cut_begins version text bytes passed cut b =
-    first_reached (strip_bom bytes) (column_names version) (passed ++ []) b.0 b.1 (cut [] b.0 b.1 b.2)
+    first_begins bytes (column_names version) (passed ++ []) (b.0, b.1, cut [] b.0 b.1 b.2)
 
 -- what the comparison of the rest tells of the whole
 pub whole_told : {S : Type 0} (to_come : S → List Span → Type 0) (merge : Merging S) (version : Version) (section : List Span) (a d : Option (List ℕ)) (la ld : ℕ) (names window text all : List ℕ) (count : ℕ) (compared : Compared)
