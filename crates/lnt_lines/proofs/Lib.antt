@@ -8,6 +8,7 @@ mod RunLemmas
 mod SectionLemmas
 mod WholeLemmas
 pub mod IndexLemmas
+mod InstructionLemmas
 mod CursorLemmas
 pub mod GoodLemmas
 pub mod OneFlawLemmas

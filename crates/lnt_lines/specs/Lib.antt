@@ -3,6 +3,7 @@ pub mod Cursors
 pub mod Drafts
 pub mod Good
 pub mod Indexed
+pub mod Instructions
 pub mod Judging
 pub mod Laws
 pub mod Nos

@@ -1,18 +1,22 @@
 //! What a good section answers, with its rows decoded again where they are asked for.
-ghost use Rattle.std.specs.Prelude.{◌≡◌, ◌+◌, ◌-◌, ◌^◌, ◌<◌, ◌≤◌, Bool, ℕ, List, length, Option, IfNone, IfOk, IfErr, IfSome, IsSomeAnd};
-ghost use Rattle.std.specs.List.{All, AllZip};
+ghost use Rattle.std.specs.Prelude.{◌≡◌, ◌+◌, ◌-◌, ◌^◌, ◌<◌, ◌≤◌, Bool, ℕ, List, length, Option, IfNone, IfOk, IfErr, IfSome, IsSomeAnd, IsTrue};
+ghost use Rattle.std.specs.List.{All, AllByRecursion, AllZip};
+ghost use Rattle.std.specs.List.Sorted.{IsPermutation};
 ghost use Rattle.std.specs.Option.{option_map};
 ghost use Rattle.lnt_unit.specs.declared.unit.Parts.{Parts};
 ghost use Rattle.lnt_machine.specs.declared.row.Row.{Row};
 ghost use Rattle.lnt_machine.specs.Walking.{WillGive};
 ghost use Rattle.lnt_files.specs.Files.{AreFilesOf};
 ghost use Rattle.lnt_files.specs.Tables.{AreUsableTables};
-ghost use Rattle.lnt_sequences.specs.Sequences.{line_answer};
+ghost use Rattle.lnt_sequences.specs.RowSpans.{spans_of};
+ghost use Rattle.lnt_sequences.specs.Sequences.{kept_sequences, line_answer};
 ghost use Rattle.lnt_sequences.specs.Spanning.{rows_left};
+ghost use Rattle.lnt_spans.specs.declared.span.Span.{Span};
 ghost use Rattle.lnt_wire.specs.declared.stop.Stop.TheVariants.{Memory};
 ghost use Rattle.lnt_lines.specs.Contents.{AreRising, TellsOf};
 ghost use Rattle.lnt_lines.specs.Cursors.{GivesAllOf, room_of};
 ghost use Rattle.lnt_lines.specs.Indexed.{IsIndex, IsIndexOf, IsSequenceIn, file_count_in, file_path_in, file_sum_in, header_in};
+ghost use Rattle.lnt_lines.specs.Instructions.{HasOneOperation, IsOfInstructions};
 
 use crate::lines::place_of;
 use crate::spans::Spans;
@@ -103,6 +107,15 @@ impl<'a> Index<'a> {
         Spans::of(&self.units, &self.programs, &self.entries)
     }
 
+    /// Whether no instruction of the units has more than one operation, as their headers say (DWARF 5, section 6.2.4). Then
+    /// each span begins and ends at operation index 0, which is told without a walk over the rows.
+    pub fn has_single_operations(&self) -> bool
+        ensures { IsTrue result → (dead : Option ℕ) (skip : Bool) (units : List (ℕ × Parts)) (spans : List Span) → IsIndexOf dead skip units self.now
+            → IsPermutation (spans_of (kept_sequences dead skip units)) spans → AllByRecursion IsOfInstructions spans }
+    {
+        are_single(&self.programs)
+    }
+
     /// The offsets of the units, in order.
     pub fn units(&self) -> &[u64]
         ensures { result.now ≡ self.now.units }
@@ -183,6 +196,18 @@ impl<'a> Index<'a> {
         let program = self.programs.get(place)?;
         Some(program.header())
     }
+}
+
+// Whether no instruction of the programs has more than one operation.
+fn are_single(programs: &[Program]) -> bool
+    ensures { IsTrue result → All HasOneOperation programs.now }
+{
+    for program in programs {
+        if program.kept_header().numbers().max_ops() != 1 {
+            return false;
+        }
+    }
+    true
 }
 
 // The files of the headers of programs.

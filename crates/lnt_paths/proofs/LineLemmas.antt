@@ -2,7 +2,8 @@
 use Rattle.std.proofs.Common.{◌≡◌, ◌∙◌, ℕ, ◌+◌, ◌-◌, ◌≤◌, false, List, [], ◌∷◌, ◌++◌, Option, Some, None, length, get_or, take, refl, sym, ap, subst, append_assoc, arith, length-append}
 use Rattle.std.proofs.lemmas.Bool.{ne_eqb}
 use Rattle.std.proofs.lemmas.List.{append-nil, take-append-le, take_all}
-use Rattle.std.specs.List.{AllByRecursion, AllZip, list_any}
+use Rattle.std.specs.List.{All, AllByRecursion, AllZip, list_any}
+use Rattle.std.proofs.lemmas.List.Elements.{recursion_from_All}
 use Rattle.csv.specs.Machine.{next_record}
 use Rattle.csv.specs.Reading.{Reached, default_config, strip_bom}
 use Rattle.csv.specs.Writing.{default_writer, field_text, fields_text, is_blank, needs_byte, read_back, row_text}
@@ -15,7 +16,7 @@ use Rattle.lnt_spans.specs.declared.answer.Answer.{Answer}
 use Rattle.lnt_spans.specs.declared.span.Span.{Span}
 use Rattle.lnt_paths.specs.declared.version.PathVersion.{PathVersion}
 use Rattle.lnt_paths.specs.declared.version.PathVersion.TheVariants.{Three, Four}
-use Rattle.lnt_paths.specs.Joining.{AddsPathLine, AddsPlace, IsPlaceEnd, field_with_comma}
+use Rattle.lnt_paths.specs.Joining.{AddsPathLine, AddsPlace, IsPlaceEnd, IsPlainByte, field_with_comma}
 use Rattle.lnt_paths.specs.PathAnswers.{PathAnswer, path_answer}
 use Rattle.lnt_paths.specs.PathSpans.{PathSpan, StandInOrder}
 use Rattle.lnt_paths.specs.PathTables.{IsPathRecord, IsPathTableOf, SaysColumn, SaysPath, path_column_names}
@@ -58,6 +59,22 @@ address_text : (text : List ℕ) (n : ℕ) → IsPlainAddress text n → field_t
 address_text text n h = quiet_text text (quiet_bytes text (address_from_zero text n (plain_address text n h)))
 
 -- ---- the field of a path
+
+quiet_by_recursion : (text : List ℕ) → AllByRecursion IsPlainByte text → IsQuiet text
+quiet_by_recursion [] h = refl
+quiet_by_recursion (c ∷ text) h = rw (h.0.needs_none, quiet_by_recursion text h.1) refl
+
+pub plain_byte : (byte : ℕ) → needs_byte default_writer byte ≡ false → IsPlainByte byte
+plain_byte byte h = record { needs_none = h }
+
+-- A path without such bytes stands as it is.
+plain_field : (path : List ℕ) → All IsPlainByte path → path ++ 44 ∷ [] ≡ field_with_comma path
+plain_field path h =
+    ap (λ (t : List ℕ). t ++ 44 ∷ []) (sym (quiet_text path (quiet_by_recursion path (recursion_from_All IsPlainByte path h))))
+
+pub plain_made : (path made seen new : List ℕ) → made ≡ path → seen ≡ made → All IsPlainByte seen → new ≡ made ++ 44 ∷ [] → new ≡ field_with_comma path
+plain_made path made seen new e f h more =
+    more ∙ ap (λ (t : List ℕ). t ++ 44 ∷ []) e ∙ plain_field path (subst (All IsPlainByte) (f ∙ e) h)
 
 -- a record of a path and an empty field, less its line feed
 pair_text : (path : List ℕ) → row_text default_writer (path ∷ [] ∷ []) ≡ field_with_comma path ++ 10 ∷ []

@@ -1,5 +1,5 @@
 -- What was written, and what becomes of a table.
-use Rattle.std.proofs.Common.{◌≡◌, ◌∙◌, ℕ, List, [], ◌∷◌, ◌++◌, map, Option, Some, None, refl, sym, ap, subst, append_assoc}
+use Rattle.std.proofs.Common.{◌≡◌, ◌∙◌, ℕ, List, [], ◌∷◌, ◌++◌, map, inl, inr, Option, Some, None, refl, sym, ap, subst, append_assoc}
 use Rattle.std.specs.Io.KnownBytes.{Appends, Keeps}
 use Rattle.std.specs.List.{AllByRecursion, AllZip}
 use Rattle.std.specs.Option.{option_map}
@@ -13,7 +13,7 @@ use Rattle.lnt_spans.specs.declared.position.Position.{Position}
 use Rattle.lnt_spans.specs.declared.span.Span.{Span}
 use Rattle.lnt_spans.specs.Spans.{AreInOrder, span_answer}
 use Rattle.lnt_paths.specs.declared.version.PathVersion.{PathVersion}
-use Rattle.lnt_paths.specs.Joining.{AddsPathLine, AllJoinTo, HasNoOperation, HasWritten, IsFirstOperation, tell_span}
+use Rattle.lnt_paths.specs.Joining.{AddsPathLine, AllJoinTo, HasNoOperation, HasWritten, IsFirstOperation, JoinsTo, grown, tell_span}
 use Rattle.lnt_paths.specs.PathAnswers.{PathAnswer}
 use Rattle.lnt_paths.specs.PathSpans.{AreCanonicalOf, PathSpan}
 use Rattle.lnt_paths.specs.PathTables.{SaysPath, path_column_names}
@@ -124,3 +124,24 @@ table_written tell version old new other list joined alike none are w =
         plain = record { records = w.records; lines = refl; each = each };
       },
     )
+
+-- ---- spans of whole instructions
+
+joins_none : (tell : Answer → PathAnswer) (last : Span) (rest joined : List Span) → HasNoOperation last → AllByRecursion HasNoOperation rest
+    → JoinsTo tell last rest joined → AllByRecursion HasNoOperation joined
+joins_none tell last [] joined h none j = subst (AllByRecursion HasNoOperation) (sym j) (h, tt)
+joins_none tell last (next ∷ rest) joined h none (inl j) = joins_none tell (grown last next.high) rest joined (h.0, none.0.1) none.1 j.1
+joins_none tell last (next ∷ rest) joined h none (inr j) =
+    subst (AllByRecursion HasNoOperation) (sym j.2) (h, joins_none tell next rest j.1 none.0 none.1 j.3)
+
+all_join_none : (tell : Answer → PathAnswer) (list joined : List Span) → AllByRecursion HasNoOperation list → AllJoinTo tell list joined
+    → AllByRecursion HasNoOperation joined
+all_join_none tell [] joined none j = subst (AllByRecursion HasNoOperation) (sym j) tt
+all_join_none tell (first ∷ rest) joined none j = joins_none tell first rest joined none.0 none.1 j
+
+pub instructions_written : (tell : Answer → PathAnswer) (version : PathVersion) (old new : Option (List ℕ)) (list joined : List Span)
+    → AreInOrder list → AllByRecursion HasNoOperation list → ((all : List Span) → AllJoinTo tell list all → all ≡ joined) → HasWritten tell version old new joined
+    → (bytes : List ℕ) × Appends old new bytes × IsCanonicalPathTable version (By tell list) bytes
+instructions_written tell version old new list joined order none are w =
+    table_written tell version old new list list joined (record { first = order; second = order; same = λ p. refl })
+    (λ whole joins. all_join_none tell list whole none joins) are w

@@ -1,9 +1,9 @@
 -- Spans joined as their answers are told by path, and lines that are written of them. The bodies of this crate use it
 -- among themselves. What is told of an answer is `tell`; a joined span keeps the answer of its first part.
-use Rattle.std.specs.Prelude.{◌≡◌, ◌≢◌, ◌⊎◌, ℕ, List, [], ◌∷◌, ◌++◌, Option, Some, None, IfSome}
+use Rattle.std.specs.Prelude.{◌≡◌, ◌≢◌, ◌⊎◌, ℕ, false, List, [], ◌∷◌, ◌++◌, Option, Some, None, IfSome}
 use Rattle.std.specs.Io.KnownBytes.{Appends}
 use Rattle.std.specs.List.{All, AllZip}
-use Rattle.csv.specs.Writing.{default_writer, field_text, row_text}
+use Rattle.csv.specs.Writing.{default_writer, field_text, needs_byte, row_text}
 use Rattle.lnt_digits.specs.Digits.{IsPlainAddress, IsPlainDecimal}
 use Rattle.lnt_records.specs.Table.{Fields}
 use Rattle.lnt_spans.specs.declared.answer.Answer.{Answer}
@@ -68,6 +68,10 @@ IsFirstOperation p (span ∷ spans) = ((span.low.op ≢ 0) × (p ≡ span.low))
 -- the path of a file as `csv` writes a field, and a comma
 abbrev pub field_with_comma : List ℕ → List ℕ
 field_with_comma path = field_text default_writer path ++ 44 ∷ []
+
+-- a byte that doesn't put the field that has it in quotes
+pub record IsPlainByte (byte : ℕ) : Type 0 where
+  pub needs_none : needs_byte default_writer byte ≡ false
 
 -- It is that of the file that it names, where files have these paths.
 abbrev pub IsFieldOf : (ℕ → ℕ → List ℕ) → PathField → Type 0

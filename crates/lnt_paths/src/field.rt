@@ -1,7 +1,9 @@
 //! Paths as fields of a record, and those of the files that were used lately.
-ghost use Rattle.std.specs.Prelude.{◌≡◌, ◌++◌, ◌∷◌, ℕ, List, [], IfOk, OnOk};
+ghost use Rattle.std.specs.Prelude.{◌≡◌, ◌++◌, ◌∷◌, ℕ, List, [], IfOk, IsTrue, OnOk};
+ghost use Rattle.std.specs.Bool.{MatchBool};
+ghost use Rattle.std.specs.List.{All};
 ghost use Rattle.csv.specs.Writing.{default_writer, row_text};
-ghost use Rattle.lnt_paths.specs.Joining.{AreFieldsOf, field_with_comma};
+ghost use Rattle.lnt_paths.specs.Joining.{AreFieldsOf, IsPlainByte, field_with_comma};
 
 use crate::paths::Paths;
 use csv::Writer;
@@ -70,10 +72,35 @@ impl PathFields {
 fn field_of<P: Paths>(alloc: Global, paths: &P, unit: u64, file: u64) -> Result<Vec<u8>, WriteStop>
     ensures { IfOk result (λ text. text.items ≡ field_with_comma (P.bytes_of paths.now unit file)) }
 {
-    let path = paths.path_of(alloc, unit, file)?;
+    let mut path = paths.path_of(alloc, unit, file)?;
+    if is_plain(&path) {
+        path.extend_from_slice(b",")?;
+        return Ok(path);
+    }
     let mut text = record_of(alloc, &path)?;
     text.pop();
     Ok(text)
+}
+
+// Whether no byte of a field calls for quotes.
+fn is_plain(field: &[u8]) -> bool
+    ensures { IsTrue result → All IsPlainByte field.now }
+{
+    for &byte in field {
+        if calls_for_quotes(byte) {
+            return false;
+        }
+    }
+    true
+}
+
+// Whether a field with this byte is put in quotes.
+#[inline(always)]
+#[tactic(auto, using(crate::proofs::LineLemmas::plain_byte))]
+fn calls_for_quotes(byte: u8) -> bool
+    ensures { MatchBool result (Unit {0}) (IsPlainByte byte) }
+{
+    byte == b',' || byte == b'"' || byte == b'\r' || byte == b'\n'
 }
 
 // A record of a path and an empty field: the first one as it is to be, a comma and a line feed.

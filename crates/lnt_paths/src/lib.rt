@@ -26,4 +26,4 @@ pub use comparison::compare_by_path;
 pub use lnt_records::WriteStop;
 pub use paths::Paths;
 pub use version::{PathTable, PathVersion};
-pub use write::write_by_path;
+pub use write::{write_by_path, write_instructions_by_path};

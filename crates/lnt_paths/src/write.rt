@@ -1,12 +1,13 @@
 //! Tables by path written.
-ghost use Rattle.std.specs.Prelude.{◌≡◌, List, IfOk, OnOk};
+ghost use Rattle.std.specs.Prelude.{◌≡◌, ℕ, List, IfOk, OnOk};
 ghost use Rattle.std.specs.Io.KnownBytes.{Appends};
+ghost use Rattle.std.specs.List.{AllByRecursion};
 ghost use Rattle.lnt_spans.specs.declared.position.Position as position;
 ghost use Rattle.lnt_spans.specs.declared.span.Span as spec;
 ghost use Rattle.lnt_spans.specs.Spans.{AreInOrder, span_answer};
-ghost use Rattle.lnt_paths.specs.Joining.{AllJoinTo, HasWritten};
+ghost use Rattle.lnt_paths.specs.Joining.{AllJoinTo, HasNoOperation, HasWritten};
 ghost use Rattle.lnt_paths.specs.PathAnswers.{path_answer, spans_by_path};
-ghost use Rattle.lnt_paths.specs.Written.{HasBecome};
+ghost use Rattle.lnt_paths.specs.Written.{HasBecome, IsCanonicalPathTable};
 
 use crate::border::first_operation;
 use crate::field::PathFields;
@@ -50,6 +51,24 @@ pub fn write_by_path<S: SpanSource + Drop, P: Paths, W: Write>(
     }
     write_lines(alloc, spans, paths, version, out)?;
     Ok(PathTable::Written)
+}
+
+/// The same of spans that begin and end at operation index 0 all: then there is a table, and nothing is judged first, so they
+/// come once.
+///
+/// The caller sees to it that they do, that they are in order and that none is empty. It stops as `write_by_path`.
+pub fn write_instructions_by_path<S: SpanSource + Drop, P: Paths, W: Write>(
+    alloc: Global,
+    spans: S,
+    paths: &P,
+    version: PathVersion,
+    out: &mut W,
+) -> Result<(), WriteStop>
+    ensures { OnOk result ((list : List spec.Span) → S.to_come spans list → AreInOrder list → AllByRecursion HasNoOperation list
+        → (bytes : List ℕ) × Appends (W.contents out.old) (W.contents out.new) bytes
+        × IsCanonicalPathTable version (spans_by_path version (P.bytes_of paths.now) list) bytes) }
+{
+    write_lines(alloc, spans, paths, version, out)
 }
 
 // Writes the names of the columns, and a line for each of the joined spans, of which the addresses alone are told.

@@ -1,5 +1,5 @@
 -- A table of which lines were passed, and the rest was read after its header.
-use Rattle.std.proofs.Common.{◌≡◌, ◌∙◌, ℕ, ◌+◌, ◌^◌, ◌<◌, List, [], ◌∷◌, ◌++◌, Option, Some, None, IfSome, append_assoc, length, length-append, refl, ap, subst, sym, arith}
+use Rattle.std.proofs.Common.{◌≡◌, ◌≢◌, ◌∙◌, ℕ, ◌+◌, ◌^◌, ◌<◌, List, [], ◌∷◌, ◌++◌, Option, Some, None, IfSome, append_assoc, length, length-append, refl, ap, subst, sym, arith}
 use Rattle.std.specs.List.{AllByRecursion, AllZip}
 use Rattle.csv.specs.Reading.{Reached, default_config, strip_bom}
 use Rattle.csv.specs.declared.parser.State.{State}
@@ -13,7 +13,11 @@ use Rattle.lnt_spans.specs.Laws.Answering.{front_in_order}
 use Rattle.lnt_spans.specs.Spans.{AreInOrder}
 use Rattle.lnt_wire.specs.Pulling.{Pulls}
 use Rattle.lnt_records.specs.declared.comparison.Compared.{Compared}
-use Rattle.lnt_records.specs.Faults.{IsComparison}
+use Rattle.lnt_records.specs.declared.comparison.Compared.TheVariants.{Fault}
+use Rattle.lnt_records.specs.declared.fault.TableFault.TheVariants as fault
+use Rattle.lnt_records.specs.declared.stream.TableRead.TheVariants.{Compared as Told}
+use Rattle.lnt_records.specs.Faults.{IsComparison, IsTableRead}
+use Rattle.lnt_records.specs.Laws.Beginnings.{first_begins}
 use Rattle.lnt_records.specs.Passing.{AreLines, Ends, HasPassed, IsCut, LeavesOff, Passes}
 use Rattle.lnt_records.specs.Progress.{Judges}
 use Rattle.lnt_records.specs.Table.{BeginsWith, Fields, IsSpanRecord, column_names}
@@ -130,12 +134,25 @@ told_bytes : (a : Option (List ℕ)) (bytes : List ℕ) (P : List ℕ → Type 0
 told_bytes None bytes P e h = tt
 told_bytes (Some all) bytes P e h = subst P e h
 
+-- ---- the header's fault
+
+-- It isn't told of bytes that begin with the header of a version.
+pub not_header : (bytes : List ℕ) (version : Version) (section : List Span) (compared : Compared) → BeginsWith bytes (column_names version ∷ [])
+    → IsComparison bytes section compared → compared ≢ Fault fault.Header
+not_header bytes version section compared begins h e = subst (IsComparison bytes section) e h version begins
+
+-- A text with lines cut out begins with the header that its bytes begin with.
+cut_begins : (version : Version) (text bytes : List ℕ) (passed : List Fields) → IsCut version text bytes passed → BeginsWith text (column_names version ∷ [])
+    → BeginsWith bytes (column_names version ∷ [])
+cut_begins version text bytes passed cut b =
+    first_begins bytes (column_names version) (passed ++ []) (b.0, b.1, cut [] b.0 b.1 b.2)
+
 -- what the comparison of the rest tells of the whole
 pub whole_told : {S : Type 0} (to_come : S → List Span → Type 0) (merge : Merging S) (version : Version) (section : List Span) (a d : Option (List ℕ)) (la ld : ℕ) (names window text all : List ℕ) (count : ℕ) (compared : Compared)
     → names ≡ line_text (column_names version) → Passes a d la ld [] window (line_text (column_names version) ++ text) → Ends d ld (names ++ window) all → HasPassed to_come merge version section text count
     → ((list section : List Span) (passed : List Fields) (bytes : List ℕ) → Judges to_come (record { merge = merge; version = version; count = count }) list (column_names version ∷ passed)
     → IsCut version all bytes passed → AnswersSo version list section → IsComparison bytes section compared)
-    → IfSome a (λ bytes. IsComparison bytes section compared)
+    → IfSome a (λ bytes. IsTableRead bytes section (Told compared))
 whole_told to_come merge version section a d la ld names window text all count compared e p ends h compare =
     let line : List ℕ = line_text (column_names version) in
     let rest : List ℕ = window ++ ends.given in
@@ -146,8 +163,10 @@ whole_told to_come merge version section a d la ld names window text all count c
     let cut_all : IsCut version all (line ++ (lines_text records ++ rest)) records =
     subst (λ (t : List ℕ). IsCut version t (line ++ (lines_text records ++ rest)) records) (sym (rest_is version names window ends.given all e ends.joined).joined) cut in
     let cut_both : IsCut version all (p.given ++ ends.given) records = subst (λ (t : List ℕ). IsCut version all t records) (sym given) cut_all in
-    told_bytes a (p.given ++ ends.given) (λ (bytes : List ℕ). IsComparison bytes section compared) (whole_bytes a d p.given ends.given p.pulls ends.whole)
-    (compare h.follows.spans section records (p.given ++ ends.given) (judges_passed to_come merge version section text count h) cut_both h.follows.same)
+    let told = compare h.follows.spans section records (p.given ++ ends.given) (judges_passed to_come merge version section text count h) cut_both h.follows.same in
+    let begins = cut_begins version all (p.given ++ ends.given) records cut_both (rest_begins version d ld names window all e ends) in
+    told_bytes a (p.given ++ ends.given) (λ (bytes : List ℕ). IsTableRead bytes section (Told compared)) (whole_bytes a d p.given ends.given p.pulls ends.whole)
+    (told, not_header (p.given ++ ends.given) version section compared begins told)
 
 -- the bytes of which the rest, after the names of the columns, is a text with lines cut out
 pub rest_cut : (version : Version) (a d : Option (List ℕ)) (la ld : ℕ) (names window text all : List ℕ) (table : List Span) (count : ℕ) → names ≡ line_text (column_names version)

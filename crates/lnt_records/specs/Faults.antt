@@ -68,7 +68,8 @@ IsComparison bytes section Same = AnswersAs bytes section
 IsComparison bytes section (Fault told) = IsFault bytes told
 IsComparison bytes section (Differs difference) = DiffersSo bytes section difference
 
--- The table was compared; or the bytes begin with the header of neither version, and they were given.
+-- The table was compared, which only one is that begins with the header of a version: the fault that is told isn't the
+-- header's. Or the bytes begin with the header of neither version, and they were given.
 abbrev pub IsTableRead : List ℕ → List Span → TableRead → Type 0
-IsTableRead bytes section (Read told) = IsComparison bytes section told
+IsTableRead bytes section (Read told) = IsComparison bytes section told × (told ≢ Fault fault.Header)
 IsTableRead bytes section (Other text) = (text.items ≡ bytes) × ((version : Version) → BeginsWith bytes (column_names version ∷ []) → ⊥)

@@ -1,3 +1,4 @@
+pub mod Beginnings
 pub mod Versions
 -- What the laws of tables say.
 use Rattle.std.specs.Prelude.{◌≡◌, ℕ, List}

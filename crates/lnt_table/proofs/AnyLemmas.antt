@@ -1,5 +1,5 @@
 -- What a comparison of a table of any version with a good section says of the two.
-use Rattle.std.proofs.Common.{◌≡◌, ◌∙◌, Bool, ℕ, List, [], ◌∷◌, Option, Some, None, IfSome, sym, ap, refl, subst}
+use Rattle.std.proofs.Common.{◌≡◌, ◌≢◌, ◌∙◌, Bool, ℕ, List, [], ◌∷◌, Option, Some, None, IfSome, sym, ap, refl, subst}
 use Rattle.std.specs.Option.{option_map}
 use Rattle.lnt_unit.specs.declared.unit.Parts.{Parts}
 use Rattle.lnt_spans.specs.declared.answer.Version.{Version}
@@ -8,6 +8,8 @@ use Rattle.lnt_spans.specs.declared.span.Span.{Span}
 use Rattle.lnt_spans.specs.Spans.{span_answer}
 use Rattle.lnt_sequences.specs.Sequences.{line_answer}
 use Rattle.lnt_records.specs.declared.comparison.Compared.{Compared}
+use Rattle.lnt_records.specs.declared.comparison.Compared.TheVariants as kind
+use Rattle.lnt_records.specs.declared.fault.TableFault.TheVariants as fault
 use Rattle.lnt_records.specs.Faults.{IsComparison}
 use Rattle.lnt_records.specs.Table.{BeginsWith, column_names}
 use Rattle.lnt_paths.specs.declared.answer.ComparedByPath.{ComparedByPath}
@@ -20,6 +22,8 @@ use Rattle.lnt_lines.specs.Drafts.{IsIndexOfSection}
 use Rattle.lnt_lines.specs.Indexed.{Indexed, IsIndexOf}
 use Rattle.lnt_table.specs.declared.by_path.Checked.{Checked}
 use Rattle.lnt_table.specs.declared.by_path.Checked.TheVariants.{Numbered, ByPath}
+use Rattle.lnt_table.specs.declared.verdict.TableNo.TheVariants as no
+use Rattle.lnt_table.specs.declared.verdict.Verdict.TheVariants.{No}
 use Rattle.lnt_table.specs.AnyVersion.{IsCheckedWith, IsComparedByPath, IsTrueCheck}
 use Rattle.lnt_table.specs.ByPath.{path_at, told_path}
 use Rattle.lnt_table.specs.Headline.{IsTrueVerdict}
@@ -57,18 +61,32 @@ path_told (Some bytes) taken index dead skip units spans compared other answers 
       (λ version p. ap (option_map (path_answer version (path_at index))) (answers p)) h);
 }
 
+-- The verdict is the header's fault only where that was found.
+header_found : (found : Compared) → verdict_of found ≡ No no.Header → found ≡ kind.Fault fault.Header
+header_found kind.Same e = cc
+header_found (kind.Fault fault.Header) e = refl
+header_found (kind.Fault (fault.Fields k)) e = cc
+header_found (kind.Fault (fault.Number k i)) e = cc
+header_found (kind.Fault (fault.Order k)) e = cc
+header_found (kind.Differs difference) e = cc
+
 pub numbered_told : (text : Option (List ℕ)) (dead : Option ℕ) (skip : Bool) (units : List (ℕ × Parts)) (spans : List Span) (compared : Compared)
-    → ((p : Position) → span_answer spans p ≡ line_answer dead skip units p) → IfSome text (λ bytes. IsComparison bytes spans compared)
-    → IfSome text (λ bytes. (compared' : Compared) × IsComparedWith dead skip units bytes compared' × (verdict_of compared ≡ verdict_of compared'))
+    → ((p : Position) → span_answer spans p ≡ line_answer dead skip units p)
+    → IfSome text (λ bytes. IsComparison bytes spans compared × (compared ≢ kind.Fault fault.Header))
+    → IfSome text (λ bytes. (compared' : Compared) × IsComparedWith dead skip units bytes compared' × (verdict_of compared ≡ verdict_of compared')
+    × (verdict_of compared ≢ No no.Header))
 numbered_told None dead skip units spans compared answers h = tt
-numbered_told (Some bytes) dead skip units spans compared answers h = (compared, record { spans = spans; answers = answers; comparison = h }, refl)
+numbered_told (Some bytes) dead skip units spans compared answers h =
+    (compared, record { spans = spans; answers = answers; comparison = h.0 }, refl, λ e. h.1 (header_found compared e))
 
 check_told : (line general : List ℕ) (options : Options) (section table : List ℕ) (index : Indexed) (checked : Checked)
     → (i : IsIndexOfSection line general options section index) → IsCheckedWith index options.dead options.skip_copies i.units table checked
     → IsTrueCheck line general options section table checked
-check_told line general options section table index (Numbered verdict) i h =
-    subst (IsTrueVerdict line general options section table) (sym h.2)
-    (compared_told line general options section table index h.1.spans h.0 i h.1.answers h.1.comparison)
+check_told line general options section table index (Numbered verdict) i h = (
+  subst (IsTrueVerdict line general options section table) (sym h.2)
+      (compared_told line general options section table index h.1.spans h.0 i h.1.answers h.1.comparison),
+  h.3,
+)
 check_told line general options section table index (ByPath compared) i h = record { index = index; of_section = i; told = h }
 
 pub any_told : (line general : List ℕ) (options : Options) (section table : Option (List ℕ)) (index : Indexed) (checked : Checked)

@@ -5,3 +5,4 @@ mod PathLemmas
 mod StretchLemmas
 mod WriteLemmas
 pub mod OneVerdictLemmas
+mod AnyLawLemmas

@@ -1,7 +1,7 @@
 -- What is said of a section and an address table of any version.
 --     line, general    the bytes of .debug_line_str and of .debug_str
 --     section, table   the bytes of .debug_line, and those of the address table
-use Rattle.std.specs.Prelude.{◌≡◌, ℕ, Bool, List, [], ◌∷◌, Option}
+use Rattle.std.specs.Prelude.{◌≡◌, ◌≢◌, ℕ, Bool, List, [], ◌∷◌, Option}
 use Rattle.lnt_unit.specs.declared.unit.Parts.{Parts}
 use Rattle.lnt_spans.specs.declared.answer.Version.{Version}
 use Rattle.lnt_records.specs.Table.{BeginsWith, column_names}
@@ -13,6 +13,8 @@ use Rattle.lnt_lines.specs.Drafts.{IsIndexOfSection}
 use Rattle.lnt_lines.specs.Indexed.{Indexed}
 use Rattle.lnt_table.specs.declared.by_path.Checked.{Checked}
 use Rattle.lnt_table.specs.declared.by_path.Checked.TheVariants.{Numbered, ByPath}
+use Rattle.lnt_table.specs.declared.verdict.TableNo.TheVariants as no
+use Rattle.lnt_table.specs.declared.verdict.Verdict.TheVariants.{No}
 use Rattle.lnt_table.specs.ByPath.{told_path}
 use Rattle.lnt_table.specs.Headline.{IsTrueVerdict}
 use Rattle.lnt_table.specs.Verdicts.{IsComparedWith, verdict_of}
@@ -30,13 +32,16 @@ pub record IsTrueByPath (line general : List ℕ) (options : Options) (section t
   pub of_section : IsIndexOfSection line general options section index
   pub told : IsComparedByPath index options.dead options.skip_copies of_section.units table compared
 
--- What is told is so, and it is the first thing that is wrong.
+-- What is told is so, and it is the first thing that is wrong. Of a table with the header of neither version 1 nor 2 no
+-- verdict is told, unless the section isn't good.
 abbrev pub IsTrueCheck : List ℕ → List ℕ → Options → List ℕ → List ℕ → Checked → Type 0
-IsTrueCheck line general options section table (Numbered verdict) = IsTrueVerdict line general options section table verdict
+IsTrueCheck line general options section table (Numbered verdict) =
+    IsTrueVerdict line general options section table verdict × (verdict ≢ No no.Header)
 IsTrueCheck line general options section table (ByPath compared) = IsTrueByPath line general options section table compared
 
 -- ---- what a comparison with a good section makes of the two. The bodies of this crate use it among themselves.
 
 abbrev pub IsCheckedWith : Indexed → Option ℕ → Bool → List (ℕ × Parts) → List ℕ → Checked → Type 0
-IsCheckedWith index dead skip units table (Numbered verdict) = (compared : Compared) × IsComparedWith dead skip units table compared × (verdict ≡ verdict_of compared)
+IsCheckedWith index dead skip units table (Numbered verdict) =
+    (compared : Compared) × IsComparedWith dead skip units table compared × (verdict ≡ verdict_of compared) × (verdict ≢ No no.Header)
 IsCheckedWith index dead skip units table (ByPath compared) = IsComparedByPath index dead skip units table compared

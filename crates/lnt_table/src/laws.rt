@@ -1,6 +1,6 @@
 //! Laws of answers and verdicts, each the contract of a function without parameters that does nothing.
 ghost use Rattle.lnt_spans.specs.Laws.{Borders};
-ghost use Rattle.lnt_table.specs.Laws.{OneVerdict, OnlyYes, OwnTable, OwnTableOfUnits};
+ghost use Rattle.lnt_table.specs.Laws.{OneNumbered, OneVerdict, OnlyYes, OwnTable, OwnTableByPath, OwnTableOfUnits};
 
 /// Two lists of spans in order, none empty, that answer alike wherever a span of either begins or ends answer alike at
 /// every position. So the spans of a table and of a section need comparing at their borders alone.
@@ -48,4 +48,23 @@ pub fn own_table_of_units()
     ensures { OwnTableOfUnits }
 {
     only_yes();
+}
+
+/// Where a verdict of `check_any` is true of a section, a table and a choice of options, no other answer of it is: neither
+/// another verdict nor an answer by path.
+#[tactic(auto, using(crate::proofs::AnyLawLemmas::one_numbered))]
+pub fn one_numbered()
+    ensures { OneNumbered }
+{
+    one_verdict();
+    lnt_lines::laws::good_has_no_flaw();
+}
+
+/// Of a good section, and the table that `write_paths` wrote of its index in either version, it is true that both answer the
+/// same by path, and no verdict is true.
+#[tactic(auto, using(crate::proofs::AnyLawLemmas::own_table_by_path))]
+pub fn own_table_by_path()
+    ensures { OwnTableByPath }
+{
+    one_numbered();
 }

@@ -6,7 +6,7 @@ ghost use Rattle.lnt_paths.specs.Written.{HasBecome};
 ghost use Rattle.lnt_table.specs.ByPath.{path_at, told_path};
 
 use lnt_lines::Index;
-use lnt_paths::{PathTable, PathVersion, Paths, write_by_path};
+use lnt_paths::{PathTable, PathVersion, Paths, write_by_path, write_instructions_by_path};
 use lnt_records::WriteStop;
 use std::alloc::{AllocError, Global};
 use std::io::Write;
@@ -30,7 +30,7 @@ impl<'i, 'a> Paths for IndexPaths<'i, 'a> {
 }
 
 /// Writes the table by path of the units that an index is of, in a version, line by line, as their spans come. No list of
-/// spans is made.
+/// spans is made. They come twice where the header of a unit has instructions of several operations, to be judged first.
 ///
 /// Where it answers `Written`, the writer has gained bytes that are a table of exactly the canonical spans that answer as
 /// the rows of the units do, with the whole path of their file: the one shortest table that does. Where one of these spans
@@ -49,5 +49,9 @@ pub fn write_paths<W: Write>(
         → HasBecome version (told_path version index.now dead skip units) (W.contents out.old) (W.contents out.new) table) }
 {
     let paths = IndexPaths { index };
+    if index.has_single_operations() {
+        write_instructions_by_path(alloc, index.spans(), &paths, version, out)?;
+        return Ok(PathTable::Written);
+    }
     write_by_path(alloc, index.spans(), index.spans(), &paths, version, out)
 }

@@ -1,0 +1,12 @@
+use Rattle.std.proofs.lemmas.Result.{on_ok_weaker}
+use Rattle.lnt_paths.specs.PathAnswers.{path_answer}
+use Rattle.lnt_paths.proofs.WriteLemmas.{instructions_written}
+use Rattle.lnt_paths.proofs.write.write_instructions_by_path.Goals as goal
+
+pub returns : goal.returns
+returns g c =
+    on_ok_weaker c.write_lines.result
+    (λ written list come order none.
+    instructions_written (path_answer c.args.version (g.P.Paths.bytes_of c.args.paths.now)) c.args.version (g.W.Write.contents c.args.out.now)
+    (g.W.Write.contents c.write_lines.new.out) list written.0 order none (λ all joins. written.2 list all come joins) written.1)
+    c.write_lines.ensures

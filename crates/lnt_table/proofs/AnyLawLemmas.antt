@@ -1,0 +1,89 @@
+-- Which answers of a check of a table of any version are true of a section and a table.
+use Rattle.std.proofs.Common.{◌≡◌, ℕ, List, [], ◌∷◌, length, refl, sym, ap, subst, arith}
+use Rattle.lnt_spans.specs.declared.answer.Version.{Version}
+use Rattle.lnt_spans.specs.declared.answer.Version.TheVariants.{One, Two}
+use Rattle.lnt_records.specs.declared.fault.TableFault.TheVariants as fault
+use Rattle.lnt_records.specs.Laws.Beginnings.{faulty_begins, one_beginning, records_begin, table_begins}
+use Rattle.lnt_records.specs.Table.{BeginsWith, Fields, RecordsOf, column_names}
+use Rattle.lnt_paths.specs.declared.version.PathVersion.{PathVersion}
+use Rattle.lnt_paths.specs.declared.version.PathVersion.TheVariants.{Three, Four}
+use Rattle.lnt_paths.specs.declared.answer.ComparedByPath.TheVariants.{Same}
+use Rattle.lnt_paths.specs.PathSpans.{PathSpan}
+use Rattle.lnt_paths.specs.PathTables.{IsPathTable, IsPathTableOf, path_column_names}
+use Rattle.lnt_paths.specs.Written.{IsCanonicalPathTable}
+use Rattle.lnt_lines.specs.declared.options.Options.{Options}
+use Rattle.lnt_lines.specs.Drafts.{IsIndexOfSection}
+use Rattle.lnt_lines.specs.Indexed.{Indexed}
+use Rattle.lnt_lines.specs.Laws.{GoodHasNoFlaw}
+use Rattle.lnt_table.specs.declared.by_path.Checked.{Checked}
+use Rattle.lnt_table.specs.declared.by_path.Checked.TheVariants.{Numbered, ByPath}
+use Rattle.lnt_table.specs.declared.verdict.TableNo.TheVariants as no
+use Rattle.lnt_table.specs.declared.verdict.Verdict.{Verdict}
+use Rattle.lnt_table.specs.declared.verdict.Verdict.TheVariants.{Yes, No}
+use Rattle.lnt_table.specs.AnyVersion.{IsTrueCheck}
+use Rattle.lnt_table.specs.ByPath.{told_path}
+use Rattle.lnt_table.specs.Laws.{OneNumbered, OneVerdict, OwnTableByPath}
+
+-- ---- a verdict
+
+by_number : OneVerdict → GoodHasNoFlaw → (line general : List ℕ) (options : Options) (section table : List ℕ) (verdict : Verdict) (checked : Checked)
+    → IsTrueCheck line general options section table (Numbered verdict) → IsTrueCheck line general options section table checked → checked ≡ Numbered verdict
+by_number verdicts flawless line general options section table verdict (Numbered other) h k =
+    ap Numbered (verdicts.one line general options section table other verdict k.0 h.0)
+by_number verdicts flawless line general options section table Yes (ByPath compared) h k =
+    absurd (k.told.unnumbered h.0.version (table_begins table h.0.version h.0.spans h.0.is_table))
+by_number verdicts flawless line general options section table (No (no.Section reason)) (ByPath compared) h k =
+    absurd (flawless line general options section k.of_section.units reason k.of_section.good h.0)
+by_number verdicts flawless line general options section table (No no.Header) (ByPath compared) h k = absurd (h.1 refl)
+by_number verdicts flawless line general options section table (No (no.Fields n)) (ByPath compared) h k =
+    absurd (k.told.unnumbered h.0.faulty.version (faulty_begins table (fault.Fields n) h.0.faulty))
+by_number verdicts flawless line general options section table (No (no.Number n i)) (ByPath compared) h k =
+    absurd (k.told.unnumbered h.0.faulty.version (faulty_begins table (fault.Number n i) h.0.faulty))
+by_number verdicts flawless line general options section table (No (no.Order n)) (ByPath compared) h k =
+    absurd (k.told.unnumbered h.0.faulty.version (faulty_begins table (fault.Order n) h.0.faulty))
+by_number verdicts flawless line general options section table (No (no.Differs position by_table by_section)) (ByPath compared) h k =
+    absurd (k.told.unnumbered h.0.version (table_begins table h.0.version h.0.spans h.0.is_table))
+
+pub one_numbered : OneVerdict → GoodHasNoFlaw → OneNumbered
+one_numbered verdicts flawless = record { one = by_number verdicts flawless }
+
+-- ---- a section's own table by path
+
+names_differ : (version : Version) (by_path : PathVersion) → column_names version ≡ path_column_names by_path → ⊥
+names_differ One Three e = let count = ap length e in omega (arith, count)
+names_differ One Four e = let count = ap length e in omega (arith, count)
+names_differ Two Three e = let count = ap length e in omega (arith, count)
+names_differ Two Four e = let count = ap length e in omega (arith, count)
+
+path_table_begins : (bytes : List ℕ) (version : PathVersion) (spans : List PathSpan) → IsPathTableOf version bytes spans → BeginsWith bytes (path_column_names version ∷ [])
+path_table_begins bytes version spans table = by table.0 table.1 table.2
+  where
+    by : (records : List Fields) → RecordsOf bytes records → IsPathTable version records spans → BeginsWith bytes (path_column_names version ∷ [])
+    by [] r t = absurd t
+    by (first ∷ records) r t = subst (λ (f : Fields). BeginsWith bytes (f ∷ [])) t.0 (records_begin bytes first records r)
+
+own : (line general : List ℕ) (options : Options) (section table : List ℕ) (index : Indexed) (version : PathVersion)
+    → (i : IsIndexOfSection line general options section index)
+    → IsCanonicalPathTable version (told_path version index options.dead options.skip_copies i.units) table
+    → IsTrueCheck line general options section table (ByPath Same)
+own line general options section table index version i w = record {
+  index = index;
+  of_section = i;
+  told = record {
+    unnumbered = λ v begins.
+        names_differ v version
+        (one_beginning table (column_names v) (path_column_names version) begins (path_table_begins table version w.spans w.table));
+    comparison = record { version = version; table = w.spans; is_table = w.table; agree = λ p. sym (w.canonical.same p) };
+  };
+}
+
+none_numbered : (verdict : Verdict) → ByPath Same ≡ Numbered verdict → ⊥
+none_numbered verdict e = cc
+
+pub own_table_by_path : OneNumbered → OwnTableByPath
+own_table_by_path numbers = record {
+  same = own;
+  no_verdict = λ line general options section table index version verdict i w v.
+      none_numbered verdict
+      (numbers.one line general options section table verdict (ByPath Same) v (own line general options section table index version i w));
+}
