@@ -1,3 +1,4 @@
+mod IndexLemmas
 mod LookLemmas
 mod PutLemmas
 mod ToldLemmas

@@ -1,5 +1,5 @@
 -- Bisection of flat spans, from that of the spans that they are.
-use Rattle.std.proofs.Common.{◌≡◌, ℕ, zero, suc, ◌+◌, ◌<◌, ◌≤◌, List, [], ◌∷◌, Some, None, length, map, get_or, sym, subst, arith}
+use Rattle.std.proofs.Common.{◌≡◌, ℕ, zero, suc, ◌+◌, ◌-◌, ◌<◌, ◌≤◌, List, Some, None, length, map, get_or, sym, subst, arith}
 use Rattle.std.proofs.lemmas.List.{length-map, get_or-map}
 use Rattle.lnt_spans.specs.declared.position.Position.{Position}
 use Rattle.lnt_spans.specs.declared.span.Span.{Span}
@@ -34,3 +34,27 @@ flat_inside spans p middle d o l h =
 
 pub flat_nowhere : (spans : List FlatSpan) (p : Position) (low high : ℕ) → IsBracket (map span_of spans) p low high → high ≤ low → span_answer (map span_of spans) p ≡ None
 flat_nowhere spans p low high b h = sym (found_nowhere (map span_of spans) p low high b h)
+
+-- ---- what lies around one place
+
+around_all : (spans : List FlatSpan) (p : Position) → IsBracket (map span_of spans) p 0 (length spans)
+around_all spans p = let count : length (map span_of spans) ≡ length spans = length-map spans span_of in record {
+  upto = omega arith;
+  within = omega (arith, count);
+  before = λ k d lt. absurd (omega (arith, lt));
+  behind = λ k d le l. absurd (omega (arith, count, le, l));
+}
+
+-- those before the place end by p, if the last of them does
+pub ended : (spans : List FlatSpan) (p : Position) (place : ℕ) (d : FlatSpan) → AreInOrder (map span_of spans) → place ≤ length spans
+    → (0 < place → IsAtMost (span_of (get_or spans (place - 1) d)).high p) → IsBracket (map span_of spans) p place (length spans)
+ended spans p zero d o w h = around_all spans p
+ended spans p (suc k) d o w h =
+    let e : suc k - 1 ≡ k = omega arith in
+    subst (λ (n : ℕ). IsBracket (map span_of spans) p n (length spans)) (omega arith)
+    (flat_above spans p 0 (length spans) k o (around_all spans p) (omega arith) (omega (arith, w)) (omega arith) d (rw e at h (omega arith)))
+
+-- those from the place on begin above p, if the first of them does
+pub begun : (spans : List FlatSpan) (p : Position) (place : ℕ) (d : FlatSpan) → AreInOrder (map span_of spans) → place < length spans
+    → IsBelow p (span_of (get_or spans place d)).low → IsBracket (map span_of spans) p place (length spans) → IsBracket (map span_of spans) p place place
+begun spans p place d o l here b = flat_below spans p place (length spans) place o b (omega arith) l (omega arith) d here
