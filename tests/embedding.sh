@@ -104,6 +104,8 @@ for folder in examples "$work/cases" "${folders[@]}"; do
     python3 tests/embedding/callers.py "$program" "${callers[@]}" "$folder"
 done
 
+calls indexes tests/embedding/indexes.c "$heap"
+expect 'lookups by an index, whatever it holds' 0 $'all alike\n' '' "$work/indexes" "${hello[@]}"
 calls freeze tests/embedding/freeze.c "$heap"
 expect 'spans in a file' 0 $'18 spans, 25 lines, 1 unit of 2 files, a table of 669 bytes: 0\n' '' "$work/freeze" "${hello[@]}" "$work/spans"
 

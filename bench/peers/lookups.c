@@ -4,7 +4,7 @@
  * after it, and to ADDRESSES so many addresses, each within a span picked at random; all as 64-bit numbers.
  *   lookups alone|indexed SECTION LINE_STR STR ADDRESSES [--dead ADDRESS] [--skip-copies]
  * prints the nanoseconds of processor time of a lookup, over PASSES passes after one that isn't counted, and a sum of the answers;
- * `indexed` calls linetab_lookup on the eight spans that an index of first addresses names, as docs/EMBEDDING.md shows. */
+ * `alone` calls linetab_lookup, and `indexed` linetab_lookup_indexed, by an index with an entry for each span. */
 #include "linetab.h"
 #include <inttypes.h>
 #include <stdio.h>
@@ -77,33 +77,22 @@ static void prepare(const struct linetab_span *spans, size_t count, char **words
     fclose(addresses);
 }
 
-#define EACH 8
-
-/* The first address of every eighth span. */
-static uint64_t *index_of(const struct linetab_span *spans, size_t count) {
-    uint64_t *firsts = malloc((count / EACH + 1) * sizeof *firsts);
-    for (size_t i = 0; firsts != NULL && i < count; i += EACH)
-        firsts[i / EACH] = spans[i].low;
-    return firsts;
-}
-
-/* linetab_lookup on those spans alone that may hold the address, of a machine without operations within instructions. */
-static bool indexed_lookup(const struct linetab_span *spans, size_t count, const uint64_t *firsts, uint64_t address,
-                           struct linetab_answer *answer) {
-    size_t at = 0;
-    for (size_t left = (count + EACH - 1) / EACH; left > 1; left -= left / 2)
-        at = firsts[at + left / 2] <= address ? at + left / 2 : at;
-    size_t after = count - at * EACH;
-    return linetab_lookup(spans + at * EACH, after < EACH ? after : EACH, address, 0, answer);
+/* The index of the spans, with an entry for each. */
+static uint32_t *index_of(const struct linetab_span *spans, size_t count) {
+    uint32_t *index = malloc(count * sizeof *index);
+    if (index == NULL)
+        fail("out of memory", "");
+    linetab_index(spans, count, index, count);
+    return index;
 }
 
 /* The answers to all addresses, by the index where there is one. */
-static uint64_t pass(const struct linetab_span *spans, size_t count, const uint64_t *firsts, const uint64_t *addresses, size_t asked) {
+static uint64_t pass(const struct linetab_span *spans, size_t count, const uint32_t *index, const uint64_t *addresses, size_t asked) {
     uint64_t sum = 0;
     for (size_t i = 0; i < asked; i++) {
         struct linetab_answer answer;
-        if (firsts != NULL ? indexed_lookup(spans, count, firsts, addresses[i], &answer)
-                           : linetab_lookup(spans, count, addresses[i], 0, &answer))
+        if (index != NULL ? linetab_lookup_indexed(spans, count, index, count, addresses[i], 0, &answer)
+                          : linetab_lookup(spans, count, addresses[i], 0, &answer))
             sum += answer.line * 31 + answer.column;
     }
     return sum;
@@ -136,11 +125,11 @@ int main(int argc, char **argv) {
         printf("%zu\n", count);
         return 0;
     }
-    uint64_t *firsts = strcmp(argv[1], "indexed") == 0 ? index_of(spans, count) : NULL;
-    uint64_t *addresses = read_file(argv[5], &size), sum = pass(spans, count, firsts, addresses, size / 8);
+    uint32_t *index = strcmp(argv[1], "indexed") == 0 ? index_of(spans, count) : NULL;
+    uint64_t *addresses = read_file(argv[5], &size), sum = pass(spans, count, index, addresses, size / 8);
     double start = processor_seconds();
     for (int i = 0; i < PASSES; i++)
-        if (pass(spans, count, firsts, addresses, size / 8) != sum)
+        if (pass(spans, count, index, addresses, size / 8) != sum)
             fail("the answers differ", "");
     printf("%.2f %" PRIu64 "\n", (processor_seconds() - start) * 1e9 / PASSES / (double)(size / 8), sum);
     return 0;

@@ -41,12 +41,14 @@ public:
         count_ = verify(0);
         spans_.resize(count_ + 1);
         count_ = verify(count_);
+        index_.resize(count_ + 1);
+        linetab_index(spans_.data(), count_, index_.data(), count_);
     }
     Lines(const Lines &) = delete;
     Lines &operator=(const Lines &) = delete;
 
     bool lookup(std::uint64_t address, linetab_answer &answer) const {
-        return linetab_lookup(spans_.data(), count_, address, 0, &answer);
+        return linetab_lookup_indexed(spans_.data(), count_, index_.data(), count_, address, 0, &answer);
     }
 
     std::string path(const linetab_answer &answer) const {
@@ -73,6 +75,7 @@ private:
     Bytes line_, line_str_, str_;
     linetab_section section_;
     std::vector<linetab_span> spans_;
+    std::vector<std::uint32_t> index_; // of an entry for each span
     std::size_t count_ = 0;
 };
 

@@ -1,3 +1,5 @@
+mod BracketLemmas
+mod IndexLemmas
 mod LookLemmas
 mod PutLemmas
 mod ToldLemmas

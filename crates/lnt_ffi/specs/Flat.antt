@@ -1,6 +1,5 @@
 -- Sections, answers and spans as C sees them, and what they are.
-use Rattle.std.specs.Prelude.{◌≡◌, ℕ, if◌then◌else◌, true, false, None, Option, Some}
-use Rattle.std.specs.Option.{option_map_or}
+use Rattle.std.specs.Prelude.{◌≡◌, if◌then◌else◌, true, false, None, Option, Some}
 use Rattle.lnt_wire.specs.declared.format.Order.TheVariants.{Big, Little}
 use Rattle.lnt_lines.specs.declared.options.Options.{Options}
 use Rattle.lnt_spans.specs.declared.answer.Answer.{Answer}

@@ -1,3 +1,4 @@
 pub mod Flat
+pub mod Index
 pub mod Told
 pub mod Verdicts

@@ -2,7 +2,7 @@
 ghost use Rattle.std.specs.Prelude.{◌≡◌};
 ghost use Rattle.lnt_ffi.specs.Flat.{answer_of, flat_answer, flat_side, span_of};
 
-use lnt_spans::{Answer, Span};
+use lnt_spans::{Answer, Position, Span};
 
 /// What is answered at a position: `struct linetab_answer`.
 #[repr(C)]
@@ -40,6 +40,30 @@ pub struct FlatSpan {
     pub high_op: u64,
     /// The answer at each position that it holds.
     pub answer: FlatAnswer,
+}
+
+impl FlatSpan {
+    // The first position that it holds.
+    #[inline(always)]
+    pub(crate) fn low_end(&self) -> Position
+        ensures { result ≡ (span_of self.now).low }
+    {
+        Position {
+            address: self.low,
+            op: self.low_op,
+        }
+    }
+
+    // The first position after it.
+    #[inline(always)]
+    pub(crate) fn high_end(&self) -> Position
+        ensures { result ≡ (span_of self.now).high }
+    {
+        Position {
+            address: self.high,
+            op: self.high_op,
+        }
+    }
 }
 
 // No answer.

@@ -8,6 +8,8 @@
 mod bytes;
 mod checking;
 mod flat;
+mod indexed;
+mod indexing;
 mod judging;
 mod looking;
 mod room;
@@ -19,6 +21,8 @@ mod writing;
 
 pub use checking::linetab_check;
 pub use flat::{FlatAnswer, FlatSpan};
+pub use indexed::linetab_lookup_indexed;
+pub use indexing::linetab_index;
 pub use judging::linetab_verify;
 pub use looking::linetab_lookup;
 pub use section::FlatSection;

@@ -5,7 +5,7 @@ ghost use Rattle.std.specs.Prelude.{◌≡◌};
 /// `LINETAB_VERSION` in the header is that of the header.
 #[unsafe(no_mangle)]
 pub extern "C" fn linetab_version() -> u32
-    ensures { result ≡ 9000 }
+    ensures { result ≡ 10000 }
 {
-    9000
+    10000
 }

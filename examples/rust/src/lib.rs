@@ -24,10 +24,11 @@ pub struct Sections<'a> {
     pub skip_copies: bool,
 }
 
-/// The spans of a good section.
+/// The spans of a good section, with their index.
 #[derive(Clone, Debug)]
 pub struct Lines {
     spans: Vec<Span>,
+    index: Vec<u32>,
 }
 
 impl Sections<'_> {
@@ -37,7 +38,10 @@ impl Sections<'_> {
             // SAFETY: each pointer and length are those of one slice, and the room is borrowed by nobody else.
             unsafe { raw::linetab_verify(&self.raw(), room.as_mut_ptr(), room.len(), verdict) }
         })?;
-        Ok(Lines { spans })
+        let mut index = vec![0; spans.len()];
+        // SAFETY: as above.
+        unsafe { raw::linetab_index(spans.as_ptr(), spans.len(), index.as_mut_ptr(), index.len()) };
+        Ok(Lines { spans, index })
     }
 
     /// The whole path of a file, or none where the unit or the file isn't there.
@@ -89,9 +93,12 @@ impl Sections<'_> {
 impl Lines {
     /// The answer at a position, where there is one.
     pub fn lookup(&self, address: u64, op: u64) -> Option<Answer> {
+        let (spans, index) = (&self.spans, &self.index);
         let mut answer = Answer::default();
-        // SAFETY: the spans are one slice, which nobody writes while it is lent.
-        let is_found = unsafe { raw::linetab_lookup(self.spans.as_ptr(), self.spans.len(), address, op, &mut answer) };
+        // SAFETY: the spans are one slice, and so is the index. Nobody writes them while they are lent.
+        let is_found = unsafe {
+            raw::linetab_lookup_indexed(spans.as_ptr(), spans.len(), index.as_ptr(), index.len(), address, op, &mut answer)
+        };
         is_found.then_some(answer)
     }
 

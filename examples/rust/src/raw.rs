@@ -64,7 +64,16 @@ use std::mem::size_of;
 
 extern "C" {
     pub(crate) fn linetab_verify(section: &Section, spans: *mut Span, len: usize, verdict: &mut Verdict) -> usize;
-    pub(crate) fn linetab_lookup(spans: *const Span, len: usize, address: u64, op: u64, answer: &mut Answer) -> bool;
+    pub(crate) fn linetab_index(spans: *const Span, len: usize, index: *mut u32, index_len: usize);
+    pub(crate) fn linetab_lookup_indexed(
+        spans: *const Span,
+        len: usize,
+        index: *const u32,
+        index_len: usize,
+        address: u64,
+        op: u64,
+        answer: &mut Answer,
+    ) -> bool;
     pub(crate) fn linetab_path(
         section: &Section,
         unit: u64,
