@@ -106,6 +106,7 @@ impl<O: Opener, W: Write, N: Write> Session<'_, '_, '_, O, W, N> {
 }
 
 // Prints a section, as it is to be read.
+#[tactic(auto, using(crate::proofs::ReadingLemmas::units_told))]
 fn print_reading<R: Source, W: Write>(
     alloc: Global,
     source: &mut R,
