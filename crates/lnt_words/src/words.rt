@@ -104,7 +104,7 @@ fn read_in<'a>(words: &ArgMatches<'a>, reading: Reading) -> Result<Request<'a>, 
 fn judge_in<'a>(
     alloc: Global,
     words: &ArgMatches<'a>,
-    question: Question<'a>,
+    question: Question,
 ) -> Result<Request<'a>, WordsStop> {
     Ok(Request::Judge {
         from: judging_in(alloc, words)?,
@@ -127,20 +127,18 @@ fn lookup_in<'a>(alloc: Global, words: &ArgMatches<'a>) -> Result<Request<'a>, W
         Some(word) => number_of(alloc, words, word)?,
         None => 0,
     };
-    let question = match words.get_str("addresses") {
-        Some(file) => Question::Addresses { file, op },
-        None => {
-            for position in &mut positions {
-                position.op = op;
-            }
-            Question::Lookup(positions)
-        }
-    };
-    judge_in(alloc, words, question)
+    if let Some(file) = words.get_str("addresses") {
+        let from = judging_in(alloc, words)?;
+        return Ok(Request::Addresses { from, file, op });
+    }
+    for position in &mut positions {
+        position.op = op;
+    }
+    judge_in(alloc, words, Question::Lookup(positions))
 }
 
 // Which table is asked for: at most one of the three flags is given.
-fn table_in<'a>(words: &ArgMatches<'a>) -> Question<'a> {
+fn table_in(words: &ArgMatches<'_>) -> Question {
     if words.get_flag("paths") {
         return Question::TableByPath { columns: true };
     }
