@@ -66,6 +66,11 @@ line_more frames frame old now new before here =
     ∙ ap (λ (z : List ℕ). flat_map unit_line frames ++ z) (append-nil (unit_line frame))))
     (Appends-trans old now new (flat_map unit_line frames) (unit_line frame) before here)
 
+framed : (order : Order) (unit : UnitBytes) (frame : Frame) → unit.order ≡ order
+    → frame_bytes unit.order frame.format frame.body.now ≡ unit.bytes → IsPlacedFrame unit.order frame → IsFrame order frame unit.bytes
+framed order unit frame ordered bytes placed =
+    subst (λ (o : Order). IsFrame o frame unit.bytes) ordered (subst (λ (z : List ℕ). IsFrame unit.order frame z) bytes placed.is)
+
 -- the frame of a unit that the source gave
 pub frames_more : (order : Order) (start mid now old then new : Option (List ℕ)) (of_reader next_order : Order) (offset after : ℕ)
     (unit : UnitBytes) (frame : Frame)
@@ -80,8 +85,7 @@ frames_more order start mid now old then new of_reader next_order offset after u
       front = told.front ++ unit.bytes;
       so_far =
           frames_push order told.frames frame told.front unit.bytes of_reader offset after told.so_far (here ∙ next.offset_is)
-          (subst (λ (o : Order). IsFrame o frame unit.bytes) next.order_is (subst (λ (z : List ℕ). IsFrame unit.order frame z) bytes placed.is))
-          at;
+          (framed of_reader unit frame next.order_is bytes placed) at;
       pulls = pulls_append start mid now told.front unit.bytes told.pulls next.pulls;
       printed = line_more told.frames frame old then new told.printed printed;
     })
