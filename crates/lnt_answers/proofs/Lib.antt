@@ -1,3 +1,4 @@
+pub mod AddressLemmas
 pub mod CommaLemmas
 pub mod DifferenceLemmas
 pub mod FileLemmas

@@ -1,3 +1,4 @@
+pub mod AddressLines
 pub mod DifferenceLines
 pub mod FileLines
 pub mod Lines

@@ -1,8 +1,11 @@
 //! Lookups of the positions that the lines of a text tell.
-ghost use Rattle.std.specs.Prelude.{◌≡◌, ◌+◌, ◌-◌, ◌^◌, ◌<◌, ◌==◌, length, IfErr, IfSome, IsErrOf, IsTrue, MatchOption};
+ghost use Rattle.std.specs.Prelude.{◌≡◌, ◌+◌, ◌-◌, ◌^◌, ◌<◌, ◌==◌, [], ◌∷◌, length, IfErr, IfOk, IfSome, IsErrOf, IsTrue, MatchOption};
+ghost use Rattle.std.specs.Prelude.{OnOk};
 ghost use Rattle.std.specs.List.{position};
+ghost use Rattle.std.specs.Str.Lines.{strip_carriage_return};
 ghost use Rattle.lnt_sources.specs.declared.halt.Halt.TheVariants as halt;
 ghost use Rattle.lnt_sources.specs.Halts.{IsPrinting};
+ghost use Rattle.lnt_answers.specs.AddressLines.{AreAddressesTold, AreLinesTold, HasNo, IsBlockTold, IsCutAt};
 ghost use Rattle.lnt_answers.specs.Lines.{TellsPosition};
 ghost use Rattle.lnt_spans.specs.declared.position.Position.{Position as Spec};
 
@@ -27,7 +30,8 @@ const BLOCK: usize = 1 << 16;
 /// end of the text. Where N is left out, the operation index is `op`. What one read brought is answered, and the writer
 /// flushed, before the next read.
 ///
-/// It answers `Done` where all lines tell positions, and else `No`. It stops by `Read` only where the source failed, and
+/// It answers `Done` where all lines tell positions, and else `No`, and the writer has then gained these lines, and nothing
+/// else (`AreAddressesTold`). It stops by `Read` only where the source failed, and
 /// by `TooLong` only where it has more bytes than it may give: the lines before are then answered. It stops by `Write`
 /// where the writer failed, and by `Memory`. The caller sees to it that the number of the source's failures is below
 /// `u64::MAX`.
@@ -39,6 +43,8 @@ pub fn print_addresses<T: Source, W: Write>(
     out: &mut W,
 ) -> Result<Status, Halt>
     requires { T.failures lines.old < 2 ^ 64 - 1 }
+    ensures told { IfOk result (λ status. AreAddressesTold index.now op (T.remaining lines.old)
+        (W.contents out.old) (W.contents out.new) status) }
     ensures read { IsErrOf result halt.Read → T.failures lines.new ≡ T.failures lines.old + 1 }
     ensures too_long { IsErrOf result halt.TooLong → IsTrue (T.too_long lines.new) }
 {
@@ -87,14 +93,16 @@ impl Asked {
         block: &[u8],
         out: &mut W,
     ) -> Result<(), Halt>
-        ensures { IfErr result IsPrinting }
+        requires { HasNo 10 self.old.line.items }
+        ensures err { IfErr result IsPrinting }
+        ensures told { OnOk result (IsBlockTold index.now self.old.op self.old.line.items block.now self.new.line.items []
+            (W.contents out.old) (W.contents out.new) self.old.status self.new.status) }
+        ensures same { OnOk result (self.new.op ≡ self.old.op) }
     {
         let mut rest = block;
-        while let Some(end) = rest.iter().position(|byte| *byte == b'\n') {
+        while let Some(end) = place_of(b'\n', rest) {
             self.line.extend_from_slice(&rest[..end])?;
-            if self.line.last() == Some(&b'\r') {
-                self.line.pop();
-            }
+            strip_return(&mut self.line);
             self.answer_line(alloc, index, out)?;
             rest = &rest[end + 1..];
         }
@@ -109,7 +117,11 @@ impl Asked {
         index: &Index<'_>,
         out: &mut W,
     ) -> Result<(), Halt>
-        ensures { IfErr result IsPrinting }
+        ensures err { IfErr result IsPrinting }
+        ensures told { OnOk result (AreLinesTold index.now self.old.op (self.old.line.items ∷ [])
+            (W.contents out.old) (W.contents out.new) self.old.status self.new.status) }
+        ensures begun { OnOk result (self.new.line.items ≡ []) }
+        ensures same { self.new.op ≡ self.old.op }
     {
         match position_in(&self.line, self.op) {
             Some(position) => {
@@ -125,11 +137,20 @@ impl Asked {
     }
 }
 
+// Leaves out the carriage return that ends a line.
+fn strip_return(line: &mut Vec<u8>)
+    ensures { line.new.items ≡ strip_carriage_return line.old.items }
+{
+    if line.last() == Some(&b'\r') {
+        line.pop();
+    }
+}
+
 // The position that a line tells. None where it tells none.
 fn position_in(line: &[u8], op: u64) -> Option<Position>
     ensures { MatchOption result ((position : Spec) → TellsPosition op line.now position → ⊥) (TellsPosition op line.now) }
 {
-    let Some(comma) = comma_in(line) else {
+    let Some(comma) = place_of(b',', line) else {
         return Some(Position {
             address: address(line)?,
             op,
@@ -141,14 +162,15 @@ fn position_in(line: &[u8], op: u64) -> Option<Position>
     })
 }
 
-// The place of the first comma of a line.
-fn comma_in(line: &[u8]) -> Option<usize>
-    ensures place { result ≡ position (λ byte. byte == 44) line.now }
-    ensures within { IfSome result (λ comma. comma < length line.now) }
+// The first place of a byte in a text.
+fn place_of(byte: u8, text: &[u8]) -> Option<usize>
+    ensures place { result ≡ position (λ other. other == byte) text.now }
+    ensures within { IfSome result (λ place. place < length text.now) }
+    ensures cut { MatchOption result (HasNo byte text.now) (λ place. IsCutAt byte place text.now) }
 {
-    for comma in 0..line.len() {
-        if line[comma] == b',' {
-            return Some(comma);
+    for place in 0..text.len() {
+        if text[place] == byte {
+            return Some(place);
         }
     }
     None

@@ -1,2 +1,3 @@
 pub mod CheckLemmas
+pub mod ReadingLemmas
 pub mod StretchLemmas

@@ -15,10 +15,10 @@ use Rattle.lnt_words.specs.declared.request.Judging.{Judging}
 use Rattle.lnt_words.specs.declared.request.Question.{Question}
 use Rattle.lnt_words.specs.declared.request.Reading.{Reading}
 use Rattle.lnt_words.specs.declared.request.Request.{Request}
-use Rattle.lnt_words.specs.declared.request.Request.TheVariants.{Help, Read, Judge, Check}
+use Rattle.lnt_words.specs.declared.request.Request.TheVariants.{Help, Read, Judge, Addresses, Check}
 use Rattle.lnt_table.specs.declared.by_path.Checked.{Checked}
 use Rattle.lnt_table.specs.AnyVersion.{IsTrueCheck}
-use Rattle.lnt_cli.specs.Questions.{AnswersJudged}
+use Rattle.lnt_cli.specs.Questions.{AnswersAddressesJudged, AnswersJudged}
 use Rattle.lnt_cli.specs.Readings.{AnswersReading}
 use Rattle.lnt_cli.specs.Stretches.{ArePlacesTold}
 use Rattle.lnt_cli.specs.Verdicts.{checked_status, checked_text}
@@ -72,6 +72,21 @@ pub record AnswersQuestion (tells : List ℕ → Option (List ℕ) → Type 0) (
   pub is_true : IfSome section_bytes (λ section. IsJudgedIndex line general (options_in from) section judged)
   pub answered : AnswersJudged (options_in from) question judged old new status
 
+-- What is told of the section whose file is named is so, and this is the answer to the text of the file of this name, whose lines
+-- tell positions.
+pub record AnswersAddresses (tells : List ℕ → Option (List ℕ) → Type 0) (from : Judging) (file : List ℕ) (op : ℕ)
+    (old new : Option (List ℕ)) (status : Status) : Type 0 where
+  pub line : List ℕ
+  pub general : List ℕ
+  pub texts : AreTextsOf tells from line general
+  pub section_bytes : Option (List ℕ)
+  pub of_section : tells from.section.now section_bytes
+  pub judged : JudgedIndex
+  pub is_true : IfSome section_bytes (λ section. IsJudgedIndex line general (options_in from) section judged)
+  pub text_bytes : Option (List ℕ)
+  pub of_text : tells file text_bytes
+  pub answered : AnswersAddressesJudged judged op text_bytes old new status
+
 -- What is told of the section whose file is named is so, and so are the places at which the table of its name answers otherwise.
 pub record AnswersPlaces (tells : List ℕ → Option (List ℕ) → Type 0) (from : Judging) (table : List ℕ) (old new : Option (List ℕ)) (status : Status) : Type 0 where
   pub line : List ℕ
@@ -100,5 +115,6 @@ abbrev pub IsAnswered : (List ℕ → Option (List ℕ) → Type 0) → Request 
 IsAnswered tells (Help text) old new status = Appends old new (string_bytes text) × (status ≡ Done)
 IsAnswered tells (Read section order reading) old new status = AnswersRead tells section.now order reading old new status
 IsAnswered tells (Judge from question) old new status = AnswersQuestion tells from question old new status
+IsAnswered tells (Addresses from file op) old new status = AnswersAddresses tells from file.now op old new status
 IsAnswered tells (Check from table false) old new status = AnswersCheck tells from table.now old new status
 IsAnswered tells (Check from table true) old new status = AnswersPlaces tells from table.now old new status

@@ -19,6 +19,7 @@ use Rattle.lnt_paths.specs.declared.version.PathVersion.{PathVersion}
 use Rattle.lnt_paths.specs.declared.version.PathVersion.TheVariants.{Three, Four}
 use Rattle.lnt_table.specs.ByPath.{told_path}
 use Rattle.lnt_table.specs.Written.{IsTableOfUnits}
+use Rattle.lnt_answers.specs.AddressLines.{AreAddressesTold}
 use Rattle.lnt_answers.specs.FileLines.{files_text}
 use Rattle.lnt_answers.specs.Lines.{lookup_line}
 use Rattle.lnt_answers.specs.Texts.{no_text}
@@ -61,3 +62,8 @@ IsNoTold reason old new status = Appends old new (no_text reason ++ codes "\n") 
 abbrev pub AnswersJudged : Options → Question → JudgedIndex → Option (List ℕ) → Option (List ℕ) → Status → Type 0
 AnswersJudged options question (Good index) old new status = AnswersGood options question index old new status
 AnswersJudged options question (Bad reason) old new status = IsNoTold reason old new status
+
+-- What is answered to a text whose lines tell positions, where the section was judged so.
+abbrev pub AnswersAddressesJudged : JudgedIndex → ℕ → Option (List ℕ) → Option (List ℕ) → Option (List ℕ) → Status → Type 0
+AnswersAddressesJudged (Good index) op text old new status = AreAddressesTold index op text old new status
+AnswersAddressesJudged (Bad reason) op text old new status = IsNoTold reason old new status

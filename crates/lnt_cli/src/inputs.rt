@@ -66,6 +66,24 @@ pub(crate) fn open_section<'c, O: Opener>(
     }
 }
 
+// The section that is to be judged.
+pub(crate) fn open_judged<'c, O: Opener>(
+    alloc: Global,
+    opener: &mut O,
+    from: &Judging<'_>,
+    seen: &'c Cell<Seen>,
+) -> Result<Section<'c, O::Reader>, CliStop>
+    ensures usage { IfErr result (λ stop. IsUsage stop → ⊥) }
+    ensures failures { IfOk result (λ source.
+        ⟦<Counted<BufReader<Watched<'c, O::Reader>>> as Source>⟧.failures source ≡ 0) }
+    ensures told { IfOk result (λ source.
+        O.tells opener.old from.now.section.now (⟦<Counted<BufReader<Watched<'c, O::Reader>>> as Source>⟧.remaining source)) }
+    ensures later { TellsNoMore (O.tells opener.old) (O.tells opener.new) }
+{
+    let opened = open_section(alloc, opener, from.section, seen);
+    of_file(alloc, from.section, opened)
+}
+
 // The file of this name.
 pub(crate) fn open<O: Opener>(
     alloc: Global,

@@ -50,10 +50,11 @@ pub fn run<O: Opener, W: Write, N: Write>(
 ///
 /// Where a question about a section is asked, and the section isn't good, `out` has gained the line that says why, which is
 /// so, and it answers `No`; of a good one, what its rows and headers say (`AnswersQuestion`). Where a section is converted,
-/// `out` has gained the converted one, or the line that says why there is none (`AnswersRead`).
+/// `out` has gained the converted one, or the line that says why there is none; and where its units are listed, the lines of
+/// its frames, and of its first fault (`AnswersRead`). Where the lines of a file are answered, `out` has gained a line for each
+/// of them (`AnswersAddresses`).
 ///
-/// Nothing is said of what units, dumps, sums and the answers to the lines of a file print, nor of `out` where it stops. It
-/// stops as `run` does, and never by `Usage`.
+/// Nothing is said of what dumps and sums print, nor of `out` where it stops. It stops as `run` does, and never by `Usage`.
 pub fn answer<O: Opener, W: Write, N: Write>(
     alloc: Global,
     asked: &Asked<'_>,

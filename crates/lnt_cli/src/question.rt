@@ -1,12 +1,13 @@
 //! Questions about a good section.
-ghost use Rattle.std.specs.Prelude.{◌≡◌, IfErr, IfOk};
-ghost use Rattle.lnt_cli.specs.Answered.{AnswersQuestion};
+ghost use Rattle.std.specs.Prelude.{◌≡◌, ◌-◌, ◌^◌, ◌<◌, IfErr, IfOk, IfSome};
+ghost use Rattle.lnt_answers.specs.Lines.{IsIndexGiven, IsTold};
+ghost use Rattle.lnt_cli.specs.Answered.{AnswersAddresses, AnswersQuestion, options_in};
 ghost use Rattle.lnt_cli.specs.Questions.{AnswersGood};
 ghost use Rattle.lnt_cli.specs.Stops.{IsUsage};
-ghost use Rattle.lnt_words.specs.declared.request.Question.TheVariants.{Addresses};
+ghost use Rattle.lnt_lines.specs.Drafts.{IsJudgedIndex};
 ghost use Rattle.lnt_lines.specs.declared.options.Options.{Options as OptionsSpec};
 
-use crate::inputs::{of_file, open, open_section, read_texts};
+use crate::inputs::{Texts, of_file, open, open_judged, read_texts};
 use crate::judge::options_of;
 use crate::path_table::print_path_table;
 use crate::session::Session;
@@ -19,6 +20,7 @@ use lnt_lines::{Index, JudgedIndex, No};
 use lnt_notes::{Hints, Seen, hints_of};
 use lnt_sources::{Halt, Opener, Status};
 use lnt_table::PathVersion;
+use lnt_wire::Source;
 use lnt_words::{Judging, Question};
 use std::alloc::Global;
 use std::cell::Cell;
@@ -43,7 +45,7 @@ impl<O: Opener, W: Write, N: Write> Session<'_, '_, '_, O, W, N> {
     pub(crate) fn answer_question(
         &mut self,
         from: &Judging<'_>,
-        question: &Question<'_>,
+        question: &Question,
     ) -> Result<Status, CliStop>
         ensures usage { IfErr result (λ stop. IsUsage stop → ⊥) }
         ensures answer { IfOk result (λ status. AnswersQuestion (O.tells self.old.opener.now) from.now question.now
@@ -51,25 +53,44 @@ impl<O: Opener, W: Write, N: Write> Session<'_, '_, '_, O, W, N> {
         ensures same_reference { self.new.out.ghost_name ≡ self.old.out.ghost_name }
     {
         let seen = Cell::new(Seen::nothing());
-        let answered = match question {
-            Question::Addresses { file, op } => {
-                answer_lines(self.alloc, from, file, *op, self.opener, &seen, self.out)?
-            }
-            _ => answer_alone(self.alloc, from, question, self.opener, &seen, self.out)?,
-        };
+        let answered = answer_alone(self.alloc, from, question, self.opener, &seen, self.out)?;
+        self.tell_answered(&answered, &seen.get(), from);
+        Ok(answered.status)
+    }
+
+    // Answers the lines of the file of this name, where the section is good. Of another one its line is printed.
+    pub(crate) fn answer_addresses(
+        &mut self,
+        from: &Judging<'_>,
+        file: &str,
+        op: u64,
+    ) -> Result<Status, CliStop>
+        ensures usage { IfErr result (λ stop. IsUsage stop → ⊥) }
+        ensures answer { IfOk result (λ status. AnswersAddresses (O.tells self.old.opener.now) from.now file.now op
+            (W.contents self.old.out.now) (W.contents self.new.out.now) status) }
+        ensures same_reference { self.new.out.ghost_name ≡ self.old.out.ghost_name }
+    {
+        let seen = Cell::new(Seen::nothing());
+        let answered = answer_lines(self.alloc, from, file, op, self.opener, &seen, self.out)?;
+        self.tell_answered(&answered, &seen.get(), from);
+        Ok(answered.status)
+    }
+
+    fn tell_answered(&mut self, answered: &Answered, seen: &Seen, from: &Judging<'_>)
+        ensures { self.new.out ≡ self.old.out }
+    {
         match &answered.occasion {
             Occasion::Good(hints) => self.tell_good(hints, from),
-            Occasion::Bad(no) => self.tell_bad(no, &seen.get(), from),
+            Occasion::Bad(no) => self.tell_bad(no, seen, from),
         }
-        Ok(answered.status)
     }
 }
 
-// Answers a question that names no other file. Of the section's bytes is kept what was seen.
+// Answers a question about a section. Of the section's bytes is kept what was seen.
 fn answer_alone<O: Opener, W: Write>(
     alloc: Global,
     from: &Judging<'_>,
-    question: &Question<'_>,
+    question: &Question,
     opener: &mut O,
     seen: &Cell<Seen>,
     out: &mut W,
@@ -79,12 +100,8 @@ fn answer_alone<O: Opener, W: Write>(
         (W.contents out.old) (W.contents out.new) answered.status) }
 {
     let texts = read_texts(alloc, opener, from)?;
-    let opened = open_section(alloc, opener, from.section, seen);
-    let mut section = of_file(alloc, from.section, opened)?;
-    let options = options_of(from);
-    let strings = texts.strings();
-    let judged = judge_section(alloc, &mut section, &strings, &options, out);
-    let index = match of_file(alloc, from.section, judged)? {
+    let mut section = open_judged(alloc, opener, from, seen)?;
+    let index = match judge(alloc, &mut section, &texts, from, out)? {
         JudgedIndex::Good(index) => index,
         JudgedIndex::Bad(no) => return Ok(refused(no)),
     };
@@ -105,17 +122,13 @@ fn answer_lines<O: Opener, W: Write>(
     out: &mut W,
 ) -> Result<Answered, CliStop>
     ensures usage { IfErr result (λ stop. IsUsage stop → ⊥) }
-    ensures answer { IfOk result (λ answered. AnswersQuestion (O.tells opener.old) from.now (Addresses file.entry op)
+    ensures answer { IfOk result (λ answered. AnswersAddresses (O.tells opener.old) from.now file.now op
         (W.contents out.old) (W.contents out.new) answered.status) }
 {
     let texts = read_texts(alloc, opener, from)?;
-    let opened = open_section(alloc, opener, from.section, seen);
-    let mut section = of_file(alloc, from.section, opened)?;
+    let mut section = open_judged(alloc, opener, from, seen)?;
     let mut lines = open(alloc, opener, file)?;
-    let options = options_of(from);
-    let strings = texts.strings();
-    let judged = judge_section(alloc, &mut section, &strings, &options, out);
-    let index = match of_file(alloc, from.section, judged)? {
+    let index = match judge(alloc, &mut section, &texts, from, out)? {
         JudgedIndex::Good(index) => index,
         JudgedIndex::Bad(no) => return Ok(refused(no)),
     };
@@ -123,6 +136,25 @@ fn answer_lines<O: Opener, W: Write>(
     let status = of_file(alloc, file, printed)?;
     let occasion = Occasion::Good(hints_of(&index));
     Ok(Answered { status, occasion })
+}
+
+// Judges the section, and prints the line of one that isn't good.
+fn judge<'t, R: Source, W: Write>(
+    alloc: Global,
+    section: &mut R,
+    texts: &'t Texts,
+    from: &Judging<'_>,
+    out: &mut W,
+) -> Result<JudgedIndex<'t>, CliStop>
+    requires { R.failures section.old < 2 ^ 64 - 1 }
+    ensures usage { IfErr result (λ stop. IsUsage stop → ⊥) }
+    ensures judged { IfOk result (λ judged. IfSome (R.remaining section.old) (λ bytes.
+        IsJudgedIndex texts.now.line.items texts.now.general.items (options_in from.now) bytes judged)) }
+    ensures told { IfOk result (λ judged. IsTold judged (W.contents out.old) (W.contents out.new)) }
+    ensures silent { IfOk result (λ judged. IsIndexGiven judged → out.new ≡ out.old) }
+{
+    let judged = judge_section(alloc, section, &texts.strings(), &options_of(from), out);
+    of_file(alloc, from.section, judged)
 }
 
 // The answer where the section isn't good.
@@ -139,7 +171,7 @@ fn refused(no: No) -> Answered
 fn print_answer<O: Opener, W: Write>(
     alloc: Global,
     index: &Index<'_>,
-    question: &Question<'_>,
+    question: &Question,
     opener: &mut O,
     out: &mut W,
 ) -> Result<Status, Halt>
@@ -161,13 +193,11 @@ fn print_answer<O: Opener, W: Write>(
             print_path_table(alloc, index, PathVersion::Four, out)
         }
         Question::Md5 => print_sums(alloc, index, opener, out),
-        // It is answered line by line.
-        Question::Addresses { .. } => Ok(Status::Done),
     }
 }
 
 // What a good section gives notes occasion for, where this was asked.
-fn hints_to(index: &Index<'_>, question: &Question<'_>) -> Hints {
+fn hints_to(index: &Index<'_>, question: &Question) -> Hints {
     let hints = hints_of(index);
     Hints {
         lists_no_sum: matches!(question, Question::Md5) && !lists_sums(index),

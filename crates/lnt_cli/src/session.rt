@@ -60,6 +60,7 @@ impl<O: Opener, W: Write, N: Write> Session<'_, '_, '_, O, W, N> {
                 of_file(self.alloc, section, ended)
             }
             Request::Judge { from, question } => self.answer_question(from, question),
+            Request::Addresses { from, file, op } => self.answer_addresses(from, file, *op),
             Request::Check {
                 from,
                 table,
@@ -106,6 +107,7 @@ impl<O: Opener, W: Write, N: Write> Session<'_, '_, '_, O, W, N> {
 }
 
 // Prints a section, as it is to be read.
+#[tactic(auto, using(crate::proofs::ReadingLemmas::units_told))]
 fn print_reading<R: Source, W: Write>(
     alloc: Global,
     source: &mut R,

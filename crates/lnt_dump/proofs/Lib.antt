@@ -1,3 +1,3 @@
 pub mod Entries
-pub mod Gained
+pub mod Frames
 pub mod Sections

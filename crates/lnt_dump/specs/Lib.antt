@@ -1,3 +1,4 @@
 pub mod Nexts
 pub mod Printed
+pub mod Units
 pub mod Widths

@@ -1,8 +1,18 @@
 -- What comes next in a section.
+use Rattle.std.specs.Prelude.{◌≡◌, ℕ, ◌+◌, List, length, Option, Some, None}
+use Rattle.lnt_wire.specs.declared.format.Order.{Order}
+use Rattle.lnt_stream.specs.Units.{IsNextUnit, SectionEndsBy}
 use Rattle.lnt_dump.specs.declared.units.Next.{Next}
-use Rattle.lnt_dump.specs.declared.units.Next.TheVariants.{Unit as NextUnit}
+use Rattle.lnt_dump.specs.declared.units.Next.TheVariants.{Unit as NextUnit, Fault as NextFault, End}
 
 -- a unit
 abbrev pub IsUnit : Next → Type 0
 IsUnit (NextUnit unit) = Unit {0}
 IsUnit _ = ⊥
+
+-- So it is of the bytes at the offset, which the source had to give (old); the others after a unit are left (new), and the offset is
+-- then that of its end (after).
+abbrev pub IsNext : ℕ → ℕ → Order → Option (List ℕ) → Option (List ℕ) → Next → Type 0
+IsNext offset after order old new (NextUnit unit) = IsNextUnit offset order old new unit × (after ≡ offset + length unit.bytes)
+IsNext offset after order old new (NextFault fault) = SectionEndsBy offset order old (Some fault)
+IsNext offset after order old new End = SectionEndsBy offset order old None

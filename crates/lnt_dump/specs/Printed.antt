@@ -13,10 +13,6 @@ use Rattle.lnt_text.specs.Texts.{malformed_text}
 abbrev pub IsPrintedIn : (List ℕ → Type 0) → Option (List ℕ) → Option (List ℕ) → Type 0
 IsPrintedIn Is old new = (text : List ℕ) × Is text × Appends old new text
 
--- a writer that held these bytes still holds them, and after them what it has gained
-abbrev pub Gains : Option (List ℕ) → Option (List ℕ) → Type 0
-Gains old new = (text : List ℕ) × Appends old new text
-
 -- the line of a unit that is too large
 abbrev pub too_large_text : ℕ → List ℕ
 too_large_text offset = codes "no 20 too large unit " ++ hexadecimal offset ++ codes "\n"

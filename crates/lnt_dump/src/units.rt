@@ -1,25 +1,25 @@
 //! The subcommand `units`.
 ghost use Rattle.std.specs.Prelude.{◌≡◌, ◌-◌, ◌^◌, ◌<◌, IfOk, OnOk};
+ghost use Rattle.std.specs.Io.KnownBytes.{Appends};
 ghost use Rattle.lnt_stream.specs.declared.reader.Progress.TheVariants.{Reading};
-ghost use Rattle.lnt_dump.specs.Nexts.{IsUnit};
-ghost use Rattle.lnt_dump.specs.Printed.{Gains};
+ghost use Rattle.lnt_dump.specs.Nexts.{IsNext, IsUnit};
+ghost use Rattle.lnt_dump.specs.Units.{AreUnitsTold, unit_line};
 
 use crate::faults::print_fault;
 use crate::width::width_of;
 use lnt_sources::{Halt, Status};
 use lnt_stream::{SectionReader, SectionStop, UnitBuffer};
-use lnt_wire::{Fault, Order, Source};
+use lnt_wire::{Fault, Frame, Order, Source};
 use std::alloc::Global;
 use std::io::Write;
 
 /// Prints a line for each unit that the source has to give: its offset, the width of its format, and its length.
 ///
 /// It answers `Done` where all of them were printed. Where no unit begins what is left, it prints the line of the
-/// fault, and answers `No`. In both cases the writer holds what it held, and after it what was printed. It stops by
-/// `Read` where the source failed, by `TooLong` where it has more bytes than it may give, by `Write` where the writer
-/// failed, and by `Memory`; what was printed before stays. The caller sees to it that the number of the source's
-/// failures is below `u64::MAX`.
-#[tactic(auto, using(crate::proofs::Gained::gained_nothing))]
+/// fault, and answers `No`. In both cases the writer has gained the lines of the section's frames (`AreFrames` of
+/// `lnt_wire`), that of the fault, and nothing else. It stops by `Read` where the source failed, by `TooLong` where it
+/// has more bytes than it may give, by `Write` where the writer failed, and by `Memory`; what was printed before stays.
+/// The caller sees to it that the number of the source's failures is below `u64::MAX`.
 pub fn print_units<R: Source, W: Write>(
     alloc: Global,
     source: &mut R,
@@ -27,14 +27,14 @@ pub fn print_units<R: Source, W: Write>(
     out: &mut W,
 ) -> Result<Status, Halt>
     requires { R.failures source.old < 2 ^ 64 - 1 }
-    ensures { OnOk result (Gains (W.contents out.old) (W.contents out.new)) }
+    ensures { IfOk result (λ status. AreUnitsTold order (R.remaining source.old) (W.contents out.old) (W.contents out.new) status) }
 {
     let mut reader = SectionReader::new(source, order);
     let mut room = Vec::new(alloc);
     loop {
         match next_of(&mut reader, room)? {
             Next::Unit(unit) => {
-                print_frame(&unit, out)?;
+                print_frame(&unit.frame(), out)?;
                 room = unit.into_bytes();
             }
             Next::Fault(fault) => return print_fault(fault, out),
@@ -58,7 +58,11 @@ pub(crate) fn next_of<R: Source>(
     room: Vec<u8>,
 ) -> Result<Next, Halt>
     requires { reader.old.progress ≡ Reading }
-    ensures { IfOk result (λ next. IsUnit next → (reader.new.progress ≡ Reading) × (R.left reader.new.source.now < R.left reader.old.source.now)) }
+    ensures goes_on { IfOk result (λ next. IsUnit next
+        → (reader.new.progress ≡ Reading) × (R.left reader.new.source.now < R.left reader.old.source.now)) }
+    ensures next { IfOk result (λ next. IsNext reader.old.offset reader.new.offset reader.old.order
+        (R.remaining reader.old.source.now) (R.remaining reader.new.source.now) next) }
+    ensures order { reader.new.order ≡ reader.old.order }
 {
     match reader.next_unit_in(room) {
         Ok(Some(unit)) => Ok(Next::Unit(unit)),
@@ -72,10 +76,9 @@ pub(crate) fn next_of<R: Source>(
 }
 
 // Prints the line of a unit.
-fn print_frame<W: Write>(unit: &UnitBuffer, out: &mut W) -> Result<(), Halt>
-    ensures { OnOk result (Gains (W.contents out.old) (W.contents out.new)) }
+fn print_frame<W: Write>(frame: &Frame<'_>, out: &mut W) -> Result<(), Halt>
+    ensures { OnOk result (Appends (W.contents out.old) (W.contents out.new) (unit_line frame.now)) }
 {
-    let frame = unit.frame();
     let (offset, width, length) = (frame.offset, width_of(frame.format), frame.length);
     writeln!(out, "0x{offset:x} {width} {length}")?;
     Ok(())

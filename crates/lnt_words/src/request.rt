@@ -30,7 +30,16 @@ pub enum Request<'a> {
         /// The section.
         from: Judging<'a>,
         /// What is asked of it.
-        question: Question<'a>,
+        question: Question,
+    },
+    /// What a good section answers at the positions that the lines of a file tell.
+    Addresses {
+        /// The section.
+        from: Judging<'a>,
+        /// The file of the lines.
+        file: &'a str,
+        /// The operation index where a line tells none.
+        op: u64,
     },
     /// Whether a table answers as a section does.
     Check {
@@ -83,18 +92,11 @@ pub enum Reading {
 
 /// What is asked of a good section.
 #[derive(Drop)]
-pub enum Question<'a> {
+pub enum Question {
     /// Nothing but whether it is good.
     Verify,
     /// The answers at these positions.
     Lookup(Vec<Position>),
-    /// The answers at the positions that the lines of a file tell.
-    Addresses {
-        /// The file of the lines.
-        file: &'a str,
-        /// The operation index where a line tells none.
-        op: u64,
-    },
     /// The files of its units.
     Files,
     /// Its address table, in this version.

@@ -1,4 +1,9 @@
 //! What the words of the command ask for.
+ghost use Rattle.std.specs.Prelude.{IfOk};
+ghost use Rattle.clap.specs.Words.{found_of};
+ghost use Rattle.lnt_digits.specs.Digits.{IsAddress};
+ghost use Rattle.lnt_words.specs.Asking.{IsAskedIn, IsAskedOf, IsJudging, IsOrder, IsReading, IsWord};
+
 use crate::command::command_of;
 use crate::request::{Asked, Judging, Question, Reading, Request};
 use crate::stop::WordsStop;
@@ -54,7 +59,9 @@ fn is_obeyed(character: char) -> bool {
 }
 
 // What the words of a subcommand ask for.
-fn asked_in<'a>(alloc: Global, matches: &ArgMatches<'a>) -> Result<Asked<'a>, WordsStop> {
+fn asked_in<'a>(alloc: Global, matches: &ArgMatches<'a>) -> Result<Asked<'a>, WordsStop>
+    ensures { IfOk result (λ asked. IsAskedOf matches.now asked.request) }
+{
     let Some((name, words)) = matches.subcommand() else {
         return Err(WordsStop::Memory);
     };
@@ -68,7 +75,9 @@ fn request_in<'a>(
     alloc: Global,
     name: &str,
     words: &ArgMatches<'a>,
-) -> Result<Request<'a>, WordsStop> {
+) -> Result<Request<'a>, WordsStop>
+    ensures { IfOk result (λ request. IsAskedIn (found_of words.now) request) }
+{
     match name {
         "units" => read_in(words, Reading::Units),
         "dump" => {
@@ -93,7 +102,10 @@ fn request_in<'a>(
     }
 }
 
-fn read_in<'a>(words: &ArgMatches<'a>, reading: Reading) -> Result<Request<'a>, WordsStop> {
+fn read_in<'a>(words: &ArgMatches<'a>, reading: Reading) -> Result<Request<'a>, WordsStop>
+    requires { IsReading (found_of words.now) reading }
+    ensures { IfOk result (λ request. IsAskedIn (found_of words.now) request) }
+{
     Ok(Request::Read {
         section: word_in(words, "SECTION")?,
         order: order_in(words),
@@ -104,8 +116,10 @@ fn read_in<'a>(words: &ArgMatches<'a>, reading: Reading) -> Result<Request<'a>, 
 fn judge_in<'a>(
     alloc: Global,
     words: &ArgMatches<'a>,
-    question: Question<'a>,
-) -> Result<Request<'a>, WordsStop> {
+    question: Question,
+) -> Result<Request<'a>, WordsStop>
+    ensures { IfOk result (λ request. IsAskedIn (found_of words.now) request) }
+{
     Ok(Request::Judge {
         from: judging_in(alloc, words)?,
         question,
@@ -113,7 +127,9 @@ fn judge_in<'a>(
 }
 
 // The addresses are judged before the operation index, and in their order.
-fn lookup_in<'a>(alloc: Global, words: &ArgMatches<'a>) -> Result<Request<'a>, WordsStop> {
+fn lookup_in<'a>(alloc: Global, words: &ArgMatches<'a>) -> Result<Request<'a>, WordsStop>
+    ensures { IfOk result (λ request. IsAskedIn (found_of words.now) request) }
+{
     let mut positions = Vec::new(alloc);
     if let Some(addresses) = words.get_strs("ADDRESS") {
         for word in addresses {
@@ -127,20 +143,18 @@ fn lookup_in<'a>(alloc: Global, words: &ArgMatches<'a>) -> Result<Request<'a>, W
         Some(word) => number_of(alloc, words, word)?,
         None => 0,
     };
-    let question = match words.get_str("addresses") {
-        Some(file) => Question::Addresses { file, op },
-        None => {
-            for position in &mut positions {
-                position.op = op;
-            }
-            Question::Lookup(positions)
-        }
-    };
-    judge_in(alloc, words, question)
+    if let Some(file) = words.get_str("addresses") {
+        let from = judging_in(alloc, words)?;
+        return Ok(Request::Addresses { from, file, op });
+    }
+    for position in &mut positions {
+        position.op = op;
+    }
+    judge_in(alloc, words, Question::Lookup(positions))
 }
 
 // Which table is asked for: at most one of the three flags is given.
-fn table_in<'a>(words: &ArgMatches<'a>) -> Question<'a> {
+fn table_in(words: &ArgMatches<'_>) -> Question {
     if words.get_flag("paths") {
         return Question::TableByPath { columns: true };
     }
@@ -153,7 +167,9 @@ fn table_in<'a>(words: &ArgMatches<'a>) -> Question<'a> {
     Question::Table(Version::One)
 }
 
-fn convert_in<'a>(alloc: Global, words: &ArgMatches<'a>) -> Result<Request<'a>, WordsStop> {
+fn convert_in<'a>(alloc: Global, words: &ArgMatches<'a>) -> Result<Request<'a>, WordsStop>
+    ensures { IfOk result (λ request. IsAskedIn (found_of words.now) request) }
+{
     let format = match word_in(words, "format")? {
         "32" => Format::D32,
         "64" => Format::D64,
@@ -168,7 +184,9 @@ fn convert_in<'a>(alloc: Global, words: &ArgMatches<'a>) -> Result<Request<'a>, 
 }
 
 // A section that is judged, with its strings, the marker of dead code, and what becomes of copies.
-fn judging_in<'a>(alloc: Global, words: &ArgMatches<'a>) -> Result<Judging<'a>, WordsStop> {
+fn judging_in<'a>(alloc: Global, words: &ArgMatches<'a>) -> Result<Judging<'a>, WordsStop>
+    ensures { IfOk result (λ from. IsJudging (found_of words.now) from) }
+{
     let dead = match words.get_str("dead") {
         Some(word) => Some(address_of(alloc, words, word, Argument::Dead)?),
         None => None,
@@ -184,11 +202,15 @@ fn judging_in<'a>(alloc: Global, words: &ArgMatches<'a>) -> Result<Judging<'a>, 
 }
 
 // A word that is required.
-fn word_in<'a>(words: &ArgMatches<'a>, name: &str) -> Result<&'a str, WordsStop> {
+fn word_in<'a>(words: &ArgMatches<'a>, name: &str) -> Result<&'a str, WordsStop>
+    ensures { IfOk result (λ word. IsWord (found_of words.now) name.now word.now) }
+{
     words.get_str(name).ok_or(WordsStop::Memory)
 }
 
-fn order_in(words: &ArgMatches<'_>) -> Order {
+fn order_in(words: &ArgMatches<'_>) -> Order
+    ensures { IsOrder (found_of words.now) result }
+{
     if words.get_flag("big") {
         Order::Big
     } else {
@@ -201,7 +223,9 @@ fn address_of(
     words: &ArgMatches<'_>,
     word: &str,
     argument: Argument,
-) -> Result<u64, WordsStop> {
+) -> Result<u64, WordsStop>
+    ensures { IfOk result (λ address. IsAddress word.now address) }
+{
     match address(word.as_bytes()) {
         Some(address) => Ok(address),
         None => Err(bad_word(alloc, words, word, argument)),

@@ -1,12 +1,13 @@
 use Rattle.std.proofs.Common.{◌≡◌}
 use Rattle.lnt_stream.specs.declared.reader.Progress.TheVariants.{Reading}
-use Rattle.lnt_dump.specs.Printed.{Gains}
+use Rattle.lnt_dump.proofs.Frames.{FramesTold}
 use Rattle.lnt_dump.proofs.units.print_units.Given as goal
 
 abbrev pub invariant-loop-unit : goal.invariant-loop-unit
 invariant-loop-unit g l = record {
   reading : l.reader.progress ≡ Reading;
-  gained : Gains (g.W.Write.contents l.fn.out) (g.W.Write.contents l.out);
+  told : FramesTold l.fn.order (g.R.Source.remaining l.fn.source) (g.R.Source.remaining l.reader.source.now)
+      (g.W.Write.contents l.fn.out) (g.W.Write.contents l.out) l.reader.order l.reader.offset;
 }
 
 abbrev pub decreases-loop-unit : goal.decreases-loop-unit

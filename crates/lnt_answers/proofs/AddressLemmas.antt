@@ -1,0 +1,293 @@
+-- The lines of a text that tell positions, as its bytes come.
+use Rattle.std.proofs.Common.{◌≡◌, ◌∙◌, ◌==◌, Bool, true, false, cond, IsTrue, ℕ, ◌+◌, ◌<◌, ◌≤◌, List, [], ◌∷◌, ◌++◌, length, map}
+use Rattle.std.proofs.Common.{take, drop, get_or, Option, Some, None, IfSome}
+use Rattle.std.proofs.Common.{refl, sym, ap, subst, append_assoc, append-nil, arith, ⊎_elim}
+use Rattle.std.proofs.KnownBytes.{Appends-nil, Appends-trans}
+use Rattle.std.proofs.lemmas.Bool.{eqb-true}
+use Rattle.std.proofs.lemmas.Bool.Decides.{nat_tests}
+use Rattle.std.proofs.lemmas.Grind.{common_steps}
+use Rattle.std.proofs.lemmas.List.{drop_more, take-append-drop}
+use Rattle.std.proofs.lemmas.List.Elements.{All-append}
+use Rattle.std.proofs.lemmas.List.Concat.{flat_map-append}
+use Rattle.std.proofs.lemmas.List.Splits.{slice_split_at, slice_split_none, length-slice_split}
+use Rattle.std.proofs.ByRecursion.{All-append as all_append}
+use Rattle.std.specs.List.{flat_map, slice_split}
+use Rattle.std.specs.Str.Lines.{lines, lines_of_parts, strip_carriage_return}
+use Rattle.std.specs.Io.KnownBytes.{Appends, Keeps}
+use Rattle.lnt_wire.specs.Pulling.{Pulls, IsAtEnd}
+use Rattle.lnt_sources.specs.declared.status.Status.{Status}
+use Rattle.lnt_sources.specs.declared.status.Status.TheVariants.{Done}
+use Rattle.lnt_spans.specs.declared.position.Position.{Position}
+use Rattle.lnt_unit.specs.declared.unit.Parts.{Parts}
+use Rattle.lnt_lines.specs.Indexed.{Indexed, IsIndexOf}
+use Rattle.lnt_answers.specs.AddressLines.{AreAddressesTold, AreLinesTold, HasNo, IsBlockTold, IsCutAt, Tells, line_status, lines_status}
+use Rattle.lnt_answers.specs.AddressLines.{told_line}
+
+-- ---- where a line ends
+
+pub cut_found : (byte : ℕ) (text : List ℕ) (k : ℕ) → k < length text → ((j : ℕ) → j < k → (get_or text j 0 == byte) ≡ false)
+    → get_or text k 0 ≡ byte → IsCutAt byte k text
+cut_found byte text k lt before is = (
+  sym (take-append-drop k text) ∙ ap (λ (z : List ℕ). take k text ++ z) (drop_more text k 0 lt ∙ ap (λ (b : ℕ). b ∷ drop (k + 1) text) is),
+  λ j d few. let other = before j in grind (arith, common_steps),
+)
+
+pub cut_missing : (byte : ℕ) (text : List ℕ) (k : ℕ) → length text ≤ k → ((j : ℕ) → j < k → (get_or text j 0 == byte) ≡ false)
+    → HasNo byte text
+cut_missing byte text k le before = λ j d few. let other = before j in grind (arith, common_steps)
+
+parts_cons : (x : List ℕ) (parts : List (List ℕ)) → 0 < length parts
+    → lines_of_parts (x ∷ parts) ≡ strip_carriage_return x ∷ lines_of_parts parts
+parts_cons x [] l = absurd (omega arith)
+parts_cons x (y ∷ more) l = refl
+
+line_cut : (line more : List ℕ) → HasNo 10 line → lines (line ++ 10 ∷ more) ≡ strip_carriage_return line ∷ lines more
+line_cut line more whole =
+    ap lines_of_parts (slice_split_at (λ b. b == 10) line 10 more whole refl)
+    ∙ parts_cons line (slice_split (λ b. b == 10) more) (let size = length-slice_split (λ b. b == 10) more in omega (arith, size))
+
+line_last : (b : ℕ) (line : List ℕ) → HasNo 10 (b ∷ line) → lines (b ∷ line) ≡ (b ∷ line) ∷ []
+line_last b line whole =
+    ap lines_of_parts (slice_split_none (λ b. b == 10) (b ∷ line) whole)
+    ∙ ap (λ (t : Bool). cond t [] ((b ∷ line) ∷ [])) (is_some (b ∷ line) (omega arith))
+  where
+    is_some : (text : List ℕ) → 0 < length text → (length text == 0) ≡ false
+    is_some text some = grind (arith, nat_tests)
+
+-- ---- lines that were told
+
+pub told_none : (index : Indexed) (op : ℕ) (old : Option (List ℕ)) (status : Status) → AreLinesTold index op [] old old status status
+told_none index op old status =
+    record { told = []; lines_are = refl; so = tt; printed = λ dead skip units is. Appends-nil old; status_is = refl }
+
+-- one line
+pub told_one : (index : Indexed) (op : ℕ) (line : List ℕ) (position : Option Position) (old new : Option (List ℕ)) (before after : Status)
+    → Tells op (line, position)
+    → ((dead : Option ℕ) (skip : Bool) (units : List (ℕ × Parts)) → IsIndexOf dead skip units index
+    → Appends old new (told_line index dead skip units (line, position)))
+    → after ≡ line_status before position → AreLinesTold index op (line ∷ []) old new before after
+told_one index op line position old new before after tells printed status = record {
+  told = (line, position) ∷ [];
+  lines_are = refl;
+  so = (tells, tt);
+  printed = λ dead skip units is. subst (Appends old new) (sym (append-nil (told_line index dead skip units (line, position))))
+      (printed dead skip units is);
+  status_is = status;
+}
+
+status_append : (before : Status) (a b : List (List ℕ × Option Position))
+    → lines_status before (a ++ b) ≡ lines_status (lines_status before a) b
+status_append before [] b = refl
+status_append before (told ∷ a) b = status_append (line_status before told.1) a b
+
+texts_append : (a b : List (List ℕ × Option Position)) → map (λ line. line.0) (a ++ b) ≡ map (λ line. line.0) a ++ map (λ line. line.0) b
+texts_append [] b = refl
+texts_append (told ∷ a) b = ap (λ (z : List (List ℕ)). told.0 ∷ z) (texts_append a b)
+
+-- and others after them
+pub told_append : (index : Indexed) (op : ℕ) (xs ys : List (List ℕ)) (old now new : Option (List ℕ)) (s t u : Status)
+    → AreLinesTold index op xs old now s t
+    → AreLinesTold index op ys now new t u → AreLinesTold index op (xs ++ ys) old new s u
+told_append index op xs ys old now new s t u a b = record {
+  told = a.told ++ b.told;
+  lines_are = texts_append a.told b.told ∙ ap (λ (z : List (List ℕ)). z ++ map (λ line. line.0) b.told) a.lines_are
+      ∙ ap (λ (z : List (List ℕ)). xs ++ z) b.lines_are;
+  so = all_append (Tells op) a.told b.told a.so b.so;
+  printed = λ dead skip units is.
+      subst (Appends old new) (sym (flat_map-append (told_line index dead skip units) a.told b.told))
+      (Appends-trans old now new (flat_map (told_line index dead skip units) a.told) (flat_map (told_line index dead skip units) b.told)
+      (a.printed dead skip units is) (b.printed dead skip units is));
+  status_is = b.status_is ∙ ap (λ (z : Status). lines_status z b.told) a.status_is ∙ sym (status_append s a.told b.told);
+}
+
+-- ---- a block
+
+pub block_begun : (index : Indexed) (op : ℕ) (line block : List ℕ) (old : Option (List ℕ)) (status : Status) → HasNo 10 line
+    → IsBlockTold index op line block line block old old status status
+block_begun index op line block old status whole =
+    record { texts = []; told = told_none index op old status; cut = λ more. refl; whole = whole }
+
+-- the line at hand ends at a place of the block
+pub block_more : (index : Indexed) (op : ℕ) (line block left rest : List ℕ) (place : ℕ) (next full stripped left' : List ℕ)
+    (old now new : Option (List ℕ)) (s t u : Status)
+    → IsBlockTold index op line block left rest old now s t → IsCutAt 10 place rest → full ≡ left ++ take place rest
+    → stripped ≡ strip_carriage_return full
+    → AreLinesTold index op (stripped ∷ []) now new t u → next ≡ drop (place + 1) rest → left' ≡ []
+    → IsBlockTold index op line block left' next old new s u
+block_more index op line block left rest place next full stripped left' old now new s t u before at full_is stripped_is told next_is
+    left_is =
+    let front = take place rest in
+    let back = drop (place + 1) rest in
+    let whole : HasNo 10 (left ++ front) = All-append (λ other. (other == 10) ≡ false) left front before.whole at.1 in
+    let told_more : IsBlockTold index op line block [] back old new s u = record {
+      texts = before.texts ++ stripped ∷ [];
+      told = told_append index op before.texts (stripped ∷ []) old now new s t u before.told told;
+      cut = λ more.
+          before.cut more ∙ ap (λ (z : List (List ℕ)). before.texts ++ z) (
+          ap lines (ap (λ (z : List ℕ). left ++ (z ++ more)) at.0 ∙ ap (λ (z : List ℕ). left ++ z) (append_assoc front (10 ∷ back) more)
+          ∙ sym (append_assoc left front (10 ∷ (back ++ more))))
+          ∙ line_cut (left ++ front) (back ++ more) whole
+          ∙ ap (λ (z : List ℕ). z ∷ lines (back ++ more)) (sym (stripped_is ∙ ap strip_carriage_return full_is)))
+          ∙ sym (append_assoc before.texts (stripped ∷ []) (lines (back ++ more)));
+      whole = λ j d few. absurd (omega arith);
+    } in
+    subst (λ (z : List ℕ). IsBlockTold index op line block z next old new s u) (sym left_is)
+    (subst (λ (z : List ℕ). IsBlockTold index op line block [] z old new s u) (sym next_is) told_more)
+
+-- no line ends in what is left of the block
+pub block_ended : (index : Indexed) (op : ℕ) (line block left rest full : List ℕ) (old now : Option (List ℕ)) (s t : Status)
+    → IsBlockTold index op line block left rest old now s t
+    → HasNo 10 rest → full ≡ left ++ rest → IsBlockTold index op line block full [] old now s t
+block_ended index op line block left rest full old now s t before none full_is = record {
+  texts = before.texts;
+  told = before.told;
+  cut = λ more. before.cut more ∙ ap (λ (z : List ℕ). before.texts ++ lines z)
+      (sym (append_assoc left rest more) ∙ ap (λ (z : List ℕ). z ++ more) (sym full_is));
+  whole = subst (HasNo 10) (sym full_is) (All-append (λ other. (other == 10) ≡ false) left rest before.whole none);
+}
+
+-- ---- a whole text
+
+-- The lines of the text are these, and those of the line at hand and of what the source still has.
+abbrev pub IsTextCut : Option (List ℕ) → Option (List ℕ) → List (List ℕ) → List ℕ → Type 0
+IsTextCut None now texts line = Unit {0}
+IsTextCut (Some text) None texts line = ⊥
+IsTextCut (Some text) (Some rest) texts line = lines text ≡ texts ++ lines (line ++ rest)
+
+pub record IsTextTold (index : Indexed) (op : ℕ) (start now : Option (List ℕ)) (line : List ℕ) (old new : Option (List ℕ))
+    (status : Status) : Type 0 where
+  pub texts : List (List ℕ)
+  pub told : AreLinesTold index op texts old new Done status
+  pub cut : IsTextCut start now texts line
+  pub whole : HasNo 10 line
+
+cut_begun : (start : Option (List ℕ)) → IsTextCut start start [] []
+cut_begun None = tt
+cut_begun (Some text) = refl
+
+pub text_begun : (index : Indexed) (op : ℕ) (start : Option (List ℕ)) (line : List ℕ) (old : Option (List ℕ)) (status : Status) → line ≡ []
+    → status ≡ Done
+    → IsTextTold index op start start line old old status
+text_begun index op start line old status empty done =
+    subst (λ (z : List ℕ). IsTextTold index op start start z old old status) (sym empty)
+    (subst (λ (z : Status). IsTextTold index op start start [] old old z) (sym done)
+    (record { texts = []; told = told_none index op old Done; cut = cut_begun start; whole = λ j d few. absurd (omega arith) }))
+
+cut_more : (start mid now : Option (List ℕ)) (texts more : List (List ℕ)) (line block left : List ℕ) → IsTextCut start mid texts line
+    → Pulls mid now block
+    → ((rest : List ℕ) → lines (line ++ (block ++ rest)) ≡ more ++ lines (left ++ rest)) → IsTextCut start now (texts ++ more) left
+cut_more None mid now texts more line block left c p cut = tt
+cut_more (Some text) None now texts more line block left c p cut = absurd c
+cut_more (Some text) (Some x) None texts more line block left c p cut = absurd p
+cut_more (Some text) (Some x) (Some y) texts more line block left c p cut =
+    c ∙ ap (λ (z : List ℕ). texts ++ lines (line ++ z)) p ∙ ap (λ (z : List (List ℕ)). texts ++ z) (cut y)
+    ∙ sym (append_assoc texts more (lines (left ++ y)))
+
+-- with one block more
+pub text_more : (index : Indexed) (op : ℕ) (start mid now : Option (List ℕ)) (line block left : List ℕ) (old then new : Option (List ℕ))
+    (s t : Status)
+    → IsTextTold index op start mid line old then s → Pulls mid now block → IsBlockTold index op line block left [] then new s t
+    → IsTextTold index op start now left old new t
+text_more index op start mid now line block left old then new s t before pulls more = record {
+  texts = before.texts ++ more.texts;
+  told = told_append index op before.texts more.texts old then new Done s t before.told more.told;
+  cut = cut_more start mid now before.texts more.texts line block left before.cut pulls more.cut;
+  whole = more.whole;
+}
+
+cut_pulled : (start mid now : Option (List ℕ)) (texts : List (List ℕ)) (line : List ℕ) → IsTextCut start mid texts line → Pulls mid now []
+    → IsTextCut start now texts line
+cut_pulled None mid now texts line c p = tt
+cut_pulled (Some text) None now texts line c p = absurd c
+cut_pulled (Some text) (Some x) None texts line c p = absurd p
+cut_pulled (Some text) (Some x) (Some y) texts line c p = c ∙ ap (λ (z : List ℕ). texts ++ lines (line ++ z)) p
+
+-- nothing more came
+pub text_pulled : (index : Indexed) (op : ℕ) (start mid now : Option (List ℕ)) (line : List ℕ) (old new : Option (List ℕ)) (status : Status)
+    → IsTextTold index op start mid line old new status → Pulls mid now [] → IsTextTold index op start now line old new status
+text_pulled index op start mid now line old new status before pulls = record {
+  texts = before.texts;
+  told = before.told;
+  cut = cut_pulled start mid now before.texts line before.cut pulls;
+  whole = before.whole;
+}
+
+-- The text is at its end: its lines are those told, and the line at hand, if it has a byte.
+cut_ended : (start now : Option (List ℕ)) (texts : List (List ℕ)) (line : List ℕ) (ended : Bool) → IsTextCut start now texts line
+    → IsAtEnd now ended → ended ≡ false
+    → IfSome start (λ text. lines text ≡ texts ++ lines line)
+cut_ended None now texts line ended c e short = tt
+cut_ended (Some text) None texts line ended c e short = absurd c
+cut_ended (Some text) (Some rest) texts line ended c e short =
+    ⊎_elim (λ nothing. c ∙ ap (λ (z : List ℕ). texts ++ lines z) (ap (λ (z : List ℕ). line ++ z) nothing ∙ append-nil line))
+    (λ (long : IsTrue ended). absurd (let not_long = short in grind (arith, long, not_long))) e
+
+told_lines : (index : Indexed) (op : ℕ) (start : Option (List ℕ)) (texts all : List (List ℕ)) (old new : Option (List ℕ)) (status : Status)
+    → IfSome start (λ text. lines text ≡ all)
+    → texts ≡ all → AreLinesTold index op texts old new Done status → AreAddressesTold index op start old new status
+told_lines index op None texts all old new status e same told = tt
+told_lines index op (Some text) texts all old new status e same told =
+    subst (λ (z : List (List ℕ)). AreLinesTold index op z old new Done status) (same ∙ sym e) told
+
+pub text_ended : (index : Indexed) (op : ℕ) (start now : Option (List ℕ)) (line : List ℕ) (old new : Option (List ℕ)) (status : Status)
+    (ended : Bool)
+    → IsTextTold index op start now line old new status → IsAtEnd now ended → ended ≡ false → line ≡ []
+    → AreAddressesTold index op start old new status
+text_ended index op start now line old new status ended before at short empty =
+    told_lines index op start before.texts (before.texts ++ lines line) old new status
+    (cut_ended start now before.texts line ended before.cut at short)
+    (sym (append-nil before.texts) ∙ ap (λ (z : List ℕ). before.texts ++ lines z) (sym empty)) before.told
+
+pub text_ended_within : (index : Indexed) (op : ℕ) (start now : Option (List ℕ)) (line : List ℕ) (old then new : Option (List ℕ))
+    (s t : Status) (ended : Bool)
+    → IsTextTold index op start now line old then s → IsAtEnd now ended → ended ≡ false → 0 < length line
+    → AreLinesTold index op (line ∷ []) then new s t → AreAddressesTold index op start old new t
+text_ended_within index op start now [] old then new s t ended before at short some told = absurd (omega arith)
+text_ended_within index op start now (b ∷ line) old then new s t ended before at short some told =
+    told_lines index op start (before.texts ++ (b ∷ line) ∷ []) (before.texts ++ lines (b ∷ line)) old new t
+    (cut_ended start now before.texts (b ∷ line) ended before.cut at short)
+    (ap (λ (z : List (List ℕ)). before.texts ++ z) (sym (line_last b line before.whole)))
+    (told_append index op before.texts ((b ∷ line) ∷ []) old then new Done s t before.told told)
+
+-- ---- a writer that was flushed
+
+appends_kept : (a b c : Option (List ℕ)) (text : List ℕ) → Appends a b text → Keeps b c → Appends a c text
+appends_kept None b c text gained kept = tt
+appends_kept (Some x) None c text gained kept = absurd gained
+appends_kept (Some x) (Some y) None text gained kept = absurd kept
+appends_kept (Some x) (Some y) (Some z) text gained kept = kept ∙ gained
+
+pub text_kept : (index : Indexed) (op : ℕ) (start now : Option (List ℕ)) (line : List ℕ) (old then new : Option (List ℕ)) (status : Status)
+    → IsTextTold index op start now line old then status → Keeps then new → IsTextTold index op start now line old new status
+text_kept index op start now line old then new status before kept = record {
+  texts = before.texts;
+  told = record {
+    told = before.told.told;
+    lines_are = before.told.lines_are;
+    so = before.told.so;
+    printed = λ dead skip units is. appends_kept old then new (flat_map (told_line index dead skip units) before.told.told)
+        (before.told.printed dead skip units is) kept;
+    status_is = before.told.status_is;
+  };
+  cut = before.cut;
+  whole = before.whole;
+}
+
+-- ---- numbers and fronts, as the code tells them
+
+pub not_empty : (n : ℕ) (line : List ℕ) → n ≡ length line → (n == 0) ≡ false → 0 < length line
+not_empty n line same other = let some = is_some n other in omega (arith, same, some)
+  where
+    is_some : (m : ℕ) → (m == 0) ≡ false → 0 < m
+    is_some m e = grind (arith, nat_tests)
+
+pub is_empty : (n : ℕ) (line : List ℕ) → n ≡ length line → (n == 0) ≡ true → line ≡ []
+is_empty n [] same zero_is = refl
+is_empty n (b ∷ line) same zero_is = absurd (omega (arith, eqb-true n 0 zero_is, same))
+
+pub front_of : (n : ℕ) (front rest : List ℕ) → n ≡ length front → take n (front ++ rest) ≡ front
+front_of n front rest same = grind (arith, common_steps)
+
+pub pulls_front : (old new : Option (List ℕ)) (k : ℕ) (room block : List ℕ) → block ≡ room → Pulls old new (take k room)
+    → Pulls old new (take k block)
+pulls_front old new k room block same pulls = subst (λ (z : List ℕ). Pulls old new (take k z)) (sym same) pulls

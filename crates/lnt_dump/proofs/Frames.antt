@@ -1,0 +1,132 @@
+-- The frames of a section, one after another, and their lines.
+use Rattle.std.proofs.Common.{◌≡◌, ℕ, ◌+◌, List, [], ◌∷◌, ◌++◌, length, Option, Some, None, IfSome, Result, Ok, Err, IfOk, OnOk, refl, sym}
+use Rattle.std.proofs.Common.{ap, subst, ◌∙◌, append-nil}
+use Rattle.std.proofs.KnownBytes.{Appends-nil, Appends-trans}
+use Rattle.std.proofs.lemmas.List.Concat.{flat_map-append}
+use Rattle.std.specs.List.{flat_map}
+use Rattle.std.specs.Io.KnownBytes.{Appends}
+use Rattle.lnt_wire.specs.At.{At}
+use Rattle.lnt_wire.specs.FrameBytes.{IsFrame, IsPlacedFrame, frame_bytes}
+use Rattle.lnt_wire.specs.Frames.{AreFrames, EndsBy}
+use Rattle.lnt_wire.specs.Pulling.{Pulls}
+use Rattle.lnt_wire.specs.declared.fault.Fault.{Fault}
+use Rattle.lnt_wire.specs.declared.format.Order.{Order}
+use Rattle.lnt_wire.specs.declared.frame.Frame.{Frame}
+use Rattle.lnt_wire.proofs.FrameListLemmas.{FramesSoFar, no_frames, one_more_frame}
+use Rattle.lnt_wire.proofs.PullLaws.{pulls_none, pulls_append}
+use Rattle.lnt_stream.specs.Units.{IsNextUnit, SectionEndsBy, UnitBytes}
+use Rattle.lnt_sources.specs.declared.halt.Halt.{Halt}
+use Rattle.lnt_sources.specs.declared.status.Status.{Status}
+use Rattle.lnt_sources.specs.declared.status.Status.TheVariants.{No}
+use Rattle.lnt_dump.specs.Units.{AreUnitsTold, end_line, end_status, unit_line}
+
+-- The source gave the bytes of these frames, the next byte stands at the offset, and the frames' lines were printed.
+pub record FramesTold (order : Order) (start now old new : Option (List ℕ)) (of_reader : Order) (offset : ℕ) : Type 0 where
+  pub frames : List Frame
+  pub front : List ℕ
+  pub so_far : FramesSoFar order front frames (record { place = offset; rest = []; order = of_reader })
+  pub pulls : Pulls start now front
+  pub printed : Appends old new (flat_map unit_line frames)
+
+pub frames_none : (order : Order) (start now old : Option (List ℕ)) (of_reader : Order) (offset : ℕ) → of_reader ≡ order → offset ≡ 0
+    → now ≡ start
+    → FramesTold order start now old old of_reader offset
+frames_none order start now old of_reader offset ordered at same = record {
+  frames = [];
+  front = [];
+  so_far = no_frames order [] (record { place = offset; rest = []; order = of_reader }) refl at ordered;
+  pulls = subst (λ (o : Option (List ℕ)). Pulls start o []) (sym same) (pulls_none start);
+  printed = Appends-nil old;
+}
+
+-- the frames of the bytes with one frame more
+frames_push : (order : Order) (frames : List Frame) (frame : Frame) (front more : List ℕ) (of_reader : Order) (offset after : ℕ)
+    → FramesSoFar order front frames (record { place = offset; rest = []; order = of_reader })
+    → frame.offset ≡ offset → IsFrame of_reader frame more → after ≡ offset + length more
+    → FramesSoFar order (front ++ more) (frames ++ frame ∷ []) (record { place = after; rest = []; order = of_reader })
+frames_push order frames frame front more of_reader offset after so_far here is at =
+    let old : At = record { place = offset; rest = more; order = of_reader } in
+    let new : At = record { place = after; rest = []; order = of_reader } in
+    let whole : front ≡ so_far.front = so_far.whole ∙ append-nil so_far.front in
+    one_more_frame order (front ++ more) frames frame old new
+    (record {
+      front = so_far.front;
+      whole = ap (λ (z : List ℕ). z ++ more) whole;
+      joined = so_far.joined;
+      place = so_far.place;
+      order_is = so_far.order_is;
+    })
+    (record { spelling = more; spelled = is; whole = sym (append-nil more); place = at; order = refl }) here
+
+line_more : (frames : List Frame) (frame : Frame) (old now new : Option (List ℕ)) → Appends old now (flat_map unit_line frames)
+    → Appends now new (unit_line frame)
+    → Appends old new (flat_map unit_line (frames ++ frame ∷ []))
+line_more frames frame old now new before here =
+    subst (Appends old new) (sym (flat_map-append unit_line frames (frame ∷ [])
+    ∙ ap (λ (z : List ℕ). flat_map unit_line frames ++ z) (append-nil (unit_line frame))))
+    (Appends-trans old now new (flat_map unit_line frames) (unit_line frame) before here)
+
+framed : (order : Order) (unit : UnitBytes) (frame : Frame) → unit.order ≡ order
+    → frame_bytes unit.order frame.format frame.body.now ≡ unit.bytes → IsPlacedFrame unit.order frame → IsFrame order frame unit.bytes
+framed order unit frame ordered bytes placed =
+    subst (λ (o : Order). IsFrame o frame unit.bytes) ordered (subst (λ (z : List ℕ). IsFrame unit.order frame z) bytes placed.is)
+
+-- the frame of a unit that the source gave
+pub frames_more : (order : Order) (start mid now old then new : Option (List ℕ)) (of_reader next_order : Order) (offset after : ℕ)
+    (unit : UnitBytes) (frame : Frame)
+    → next_order ≡ of_reader → FramesTold order start mid old then of_reader offset → IsNextUnit offset of_reader mid now unit
+    → after ≡ offset + length unit.bytes
+    → frame.offset ≡ unit.offset → frame_bytes unit.order frame.format frame.body.now ≡ unit.bytes → IsPlacedFrame unit.order frame
+    → Appends then new (unit_line frame)
+    → FramesTold order start now old new next_order after
+frames_more order start mid now old then new of_reader next_order offset after unit frame ordered told next at here bytes placed printed =
+    subst (λ (o : Order). FramesTold order start now old new o after) (sym ordered) (record {
+      frames = told.frames ++ frame ∷ [];
+      front = told.front ++ unit.bytes;
+      so_far =
+          frames_push order told.frames frame told.front unit.bytes of_reader offset after told.so_far (here ∙ next.offset_is)
+          (framed of_reader unit frame next.order_is bytes placed) at;
+      pulls = pulls_append start mid now told.front unit.bytes told.pulls next.pulls;
+      printed = line_more told.frames frame old then new told.printed printed;
+    })
+
+frames_end : (order : Order) (start now : Option (List ℕ)) (frames : List Frame) (front : List ℕ) (of_reader : Order) (offset : ℕ)
+    (fault : Option Fault)
+    → FramesSoFar order front frames (record { place = offset; rest = []; order = of_reader }) → Pulls start now front
+    → SectionEndsBy offset of_reader now fault
+    → IfSome start (λ bytes. AreFrames order bytes frames fault)
+frames_end order None now frames front of_reader offset fault so_far pulls ends = tt
+frames_end order (Some bytes) None frames front of_reader offset fault so_far pulls ends = absurd pulls
+frames_end order (Some bytes) (Some rest) frames front of_reader offset fault so_far pulls ends = record {
+  front = so_far.front;
+  rest = rest;
+  whole = pulls ∙ ap (λ (z : List ℕ). z ++ rest) (so_far.whole ∙ append-nil so_far.front);
+  joined = so_far.joined;
+  ends =
+      subst (λ (o : Order). EndsBy (record { place = length so_far.front; rest = rest; order = o }) fault) so_far.order_is
+      (subst (λ (n : ℕ). EndsBy (record { place = n; rest = rest; order = of_reader }) fault) so_far.place ends);
+}
+
+-- the section ends
+pub frames_all : (order : Order) (start now old then new : Option (List ℕ)) (of_reader : Order) (offset : ℕ) (fault : Option Fault)
+    (status : Status)
+    → FramesTold order start now old then of_reader offset → SectionEndsBy offset of_reader now fault → Appends then new (end_line fault)
+    → status ≡ end_status fault
+    → AreUnitsTold order start old new status
+frames_all order start now old then new of_reader offset fault status told ends printed ended = record {
+  frames = told.frames;
+  fault = fault;
+  so = frames_end order start now told.frames told.front of_reader offset fault told.so_far told.pulls ends;
+  printed = Appends-trans old then new (flat_map unit_line told.frames) (end_line fault) told.printed printed;
+  status_is = ended;
+}
+
+-- by the line of a fault, if it could be printed
+pub frames_faulty : (order : Order) (start now old then new : Option (List ℕ)) (of_reader : Order) (offset : ℕ) (fault : Fault)
+    (printed : Result Status Halt)
+    → FramesTold order start now old then of_reader offset → SectionEndsBy offset of_reader now (Some fault)
+    → IfOk printed (λ status. status ≡ No)
+    → OnOk printed (Appends then new (end_line (Some fault))) → IfOk printed (λ status. AreUnitsTold order start old new status)
+frames_faulty order start now old then new of_reader offset fault (Ok status) told ends refused line =
+    frames_all order start now old then new of_reader offset (Some fault) status told ends line refused
+frames_faulty order start now old then new of_reader offset fault (Err halt) told ends refused line = line

@@ -1,0 +1,37 @@
+-- What `units` prints.
+use Rattle.std.specs.Prelude.{◌≡◌, ℕ, List, [], ◌++◌, Option, Some, None, IfSome, codes, decimal}
+use Rattle.std.specs.List.{flat_map}
+use Rattle.std.specs.Io.KnownBytes.{Appends}
+use Rattle.lnt_wire.specs.declared.fault.Fault.{Fault}
+use Rattle.lnt_wire.specs.declared.format.Order.{Order}
+use Rattle.lnt_wire.specs.declared.frame.Frame.{Frame}
+use Rattle.lnt_wire.specs.FaultTexts.{hexadecimal}
+use Rattle.lnt_wire.specs.Frames.{AreFrames}
+use Rattle.lnt_sources.specs.declared.status.Status.{Status}
+use Rattle.lnt_sources.specs.declared.status.Status.TheVariants.{Done, No}
+use Rattle.lnt_text.specs.Texts.{malformed_text}
+use Rattle.lnt_dump.specs.Widths.{width}
+
+-- the line of a unit: its offset, the bits of an offset in its format, and its length
+abbrev pub unit_line : Frame → List ℕ
+unit_line frame =
+    hexadecimal frame.offset ++ (codes " " ++ (decimal (width frame.format) ++ (codes " " ++ (decimal frame.length ++ codes "\n"))))
+
+-- the line of the bytes after the last unit, if no unit begins them
+abbrev pub end_line : Option Fault → List ℕ
+end_line None = []
+end_line (Some fault) = malformed_text fault ++ codes "\n"
+
+-- how the run ends after it
+abbrev pub end_status : Option Fault → Status
+end_status None = Done
+end_status (Some fault) = No
+
+-- A writer that held these bytes (old) has gained the lines of frames, the line of the fault after them, if there is one, and nothing
+-- else. Where the source told what it had to give (section), these are its frames, and its first fault.
+pub record AreUnitsTold (order : Order) (section old new : Option (List ℕ)) (status : Status) : Type 0 where
+  pub frames : List Frame
+  pub fault : Option Fault
+  pub so : IfSome section (λ bytes. AreFrames order bytes frames fault)
+  pub printed : Appends old new (flat_map unit_line frames ++ end_line fault)
+  pub status_is : status ≡ end_status fault
