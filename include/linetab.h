@@ -113,9 +113,9 @@ bool linetab_lookup(const struct linetab_span *spans, size_t len, uint64_t addre
  * memory and calls nothing. */
 void linetab_index(const struct linetab_span *spans, size_t len, uint32_t *index, size_t index_len);
 
-/* The same as linetab_lookup gives, whatever index holds, and much sooner where it is the index of these spans: of some
- * thousands of spans and more, where their addresses lie close together. Where it isn't, as that of other spans, it takes at
- * most about twice the time of linetab_lookup. It may run in a signal handler, and always returns, as that does. */
+/* The same as linetab_lookup gives of spans in order, whatever index holds, and sooner where it is the index of these spans
+ * and their addresses lie close together. Where it isn't, as that of other spans, it takes at most about twice the time of
+ * linetab_lookup. It may run in a signal handler, and always returns, as that does. */
 bool linetab_lookup_indexed(const struct linetab_span *spans, size_t len, const uint32_t *index, size_t index_len,
                             uint64_t address, uint64_t op, struct linetab_answer *answer);
 

@@ -1,5 +1,6 @@
 -- How many spans, from the first on, begin below a bucket.
-use Rattle.std.proofs.Common.{◌≡◌, ◌∙◌, ℕ, ◌+◌, ◌-◌, ◌^◌, ◌<◌, ◌≤◌, Bool, true, false, List, length, get_or, set, min, sym, subst, arith, ⊎_elim}
+use Rattle.std.proofs.Common.{◌≡◌, ◌∙◌, ℕ, ◌+◌, ◌-◌, ◌^◌, ◌<◌, ◌≤◌, Bool, true, false, List, length, get_or, set, min}
+use Rattle.std.proofs.Common.{sym, subst, arith, ⊎_elim}
 use Rattle.std.specs.List.{prefix_len}
 use Rattle.std.proofs.lemmas.Bool.{cases_eq, cases_lt, false≢true, lt-ltb, ltb-true}
 use Rattle.std.proofs.lemmas.List.{get_or-set_same, get_or-set_other, length-set}
@@ -10,7 +11,8 @@ use Rattle.lnt_ffi.specs.Index.{begins_below, bucket, first_low, spans_below}
 
 -- ---- those in front that pass a test
 
-pub one_more_passes : {X : Type 0} (p : X → Bool) (xs : List X) (k : ℕ) (d : X) → k ≤ prefix_len p xs → k < length xs → p (get_or xs k d) ≡ true
+pub one_more_passes : {X : Type 0} (p : X → Bool) (xs : List X) (k : ℕ) (d : X) → k ≤ prefix_len p xs → k < length xs
+    → p (get_or xs k d) ≡ true
     → k + 1 ≤ prefix_len p xs
 one_more_passes p xs k d upto l passes =
     ⊎_elim
@@ -21,7 +23,8 @@ one_more_passes p xs k d upto l passes =
     absurd (false≢true (sym (subst (λ (n : ℕ). p (get_or xs n d) ≡ false) e stop) ∙ passes)))
     (cases_lt k (prefix_len p xs))
 
-pub stopped_there : {X : Type 0} (p : X → Bool) (xs : List X) (k : ℕ) (d : X) → k ≤ prefix_len p xs → p (get_or xs k d) ≡ false → k ≡ prefix_len p xs
+pub stopped_there : {X : Type 0} (p : X → Bool) (xs : List X) (k : ℕ) (d : X) → k ≤ prefix_len p xs → p (get_or xs k d) ≡ false
+    → k ≡ prefix_len p xs
 stopped_there p xs k d upto fails =
     ⊎_elim
     (λ (lt : k < prefix_len p xs). absurd (false≢true (sym fails ∙ prefix_len_passes p xs k d lt)))
@@ -39,7 +42,8 @@ more_pass p q xs d easier =
     let most = prefix_len-le-length p xs in
     absurd
     (false≢true
-    (sym (prefix_len_stops q xs d (omega (arith, lt, most))) ∙ easier (get_or xs (prefix_len q xs) d) (prefix_len_passes p xs (prefix_len q xs) d lt))))
+    (sym (prefix_len_stops q xs d (omega (arith, lt, most)))
+    ∙ easier (get_or xs (prefix_len q xs) d) (prefix_len_passes p xs (prefix_len q xs) d lt))))
     (λ (le : prefix_len p xs ≤ prefix_len q xs). le)
     (cases_lt (prefix_len q xs) (prefix_len p xs))
 
@@ -53,7 +57,8 @@ one_more_below spans first shift number place d is upto l passes =
     (subst (λ (low : ℕ). begins_below low shift number (get_or spans place d) ≡ true) is passes)
 
 pub none_below_here : (spans : List FlatSpan) (first shift number place : ℕ) (d : FlatSpan) → first ≡ first_low spans
-    → place ≤ spans_below spans shift number → begins_below first shift number (get_or spans place d) ≡ false → place ≡ spans_below spans shift number
+    → place ≤ spans_below spans shift number → begins_below first shift number (get_or spans place d) ≡ false
+    → place ≡ spans_below spans shift number
 none_below_here spans first shift number place d is upto fails =
     stopped_there (begins_below (first_low spans) shift number) spans place d upto
     (subst (λ (low : ℕ). begins_below low shift number (get_or spans place d) ≡ false) is fails)
@@ -80,7 +85,8 @@ pub one_entry : (spans : List FlatSpan) (index : List ℕ) (shift number entry :
     → get_or (set index (number + 1) entry) (k + 1) d ≡ min (spans_below spans shift k) (2 ^ 32 - 1)
 one_entry spans index shift number entry l done is k d lt lk =
     ⊎_elim
-    (λ (e : k ≡ number). subst (λ (n : ℕ). get_or (set index (number + 1) entry) (n + 1) d ≡ min (spans_below spans shift n) (2 ^ 32 - 1)) (sym e)
+    (λ (e : k ≡ number). subst (λ (n : ℕ). get_or (set index (number + 1) entry) (n + 1) d ≡ min (spans_below spans shift n) (2 ^ 32 - 1))
+    (sym e)
     (get_or-set_same index (number + 1) entry d l ∙ is))
     (λ (ne : k ≡ number → ⊥). get_or-set_other index (number + 1) (k + 1) entry d (λ e. ne (omega (arith, e)))
     ∙ done k d (omega (arith, lt, ne)) (let same = length-set index (number + 1) entry in omega (arith, same, lk)))

@@ -1,3 +1,4 @@
+mod BracketLemmas
 mod IndexLemmas
 mod LookLemmas
 mod PutLemmas

@@ -35,4 +35,5 @@ pub record IsIndex (spans : List FlatSpan) (index : List ℕ) : Type 0 where
   pub has_room : shift < 63 → bucket (first_low spans) shift (last_low spans) + 2 < length index
   pub least : (n : ℕ) → n < shift → length index ≤ bucket (first_low spans) n (last_low spans) + 2
   pub shift_is : (d : ℕ) → 0 < length index → get_or index 0 d ≡ shift
-  pub entries : (number d : ℕ) → number + 1 < length index → get_or index (number + 1) d ≡ min (spans_below spans shift number) (2 ^ 32 - 1)
+  pub entries : (number d : ℕ) → number + 1 < length index
+      → get_or index (number + 1) d ≡ min (spans_below spans shift number) (2 ^ 32 - 1)

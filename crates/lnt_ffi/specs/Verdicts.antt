@@ -1,5 +1,5 @@
 -- The verdict that C sees, of each thing that may be found.
-use Rattle.std.specs.Prelude.{◌≡◌, ℕ, false, is_some, None, Option, Some}
+use Rattle.std.specs.Prelude.{ℕ, false, is_some}
 use Rattle.lnt_wire.specs.declared.fault.Fault.{Fault}
 use Rattle.lnt_wire.specs.declared.fault.Reason.{Reason}
 use Rattle.lnt_wire.specs.declared.fault.Reason.TheVariants as reason
@@ -11,7 +11,6 @@ use Rattle.lnt_lines.specs.declared.no.No.{No}
 use Rattle.lnt_lines.specs.declared.no.No.TheVariants as no
 use Rattle.lnt_wire.specs.declared.stop.Stop.{Stop}
 use Rattle.lnt_wire.specs.declared.stop.Stop.TheVariants as stop
-use Rattle.lnt_table.specs.declared.verdict.TableNo.{TableNo}
 use Rattle.lnt_table.specs.declared.verdict.TableNo.TheVariants as table
 use Rattle.lnt_table.specs.declared.verdict.Verdict.{Verdict}
 use Rattle.lnt_table.specs.declared.verdict.Verdict.TheVariants.{Yes, No as IsNo}

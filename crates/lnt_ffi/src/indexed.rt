@@ -1,9 +1,10 @@
 //! Answers looked up by an index over the spans.
-ghost use Rattle.std.specs.Prelude.{◌≡◌, ◌≤◌, length, map, None, Some, false, true};
+ghost use Rattle.std.specs.Prelude.{◌≡◌, ◌<◌, ◌≤◌, ◌^◌, ℕ, length, map, None, Some, false, true};
 ghost use Rattle.std.specs.Bool.{MatchBool};
 ghost use Rattle.lnt_spans.specs.Laws.Bracket.{IsBracket};
 ghost use Rattle.lnt_spans.specs.Spans.{AreInOrder, span_answer};
 ghost use Rattle.lnt_ffi.specs.Flat.{answer_of, span_of};
+ghost use Rattle.lnt_ffi.specs.Index.{IsIndex};
 
 use crate::flat::{FlatAnswer, FlatSpan};
 use crate::looking::linetab_lookup;
@@ -39,15 +40,19 @@ pub extern "C" fn linetab_lookup_indexed(
     if is_between(spans, position, place) {
         return false;
     }
-    // The index is none of these spans.
+    // The index is that of other spans.
     linetab_lookup(spans, address, op, answer)
 }
 
-// From which span on, and up to which, an index says that the one lies which holds the address, if any does.
+// From which span on, and up to which, an index says that the one lies which holds the address, if any does. Of the index of
+// these spans that is so, but where they span half of all addresses, and it has at most three entries.
 #[inline(always)]
 fn bracket_of(spans: &[FlatSpan], index: &[u32], address: u64) -> (usize, usize)
     ensures upto { result.0 ≤ result.1 }
     ensures within { result.1 ≤ length spans.now }
+    ensures index { (made : IsIndex spans.now index.now) → made.shift < 63 → AreInOrder (map span_of spans.now)
+        → length spans.now < 2 ^ 32 → (op : ℕ)
+        → IsBracket (map span_of spans.now) (record { address = address; op = op }) result.0 result.1 }
 {
     let count = spans.len();
     if count == 0 || index.len() < 3 {

@@ -8,4 +8,5 @@ returns-then-is_below-clause-looked_up c = λ o.
     (rw c.low_end.ensures at c.if-not-is_below.ensures, rw c.high_end.ensures at c.if-is_below.ensures)
 
 pub returns-then-is_between-clause-looked_up : goal.returns-then-is_between-clause-looked_up
-returns-then-is_between-clause-looked_up c = λ o. flat_nowhere c.args.spans.now _ _ _ (c.is_between.ensures c.if-is_between.true o) (omega arith)
+returns-then-is_between-clause-looked_up c = λ o.
+    flat_nowhere c.args.spans.now _ _ _ (c.is_between.ensures c.if-is_between.true o) (omega arith)

@@ -8,7 +8,8 @@ invariant-loop-number l = record {
   some : 0 < length l.index;
   upto : l.place ≤ spans_below l.spans l.shift l.number;
   shift_is : (d : ℕ) → get_or l.index 0 d ≡ l.shift;
-  done : (number d : ℕ) → number < l.number → number + 1 < length l.index → get_or l.index (number + 1) d ≡ min (spans_below l.spans l.shift number) (2 ^ 32 - 1);
+  done : (number d : ℕ) → number < l.number → number + 1 < length l.index
+      → get_or l.index (number + 1) d ≡ min (spans_below l.spans l.shift number) (2 ^ 32 - 1);
 }
 
 abbrev pub decreases-loop-number : goal.decreases-loop-number

@@ -1,5 +1,5 @@
-use Rattle.std.proofs.Common.{◌∙◌, subst, sym, ℕ}
-use Rattle.lnt_ffi.proofs.PutLemmas.{all_put, HasPut, none_put, one_put}
+use Rattle.std.proofs.Common.{◌∙◌}
+use Rattle.lnt_ffi.proofs.PutLemmas.{one_put}
 use Rattle.lnt_ffi.proofs.judging.put_spans.Goals as goal
 
 pub loop-span-preserved : goal.loop-span-preserved
