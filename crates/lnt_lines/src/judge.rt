@@ -58,8 +58,8 @@ fn judge_run(
     collected: &mut Collected,
 ) -> Result<Vec<usize>, Refusal>
     requires { unit ≡ view.now.unit.offset }
-    ensures sound { IfOk result (λ places. IsJudgedSound ends.now.line ends.now.general dead view.now.unit collected.old collected.new
-        (record { header = view.now.header; program = view.now.program; places = places.items })) }
+    ensures sound { IfOk result (λ places. IsJudgedSound ends.now.line ends.now.general dead view.now.unit
+        collected.old collected.new (record { header = view.now.header; program = view.now.program; places = places.items })) }
     ensures err { IfErr result (IsUnitRefusal ends.now.line ends.now.general dead view.now.unit) }
 {
     let mut places = Vec::new(alloc);

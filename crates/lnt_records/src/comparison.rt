@@ -98,11 +98,14 @@ fn compare_rest<S: SpanSource + Drop>(
     row: &mut ByteRecord,
     mut comparison: Comparison<S>,
 ) -> Result<Compared, TableStop>
-    requires read { (text : List ℕ) × HasRead reader.old text (column_names comparison.version ∷ []) × (comparison.count + length text < 2 ^ 64 + 1) }
-    requires judged { (list : List Span) × (passed : List Fields) × Judges S.to_come comparison list (column_names comparison.version ∷ passed) }
+    requires read { (text : List ℕ) × HasRead reader.old text (column_names comparison.version ∷ [])
+        × (comparison.count + length text < 2 ^ 64 + 1) }
+    requires judged { (list : List Span) × (passed : List Fields)
+        × Judges S.to_come comparison list (column_names comparison.version ∷ passed) }
     ensures { IfOk result (λ compared. (text : List ℕ) (list section : List Span) (passed : List Fields) (bytes : List ℕ)
-        → HasRead reader.old text (column_names comparison.version ∷ []) → Judges S.to_come comparison list (column_names comparison.version ∷ passed)
-        → IsCut comparison.version text bytes passed → ((p : Position) → version_answer comparison.version list p ≡ version_answer comparison.version section p)
+        → HasRead reader.old text (column_names comparison.version ∷ [])
+        → Judges S.to_come comparison list (column_names comparison.version ∷ passed) → IsCut comparison.version text bytes passed
+        → ((p : Position) → version_answer comparison.version list p ≡ version_answer comparison.version section p)
         → IsComparison bytes section compared) }
 {
     while read_next(reader, row)? {

@@ -56,10 +56,13 @@ fn gather_rest<S: SpanSource + Drop>(
     row: &mut ByteRecord,
     comparison: &mut Comparison<S>,
 ) -> Result<Gathered, TableStop>
-    requires read { (text : List ℕ) × HasRead reader.old text (column_names comparison.old.version ∷ []) × (comparison.old.count + length text < 2 ^ 64 + 1) }
-    requires judged { (list : List Span) × (passed : List Fields) × Judges S.to_come comparison.old list (column_names comparison.old.version ∷ passed) }
+    requires read { (text : List ℕ) × HasRead reader.old text (column_names comparison.old.version ∷ [])
+        × (comparison.old.count + length text < 2 ^ 64 + 1) }
+    requires judged { (list : List Span) × (passed : List Fields)
+        × Judges S.to_come comparison.old list (column_names comparison.old.version ∷ passed) }
     ensures { IfOk result (λ gathered. (text : List ℕ) (list : List Span) (passed : List Fields) (bytes : List ℕ)
-        → HasRead reader.old text (column_names comparison.old.version ∷ []) → (j : Judges S.to_come comparison.old list (column_names comparison.old.version ∷ passed))
+        → HasRead reader.old text (column_names comparison.old.version ∷ [])
+        → (j : Judges S.to_come comparison.old list (column_names comparison.old.version ∷ passed))
         → IsCut comparison.old.version text bytes passed → IsGathered bytes comparison.old.version j.table gathered) }
 {
     let mut spans = Vec::new(alloc);

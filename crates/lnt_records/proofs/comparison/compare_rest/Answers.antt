@@ -1,11 +1,13 @@
 use Rattle.std.proofs.Common.{◌∷◌, ◌++◌, refl}
 use Rattle.csv.specs.Records.{fields_of}
 use Rattle.lnt_records.specs.Table.{column_names}
-use Rattle.lnt_records.proofs.ComparisonLemmas.{AnswersSo, all_behind, compared_few, compared_more, compared_none, difference_told, fault_behind, same_told}
+use Rattle.lnt_records.proofs.ComparisonLemmas.{AnswersSo, all_behind, compared_few, compared_more, compared_none, difference_told}
+use Rattle.lnt_records.proofs.ComparisonLemmas.{fault_behind, same_told}
 use Rattle.lnt_records.proofs.comparison.compare_rest.Goals as goal
 
 pub loop-comparison-init : goal.loop-comparison-init
-loop-comparison-init g c = λ text read. compared_none g.S.SpanSource.to_come c.args.reader.now text c.args.comparison.version c.args.comparison read refl
+loop-comparison-init g c =
+    λ text read. compared_none g.S.SpanSource.to_come c.args.reader.now text c.args.comparison.version c.args.comparison read refl
 
 pub read_next-requires : goal.read_next-requires
 read_next-requires g c =
@@ -20,7 +22,8 @@ take_record-requires g c =
     let h = c.loop-comparison.invariant text c.requires.read.1 in
     let read = rw c.if-branch.true at c.in_ok-read_next.ensures.read text (column_names version ∷ h.more) h.read in
     let known = c.requires.judged in
-    let few = compared_few g.S.SpanSource.to_come c.loop-comparison.reader c.read_next.new.reader text version _ c.loop-comparison.comparison (fields_of c.read_next.new.row) known.0 known.1 h read known.2 c.requires.read.2 in
+    let few = compared_few g.S.SpanSource.to_come c.loop-comparison.reader c.read_next.new.reader text version _
+    c.loop-comparison.comparison (fields_of c.read_next.new.row) known.0 known.1 h read known.2 c.requires.read.2 in
     (known.0, column_names version ∷ (known.1 ++ h.more), h.judged known.0 known.1 known.2, few)
 
 pub returns-in-Some : goal.returns-in-Some
@@ -36,7 +39,8 @@ pub loop-comparison-preserved : goal.loop-comparison-preserved
 loop-comparison-preserved g c = λ text first.
     let h = c.loop-comparison.invariant text first in
     let read = rw c.if-branch.true at c.in_ok-read_next.ensures.read text (column_names c.args.comparison.version ∷ h.more) h.read in
-    compared_more g.S.SpanSource.to_come c.loop-comparison.reader c.read_next.new.reader text c.args.comparison.version _ c.loop-comparison.comparison c.take_record.new.self
+    compared_more g.S.SpanSource.to_come c.loop-comparison.reader c.read_next.new.reader text c.args.comparison.version _
+    c.loop-comparison.comparison c.take_record.new.self
     (fields_of c.read_next.new.row) h read c.take_record.ensures.version c.in_default.ensures.judged
 
 pub returns-in-Some-finish : goal.returns-in-Some-finish
@@ -47,7 +51,8 @@ returns-in-Some-finish g c text list section passed bytes first j cut same =
     let all = all_behind text bytes version passed h.more cut rest in
     let now = h.judged list passed j in
     let so : AnswersSo c.loop-comparison.comparison.version list section = rw h.version_is same in
-    difference_told g.S.SpanSource.to_come bytes c.loop-comparison.comparison list section _ c.in-Some-finish.difference now all so (c.in-Some-finish.ensures list now.table now.compares)
+    difference_told g.S.SpanSource.to_come bytes c.loop-comparison.comparison list section _ c.in-Some-finish.difference now all so
+    (c.in-Some-finish.ensures list now.table now.compares)
 
 pub returns-in-None : goal.returns-in-None
 returns-in-None g c text list section passed bytes first j cut same =
@@ -57,4 +62,5 @@ returns-in-None g c text list section passed bytes first j cut same =
     let all = all_behind text bytes version passed h.more cut rest in
     let now = h.judged list passed j in
     let so : AnswersSo c.loop-comparison.comparison.version list section = rw h.version_is same in
-    same_told g.S.SpanSource.to_come bytes c.loop-comparison.comparison list section _ now all so (c.in-None.ensures list now.table now.compares)
+    same_told g.S.SpanSource.to_come bytes c.loop-comparison.comparison list section _ now all so
+    (c.in-None.ensures list now.table now.compares)

@@ -7,7 +7,8 @@ use Rattle.lnt_records.proofs.gather.gather_rest.Goals as goal
 
 pub loop-spans-init : goal.loop-spans-init
 loop-spans-init g c = λ text read.
-    gathered_none g.S.SpanSource.to_come c.args.reader.now text c.args.comparison.now.version c.args.comparison.now c.new-spans.result.items read refl c.new-spans.ensures.items
+    gathered_none g.S.SpanSource.to_come c.args.reader.now text c.args.comparison.now.version c.args.comparison.now c.new-spans.result.items
+    read refl c.new-spans.ensures.items
 
 pub read_next-requires : goal.read_next-requires
 read_next-requires g c =
@@ -22,7 +23,8 @@ take_span-requires g c =
     let h = (c.loop-spans.invariant text c.requires.read.1).compared in
     let read = rw c.if-branch.true at c.in_ok-read_next.ensures.read text (column_names version ∷ h.more) h.read in
     let known = c.requires.judged in
-    let few = compared_few g.S.SpanSource.to_come c.loop-spans.reader c.read_next.new.reader text version _ c.loop-spans.comparison (fields_of c.read_next.new.row) known.0 known.1 h read known.2 c.requires.read.2 in
+    let few = compared_few g.S.SpanSource.to_come c.loop-spans.reader c.read_next.new.reader text version _ c.loop-spans.comparison
+    (fields_of c.read_next.new.row) known.0 known.1 h read known.2 c.requires.read.2 in
     (known.0, column_names version ∷ (known.1 ++ h.more), h.judged known.0 known.1 known.2, few)
 
 pub loop-spans-preserved : goal.loop-spans-preserved
@@ -31,8 +33,10 @@ loop-spans-preserved g c = λ text first.
     let h = c.loop-spans.invariant text first in
     let read = rw c.if-branch.true at c.in_ok-read_next.ensures.read text (column_names version ∷ h.compared.more) h.compared.read in
     rw c.in-Ok-push.ensures.items
-    (gathered_more g.S.SpanSource.to_come c.loop-spans.reader c.read_next.new.reader text version _ c.loop-spans.comparison c.take_span.new.self
-    (fields_of c.read_next.new.row) c.loop-spans.spans.items c.in-Ok.span h read c.take_span.ensures.version c.in-Ok.ensures.taken c.in-Ok.ensures.says)
+    (gathered_more g.S.SpanSource.to_come c.loop-spans.reader c.read_next.new.reader text version _ c.loop-spans.comparison
+    c.take_span.new.self
+    (fields_of c.read_next.new.row) c.loop-spans.spans.items c.in-Ok.span h read c.take_span.ensures.version c.in-Ok.ensures.taken
+    c.in-Ok.ensures.says)
 
 pub returns-in-Err : goal.returns-in-Err
 returns-in-Err g c text list passed bytes first j cut =
@@ -48,4 +52,5 @@ returns g c text list passed bytes first j cut =
     let version = c.args.comparison.now.version in
     let h = c.loop-spans.invariant text first in
     let rest = rw c.if-branch.false at c.in_ok-read_next.ensures.read text (column_names version ∷ h.compared.more) h.compared.read in
-    gathered_all g.S.SpanSource.to_come c.loop-spans.reader text bytes version _ c.loop-spans.comparison c.loop-spans.spans.items list passed h j refl cut rest
+    gathered_all g.S.SpanSource.to_come c.loop-spans.reader text bytes version _ c.loop-spans.comparison c.loop-spans.spans.items list
+    passed h j refl cut rest
