@@ -1,8 +1,8 @@
 //! What the words of the command ask for.
-ghost use Rattle.std.specs.Prelude.{IfOk};
+ghost use Rattle.std.specs.Prelude.{ℕ, List, codes, IfOk};
 ghost use Rattle.clap.specs.Words.{found_of};
 ghost use Rattle.lnt_digits.specs.Digits.{IsAddress};
-ghost use Rattle.lnt_words.specs.Asking.{IsAskedIn, IsAskedOf, IsJudging, IsOrder, IsReading, IsWord};
+ghost use Rattle.lnt_words.specs.Asking.{IsAskedIn, IsAskedOf, IsJudging, IsOrder, IsQuestion, IsReading, IsWord};
 
 use crate::command::command_of;
 use crate::request::{Asked, Judging, Question, Reading, Request};
@@ -76,7 +76,7 @@ fn request_in<'a>(
     name: &str,
     words: &ArgMatches<'a>,
 ) -> Result<Request<'a>, WordsStop>
-    ensures { IfOk result (λ request. IsAskedIn (found_of words.now) request) }
+    ensures { IfOk result (λ request. IsAskedIn name.now (found_of words.now) request) }
 {
     match name {
         "units" => read_in(words, Reading::Units),
@@ -103,8 +103,8 @@ fn request_in<'a>(
 }
 
 fn read_in<'a>(words: &ArgMatches<'a>, reading: Reading) -> Result<Request<'a>, WordsStop>
-    requires { IsReading (found_of words.now) reading }
-    ensures { IfOk result (λ request. IsAskedIn (found_of words.now) request) }
+    ensures { IfOk result (λ request. (name : List ℕ) → IsReading name (found_of words.now) reading
+        → IsAskedIn name (found_of words.now) request) }
 {
     Ok(Request::Read {
         section: word_in(words, "SECTION")?,
@@ -118,7 +118,8 @@ fn judge_in<'a>(
     words: &ArgMatches<'a>,
     question: Question,
 ) -> Result<Request<'a>, WordsStop>
-    ensures { IfOk result (λ request. IsAskedIn (found_of words.now) request) }
+    ensures { IfOk result (λ request. (name : List ℕ) → IsQuestion name (found_of words.now) question
+        → IsAskedIn name (found_of words.now) request) }
 {
     Ok(Request::Judge {
         from: judging_in(alloc, words)?,
@@ -128,7 +129,7 @@ fn judge_in<'a>(
 
 // The addresses are judged before the operation index, and in their order.
 fn lookup_in<'a>(alloc: Global, words: &ArgMatches<'a>) -> Result<Request<'a>, WordsStop>
-    ensures { IfOk result (λ request. IsAskedIn (found_of words.now) request) }
+    ensures { IfOk result (λ request. IsAskedIn (codes "lookup") (found_of words.now) request) }
 {
     let mut positions = Vec::new(alloc);
     if let Some(addresses) = words.get_strs("ADDRESS") {
@@ -154,7 +155,9 @@ fn lookup_in<'a>(alloc: Global, words: &ArgMatches<'a>) -> Result<Request<'a>, W
 }
 
 // Which table is asked for: at most one of the three flags is given.
-fn table_in(words: &ArgMatches<'_>) -> Question {
+fn table_in(words: &ArgMatches<'_>) -> Question
+    ensures { IsQuestion (codes "table") (found_of words.now) result }
+{
     if words.get_flag("paths") {
         return Question::TableByPath { columns: true };
     }
@@ -168,7 +171,7 @@ fn table_in(words: &ArgMatches<'_>) -> Question {
 }
 
 fn convert_in<'a>(alloc: Global, words: &ArgMatches<'a>) -> Result<Request<'a>, WordsStop>
-    ensures { IfOk result (λ request. IsAskedIn (found_of words.now) request) }
+    ensures { IfOk result (λ request. IsAskedIn (codes "convert") (found_of words.now) request) }
 {
     let format = match word_in(words, "format")? {
         "32" => Format::D32,
