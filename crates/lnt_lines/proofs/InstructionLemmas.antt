@@ -17,7 +17,8 @@ use Rattle.lnt_machine.specs.Walking.{Keeps, Kept}
 use Rattle.lnt_spans.specs.declared.span.Span.{Span}
 use Rattle.lnt_spans.specs.Positions.{is_below}
 use Rattle.lnt_sequences.specs.RowSpans.{row_spans, span_between, spans_behind, spans_of}
-use Rattle.lnt_sequences.specs.Sequences.{answer_of, is_copy, is_live, kept_of, kept_sequences, live_in, live_sequences, Placed, placed_in, position_of}
+use Rattle.lnt_sequences.specs.Sequences.{answer_of, is_copy, is_live, kept_of, kept_sequences, live_in, live_sequences, Placed}
+use Rattle.lnt_sequences.specs.Sequences.{placed_in, position_of}
 use Rattle.lnt_lines.specs.Indexed.{Indexed, IsIndexOf}
 use Rattle.lnt_lines.specs.Instructions.{HasOneOperation, IsOfInstructions}
 
@@ -46,7 +47,8 @@ AreFirst rows = AllByRecursion IsFirst rows
 index_zero : (h : HeaderParts) (back : List Op) → h.max_ops ≡ 1 → op_index h back ≡ 0
 index_zero h back one = ap (λ (m : ℕ). advances h back % m) one ∙ mod-one (advances h back)
 
-one_made : (h : HeaderParts) (back : List Op) (op : Op) (later : List Row) → h.max_ops ≡ 1 → AreFirst later → AreFirst (cons_option (row_made h back op) later)
+one_made : (h : HeaderParts) (back : List Op) (op : Op) (later : List Row) → h.max_ops ≡ 1 → AreFirst later
+    → AreFirst (cons_option (row_made h back op) later)
 one_made h back Copy later one rest = (index_zero h (Copy ∷ back) one, rest)
 one_made h back (Special c) later one rest = (index_zero h (Special c ∷ back) one, rest)
 one_made h back EndSequence later one rest = (index_zero h back one, rest)
@@ -84,7 +86,8 @@ of_sequences : (unit k : ℕ) (ss : List Sequence) → AllByRecursion OfFirst ss
 of_sequences unit k [] h = tt
 of_sequences unit k (s ∷ ss) h = (h.0, of_sequences unit (k + 1) ss h.1)
 
-of_unit : (dead : Option ℕ) (unit : ℕ × Parts) (kept : Kept) → Keeps kept unit.1 → HasOneOperation kept → AllByRecursion PlacedFirst (live_in dead unit)
+of_unit : (dead : Option ℕ) (unit : ℕ × Parts) (kept : Kept) → Keeps kept unit.1 → HasOneOperation kept
+    → AllByRecursion PlacedFirst (live_in dead unit)
 of_unit dead unit kept keeps one =
     let made = all_made unit.1.header [] unit.1.ops (ap (λ (h : HeaderParts). h.max_ops) (sym keeps.header_is) ∙ one) in
     filtered PlacedFirst (is_live dead) (placed_in unit) (of_sequences unit.0 0 (sequences unit.1) (of_rows (rows unit.1) made))
@@ -95,7 +98,8 @@ of_units dead [] [] z one = tt
 of_units dead [] (kept ∷ programs) z one = absurd z
 of_units dead (unit ∷ units) [] z one = absurd z
 of_units dead (unit ∷ units) (kept ∷ programs) z one =
-    both PlacedFirst (live_in dead unit) (live_sequences dead units) (of_unit dead unit kept z.0 one.0) (of_units dead units programs z.1 one.1)
+    both PlacedFirst (live_in dead unit) (live_sequences dead units) (of_unit dead unit kept z.0 one.0)
+    (of_units dead units programs z.1 one.1)
 
 of_kept : (skip : Bool) (ss : List Placed) → AllByRecursion PlacedFirst ss → AllByRecursion PlacedFirst (kept_of skip ss)
 of_kept false ss h = h
@@ -112,9 +116,11 @@ between unit row next later one two rest = by (is_below (position_of row) (posit
     by true = ((one, two), rest)
     by false = rest
 
-behind : (unit : ℕ) (row : Row) (later : List Row) → IsFirst row → AreFirst later → AllByRecursion IsOfInstructions (spans_behind unit row later)
+behind : (unit : ℕ) (row : Row) (later : List Row) → IsFirst row → AreFirst later
+    → AllByRecursion IsOfInstructions (spans_behind unit row later)
 behind unit row [] one rest = tt
-behind unit row (next ∷ later) one rest = between unit row next (spans_behind unit next later) one rest.0 (behind unit next later rest.0 rest.1)
+behind unit row (next ∷ later) one rest =
+    between unit row next (spans_behind unit next later) one rest.0 (behind unit next later rest.0 rest.1)
 
 in_rows : (unit : ℕ) (all : List Row) → AreFirst all → AllByRecursion IsOfInstructions (row_spans unit all)
 in_rows unit [] h = tt
@@ -122,12 +128,15 @@ in_rows unit (row ∷ all) h = behind unit row all h.0 h.1
 
 in_sequences : (ss : List Placed) → AllByRecursion PlacedFirst ss → AllByRecursion IsOfInstructions (spans_of ss)
 in_sequences [] h = tt
-in_sequences (s ∷ ss) h = both IsOfInstructions (row_spans s.id.unit s.rows) (spans_of ss) (in_rows s.id.unit s.rows h.0) (in_sequences ss h.1)
+in_sequences (s ∷ ss) h =
+    both IsOfInstructions (row_spans s.id.unit s.rows) (spans_of ss) (in_rows s.id.unit s.rows h.0) (in_sequences ss h.1)
 
 pub spans_of_instructions : (index : Indexed) (dead : Option ℕ) (skip : Bool) (units : List (ℕ × Parts)) (spans : List Span)
     → All HasOneOperation index.programs → IsIndexOf dead skip units index
     → IsPermutation (spans_of (kept_sequences dead skip units)) spans → AllByRecursion IsOfInstructions spans
 spans_of_instructions index dead skip units spans one is same =
     let all = spans_of (kept_sequences dead skip units) in
-    let each = in_sequences (kept_sequences dead skip units) (of_kept skip (live_sequences dead units) (of_units dead units index.programs is.programs (recursion_from_All HasOneOperation index.programs one))) in
-    recursion_from_All IsOfInstructions spans (All-permutation IsOfInstructions all spans same (All-from_recursion IsOfInstructions all each))
+    let live = of_units dead units index.programs is.programs (recursion_from_All HasOneOperation index.programs one) in
+    let each = in_sequences (kept_sequences dead skip units) (of_kept skip (live_sequences dead units) live) in
+    recursion_from_All IsOfInstructions spans
+    (All-permutation IsOfInstructions all spans same (All-from_recursion IsOfInstructions all each))

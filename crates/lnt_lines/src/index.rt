@@ -1,5 +1,6 @@
 //! What a good section answers, with its rows decoded again where they are asked for.
-ghost use Rattle.std.specs.Prelude.{◌≡◌, ◌+◌, ◌-◌, ◌^◌, ◌<◌, ◌≤◌, Bool, ℕ, List, length, Option, IfNone, IfOk, IfErr, IfSome, IsSomeAnd, IsTrue};
+ghost use Rattle.std.specs.Prelude.{◌≡◌, ◌+◌, ◌-◌, ◌^◌, ◌<◌, ◌≤◌, Bool, ℕ, List, length, Option, IfNone, IfOk, IfErr, IfSome};
+ghost use Rattle.std.specs.Prelude.{IsSomeAnd, IsTrue};
 ghost use Rattle.std.specs.List.{All, AllByRecursion, AllZip};
 ghost use Rattle.std.specs.List.Sorted.{IsPermutation};
 ghost use Rattle.std.specs.Option.{option_map};
@@ -110,8 +111,9 @@ impl<'a> Index<'a> {
     /// Whether no instruction of the units has more than one operation, as their headers say (DWARF 5, section 6.2.4). Then
     /// each span begins and ends at operation index 0, which is told without a walk over the rows.
     pub fn has_single_operations(&self) -> bool
-        ensures { IsTrue result → (dead : Option ℕ) (skip : Bool) (units : List (ℕ × Parts)) (spans : List Span) → IsIndexOf dead skip units self.now
-            → IsPermutation (spans_of (kept_sequences dead skip units)) spans → AllByRecursion IsOfInstructions spans }
+        ensures { IsTrue result → (dead : Option ℕ) (skip : Bool) (units : List (ℕ × Parts)) (spans : List Span)
+            → IsIndexOf dead skip units self.now → IsPermutation (spans_of (kept_sequences dead skip units)) spans
+            → AllByRecursion IsOfInstructions spans }
     {
         are_single(&self.programs)
     }

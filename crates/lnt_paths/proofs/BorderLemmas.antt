@@ -8,8 +8,8 @@ use Rattle.lnt_spans.specs.Coming.{GivesFirst}
 use Rattle.lnt_spans.specs.Positions.{IsAtMost}
 use Rattle.lnt_spans.specs.Laws.Coming.{HasGiven}
 use Rattle.lnt_spans.specs.Laws.Positions.{at_most_itself, at_most_trans, below_is_at_most}
-use Rattle.lnt_paths.specs.Borders.{IsLeastOperation, path_borders}
-use Rattle.lnt_paths.specs.Joining.{HasNoOperation, IsFirstOperation, tell_span}
+use Rattle.lnt_paths.specs.Borders.{HasNoOperation, IsLeastOperation, path_borders}
+use Rattle.lnt_paths.specs.Joining.{IsFirstOperation, tell_span}
 use Rattle.lnt_paths.specs.PathAnswers.{PathAnswer}
 use Rattle.lnt_paths.specs.PathSpans.{PathSpan, StandInOrder}
 use Rattle.lnt_paths.proofs.PathSpanLemmas.{first_holds, rest_in_order}

@@ -72,7 +72,8 @@ plain_field : (path : List ℕ) → All IsPlainByte path → path ++ 44 ∷ [] �
 plain_field path h =
     ap (λ (t : List ℕ). t ++ 44 ∷ []) (sym (quiet_text path (quiet_by_recursion path (recursion_from_All IsPlainByte path h))))
 
-pub plain_made : (path made seen new : List ℕ) → made ≡ path → seen ≡ made → All IsPlainByte seen → new ≡ made ++ 44 ∷ [] → new ≡ field_with_comma path
+pub plain_made : (path made seen new : List ℕ) → made ≡ path → seen ≡ made → All IsPlainByte seen → new ≡ made ++ 44 ∷ []
+    → new ≡ field_with_comma path
 plain_made path made seen new e f h more =
     more ∙ ap (λ (t : List ℕ). t ++ 44 ∷ []) e ∙ plain_field path (subst (All IsPlainByte) (f ∙ e) h)
 

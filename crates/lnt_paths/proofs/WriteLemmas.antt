@@ -13,7 +13,8 @@ use Rattle.lnt_spans.specs.declared.position.Position.{Position}
 use Rattle.lnt_spans.specs.declared.span.Span.{Span}
 use Rattle.lnt_spans.specs.Spans.{AreInOrder, span_answer}
 use Rattle.lnt_paths.specs.declared.version.PathVersion.{PathVersion}
-use Rattle.lnt_paths.specs.Joining.{AddsPathLine, AllJoinTo, HasNoOperation, HasWritten, IsFirstOperation, JoinsTo, grown, tell_span}
+use Rattle.lnt_paths.specs.Borders.{HasNoOperation}
+use Rattle.lnt_paths.specs.Joining.{AddsPathLine, AllJoinTo, HasWritten, IsFirstOperation, JoinsTo, grown, tell_span}
 use Rattle.lnt_paths.specs.PathAnswers.{PathAnswer}
 use Rattle.lnt_paths.specs.PathSpans.{AreCanonicalOf, PathSpan}
 use Rattle.lnt_paths.specs.PathTables.{SaysPath, path_column_names}
@@ -140,7 +141,8 @@ all_join_none tell [] joined none j = subst (AllByRecursion HasNoOperation) (sym
 all_join_none tell (first ∷ rest) joined none j = joins_none tell first rest joined none.0 none.1 j
 
 pub instructions_written : (tell : Answer → PathAnswer) (version : PathVersion) (old new : Option (List ℕ)) (list joined : List Span)
-    → AreInOrder list → AllByRecursion HasNoOperation list → ((all : List Span) → AllJoinTo tell list all → all ≡ joined) → HasWritten tell version old new joined
+    → AreInOrder list → AllByRecursion HasNoOperation list → ((all : List Span) → AllJoinTo tell list all → all ≡ joined)
+    → HasWritten tell version old new joined
     → (bytes : List ℕ) × Appends old new bytes × IsCanonicalPathTable version (By tell list) bytes
 instructions_written tell version old new list joined order none are w =
     table_written tell version old new list list joined (record { first = order; second = order; same = λ p. refl })

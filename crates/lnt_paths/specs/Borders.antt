@@ -1,9 +1,14 @@
 -- Where spans begin and end inside of an instruction, which a table by path can't say.
-use Rattle.std.specs.Prelude.{◌≢◌, List, [], ◌∷◌}
+use Rattle.std.specs.Prelude.{◌≡◌, ◌≢◌, List, [], ◌∷◌}
 use Rattle.std.specs.List.{AllByRecursion, Contains}
 use Rattle.lnt_spans.specs.declared.position.Position.{Position}
+use Rattle.lnt_spans.specs.declared.span.Span.{Span}
 use Rattle.lnt_spans.specs.Positions.{IsAtMost}
 use Rattle.lnt_paths.specs.PathSpans.{PathSpan}
+
+-- the span begins and ends at operation index 0
+abbrev pub HasNoOperation : Span → Type 0
+HasNoOperation span = (span.low.op ≡ 0) × (span.high.op ≡ 0)
 
 -- where the spans begin and end
 abbrev pub path_borders : List PathSpan → List Position

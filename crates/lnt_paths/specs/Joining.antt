@@ -10,6 +10,7 @@ use Rattle.lnt_spans.specs.declared.answer.Answer.{Answer}
 use Rattle.lnt_spans.specs.declared.position.Position.{Position}
 use Rattle.lnt_spans.specs.declared.span.Span.{Span}
 use Rattle.lnt_paths.specs.declared.field.PathField.{PathField}
+use Rattle.lnt_paths.specs.Borders.{HasNoOperation}
 use Rattle.lnt_paths.specs.declared.version.PathVersion.{PathVersion}
 use Rattle.lnt_paths.specs.declared.version.PathVersion.TheVariants.{Three, Four}
 use Rattle.lnt_paths.specs.PathAnswers.{PathAnswer}
@@ -52,9 +53,6 @@ WillGive tell None left joined = joined ≡ []
 WillGive tell (Some first) left joined = GrowsTo tell first left joined
 
 -- ---- borders
-
-abbrev pub HasNoOperation : Span → Type 0
-HasNoOperation span = (span.low.op ≡ 0) × (span.high.op ≡ 0)
 
 -- the first place where spans in order begin or end at an operation index other than 0
 abbrev pub IsFirstOperation : Position → List Span → Type 0

@@ -2,7 +2,8 @@
 ghost use Rattle.std.specs.Prelude.{List, IfOk, MatchOption};
 ghost use Rattle.std.specs.List.{AllByRecursion};
 ghost use Rattle.lnt_spans.specs.declared.span.Span as spec;
-ghost use Rattle.lnt_paths.specs.Joining.{AllJoinTo, HasNoOperation, IsFirstOperation};
+ghost use Rattle.lnt_paths.specs.Borders.{HasNoOperation};
+ghost use Rattle.lnt_paths.specs.Joining.{AllJoinTo, IsFirstOperation};
 ghost use Rattle.lnt_paths.specs.PathAnswers.{path_answer};
 
 use crate::joined::Joined;

@@ -5,7 +5,8 @@ ghost use Rattle.std.specs.List.{AllByRecursion};
 ghost use Rattle.lnt_spans.specs.declared.position.Position as position;
 ghost use Rattle.lnt_spans.specs.declared.span.Span as spec;
 ghost use Rattle.lnt_spans.specs.Spans.{AreInOrder, span_answer};
-ghost use Rattle.lnt_paths.specs.Joining.{AllJoinTo, HasNoOperation, HasWritten};
+ghost use Rattle.lnt_paths.specs.Borders.{HasNoOperation};
+ghost use Rattle.lnt_paths.specs.Joining.{AllJoinTo, HasWritten};
 ghost use Rattle.lnt_paths.specs.PathAnswers.{path_answer, spans_by_path};
 ghost use Rattle.lnt_paths.specs.Written.{HasBecome, IsCanonicalPathTable};
 

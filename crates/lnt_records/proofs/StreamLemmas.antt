@@ -1,5 +1,6 @@
 -- A table of which lines were passed, and the rest was read after its header.
-use Rattle.std.proofs.Common.{◌≡◌, ◌≢◌, ◌∙◌, ℕ, ◌+◌, ◌^◌, ◌<◌, List, [], ◌∷◌, ◌++◌, Option, Some, None, IfSome, append_assoc, length, length-append, refl, ap, subst, sym, arith}
+use Rattle.std.proofs.Common.{◌≡◌, ◌≢◌, ◌∙◌, ℕ, ◌+◌, ◌^◌, ◌<◌, List, [], ◌∷◌, ◌++◌, Option, Some, None, IfSome, append_assoc, length}
+use Rattle.std.proofs.Common.{length-append, refl, ap, subst, sym, arith}
 use Rattle.std.specs.List.{AllByRecursion, AllZip}
 use Rattle.csv.specs.Reading.{Reached, default_config, strip_bom}
 use Rattle.csv.specs.declared.parser.State.{State}
@@ -137,12 +138,14 @@ told_bytes (Some all) bytes P e h = subst P e h
 -- ---- the header's fault
 
 -- It isn't told of bytes that begin with the header of a version.
-pub not_header : (bytes : List ℕ) (version : Version) (section : List Span) (compared : Compared) → BeginsWith bytes (column_names version ∷ [])
+pub not_header : (bytes : List ℕ) (version : Version) (section : List Span) (compared : Compared)
+    → BeginsWith bytes (column_names version ∷ [])
     → IsComparison bytes section compared → compared ≢ Fault fault.Header
 not_header bytes version section compared begins h e = subst (IsComparison bytes section) e h version begins
 
 -- A text with lines cut out begins with the header that its bytes begin with.
-cut_begins : (version : Version) (text bytes : List ℕ) (passed : List Fields) → IsCut version text bytes passed → BeginsWith text (column_names version ∷ [])
+cut_begins : (version : Version) (text bytes : List ℕ) (passed : List Fields) → IsCut version text bytes passed
+    → BeginsWith text (column_names version ∷ [])
     → BeginsWith bytes (column_names version ∷ [])
 cut_begins version text bytes passed cut b =
     first_begins bytes (column_names version) (passed ++ []) (b.0, b.1, cut [] b.0 b.1 b.2)
@@ -163,9 +166,11 @@ whole_told to_come merge version section a d la ld names window text all count c
     let cut_all : IsCut version all (line ++ (lines_text records ++ rest)) records =
     subst (λ (t : List ℕ). IsCut version t (line ++ (lines_text records ++ rest)) records) (sym (rest_is version names window ends.given all e ends.joined).joined) cut in
     let cut_both : IsCut version all (p.given ++ ends.given) records = subst (λ (t : List ℕ). IsCut version all t records) (sym given) cut_all in
-    let told = compare h.follows.spans section records (p.given ++ ends.given) (judges_passed to_come merge version section text count h) cut_both h.follows.same in
+    let told = compare h.follows.spans section records (p.given ++ ends.given)
+    (judges_passed to_come merge version section text count h) cut_both h.follows.same in
     let begins = cut_begins version all (p.given ++ ends.given) records cut_both (rest_begins version d ld names window all e ends) in
-    told_bytes a (p.given ++ ends.given) (λ (bytes : List ℕ). IsTableRead bytes section (Told compared)) (whole_bytes a d p.given ends.given p.pulls ends.whole)
+    told_bytes a (p.given ++ ends.given) (λ (bytes : List ℕ). IsTableRead bytes section (Told compared))
+    (whole_bytes a d p.given ends.given p.pulls ends.whole)
     (told, not_header (p.given ++ ends.given) version section compared begins told)
 
 -- the bytes of which the rest, after the names of the columns, is a text with lines cut out

@@ -26,8 +26,10 @@ use Rattle.lnt_table.specs.Laws.{OneNumbered, OneVerdict, OwnTableByPath}
 
 -- ---- a verdict
 
-by_number : OneVerdict → GoodHasNoFlaw → (line general : List ℕ) (options : Options) (section table : List ℕ) (verdict : Verdict) (checked : Checked)
-    → IsTrueCheck line general options section table (Numbered verdict) → IsTrueCheck line general options section table checked → checked ≡ Numbered verdict
+by_number : OneVerdict → GoodHasNoFlaw
+    → (line general : List ℕ) (options : Options) (section table : List ℕ) (verdict : Verdict) (checked : Checked)
+    → IsTrueCheck line general options section table (Numbered verdict) → IsTrueCheck line general options section table checked
+    → checked ≡ Numbered verdict
 by_number verdicts flawless line general options section table verdict (Numbered other) h k =
     ap Numbered (verdicts.one line general options section table other verdict k.0 h.0)
 by_number verdicts flawless line general options section table Yes (ByPath compared) h k =
@@ -55,10 +57,12 @@ names_differ One Four e = let count = ap length e in omega (arith, count)
 names_differ Two Three e = let count = ap length e in omega (arith, count)
 names_differ Two Four e = let count = ap length e in omega (arith, count)
 
-path_table_begins : (bytes : List ℕ) (version : PathVersion) (spans : List PathSpan) → IsPathTableOf version bytes spans → BeginsWith bytes (path_column_names version ∷ [])
+path_table_begins : (bytes : List ℕ) (version : PathVersion) (spans : List PathSpan) → IsPathTableOf version bytes spans
+    → BeginsWith bytes (path_column_names version ∷ [])
 path_table_begins bytes version spans table = by table.0 table.1 table.2
   where
-    by : (records : List Fields) → RecordsOf bytes records → IsPathTable version records spans → BeginsWith bytes (path_column_names version ∷ [])
+    by : (records : List Fields) → RecordsOf bytes records → IsPathTable version records spans
+        → BeginsWith bytes (path_column_names version ∷ [])
     by [] r t = absurd t
     by (first ∷ records) r t = subst (λ (f : Fields). BeginsWith bytes (f ∷ [])) t.0 (records_begin bytes first records r)
 

@@ -73,7 +73,8 @@ header_found (kind.Differs difference) e = cc
 pub numbered_told : (text : Option (List ℕ)) (dead : Option ℕ) (skip : Bool) (units : List (ℕ × Parts)) (spans : List Span) (compared : Compared)
     → ((p : Position) → span_answer spans p ≡ line_answer dead skip units p)
     → IfSome text (λ bytes. IsComparison bytes spans compared × (compared ≢ kind.Fault fault.Header))
-    → IfSome text (λ bytes. (compared' : Compared) × IsComparedWith dead skip units bytes compared' × (verdict_of compared ≡ verdict_of compared')
+    → IfSome text (λ bytes. (compared' : Compared) × IsComparedWith dead skip units bytes compared'
+    × (verdict_of compared ≡ verdict_of compared')
     × (verdict_of compared ≢ No no.Header))
 numbered_told None dead skip units spans compared answers h = tt
 numbered_told (Some bytes) dead skip units spans compared answers h =

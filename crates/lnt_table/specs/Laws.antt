@@ -54,7 +54,8 @@ pub record OwnTableByPath : Type 0 where
       → (i : IsIndexOfSection line general options section index)
       → IsCanonicalPathTable version (told_path version index options.dead options.skip_copies i.units) table
       → IsTrueCheck line general options section table (ByPath Same)
-  pub no_verdict : (line general : List ℕ) (options : Options) (section table : List ℕ) (index : Indexed) (version : PathVersion) (verdict : Verdict)
+  pub no_verdict : (line general : List ℕ) (options : Options) (section table : List ℕ) (index : Indexed) (version : PathVersion)
+      (verdict : Verdict)
       → (i : IsIndexOfSection line general options section index)
       → IsCanonicalPathTable version (told_path version index options.dead options.skip_copies i.units) table
       → IsTrueCheck line general options section table (Numbered verdict) → ⊥

@@ -23,7 +23,8 @@ first_begins bytes first more b = first_reached (strip_bom bytes) first more b.0
 pub records_begin : (bytes : List ℕ) (first : Fields) (more : List Fields) → RecordsOf bytes (first ∷ more) → BeginsWith bytes (first ∷ [])
 records_begin bytes first more r = first_reached (strip_bom bytes) first more r.0 r.1 r.2
 
-same_first : (bytes : List ℕ) (one other : Fields) (s1 s2 : State) (y1 y2 : List ℕ) → Reached default_config state.StartRecord bytes (one ∷ []) s1 y1
+same_first : (bytes : List ℕ) (one other : Fields) (s1 s2 : State) (y1 y2 : List ℕ)
+    → Reached default_config state.StartRecord bytes (one ∷ []) s1 y1
     → Reached default_config state.StartRecord bytes (other ∷ []) s2 y2 → one ≡ other
 unfolding Reached
 same_first bytes one other s1 s2 y1 y2 h k =
@@ -37,7 +38,8 @@ pub one_beginning : (bytes : List ℕ) (one other : Fields) → BeginsWith bytes
 one_beginning bytes one other h k = same_first (strip_bom bytes) one other h.0 k.0 h.1 k.1 h.2 k.2
 
 -- A table begins with the names of its version's columns.
-pub table_begins : (bytes : List ℕ) (version : Version) (spans : List Span) → IsTableOf version bytes spans → BeginsWith bytes (column_names version ∷ [])
+pub table_begins : (bytes : List ℕ) (version : Version) (spans : List Span) → IsTableOf version bytes spans
+    → BeginsWith bytes (column_names version ∷ [])
 table_begins bytes version spans table = by table.0 table.1 table.2
   where
     by : (records : List Fields) → RecordsOf bytes records → IsTable version records spans → BeginsWith bytes (column_names version ∷ [])
@@ -48,6 +50,7 @@ table_begins bytes version spans table = by table.0 table.1 table.2
 pub faulty_begins : (bytes : List ℕ) (told : TableFault) → (h : HasFaultyRecord bytes told) → BeginsWith bytes (column_names h.version ∷ [])
 faulty_begins bytes told h = by h.records h.begins h.table
   where
-    by : (records : List Fields) → BeginsWith bytes (records ++ h.fields ∷ []) → IsTable h.version records h.spans → BeginsWith bytes (column_names h.version ∷ [])
+    by : (records : List Fields) → BeginsWith bytes (records ++ h.fields ∷ []) → IsTable h.version records h.spans
+        → BeginsWith bytes (column_names h.version ∷ [])
     by [] b t = absurd t
     by (first ∷ records) b t = subst (λ (f : Fields). BeginsWith bytes (f ∷ [])) t.0 (first_begins bytes first (records ++ h.fields ∷ []) b)

@@ -3,7 +3,8 @@ use Rattle.std.specs.Prelude.{MatchOption}
 use Rattle.std.specs.List.{AllByRecursion}
 use Rattle.lnt_spans.specs.declared.answer.Answer.{Answer}
 use Rattle.lnt_spans.specs.declared.position.Position.{Position}
-use Rattle.lnt_paths.specs.Joining.{HasNoOperation, IsFirstOperation}
+use Rattle.lnt_paths.specs.Borders.{HasNoOperation}
+use Rattle.lnt_paths.specs.Joining.{IsFirstOperation}
 use Rattle.lnt_paths.specs.PathAnswers.{PathAnswer, path_answer}
 use Rattle.lnt_paths.proofs.WriteLemmas.{keeps_same, operation_found, table_written}
 use Rattle.lnt_paths.proofs.write.write_by_path.Goals as goal

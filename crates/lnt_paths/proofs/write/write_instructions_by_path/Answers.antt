@@ -7,6 +7,7 @@ pub returns : goal.returns
 returns g c =
     on_ok_weaker c.write_lines.result
     (λ written list come order none.
-    instructions_written (path_answer c.args.version (g.P.Paths.bytes_of c.args.paths.now)) c.args.version (g.W.Write.contents c.args.out.now)
+    instructions_written (path_answer c.args.version (g.P.Paths.bytes_of c.args.paths.now)) c.args.version
+    (g.W.Write.contents c.args.out.now)
     (g.W.Write.contents c.write_lines.new.out) list written.0 order none (λ all joins. written.2 list all come joins) written.1)
     c.write_lines.ensures

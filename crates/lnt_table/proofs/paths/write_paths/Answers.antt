@@ -22,7 +22,8 @@ pub returns-then-has_single_operations : goal.returns-then-has_single_operations
 returns-then-has_single_operations g c dead skip units is =
     let all = c.spans.ensures.gives dead skip units is in
     let single = c.has_single_operations.ensures c.if-has_single_operations.true dead skip units all.spans is all.spans_are in
-    becomes_so c.args.version (spans_by_path c.args.version (path_at c.args.index.now) all.spans) (told_path c.args.version c.args.index.now dead skip units)
+    becomes_so c.args.version (spans_by_path c.args.version (path_at c.args.index.now) all.spans)
+    (told_path c.args.version c.args.index.now dead skip units)
     (g.W.Write.contents c.args.out.now) (g.W.Write.contents c.write_instructions_by_path.new.out) Written
     (λ p. ap (option_map (path_answer c.args.version (path_at c.args.index.now))) (all.answers p))
     (c.in_ok-write_instructions_by_path.ensures all.spans all.to_come all.in_order single)
