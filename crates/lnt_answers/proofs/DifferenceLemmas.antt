@@ -13,21 +13,28 @@ use Rattle.lnt_spans.specs.Differing.{HasTold}
 use Rattle.lnt_answers.specs.DifferenceLines.{difference_line}
 
 -- A first stretch was told, and others after it, and a writer has gained their lines.
-pub record HasPrinted {S T : Type 0} (of_section : S → List Span → Type 0) (of_table : T → List Span → Type 0) (differences : Differences S T) (f g : Position → Option Answer) (old new : Option (List ℕ)) : Type 0 where
+pub record HasPrinted {S T : Type 0} (of_section : S → List Span → Type 0) (of_table : T → List Span → Type 0)
+    (differences : Differences S T) (f g : Position → Option Answer) (old new : Option (List ℕ)) : Type 0 where
   pub first : Difference
   pub more : List Difference
   pub told : HasTold of_section of_table differences f g (first ∷ more)
   pub text : Appends old new (flat_map difference_line (first ∷ more))
 
-line_alone : (old new : Option (List ℕ)) (d : Difference) → Appends old new (difference_line d) → Appends old new (flat_map difference_line (d ∷ []))
+line_alone : (old new : Option (List ℕ)) (d : Difference) → Appends old new (difference_line d)
+    → Appends old new (flat_map difference_line (d ∷ []))
 line_alone old new d h = subst (Appends old new) (sym (append-nil (difference_line d))) h
 
-pub printed_first : {S T : Type 0} (of_section : S → List Span → Type 0) (of_table : T → List Span → Type 0) (differences : Differences S T) (f g : Position → Option Answer) (old new : Option (List ℕ)) (d : Difference)
-    → HasTold of_section of_table differences f g (d ∷ []) → Appends old new (difference_line d) → HasPrinted of_section of_table differences f g old new
-printed_first of_section of_table differences f g old new d told text = record { first = d; more = []; told = told; text = line_alone old new d text }
+pub printed_first : {S T : Type 0} (of_section : S → List Span → Type 0) (of_table : T → List Span → Type 0) (differences : Differences S T)
+    (f g : Position → Option Answer) (old new : Option (List ℕ)) (d : Difference)
+    → HasTold of_section of_table differences f g (d ∷ []) → Appends old new (difference_line d)
+    → HasPrinted of_section of_table differences f g old new
+printed_first of_section of_table differences f g old new d told text =
+    record { first = d; more = []; told = told; text = line_alone old new d text }
 
-pub printed_more : {S T : Type 0} (of_section : S → List Span → Type 0) (of_table : T → List Span → Type 0) (before after : Differences S T) (f g : Position → Option Answer) (old now new : Option (List ℕ)) (d : Difference)
-    → (h : HasPrinted of_section of_table before f g old now) → HasTold of_section of_table after f g (h.first ∷ (h.more ++ d ∷ [])) → Appends now new (difference_line d)
+pub printed_more : {S T : Type 0} (of_section : S → List Span → Type 0) (of_table : T → List Span → Type 0) (before after : Differences S T)
+    (f g : Position → Option Answer) (old now new : Option (List ℕ)) (d : Difference)
+    → (h : HasPrinted of_section of_table before f g old now) → HasTold of_section of_table after f g (h.first ∷ (h.more ++ d ∷ []))
+    → Appends now new (difference_line d)
     → HasPrinted of_section of_table after f g old new
 printed_more of_section of_table before after f g old now new d h told text = record {
   first = h.first;
@@ -35,5 +42,6 @@ printed_more of_section of_table before after f g old now new d h told text = re
   told = told;
   text =
       subst (Appends old new) (sym (flat_map-append difference_line (h.first ∷ h.more) (d ∷ [])))
-      (Appends-trans old now new (flat_map difference_line (h.first ∷ h.more)) (flat_map difference_line (d ∷ [])) h.text (line_alone now new d text));
+      (Appends-trans old now new (flat_map difference_line (h.first ∷ h.more)) (flat_map difference_line (d ∷ [])) h.text
+      (line_alone now new d text));
 }

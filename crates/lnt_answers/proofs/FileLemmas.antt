@@ -1,5 +1,6 @@
 -- Texts of items, one after another.
-use Rattle.std.proofs.Common.{◌≡◌, ◌∙◌, ℕ, ◌+◌, ◌<◌, ◌≤◌, suc, List, [], ◌∷◌, ◌++◌, append-nil, length, get_or, take, Option, ap, append_assoc, sym, subst, arith}
+use Rattle.std.proofs.Common.{◌≡◌, ◌∙◌, ℕ, ◌+◌, ◌<◌, ◌≤◌, suc, List, [], ◌∷◌, ◌++◌, append-nil, length, get_or, take, Option, ap}
+use Rattle.std.proofs.Common.{append_assoc, sym, subst, arith}
 use Rattle.std.specs.List.{flat_map}
 use Rattle.std.specs.Io.KnownBytes.{Appends}
 use Rattle.std.proofs.KnownBytes.{Appends-nil, Appends-trans}
@@ -9,19 +10,25 @@ use Rattle.lnt_lines.specs.Indexed.{Indexed}
 use Rattle.lnt_answers.specs.FileLines.{file_record, records_below}
 
 -- with one item more, its text is added
-text_of_more : {X : Type 0} (f : X → List ℕ) (items : List X) (i : ℕ) (d : X) → i < length items → flat_map f (take (i + 1) items) ≡ flat_map f (take i items) ++ f (get_or items i d)
+text_of_more : {X : Type 0} (f : X → List ℕ) (items : List X) (i : ℕ) (d : X) → i < length items
+    → flat_map f (take (i + 1) items) ≡ flat_map f (take i items) ++ f (get_or items i d)
 text_of_more f items i d lt =
-    ap (flat_map f) (take_more items i d lt) ∙ flat_map-append f (take i items) (get_or items i d ∷ []) ∙ ap (λ text. flat_map f (take i items) ++ text) (append-nil (f (get_or items i d)))
+    ap (flat_map f) (take_more items i d lt) ∙ flat_map-append f (take i items) (get_or items i d ∷ [])
+    ∙ ap (λ text. flat_map f (take i items) ++ text) (append-nil (f (get_or items i d)))
 
 -- a writer that has gained a head and the texts of some items gains the text of one more
-pub gained_more : {X : Type 0} (f : X → List ℕ) (head : List ℕ) (items : List X) (i : ℕ) (d : X) (a b c : Option (List ℕ)) → i < length items
-    → Appends a b (head ++ flat_map f (take i items)) → Appends b c (f (get_or items i d)) → Appends a c (head ++ flat_map f (take (i + 1) items))
+pub gained_more : {X : Type 0} (f : X → List ℕ) (head : List ℕ) (items : List X) (i : ℕ) (d : X) (a b c : Option (List ℕ))
+    → i < length items
+    → Appends a b (head ++ flat_map f (take i items)) → Appends b c (f (get_or items i d))
+    → Appends a c (head ++ flat_map f (take (i + 1) items))
 gained_more f head items i d a b c lt before here =
-    subst (Appends a c) (append_assoc head (flat_map f (take i items)) (f (get_or items i d)) ∙ ap (λ text. head ++ text) (sym (text_of_more f items i d lt)))
+    subst (Appends a c) (append_assoc head (flat_map f (take i items)) (f (get_or items i d))
+    ∙ ap (λ text. head ++ text) (sym (text_of_more f items i d lt)))
     (Appends-trans a b c (head ++ flat_map f (take i items)) (f (get_or items i d)) before here)
 
 -- all items
-pub gained_all : {X : Type 0} (f : X → List ℕ) (head : List ℕ) (items : List X) (i : ℕ) (a b : Option (List ℕ)) → length items ≤ i → Appends a b (head ++ flat_map f (take i items)) → Appends a b (head ++ flat_map f items)
+pub gained_all : {X : Type 0} (f : X → List ℕ) (head : List ℕ) (items : List X) (i : ℕ) (a b : Option (List ℕ)) → length items ≤ i
+    → Appends a b (head ++ flat_map f (take i items)) → Appends a b (head ++ flat_map f items)
 gained_all f head items i a b le gained = subst (λ all. Appends a b (head ++ flat_map f all)) (take_all i items le) gained
 
 -- ---- the records of a unit's files
@@ -30,7 +37,9 @@ pub records_none : (index : Indexed) (unit : ℕ) (a : Option (List ℕ)) → Ap
 records_none index unit a = Appends-nil a
 
 -- with one record more
-pub records_more : (index : Indexed) (unit file : ℕ) (a b c : Option (List ℕ)) → Appends a b (records_below index unit file) → Appends b c (file_record index unit file) → Appends a c (records_below index unit (file + 1))
+pub records_more : (index : Indexed) (unit file : ℕ) (a b c : Option (List ℕ)) → Appends a b (records_below index unit file)
+    → Appends b c (file_record index unit file) → Appends a c (records_below index unit (file + 1))
 records_more index unit file a b c before here =
     let next : suc file ≡ file + 1 = omega arith in
-    subst (λ (n : ℕ). Appends a c (records_below index unit n)) next (Appends-trans a b c (records_below index unit file) (file_record index unit file) before here)
+    subst (λ (n : ℕ). Appends a c (records_below index unit n)) next
+    (Appends-trans a b c (records_below index unit file) (file_record index unit file) before here)

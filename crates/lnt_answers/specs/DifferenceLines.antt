@@ -9,7 +9,8 @@ use Rattle.lnt_text.specs.Texts.{answer_text, position_text}
 -- that it does so at a position, with both answers
 abbrev pub difference_text : Difference → List ℕ
 difference_text difference =
-    codes "no 40 differs at " ++ (position_text difference.position ++ (codes " table " ++ (answer_text difference.by_table ++ (codes " section " ++ answer_text difference.by_section))))
+    codes "no 40 differs at " ++ (position_text difference.position
+    ++ (codes " table " ++ (answer_text difference.by_table ++ (codes " section " ++ answer_text difference.by_section))))
 
 abbrev pub difference_line : Difference → List ℕ
 difference_line difference = difference_text difference ++ codes "\n"

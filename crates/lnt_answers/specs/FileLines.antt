@@ -18,7 +18,8 @@ sum_field None = []
 -- the record of a file: its unit's offset, its index, its whole path and its listed sum
 abbrev pub file_record : Indexed → ℕ → ℕ → List ℕ
 file_record index unit file =
-    row_text default_writer (decimal unit ∷ decimal file ∷ path_field (file_path_in index unit file) ∷ sum_field (file_sum_in index unit file) ∷ [])
+    row_text default_writer (decimal unit ∷ decimal file ∷ path_field (file_path_in index unit file)
+    ∷ sum_field (file_sum_in index unit file) ∷ [])
 
 -- the records of the first files of a unit, so many of them
 abbrev pub records_below : Indexed → ℕ → ℕ → List ℕ

@@ -30,10 +30,13 @@ none_text position = position_text position ++ codes " none\n"
 
 -- the front of the line of a position that is answered, up to the path of the file
 abbrev pub place_text : Position → Answer → List ℕ
-place_text position answer = position_text position ++ (codes " unit " ++ (decimal answer.unit ++ (codes " file " ++ (decimal answer.file ++ codes " "))))
+place_text position answer =
+    position_text position ++ (codes " unit " ++ (decimal answer.unit ++ (codes " file " ++ (decimal answer.file ++ codes " "))))
 
 abbrev pub row_text : Answer → List ℕ
-row_text answer = codes "line " ++ (decimal answer.line ++ (codes " column " ++ (decimal answer.column ++ (codes " stmt " ++ decimal (if answer.is_stmt then 1 else 0)))))
+row_text answer = codes "line "
+    ++ (decimal answer.line ++ (codes " column "
+    ++ (decimal answer.column ++ (codes " stmt " ++ decimal (if answer.is_stmt then 1 else 0)))))
 
 -- the path of the file after it, if it is there
 abbrev pub path_text : Option (List ℕ) → List ℕ
@@ -43,7 +46,8 @@ path_text None = codes "\n"
 -- the line of what is answered at a position
 abbrev pub answer_line : Indexed → Position → Option Answer → List ℕ
 answer_line index position None = none_text position
-answer_line index position (Some answer) = (place_text position answer ++ row_text answer) ++ path_text (file_path_in index answer.unit answer.file)
+answer_line index position (Some answer) =
+    (place_text position answer ++ row_text answer) ++ path_text (file_path_in index answer.unit answer.file)
 
 -- the line of what kept sequences answer at a position
 abbrev pub lookup_line : Indexed → Option ℕ → Bool → List (ℕ × Parts) → Position → List ℕ

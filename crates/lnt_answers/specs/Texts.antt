@@ -4,7 +4,8 @@ use Rattle.lnt_header.specs.declared.header.EntryTable.{EntryTable}
 use Rattle.lnt_header.specs.declared.header.EntryTable.TheVariants.{Directories, Files}
 use Rattle.lnt_sequences.specs.declared.sequence.SeqId.{SeqId}
 use Rattle.lnt_lines.specs.declared.no.No.{No}
-use Rattle.lnt_lines.specs.declared.no.No.TheVariants.{Malformed, Run, EntryFormat, StringOutside, DirectoryNumber, FileNumber, Falls, Overlap}
+use Rattle.lnt_lines.specs.declared.no.No.TheVariants.{Malformed, Run, EntryFormat, StringOutside, DirectoryNumber, FileNumber, Falls}
+use Rattle.lnt_lines.specs.declared.no.No.TheVariants.{Overlap}
 use Rattle.lnt_wire.specs.FaultTexts.{hexadecimal}
 use Rattle.lnt_text.specs.Texts.{malformed_text, position_text, run_text}
 
@@ -22,8 +23,11 @@ abbrev pub no_text : No → List ℕ
 no_text (Malformed fault) = malformed_text fault
 no_text (Run unit fault) = run_text unit fault
 no_text (EntryFormat unit which) = codes "no 27 entry format unit " ++ (hexadecimal unit ++ (codes " " ++ table_text which))
-no_text (StringOutside unit which entry) = codes "no 28 string outside unit " ++ (hexadecimal unit ++ (codes " " ++ (table_text which ++ (codes " entry " ++ decimal entry))))
+no_text (StringOutside unit which entry) =
+    codes "no 28 string outside unit " ++ (hexadecimal unit ++ (codes " " ++ (table_text which ++ (codes " entry " ++ decimal entry))))
 no_text (DirectoryNumber unit file) = codes "no 29 directory number unit " ++ (hexadecimal unit ++ (codes " file " ++ decimal file))
-no_text (FileNumber unit row file) = codes "no 30 file number unit " ++ (hexadecimal unit ++ (codes " row " ++ (decimal row ++ (codes " file " ++ decimal file))))
+no_text (FileNumber unit row file) =
+    codes "no 30 file number unit " ++ (hexadecimal unit ++ (codes " row " ++ (decimal row ++ (codes " file " ++ decimal file))))
 no_text (Falls unit row) = codes "no 31 falls unit " ++ (hexadecimal unit ++ (codes " row " ++ decimal row))
-no_text (Overlap first second position) = codes "no 32 overlap " ++ (sequence_text first ++ (codes " " ++ (sequence_text second ++ (codes " at " ++ position_text position))))
+no_text (Overlap first second position) =
+    codes "no 32 overlap " ++ (sequence_text first ++ (codes " " ++ (sequence_text second ++ (codes " at " ++ position_text position))))

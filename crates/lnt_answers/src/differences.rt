@@ -39,10 +39,13 @@ pub fn print_differences<S: SpanSource + Drop, T: SpanSource + Drop, W: Write>(
     differences: Differences<S, T>,
     out: &mut W,
 ) -> Result<Status, Halt>
-    requires { (by_section : Position → Option Answer) × (by_table : Position → Option Answer) × HasTold S.to_come T.to_come differences by_section by_table [] }
+    requires { (by_section : Position → Option Answer) × (by_table : Position → Option Answer)
+        × HasTold S.to_come T.to_come differences by_section by_table [] }
     ensures err { IfErr result IsPrinting }
-    ensures lines { IfOk result (λ status. (by_section by_table : Position → Option Answer) → HasTold S.to_come T.to_come differences by_section by_table []
-        → (list : List Spec) × AreStretches by_section by_table list × Appends (W.contents out.old) (W.contents out.new) (stretches_text list) × (status ≡ stretches_status list)) }
+    ensures lines { IfOk result (λ status. (by_section by_table : Position → Option Answer)
+        → HasTold S.to_come T.to_come differences by_section by_table []
+        → (list : List Spec) × AreStretches by_section by_table list
+        × Appends (W.contents out.old) (W.contents out.new) (stretches_text list) × (status ≡ stretches_status list)) }
 {
     let mut differences = differences;
     let Some(first) = differences.next_difference() else {

@@ -80,7 +80,8 @@ fn put_file(
     requires clean { csv.has_written records.old ≡ false }
     requires setup { csv.writer_setup records.old ≡ csv.default_writer }
     ensures err { IfErr result (λ halt. halt ≡ Memory) }
-    ensures record { OnOk result (Appends (csv.text_written (λ bytes. Some bytes.items) records.old) (csv.text_written (λ bytes. Some bytes.items) records.new) (file_record index.now unit file)) }
+    ensures record { OnOk result (Appends (csv.text_written (λ bytes. Some bytes.items) records.old)
+        (csv.text_written (λ bytes. Some bytes.items) records.new) (file_record index.now unit file)) }
     ensures fields { OnOk result (csv.fields_written records.new ≡ 0) }
     ensures clean { OnOk result (csv.has_written records.new ≡ false) }
     ensures setup { OnOk result (csv.writer_setup records.new ≡ csv.default_writer) }

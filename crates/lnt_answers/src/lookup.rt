@@ -27,7 +27,8 @@ pub fn print_lookup<W: Write>(
 ) -> Result<Status, Halt>
     ensures done { IfOk result (λ status. status ≡ Done) }
     ensures err { IfErr result (λ halt. IsPrinting halt) }
-    ensures line { (dead : Option ℕ) (skip : Bool) (units : List (ℕ × Parts)) → IsIndexOf dead skip units index.now → OnOk result (Appends (W.contents out.old) (W.contents out.new) (lookup_line index.now dead skip units position)) }
+    ensures line { (dead : Option ℕ) (skip : Bool) (units : List (ℕ × Parts)) → IsIndexOf dead skip units index.now
+        → OnOk result (Appends (W.contents out.old) (W.contents out.new) (lookup_line index.now dead skip units position)) }
 {
     let Some(answer) = index.lookup(position, &mut Probes::new()) else {
         writeln!(out, "{} none", PositionText(position))?;
@@ -66,7 +67,8 @@ pub fn print_lookups<W: Write>(
 ) -> Result<Status, Halt>
     ensures done { IfOk result (λ status. status ≡ Done) }
     ensures err { IfErr result (λ halt. IsPrinting halt) }
-    ensures lines { (dead : Option ℕ) (skip : Bool) (units : List (ℕ × Parts)) → IsIndexOf dead skip units index.now → OnOk result (Appends (W.contents out.old) (W.contents out.new) (flat_map (lookup_line index.now dead skip units) positions.now)) }
+    ensures lines { (dead : Option ℕ) (skip : Bool) (units : List (ℕ × Parts)) → IsIndexOf dead skip units index.now
+        → OnOk result (Appends (W.contents out.old) (W.contents out.new) (flat_map (lookup_line index.now dead skip units) positions.now)) }
 {
     for position in positions {
         print_lookup(alloc, index, *position, out)?;

@@ -62,7 +62,8 @@ pub record AnswersCheck (tells : List ℕ → Option (List ℕ) → Type 0) (fro
 -- ---- sections that are judged
 
 -- What is told of the section whose file is named is so, and this is the answer to the question.
-pub record AnswersQuestion (tells : List ℕ → Option (List ℕ) → Type 0) (from : Judging) (question : Question) (old new : Option (List ℕ)) (status : Status) : Type 0 where
+pub record AnswersQuestion (tells : List ℕ → Option (List ℕ) → Type 0) (from : Judging) (question : Question) (old new : Option (List ℕ))
+    (status : Status) : Type 0 where
   pub line : List ℕ
   pub general : List ℕ
   pub texts : AreTextsOf tells from line general
@@ -88,7 +89,8 @@ pub record AnswersAddresses (tells : List ℕ → Option (List ℕ) → Type 0) 
   pub answered : AnswersAddressesJudged judged op text_bytes old new status
 
 -- What is told of the section whose file is named is so, and so are the places at which the table of its name answers otherwise.
-pub record AnswersPlaces (tells : List ℕ → Option (List ℕ) → Type 0) (from : Judging) (table : List ℕ) (old new : Option (List ℕ)) (status : Status) : Type 0 where
+pub record AnswersPlaces (tells : List ℕ → Option (List ℕ) → Type 0) (from : Judging) (table : List ℕ) (old new : Option (List ℕ))
+    (status : Status) : Type 0 where
   pub line : List ℕ
   pub general : List ℕ
   pub texts : AreTextsOf tells from line general
@@ -103,7 +105,8 @@ pub record AnswersPlaces (tells : List ℕ → Option (List ℕ) → Type 0) (fr
 -- ---- sections that are read
 
 -- So it is of the section whose file is named.
-pub record AnswersRead (tells : List ℕ → Option (List ℕ) → Type 0) (section : List ℕ) (order : Order) (reading : Reading) (old new : Option (List ℕ)) (status : Status) : Type 0 where
+pub record AnswersRead (tells : List ℕ → Option (List ℕ) → Type 0) (section : List ℕ) (order : Order) (reading : Reading)
+    (old new : Option (List ℕ)) (status : Status) : Type 0 where
   pub section_bytes : Option (List ℕ)
   pub of_section : tells section section_bytes
   pub answered : IfSome section_bytes (λ bytes. AnswersReading order reading bytes old new status)

@@ -17,4 +17,5 @@ operation_line position = codes "no 43 operation index at " ++ (position_text po
 -- says the least position which it can't tell.
 abbrev pub IsPrintedTable : PathVersion → (Position → Option PathAnswer) → Option (List ℕ) → Option (List ℕ) → Status → Type 0
 IsPrintedTable version answers old new Done = (bytes : List ℕ) × Appends old new bytes × IsCanonicalPathTable version answers bytes
-IsPrintedTable version answers old new No = (position : Position) × Appends old new (operation_line position) × HasOperationIndex answers position
+IsPrintedTable version answers old new No =
+    (position : Position) × Appends old new (operation_line position) × HasOperationIndex answers position

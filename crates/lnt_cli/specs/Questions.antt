@@ -37,12 +37,14 @@ AreLookupsTold options index positions old new =
 -- The table of what the units answer was printed, and nothing else.
 abbrev pub IsTableTold : Version → Options → Indexed → Option (List ℕ) → Option (List ℕ) → Type 0
 IsTableTold version options index old new =
-    (bytes : List ℕ) × Appends old new bytes × ForUnitsOf options index (λ units. IsTableOfUnits version options.dead options.skip_copies units bytes)
+    (bytes : List ℕ) × Appends old new bytes × ForUnitsOf options index
+    (λ units. IsTableOfUnits version options.dead options.skip_copies units bytes)
 
 -- The same of the table by path, or that it can't be.
 abbrev pub IsPathTableTold : PathVersion → Options → Indexed → Option (List ℕ) → Option (List ℕ) → Status → Type 0
 IsPathTableTold version options index old new status =
-    ForUnitsOf options index (λ units. IsPrintedTable version (told_path version index options.dead options.skip_copies units) old new status)
+    ForUnitsOf options index (λ units. IsPrintedTable version (told_path version index options.dead options.skip_copies units) old new
+    status)
 
 -- What is answered of a good section with this index. Of the questions that aren't named here nothing is said.
 abbrev pub AnswersGood : Options → Question → Indexed → Option (List ℕ) → Option (List ℕ) → Status → Type 0

@@ -26,7 +26,8 @@ use Rattle.lnt_sources.specs.declared.status.Status.TheVariants as ending
 
 -- The bytes are a table. These are exactly the stretches at which it answers otherwise than the rows of the units, as far as
 -- its version tells, and a writer that held these bytes has gained their lines, or `yes` where there is none.
-pub record AreToldOf (dead : Option ℕ) (skip : Bool) (units : List (ℕ × Parts)) (table : List ℕ) (old new : Option (List ℕ)) (status : Status) : Type 0 where
+pub record AreToldOf (dead : Option ℕ) (skip : Bool) (units : List (ℕ × Parts)) (table : List ℕ) (old new : Option (List ℕ))
+    (status : Status) : Type 0 where
   pub version : Version
   pub spans : List Span
   pub is_table : IsTableOf version table spans
@@ -60,7 +61,8 @@ pub record AreTableTold (options : Options) (index : Indexed) (table old new : O
   pub told : Stretches
   pub fault : IsFaultTold told old new
   pub status_is : status ≡ told_status told
-  pub so : ForUnitsOf options index (λ units. IfSome table (λ text. AreStretchesOf options.dead options.skip_copies units text old new told))
+  pub so : ForUnitsOf options index (λ units. IfSome table
+      (λ text. AreStretchesOf options.dead options.skip_copies units text old new told))
 
 -- What is told of a section that was judged so and of a table.
 abbrev pub ArePlacesTold : Options → JudgedIndex → Option (List ℕ) → Option (List ℕ) → Option (List ℕ) → Status → Type 0

@@ -24,9 +24,11 @@ abbrev pub table_no_text : TableNo → List ℕ
 table_no_text (no.Section reason) = no_text reason
 table_no_text no.Header = codes "no 36 table header"
 table_no_text (no.Fields record_number) = codes "no 37 table fields record " ++ decimal record_number
-table_no_text (no.Number record_number column) = codes "no 38 table number record " ++ (decimal record_number ++ (codes " column " ++ decimal column))
+table_no_text (no.Number record_number column) =
+    codes "no 38 table number record " ++ (decimal record_number ++ (codes " column " ++ decimal column))
 table_no_text (no.Order record_number) = codes "no 39 table order record " ++ decimal record_number
-table_no_text (no.Differs position by_table by_section) = difference_text (record { position = position; by_table = by_table; by_section = by_section })
+table_no_text (no.Differs position by_table by_section) =
+    difference_text (record { position = position; by_table = by_table; by_section = by_section })
 
 -- the line of a verdict
 abbrev pub verdict_text : Verdict → List ℕ

@@ -26,7 +26,8 @@ pub(crate) fn print_table<W: Write>(
 ) -> Result<Status, Halt>
     ensures done { IfOk result (λ status. status ≡ Done) }
     ensures table { OnOk result ((bytes : List ℕ) × Appends (W.contents out.old) (W.contents out.new) bytes
-        × ((dead : Option ℕ) (skip : Bool) (units : List (ℕ × Parts)) → IsIndexOf dead skip units index.now → IsTableOfUnits version dead skip units bytes)) }
+        × ((dead : Option ℕ) (skip : Bool) (units : List (ℕ × Parts)) → IsIndexOf dead skip units index.now
+        → IsTableOfUnits version dead skip units bytes)) }
 {
     match write_index(alloc, index, version, out) {
         Ok(()) => Ok(Status::Done),

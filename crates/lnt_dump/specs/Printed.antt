@@ -25,4 +25,5 @@ refusal_text Memory = []
 
 -- a writer that held these bytes has gained the line that says why the section isn't converted, which is so
 abbrev pub IsRefusalTold : Order → List ℕ → Format → Order → Option (List ℕ) → Option (List ℕ) → Type 0
-IsRefusalTold order section format to old new = (fault : ConvertFault) × IsConvertFault order section format to fault × Appends old new (refusal_text fault)
+IsRefusalTold order section format to old new =
+    (fault : ConvertFault) × IsConvertFault order section format to fault × Appends old new (refusal_text fault)

@@ -22,7 +22,8 @@ const PAGE: usize = 1 << 16;
 /// section is malformed, or a unit of it is too large for the format, and the writer has gained the line that says so
 /// alone. It stops by `Read` only where the source failed, by `TooLong` only where it has more bytes than it may give,
 /// by `Write` where the writer failed, and by `Memory`. It keeps the bytes of the section, which are read once, and
-/// converts them unit by unit, once it is known that each unit has a spelling in the format. The caller sees to it that the number of the source's failures
+/// converts them unit by unit, once it is known that each unit has a spelling in the format. The caller sees to it that the
+/// number of the source's failures
 /// is below `u64::MAX`.
 pub fn print_converted<R: Source, W: Write>(
     alloc: Global,

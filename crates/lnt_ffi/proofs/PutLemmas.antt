@@ -1,5 +1,6 @@
 -- Spans that are put into the front of a room as they come.
-use Rattle.std.proofs.Common.{◌≡◌, ◌∙◌, ℕ, ◌+◌, ◌<◌, ◌≤◌, List, [], ◌∷◌, ◌++◌, Some, None, length, map, set, take, refl, sym, ap, subst, arith}
+use Rattle.std.proofs.Common.{◌≡◌, ◌∙◌, ℕ, ◌+◌, ◌<◌, ◌≤◌, List, [], ◌∷◌, ◌++◌, Some, None, length, map, set, take, refl, sym, ap, subst}
+use Rattle.std.proofs.Common.{arith}
 use Rattle.std.proofs.lemmas.List.{length-append, map-append, take_more_set}
 use Rattle.lnt_spans.specs.declared.span.Span.{Span}
 use Rattle.lnt_spans.specs.Coming.{GivesFirst}
@@ -31,12 +32,14 @@ pub one_put : (list : List Span) (count count' : ℕ) (room room' : List FlatSpa
     → HasPut list count room AreLeft → ((spans : List Span) → AreLeft spans → GivesFirst AreLeft' spans (Some span))
     → length room' ≡ length room → (count < length room → map span_of (take (count + 1) room') ≡ map span_of (take count room) ++ span ∷ [])
     → count' ≡ count + 1 → HasPut list count' room' AreLeft'
-one_put list count count' room room' span AreLeft AreLeft' h gives same there next = subst (λ (n : ℕ). HasPut list n room' AreLeft') (sym next) (record {
-  given = h.given ++ span ∷ [];
-  has_given = one_given list h.given span AreLeft AreLeft' h.has_given gives;
-  count_is = one_more h.given span count h.count_is;
-  there = λ fits. there (omega (arith, fits, same)) ∙ ap (λ (front : List Span). front ++ span ∷ []) (h.there (omega (arith, fits, same)));
-})
+one_put list count count' room room' span AreLeft AreLeft' h gives same there next =
+    subst (λ (n : ℕ). HasPut list n room' AreLeft') (sym next) (record {
+      given = h.given ++ span ∷ [];
+      has_given = one_given list h.given span AreLeft AreLeft' h.has_given gives;
+      count_is = one_more h.given span count h.count_is;
+      there =
+          λ fits. there (omega (arith, fits, same)) ∙ ap (λ (front : List Span). front ++ span ∷ []) (h.there (omega (arith, fits, same)));
+    })
 
 pub all_put : (list : List Span) (count : ℕ) (room : List FlatSpan) (AreLeft AreLeft' : List Span → Type 0)
     → HasPut list count room AreLeft → ((spans : List Span) → AreLeft spans → GivesFirst AreLeft' spans None)

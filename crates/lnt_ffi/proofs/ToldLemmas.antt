@@ -12,8 +12,10 @@ use Rattle.lnt_ffi.specs.declared.section.FlatSection.{FlatSection}
 use Rattle.lnt_ffi.specs.Flat.{options_of}
 
 pub no_of : (section : FlatSection) (line general : List ℕ) (options : Options) (bytes : List ℕ) (judged : JudgedIndex) (reason : No)
-    → line ≡ section.line_str.now → general ≡ section.general.now → options ≡ options_of section → bytes ≡ section.line.now → judged ≡ Bad reason
-    → IsJudgedIndex line general options bytes judged → IsTrueNo section.line_str.now section.general.now (options_of section) section.line.now reason
+    → line ≡ section.line_str.now → general ≡ section.general.now → options ≡ options_of section → bytes ≡ section.line.now
+    → judged ≡ Bad reason
+    → IsJudgedIndex line general options bytes judged
+    → IsTrueNo section.line_str.now section.general.now (options_of section) section.line.now reason
 no_of section line general options bytes judged reason l g o b j h =
     subst (λ (text : List ℕ). IsTrueNo text section.general.now (options_of section) section.line.now reason) l
     (subst (λ (text : List ℕ). IsTrueNo line text (options_of section) section.line.now reason) g
@@ -23,7 +25,8 @@ no_of section line general options bytes judged reason l g o b j h =
 
 pub verdict_is : (section : FlatSection) (line general : List ℕ) (options : Options) (bytes text table : List ℕ) (found : Verdict)
     → line ≡ section.line_str.now → general ≡ section.general.now → options ≡ options_of section → bytes ≡ section.line.now → text ≡ table
-    → IsTrueVerdict line general options bytes text found → IsTrueVerdict section.line_str.now section.general.now (options_of section) section.line.now table found
+    → IsTrueVerdict line general options bytes text found
+    → IsTrueVerdict section.line_str.now section.general.now (options_of section) section.line.now table found
 verdict_is section line general options bytes text table found l g o b t h =
     subst (λ (texts : List ℕ). IsTrueVerdict texts section.general.now (options_of section) section.line.now table found) l
     (subst (λ (texts : List ℕ). IsTrueVerdict line texts (options_of section) section.line.now table found) g

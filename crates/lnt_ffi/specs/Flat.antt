@@ -42,7 +42,8 @@ abbrev pub nothing : FlatAnswer
 nothing = record { unit = 0; file = 0; line = 0; column = 0; isa = 0; discriminator = 0; is_stmt = false; is_wide = false }
 
 abbrev pub narrow_answer : Answer → FlatAnswer
-narrow_answer answer = record nothing { unit = answer.unit; file = answer.file; line = answer.line; column = answer.column; is_stmt = answer.is_stmt }
+narrow_answer answer =
+    record nothing { unit = answer.unit; file = answer.file; line = answer.line; column = answer.column; is_stmt = answer.is_stmt }
 
 -- with the instruction set and the discriminator where they are told
 abbrev pub widened : FlatAnswer → Option More → FlatAnswer

@@ -90,9 +90,11 @@ pub data IsToldOfUnits (section : FlatSection) (count : ℕ) (room : List FlatUn
       → told ≡ yes → IsToldOfUnits section count room told
   refused : IsRefused section told → count ≡ 0 → IsToldOfUnits section count room told
 
-pub data IsToldOfPath (section : FlatSection) (unit file : ℕ) (is_there : Bool) (count : ℕ) (room : List ℕ) (told : FlatVerdict) : Type 0 where
+pub data IsToldOfPath (section : FlatSection) (unit file : ℕ) (is_there : Bool) (count : ℕ) (room : List ℕ) (told : FlatVerdict) : Type
+    0 where
   found : (index : Indexed) → IsIndexOf section index → (path : List ℕ) → file_path_in index unit file ≡ Some path
-      → is_there ≡ true → count ≡ length path → HoldsAll room count path → told ≡ yes → IsToldOfPath section unit file is_there count room told
+      → is_there ≡ true → count ≡ length path → HoldsAll room count path → told ≡ yes
+      → IsToldOfPath section unit file is_there count room told
   nowhere : (index : Indexed) → IsIndexOf section index → file_path_in index unit file ≡ None
       → is_there ≡ false → count ≡ 0 → told ≡ yes → IsToldOfPath section unit file is_there count room told
   refused : IsRefused section told → is_there ≡ false → count ≡ 0 → IsToldOfPath section unit file is_there count room told

@@ -65,7 +65,8 @@ reason_numbers reason.Memory = (15, 0, 0)
 
 abbrev pub of_malformed : Fault → FlatVerdict
 of_malformed fault =
-    record (numbered 25 (reason_numbers fault.reason).0) { offset = fault.place; index = (reason_numbers fault.reason).1; value = (reason_numbers fault.reason).2 }
+    record (numbered 25 (reason_numbers fault.reason).0)
+    { offset = fault.place; index = (reason_numbers fault.reason).1; value = (reason_numbers fault.reason).2 }
 
 -- the number of the fault, and the operation that it tells
 abbrev pub run_numbers : RunFault → ℕ × ℕ

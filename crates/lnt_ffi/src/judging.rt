@@ -69,7 +69,8 @@ pub(crate) fn index_of<'a>(
 fn put_spans<S: SpanSource + Drop>(spans: S, room: &mut [FlatSpan]) -> Option<usize>
     ensures length { length room.new ≡ length room.old }
     ensures count { IfSome result (λ count. (list : List spec.Span) → S.to_come spans list → count ≡ length list) }
-    ensures there { IfSome result (λ count. (list : List spec.Span) → S.to_come spans list → count ≤ length room.old → map span_of (take count room.new) ≡ list) }
+    ensures there { IfSome result (λ count. (list : List spec.Span) → S.to_come spans list → count ≤ length room.old
+        → map span_of (take count room.new) ≡ list) }
 {
     let mut spans = spans;
     let mut count: usize = 0;

@@ -1,5 +1,6 @@
 -- Where the texts of a section end.
-use Rattle.std.proofs.Common.{◌≡◌, ◌≢◌, ℕ, zero, suc, ◌-◌, ◌<◌, ◌≤◌, List, [], ◌∷◌, length, get_or, drop, Option, Some, None, refl, sym, ap, subst, arith, ◌⊎◌, inl, inr, false}
+use Rattle.std.proofs.Common.{◌≡◌, ◌≢◌, ℕ, zero, suc, ◌-◌, ◌<◌, ◌≤◌, List, [], ◌∷◌, length, get_or, drop, Option, Some, None, refl, sym, ap}
+use Rattle.std.proofs.Common.{subst, arith, ◌⊎◌, inl, inr, false}
 use Rattle.std.specs.Prelude.{IsSome}
 use Rattle.std.specs.Option.{option_map, is_some}
 use Rattle.lnt_wire.specs.FormBytes.{HasNoZero}
@@ -24,7 +25,8 @@ zero_ends (suc b ∷ bytes) zero lt e = absurd (omega arith)
 zero_ends (suc b ∷ bytes) (suc i) lt e = some_mapped (λ text. suc b ∷ text) (up_to_zero bytes) (zero_ends bytes i (omega arith) e)
 
 -- the same after an offset
-zero_ends_behind : (section : List ℕ) (offset i : ℕ) → offset ≤ i → i < length section → get_or section i 0 ≡ 0 → IsSome (up_to_zero (drop offset section))
+zero_ends_behind : (section : List ℕ) (offset i : ℕ) → offset ≤ i → i < length section → get_or section i 0 ≡ 0
+    → IsSome (up_to_zero (drop offset section))
 zero_ends_behind section zero i le lt e = zero_ends section i lt e
 zero_ends_behind [] (suc offset) i le lt e = absurd (omega arith)
 zero_ends_behind (b ∷ section) (suc offset) zero le lt e = absurd (omega arith)
@@ -48,7 +50,8 @@ pub none_behind : (section : List ℕ) → NoneFrom (length section) section
 none_behind [] = record { none = tt }
 none_behind (b ∷ section) = record { none = (none_behind section).none }
 
-before : (section : List ℕ) (i : ℕ) → i < length section → 0 < get_or section i 0 → HasNoZero (drop (suc i) section) → HasNoZero (drop i section)
+before : (section : List ℕ) (i : ℕ) → i < length section → 0 < get_or section i 0 → HasNoZero (drop (suc i) section)
+    → HasNoZero (drop i section)
 before [] i lt some h = absurd (omega arith)
 before (b ∷ section) zero lt some h = (some, h)
 before (b ∷ section) (suc i) lt some h = before section i (omega arith) some h
@@ -56,9 +59,13 @@ before (b ∷ section) (suc i) lt some h = before section i (omega arith) some h
 suc_pred : (n : ℕ) → 0 < n → suc (n - 1) ≡ n
 suc_pred n some = omega arith
 
-pub none_before : (section : List ℕ) (end : ℕ) → 0 < end → end ≤ length section → NoneFrom end section → get_or section (end - 1) 0 ≢ 0 → NoneFrom (end - 1) section
+pub none_before : (section : List ℕ) (end : ℕ) → 0 < end → end ≤ length section → NoneFrom end section → get_or section (end - 1) 0 ≢ 0
+    → NoneFrom (end - 1) section
 none_before section end some le h other =
-    record { none = before section (end - 1) (omega arith) (omega (arith, other)) (subst (λ (n : ℕ). HasNoZero (drop n section)) (sym (suc_pred end some)) h.none) }
+    record {
+      none = before section (end - 1) (omega arith) (omega (arith, other))
+          (subst (λ (n : ℕ). HasNoZero (drop n section)) (sym (suc_pred end some)) h.none);
+    }
 
 none_is_not_some : (o : Option (List ℕ)) → o ≡ None → IsSome o → ⊥
 none_is_not_some o e h = let f : is_some o ≡ false = ap is_some e in absurd cc
@@ -71,11 +78,18 @@ split_lt (suc m) (suc n) = elim (split_lt m n) [ inl lt ↦ inl (omega arith) | 
 
 below : (section : List ℕ) (end offset : ℕ) → NoneFrom end section → IsSome (up_to_zero (drop offset section)) → offset < end
 below section end offset h some =
-    elim (split_lt offset end) [ inl lt ↦ lt | inr le ↦ absurd (none_is_not_some (up_to_zero (drop offset section)) (no_end (drop offset section) (no_zero_later section end offset le h.none)) some) ]
+    elim (split_lt offset end) [
+      | inl lt ↦ lt
+      | inr le ↦ absurd
+          (none_is_not_some (up_to_zero (drop offset section)) (no_end (drop offset section) (no_zero_later section end offset le h.none))
+          some)
+    ]
 
 -- the byte before the end is zero, and none after it
-pub last_zero : (section : List ℕ) (end : ℕ) → 0 < end → end ≤ length section → NoneFrom end section → get_or section (end - 1) 0 ≡ 0 → TextsEndAt end section
-last_zero section end some le h e = record { texts = λ offset. (below section end offset h, λ lt. zero_ends_behind section offset (end - 1) (omega arith) (omega arith) e) }
+pub last_zero : (section : List ℕ) (end : ℕ) → 0 < end → end ≤ length section → NoneFrom end section → get_or section (end - 1) 0 ≡ 0
+    → TextsEndAt end section
+last_zero section end some le h e =
+    record { texts = λ offset. (below section end offset h, λ lt. zero_ends_behind section offset (end - 1) (omega arith) (omega arith) e) }
 
 -- no byte is zero
 pub no_zero : (section : List ℕ) → NoneFrom 0 section → TextsEndAt 0 section

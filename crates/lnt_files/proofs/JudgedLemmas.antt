@@ -1,5 +1,6 @@
 -- Tables that are judged in one walk.
-use Rattle.std.proofs.Common.{◌≡◌, ℕ, ◌+◌, ◌<◌, ◌≤◌, ◌↔◌, List, [], ◌∷◌, ◌++◌, length, Option, Some, None, refl, sym, ap, subst, ◌∙◌, append_assoc, arith}
+use Rattle.std.proofs.Common.{◌≡◌, ℕ, ◌+◌, ◌<◌, ◌≤◌, ◌↔◌, List, [], ◌∷◌, ◌++◌, length, Option, Some, None, refl, sym, ap, subst, ◌∙◌}
+use Rattle.std.proofs.Common.{append_assoc, arith}
 use Rattle.std.specs.Prelude.{Bool, true, false, IsTrue, MatchOption}
 use Rattle.std.specs.List.{AllByRecursion}
 use Rattle.std.proofs.lemmas.List.{length-append, append-nil}
@@ -22,7 +23,8 @@ use Rattle.lnt_files.specs.Walks.{Says, EntryStep, GivesEntry}
 pub seen_none : (table : BorrowedTable) → HasSeen [] table table 0
 seen_none table = record { joined = refl; count_is = refl; pairs_are = refl }
 
-pub seen_more : (seen : List Entry) (table old new : BorrowedTable) (count : ℕ) (view : EntryView) → HasSeen seen table old count → (g : GivesEntry old view new) → HasSeen (seen ++ g.entry ∷ []) table new (count + 1)
+pub seen_more : (seen : List Entry) (table old new : BorrowedTable) (count : ℕ) (view : EntryView) → HasSeen seen table old count
+    → (g : GivesEntry old view new) → HasSeen (seen ++ g.entry ∷ []) table new (count + 1)
 seen_more seen table old new count view s g = record {
   joined = s.joined ∙ ap (λ (es : List Entry). seen ++ es) g.entries_are ∙ sym (append_assoc seen (g.entry ∷ []) new.entries);
   count_is = omega (arith, s.count_is, length-append seen (g.entry ∷ []));
@@ -30,20 +32,25 @@ seen_more seen table old new count view s g = record {
 }
 
 -- what it says by the table's format
-pub says_in : (seen : List Entry) (table old new : BorrowedTable) (count : ℕ) (view : EntryView) → HasSeen seen table old count → (g : GivesEntry old view new) → Says table.pairs g.entry view
+pub says_in : (seen : List Entry) (table old new : BorrowedTable) (count : ℕ) (view : EntryView) → HasSeen seen table old count
+    → (g : GivesEntry old view new) → Says table.pairs g.entry view
 says_in seen table old new count view s g = subst (λ (ps : List Pair). Says ps g.entry view) s.pairs_are g.says
 
 empty : {X : Type 0} (xs : List X) → length xs ≡ 0 → xs ≡ []
 empty [] e = refl
 empty (x ∷ xs) e = absurd (omega arith)
 
-pub seen_all : (seen : List Entry) (table walk : BorrowedTable) (count : ℕ) → HasSeen seen table walk count → length table.entries ≤ count → seen ≡ table.entries
+pub seen_all : (seen : List Entry) (table walk : BorrowedTable) (count : ℕ) → HasSeen seen table walk count → length table.entries ≤ count
+    → seen ≡ table.entries
 seen_all seen table walk count s le =
-    let none : walk.entries ≡ [] = empty walk.entries (omega (arith, ap length s.joined, length-append seen walk.entries, s.count_is, le)) in
+    let none : walk.entries ≡ [] =
+    empty walk.entries (omega (arith, ap length s.joined, length-append seen walk.entries, s.count_is, le)) in
     sym (append-nil seen) ∙ ap (λ (es : List Entry). seen ++ es) (sym none) ∙ sym s.joined
 
-pub some_left : (seen : List Entry) (table old new : BorrowedTable) (count : ℕ) → HasSeen seen table old count → count < length table.entries → EntryStep old None new → ⊥
-some_left seen table old new count s lt ends = omega (arith, ap length s.joined, length-append seen old.entries, s.count_is, lt, ap length ends.0)
+pub some_left : (seen : List Entry) (table old new : BorrowedTable) (count : ℕ) → HasSeen seen table old count
+    → count < length table.entries → EntryStep old None new → ⊥
+some_left seen table old new count s lt ends =
+    omega (arith, ap length s.joined, length-append seen old.entries, s.count_is, lt, ap length ends.0)
 
 -- ---- all that were seen
 
@@ -58,27 +65,35 @@ pub record AllHavePaths (line general : List ℕ) (table walk : BorrowedTable) (
   pub all : AllByRecursion (HasPath line general table.pairs) seen
 
 pub all_begun : (line general : List ℕ) (table walk : BorrowedTable) → walk ≡ table → AllHavePaths line general table walk 0
-all_begun line general table walk e = subst (λ (w : BorrowedTable). AllHavePaths line general table w 0) (sym e) (record { seen = []; has_seen = seen_none table; all = tt })
+all_begun line general table walk e =
+    subst (λ (w : BorrowedTable). AllHavePaths line general table w 0) (sym e) (record { seen = []; has_seen = seen_none table; all = tt })
 
-pub never_ends : (line general : List ℕ) (table old new : BorrowedTable) (count : ℕ) → AllHavePaths line general table old count → count < length table.entries → EntryStep old None new → ⊥
+pub never_ends : (line general : List ℕ) (table old new : BorrowedTable) (count : ℕ) → AllHavePaths line general table old count
+    → count < length table.entries → EntryStep old None new → ⊥
 never_ends line general table old new count a lt ends = some_left a.seen table old new count a.has_seen lt ends
 
 -- what a test of the next entry tells
 abbrev pub TellsPath : List ℕ → List ℕ → Bool → EntryView → Type 0
-TellsPath line general told view = (pairs : List Pair) (entry : Entry) → Says pairs entry view → IsTrue told ↔ HasPath line general pairs entry
+TellsPath line general told view =
+    (pairs : List Pair) (entry : Entry) → Says pairs entry view → IsTrue told ↔ HasPath line general pairs entry
 
-pub all_stepped : (line general : List ℕ) (table old new : BorrowedTable) (count : ℕ) (view : EntryView) (told : Bool) → AllHavePaths line general table old count → GivesEntry old view new
+pub all_stepped : (line general : List ℕ) (table old new : BorrowedTable) (count : ℕ) (view : EntryView) (told : Bool)
+    → AllHavePaths line general table old count → GivesEntry old view new
     → TellsPath line general told view → IsTrue told → AllHavePaths line general table new (count + 1)
 all_stepped line general table old new count view told a g tells is = record {
   seen = a.seen ++ g.entry ∷ [];
   has_seen = seen_more a.seen table old new count view a.has_seen g;
-  all = all_push (HasPath line general table.pairs) a.seen g.entry a.all ((tells table.pairs g.entry (says_in a.seen table old new count view a.has_seen g)).0 is);
+  all = all_push (HasPath line general table.pairs) a.seen g.entry a.all
+      ((tells table.pairs g.entry (says_in a.seen table old new count view a.has_seen g)).0 is);
 }
 
-pub all_done : (line general : List ℕ) (table walk : BorrowedTable) (count : ℕ) → AllHavePaths line general table walk count → length table.entries ≤ count → AllByRecursion (HasPath line general table.pairs) table.entries
-all_done line general table walk count a le = subst (AllByRecursion (HasPath line general table.pairs)) (seen_all a.seen table walk count a.has_seen le) a.all
+pub all_done : (line general : List ℕ) (table walk : BorrowedTable) (count : ℕ) → AllHavePaths line general table walk count
+    → length table.entries ≤ count → AllByRecursion (HasPath line general table.pairs) table.entries
+all_done line general table walk count a le =
+    subst (AllByRecursion (HasPath line general table.pairs)) (seen_all a.seen table walk count a.has_seen le) a.all
 
-pub all_but : (line general : List ℕ) (table old new : BorrowedTable) (count : ℕ) (view : EntryView) (told : Bool) → AllHavePaths line general table old count → GivesEntry old view new
+pub all_but : (line general : List ℕ) (table old new : BorrowedTable) (count : ℕ) (view : EntryView) (told : Bool)
+    → AllHavePaths line general table old count → GivesEntry old view new
     → TellsPath line general told view → (IsTrue told → ⊥) → IsFirstNot (HasPath line general table.pairs) table.entries count
 all_but line general table old new count view told a g tells other = record {
   before = a.seen;
@@ -92,7 +107,8 @@ all_but line general table old new count view told a g tells other = record {
 
 -- ---- formats
 
-pub no_entries : (pairs : List Pair) (entries : List Entry) (count : ℕ) → count ≡ length entries → (count ≡ 0 → entries ≡ []) × (entries ≡ [] → count ≡ 0)
+pub no_entries : (pairs : List Pair) (entries : List Entry) (count : ℕ) → count ≡ length entries
+    → (count ≡ 0 → entries ≡ []) × (entries ≡ [] → count ≡ 0)
 no_entries pairs entries count e = ((λ none. empty entries (sym e ∙ none)), (λ none. e ∙ ap length none))
 
 -- ---- files
@@ -111,14 +127,17 @@ longer P xs more k f = record {
   not_so = f.not_so;
 }
 
-here : {X : Type 0} (P : X → Type 0) (xs : List X) (x : X) (k : ℕ) → length xs ≡ k → AllByRecursion P xs → (P x → ⊥) → IsFirstNot P (xs ++ x ∷ []) k
-here P xs x k count all other = record { before = xs; value = x; behind = []; joined = refl; index_is = sym count; all_before = all; not_so = other }
+here : {X : Type 0} (P : X → Type 0) (xs : List X) (x : X) (k : ℕ) → length xs ≡ k → AllByRecursion P xs → (P x → ⊥)
+    → IsFirstNot P (xs ++ x ∷ []) k
+here P xs x k count all other =
+    record { before = xs; value = x; behind = []; joined = refl; index_is = sym count; all_before = all; not_so = other }
 
 -- the first that is missing
 abbrev Missing : {X : Type 0} → (X → Type 0) → List X → Option ℕ → Type 0
 Missing P xs missing = MatchOption missing (AllByRecursion P xs) (λ k. IsFirstNot P xs k)
 
-no_more : {X : Type 0} (P : X → Type 0) (xs : List X) (x : X) (k : ℕ) (missing : Option ℕ) (told : Bool) → length xs ≡ k → (IsTrue told → P x) × (P x → IsTrue told) → Missing P xs missing
+no_more : {X : Type 0} (P : X → Type 0) (xs : List X) (x : X) (k : ℕ) (missing : Option ℕ) (told : Bool) → length xs ≡ k
+    → (IsTrue told → P x) × (P x → IsTrue told) → Missing P xs missing
     → Missing P (xs ++ x ∷ []) (first_missing missing k told)
 no_more P xs x k (Some first) told count tells m = longer P xs (x ∷ []) first m
 no_more P xs x k None true count tells m = all_push P xs x m (tells.0 refl)
@@ -131,19 +150,24 @@ pub record FilesSeen (line general : List ℕ) (directories : ℕ) (table walk :
   pub paths : AllByRecursion (HasPath line general table.pairs) seen
   pub numbers : Missing (IsBelow directories table.pairs) seen missing
 
-their_paths : (line general : List ℕ) (directories : ℕ) (table walk : BorrowedTable) (count : ℕ) (missing : Option ℕ) → FilesSeen line general directories table walk count missing → AllHavePaths line general table walk count
+their_paths : (line general : List ℕ) (directories : ℕ) (table walk : BorrowedTable) (count : ℕ) (missing : Option ℕ)
+    → FilesSeen line general directories table walk count missing → AllHavePaths line general table walk count
 their_paths line general directories table walk count missing s = record { seen = s.seen; has_seen = s.has_seen; all = s.paths }
 
-pub files_begun : (line general : List ℕ) (directories : ℕ) (table walk : BorrowedTable) → walk ≡ table → FilesSeen line general directories table walk 0 None
+pub files_begun : (line general : List ℕ) (directories : ℕ) (table walk : BorrowedTable) → walk ≡ table
+    → FilesSeen line general directories table walk 0 None
 files_begun line general directories table walk e =
-    subst (λ (w : BorrowedTable). FilesSeen line general directories table w 0 None) (sym e) (record { seen = []; has_seen = seen_none table; paths = tt; numbers = tt })
+    subst (λ (w : BorrowedTable). FilesSeen line general directories table w 0 None) (sym e)
+    (record { seen = []; has_seen = seen_none table; paths = tt; numbers = tt })
 
 -- what a directory number of the next entry tells
 abbrev pub TellsNumber : ℕ → EntryView → Type 0
 TellsNumber number view = (pairs : List Pair) (entry : Entry) → Says pairs entry view → number ≡ directory_number pairs entry
 
-pub files_stepped : (line general : List ℕ) (directories : ℕ) (table old new : BorrowedTable) (count : ℕ) (missing : Option ℕ) (view : EntryView) (told below : Bool) (number : ℕ)
-    → FilesSeen line general directories table old count missing → GivesEntry old view new → TellsPath line general told view → IsTrue told → TellsNumber number view → IsTrue below ↔ (number < directories)
+pub files_stepped : (line general : List ℕ) (directories : ℕ) (table old new : BorrowedTable) (count : ℕ) (missing : Option ℕ)
+    (view : EntryView) (told below : Bool) (number : ℕ)
+    → FilesSeen line general directories table old count missing → GivesEntry old view new → TellsPath line general told view → IsTrue told
+    → TellsNumber number view → IsTrue below ↔ (number < directories)
     → FilesSeen line general directories table new (count + 1) (first_missing missing count below)
 files_stepped line general directories table old new count missing view told below number s g tells is names lower =
     let says = says_in s.seen table old new count view s.has_seen g in
@@ -156,29 +180,44 @@ files_stepped line general directories table old new count missing view told bel
           ((λ t. omega (arith, lower.0 t, number_is)), (λ lt. lower.1 (omega (arith, lt, number_is)))) s.numbers;
     }
 
-pub files_never_end : (line general : List ℕ) (directories : ℕ) (table old new : BorrowedTable) (count : ℕ) (missing : Option ℕ) → FilesSeen line general directories table old count missing → count < length table.entries
+pub files_never_end : (line general : List ℕ) (directories : ℕ) (table old new : BorrowedTable) (count : ℕ) (missing : Option ℕ)
+    → FilesSeen line general directories table old count missing → count < length table.entries
     → EntryStep old None new → ⊥
 files_never_end line general directories table old new count missing s lt ends = some_left s.seen table old new count s.has_seen lt ends
 
-pub files_but : (line general : List ℕ) (directories : ℕ) (table old new : BorrowedTable) (count : ℕ) (missing : Option ℕ) (view : EntryView) (told : Bool) → FilesSeen line general directories table old count missing
-    → GivesEntry old view new → TellsPath line general told view → (IsTrue told → ⊥) → IsFirstNot (HasPath line general table.pairs) table.entries count
-files_but line general directories table old new count missing view told s g tells other = all_but line general table old new count view told (their_paths line general directories table old count missing s) g tells other
+pub files_but : (line general : List ℕ) (directories : ℕ) (table old new : BorrowedTable) (count : ℕ) (missing : Option ℕ)
+    (view : EntryView) (told : Bool) → FilesSeen line general directories table old count missing
+    → GivesEntry old view new → TellsPath line general told view → (IsTrue told → ⊥)
+    → IsFirstNot (HasPath line general table.pairs) table.entries count
+files_but line general directories table old new count missing view told s g tells other =
+    all_but line general table old new count view told (their_paths line general directories table old count missing s) g tells other
 
-numbers_done : (line general : List ℕ) (directories : ℕ) (table walk : BorrowedTable) (count : ℕ) (missing : Option ℕ) → (s : FilesSeen line general directories table walk count missing) → length table.entries ≤ count
+numbers_done : (line general : List ℕ) (directories : ℕ) (table walk : BorrowedTable) (count : ℕ) (missing : Option ℕ)
+    → (s : FilesSeen line general directories table walk count missing) → length table.entries ≤ count
     → Missing (IsBelow directories table.pairs) table.entries missing
 numbers_done line general directories table walk count missing s le =
-    subst (λ (es : List Entry). Missing (IsBelow directories table.pairs) es missing) (seen_all s.seen table walk count s.has_seen le) s.numbers
+    subst (λ (es : List Entry). Missing (IsBelow directories table.pairs) es missing) (seen_all s.seen table walk count s.has_seen le)
+    s.numbers
 
-pub files_sound : (line general : List ℕ) (directories : ℕ) (table walk : BorrowedTable) (count : ℕ) (missing : Option ℕ) → FilesSeen line general directories table walk count missing → length table.entries ≤ count
+pub files_sound : (line general : List ℕ) (directories : ℕ) (table walk : BorrowedTable) (count : ℕ) (missing : Option ℕ)
+    → FilesSeen line general directories table walk count missing → length table.entries ≤ count
     → missing ≡ None → HasAll line general directories table
 files_sound line general directories table walk count missing s le e =
-    let numbers : Missing (IsBelow directories table.pairs) table.entries None = subst (Missing (IsBelow directories table.pairs) table.entries) e (numbers_done line general directories table walk count missing s le) in
-    record { paths = all_done line general table walk count (their_paths line general directories table walk count missing s) le; numbers = numbers }
+    let numbers : Missing (IsBelow directories table.pairs) table.entries None = subst
+    (Missing (IsBelow directories table.pairs) table.entries) e
+    (numbers_done line general directories table walk count missing s le) in
+    record {
+      paths = all_done line general table walk count (their_paths line general directories table walk count missing s) le;
+      numbers = numbers;
+    }
 
-pub files_missing : (line general : List ℕ) (directories : ℕ) (table walk : BorrowedTable) (count index : ℕ) (missing : Option ℕ) → FilesSeen line general directories table walk count missing → length table.entries ≤ count
+pub files_missing : (line general : List ℕ) (directories : ℕ) (table walk : BorrowedTable) (count index : ℕ) (missing : Option ℕ)
+    → FilesSeen line general directories table walk count missing → length table.entries ≤ count
     → missing ≡ Some index → IsFilesFault line general directories table (DirectoryNumber index)
 files_missing line general directories table walk count index missing s le e =
-    let numbers : Missing (IsBelow directories table.pairs) table.entries (Some index) = subst (Missing (IsBelow directories table.pairs) table.entries) e (numbers_done line general directories table walk count missing s le) in
+    let numbers : Missing (IsBelow directories table.pairs) table.entries (Some index) = subst
+    (Missing (IsBelow directories table.pairs) table.entries) e
+    (numbers_done line general directories table walk count missing s le) in
     (all_done line general table walk count (their_paths line general directories table walk count missing s) le, numbers)
 
 -- ---- both tables
@@ -198,30 +237,41 @@ pub record AreJudged (line general : List ℕ) (h : HeaderParts) (d f : Borrowed
 moved : (P : List Pair → List Entry → Type 0) (ps qs : List Pair) (es fs : List Entry) → ps ≡ qs → es ≡ fs → P ps es → P qs fs
 moved P ps qs es fs e e' p = subst (λ (z : List Entry). P qs z) e' (subst (λ (z : List Pair). P z es) e p)
 
-directory_format_of : (line general : List ℕ) (h : HeaderParts) (d f : BorrowedTable) (count : ℕ) → AreJudged line general h d f count → HasUsableFormat h.directory_format h.directories
-directory_format_of line general h d f count j = moved HasUsableFormat d.pairs h.directory_format d.entries h.directories j.directory_pairs j.directories j.directory_format
+directory_format_of : (line general : List ℕ) (h : HeaderParts) (d f : BorrowedTable) (count : ℕ) → AreJudged line general h d f count
+    → HasUsableFormat h.directory_format h.directories
+directory_format_of line general h d f count j =
+    moved HasUsableFormat d.pairs h.directory_format d.entries h.directories j.directory_pairs j.directories j.directory_format
 
-file_format_of : (line general : List ℕ) (h : HeaderParts) (d f : BorrowedTable) (count : ℕ) → AreJudged line general h d f count → HasUsableFormat h.file_format h.files
+file_format_of : (line general : List ℕ) (h : HeaderParts) (d f : BorrowedTable) (count : ℕ) → AreJudged line general h d f count
+    → HasUsableFormat h.file_format h.files
 file_format_of line general h d f count j = moved HasUsableFormat f.pairs h.file_format f.entries h.files j.file_pairs j.files j.file_format
 
-directory_paths_of : (line general : List ℕ) (h : HeaderParts) (d f : BorrowedTable) (count : ℕ) → AreJudged line general h d f count → AllByRecursion (HasPath line general h.directory_format) h.directories
+directory_paths_of : (line general : List ℕ) (h : HeaderParts) (d f : BorrowedTable) (count : ℕ) → AreJudged line general h d f count
+    → AllByRecursion (HasPath line general h.directory_format) h.directories
 directory_paths_of line general h d f count j =
-    moved (λ ps es. AllByRecursion (HasPath line general ps) es) d.pairs h.directory_format d.entries h.directories j.directory_pairs j.directories j.paths
+    moved (λ ps es. AllByRecursion (HasPath line general ps) es) d.pairs h.directory_format d.entries h.directories j.directory_pairs
+    j.directories j.paths
 
-file_paths_of : (line general : List ℕ) (h : HeaderParts) (d f : BorrowedTable) (count : ℕ) → AreJudged line general h d f count → AllByRecursion (HasPath line general f.pairs) f.entries
+file_paths_of : (line general : List ℕ) (h : HeaderParts) (d f : BorrowedTable) (count : ℕ) → AreJudged line general h d f count
+    → AllByRecursion (HasPath line general f.pairs) f.entries
     → AllByRecursion (HasPath line general h.file_format) h.files
-file_paths_of line general h d f count j p = moved (λ ps es. AllByRecursion (HasPath line general ps) es) f.pairs h.file_format f.entries h.files j.file_pairs j.files p
+file_paths_of line general h d f count j p =
+    moved (λ ps es. AllByRecursion (HasPath line general ps) es) f.pairs h.file_format f.entries h.files j.file_pairs j.files p
 
-count_of : (line general : List ℕ) (h : HeaderParts) (d f : BorrowedTable) (count : ℕ) → AreJudged line general h d f count → count ≡ length h.directories
+count_of : (line general : List ℕ) (h : HeaderParts) (d f : BorrowedTable) (count : ℕ) → AreJudged line general h d f count
+    → count ≡ length h.directories
 count_of line general h d f count j = j.count_is ∙ ap length j.directories
 
-numbers_of : (line general : List ℕ) (h : HeaderParts) (d f : BorrowedTable) (count : ℕ) → AreJudged line general h d f count → AllByRecursion (IsBelow count f.pairs) f.entries → AllByRecursion (HasDirectory h) h.files
+numbers_of : (line general : List ℕ) (h : HeaderParts) (d f : BorrowedTable) (count : ℕ) → AreJudged line general h d f count
+    → AllByRecursion (IsBelow count f.pairs) f.entries → AllByRecursion (HasDirectory h) h.files
 numbers_of line general h d f count j p =
     subst (λ (n : ℕ). AllByRecursion (IsBelow n h.file_format) h.files) (count_of line general h d f count j)
     (moved (λ ps es. AllByRecursion (IsBelow count ps) es) f.pairs h.file_format f.entries h.files j.file_pairs j.files p)
 
-pub judged : (line general : List ℕ) (h : HeaderParts) (d f : BorrowedTable) (count : ℕ) (found : Option EntryTableFault) → AreJudged line general h d f count
-    → MatchOption found (HasAll line general count f) (λ fault. IsFilesFault line general count f fault) → MatchOption found (AreUsableTables line general h) (λ fault. IsTablesFault line general h fault)
+pub judged : (line general : List ℕ) (h : HeaderParts) (d f : BorrowedTable) (count : ℕ) (found : Option EntryTableFault)
+    → AreJudged line general h d f count
+    → MatchOption found (HasAll line general count f) (λ fault. IsFilesFault line general count f fault)
+    → MatchOption found (AreUsableTables line general h) (λ fault. IsTablesFault line general h fault)
 judged line general h d f count None j m = record {
   directories = record { format = directory_format_of line general h d f count j; paths = directory_paths_of line general h d f count j };
   files = record { format = file_format_of line general h d f count j; paths = file_paths_of line general h d f count j m.paths };

@@ -1,5 +1,6 @@
 -- Files as they are kept.
-use Rattle.std.proofs.Common.{◌≡◌, ℕ, zero, suc, ◌+◌, ◌-◌, ◌<◌, ◌≤◌, List, [], ◌∷◌, ◌++◌, length, get_or, take, drop, Option, Some, None, refl, sym, ap, subst, ◌∙◌, arith, length-append, length-drop}
+use Rattle.std.proofs.Common.{◌≡◌, ℕ, zero, suc, ◌+◌, ◌-◌, ◌<◌, ◌≤◌, List, [], ◌∷◌, ◌++◌, length, get_or, take, drop, Option, Some, None}
+use Rattle.std.proofs.Common.{refl, sym, ap, subst, ◌∙◌, arith, length-append, length-drop}
 use Rattle.std.proofs.lemmas.List.{drop_at, take-append-le, drop-append-le, take_more, take_all}
 use Rattle.std.proofs.lemmas.Option.{slice_get_within}
 use Rattle.std.proofs.lemmas.Slice.{between_is}
@@ -20,12 +21,15 @@ pub kept_length : (paths : List ℕ) (start : ℕ) (files : List Kept) → lengt
 kept_length paths start [] = refl
 kept_length paths start (file ∷ files) = ap suc (kept_length paths file.end files)
 
-pub kept_sum_is : (paths : List ℕ) (start : ℕ) (files : List Kept) (n : ℕ) → kept_sum (kept_files paths start files) n ≡ option_and_then (λ file. file.listed) (slice_get files n)
+pub kept_sum_is : (paths : List ℕ) (start : ℕ) (files : List Kept) (n : ℕ)
+    → kept_sum (kept_files paths start files) n ≡ option_and_then (λ file. file.listed) (slice_get files n)
 kept_sum_is paths start [] n = refl
 kept_sum_is paths start (file ∷ files) zero = refl
 kept_sum_is paths start (file ∷ files) (suc n) = kept_sum_is paths file.end files n
 
-pub kept_path_is : (paths : List ℕ) (start : ℕ) (files : List Kept) (n : ℕ) → kept_path (kept_files paths start files) n ≡ option_map (λ file. slice_range paths (start_of start files n) file.end) (slice_get files n)
+pub kept_path_is : (paths : List ℕ) (start : ℕ) (files : List Kept) (n : ℕ)
+    → kept_path (kept_files paths start files) n ≡ option_map (λ file. slice_range paths (start_of start files n) file.end)
+    (slice_get files n)
 kept_path_is paths start [] n = refl
 kept_path_is paths start (file ∷ files) zero = refl
 kept_path_is paths start (file ∷ files) (suc n) = kept_path_is paths file.end files n
@@ -35,7 +39,8 @@ start_behind start [] n d lt = absurd (omega arith)
 start_behind start (file ∷ files) zero d lt = refl
 start_behind start (file ∷ files) (suc n) d lt = start_behind file.end files n d (omega arith)
 
-pub start_is_end : (start : ℕ) (files : List Kept) (n : ℕ) (d : Kept) → 0 < n → n < length files → start_of start files n ≡ (get_or files (n - 1) d).end
+pub start_is_end : (start : ℕ) (files : List Kept) (n : ℕ) (d : Kept) → 0 < n → n < length files
+    → start_of start files n ≡ (get_or files (n - 1) d).end
 start_is_end start files zero d some lt = absurd (omega arith)
 start_is_end start files (suc n) d some lt =
     let same : suc n - 1 ≡ n = omega arith in
@@ -52,7 +57,8 @@ pub record IsEnd (start end last : ℕ) : Type 0 where
   pub behind : start ≤ end
   pub within : end ≤ last
 
-pub end_is_behind : (last start : ℕ) (files : List Kept) (n : ℕ) (file : Kept) → EndAt last start files → slice_get files n ≡ Some file → IsEnd (start_of start files n) file.end last
+pub end_is_behind : (last start : ℕ) (files : List Kept) (n : ℕ) (file : Kept) → EndAt last start files → slice_get files n ≡ Some file
+    → IsEnd (start_of start files n) file.end last
 end_is_behind last start [] n file h e = absurd cc
 end_is_behind last start (first ∷ files) zero file h e =
     let same : first ≡ file = cc in
@@ -76,26 +82,32 @@ path_is paths kept n start file e s =
 
 pub no_path_is : (paths : List ℕ) (kept : List Kept) (n : ℕ) → None ≡ slice_get kept n → None ≡ kept_path (kept_files paths 0 kept) n
 no_path_is paths kept n e =
-    sym (kept_path_is paths 0 kept n ∙ ap (λ (o : Option Kept). option_map (λ file. slice_range paths (start_of 0 kept n) file.end) o) (sym e))
+    sym (kept_path_is paths 0 kept n ∙ ap (λ (o : Option Kept). option_map (λ file. slice_range paths (start_of 0 kept n) file.end) o)
+    (sym e))
 
 -- ---- one file more
 
-ends_more : (last start : ℕ) (files : List Kept) (file : Kept) → EndAt last start files → last ≤ file.end → EndAt file.end start (files ++ file ∷ [])
+ends_more : (last start : ℕ) (files : List Kept) (file : Kept) → EndAt last start files → last ≤ file.end
+    → EndAt file.end start (files ++ file ∷ [])
 ends_more last start [] file h le = (omega (arith, h), refl)
 ends_more last start (first ∷ files) file h le = (h.0, ends_more last first.end files file h.1 le)
 
-same_range : (paths more : List ℕ) (start end : ℕ) → start ≤ end → end ≤ length paths → slice_range (paths ++ more) start end ≡ slice_range paths start end
+same_range : (paths more : List ℕ) (start end : ℕ) → start ≤ end → end ≤ length paths
+    → slice_range (paths ++ more) start end ≡ slice_range paths start end
 same_range paths more start end le within =
     ap (λ (z : List ℕ). take (end - start) z) (drop-append-le start paths more (omega arith))
     ∙ take-append-le (end - start) (drop start paths) more (omega (arith, length-drop start paths))
 
-last_range : (paths more : List ℕ) (start end : ℕ) → start ≡ length paths → end ≡ length paths + length more → slice_range (paths ++ more) start end ≡ more
+last_range : (paths more : List ℕ) (start end : ℕ) → start ≡ length paths → end ≡ length paths + length more
+    → slice_range (paths ++ more) start end ≡ more
 last_range paths more start end e f =
     ap (λ (z : List ℕ). take (end - start) z) (drop_at paths more start (sym e))
     ∙ take_all (end - start) more (omega (arith, e, f))
 
-kept_more : (paths more : List ℕ) (start : ℕ) (files : List Kept) (file : Kept) → EndAt (length paths) start files → file.end ≡ length paths + length more
-    → kept_files (paths ++ more) start (files ++ file ∷ []) ≡ kept_files paths start files ++ record { path = more; listed = file.listed } ∷ []
+kept_more : (paths more : List ℕ) (start : ℕ) (files : List Kept) (file : Kept) → EndAt (length paths) start files
+    → file.end ≡ length paths + length more
+    → kept_files (paths ++ more) start (files ++ file ∷ [])
+    ≡ kept_files paths start files ++ record { path = more; listed = file.listed } ∷ []
 kept_more paths more start [] file h e =
     ap (λ (z : List ℕ). record { path = z; listed = file.listed } ∷ []) (last_range paths more start file.end h e)
 kept_more paths more start (first ∷ files) file h e =
@@ -107,9 +119,11 @@ kept_more paths more start (first ∷ files) file h e =
 pub keeps_none : (line general : List ℕ) (h : HeaderParts) (files : List Entry) → Keeps line general h (take 0 files) [] []
 keeps_none line general h files = record { ends = refl; same = tt }
 
-keeps_path : (line general : List ℕ) (h : HeaderParts) (files : List Entry) (i : ℕ) (d : Entry) (paths more : List ℕ) (kept : List Kept) (file : Kept)
+keeps_path : (line general : List ℕ) (h : HeaderParts) (files : List Entry) (i : ℕ) (d : Entry) (paths more : List ℕ) (kept : List Kept)
+    (file : Kept)
     → Keeps line general h (take i files) paths kept → i < length files
-    → file_path line general h (get_or files i d) ≡ Some more → sum_of h.file_format (get_or files i d) ≡ file.listed → file.end ≡ length (paths ++ more)
+    → file_path line general h (get_or files i d) ≡ Some more → sum_of h.file_format (get_or files i d) ≡ file.listed
+    → file.end ≡ length (paths ++ more)
     → Keeps line general h (take (i + 1) files) (paths ++ more) (kept ++ file ∷ [])
 keeps_path line general h files i d paths more kept file k lt path sum end =
     let long : file.end ≡ length paths + length more = end ∙ length-append paths more in
@@ -119,17 +133,22 @@ keeps_path line general h files i d paths more kept file k lt path sum end =
     let ends = ends_more (length paths) 0 kept file k.ends (omega (arith, long)) in
     record {
       ends = subst (λ (n : ℕ). EndAt n 0 (kept ++ file ∷ [])) end ends;
-      same = subst (λ (z : List Entry). AllZip (IsKept line general h) z (kept_files (paths ++ more) 0 (kept ++ file ∷ []))) (sym (take_more files i d lt))
-          (subst (λ (z : List KeptFile). AllZip (IsKept line general h) (take i files ++ get_or files i d ∷ []) z) (sym (kept_more paths more 0 kept file k.ends long)) all);
+      same = subst (λ (z : List Entry). AllZip (IsKept line general h) z (kept_files (paths ++ more) 0 (kept ++ file ∷ [])))
+          (sym (take_more files i d lt))
+          (subst (λ (z : List KeptFile). AllZip (IsKept line general h) (take i files ++ get_or files i d ∷ []) z)
+          (sym (kept_more paths more 0 kept file k.ends long)) all);
     }
 
-pub keeps_more : (line general : List ℕ) (h : HeaderParts) (files : List Entry) (i : ℕ) (entry : Entry) (paths new : List ℕ) (kept : List Kept) (file : Kept)
+pub keeps_more : (line general : List ℕ) (h : HeaderParts) (files : List Entry) (i : ℕ) (entry : Entry) (paths new : List ℕ)
+    (kept : List Kept) (file : Kept)
     → Keeps line general h (take i h.files) paths kept → files ≡ h.files → i < length files → entry ≡ get_or files i entry
-    → option_map (λ path. paths ++ path) (file_path line general h entry) ≡ Some new → sum_of h.file_format entry ≡ file.listed → file.end ≡ length new
+    → option_map (λ path. paths ++ path) (file_path line general h entry) ≡ Some new → sum_of h.file_format entry ≡ file.listed
+    → file.end ≡ length new
     → Keeps line general h (take (i + 1) h.files) new (kept ++ file ∷ [])
 keeps_more line general h files i entry paths new kept file k those lt is path sum end = by_path (file_path line general h entry) refl path
   where
-    by_path : (o : Option (List ℕ)) → file_path line general h entry ≡ o → option_map (λ path. paths ++ path) o ≡ Some new → Keeps line general h (take (i + 1) h.files) new (kept ++ file ∷ [])
+    by_path : (o : Option (List ℕ)) → file_path line general h entry ≡ o → option_map (λ path. paths ++ path) o ≡ Some new
+        → Keeps line general h (take (i + 1) h.files) new (kept ++ file ∷ [])
     by_path None e p = absurd cc
     by_path (Some more) e p =
         let same : paths ++ more ≡ new = cc in
@@ -137,7 +156,8 @@ keeps_more line general h files i entry paths new kept file k those lt is path s
         let path' = subst (λ (f : Entry). file_path line general h f ≡ Some more) at e in
         let sum' = subst (λ (f : Entry). sum_of h.file_format f ≡ file.listed) at sum in
         subst (λ (z : List ℕ). Keeps line general h (take (i + 1) h.files) z (kept ++ file ∷ [])) same
-        (keeps_path line general h h.files i entry paths more kept file k (subst (λ (z : List Entry). i < length z) those lt) path' sum' (end ∙ ap length (sym same)))
+        (keeps_path line general h h.files i entry paths more kept file k (subst (λ (z : List Entry). i < length z) those lt) path' sum'
+        (end ∙ ap length (sym same)))
 
 -- ---- all files
 
@@ -147,7 +167,8 @@ same_count R [] (y ∷ ys) h = absurd h
 same_count R (x ∷ xs) [] h = absurd h
 same_count R (x ∷ xs) (y ∷ ys) h = ap suc (same_count R xs ys h.1)
 
-same_path : (line general : List ℕ) (h : HeaderParts) (files : List Entry) (kept : List KeptFile) (n : ℕ) → AllZip (IsKept line general h) files kept
+same_path : (line general : List ℕ) (h : HeaderParts) (files : List Entry) (kept : List KeptFile) (n : ℕ)
+    → AllZip (IsKept line general h) files kept
     → kept_path kept n ≡ option_and_then (file_path line general h) (slice_get files n)
 same_path line general h [] [] n all = refl
 same_path line general h [] (k ∷ kept) n all = absurd all
@@ -155,7 +176,8 @@ same_path line general h (file ∷ files) [] n all = absurd all
 same_path line general h (file ∷ files) (k ∷ kept) zero all = sym all.0.path
 same_path line general h (file ∷ files) (k ∷ kept) (suc n) all = same_path line general h files kept n all.1
 
-same_sum : (line general : List ℕ) (h : HeaderParts) (files : List Entry) (kept : List KeptFile) (n : ℕ) → AllZip (IsKept line general h) files kept
+same_sum : (line general : List ℕ) (h : HeaderParts) (files : List Entry) (kept : List KeptFile) (n : ℕ)
+    → AllZip (IsKept line general h) files kept
     → kept_sum kept n ≡ option_and_then (sum_of h.file_format) (slice_get files n)
 same_sum line general h [] [] n all = refl
 same_sum line general h [] (k ∷ kept) n all = absurd all
@@ -163,10 +185,12 @@ same_sum line general h (file ∷ files) [] n all = absurd all
 same_sum line general h (file ∷ files) (k ∷ kept) zero all = sym all.0.sum
 same_sum line general h (file ∷ files) (k ∷ kept) (suc n) all = same_sum line general h files kept n all.1
 
-pub kept_all : (line general : List ℕ) (h : HeaderParts) (n : ℕ) (paths : List ℕ) (kept : List Kept) → Keeps line general h (take n h.files) paths kept → length h.files ≤ n
+pub kept_all : (line general : List ℕ) (h : HeaderParts) (n : ℕ) (paths : List ℕ) (kept : List Kept)
+    → Keeps line general h (take n h.files) paths kept → length h.files ≤ n
     → AreFilesOf line general h (kept_files paths 0 kept)
 kept_all line general h n paths kept k le =
-    let all : AllZip (IsKept line general h) h.files (kept_files paths 0 kept) = subst (λ (z : List Entry). AllZip (IsKept line general h) z (kept_files paths 0 kept)) (take_all n h.files le) k.same in
+    let all : AllZip (IsKept line general h) h.files (kept_files paths 0 kept) =
+    subst (λ (z : List Entry). AllZip (IsKept line general h) z (kept_files paths 0 kept)) (take_all n h.files le) k.same in
     record {
       count = same_count (IsKept line general h) h.files (kept_files paths 0 kept) all;
       paths = λ number. same_path line general h h.files (kept_files paths 0 kept) number all;

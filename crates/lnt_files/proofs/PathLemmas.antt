@@ -26,7 +26,8 @@ either_some true x o h = refl
 either_some false x o h = h
 
 -- the value of an element that is there
-element_there : {X Y : Type 0} (f : X → Option Y) (xs : List X) (n : ℕ) → AllByRecursion (λ x. IsSome (f x)) xs → n < length xs → IsSome (option_and_then f (slice_get xs n))
+element_there : {X Y : Type 0} (f : X → Option Y) (xs : List X) (n : ℕ) → AllByRecursion (λ x. IsSome (f x)) xs → n < length xs
+    → IsSome (option_and_then f (slice_get xs n))
 element_there f [] n h lt = absurd (omega arith)
 element_there f (x ∷ xs) zero h lt = h.0
 element_there f (x ∷ xs) (suc n) h lt = element_there f xs n h.1 (omega arith)
@@ -41,44 +42,56 @@ texts_there line general h usable = record {
   texts = λ number lt. element_there (path_text line general h.directory_format) h.directories number usable.directories.paths lt;
 }
 
-directory_there : (line general : List ℕ) (h : HeaderParts) (number : ℕ) → HaveTexts line general h → number < length h.directories → IsSome (directory_path line general h number)
+directory_there : (line general : List ℕ) (h : HeaderParts) (number : ℕ) → HaveTexts line general h → number < length h.directories
+    → IsSome (directory_path line general h number)
 directory_there line general h number have lt =
-    some_then (λ text. cond ((number == 0) || begins_with_slash text) (Some text) (below_first line general h text)) (directory_text line general h number)
+    some_then (λ text. cond ((number == 0) || begins_with_slash text) (Some text) (below_first line general h text))
+    (directory_text line general h number)
     (λ text. either_some ((number == 0) || begins_with_slash text) text (below_first line general h text)
     (some_mapped (λ first. join first text) (directory_text line general h 0) (have.texts 0 (omega (arith, lt)))))
     (have.texts number lt)
 
-file_there : (line general : List ℕ) (h : HeaderParts) (file : Entry) → HaveTexts line general h → HasPath line general h.file_format file → HasDirectory h file → IsSome (file_path line general h file)
+file_there : (line general : List ℕ) (h : HeaderParts) (file : Entry) → HaveTexts line general h → HasPath line general h.file_format file
+    → HasDirectory h file → IsSome (file_path line general h file)
 file_there line general h file have path lt =
-    some_then (λ text. cond (begins_with_slash text) (Some text) (below_directory line general h file text)) (path_text line general h.file_format file)
+    some_then (λ text. cond (begins_with_slash text) (Some text) (below_directory line general h file text))
+    (path_text line general h.file_format file)
     (λ text. either_some (begins_with_slash text) text (below_directory line general h file text)
     (some_mapped (λ directory. join directory text) (directory_path line general h (directory_number h.file_format file))
     (directory_there line general h (directory_number h.file_format file) have lt)))
     path
 
-each_there : (line general : List ℕ) (h : HeaderParts) (files : List Entry) → HaveTexts line general h → AllByRecursion (HasPath line general h.file_format) files → AllByRecursion (HasDirectory h) files
+each_there : (line general : List ℕ) (h : HeaderParts) (files : List Entry) → HaveTexts line general h
+    → AllByRecursion (HasPath line general h.file_format) files → AllByRecursion (HasDirectory h) files
     → AllByRecursion (λ file. IsSome (file_path line general h file)) files
 each_there line general h [] have p d = tt
-each_there line general h (file ∷ files) have p d = (file_there line general h file have p.0 d.0, each_there line general h files have p.1 d.1)
+each_there line general h (file ∷ files) have p d =
+    (file_there line general h file have p.0 d.0, each_there line general h files have p.1 d.1)
 
-files_there : (line general : List ℕ) (h : HeaderParts) → AreUsableTables line general h → AllByRecursion (λ file. IsSome (file_path line general h file)) h.files
+files_there : (line general : List ℕ) (h : HeaderParts) → AreUsableTables line general h
+    → AllByRecursion (λ file. IsSome (file_path line general h file)) h.files
 files_there line general h usable = each_there line general h h.files (texts_there line general h usable) usable.files.paths usable.numbers
 
 -- each file has a path
-path_at : (line general : List ℕ) (h : HeaderParts) (number : ℕ) (file : Entry) → AreUsableTables line general h → number < length h.files → file ≡ get_or h.files number file → IsSome (file_path line general h file)
+path_at : (line general : List ℕ) (h : HeaderParts) (number : ℕ) (file : Entry) → AreUsableTables line general h → number < length h.files
+    → file ≡ get_or h.files number file → IsSome (file_path line general h file)
 path_at line general h number file usable lt same =
-    subst (λ (f : Entry). IsSome (file_path line general h f)) (sym same) (all_at (λ f. IsSome (file_path line general h f)) h.files number file lt (files_there line general h usable))
+    subst (λ (f : Entry). IsSome (file_path line general h f)) (sym same)
+    (all_at (λ f. IsSome (file_path line general h f)) h.files number file lt (files_there line general h usable))
 
 pub within : {X : Type 0} (xs : List X) (n : ℕ) (x : X) → Some x ≡ slice_get xs n → n < length xs
 within xs n x e = slice_get_within xs n x (sym e)
 
-pub path_there : (line general : List ℕ) (h : HeaderParts) (number : ℕ) (file : Entry) → AreUsableTables line general h → Some file ≡ slice_get h.files number → IsSome (file_path line general h file)
+pub path_there : (line general : List ℕ) (h : HeaderParts) (number : ℕ) (file : Entry) → AreUsableTables line general h
+    → Some file ≡ slice_get h.files number → IsSome (file_path line general h file)
 path_there line general h number file usable e =
     let lt = within h.files number file e in
     path_at line general h number file usable lt (sym (get_or_from_slice_get h.files number file file (sym e)))
 
 -- the same of a file that a loop over the files has come to
-pub path_in : (line general : List ℕ) (h : HeaderParts) (files : List Entry) (number : ℕ) (file : Entry) → AreUsableTables line general h → files ≡ h.files → number < length files → file ≡ get_or files number file
+pub path_in : (line general : List ℕ) (h : HeaderParts) (files : List Entry) (number : ℕ) (file : Entry) → AreUsableTables line general h
+    → files ≡ h.files → number < length files → file ≡ get_or files number file
     → IsSome (file_path line general h file)
 path_in line general h files number file usable same lt is =
-    path_at line general h number file usable (subst (λ (z : List Entry). number < length z) same lt) (subst (λ (z : List Entry). file ≡ get_or z number file) same is)
+    path_at line general h number file usable (subst (λ (z : List Entry). number < length z) same lt)
+    (subst (λ (z : List Entry). file ≡ get_or z number file) same is)

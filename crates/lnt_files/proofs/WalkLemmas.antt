@@ -19,23 +19,38 @@ use Rattle.lnt_files.specs.Walks.{IsUsual, ArePlaces, ReadsEntry, GivesEntry, le
 table_with : BorrowedTable → List Entry → BorrowedTable
 table_with table entries = record table { entries = entries }
 
-pub begun_is : (table : BorrowedTable) (left : ℕ) (at : At) → left ≡ length table.entries → AreEntryBytes table at.rest → left_of table left at ≡ table
+pub begun_is : (table : BorrowedTable) (left : ℕ) (at : At) → left ≡ length table.entries → AreEntryBytes table at.rest
+    → left_of table left at ≡ table
 unfolding table_with
-begun_is table left at count bytes = ap (table_with table) (all_found table.format table.order table.pairs left table.entries at.rest (sym count) bytes)
+begun_is table left at count bytes =
+    ap (table_with table) (all_found table.format table.order table.pairs left table.entries at.rest (sym count) bytes)
 
-pub walk_begun : (table : BorrowedTable) (usual : Usual) (places : Places) (left : ℕ) (at : At) → IsUsual usual table.pairs → ArePlaces places table.pairs → left ≡ length table.entries → at.order ≡ table.order
+pub walk_begun : (table : BorrowedTable) (usual : Usual) (places : Places) (left : ℕ) (at : At) → IsUsual usual table.pairs
+    → ArePlaces places table.pairs → left ≡ length table.entries → at.order ≡ table.order
     → AreEntryBytes table at.rest → IsWalk table usual places left at
 walk_begun table usual places left at is are count order bytes =
-    record { usual_is = is; places_are = are; order_is = order; bytes = subst (λ (t : BorrowedTable). AreEntryBytes t at.rest) (sym (begun_is table left at count bytes)) bytes }
+    record {
+      usual_is = is;
+      places_are = are;
+      order_is = order;
+      bytes = subst (λ (t : BorrowedTable). AreEntryBytes t at.rest) (sym (begun_is table left at count bytes)) bytes;
+    }
 
 -- a walk that begins before a later entry
-pub before_is : (table : BorrowedTable) (first left : ℕ) (at : At) → left ≡ length table.entries - first → AreEntryBytes (from_entry first table) at.rest → left_of table left at ≡ from_entry first table
+pub before_is : (table : BorrowedTable) (first left : ℕ) (at : At) → left ≡ length table.entries - first
+    → AreEntryBytes (from_entry first table) at.rest → left_of table left at ≡ from_entry first table
 before_is table first left at count bytes = begun_is (from_entry first table) left at (count ∙ sym (length-drop first table.entries)) bytes
 
-pub walk_before : (table : BorrowedTable) (usual : Usual) (places : Places) (first left : ℕ) (at : At) → IsUsual usual table.pairs → ArePlaces places table.pairs → left ≡ length table.entries - first → at.order ≡ table.order
+pub walk_before : (table : BorrowedTable) (usual : Usual) (places : Places) (first left : ℕ) (at : At) → IsUsual usual table.pairs
+    → ArePlaces places table.pairs → left ≡ length table.entries - first → at.order ≡ table.order
     → AreEntryBytes (from_entry first table) at.rest → IsWalk table usual places left at
 walk_before table usual places first left at is are count order bytes =
-    record { usual_is = is; places_are = are; order_is = order; bytes = subst (λ (t : BorrowedTable). AreEntryBytes t at.rest) (sym (before_is table first left at count bytes)) bytes }
+    record {
+      usual_is = is;
+      places_are = are;
+      order_is = order;
+      bytes = subst (λ (t : BorrowedTable). AreEntryBytes t at.rest) (sym (before_is table first left at count bytes)) bytes;
+    }
 
 pub walk_ended : (table : BorrowedTable) (left : ℕ) (at : At) → left ≡ 0 → (left_of table left at).entries ≡ []
 walk_ended table left at none = ap (λ (n : ℕ). first_entries table.format table.order table.pairs n at.rest) none
@@ -48,46 +63,66 @@ record IsStepped (table : BorrowedTable) (left : ℕ) (entry : Entry) (at new : 
   entries_are : (left_of table left at).entries ≡ entry ∷ (left_of table (left - 1) new).entries
   bytes : AreEntryBytes (left_of table (left - 1) new) new.rest
 
-stepped : (table : BorrowedTable) (usual : Usual) (places : Places) (left : ℕ) (view : EntryView) (at new : At) → left ≢ 0 → IsWalk table usual places left at → (r : ReadsEntry table.format table.pairs view at new)
+stepped : (table : BorrowedTable) (usual : Usual) (places : Places) (left : ℕ) (view : EntryView) (at new : At) → left ≢ 0
+    → IsWalk table usual places left at → (r : ReadsEntry table.format table.pairs view at new)
     → IsStepped table left r.entry at new
 stepped table usual places left view at new some is r =
-    let spelled : EntryBytes table.format table.order table.pairs r.entry r.read.spelling = subst (λ (o : Order). EntryBytes table.format o table.pairs r.entry r.read.spelling) is.order_is r.read.spelled in
+    let spelled : EntryBytes table.format table.order table.pairs r.entry r.read.spelling =
+    subst (λ (o : Order). EntryBytes table.format o table.pairs r.entry r.read.spelling) is.order_is r.read.spelled in
     let entries : (left_of table left at).entries ≡ r.entry ∷ (left_of table (left - 1) new).entries =
     ap (λ (n : ℕ). first_entries table.format table.order table.pairs n at.rest) (one_less left some)
     ∙ first_found table.format table.order table.pairs (left - 1) r.entry r.read.spelling new.rest at.rest spelled r.read.whole in
     record {
       entries_are = entries;
-      bytes = others_spelled table.format table.order table.pairs r.entry (left_of table (left - 1) new).entries r.read.spelling new.rest at.rest
-          (subst (λ (es : List Entry). Each (EntryBytes table.format table.order table.pairs) es at.rest) entries is.bytes) spelled r.read.whole;
+      bytes = others_spelled table.format table.order table.pairs r.entry (left_of table (left - 1) new).entries r.read.spelling new.rest
+          at.rest
+          (subst (λ (es : List Entry). Each (EntryBytes table.format table.order table.pairs) es at.rest) entries is.bytes) spelled
+          r.read.whole;
     }
 
-pub walk_steps : (table : BorrowedTable) (usual : Usual) (places : Places) (left : ℕ) (view : EntryView) (at new : At) → left ≢ 0 → IsWalk table usual places left at → ReadsEntry table.format table.pairs view at new
+pub walk_steps : (table : BorrowedTable) (usual : Usual) (places : Places) (left : ℕ) (view : EntryView) (at new : At) → left ≢ 0
+    → IsWalk table usual places left at → ReadsEntry table.format table.pairs view at new
     → GivesEntry (left_of table left at) view (left_of table (left - 1) new)
-walk_steps table usual places left view at new some is r = record { entry = r.entry; entries_are = (stepped table usual places left view at new some is r).entries_are; pairs_are = refl; says = r.says }
+walk_steps table usual places left view at new some is r = record
+    { entry = r.entry; entries_are = (stepped table usual places left view at new some is r).entries_are; pairs_are = refl; says = r.says }
 
-pub walk_goes_on : (table : BorrowedTable) (usual : Usual) (places : Places) (left : ℕ) (view : EntryView) (at new : At) → left ≢ 0 → IsWalk table usual places left at → ReadsEntry table.format table.pairs view at new
+pub walk_goes_on : (table : BorrowedTable) (usual : Usual) (places : Places) (left : ℕ) (view : EntryView) (at new : At) → left ≢ 0
+    → IsWalk table usual places left at → ReadsEntry table.format table.pairs view at new
     → IsWalk table usual places (left - 1) new
 walk_goes_on table usual places left view at new some is r =
-    record { usual_is = is.usual_is; places_are = is.places_are; order_is = r.read.order ∙ is.order_is; bytes = (stepped table usual places left view at new some is r).bytes }
+    record {
+      usual_is = is.usual_is;
+      places_are = is.places_are;
+      order_is = r.read.order ∙ is.order_is;
+      bytes = (stepped table usual places left view at new some is r).bytes;
+    }
 
 never : (count : ℕ) (table : BorrowedTable) (bytes : List ℕ) → NoneSpelled (EntryBytes table.format table.order table.pairs) bytes
-    → Each (EntryBytes table.format table.order table.pairs) (first_entries table.format table.order table.pairs (suc count) bytes) bytes → ⊥
+    → Each (EntryBytes table.format table.order table.pairs) (first_entries table.format table.order table.pairs (suc count) bytes) bytes
+    → ⊥
 never count table bytes none each = none _ each.front each.back each.first (sym each.joined)
 
-pub walk_never_stops : (table : BorrowedTable) (usual : Usual) (places : Places) (left : ℕ) (at : At) → left ≢ 0 → IsWalk table usual places left at
+pub walk_never_stops : (table : BorrowedTable) (usual : Usual) (places : Places) (left : ℕ) (at : At) → left ≢ 0
+    → IsWalk table usual places left at
     → NoneSpelled (EntryBytes table.format at.order table.pairs) at.rest → ⊥
 walk_never_stops table usual places left at some is none =
-    let here : NoneSpelled (EntryBytes table.format table.order table.pairs) at.rest = subst (λ (o : Order). NoneSpelled (EntryBytes table.format o table.pairs) at.rest) is.order_is none in
+    let here : NoneSpelled (EntryBytes table.format table.order table.pairs) at.rest =
+    subst (λ (o : Order). NoneSpelled (EntryBytes table.format o table.pairs) at.rest) is.order_is none in
     never (left - 1) table at.rest here
-    (subst (λ (n : ℕ). Each (EntryBytes table.format table.order table.pairs) (first_entries table.format table.order table.pairs n at.rest) at.rest) (one_less left some) is.bytes)
+    (subst (λ (n : ℕ). Each (EntryBytes table.format table.order table.pairs) (first_entries table.format table.order table.pairs n at.rest)
+    at.rest) (one_less left some) is.bytes)
 
 -- the same by the table that was asked
-pub in_table : (table : BorrowedTable) (format : Format) (pairs : List Pair) (view : EntryView) (at new : At) → format ≡ table.format → pairs ≡ table.pairs → ReadsEntry format pairs view at new
+pub in_table : (table : BorrowedTable) (format : Format) (pairs : List Pair) (view : EntryView) (at new : At) → format ≡ table.format
+    → pairs ≡ table.pairs → ReadsEntry format pairs view at new
     → ReadsEntry table.format table.pairs view at new
 in_table table format pairs view at new format_is pairs_are r =
-    subst (λ (f : Format). ReadsEntry f table.pairs view at new) format_is (subst (λ (ps : List Pair). ReadsEntry format ps view at new) pairs_are r)
+    subst (λ (f : Format). ReadsEntry f table.pairs view at new) format_is
+    (subst (λ (ps : List Pair). ReadsEntry format ps view at new) pairs_are r)
 
-pub none_in_table : (table : BorrowedTable) (format : Format) (pairs : List Pair) (at : At) → format ≡ table.format → pairs ≡ table.pairs → NoneSpelled (EntryBytes format at.order pairs) at.rest
+pub none_in_table : (table : BorrowedTable) (format : Format) (pairs : List Pair) (at : At) → format ≡ table.format → pairs ≡ table.pairs
+    → NoneSpelled (EntryBytes format at.order pairs) at.rest
     → NoneSpelled (EntryBytes table.format at.order table.pairs) at.rest
 none_in_table table format pairs at format_is pairs_are none =
-    subst (λ (f : Format). NoneSpelled (EntryBytes f at.order table.pairs) at.rest) format_is (subst (λ (ps : List Pair). NoneSpelled (EntryBytes format at.order ps) at.rest) pairs_are none)
+    subst (λ (f : Format). NoneSpelled (EntryBytes f at.order table.pairs) at.rest) format_is
+    (subst (λ (ps : List Pair). NoneSpelled (EntryBytes format at.order ps) at.rest) pairs_are none)

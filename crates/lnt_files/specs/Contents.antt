@@ -1,4 +1,5 @@
--- What the entries of a table say by their content types (DWARF 5, sections 6.2.4.1 and 7.22). In an entry the first component of a content type counts.
+-- What the entries of a table say by their content types (DWARF 5, sections 6.2.4.1 and 7.22). In an entry the first component
+-- of a content type counts.
 use Rattle.std.specs.Prelude.{ℕ, ◌==◌, List, Option, Some, None}
 use Rattle.std.specs.List.{position, slice_get}
 use Rattle.std.specs.Option.{option_map, option_and_then, option_map_or}

@@ -11,7 +11,8 @@ use Rattle.lnt_files.specs.Paths.{file_path}
 -- the files, the first of whose paths begins at the start
 abbrev pub kept_files : List ℕ → ℕ → List Kept → List KeptFile
 kept_files paths start [] = []
-kept_files paths start (file ∷ files) = record { path = slice_range paths start file.end; listed = file.listed } ∷ kept_files paths file.end files
+kept_files paths start (file ∷ files) =
+    record { path = slice_range paths start file.end; listed = file.listed } ∷ kept_files paths file.end files
 
 -- where the path of a file begins
 abbrev pub start_of : ℕ → List Kept → ℕ → ℕ

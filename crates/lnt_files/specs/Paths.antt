@@ -36,16 +36,19 @@ below_first line general h text = option_map (λ first. join first text) (direct
 -- the path of the directory of this number: below directory 0, unless it is directory 0 or begins with a slash
 abbrev pub directory_path : List ℕ → List ℕ → HeaderParts → ℕ → Option (List ℕ)
 directory_path line general h number =
-    option_and_then (λ text. cond ((number == 0) || begins_with_slash text) (Some text) (below_first line general h text)) (directory_text line general h number)
+    option_and_then (λ text. cond ((number == 0) || begins_with_slash text) (Some text) (below_first line general h text))
+    (directory_text line general h number)
 
 -- a file's text, below its directory
 abbrev pub below_directory : List ℕ → List ℕ → HeaderParts → Entry → List ℕ → Option (List ℕ)
-below_directory line general h file text = option_map (λ directory. join directory text) (directory_path line general h (directory_number h.file_format file))
+below_directory line general h file text =
+    option_map (λ directory. join directory text) (directory_path line general h (directory_number h.file_format file))
 
 -- the path of a file: below its directory, unless it begins with a slash
 abbrev pub file_path : List ℕ → List ℕ → HeaderParts → Entry → Option (List ℕ)
 file_path line general h file =
-    option_and_then (λ text. cond (begins_with_slash text) (Some text) (below_directory line general h file text)) (path_text line general h.file_format file)
+    option_and_then (λ text. cond (begins_with_slash text) (Some text) (below_directory line general h file text))
+    (path_text line general h.file_format file)
 
 -- the path of the file of this number
 abbrev pub path_bytes : List ℕ → List ℕ → HeaderParts → ℕ → Option (List ℕ)

@@ -72,7 +72,8 @@ pub record HaveUsableFormats (h : HeaderParts) : Type 0 where
 -- What is wrong. Whatever is tested earlier is sound.
 abbrev pub IsTablesFault : List ℕ → List ℕ → HeaderParts → EntryTableFault → Type 0
 IsTablesFault line general h (EntryFormat Directories) = HasUsableFormat h.directory_format h.directories → ⊥
-IsTablesFault line general h (EntryFormat Files) = HasUsableFormat h.directory_format h.directories × (HasUsableFormat h.file_format h.files → ⊥)
+IsTablesFault line general h (EntryFormat Files) =
+    HasUsableFormat h.directory_format h.directories × (HasUsableFormat h.file_format h.files → ⊥)
 IsTablesFault line general h (StringOutside Directories index) =
     HaveUsableFormats h × IsFirstNot (HasPath line general h.directory_format) h.directories index
 IsTablesFault line general h (StringOutside Files index) =

@@ -60,7 +60,8 @@ contents_of pairs = map (λ pair. pair.content) pairs
 abbrev pub IsUsual : Usual → List Pair → Type 0
 IsUsual Path pairs = (contents_of pairs ≡ content_path ∷ []) × (forms_of pairs ≡ LineStrp ∷ [])
 IsUsual IndexedPath pairs = (contents_of pairs ≡ content_path ∷ content_directory_index ∷ []) × (forms_of pairs ≡ LineStrp ∷ Udata ∷ [])
-IsUsual SummedPath pairs = (contents_of pairs ≡ content_path ∷ content_directory_index ∷ content_md5 ∷ []) × (forms_of pairs ≡ LineStrp ∷ Udata ∷ Data16 ∷ [])
+IsUsual SummedPath pairs =
+    (contents_of pairs ≡ content_path ∷ content_directory_index ∷ content_md5 ∷ []) × (forms_of pairs ≡ LineStrp ∷ Udata ∷ Data16 ∷ [])
 IsUsual Other pairs = Unit {0}
 
 pub record ArePlaces (places : Places) (pairs : List Pair) : Type 0 where

@@ -207,7 +207,8 @@ fn with_value<'a>(
     place: usize,
     value: ValueView<'a>,
 ) -> EntryView<'a>
-    ensures { (values : List FormValue) → length values ≡ place → AreKept places values entry.entry → AreKept places (values ++ value_of value.entry ∷ []) result }
+    ensures { (values : List FormValue) → length values ≡ place → AreKept places values entry.entry
+        → AreKept places (values ++ value_of value.entry ∷ []) result }
 {
     EntryView {
         path: kept(entry.path, places.path, place, value),
@@ -225,7 +226,8 @@ fn kept<'a>(
     place: usize,
     value: ValueView<'a>,
 ) -> Option<ValueView<'a>>
-    ensures { (values : List FormValue) → length values ≡ place → IsKept wanted values component.entry → IsKept wanted (values ++ value_of value.entry ∷ []) result }
+    ensures { (values : List FormValue) → length values ≡ place → IsKept wanted values component.entry
+        → IsKept wanted (values ++ value_of value.entry ∷ []) result }
 {
     if wanted == Some(place) {
         Some(value)

@@ -2,7 +2,8 @@
 ghost use Rattle.std.specs.Prelude.{◌≡◌, ◌<◌, ◌≤◌, ◌↔◌, ◌++◌, length, take, drop, IfOk, OnOk, IsSome};
 ghost use Rattle.std.specs.List.{slice_get};
 ghost use Rattle.std.specs.Option.{option_copied, option_map};
-ghost use Rattle.lnt_files.specs.Paths.{begins_with_slash, ends_with_slash, join, directory_text, directory_path, file_path, path_bytes, listed_sum};
+ghost use Rattle.lnt_files.specs.Paths.{begins_with_slash, ends_with_slash, join, directory_text, directory_path, file_path, path_bytes};
+ghost use Rattle.lnt_files.specs.Paths.{listed_sum};
 ghost use Rattle.lnt_files.specs.Pieces.{whole_path};
 ghost use Rattle.lnt_files.specs.Tables.{AreUsableTables};
 
@@ -39,7 +40,8 @@ pub fn path_of(
     file: u64,
 ) -> Result<Option<Vec<u8>>, AllocError>
     requires { AreUsableTables strings.now.line.now strings.now.general.now header.now }
-    ensures path { IfOk result (λ path. option_map (λ path. path.items) path ≡ path_bytes strings.now.line.now strings.now.general.now header.now file) }
+    ensures path { IfOk result (λ path. option_map (λ path. path.items) path
+        ≡ path_bytes strings.now.line.now strings.now.general.now header.now file) }
     ensures there { IfOk result (λ path. IsSome path ↔ (file < length header.now.files)) }
 {
     let Some(entry) = file_at(header, file) else {
@@ -96,7 +98,8 @@ fn directory_pieces<'s>(
     strings: &'s Strings<'_>,
     number: u64,
 ) -> Option<(&'s [u8], &'s [u8])>
-    ensures { option_map (λ pieces. join pieces.0.now pieces.1.now) result ≡ directory_path strings.now.line.now strings.now.general.now header.now number }
+    ensures { option_map (λ pieces. join pieces.0.now pieces.1.now) result
+        ≡ directory_path strings.now.line.now strings.now.general.now header.now number }
 {
     let directory = directory_text(header, strings, number)?;
     if number == 0 || begins_with_slash(directory) {
@@ -134,7 +137,8 @@ pub(crate) fn add_path(
     file: &Entry,
 ) -> Result<(), AllocError>
     requires { IsSome (file_path strings.now.line.now strings.now.general.now header.now file.now) }
-    ensures { OnOk result (option_map (λ path. out.old.items ++ path) (file_path strings.now.line.now strings.now.general.now header.now file.now) ≡ Some out.new.items) }
+    ensures { OnOk result (option_map (λ path. out.old.items ++ path)
+        (file_path strings.now.line.now strings.now.general.now header.now file.now) ≡ Some out.new.items) }
 {
     let Some(pieces) = pieces_of(header, strings, file) else {
         unreachable!()

@@ -17,7 +17,8 @@ impl<'a> EntryView<'a> {
     #[inline(always)]
     #[tactic(auto, using(crate::proofs::SaidLemmas::has_text, crate::proofs::SaidLemmas::has_none))]
     pub fn has_path(&self, ends: &StringEnds<'_>) -> bool
-        ensures { (pairs : List Pair) (entry : Entry) → Says pairs entry self.now → IsTrue result ↔ HasPath ends.now.line ends.now.general pairs entry }
+        ensures { (pairs : List Pair) (entry : Entry) → Says pairs entry self.now
+            → IsTrue result ↔ HasPath ends.now.line ends.now.general pairs entry }
     {
         match self.path {
             Some(value) => ends.has_text(value),
@@ -28,7 +29,8 @@ impl<'a> EntryView<'a> {
     /// The text of the entry's path. None where it isn't there.
     #[tactic(auto, using(crate::proofs::SaidLemmas::text_is, crate::proofs::SaidLemmas::no_text_is))]
     pub fn path_text(&self, strings: Strings<'a>) -> Option<&'a [u8]>
-        ensures { (pairs : List Pair) (entry : Entry) → Says pairs entry self.now → option_map (λ text. text.now) result ≡ path_text strings.entry.line.now strings.entry.general.now pairs entry }
+        ensures { (pairs : List Pair) (entry : Entry) → Says pairs entry self.now
+            → option_map (λ text. text.now) result ≡ path_text strings.entry.line.now strings.entry.general.now pairs entry }
     {
         match self.path {
             Some(value) => strings.view_text(value),

@@ -4,7 +4,8 @@ use Rattle.std.specs.List.{AllByRecursion}
 use Rattle.lnt_wire.specs.declared.format.Order.{Order}
 use Rattle.lnt_wire.specs.declared.format.Format.{Format}
 use Rattle.lnt_wire.specs.declared.form.FormValue.{FormValue}
-use Rattle.lnt_wire.specs.declared.form.FormValue.TheVariants.{Text, LineStrp, Strp, Udata, Data1, Data2, Data4, Data8, Data16, Block, Block1, Block2, Block4}
+use Rattle.lnt_wire.specs.declared.form.FormValue.TheVariants.{Text, LineStrp, Strp, Udata, Data1, Data2, Data4, Data8, Data16, Block}
+use Rattle.lnt_wire.specs.declared.form.FormValue.TheVariants.{Block1, Block2, Block4}
 use Rattle.lnt_header.specs.Joins.{Each}
 use Rattle.lnt_wire.specs.FormBytes.{form_of, HasSpelling, FormBytes}
 use Rattle.lnt_header.specs.declared.header.HeaderParts.{HeaderParts}
@@ -34,7 +35,8 @@ record AreValuesOf (pairs : List Pair) (values : List FormValue) : Type 0 where
   forms : map form_of values ≡ map (λ pair. pair.form) pairs
   spelled : AllByRecursion HasSpelling values
 
-spelled_values : (format : Format) (order : Order) (pairs : List Pair) (values : List FormValue) (x : List ℕ) → ValuesBytes format order pairs values x → AreValuesOf pairs values
+spelled_values : (format : Format) (order : Order) (pairs : List Pair) (values : List FormValue) (x : List ℕ)
+    → ValuesBytes format order pairs values x → AreValuesOf pairs values
 spelled_values format order [] [] x p = record { forms = refl; spelled = tt }
 spelled_values format order [] (v ∷ values) x p = absurd p
 spelled_values format order (pair ∷ pairs) [] x p = absurd p
@@ -44,15 +46,21 @@ spelled_values format order (pair ∷ pairs) (v ∷ values) x p =
     let tails = rest.forms in
     record { forms = cc; spelled = (spelled_value format order v p.1.front p.1.first, rest.spelled) }
 
-spelled_entries : (format : Format) (order : Order) (pairs : List Pair) (entries : List Entry) (x : List ℕ) → Each (EntryBytes format order pairs) entries x → AllByRecursion (IsEntryOf pairs) entries
+spelled_entries : (format : Format) (order : Order) (pairs : List Pair) (entries : List Entry) (x : List ℕ)
+    → Each (EntryBytes format order pairs) entries x → AllByRecursion (IsEntryOf pairs) entries
 spelled_entries format order pairs [] x p = tt
 spelled_entries format order pairs (entry ∷ entries) x p =
     let first = spelled_values format order pairs entry.values p.front p.first in
     (record { forms = first.forms; spelled = first.spelled }, spelled_entries format order pairs entries p.back p.second)
 
-spelled_table : (format : Format) (order : Order) (pairs : List Pair) (entries : List Entry) (x : List ℕ) → TableBytes format order pairs entries x → IsTable pairs entries
+spelled_table : (format : Format) (order : Order) (pairs : List Pair) (entries : List Entry) (x : List ℕ)
+    → TableBytes format order pairs entries x → IsTable pairs entries
 spelled_table format order pairs entries x p =
-    record { few_pairs = p.few_pairs; none_without_pairs = p.none_without_pairs; of_format = spelled_entries format order pairs entries p.spelled.second.second.back p.spelled.second.second.second }
+    record {
+      few_pairs = p.few_pairs;
+      none_without_pairs = p.none_without_pairs;
+      of_format = spelled_entries format order pairs entries p.spelled.second.second.back p.spelled.second.second.second;
+    }
 
 pub spelled_header : (h : HeaderParts) (x : List ℕ) → HeaderFieldsBytes h x → IsHeader h
 spelled_header h x p = record {
@@ -61,5 +69,6 @@ spelled_header h x p = record {
   files = spelled_table h.format h.order h.file_format h.files p.files p.file_table;
 }
 
-pub found_header : (format : Format) (order : Order) (size : ℕ) (bytes : List ℕ) (h : HeaderParts) → HasFields format order size bytes h → IsHeader h
+pub found_header : (format : Format) (order : Order) (size : ℕ) (bytes : List ℕ) (h : HeaderParts) → HasFields format order size bytes h
+    → IsHeader h
 found_header format order size bytes h has = spelled_header h bytes has.fields

@@ -36,16 +36,22 @@ regroup a b c d e = simp append_assoc
 to_right : (a b c d : List ℕ) → a ++ b ++ c ++ d ≡ a ++ (b ++ (c ++ d))
 to_right a b c d = simp append_assoc
 
-pub fields_found : (format : Format) (order : Order) (size : ℕ) (bytes : List ℕ) (s : Singles) (lengths : List ℕ) (d f : Table) (old new : At) (h : HeaderParts)
-    → h.format ≡ format → h.order ≡ order → h.address_size ≡ size → IsAddressSize size → ((i : ℕ) → get_or bytes i 0 < 256) → old.rest ≡ bytes → old.order ≡ order
-    → Reads (FieldsBytes format old.order) (s, (lengths, (d, f))) old new → AreFields s lengths d f new.rest h → HasFields format order size bytes h
+pub fields_found : (format : Format) (order : Order) (size : ℕ) (bytes : List ℕ) (s : Singles) (lengths : List ℕ) (d f : Table)
+    (old new : At) (h : HeaderParts)
+    → h.format ≡ format → h.order ≡ order → h.address_size ≡ size → IsAddressSize size → ((i : ℕ) → get_or bytes i 0 < 256)
+    → old.rest ≡ bytes → old.order ≡ order
+    → Reads (FieldsBytes format old.order) (s, (lengths, (d, f))) old new → AreFields s lengths d f new.rest h
+    → HasFields format order size bytes h
 fields_found format order size bytes s lengths d f old new h format_is order_is size_is is small rest_is same_order there are =
-    let r : Reads (FieldsBytes format order) (s, (lengths, (d, f))) old new = subst (λ (o : Order). Reads (FieldsBytes format o) (s, (lengths, (d, f))) old new) same_order there in
+    let r : Reads (FieldsBytes format order) (s, (lengths, (d, f))) old new =
+    subst (λ (o : Order). Reads (FieldsBytes format o) (s, (lengths, (d, f))) old new) same_order there in
     let p1 = r.spelled in
     let p2 = p1.second in
     let p3 = p2.second in
-    let read : old.rest ≡ p1.front ++ (p1.back ++ new.rest) = r.whole ∙ ap (λ (z : List ℕ). z ++ new.rest) p1.joined ∙ append_assoc p1.front p1.back new.rest in
-    let byte : get_or bytes 3 0 ≡ s.line_base = ap (λ (z : List ℕ). get_or z 3 0) (sym rest_is ∙ read ∙ ap (λ (z : List ℕ). z ++ (p1.back ++ new.rest)) p1.first.spelled) in
+    let read : old.rest ≡ p1.front ++ (p1.back ++ new.rest) =
+    r.whole ∙ ap (λ (z : List ℕ). z ++ new.rest) p1.joined ∙ append_assoc p1.front p1.back new.rest in
+    let byte : get_or bytes 3 0 ≡ s.line_base =
+    ap (λ (z : List ℕ). get_or z 3 0) (sym rest_is ∙ read ∙ ap (λ (z : List ℕ). z ++ (p1.back ++ new.rest)) p1.first.spelled) in
     let low : s.line_base < 256 = subst (λ (n : ℕ). n < 256) byte (small 3) in
     let line_base : h.line_base ≡ cast_signed w8 s.line_base = are.line_base ∙ ap (cast_signed w8) (of_z-to_z w8 s.line_base low) in
     let line_base_byte : cast_unsigned w8 h.line_base ≡ s.line_base = ap (cast_unsigned w8) line_base ∙ of_z-to_z w8 s.line_base low in
@@ -54,11 +60,14 @@ fields_found format order size bytes s lengths d f old new h format_is order_is 
     let rest = p2.first.2 in
     cc (six, rest, are.minimum, are.max_ops, are.default_is_stmt, line_base_byte, are.line_range, are.opcode_base, are.lengths_are) in
     let whole : bytes ≡ (p1.front ++ p2.front) ++ p3.front ++ p3.back ++ new.rest =
-    sym rest_is ∙ r.whole ∙ ap (λ (z : List ℕ). z ++ new.rest) (p1.joined ∙ ap (λ (z : List ℕ). p1.front ++ z) (p2.joined ∙ ap (λ (z : List ℕ). p2.front ++ z) p3.joined))
+    sym rest_is ∙ r.whole ∙ ap (λ (z : List ℕ). z ++ new.rest)
+    (p1.joined ∙ ap (λ (z : List ℕ). p1.front ++ z) (p2.joined ∙ ap (λ (z : List ℕ). p2.front ++ z) p3.joined))
     ∙ regroup p1.front p2.front p3.front p3.back new.rest in
     let joined : bytes ≡ single_bytes h ++ p3.front ++ p3.back ++ h.extra =
-    whole ∙ ap (λ (z : List ℕ). z ++ p3.front ++ p3.back ++ new.rest) (sym singles) ∙ ap (λ (z : List ℕ). single_bytes h ++ p3.front ++ p3.back ++ z) (sym are.extra_is) in
-    let nested : bytes ≡ single_bytes h ++ (p3.front ++ (p3.back ++ h.extra)) = joined ∙ to_right (single_bytes h) p3.front p3.back h.extra in
+    whole ∙ ap (λ (z : List ℕ). z ++ p3.front ++ p3.back ++ new.rest) (sym singles)
+    ∙ ap (λ (z : List ℕ). single_bytes h ++ p3.front ++ p3.back ++ z) (sym are.extra_is) in
+    let nested : bytes ≡ single_bytes h ++ (p3.front ++ (p3.back ++ h.extra)) =
+    joined ∙ to_right (single_bytes h) p3.front p3.back h.extra in
     let all : AllByRecursion (λ byte. byte < 256) (single_bytes h ++ (p3.front ++ (p3.back ++ h.extra))) =
     subst (λ (z : List ℕ). AllByRecursion (λ byte. byte < 256) z) nested (are_bytes bytes small) in
     let numbers : HasHeaderNumbers h = record {
@@ -70,11 +79,20 @@ fields_found format order size bytes s lengths d f old new h format_is order_is 
       opcode_base = are.opcode_base ∙ p2.first.0 ∙ ap (λ (z : List ℕ). length z + 1) (sym are.lengths_are);
       lengths = rw are.lengths_are p2.first.1;
     } in
-    let directories : TableBytes h.format h.order h.directory_format h.directories p3.front = rw (format_is, order_is, are.directory_format, are.directories_are) p3.first in
-    let files : TableBytes h.format h.order h.file_format h.files p3.back = rw (format_is, order_is, are.file_format, are.files_are) p3.second in
+    let directories : TableBytes h.format h.order h.directory_format h.directories p3.front =
+    rw (format_is, order_is, are.directory_format, are.directories_are) p3.first in
+    let files : TableBytes h.format h.order h.file_format h.files p3.back =
+    rw (format_is, order_is, are.file_format, are.files_are) p3.second in
     record {
       format_is = format_is;
       order_is = order_is;
       size_is = size_is;
-      fields = record { directories = p3.front; files = p3.back; numbers = numbers; directory_table = directories; file_table = files; joined = joined };
+      fields = record {
+        directories = p3.front;
+        files = p3.back;
+        numbers = numbers;
+        directory_table = directories;
+        file_table = files;
+        joined = joined;
+      };
     }

@@ -37,7 +37,8 @@ pub record Candidate (order : Order) (format : Format) (body : List ℕ) (unit :
   pub body_is : body ≡ laid order (offset_size format) unit.0.address_size fields unit.1
   pub small : length fields < 256 ^ offset_size format
 
-candidate : (order : Order) (format : Format) (body : List ℕ) → LengthFits format (length body) → (unit : HeaderParts × List ℕ) (x more : List ℕ) → HeaderBytesIn order unit x → x ++ more ≡ frame_bytes order format body
+candidate : (order : Order) (format : Format) (body : List ℕ) → LengthFits format (length body)
+    → (unit : HeaderParts × List ℕ) (x more : List ℕ) → HeaderBytesIn order unit x → x ++ more ≡ frame_bytes order format body
     → Candidate order format body unit
 candidate order format body fits unit x more p e =
     let h = unit.0 in
@@ -49,8 +50,10 @@ candidate order format body fits unit x more p e =
     let lengths = same_length order h.format format (length whole) (length body) (whole ++ more) body s.fits fits spread in
     let wholes : whole ≡ body = same_front whole body more [] lengths.number (lengths.behind ∙ sym (append-nil body)) in
     let over : whole ≡ laid order (offset_size format) h.address_size s.fields unit.1 =
-    ap (λ (o : Order). laid o (offset_size h.format) h.address_size s.fields unit.1) p.order_is ∙ ap (λ (f : Format). laid order (offset_size f) h.address_size s.fields unit.1) lengths.format in
-    let small : length s.fields < 256 ^ offset_size h.format = below h.format (length whole) (length s.fields) s.fits (length-laid h.order (offset_size h.format) h.address_size s.fields unit.1) in
+    ap (λ (o : Order). laid o (offset_size h.format) h.address_size s.fields unit.1) p.order_is
+    ∙ ap (λ (f : Format). laid order (offset_size f) h.address_size s.fields unit.1) lengths.format in
+    let small : length s.fields < 256 ^ offset_size h.format = below h.format (length whole) (length s.fields) s.fits
+    (length-laid h.order (offset_size h.format) h.address_size s.fields unit.1) in
     record {
       fields = s.fields;
       counted = s.counted;
@@ -69,7 +72,8 @@ behind_laid order size a fields program rest e =
 
 -- ---- the start
 
-no_start : (order : Order) (format : Format) (body rest : List ℕ) (unit : HeaderParts × List ℕ) → body ≡ version_five order ++ rest → NoneSpelled (StartBytes format order) rest → Candidate order format body unit → ⊥
+no_start : (order : Order) (format : Format) (body rest : List ℕ) (unit : HeaderParts × List ℕ) → body ≡ version_five order ++ rest
+    → NoneSpelled (StartBytes format order) rest → Candidate order format body unit → ⊥
 no_start order format body rest unit joined none c =
     let a = unit.0.address_size in
     let number = number_bytes order (offset_size format) (length c.fields) in
@@ -83,7 +87,8 @@ no_start order format body rest unit joined none c =
         front = 0 ∷ [];
         back = number ++ c.fields;
         first = (refl, refl);
-        second = record { front = number; back = c.fields; first = record { fits = c.small; spelled = refl }; second = refl; joined = refl };
+        second =
+            record { front = number; back = c.fields; first = record { fits = c.small; spelled = refl }; second = refl; joined = refl };
         joined = refl;
       };
       joined = refl;
@@ -94,32 +99,41 @@ no_start order format body rest unit joined none c =
 head_of : Order → Format → List ℕ → List ℕ
 head_of order format body = initial_length format order (length body) ++ version_five order
 
-length-head : (order : Order) (format : Format) (body : List ℕ) → length (head_of order format body) ≡ length (initial_length format order (length body)) + 2
+length-head : (order : Order) (format : Format) (body : List ℕ)
+    → length (head_of order format body) ≡ length (initial_length format order (length body)) + 2
 unfolding head_of
-length-head order format body = length-append (initial_length format order (length body)) (version_five order) ∙ ap (λ (n : ℕ). length (initial_length format order (length body)) + n) (length-number_bytes order 2 5)
+length-head order format body = length-append (initial_length format order (length body)) (version_five order)
+    ∙ ap (λ (n : ℕ). length (initial_length format order (length body)) + n) (length-number_bytes order 2 5)
 
-pub refuses_start : (order : Order) (format : Format) (offset : ℕ) (body : List ℕ) (old : At) (fault : Fault) → LengthFits format (length body) → IsBehindVersion order format offset body old
-    → Refuses (IsStartFault format old.order) (StartBytes format old.order) old fault → BrokenHeader order fault offset (frame_bytes order format body)
+pub refuses_start : (order : Order) (format : Format) (offset : ℕ) (body : List ℕ) (old : At) (fault : Fault)
+    → LengthFits format (length body) → IsBehindVersion order format offset body old
+    → Refuses (IsStartFault format old.order) (StartBytes format old.order) old fault
+    → BrokenHeader order fault offset (frame_bytes order format body)
 unfolding head_of
 refuses_start order format offset body old fault fits b there =
-    let r : Refuses (IsStartFault format order) (StartBytes format order) old fault = subst (λ (o : Order). Refuses (IsStartFault format o) (StartBytes format o) old fault) b.order_is there in
+    let r : Refuses (IsStartFault format order) (StartBytes format order) old fault =
+    subst (λ (o : Order). Refuses (IsStartFault format o) (StartBytes format o) old fault) b.order_is there in
     let initial = initial_length format order (length body) in
     let version = version_five order in
-    let body_is : body ≡ (version ++ r.before) ++ r.left = b.joined ∙ ap (λ (z : List ℕ). version ++ z) r.split ∙ sym (append_assoc version r.before r.left) in
+    let body_is : body ≡ (version ++ r.before) ++ r.left =
+    b.joined ∙ ap (λ (z : List ℕ). version ++ z) r.split ∙ sym (append_assoc version r.before r.left) in
     let in_frame : InFrame order format (version ++ r.before) r.left ((initial ++ version) ++ r.before) r.left = record {
       more = [];
       fits = subst (λ (z : List ℕ). LengthFits format (length z)) body_is fits;
-      before_is = append_assoc initial version r.before ∙ ap (λ (z : List ℕ). initial_length format order (length z) ++ (version ++ r.before)) body_is;
+      before_is = append_assoc initial version r.before
+          ∙ ap (λ (z : List ℕ). initial_length format order (length z) ++ (version ++ r.before)) body_is;
       from_is = sym (append-nil r.left);
     } in
     let long = length-head order format body in
     let some : 0 < length ((initial ++ version) ++ r.before) = omega (arith, length-append (initial ++ version) r.before, long) in
     record {
       broken = record {
-        none = λ unit x more p e. no_start order format body old.rest unit b.joined r.none (candidate order format body fits unit x more p e);
+        none =
+            λ unit x more p e. no_start order format body old.rest unit b.joined r.none (candidate order format body fits unit x more p e);
         before = (initial ++ version) ++ r.before;
         from = r.left;
-        split = ap (λ (z : List ℕ). initial ++ z) body_is ∙ sym (append_assoc initial (version ++ r.before) r.left) ∙ ap (λ (z : List ℕ). z ++ r.left) (sym (append_assoc initial version r.before));
+        split = ap (λ (z : List ℕ). initial ++ z) body_is ∙ sym (append_assoc initial (version ++ r.before) r.left)
+            ∙ ap (λ (z : List ℕ). z ++ r.left) (sym (append_assoc initial version r.before));
         place = omega (arith, r.place, b.place_is, length-append (initial ++ version) r.before, long);
         reason = at_start order format fault.reason (initial ++ version) r.before r.left r.left in_frame some r.reason;
       };
@@ -129,40 +143,58 @@ refuses_start order format offset body old fault fits b there =
 -- ---- what header_length counts
 
 -- where the bytes that header_length counts stand
-record Counted (order : Order) (format : Format) (offset : ℕ) (body : List ℕ) (size : ℕ) (counted program : List ℕ) (place : ℕ) : Type 0 where
+record Counted (order : Order) (format : Format) (offset : ℕ) (body : List ℕ) (size : ℕ) (counted program : List ℕ) (place : ℕ) : Type
+    0 where
   address_size : IsAddressSize size
   laid_out : body ≡ laid order (offset_size format) size counted program
   small : length counted < 256 ^ offset_size format
   place_is : place ≡ offset + length (initial_length format order (length body)) + 4 + offset_size format
 
-counted_by : (order : Order) (format : Format) (offset : ℕ) (body : List ℕ) (size zero_size place : ℕ) (counted : List ℕ) (old new : At) → IsBehindVersion order format offset body old
-    → Reads (StartBytes format old.order) (size, (zero_size, counted)) old new → place + length counted ≡ new.place → Counted order format offset body size counted new.rest place
+counted_by : (order : Order) (format : Format) (offset : ℕ) (body : List ℕ) (size zero_size place : ℕ) (counted : List ℕ) (old new : At)
+    → IsBehindVersion order format offset body old
+    → Reads (StartBytes format old.order) (size, (zero_size, counted)) old new → place + length counted ≡ new.place
+    → Counted order format offset body size counted new.rest place
 counted_by order format offset body size zero_size place counted old new b there placed =
-    let r : Reads (StartBytes format order) (size, (zero_size, counted)) old new = subst (λ (o : Order). Reads (StartBytes format o) (size, (zero_size, counted)) old new) b.order_is there in
+    let r : Reads (StartBytes format order) (size, (zero_size, counted)) old new =
+    subst (λ (o : Order). Reads (StartBytes format o) (size, (zero_size, counted)) old new) b.order_is there in
     let p1 = r.spelled in
     let p2 = p1.second in
     let p3 = p2.second in
     let number = number_bytes order (offset_size format) (length counted) in
-    let tail : p3.front ++ p3.back ≡ number ++ counted = ap (λ (z : List ℕ). z ++ p3.back) p3.first.spelled ∙ ap (λ (z : List ℕ). number ++ z) p3.second in
+    let tail : p3.front ++ p3.back ≡ number ++ counted =
+    ap (λ (z : List ℕ). z ++ p3.back) p3.first.spelled ∙ ap (λ (z : List ℕ). number ++ z) p3.second in
     let spelling : r.spelling ≡ size ∷ 0 ∷ (number ++ counted) =
-    p1.joined ∙ ap (λ (z : List ℕ). z ++ p1.back) p1.first.1 ∙ ap (λ (z : List ℕ). size ∷ z) (p2.joined ∙ ap (λ (z : List ℕ). z ++ p2.back) p2.first.1)
+    p1.joined ∙ ap (λ (z : List ℕ). z ++ p1.back) p1.first.1
+    ∙ ap (λ (z : List ℕ). size ∷ z) (p2.joined ∙ ap (λ (z : List ℕ). z ++ p2.back) p2.first.1)
     ∙ ap (λ (z : List ℕ). size ∷ 0 ∷ z) (p3.joined ∙ tail) in
     let rest : old.rest ≡ (size ∷ 0 ∷ []) ++ (number ++ (counted ++ new.rest)) =
     r.whole ∙ ap (λ (z : List ℕ). z ++ new.rest) spelling ∙ ap (λ (z : List ℕ). size ∷ 0 ∷ z) (append_assoc number counted new.rest) in
     let long : length number ≡ offset_size format = length-number_bytes order (offset_size format) (length counted) in
     record {
       address_size = p1.first.0;
-      laid_out = b.joined ∙ ap (λ (z : List ℕ). version_five order ++ z) rest ∙ sym (regroup (version_five order) (size ∷ 0 ∷ []) number counted new.rest);
+      laid_out = b.joined ∙ ap (λ (z : List ℕ). version_five order ++ z) rest
+          ∙ sym (regroup (version_five order) (size ∷ 0 ∷ []) number counted new.rest);
       small = p3.first.fits;
       place_is = omega (arith, placed, r.place, b.place_is, ap length spelling, length-append number counted, long);
     }
 
-pub counted_before : (order : Order) (format : Format) (size zero_size : ℕ) (counted : List ℕ) (old new : At) → Reads (StartBytes format order) (size, (zero_size, counted)) old new → length counted ≤ new.place
+pub counted_before : (order : Order) (format : Format) (size zero_size : ℕ) (counted : List ℕ) (old new : At)
+    → Reads (StartBytes format order) (size, (zero_size, counted)) old new → length counted ≤ new.place
 counted_before order format size zero_size counted old new r =
     let p1 = r.spelled in
     let p2 = p1.second in
     let p3 = p2.second in
-    omega (arith, r.place, ap length p1.joined, length-append p1.front p1.back, ap length p2.joined, length-append p2.front p2.back, ap length p3.joined, length-append p3.front p3.back, ap length p3.second)
+    omega (
+      arith,
+      r.place,
+      ap length p1.joined,
+      length-append p1.front p1.back,
+      ap length p2.joined,
+      length-append p2.front p2.back,
+      ap length p3.joined,
+      length-append p3.front p3.back,
+      ap length p3.second,
+    )
 
 singles_of : HeaderParts → Singles
 singles_of h = record {
@@ -180,22 +212,32 @@ six_of h = h.minimum_instruction_length ∷ h.max_ops ∷ h.default_is_stmt ∷ 
 nest : (a b c d e : List ℕ) → (a ++ (b ++ (c ++ d))) ++ e ≡ (a ++ b) ++ c ++ d ++ e
 nest a b c d e = simp append_assoc
 
-no_fields : (order : Order) (format : Format) (body : List ℕ) (size : ℕ) (counted program : List ℕ) (offset place : ℕ) (unit : HeaderParts × List ℕ) → Counted order format offset body size counted program place
+no_fields : (order : Order) (format : Format) (body : List ℕ) (size : ℕ) (counted program : List ℕ) (offset place : ℕ)
+    (unit : HeaderParts × List ℕ) → Counted order format offset body size counted program place
     → NoneSpelled (FieldsBytes format order) counted → Candidate order format body unit → ⊥
 unfolding singles_of six_of
 no_fields order format body size counted program offset place unit at none c =
     let h = unit.0 in
     let p = c.counted in
-    let same = same_laid order (offset_size format) (offset_width format) size h.address_size counted c.fields program unit.1 at.small c.small (sym at.laid_out ∙ c.body_is) in
+    let same = same_laid order (offset_size format) (offset_width format) size h.address_size counted c.fields program unit.1 at.small
+    c.small (sym at.laid_out ∙ c.body_is) in
     let directories : TableOf format order (h.directory_format, h.directories) p.directories =
-    subst (λ (f : Format). TableOf f order (h.directory_format, h.directories) p.directories) c.format_is (subst (λ (o : Order). TableOf h.format o (h.directory_format, h.directories) p.directories) c.order_is p.directory_table) in
+    subst (λ (f : Format). TableOf f order (h.directory_format, h.directories) p.directories) c.format_is
+    (subst (λ (o : Order). TableOf h.format o (h.directory_format, h.directories) p.directories) c.order_is p.directory_table) in
     let files : TableOf format order (h.file_format, h.files) p.files =
-    subst (λ (f : Format). TableOf f order (h.file_format, h.files) p.files) c.format_is (subst (λ (o : Order). TableOf h.format o (h.file_format, h.files) p.files) c.order_is p.file_table) in
-    none (singles_of h, (h.standard_lengths, ((h.directory_format, h.directories), (h.file_format, h.files)))) (six_of h ++ (h.standard_lengths ++ (p.directories ++ p.files))) h.extra
+    subst (λ (f : Format). TableOf f order (h.file_format, h.files) p.files) c.format_is
+    (subst (λ (o : Order). TableOf h.format o (h.file_format, h.files) p.files) c.order_is p.file_table) in
+    none (singles_of h, (h.standard_lengths, ((h.directory_format, h.directories), (h.file_format, h.files))))
+    (six_of h ++ (h.standard_lengths ++ (p.directories ++ p.files))) h.extra
     (record {
       front = six_of h;
       back = h.standard_lengths ++ (p.directories ++ p.files);
-      first = record { spelled = refl; max_ops = p.numbers.max_ops; line_range = p.numbers.line_range; opcode_base = omega (arith, p.numbers.opcode_base) };
+      first = record {
+        spelled = refl;
+        max_ops = p.numbers.max_ops;
+        line_range = p.numbers.line_range;
+        opcode_base = omega (arith, p.numbers.opcode_base);
+      };
       second = record {
         front = h.standard_lengths;
         back = p.directories ++ p.files;
@@ -207,41 +249,52 @@ no_fields order format body size counted program offset place unit at none c =
     })
     (nest (six_of h) h.standard_lengths p.directories p.files h.extra ∙ sym p.joined ∙ sym same.header)
 
-pub refuses_fields : (order : Order) (format : Format) (offset : ℕ) (body : List ℕ) (size zero_size place : ℕ) (counted : List ℕ) (old new : At) (fault : Fault) → LengthFits format (length body)
-    → IsBehindVersion order format offset body old → Reads (StartBytes format old.order) (size, (zero_size, counted)) old new → place + length counted ≡ new.place
-    → Refuses (IsHeaderFault format order) (FieldsBytes format order) (standing place counted order) fault → BrokenHeader order fault offset (frame_bytes order format body)
+pub refuses_fields : (order : Order) (format : Format) (offset : ℕ) (body : List ℕ) (size zero_size place : ℕ) (counted : List ℕ)
+    (old new : At) (fault : Fault) → LengthFits format (length body)
+    → IsBehindVersion order format offset body old → Reads (StartBytes format old.order) (size, (zero_size, counted)) old new
+    → place + length counted ≡ new.place
+    → Refuses (IsHeaderFault format order) (FieldsBytes format order) (standing place counted order) fault
+    → BrokenHeader order fault offset (frame_bytes order format body)
 refuses_fields order format offset body size zero_size place counted old new fault fits b there placed r =
     let at = counted_by order format offset body size zero_size place counted old new b there placed in
     let initial = initial_length format order (length body) in
     let start_bytes = sound_start order size in
     let number = number_bytes order (offset_size format) (length counted) in
     let head = initial ++ (start_bytes ++ number) in
-    let number_is : number ≡ number_bytes order (offset_size format) (length (r.before ++ r.left)) = ap (λ (z : List ℕ). number_bytes order (offset_size format) (length z)) r.split in
+    let number_is : number ≡ number_bytes order (offset_size format) (length (r.before ++ r.left)) =
+    ap (λ (z : List ℕ). number_bytes order (offset_size format) (length z)) r.split in
     let fields = start_bytes ++ number_bytes order (offset_size format) (length (r.before ++ r.left)) ++ r.before in
     let fields_are : (start_bytes ++ number) ++ r.before ≡ fields = ap (λ (z : List ℕ). start_bytes ++ z ++ r.before) number_is in
     let body_is : body ≡ fields ++ (r.left ++ new.rest) =
-    at.laid_out ∙ ap (λ (z : List ℕ). start_bytes ++ number ++ z ++ new.rest) r.split ∙ shift start_bytes number r.before r.left new.rest ∙ ap (λ (z : List ℕ). z ++ (r.left ++ new.rest)) fields_are in
+    at.laid_out ∙ ap (λ (z : List ℕ). start_bytes ++ number ++ z ++ new.rest) r.split ∙ shift start_bytes number r.before r.left new.rest
+    ∙ ap (λ (z : List ℕ). z ++ (r.left ++ new.rest)) fields_are in
     let in_frame : InFrame order format fields (r.left ++ new.rest) (head ++ r.before) (r.left ++ new.rest) = record {
       more = [];
       fits = subst (λ (z : List ℕ). LengthFits format (length z)) body_is fits;
-      before_is = append_assoc initial (start_bytes ++ number) r.before ∙ ap (λ (z : List ℕ). initial_length format order (length z) ++ ((start_bytes ++ number) ++ r.before)) body_is
+      before_is = append_assoc initial (start_bytes ++ number) r.before
+          ∙ ap (λ (z : List ℕ). initial_length format order (length z) ++ ((start_bytes ++ number) ++ r.before)) body_is
           ∙ ap (λ (z : List ℕ). initial_length format order (length (fields ++ (r.left ++ new.rest))) ++ z) fields_are;
       from_is = sym (append-nil (r.left ++ new.rest));
     } in
     let in_header : InHeader order r.before r.left (head ++ r.before) (r.left ++ new.rest) =
     record { format = format; address_size = size; program = new.rest; address_size_is = at.address_size; in_frame = in_frame } in
-    let long_start : length start_bytes ≡ 4 = length-append (version_five order) (size ∷ 0 ∷ []) ∙ ap (λ (n : ℕ). n + 2) (length-number_bytes order 2 5) in
+    let long_start : length start_bytes ≡ 4 =
+    length-append (version_five order) (size ∷ 0 ∷ []) ∙ ap (λ (n : ℕ). n + 2) (length-number_bytes order 2 5) in
     let long_number : length number ≡ offset_size format = length-number_bytes order (offset_size format) (length counted) in
-    let long : length head ≡ length initial + 4 + offset_size format = omega (arith, length-append initial (start_bytes ++ number), length-append start_bytes number, long_start, long_number) in
+    let long : length head ≡ length initial + 4 + offset_size format =
+    omega (arith, length-append initial (start_bytes ++ number), length-append start_bytes number, long_start, long_number) in
     record {
       broken = record {
-        none = λ unit x more p e. no_fields order format body size counted new.rest offset place unit at r.none (candidate order format body fits unit x more p e);
+        none = λ unit x more p e. no_fields order format body size counted new.rest offset place unit at r.none
+            (candidate order format body fits unit x more p e);
         before = head ++ r.before;
         from = r.left ++ new.rest;
         split = ap (λ (z : List ℕ). initial ++ z) (body_is ∙ ap (λ (z : List ℕ). z ++ (r.left ++ new.rest)) (sym fields_are))
-            ∙ sym (append_assoc initial ((start_bytes ++ number) ++ r.before) (r.left ++ new.rest)) ∙ ap (λ (z : List ℕ). z ++ (r.left ++ new.rest)) (sym (append_assoc initial (start_bytes ++ number) r.before));
+            ∙ sym (append_assoc initial ((start_bytes ++ number) ++ r.before) (r.left ++ new.rest))
+            ∙ ap (λ (z : List ℕ). z ++ (r.left ++ new.rest)) (sym (append_assoc initial (start_bytes ++ number) r.before));
         place = omega (arith, r.place, at.place_is, length-append head r.before, long);
-        reason = at_header order format fault.reason head r.before r.left (r.left ++ new.rest) in_header (omega (arith, length-append head r.before, long)) r.reason;
+        reason = at_header order format fault.reason head r.before r.left (r.left ++ new.rest) in_header
+            (omega (arith, length-append head r.before, long)) r.reason;
       };
       first = IsFirstField.counted r.before r.left in_header r.reason;
     }
@@ -251,21 +304,27 @@ refuses_fields order format offset body size zero_size place counted old new fau
 
 -- ---- the whole header
 
-pub header_found : (order : Order) (format : Format) (offset : ℕ) (body : List ℕ) (size zero_size place : ℕ) (counted program : List ℕ) (old new : At) (h : HeaderParts) → LengthFits format (length body)
-    → IsBehindVersion order format offset body old → Reads (StartBytes format old.order) (size, (zero_size, counted)) old new → place + length counted ≡ new.place → program ≡ new.rest
+pub header_found : (order : Order) (format : Format) (offset : ℕ) (body : List ℕ) (size zero_size place : ℕ) (counted program : List ℕ)
+    (old new : At) (h : HeaderParts) → LengthFits format (length body)
+    → IsBehindVersion order format offset body old → Reads (StartBytes format old.order) (size, (zero_size, counted)) old new
+    → place + length counted ≡ new.place → program ≡ new.rest
     → HasFields format order size counted h → HeaderBytesIn order (h, program) (frame_bytes order format body)
 header_found order format offset body size zero_size place counted program old new h fits b there placed program_is has =
     let at = counted_by order format offset body size zero_size place counted old new b there placed in
     let body_is : body ≡ unit_body h counted program =
-    at.laid_out ∙ ap (λ (z : List ℕ). laid order (offset_size format) size counted z) (sym program_is) ∙ ap (λ (o : Order). laid o (offset_size format) size counted program) (sym has.order_is)
-    ∙ ap (λ (f : Format). laid h.order (offset_size f) size counted program) (sym has.format_is) ∙ ap (λ (n : ℕ). laid h.order (offset_size h.format) n counted program) (sym has.size_is) in
+    at.laid_out ∙ ap (λ (z : List ℕ). laid order (offset_size format) size counted z) (sym program_is)
+    ∙ ap (λ (o : Order). laid o (offset_size format) size counted program) (sym has.order_is)
+    ∙ ap (λ (f : Format). laid h.order (offset_size f) size counted program) (sym has.format_is)
+    ∙ ap (λ (n : ℕ). laid h.order (offset_size h.format) n counted program) (sym has.size_is) in
     record {
       order_is = has.order_is;
       spelled = record {
         fields = counted;
         counted = has.fields;
-        fits = subst (λ (f : Format). LengthFits f (length (unit_body h counted program))) (sym has.format_is) (subst (λ (z : List ℕ). LengthFits format (length z)) body_is fits);
-        joined = ap (λ (z : List ℕ). frame_bytes order format z) body_is ∙ ap (λ (o : Order). frame_bytes o format (unit_body h counted program)) (sym has.order_is)
+        fits = subst (λ (f : Format). LengthFits f (length (unit_body h counted program))) (sym has.format_is)
+            (subst (λ (z : List ℕ). LengthFits format (length z)) body_is fits);
+        joined = ap (λ (z : List ℕ). frame_bytes order format z) body_is
+            ∙ ap (λ (o : Order). frame_bytes o format (unit_body h counted program)) (sym has.order_is)
             ∙ ap (λ (f : Format). frame_bytes h.order f (unit_body h counted program)) (sym has.format_is);
       };
     }

@@ -4,9 +4,23 @@ use Rattle.lnt_header_bytes.specs.Borrowed.{without_entries, HasSameForm, HasSam
 use Rattle.lnt_header.specs.declared.header.HeaderParts.{HeaderParts}
 
 -- headers without entries are the same where their numbers and formats are
-pub same_header : (one other : HeaderParts) → one ≡ without_entries one → other ≡ without_entries other → HasSameForm one other → HasSameNumbers one other → one.standard_lengths ≡ other.standard_lengths
+pub same_header : (one other : HeaderParts) → one ≡ without_entries one → other ≡ without_entries other → HasSameForm one other
+    → HasSameNumbers one other → one.standard_lengths ≡ other.standard_lengths
     → one.directory_format ≡ other.directory_format → one.file_format ≡ other.file_format → one ≡ other
 same_header one other first second form numbers lengths directories files =
     let same : without_entries one ≡ without_entries other =
-    cc (form.format, form.order, form.address_size, numbers.minimum, numbers.max_ops, numbers.default_is_stmt, numbers.line_base, numbers.line_range, numbers.opcode_base, lengths, directories, files) in
+    cc (
+      form.format,
+      form.order,
+      form.address_size,
+      numbers.minimum,
+      numbers.max_ops,
+      numbers.default_is_stmt,
+      numbers.line_base,
+      numbers.line_range,
+      numbers.opcode_base,
+      lengths,
+      directories,
+      files,
+    ) in
     first ∙ same ∙ sym second

@@ -25,20 +25,31 @@ use Rattle.lnt_header_bytes.proofs.TableReaders.{refuses_values_at, entries_none
 
 -- ---- one entry
 
-of_values : (format : Format) (pairs : List Pair) (values : List FormValue) (old new : At) → Reads (ValuesBytes format old.order pairs) values old new → Passes (EntryBytes format old.order pairs) old new
+of_values : (format : Format) (pairs : List Pair) (values : List FormValue) (old new : At)
+    → Reads (ValuesBytes format old.order pairs) values old new → Passes (EntryBytes format old.order pairs) old new
 of_values format pairs values old new r =
-    record { value = entry_of values; read = reads_map (ValuesBytes format old.order pairs) (EntryBytes format old.order pairs) values (entry_of values) old new (λ x p. p) r }
+    record {
+      value = entry_of values;
+      read = reads_map (ValuesBytes format old.order pairs) (EntryBytes format old.order pairs) values
+          (entry_of values) old new (λ x p. p) r;
+    }
 
-pub path_passed : (format : Format) (pairs : List Pair) (u : FormValue) (old new : At) → IsLayout Path pairs → Reads (ValueBytes format old.order LineStrp) u old new → Passes (EntryBytes format old.order pairs) old new
+pub path_passed : (format : Format) (pairs : List Pair) (u : FormValue) (old new : At) → IsLayout Path pairs
+    → Reads (ValueBytes format old.order LineStrp) u old new → Passes (EntryBytes format old.order pairs) old new
 path_passed format pairs u old new e r = of_values format pairs (u ∷ []) old new (path_values format pairs u old new e r)
 
-pub indexed_path_passed : (format : Format) (pairs : List Pair) (u v : FormValue) (old middle new : At) → IsLayout IndexedPath pairs → Reads (ValueBytes format old.order LineStrp) u old middle
+pub indexed_path_passed : (format : Format) (pairs : List Pair) (u v : FormValue) (old middle new : At) → IsLayout IndexedPath pairs
+    → Reads (ValueBytes format old.order LineStrp) u old middle
     → Reads (ValueBytes format middle.order Udata) v middle new → Passes (EntryBytes format old.order pairs) old new
-indexed_path_passed format pairs u v old middle new e r s = of_values format pairs (u ∷ v ∷ []) old new (indexed_values format pairs u v old middle new e r s)
+indexed_path_passed format pairs u v old middle new e r s =
+    of_values format pairs (u ∷ v ∷ []) old new (indexed_values format pairs u v old middle new e r s)
 
-pub summed_path_passed : (format : Format) (pairs : List Pair) (u v w : FormValue) (old m1 m2 new : At) → IsLayout SummedPath pairs → Reads (ValueBytes format old.order LineStrp) u old m1
-    → Reads (ValueBytes format m1.order Udata) v m1 m2 → Reads (ValueBytes format m2.order Data16) w m2 new → Passes (EntryBytes format old.order pairs) old new
-summed_path_passed format pairs u v w old m1 m2 new e r s t = of_values format pairs (u ∷ v ∷ w ∷ []) old new (summed_values format pairs u v w old m1 m2 new e r s t)
+pub summed_path_passed : (format : Format) (pairs : List Pair) (u v w : FormValue) (old m1 m2 new : At) → IsLayout SummedPath pairs
+    → Reads (ValueBytes format old.order LineStrp) u old m1
+    → Reads (ValueBytes format m1.order Udata) v m1 m2 → Reads (ValueBytes format m2.order Data16) w m2 new
+    → Passes (EntryBytes format old.order pairs) old new
+summed_path_passed format pairs u v w old m1 m2 new e r s t =
+    of_values format pairs (u ∷ v ∷ w ∷ []) old new (summed_values format pairs u v w old m1 m2 new e r s t)
 
 -- ---- the values of an entry one by one
 
@@ -50,18 +61,25 @@ pub record ArePassed (format : Format) (pairs : List Pair) (count : ℕ) (old no
 pub values_begun : (format : Format) (pairs : List Pair) (at : At) → ArePassed format pairs 0 at at
 values_begun format pairs at = record { values = []; read = values_none format at }
 
-pub values_next_passed : (format : Format) (pairs : List Pair) (i : ℕ) (d : Pair) (value : FormValue) (old middle new : At) → i < length pairs → ArePassed format pairs i old middle
+pub values_next_passed : (format : Format) (pairs : List Pair) (i : ℕ) (d : Pair) (value : FormValue) (old middle new : At)
+    → i < length pairs → ArePassed format pairs i old middle
     → Reads (ValueBytes format middle.order (get_or pairs i d).form) value middle new → ArePassed format pairs (i + 1) old new
-values_next_passed format pairs i d value old middle new lt p r = record { values = p.values ++ value ∷ []; read = values_next format pairs i d p.values value old middle new lt p.read r }
+values_next_passed format pairs i d value old middle new lt p r =
+    record { values = p.values ++ value ∷ []; read = values_next format pairs i d p.values value old middle new lt p.read r }
 
-pub values_passed : (format : Format) (pairs : List Pair) (count : ℕ) (old new : At) → length pairs ≤ count → ArePassed format pairs count old new → Passes (EntryBytes format old.order pairs) old new
+pub values_passed : (format : Format) (pairs : List Pair) (count : ℕ) (old new : At) → length pairs ≤ count
+    → ArePassed format pairs count old new → Passes (EntryBytes format old.order pairs) old new
 values_passed format pairs count old new le p =
-    of_values format pairs p.values old new (subst (λ (ps : List Pair). Reads (ValuesBytes format old.order ps) p.values old new) (take_all count pairs le) p.read)
+    of_values format pairs p.values old new (subst (λ (ps : List Pair). Reads (ValuesBytes format old.order ps) p.values old new)
+    (take_all count pairs le) p.read)
 
-pub refuses_value_passed : (format : Format) (pairs : List Pair) (i : ℕ) (d : Pair) (old middle : At) (fault : Fault) → i < length pairs → ArePassed format pairs i old middle
-    → RefusesField (IsValueFault format middle.order (get_or pairs i d).form) (ValueBytes format middle.order (get_or pairs i d).form) middle fault
+pub refuses_value_passed : (format : Format) (pairs : List Pair) (i : ℕ) (d : Pair) (old middle : At) (fault : Fault) → i < length pairs
+    → ArePassed format pairs i old middle
+    → RefusesField (IsValueFault format middle.order (get_or pairs i d).form) (ValueBytes format middle.order (get_or pairs i d).form)
+    middle fault
     → Refuses (IsEntryFault format old.order pairs) (EntryBytes format old.order pairs) old fault
-refuses_value_passed format pairs i d old middle fault lt p r = entry_refused format pairs old fault (refuses_values_at format pairs i d p.values old middle fault lt p.read r)
+refuses_value_passed format pairs i d old middle fault lt p r =
+    entry_refused format pairs old fault (refuses_values_at format pairs i d p.values old middle fault lt p.read r)
 
 -- ---- entries one by one
 
@@ -73,7 +91,8 @@ pub record EntriesPassed (format : Format) (pairs : List Pair) (count : ℕ) (ol
 pub none_passed : (format : Format) (pairs : List Pair) (at : At) → EntriesPassed format pairs 0 at at
 none_passed format pairs at = record { entries = []; count_is = refl; read = entries_none format pairs at }
 
-pub one_more_passed : (format : Format) (pairs : List Pair) (count : ℕ) (old middle new : At) → EntriesPassed format pairs count old middle → Passes (EntryBytes format middle.order pairs) middle new
+pub one_more_passed : (format : Format) (pairs : List Pair) (count : ℕ) (old middle new : At) → EntriesPassed format pairs count old middle
+    → Passes (EntryBytes format middle.order pairs) middle new
     → EntriesPassed format pairs (count + 1) old new
 one_more_passed format pairs count old middle new p q = record {
   entries = p.entries ++ q.value ∷ [];
@@ -86,15 +105,20 @@ front_is x y z e =
     let size : length z - length y ≡ length x = omega (arith, ap length e, length-append x y) in
     ap (λ (n : ℕ). take n z) size ∙ ap (take (length x)) e ∙ take-append_seam x y
 
-pub all_passed : (format : Format) (pairs : List Pair) (count : ℕ) (bytes all left : List ℕ) (old new : At) → EntriesPassed format pairs count old new → all ≡ old.rest → left ≡ new.rest
+pub all_passed : (format : Format) (pairs : List Pair) (count : ℕ) (bytes all left : List ℕ) (old new : At)
+    → EntriesPassed format pairs count old new → all ≡ old.rest → left ≡ new.rest
     → bytes ≡ take (length all - length left) all → PassesAll count (EntryBytes format old.order pairs) bytes old new
 all_passed format pairs count bytes all left old new p all_is left_is bytes_are = record {
   values = p.entries;
   count_is = p.count_is;
   read = p.read;
-  bytes_are = bytes_are ∙ ap (λ (z : List ℕ). take (length z - length left) z) all_is ∙ ap (λ (z : List ℕ). take (length old.rest - length z) old.rest) left_is ∙ front_is p.read.spelling new.rest old.rest p.read.whole;
+  bytes_are = bytes_are ∙ ap (λ (z : List ℕ). take (length z - length left) z) all_is
+      ∙ ap (λ (z : List ℕ). take (length old.rest - length z) old.rest) left_is ∙ front_is p.read.spelling new.rest old.rest p.read.whole;
 }
 
-pub refuses_passed : (format : Format) (pairs : List Pair) (n count : ℕ) (old middle : At) (fault : Fault) → EntriesPassed format pairs count old middle → count < n
-    → Refuses (IsEntryFault format middle.order pairs) (EntryBytes format middle.order pairs) middle fault → Refuses (IsEntriesFault format old.order pairs n) (Several n (EntryBytes format old.order pairs)) old fault
-refuses_passed format pairs n count old middle fault p lt r = refuses_entries format pairs n p.entries old middle fault p.read (omega (arith, p.count_is)) r
+pub refuses_passed : (format : Format) (pairs : List Pair) (n count : ℕ) (old middle : At) (fault : Fault)
+    → EntriesPassed format pairs count old middle → count < n
+    → Refuses (IsEntryFault format middle.order pairs) (EntryBytes format middle.order pairs) middle fault
+    → Refuses (IsEntriesFault format old.order pairs n) (Several n (EntryBytes format old.order pairs)) old fault
+refuses_passed format pairs n count old middle fault p lt r =
+    refuses_entries format pairs n p.entries old middle fault p.read (omega (arith, p.count_is)) r

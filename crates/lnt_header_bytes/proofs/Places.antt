@@ -3,7 +3,8 @@ use Rattle.std.proofs.Common.{◌≡◌, ℕ, ◌<◌, List, [], ◌∷◌, ◌+
 use Rattle.lnt_header.specs.FieldFaults.{IsCutField}
 use Rattle.lnt_wire.specs.declared.format.Order.{Order}
 use Rattle.lnt_wire.specs.declared.fault.Reason.{Reason}
-use Rattle.lnt_wire.specs.declared.fault.Reason.TheVariants.{Truncated, UnknownForm, EmptyFormat, LebTooLarge, MaxOpsZero, LineRangeZero, OpcodeBaseZero, StandardLength, AddressSize, SegmentSelector, HeaderLength}
+use Rattle.lnt_wire.specs.declared.fault.Reason.TheVariants.{Truncated, UnknownForm, EmptyFormat, LebTooLarge, MaxOpsZero, LineRangeZero}
+use Rattle.lnt_wire.specs.declared.fault.Reason.TheVariants.{OpcodeBaseZero, StandardLength, AddressSize, SegmentSelector, HeaderLength}
 use Rattle.lnt_wire.specs.declared.format.Format.{Format}
 use Rattle.lnt_wire.specs.FrameBytes.{version_five}
 use Rattle.lnt_wire.specs.FrameFaults.{InFrame}
@@ -20,25 +21,32 @@ use Rattle.lnt_header_bytes.specs.declared.numbers.Singles.{Singles}
 use Rattle.lnt_header_bytes.proofs.WrongTables.{small_offset, IsWrongTable, wrong_behind, wrong_table}
 use Rattle.lnt_header.specs.Laws.Readers.{cut_later}
 
-cut_at : (order : Order) (before left from : List ℕ) → 0 < length before → UpToLimit order left before from → IsCutField before left → IsAt order Truncated before from
+cut_at : (order : Order) (before left from : List ℕ) → 0 < length before → UpToLimit order left before from → IsCutField before left
+    → IsAt order Truncated before from
 cut_at order [] left from some w h = absurd (omega arith)
 cut_at order (b ∷ before) left from some w h = (left, w, h)
 
 place : (order : Order) (b c l m before from : List ℕ) → InHeader order b l before from → b ≡ c → l ≡ m → InHeader order c m before from
-place order b c l m before from w e g = subst (λ (z : List ℕ). InHeader order z m before from) e (subst (λ (z : List ℕ). InHeader order b z before from) g w)
+place order b c l m before from w e g =
+    subst (λ (z : List ℕ). InHeader order z m before from) e (subst (λ (z : List ℕ). InHeader order b z before from) g w)
 
 -- what is wrong after header_length is what the table of places says, wherever the unit stands
-at_singles : (order : Order) (reason : Reason) (head b l from : List ℕ) → InHeader order b l (head ++ b) from → 0 < length (head ++ b) → IsSinglesFault reason b l → IsAt order reason (head ++ b) from
-at_singles order Truncated head b l from w some h = cut_at order (head ++ b) l from some (inr (b, w)) (number 1 (omega arith) (omega (arith, ap length h.ends)))
+at_singles : (order : Order) (reason : Reason) (head b l from : List ℕ) → InHeader order b l (head ++ b) from → 0 < length (head ++ b)
+    → IsSinglesFault reason b l → IsAt order reason (head ++ b) from
+at_singles order Truncated head b l from w some h =
+    cut_at order (head ++ b) l from some (inr (b, w)) (number 1 (omega arith) (omega (arith, ap length h.ends)))
 at_singles order MaxOpsZero head b l from w some h = (h.0, h.1, place order b (h.0 ∷ []) l (0 ∷ h.1) (head ++ b) from w h.2 h.3)
-at_singles order LineRangeZero head b l from w some h = (h.0, h.1, h.2, h.3, h.4, h.5, place order b (h.0 ∷ h.1 ∷ h.2 ∷ h.3 ∷ []) l (0 ∷ h.4) (head ++ b) from w h.6 h.7)
+at_singles order LineRangeZero head b l from w some h =
+    (h.0, h.1, h.2, h.3, h.4, h.5, place order b (h.0 ∷ h.1 ∷ h.2 ∷ h.3 ∷ []) l (0 ∷ h.4) (head ++ b) from w h.6 h.7)
 at_singles order OpcodeBaseZero head b l from w some h =
     (h.0, h.1, h.2, h.3, h.4, h.5, h.6, h.7, place order b (h.0 ∷ h.1 ∷ h.2 ∷ h.3 ∷ h.4 ∷ []) l (0 ∷ h.5) (head ++ b) from w h.8 h.9)
 at_singles order reason head b l from w some h = absurd h
 
-at_lengths : (order : Order) (reason : Reason) (s : Singles) (six behind head b l from : List ℕ) → SinglesBytes s six → b ≡ six ++ behind → InHeader order b l (head ++ b) from → 0 < length (head ++ b)
+at_lengths : (order : Order) (reason : Reason) (s : Singles) (six behind head b l from : List ℕ) → SinglesBytes s six → b ≡ six ++ behind
+    → InHeader order b l (head ++ b) from → 0 < length (head ++ b)
     → IsLengthsFault s.opcode_base reason behind l → IsAt order reason (head ++ b) from
-at_lengths order Truncated s six behind head b l from p e w some h = cut_at order (head ++ b) l from some (inr (b, w)) (number 1 (omega arith) (omega (arith, ap length h.ends)))
+at_lengths order Truncated s six behind head b l from p e w some h =
+    cut_at order (head ++ b) l from some (inr (b, w)) (number 1 (omega arith) (omega (arith, ap length h.ends)))
 at_lengths order (StandardLength opcode given) s six behind head b l from p e w some h = (
   s.minimum_instruction_length,
   s.max_ops,
@@ -55,42 +63,66 @@ at_lengths order (StandardLength opcode given) s six behind head b l from p e w 
   h.3,
   h.4,
   h.5,
-  place order b (s.minimum_instruction_length ∷ s.max_ops ∷ s.default_is_stmt ∷ s.line_base ∷ s.line_range ∷ s.opcode_base ∷ behind) l (given ∷ h.0) (head ++ b) from w
+  place order b (s.minimum_instruction_length ∷ s.max_ops ∷ s.default_is_stmt ∷ s.line_base ∷ s.line_range ∷ s.opcode_base ∷ behind) l
+      (given ∷ h.0) (head ++ b) from w
       (e ∙ ap (λ (z : List ℕ). z ++ behind) p.spelled) h.6,
 )
 at_lengths order reason s six behind head b l from p e w some h = absurd h
 
-at_table : (order : Order) (reason : Reason) (head b l from : List ℕ) → InHeader order b l (head ++ b) from → 0 < length (head ++ b) → IsWrongTable reason b l → IsAt order reason (head ++ b) from
+at_table : (order : Order) (reason : Reason) (head b l from : List ℕ) → InHeader order b l (head ++ b) from → 0 < length (head ++ b)
+    → IsWrongTable reason b l → IsAt order reason (head ++ b) from
 at_table order Truncated head b l from w some h = cut_at order (head ++ b) l from some (inr (b, w)) (cut_later head b l h)
 at_table order LebTooLarge head b l from w some h = (l, inr (b, w), h)
 at_table order (UnknownForm code) head b l from w some h = (l, h.0, h.1, (b, w), h.2, h.3, h.4)
-at_table order EmptyFormat head b l from w some h = (l, h.0, h.1, h.2, head ++ h.3, (b, w), h.4, h.5, h.6, ap (λ (z : List ℕ). head ++ z) h.7 ∙ sym (append_assoc head h.3 (0 ∷ [])))
+at_table order EmptyFormat head b l from w some h =
+    (l, h.0, h.1, h.2, head ++ h.3, (b, w), h.4, h.5, h.6, ap (λ (z : List ℕ). head ++ z) h.7 ∙ sym (append_assoc head h.3 (0 ∷ [])))
 at_table order reason head b l from w some h = absurd h
 
-wrong_tables : (format : Format) (order : Order) (reason : Reason) (before left : List ℕ) → TwoTablesFault format order reason before left → IsWrongTable reason before left
+wrong_tables : (format : Format) (order : Order) (reason : Reason) (before left : List ℕ) → TwoTablesFault format order reason before left
+    → IsWrongTable reason before left
 wrong_tables format order reason before left (first h) = wrong_table format order reason before left h
-wrong_tables format order reason before left (second directories front behind p e h) = wrong_behind reason front behind before left e (wrong_table format order reason behind left h)
+wrong_tables format order reason before left (second directories front behind p e h) =
+    wrong_behind reason front behind before left e (wrong_table format order reason behind left h)
 
-pub at_header : (order : Order) (format : Format) (reason : Reason) (head b l from : List ℕ) → InHeader order b l (head ++ b) from → 0 < length (head ++ b) → IsHeaderFault format order reason b l → IsAt order reason (head ++ b) from
+pub at_header : (order : Order) (format : Format) (reason : Reason) (head b l from : List ℕ) → InHeader order b l (head ++ b) from
+    → 0 < length (head ++ b) → IsHeaderFault format order reason b l → IsAt order reason (head ++ b) from
 at_header order format reason head b l from w some (first h) = at_singles order reason head b l from w some h
-at_header order format reason head b l from w some (second s six behind p e (first h)) = at_lengths order reason s six behind head b l from p e w some h
+at_header order format reason head b l from w some (second s six behind p e (first h)) =
+    at_lengths order reason s six behind head b l from p e w some h
 at_header order format reason head b l from w some (second s six behind p e (second ls lengths more q e2 h)) =
     at_table order reason head b l from w some
     (wrong_behind reason six behind b l e (wrong_behind reason lengths more behind l e2 (wrong_tables format order reason more l h)))
 
-in_frame_as : (order : Order) (format : Format) (b c l m before from : List ℕ) → InFrame order format b l before from → b ≡ c → l ≡ m → InFrame order format c m before from
-in_frame_as order format b c l m before from w e g = subst (λ (z : List ℕ). InFrame order format z m before from) e (subst (λ (z : List ℕ). InFrame order format b z before from) g w)
+in_frame_as : (order : Order) (format : Format) (b c l m before from : List ℕ) → InFrame order format b l before from → b ≡ c → l ≡ m
+    → InFrame order format c m before from
+in_frame_as order format b c l m before from w e g =
+    subst (λ (z : List ℕ). InFrame order format z m before from) e (subst (λ (z : List ℕ). InFrame order format b z before from) g w)
 
 -- the same of the fields up to header_length
-pub at_start : (order : Order) (format : Format) (reason : Reason) (head b l from : List ℕ) → InFrame order format (version_five order ++ b) l (head ++ b) from → 0 < length (head ++ b)
+pub at_start : (order : Order) (format : Format) (reason : Reason) (head b l from : List ℕ)
+    → InFrame order format (version_five order ++ b) l (head ++ b) from → 0 < length (head ++ b)
     → IsStartFault format order reason b l → IsAt order reason (head ++ b) from
-at_start order format Truncated head b l from w some (address_size before so) = cut_at order (head ++ b) l from some (inl (format, version_five order ++ b, w)) (number 1 (omega arith) so)
-at_start order format (AddressSize size) head b l from w some (address_size before so) =
-    (format, so.0, so.1, in_frame_as order format (version_five order ++ b) (version_five order) l (size ∷ so.0) (head ++ b) from w (ap (λ (z : List ℕ). version_five order ++ z) before ∙ append-nil (version_five order)) so.2)
+at_start order format Truncated head b l from w some (address_size before so) =
+    cut_at order (head ++ b) l from some (inl (format, version_five order ++ b, w)) (number 1 (omega arith) so)
+at_start order format (AddressSize size) head b l from w some (address_size before so) = (
+  format,
+  so.0,
+  so.1,
+  in_frame_as order format (version_five order ++ b) (version_five order) l (size ∷ so.0) (head ++ b) from w
+      (ap (λ (z : List ℕ). version_five order ++ z) before ∙ append-nil (version_five order)) so.2,
+)
 at_start order format reason head b l from w some (address_size before so) = absurd so
-at_start order format Truncated head b l from w some (selector size is before so) = cut_at order (head ++ b) l from some (inl (format, version_five order ++ b, w)) (number 1 (omega arith) so)
-at_start order format (SegmentSelector n) head b l from w some (selector size is before so) =
-    (format, size, so.0, is, so.1, in_frame_as order format (version_five order ++ b) (version_five order ++ size ∷ []) l (n ∷ so.0) (head ++ b) from w (ap (λ (z : List ℕ). version_five order ++ z) before) so.2)
+at_start order format Truncated head b l from w some (selector size is before so) =
+    cut_at order (head ++ b) l from some (inl (format, version_five order ++ b, w)) (number 1 (omega arith) so)
+at_start order format (SegmentSelector n) head b l from w some (selector size is before so) = (
+  format,
+  size,
+  so.0,
+  is,
+  so.1,
+  in_frame_as order format (version_five order ++ b) (version_five order ++ size ∷ []) l (n ∷ so.0)
+      (head ++ b) from w (ap (λ (z : List ℕ). version_five order ++ z) before) so.2,
+)
 at_start order format reason head b l from w some (selector size is before so) = absurd so
 at_start order format Truncated head b l from w some (header_length size is before so) =
     cut_at order (head ++ b) l from some (inl (format, version_five order ++ b, w)) (number (offset_size format) (small_offset format) so)
@@ -102,6 +134,7 @@ at_start order format HeaderLength head b l from w some (header_length size is b
   is,
   so.2,
   so.3,
-  in_frame_as order format (version_five order ++ b) (version_five order ++ size ∷ 0 ∷ []) l (number_bytes order (offset_size format) so.0 ++ so.1) (head ++ b) from w (ap (λ (z : List ℕ). version_five order ++ z) before) so.4,
+  in_frame_as order format (version_five order ++ b) (version_five order ++ size ∷ 0 ∷ []) l
+      (number_bytes order (offset_size format) so.0 ++ so.1) (head ++ b) from w (ap (λ (z : List ℕ). version_five order ++ z) before) so.4,
 )
 at_start order format reason head b l from w some (header_length size is before so) = absurd so

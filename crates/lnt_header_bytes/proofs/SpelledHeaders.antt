@@ -7,7 +7,8 @@ use Rattle.lnt_wire.specs.declared.format.Order.{Order}
 use Rattle.lnt_wire.specs.declared.form.Form.{Form}
 use Rattle.lnt_wire.specs.declared.form.Form.TheVariants as forms
 use Rattle.lnt_wire.specs.declared.form.FormValue.{FormValue}
-use Rattle.lnt_wire.specs.declared.form.FormValue.TheVariants.{Text, LineStrp, Strp, Udata, Data1, Data2, Data4, Data8, Data16, Block, Block1, Block2, Block4}
+use Rattle.lnt_wire.specs.declared.form.FormValue.TheVariants.{Text, LineStrp, Strp, Udata, Data1, Data2, Data4, Data8, Data16, Block}
+use Rattle.lnt_wire.specs.declared.form.FormValue.TheVariants.{Block1, Block2, Block4}
 use Rattle.lnt_wire.specs.Bytes.{Appends}
 use Rattle.lnt_wire.specs.FormBytes.{form_code, FormBytes, HasSpelling, IsTooLarge}
 use Rattle.lnt_wire.specs.FrameBytes.{frame_bytes}
@@ -31,7 +32,8 @@ use Rattle.lnt_header_bytes.proofs.EncodeLemmas.{fields_put, pair_put, table_put
 
 -- ---- what is spelled is put
 
-put_behind : {X : Type 0} (Spells : X → List ℕ → Type 0) (x : X) (old : List ℕ) → (s : HasShortest Spells x) → Appends Spells x old (old ++ s.0)
+put_behind : {X : Type 0} (Spells : X → List ℕ → Type 0) (x : X) (old : List ℕ) → (s : HasShortest Spells x)
+    → Appends Spells x old (old ++ s.0)
 put_behind Spells x old s = record { spelling = s.0; spelled = s.1; joined = refl }
 
 was_put : {X : Type 0} (Spells : X → List ℕ → Type 0) (x : X) (old new : List ℕ) → Appends Spells x old new → HasShortest Spells x
@@ -54,41 +56,53 @@ small_code forms.Udata = omega arith
 small_code forms.Data16 = omega arith
 small_code forms.LineStrp = omega arith
 
-pairs_spelled : wire.SpelledValues → (pairs : List Pair) → AllByRecursion (λ (pair : Pair). pair.content < 2 ^ 64) pairs → AllByRecursion (HasShortest PairBytes) pairs
+pairs_spelled : wire.SpelledValues → (pairs : List Pair) → AllByRecursion (λ (pair : Pair). pair.content < 2 ^ 64) pairs
+    → AllByRecursion (HasShortest PairBytes) pairs
 pairs_spelled law [] fits = tt
 pairs_spelled law (pair ∷ pairs) fits =
     let content = law.unsigned pair.content fits.0 in
     let code = law.unsigned (form_code pair.form) (small_code pair.form) in (
       was_put PairBytes pair [] (([] ++ content.0) ++ code.0)
-          (pair_put pair (form_code pair.form) [] ([] ++ content.0) (([] ++ content.0) ++ code.0) (put_behind UnsignedLeb pair.content [] content) refl (put_behind UnsignedLeb (form_code pair.form) ([] ++ content.0) code)),
+          (pair_put pair (form_code pair.form) [] ([] ++ content.0) (([] ++ content.0) ++ code.0)
+          (put_behind UnsignedLeb pair.content [] content) refl (put_behind UnsignedLeb (form_code pair.form) ([] ++ content.0) code)),
       pairs_spelled law pairs fits.1,
     )
 
 -- ---- entries
 
-values_spelled : wire.SpelledValues → (format : Format) (order : Order) (values : List FormValue) → AllByRecursion HasSpelling values → AllByRecursion FitsForm values
+values_spelled : wire.SpelledValues → (format : Format) (order : Order) (values : List FormValue) → AllByRecursion HasSpelling values
+    → AllByRecursion FitsForm values
     → AllByRecursion (λ value. IsTooLarge format value → ⊥) values → AllByRecursion (HasShortest (FormBytes format order)) values
 values_spelled law format order [] is fits small = tt
-values_spelled law format order (value ∷ values) is fits small = (law.value format order value is.0 fits.0 small.0, values_spelled law format order values is.1 fits.1 small.1)
+values_spelled law format order (value ∷ values) is fits small =
+    (law.value format order value is.0 fits.0 small.0, values_spelled law format order values is.1 fits.1 small.1)
 
-entries_spelled : wire.SpelledValues → (format : Format) (order : Order) (pairs : List Pair) (entries : List Entry) → AllByRecursion (IsEntryOf pairs) entries
-    → AllByRecursion (λ (entry : Entry). AllByRecursion FitsForm entry.values) entries → OffsetsFit format entries → AllByRecursion (HasShortest (EntryParts format order)) entries
+entries_spelled : wire.SpelledValues → (format : Format) (order : Order) (pairs : List Pair) (entries : List Entry)
+    → AllByRecursion (IsEntryOf pairs) entries
+    → AllByRecursion (λ (entry : Entry). AllByRecursion FitsForm entry.values) entries → OffsetsFit format entries
+    → AllByRecursion (HasShortest (EntryParts format order)) entries
 entries_spelled law format order pairs [] is fits small = tt
 entries_spelled law format order pairs (entry ∷ entries) is fits small =
-    let one = each_shortest (FormBytes format order) entry.values (values_spelled law format order entry.values is.0.spelled fits.0 small.0) in
-    ((one.0, record { spelled = one.1.spelled; shortest = one.1.shortest }), entries_spelled law format order pairs entries is.1 fits.1 small.1)
+    let one = each_shortest (FormBytes format order) entry.values
+    (values_spelled law format order entry.values is.0.spelled fits.0 small.0) in (
+      (one.0, record { spelled = one.1.spelled; shortest = one.1.shortest }),
+      entries_spelled law format order pairs entries is.1 fits.1 small.1,
+    )
 
-table_spelled : wire.SpelledValues → (format : Format) (order : Order) (pairs : List Pair) (entries : List Entry) → IsTable pairs entries → FitsTable pairs entries → OffsetsFit format entries
+table_spelled : wire.SpelledValues → (format : Format) (order : Order) (pairs : List Pair) (entries : List Entry) → IsTable pairs entries
+    → FitsTable pairs entries → OffsetsFit format entries
     → HasShortest (TableOf format order) (pairs, entries)
 table_spelled law format order pairs entries is fits small =
     let p = each_shortest PairBytes pairs (pairs_spelled law pairs fits.contents) in
     let n = law.unsigned (length entries) fits.count in
-    let e = each_shortest (EntryParts format order) entries (entries_spelled law format order pairs entries is.of_format fits.values small) in
+    let e = each_shortest (EntryParts format order) entries
+    (entries_spelled law format order pairs entries is.of_format fits.values small) in
     let m1 : List ℕ = [] ++ length pairs ∷ [] in
     let m2 : List ℕ = m1 ++ p.0 in
     let m3 : List ℕ = m2 ++ n.0 in
     was_put (TableOf format order) (pairs, entries) [] (m3 ++ e.0)
-    (table_put format order pairs entries [] m1 m2 m3 (m3 ++ e.0) is refl (put_behind (Each PairBytes) pairs m1 p) (put_behind UnsignedLeb (length entries) m2 n) (put_behind (Each (EntryParts format order)) entries m3 e))
+    (table_put format order pairs entries [] m1 m2 m3 (m3 ++ e.0) is refl (put_behind (Each PairBytes) pairs m1 p)
+    (put_behind UnsignedLeb (length entries) m2 n) (put_behind (Each (EntryParts format order)) entries m3 e))
 
 -- ---- headers
 
@@ -101,14 +115,19 @@ fields_spelled law h is fits small =
     let o3 : List ℕ = o2 ++ d.0 in
     let o4 : List ℕ = o3 ++ f.0 in (
       o4 ++ h.extra,
-      fields_put h [] o1 o2 o3 o4 (o4 ++ h.extra) h.standard_lengths h.extra h.directory_format h.file_format h.directories h.files is refl refl refl refl refl refl
-          (put_behind (TableOf h.format h.order) (h.directory_format, h.directories) o2 d) refl refl (put_behind (TableOf h.format h.order) (h.file_format, h.files) o3 f) refl refl,
+      fields_put h [] o1 o2 o3 o4 (o4 ++ h.extra) h.standard_lengths h.extra h.directory_format h.file_format h.directories h.files is refl
+          refl refl refl refl refl
+          (put_behind (TableOf h.format h.order) (h.directory_format, h.directories) o2 d) refl refl
+          (put_behind (TableOf h.format h.order) (h.file_format, h.files) o3 f) refl refl,
     )
 
-unit_spelled : wire.SpelledValues → (h : HeaderParts) (program : List ℕ) → IsHeader h → FitsFields h → HasSmallOffsets h → LengthsFit h program → (bytes : List ℕ) × HeaderBytes h program bytes
+unit_spelled : wire.SpelledValues → (h : HeaderParts) (program : List ℕ) → IsHeader h → FitsFields h → HasSmallOffsets h
+    → LengthsFit h program → (bytes : List ℕ) × HeaderBytes h program bytes
 unit_spelled law h program is fits small short =
-    let s = fields_spelled law h is fits small in
-    (frame_bytes h.order h.format (unit_body h s.0 program), record { fields = s.0; counted = s.1.spelled; fits = short s.0 s.1; joined = refl })
+    let s = fields_spelled law h is fits small in (
+      frame_bytes h.order h.format (unit_body h s.0 program),
+      record { fields = s.0; counted = s.1.spelled; fits = short s.0 s.1; joined = refl },
+    )
 
 -- ---- what is spelled
 
@@ -116,7 +135,8 @@ pairs_fit : (pairs : List Pair) (x : List ℕ) → Each PairBytes pairs x → Al
 pairs_fit [] x p = tt
 pairs_fit (pair ∷ pairs) x p = (p.first.first.fits, pairs_fit pairs p.back p.second)
 
-values_fit : wire.SpelledValues → (format : Format) (order : Order) (pairs : List Pair) (values : List FormValue) (x : List ℕ) → ValuesBytes format order pairs values x
+values_fit : wire.SpelledValues → (format : Format) (order : Order) (pairs : List Pair) (values : List FormValue) (x : List ℕ)
+    → ValuesBytes format order pairs values x
     → AllByRecursion FitsForm values × AllByRecursion (λ value. IsTooLarge format value → ⊥) values
 values_fit law format order [] [] x p = (tt, tt)
 values_fit law format order [] (value ∷ values) x p = absurd p
@@ -126,7 +146,8 @@ values_fit law format order (pair ∷ pairs) (value ∷ values) x p =
     let rest = values_fit law format order pairs values p.1.back p.1.second in
     ((one.1, rest.0), (one.2, rest.1))
 
-entries_fit : wire.SpelledValues → (format : Format) (order : Order) (pairs : List Pair) (entries : List Entry) (x : List ℕ) → Each (EntryBytes format order pairs) entries x
+entries_fit : wire.SpelledValues → (format : Format) (order : Order) (pairs : List Pair) (entries : List Entry) (x : List ℕ)
+    → Each (EntryBytes format order pairs) entries x
     → AllByRecursion (λ (entry : Entry). AllByRecursion FitsForm entry.values) entries × OffsetsFit format entries
 entries_fit law format order pairs [] x p = (tt, tt)
 entries_fit law format order pairs (entry ∷ entries) x p =
@@ -134,13 +155,15 @@ entries_fit law format order pairs (entry ∷ entries) x p =
     let rest = entries_fit law format order pairs entries p.back p.second in
     ((one.0, rest.0), (one.1, rest.1))
 
-table_fits : wire.SpelledValues → (format : Format) (order : Order) (pairs : List Pair) (entries : List Entry) (x : List ℕ) → TableBytes format order pairs entries x → FitsTable pairs entries × OffsetsFit format entries
+table_fits : wire.SpelledValues → (format : Format) (order : Order) (pairs : List Pair) (entries : List Entry) (x : List ℕ)
+    → TableBytes format order pairs entries x → FitsTable pairs entries × OffsetsFit format entries
 table_fits law format order pairs entries x p =
     let behind = p.spelled.second.second in
     let all = entries_fit law format order pairs entries behind.back behind.second in
     (record { contents = pairs_fit pairs p.spelled.second.front p.spelled.second.first; count = behind.first.fits; values = all.0 }, all.1)
 
-allowed : wire.SpelledValues → (h : HeaderParts) (program bytes : List ℕ) → HeaderBytes h program bytes → IsHeader h × FitsFields h × HasSmallOffsets h × LengthsFit h program
+allowed : wire.SpelledValues → (h : HeaderParts) (program bytes : List ℕ) → HeaderBytes h program bytes
+    → IsHeader h × FitsFields h × HasSmallOffsets h × LengthsFit h program
 allowed law h program bytes p =
     let d = table_fits law h.format h.order h.directory_format h.directories p.counted.directories p.counted.directory_table in
     let f = table_fits law h.format h.order h.file_format h.files p.counted.files p.counted.file_table in (

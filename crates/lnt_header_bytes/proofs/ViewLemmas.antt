@@ -9,7 +9,9 @@ use Rattle.lnt_wire.specs.declared.format.Order.{Order}
 use Rattle.lnt_header.specs.declared.header.Entry.{Entry}
 use Rattle.lnt_header.specs.declared.header.Pair.{Pair}
 use Rattle.lnt_header_bytes.specs.declared.read_table.TableRead.{TableRead}
-use Rattle.lnt_header_bytes.specs.Borrowed.{first_entries, BorrowedTable, borrowed_table, AreEntryBytes, without_entries, PassesAll, IsTableRead, AreFieldsRead, ArePlain, lying_table, header_over, directories_over, files_over, IsHeaderOver}
+use Rattle.lnt_header_bytes.specs.Borrowed.{first_entries, BorrowedTable, borrowed_table, AreEntryBytes, without_entries, PassesAll}
+use Rattle.lnt_header_bytes.specs.Borrowed.{IsTableRead, AreFieldsRead, ArePlain, lying_table, header_over, directories_over, files_over}
+use Rattle.lnt_header_bytes.specs.Borrowed.{IsHeaderOver}
 use Rattle.lnt_header.specs.declared.header.HeaderParts.{HeaderParts}
 use Rattle.lnt_header_bytes.specs.declared.numbers.Singles.{Singles}
 use Rattle.lnt_header_bytes.specs.FieldsBytes.{FieldsBytes}
@@ -25,58 +27,83 @@ use Rattle.lnt_header_bytes.proofs.HeaderReaders.{reads_fields}
 use Rattle.lnt_header_bytes.proofs.TableReaders.{reads_table}
 
 -- what was passed is what the bytes begin with
-found : (format : Format) (pairs : List Pair) (count : ℕ) (bytes : List ℕ) (old new : At) → (p : PassesAll count (EntryBytes format old.order pairs) bytes old new) → first_entries format old.order pairs count bytes ≡ p.values
+found : (format : Format) (pairs : List Pair) (count : ℕ) (bytes : List ℕ) (old new : At)
+    → (p : PassesAll count (EntryBytes format old.order pairs) bytes old new) → first_entries format old.order pairs count bytes ≡ p.values
 found format pairs count bytes old new p =
-    ap (first_entries format old.order pairs count) p.bytes_are ∙ all_found format old.order pairs count p.values p.read.spelling p.count_is p.read.spelled
+    ap (first_entries format old.order pairs count) p.bytes_are
+    ∙ all_found format old.order pairs count p.values p.read.spelling p.count_is p.read.spelled
 
-lies_here : (format : Format) (pairs : List Pair) (count : ℕ) (bytes : List ℕ) (old new : At) → PassesAll count (EntryBytes format old.order pairs) bytes old new
+lies_here : (format : Format) (pairs : List Pair) (count : ℕ) (bytes : List ℕ) (old new : At)
+    → PassesAll count (EntryBytes format old.order pairs) bytes old new
     → AreEntryBytes (borrowed_table format old.order pairs count bytes) bytes
 lies_here format pairs count bytes old new p =
     subst (λ (es : List Entry). Each (EntryBytes format old.order pairs) es bytes) (sym (found format pairs count bytes old new p))
     (subst (λ (z : List ℕ). Each (EntryBytes format old.order pairs) p.values z) (sym p.bytes_are) p.read.spelled)
 
-pub table_read : (format : Format) (n size : ℕ) (table : TableRead) (old m1 m2 m3 new : At) → Reads (NumberBytes old.order 1) n old m1 → Reads (Several n PairBytes) table.pairs.items m1 m2
-    → Reads UnsignedLeb size m2 m3 → (n ≡ 0 → size ≡ 0) → table.entries.count ≡ size → PassesAll size (EntryBytes format m3.order table.pairs.items) table.entries.bytes.now m3 new → IsTableRead format table old new
+pub table_read : (format : Format) (n size : ℕ) (table : TableRead) (old m1 m2 m3 new : At) → Reads (NumberBytes old.order 1) n old m1
+    → Reads (Several n PairBytes) table.pairs.items m1 m2
+    → Reads UnsignedLeb size m2 m3 → (n ≡ 0 → size ≡ 0) → table.entries.count ≡ size
+    → PassesAll size (EntryBytes format m3.order table.pairs.items) table.entries.bytes.now m3 new → IsTableRead format table old new
 table_read format n size table old m1 m2 m3 new r s t none count p =
     let pairs = table.pairs.items in
     let bytes = table.entries.bytes.now in
     let same : old.order ≡ m3.order = sym r.order ∙ sym s.order ∙ sym t.order in
     let here : PassesAll size (EntryBytes format m3.order pairs) bytes m3 new = p in
     let entries : first_entries format old.order pairs table.entries.count bytes ≡ p.values =
-    ap (λ (o : Order). first_entries format o pairs table.entries.count bytes) same ∙ ap (λ (k : ℕ). first_entries format m3.order pairs k bytes) count ∙ found format pairs size bytes m3 new p in
+    ap (λ (o : Order). first_entries format o pairs table.entries.count bytes) same
+    ∙ ap (λ (k : ℕ). first_entries format m3.order pairs k bytes) count ∙ found format pairs size bytes m3 new p in
     record {
       lies = subst (λ (o : Order). AreEntryBytes (borrowed_table format o pairs table.entries.count bytes) bytes) (sym same)
-          (subst (λ (k : ℕ). AreEntryBytes (borrowed_table format m3.order pairs k bytes) bytes) (sym count) (lies_here format pairs size bytes m3 new p));
+          (subst (λ (k : ℕ). AreEntryBytes (borrowed_table format m3.order pairs k bytes) bytes) (sym count)
+          (lies_here format pairs size bytes m3 new p));
       read = subst (λ (es : List Entry). Reads (TableOf format old.order) (pairs, es) old new) (sym entries)
-          (reads_table format n size pairs p.values old m1 m2 m3 new r s t none (record { spelling = p.read.spelling; spelled = (p.count_is, p.read.spelled); whole = p.read.whole; place = p.read.place; order = p.read.order }));
+          (reads_table format n size pairs p.values old m1 m2 m3 new r s t none
+          (record {
+            spelling = p.read.spelling;
+            spelled = (p.count_is, p.read.spelled);
+            whole = p.read.whole;
+            place = p.read.place;
+            order = p.read.order;
+          }));
     }
 
 -- the entries that are read are those that lie there
-pub entries_are : (table : BorrowedTable) (entries : List Entry) (old new : At) → old.order ≡ table.order → AreEntryBytes table old.rest → Reads (Several (length table.entries) (EntryBytes table.format old.order table.pairs)) entries old new
+pub entries_are : (table : BorrowedTable) (entries : List Entry) (old new : At) → old.order ≡ table.order → AreEntryBytes table old.rest
+    → Reads (Several (length table.entries) (EntryBytes table.format old.order table.pairs)) entries old new
     → entries ≡ table.entries
 entries_are table entries old new same lies r =
-    let spelled : Each (EntryBytes table.format table.order table.pairs) entries r.spelling = subst (λ (o : Order). Each (EntryBytes table.format o table.pairs) entries r.spelling) same r.spelled.1 in
+    let spelled : Each (EntryBytes table.format table.order table.pairs) entries r.spelling =
+    subst (λ (o : Order). Each (EntryBytes table.format o table.pairs) entries r.spelling) same r.spelled.1 in
     let first : first_entries table.format table.order table.pairs (length entries) old.rest ≡ entries =
-    ap (first_entries table.format table.order table.pairs (length entries)) r.whole ∙ entries_found table.format table.order table.pairs entries r.spelling new.rest spelled in
+    ap (first_entries table.format table.order table.pairs (length entries)) r.whole
+    ∙ entries_found table.format table.order table.pairs entries r.spelling new.rest spelled in
     let other : first_entries table.format table.order table.pairs (length table.entries) old.rest ≡ table.entries =
     all_found table.format table.order table.pairs (length table.entries) table.entries old.rest refl lies in
     sym first ∙ ap (λ (n : ℕ). first_entries table.format table.order table.pairs n old.rest) r.spelled.0 ∙ other
 
 -- ---- headers
 
-pub fields_read : (format : Format) (s : Singles) (ls : List ℕ) (directories files : TableRead) (old m1 m2 m3 new : At) → Reads SinglesBytes s old m1 → Reads (LengthsBytes s.opcode_base) ls m1 m2
+pub fields_read : (format : Format) (s : Singles) (ls : List ℕ) (directories files : TableRead) (old m1 m2 m3 new : At)
+    → Reads SinglesBytes s old m1 → Reads (LengthsBytes s.opcode_base) ls m1 m2
     → IsTableRead format directories m2 m3 → IsTableRead format files m3 new → AreFieldsRead format s ls directories files old new
 fields_read format s ls directories files old m1 m2 m3 new r t d f =
     let first : m2.order ≡ old.order = t.order ∙ r.order in
     let second : m3.order ≡ old.order = d.read.order ∙ first in
-    let d_entries : (lying_table format m2.order directories).entries ≡ (lying_table format old.order directories).entries = ap (λ (o : Order). (lying_table format o directories).entries) first in
-    let f_entries : (lying_table format m3.order files).entries ≡ (lying_table format old.order files).entries = ap (λ (o : Order). (lying_table format o files).entries) second in
-    let all = reads_fields format s ls (directories.pairs.items, (lying_table format m2.order directories).entries) (files.pairs.items, (lying_table format m3.order files).entries) old m1 m2 m3 new r t d.read f.read in
+    let d_entries : (lying_table format m2.order directories).entries ≡ (lying_table format old.order directories).entries =
+    ap (λ (o : Order). (lying_table format o directories).entries) first in
+    let f_entries : (lying_table format m3.order files).entries ≡ (lying_table format old.order files).entries =
+    ap (λ (o : Order). (lying_table format o files).entries) second in
+    let all = reads_fields format s ls (directories.pairs.items, (lying_table format m2.order directories).entries)
+    (files.pairs.items, (lying_table format m3.order files).entries) old m1 m2 m3 new r t d.read f.read in
     record {
       directories_lie = subst (λ (o : Order). AreEntryBytes (lying_table format o directories) directories.entries.bytes.now) first d.lies;
       files_lie = subst (λ (o : Order). AreEntryBytes (lying_table format o files) files.entries.bytes.now) second f.lies;
-      read = subst (λ (es : List Entry). Reads (FieldsBytes format old.order) (s, (ls, ((directories.pairs.items, (lying_table format old.order directories).entries), (files.pairs.items, es)))) old new) f_entries
-          (subst (λ (es : List Entry). Reads (FieldsBytes format old.order) (s, (ls, ((directories.pairs.items, es), (files.pairs.items, (lying_table format m3.order files).entries)))) old new) d_entries all);
+      read = subst (λ (es : List Entry). Reads (FieldsBytes format old.order)
+          (s, (ls, ((directories.pairs.items, (lying_table format old.order directories).entries), (files.pairs.items, es)))) old new)
+          f_entries
+          (subst (λ (es : List Entry). Reads (FieldsBytes format old.order)
+          (s, (ls, ((directories.pairs.items, es), (files.pairs.items, (lying_table format m3.order files).entries)))) old new)
+          d_entries all);
     }
 
 with_entries : HeaderParts → List Entry → List Entry → List ℕ → HeaderParts
@@ -86,24 +113,30 @@ with_its_own : (h : HeaderParts) → with_entries h h.directories h.files h.extr
 unfolding with_entries
 with_its_own h = refl
 
-with_none : (h : HeaderParts) (dc : ℕ) (db : List ℕ) (fc : ℕ) (fb extra : List ℕ) → with_entries h [] [] [] ≡ without_entries (header_over h dc db fc fb extra)
+with_none : (h : HeaderParts) (dc : ℕ) (db : List ℕ) (fc : ℕ) (fb extra : List ℕ)
+    → with_entries h [] [] [] ≡ without_entries (header_over h dc db fc fb extra)
 unfolding with_entries
 with_none h dc db fc fb extra = refl
 
 -- a header that was read without its entries has none
-plain_is : (h : HeaderParts) (dc : ℕ) (db : List ℕ) (fc : ℕ) (fb extra : List ℕ) → h.directories ≡ [] → h.files ≡ [] → h.extra ≡ [] → h ≡ without_entries (header_over h dc db fc fb extra)
+plain_is : (h : HeaderParts) (dc : ℕ) (db : List ℕ) (fc : ℕ) (fb extra : List ℕ) → h.directories ≡ [] → h.files ≡ [] → h.extra ≡ []
+    → h ≡ without_entries (header_over h dc db fc fb extra)
 plain_is h dc db fc fb extra b e g =
     let none : with_entries h h.directories h.files h.extra ≡ with_entries h [] [] [] = cc (b, e, g) in
     sym (with_its_own h) ∙ none ∙ with_none h dc db fc fb extra
 
 -- What is read of a header, and its parts.
-pub record IsViewFound (format : Format) (order : Order) (size : ℕ) (bytes : List ℕ) (h : HeaderParts) (directories files : TableRead) (extra : List ℕ) : Type 0 where
-  pub fields : HasFields format order size bytes (header_over h directories.entries.count directories.entries.bytes.now files.entries.count files.entries.bytes.now extra)
+pub record IsViewFound (format : Format) (order : Order) (size : ℕ) (bytes : List ℕ) (h : HeaderParts) (directories files : TableRead)
+    (extra : List ℕ) : Type 0 where
+  pub fields : HasFields format order size bytes (header_over h directories.entries.count directories.entries.bytes.now files.entries.count
+      files.entries.bytes.now extra)
   pub over : IsHeaderOver h directories.entries.count directories.entries.bytes.now files.entries.count files.entries.bytes.now extra
   pub numbers : IsHeader h
 
-pub view_found : (format : Format) (order : Order) (size : ℕ) (bytes : List ℕ) (s : Singles) (lengths copy : List ℕ) (d f : TableRead) (extra : List ℕ) (old new : At) (h : HeaderParts)
-    → IsAddressSize size → ((i : ℕ) → get_or bytes i 0 < 256) → old.rest ≡ bytes → old.order ≡ order → AreFieldsRead format s lengths d f old new → copy ≡ lengths
+pub view_found : (format : Format) (order : Order) (size : ℕ) (bytes : List ℕ) (s : Singles) (lengths copy : List ℕ) (d f : TableRead)
+    (extra : List ℕ) (old new : At) (h : HeaderParts)
+    → IsAddressSize size → ((i : ℕ) → get_or bytes i 0 < 256) → old.rest ≡ bytes → old.order ≡ order
+    → AreFieldsRead format s lengths d f old new → copy ≡ lengths
     → ArePlain format order size s copy d.pairs.items f.pairs.items h → extra ≡ new.rest → IsViewFound format order size bytes h d f extra
 view_found format order size bytes s lengths copy d f extra old new h is small rest_is same_order read copy_is plain extra_is =
     let p = plain.fields in
@@ -115,7 +148,8 @@ view_found format order size bytes s lengths copy d f extra old new h is small r
     let back : old.order ≡ h.order = same_order ∙ sym plain.order_is in
     let d_is : directories_over h dc db ≡ lying_table format old.order d = cc (plain.format_is, back, p.directory_format) in
     let f_is : files_over h fc fb ≡ lying_table format old.order f = cc (plain.format_is, back, p.file_format) in
-    let are : AreFields s lengths (d.pairs.items, (lying_table format old.order d).entries) (f.pairs.items, (lying_table format old.order f).entries) new.rest whole = record {
+    let are : AreFields s lengths (d.pairs.items, (lying_table format old.order d).entries)
+    (f.pairs.items, (lying_table format old.order f).entries) new.rest whole = record {
       minimum = p.minimum;
       max_ops = p.max_ops;
       default_is_stmt = p.default_is_stmt;
@@ -130,7 +164,8 @@ view_found format order size bytes s lengths copy d f extra old new h is small r
       extra_is = extra_is;
     } in
     let has : HasFields format order size bytes whole =
-    fields_found format order size bytes s lengths (d.pairs.items, (lying_table format old.order d).entries) (f.pairs.items, (lying_table format old.order f).entries) old new whole
+    fields_found format order size bytes s lengths (d.pairs.items, (lying_table format old.order d).entries)
+    (f.pairs.items, (lying_table format old.order f).entries) old new whole
     plain.format_is plain.order_is plain.size_is is small rest_is same_order read.read are in
     let header : IsHeader whole = found_header format order size bytes whole has in
     let bare : h ≡ without_entries whole = plain_is h dc db fc fb extra p.directories_are p.files_are p.extra_is in

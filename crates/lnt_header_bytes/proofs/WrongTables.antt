@@ -35,7 +35,8 @@ IsUnknownCode code left = (spelling : List ℕ) × (rest : List ℕ) × (left �
 -- a number of entries after a format of no pairs
 abbrev IsEmptyFormat : List ℕ → List ℕ → Type 0
 IsEmptyFormat before left =
-    (n : ℕ) × (spelling : List ℕ) × (rest : List ℕ) × (earlier : List ℕ) × (left ≡ spelling ++ rest) × UnsignedLeb n spelling × (0 < n) × (before ≡ earlier ++ 0 ∷ [])
+    (n : ℕ) × (spelling : List ℕ) × (rest : List ℕ) × (earlier : List ℕ) × (left ≡ spelling ++ rest) × UnsignedLeb n spelling × (0 < n)
+    × (before ≡ earlier ++ 0 ∷ [])
 
 -- the reasons
 abbrev pub IsWrongTable : Reason → List ℕ → List ℕ → Type 0
@@ -49,7 +50,8 @@ later : (reason : Reason) (front before left : List ℕ) → IsWrongTable reason
 later Truncated front before left h = cut_later front before left h
 later LebTooLarge front before left h = h
 later (UnknownForm code) front before left h = h
-later EmptyFormat front before left h = (h.0, h.1, h.2, front ++ h.3, h.4, h.5, h.6, ap (λ (z : List ℕ). front ++ z) h.7 ∙ sym (append_assoc front h.3 (0 ∷ [])))
+later EmptyFormat front before left h =
+    (h.0, h.1, h.2, front ++ h.3, h.4, h.5, h.6, ap (λ (z : List ℕ). front ++ z) h.7 ∙ sym (append_assoc front h.3 (0 ∷ [])))
 later reason front before left h = absurd h
 
 short_so : (n : ℕ) (reason : Reason) (bytes : List ℕ) → n ≤ 16 → IsCutShort n reason bytes → IsWrongTable reason [] bytes
@@ -63,11 +65,14 @@ leb_so reason bytes h = absurd h
 text_so : (reason : Reason) (bytes : List ℕ) → IsCutText reason bytes → IsWrongTable reason [] bytes
 text_so reason bytes h = subst (λ (c : Reason). IsWrongTable c [] bytes) (sym h.reason_is) (text h.no_zero)
 
-block_so : (reason : Reason) (bytes : List ℕ) → IsBlockFault UnsignedLeb (IsLebFault IsLargeUnsigned) reason bytes → IsWrongTable reason [] bytes
+block_so : (reason : Reason) (bytes : List ℕ) → IsBlockFault UnsignedLeb (IsLebFault IsLargeUnsigned) reason bytes
+    → IsWrongTable reason [] bytes
 block_so reason bytes (no_length h) = leb_so reason bytes h
-block_so reason bytes (cut_block n spelling rest e p joined lt) = subst (λ (c : Reason). IsWrongTable c [] bytes) (sym e) (block n spelling rest p joined lt)
+block_so reason bytes (cut_block n spelling rest e p joined lt) =
+    subst (λ (c : Reason). IsWrongTable c [] bytes) (sym e) (block n spelling rest p joined lt)
 
-sized_so : (order : Order) (size : ℕ) (reason : Reason) (bytes : List ℕ) → size ≤ 4 → IsBlockFault (NumberBytes order size) (IsCutShort size) reason bytes → IsWrongTable reason [] bytes
+sized_so : (order : Order) (size : ℕ) (reason : Reason) (bytes : List ℕ) → size ≤ 4
+    → IsBlockFault (NumberBytes order size) (IsCutShort size) reason bytes → IsWrongTable reason [] bytes
 sized_so order size reason bytes small (no_length h) = short_so size reason bytes (omega arith) h
 sized_so order size reason bytes small (cut_block n spelling rest e p joined lt) =
     subst (λ (c : Reason). IsWrongTable c [] bytes) (sym e) (sized_block order size n spelling rest small p joined lt)
@@ -76,7 +81,8 @@ pub small_offset : (format : Format) → offset_size format ≤ 16
 small_offset D32 = omega arith
 small_offset D64 = omega arith
 
-value_so : (format : Format) (order : Order) (form : Form) (reason : Reason) (bytes : List ℕ) → IsValueFault format order form reason bytes → IsWrongTable reason [] bytes
+value_so : (format : Format) (order : Order) (form : Form) (reason : Reason) (bytes : List ℕ) → IsValueFault format order form reason bytes
+    → IsWrongTable reason [] bytes
 value_so format order forms.Data1 reason bytes h = short_so 1 reason bytes (omega arith) h
 value_so format order forms.Data2 reason bytes h = short_so 2 reason bytes (omega arith) h
 value_so format order forms.Data4 reason bytes h = short_so 4 reason bytes (omega arith) h
@@ -92,8 +98,10 @@ value_so format order forms.Block2 reason bytes h = sized_so order 2 reason byte
 value_so format order forms.Block4 reason bytes h = sized_so order 4 reason bytes (omega arith) h
 
 -- after bytes of which nothing is asked
-pub wrong_behind : (reason : Reason) (front behind before left : List ℕ) → before ≡ front ++ behind → IsWrongTable reason behind left → IsWrongTable reason before left
-wrong_behind reason front behind before left e h = subst (λ (z : List ℕ). IsWrongTable reason z left) (sym e) (later reason front behind left h)
+pub wrong_behind : (reason : Reason) (front behind before left : List ℕ) → before ≡ front ++ behind → IsWrongTable reason behind left
+    → IsWrongTable reason before left
+wrong_behind reason front behind before left e h =
+    subst (λ (z : List ℕ). IsWrongTable reason z left) (sym e) (later reason front behind left h)
 
 wrong_here : (reason : Reason) (before left : List ℕ) → before ≡ [] → IsWrongTable reason [] left → IsWrongTable reason before left
 wrong_here reason before left e h = subst (λ (z : List ℕ). IsWrongTable reason z left) (sym e) h
@@ -103,37 +111,46 @@ wrong_number reason before left h = wrong_here reason before left h.0 (leb_so re
 
 wrong_code : (reason : Reason) (before left : List ℕ) → IsCodeFault reason before left → IsWrongTable reason before left
 wrong_code reason before left (no_code h) = wrong_number reason before left h
-wrong_code reason before left (unknown code spelling rest e nothing p joined u) = subst (λ (c : Reason). IsWrongTable c before left) (sym e) (spelling, rest, joined, p, u)
+wrong_code reason before left (unknown code spelling rest e nothing p joined u) =
+    subst (λ (c : Reason). IsWrongTable c before left) (sym e) (spelling, rest, joined, p, u)
 
 wrong_pair : (reason : Reason) (before left : List ℕ) → IsPairFault reason before left → IsWrongTable reason before left
 wrong_pair reason before left (first h) = wrong_number reason before left h
-wrong_pair reason before left (second content front behind p e h) = wrong_behind reason front behind before left e (wrong_code reason behind left h)
+wrong_pair reason before left (second content front behind p e h) =
+    wrong_behind reason front behind before left e (wrong_code reason behind left h)
 
-wrong_entry : (format : Format) (order : Order) (pairs : List Pair) (reason : Reason) (before left : List ℕ) → IsEntryFault format order pairs reason before left → IsWrongTable reason before left
-wrong_entry format order pairs reason before left (no_value done pair behind values e p h) = wrong_behind reason before [] before left (sym (append-nil before)) (value_so format order pair.form reason left h)
+wrong_entry : (format : Format) (order : Order) (pairs : List Pair) (reason : Reason) (before left : List ℕ)
+    → IsEntryFault format order pairs reason before left → IsWrongTable reason before left
+wrong_entry format order pairs reason before left (no_value done pair behind values e p h) =
+    wrong_behind reason before [] before left (sym (append-nil before)) (value_so format order pair.form reason left h)
 
 no_pairs : (pairs : List Pair) (x : List ℕ) → Each PairBytes pairs x → pairs ≡ [] → x ≡ []
 no_pairs [] x p e = p
 no_pairs (pair ∷ pairs) x p e = absurd cc
 
 -- after the pairs of a format, where the byte that counts them stands before them
-wrong_behind_pairs : (format : Format) (order : Order) (n : ℕ) (pairs : List Pair) (count kinds behind left : List ℕ) (reason : Reason) → NumberBytes order 1 n count → Several n PairBytes pairs kinds
+wrong_behind_pairs : (format : Format) (order : Order) (n : ℕ) (pairs : List Pair) (count kinds behind left : List ℕ) (reason : Reason)
+    → NumberBytes order 1 n count → Several n PairBytes pairs kinds
     → BehindPairsFault format order pairs reason behind left → IsWrongTable reason (count ++ (kinds ++ behind)) left
-wrong_behind_pairs format order n pairs count kinds behind left reason p q (first (no_size h)) = later reason count (kinds ++ behind) left (later reason kinds behind left (wrong_number reason behind left h))
+wrong_behind_pairs format order n pairs count kinds behind left reason p q (first (no_size h)) =
+    later reason count (kinds ++ behind) left (later reason kinds behind left (wrong_number reason behind left h))
 wrong_behind_pairs format order n pairs count kinds behind left reason p q (first (empty m spelling rest e nothing none u joined some)) =
     let zero_pairs : n ≡ 0 = sym q.0 ∙ ap length none in
     let digit : count ≡ 0 ∷ [] = p.spelled ∙ one_digit order n p.fits ∙ ap (λ (k : ℕ). k ∷ []) zero_pairs in
     let no_kinds : kinds ≡ [] = no_pairs pairs kinds q.1 none in
     let before : count ++ (kinds ++ behind) ≡ 0 ∷ [] = cc (digit, no_kinds, nothing) in
     subst (λ (c : Reason). IsWrongTable c (count ++ (kinds ++ behind)) left) (sym e) (m, spelling, rest, [], joined, u, some, before)
-wrong_behind_pairs format order n pairs count kinds behind left reason p q (second size spelling more u e (next entries done here lt each e2 h)) =
+wrong_behind_pairs format order n pairs count kinds behind left reason p q
+    (second size spelling more u e (next entries done here lt each e2 h)) =
     let at_entry = wrong_behind reason done here more left e2 (wrong_entry format order pairs reason here left h) in
     later reason count (kinds ++ behind) left (later reason kinds behind left (wrong_behind reason spelling more behind left e at_entry))
 
-pub wrong_table : (format : Format) (order : Order) (reason : Reason) (before left : List ℕ) → IsTableFault format order reason before left → IsWrongTable reason before left
+pub wrong_table : (format : Format) (order : Order) (reason : Reason) (before left : List ℕ) → IsTableFault format order reason before left
+    → IsWrongTable reason before left
 wrong_table format order reason before left (first h) = wrong_here reason before left h.0 (short_so 1 reason left (omega arith) h.1)
 wrong_table format order reason before left (second n front behind p e (first (next pairs done more lt each e2 h))) =
     wrong_behind reason front behind before left e (wrong_behind reason done more behind left e2 (wrong_pair reason more left h))
 wrong_table format order reason before left (second n front behind p e (second pairs kinds more q e2 h)) =
     let all : before ≡ front ++ (kinds ++ more) = e ∙ ap (λ (z : List ℕ). front ++ z) e2 in
-    subst (λ (z : List ℕ). IsWrongTable reason z left) (sym all) (wrong_behind_pairs format order n pairs front kinds more left reason p q h)
+    subst (λ (z : List ℕ). IsWrongTable reason z left) (sym all)
+    (wrong_behind_pairs format order n pairs front kinds more left reason p q h)

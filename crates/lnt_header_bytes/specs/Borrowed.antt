@@ -37,7 +37,8 @@ first_values_size format order (pair ∷ pairs) bytes =
 abbrev pub first_entries : Format → Order → List Pair → ℕ → List ℕ → List Entry
 first_entries format order pairs zero bytes = []
 first_entries format order pairs (suc count) bytes =
-    entry_of (first_values format order pairs bytes) ∷ first_entries format order pairs count (drop (first_values_size format order pairs bytes) bytes)
+    entry_of (first_values format order pairs bytes)
+    ∷ first_entries format order pairs count (drop (first_values_size format order pairs bytes) bytes)
 
 -- ---- tables
 
@@ -49,7 +50,8 @@ pub record BorrowedTable : Type 0 where
   pub entries : List Entry
 
 abbrev pub borrowed_table : Format → Order → List Pair → ℕ → List ℕ → BorrowedTable
-borrowed_table format order pairs count bytes = record { format = format; order = order; pairs = pairs; entries = first_entries format order pairs count bytes }
+borrowed_table format order pairs count bytes =
+    record { format = format; order = order; pairs = pairs; entries = first_entries format order pairs count bytes }
 
 -- these bytes, and no others, spell the table's entries
 abbrev pub AreEntryBytes : BorrowedTable → List ℕ → Type 0
@@ -64,7 +66,13 @@ without_entries h = record h { directories = []; files = []; extra = [] }
 -- the header of these numbers and tables
 abbrev pub borrowed_header : HeaderParts → BorrowedTable → BorrowedTable → List ℕ → HeaderParts
 borrowed_header numbers directories files extra =
-    record numbers { directory_format = directories.pairs; directories = directories.entries; file_format = files.pairs; files = files.entries; extra = extra }
+    record numbers {
+      directory_format = directories.pairs;
+      directories = directories.entries;
+      file_format = files.pairs;
+      files = files.entries;
+      extra = extra;
+    }
 
 -- a table in this format and order
 pub record IsInForm (format : Format) (order : Order) (table : BorrowedTable) : Type 0 where
@@ -96,7 +104,8 @@ header_over numbers directories directory_bytes files file_bytes extra =
     borrowed_header numbers (directories_over numbers directories directory_bytes) (files_over numbers files file_bytes) extra
 
 -- It is a header, and the bytes are those of its directories and of its files.
-pub record IsHeaderOver (numbers : HeaderParts) (directories : ℕ) (directory_bytes : List ℕ) (files : ℕ) (file_bytes extra : List ℕ) : Type 0 where
+pub record IsHeaderOver (numbers : HeaderParts) (directories : ℕ) (directory_bytes : List ℕ) (files : ℕ) (file_bytes extra : List ℕ) : Type
+    0 where
   pub header : IsHeader (header_over numbers directories directory_bytes files file_bytes extra)
   pub numbers_are : numbers ≡ without_entries (header_over numbers directories directory_bytes files file_bytes extra)
   pub directories_lie : AreEntryBytes (directories_over numbers directories directory_bytes) directory_bytes
@@ -105,10 +114,12 @@ pub record IsHeaderOver (numbers : HeaderParts) (directories : ℕ) (directory_b
 -- the same, with the bytes of the directories, those of the files and the last ones in one list
 abbrev pub header_in_bytes : HeaderParts → ℕ → ℕ → List ℕ → ℕ → ℕ → HeaderParts
 header_in_bytes numbers directories files bytes directory_size file_size =
-    header_over numbers directories (take directory_size bytes) files (take file_size (drop directory_size bytes)) (drop file_size (drop directory_size bytes))
+    header_over numbers directories (take directory_size bytes) files (take file_size (drop directory_size bytes))
+    (drop file_size (drop directory_size bytes))
 
 pub record IsHeaderInBytes (numbers : HeaderParts) (directories files : ℕ) (bytes : List ℕ) (directory_size file_size : ℕ) : Type 0 where
-  pub over : IsHeaderOver numbers directories (take directory_size bytes) files (take file_size (drop directory_size bytes)) (drop file_size (drop directory_size bytes))
+  pub over : IsHeaderOver numbers directories (take directory_size bytes) files (take file_size (drop directory_size bytes))
+      (drop file_size (drop directory_size bytes))
   pub first : directory_size ≤ length bytes
   pub second : file_size ≤ length (drop directory_size bytes)
 
@@ -151,13 +162,24 @@ pub record IsTableRead (format : Format) (table : TableRead) (old new : At) : Ty
   pub read : Reads (TableOf format old.order) (table.pairs.items, (lying_table format old.order table).entries) old new
 
 -- The read gave the fields of a header up to its file table, and moved past the bytes that spell them.
-pub record AreFieldsRead (format : Format) (singles : Singles) (lengths : List ℕ) (directories files : TableRead) (old new : At) : Type 0 where
+pub record AreFieldsRead (format : Format) (singles : Singles) (lengths : List ℕ) (directories files : TableRead) (old new : At) : Type
+    0 where
   pub directories_lie : AreEntryBytes (lying_table format old.order directories) directories.entries.bytes.now
   pub files_lie : AreEntryBytes (lying_table format old.order files) files.entries.bytes.now
-  pub read : Reads (FieldsBytes format old.order) (singles, (lengths, ((directories.pairs.items, (lying_table format old.order directories).entries), (files.pairs.items, (lying_table format old.order files).entries)))) old new
+  pub read : Reads (FieldsBytes format old.order) (
+    singles,
+    (
+      lengths,
+      (
+        (directories.pairs.items, (lying_table format old.order directories).entries),
+        (files.pairs.items, (lying_table format old.order files).entries),
+      ),
+    ),
+  ) old new
 
 -- The numbers and the formats of a header that was read, and nothing else of it.
-pub record ArePlain (format : Format) (order : Order) (address_size : ℕ) (singles : Singles) (lengths : List ℕ) (directories files : List Pair) (h : HeaderParts) : Type 0 where
+pub record ArePlain (format : Format) (order : Order) (address_size : ℕ) (singles : Singles) (lengths : List ℕ)
+    (directories files : List Pair) (h : HeaderParts) : Type 0 where
   pub format_is : h.format ≡ format
   pub order_is : h.order ≡ order
   pub size_is : h.address_size ≡ address_size

@@ -6,7 +6,9 @@ use Rattle.lnt_wire.specs.declared.format.Order.{Order}
 use Rattle.lnt_wire.specs.declared.format.Format.{Format}
 use Rattle.lnt_wire.specs.declared.fault.Fault.{Fault}
 use Rattle.lnt_wire.specs.declared.fault.Reason.{Reason}
-use Rattle.lnt_wire.specs.declared.fault.Reason.TheVariants.{Truncated, ReservedLength, VersionNotFive, AddressSize, SegmentSelector, HeaderLength, MaxOpsZero, LineRangeZero, OpcodeBaseZero, StandardLength, UnknownForm, EmptyFormat, LebTooLarge, ExtendedLength, Memory}
+use Rattle.lnt_wire.specs.declared.fault.Reason.TheVariants.{Truncated, ReservedLength, VersionNotFive, AddressSize, SegmentSelector}
+use Rattle.lnt_wire.specs.declared.fault.Reason.TheVariants.{HeaderLength, MaxOpsZero, LineRangeZero, OpcodeBaseZero, StandardLength}
+use Rattle.lnt_wire.specs.declared.fault.Reason.TheVariants.{UnknownForm, EmptyFormat, LebTooLarge, ExtendedLength, Memory}
 use Rattle.lnt_wire.specs.Bytes.{NoneSpelled}
 use Rattle.lnt_wire.specs.Leb128.{UnsignedLeb}
 use Rattle.lnt_wire.specs.Numbers.{number_bytes, offset_size}
@@ -101,11 +103,14 @@ pub record Broken {X : Type 0} (Spells : X → List ℕ → Type 0) (order : Ord
 
 -- ---- headers
 
--- The first field of a header that isn't there, after the fields before it: the initial length or the version, a field up to header_length, or one of those that this counts.
+-- The first field of a header that isn't there, after the fields before it: the initial length or the version, a field up to
+-- header_length, or one of those that this counts.
 pub data IsFirstField (order : Order) (reason : Reason) (before from : List ℕ) : Type 0 where
   frame : IsFrameFault order reason before from → IsFirstField order reason before from
-  start : (format : Format) (fields left : List ℕ) → InFrame order format (version_five order ++ fields) left before from → IsStartFault format order reason fields left → IsFirstField order reason before from
-  counted : (fields left : List ℕ) → (place : InHeader order fields left before from) → IsHeaderFault place.format order reason fields left → IsFirstField order reason before from
+  start : (format : Format) (fields left : List ℕ) → InFrame order format (version_five order ++ fields) left before from
+      → IsStartFault format order reason fields left → IsFirstField order reason before from
+  counted : (fields left : List ℕ) → (place : InHeader order fields left before from) → IsHeaderFault place.format order reason fields left
+      → IsFirstField order reason before from
 
 -- No header with a program begins the bytes, and the fault is that of its first field that isn't there.
 pub record BrokenHeader (order : Order) (fault : Fault) (offset : ℕ) (bytes : List ℕ) : Type 0 where

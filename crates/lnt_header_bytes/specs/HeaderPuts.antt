@@ -17,7 +17,8 @@ use Rattle.lnt_header.specs.declared.header.Pair.{Pair}
 
 -- what unit_length counts, around these fields and this program
 abbrev pub around : Order → Format → ℕ → List ℕ → List ℕ → List ℕ
-around order format size fields program = version_five order ++ (size ∷ 0 ∷ []) ++ number_bytes order (offset_size format) (length fields) ++ fields ++ program
+around order format size fields program =
+    version_five order ++ (size ∷ 0 ∷ []) ++ number_bytes order (offset_size format) (length fields) ++ fields ++ program
 
 -- The bytes of a unit of these fields and this program were added.
 pub record AddsAround (order : Order) (format : Format) (size : ℕ) (fields program old new : List ℕ) : Type 0 where
@@ -25,11 +26,13 @@ pub record AddsAround (order : Order) (format : Format) (size : ℕ) (fields pro
   pub joined : new ≡ old ++ frame_bytes order format (around order format size fields program)
 
 -- The read moved past the bytes of an entry, and the shortest spelling of its values in this format and order was added.
-pub record AddsEntry (from : Format) (pairs : List Pair) (format : Format) (order : Order) (old new : At) (text_old text_new : List ℕ) : Type 0 where
+pub record AddsEntry (from : Format) (pairs : List Pair) (format : Format) (order : Order) (old new : At)
+    (text_old text_new : List ℕ) : Type 0 where
   pub entry : Entry
   pub read : Reads (EntryBytes from old.order pairs) entry old new
   pub put : Appends (EntryParts format order) entry text_old text_new
 
 -- The fault is TooLarge only where an entry that begins the bytes has no spelling in this format and order.
 pub record RefusesEntry (from : Format) (pairs : List Pair) (format : Format) (order : Order) (at : At) (fault : EncodeFault) : Type 0 where
-  pub none : fault ≡ TooLarge → (entry : Entry) (x more : List ℕ) → EntryBytes from at.order pairs entry x → at.rest ≡ x ++ more → NoSpelling (EntryParts format order) entry
+  pub none : fault ≡ TooLarge → (entry : Entry) (x more : List ℕ) → EntryBytes from at.order pairs entry x → at.rest ≡ x ++ more
+      → NoSpelling (EntryParts format order) entry

@@ -24,6 +24,8 @@ OneHeader = (order : Order) → IsCode (HeaderBytesIn order)
 -- length. In the 64-bit format no offset is too large.
 pub record AllowedIsSpelled : Type 0 where
   pub fields : (h : HeaderParts) → IsHeader h → FitsFields h → HasSmallOffsets h → HasShortest HeaderFieldsBytes h
-  pub unit : (h : HeaderParts) (program : List ℕ) → IsHeader h → FitsFields h → HasSmallOffsets h → LengthsFit h program → (bytes : List ℕ) × HeaderBytes h program bytes
-  pub allowed : (h : HeaderParts) (program bytes : List ℕ) → HeaderBytes h program bytes → IsHeader h × FitsFields h × HasSmallOffsets h × LengthsFit h program
+  pub unit : (h : HeaderParts) (program : List ℕ) → IsHeader h → FitsFields h → HasSmallOffsets h → LengthsFit h program
+      → (bytes : List ℕ) × HeaderBytes h program bytes
+  pub allowed : (h : HeaderParts) (program bytes : List ℕ) → HeaderBytes h program bytes
+      → IsHeader h × FitsFields h × HasSmallOffsets h × LengthsFit h program
   pub wide : (h : HeaderParts) → h.format ≡ D64 → HasSmallOffsets h

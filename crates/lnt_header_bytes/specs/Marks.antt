@@ -32,11 +32,14 @@ pub record IsMarkedTable (table : BorrowedTable) (bytes places : List ℕ) : Typ
   pub marks : AreMarks table bytes places
 
 -- the marks of a header's two tables
-pub record AreMarksOver (numbers : HeaderParts) (directories : ℕ) (directory_bytes : List ℕ) (files : ℕ) (file_bytes : List ℕ) (directory_marks file_marks : List ℕ) : Type 0 where
+pub record AreMarksOver (numbers : HeaderParts) (directories : ℕ) (directory_bytes : List ℕ) (files : ℕ) (file_bytes : List ℕ)
+    (directory_marks file_marks : List ℕ) : Type 0 where
   pub of_directories : AreMarks (directories_over numbers directories directory_bytes) directory_bytes directory_marks
   pub of_files : AreMarks (files_over numbers files file_bytes) file_bytes file_marks
 
 -- a header that lies in these bytes, with its marks
-pub record IsMarkedHeader (numbers : HeaderParts) (directories files : ℕ) (bytes : List ℕ) (directory_size file_size : ℕ) (directory_marks file_marks : List ℕ) : Type 0 where
+pub record IsMarkedHeader (numbers : HeaderParts) (directories files : ℕ) (bytes : List ℕ) (directory_size file_size : ℕ)
+    (directory_marks file_marks : List ℕ) : Type 0 where
   pub lies : IsHeaderInBytes numbers directories files bytes directory_size file_size
-  pub marks : AreMarksOver numbers directories (take directory_size bytes) files (take file_size (drop directory_size bytes)) directory_marks file_marks
+  pub marks : AreMarksOver numbers directories (take directory_size bytes) files (take file_size (drop directory_size bytes))
+      directory_marks file_marks

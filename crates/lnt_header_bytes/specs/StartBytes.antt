@@ -41,11 +41,14 @@ IsSelectorFault _ bytes = ⊥
 abbrev pub IsCountedFault : Format → Order → Reason → List ℕ → Type 0
 IsCountedFault format order Truncated bytes = length bytes < offset_size format
 IsCountedFault format order HeaderLength bytes =
-    (n : ℕ) × (more : List ℕ) × (n < 256 ^ offset_size format) × (length more < n) × (bytes ≡ number_bytes order (offset_size format) n ++ more)
+    (n : ℕ) × (more : List ℕ) × (n < 256 ^ offset_size format) × (length more < n)
+    × (bytes ≡ number_bytes order (offset_size format) n ++ more)
 IsCountedFault format order _ bytes = ⊥
 
 -- the field that is refused, after the sound ones before it
 pub data IsStartFault (format : Format) (order : Order) (reason : Reason) (before left : List ℕ) : Type 0 where
   address_size : before ≡ [] → IsSizeFault reason left → IsStartFault format order reason before left
-  selector : (size : ℕ) → IsAddressSize size → before ≡ size ∷ [] → IsSelectorFault reason left → IsStartFault format order reason before left
-  header_length : (size : ℕ) → IsAddressSize size → before ≡ size ∷ 0 ∷ [] → IsCountedFault format order reason left → IsStartFault format order reason before left
+  selector : (size : ℕ) → IsAddressSize size → before ≡ size ∷ [] → IsSelectorFault reason left
+      → IsStartFault format order reason before left
+  header_length : (size : ℕ) → IsAddressSize size → before ≡ size ∷ 0 ∷ [] → IsCountedFault format order reason left
+      → IsStartFault format order reason before left

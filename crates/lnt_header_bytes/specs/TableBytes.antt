@@ -29,7 +29,8 @@ EntryBytes format order pairs entry bytes = ValuesBytes format order pairs entry
 pub record TableBytes (format : Format) (order : Order) (pairs : List Pair) (entries : List Entry) (bytes : List ℕ) : Type 0 where
   pub few_pairs : length pairs < 256
   pub none_without_pairs : pairs ≡ [] → entries ≡ []
-  pub spelled : (Exactly (length pairs ∷ []) ⨾ Each PairBytes pairs ⨾ UnsignedLeb (length entries) ⨾ Each (EntryBytes format order pairs) entries) bytes
+  pub spelled : (Exactly (length pairs ∷ []) ⨾ Each PairBytes pairs ⨾ UnsignedLeb (length entries) ⨾ Each (EntryBytes format order pairs)
+      entries) bytes
 
 -- the pairs and the entries of a table
 abbrev pub TableOf : Format → Order → List Pair × List Entry → List ℕ → Type 0

@@ -26,7 +26,8 @@ IsNumberFault reason before left = (before ≡ []) × IsLebFault IsLargeUnsigned
 -- a form code: the number isn't there, or it is of no form
 pub data IsCodeFault (reason : Reason) (before left : List ℕ) : Type 0 where
   no_code : IsNumberFault reason before left → IsCodeFault reason before left
-  unknown : (code : ℕ) (spelling rest : List ℕ) → reason ≡ UnknownForm code → before ≡ [] → UnsignedLeb code spelling → left ≡ spelling ++ rest → IsUnknownForm code → IsCodeFault reason before left
+  unknown : (code : ℕ) (spelling rest : List ℕ) → reason ≡ UnknownForm code → before ≡ [] → UnsignedLeb code spelling
+      → left ≡ spelling ++ rest → IsUnknownForm code → IsCodeFault reason before left
 
 -- a content type, or the form code after it
 abbrev pub IsPairFault : Reason → List ℕ → List ℕ → Type 0
@@ -39,7 +40,8 @@ IsPairsFault count = FirstOfSeveral count PairBytes IsPairFault
 
 -- the value of a pair, after those of the pairs before it
 pub data IsEntryFault (format : Format) (order : Order) (pairs : List Pair) (reason : Reason) (before left : List ℕ) : Type 0 where
-  no_value : (done : List Pair) (pair : Pair) (behind : List Pair) (values : List FormValue) → pairs ≡ done ++ pair ∷ behind → ValuesBytes format order done values before
+  no_value : (done : List Pair) (pair : Pair) (behind : List Pair) (values : List FormValue) → pairs ≡ done ++ pair ∷ behind
+      → ValuesBytes format order done values before
       → IsValueFault format order pair.form reason left → IsEntryFault format order pairs reason before left
 
 abbrev pub IsEntriesFault : Format → Order → List Pair → ℕ → Reason → List ℕ → List ℕ → Type 0
@@ -48,7 +50,8 @@ IsEntriesFault format order pairs count = FirstOfSeveral count (EntryBytes forma
 -- the number of entries: it isn't there, or there are some and the format has no pairs
 pub data IsSizeFault (pairs : List Pair) (reason : Reason) (before left : List ℕ) : Type 0 where
   no_size : IsNumberFault reason before left → IsSizeFault pairs reason before left
-  empty : (n : ℕ) (spelling rest : List ℕ) → reason ≡ EmptyFormat → before ≡ [] → pairs ≡ [] → UnsignedLeb n spelling → left ≡ spelling ++ rest → 0 < n → IsSizeFault pairs reason before left
+  empty : (n : ℕ) (spelling rest : List ℕ) → reason ≡ EmptyFormat → before ≡ [] → pairs ≡ [] → UnsignedLeb n spelling
+      → left ≡ spelling ++ rest → 0 < n → IsSizeFault pairs reason before left
 
 -- ---- tables
 

@@ -22,7 +22,8 @@ pub fn decode_header<'a>(
 ) -> Result<(Header, &'a [u8]), Fault>
     requires { IsPlacedFrame order frame.now }
     ensures ok { IfOk result (λ found. HeaderBytesIn order (found.0, found.1.now) (frame_bytes order frame.now.format frame.now.body.now)) }
-    ensures err { IfErr result (λ fault. fault.reason ≢ Reason.Memory → BrokenHeader order fault frame.now.offset (frame_bytes order frame.now.format frame.now.body.now)) }
+    ensures err { IfErr result (λ fault. fault.reason ≢ Reason.Memory
+        → BrokenHeader order fault frame.now.offset (frame_bytes order frame.now.format frame.now.body.now)) }
 {
     let (header, program) = view_header(alloc, frame, order)?;
     with_program(header.view().to_header(alloc), program, frame.offset)

@@ -63,7 +63,8 @@ pub(crate) fn add_around(
     order: Order,
 ) -> Result<(), EncodeFault>
     ensures ok { OnOk result (AddsAround order format address_size fields.now program.now out.old.items out.new.items) }
-    ensures err { IfErr result (λ fault. fault ≡ EncodeFault.TooLarge → LengthFits format (length (around order format address_size fields.now program.now)) → ⊥) }
+    ensures err { IfErr result (λ fault. fault ≡ EncodeFault.TooLarge
+        → LengthFits format (length (around order format address_size fields.now program.now)) → ⊥) }
 {
     let length = unit_length(format, fields.len(), program.len())?;
     add_initial_length(out, length, format, order)?;
@@ -79,7 +80,8 @@ pub(crate) fn add_around(
 // How many bytes a unit has after its initial length.
 fn unit_length(format: Format, fields: usize, program: usize) -> Result<u64, EncodeFault>
     ensures ok { IfOk result (λ length. (length ≡ 4 + offset_size format + fields + program) × LengthFits format length) }
-    ensures err { IfErr result (λ fault. (fault ≡ EncodeFault.TooLarge) × (LengthFits format (4 + offset_size format + fields + program) → ⊥)) }
+    ensures err { IfErr result (λ fault. (fault ≡ EncodeFault.TooLarge)
+        × (LengthFits format (4 + offset_size format + fields + program) → ⊥)) }
 {
     let (offset_size, limit) = match format {
         Format::D32 => (4, 0xffff_fff0),

@@ -46,8 +46,10 @@ impl<'a> HeaderView<'a> {
         marks: Marks<'a>,
     ) -> HeaderView<'a>
         requires header { IsHeaderOver numbers.now directories.count directories.bytes.now files.count files.bytes.now extra.now }
-        requires marks { AreMarksOver numbers.now directories.count directories.bytes.now files.count files.bytes.now marks.directories.now marks.files.now }
-        ensures { result ≡ header_over numbers.entry.now directories.entry.count directories.entry.bytes.now files.entry.count files.entry.bytes.now extra.entry.now }
+        requires marks { AreMarksOver numbers.now directories.count directories.bytes.now files.count files.bytes.now marks.directories.now
+            marks.files.now }
+        ensures { result ≡ header_over numbers.entry.now directories.entry.count directories.entry.bytes.now files.entry.count
+            files.entry.bytes.now extra.entry.now }
     {
         HeaderView {
             numbers,

@@ -42,7 +42,8 @@ impl<'a> Model for HeaderInPlace<'a> {
 
     ghost view = { λ h. header_over h.numbers h.directories.count h.directories.bytes.now h.files.count h.files.bytes.now h.extra.now };
 
-    ghost invariant = { λ h. IsHeaderOver h.numbers h.directories.count h.directories.bytes.now h.files.count h.files.bytes.now h.extra.now };
+    ghost invariant = { λ h. IsHeaderOver h.numbers h.directories.count h.directories.bytes.now h.files.count h.files.bytes.now
+        h.extra.now };
 }
 
 impl<'a> HeaderInPlace<'a> {
@@ -82,7 +83,8 @@ pub fn view_header<'a>(
 ) -> Result<(HeaderInPlace<'a>, &'a [u8]), Fault>
     requires { IsPlacedFrame order frame.now }
     ensures ok { IfOk result (λ found. HeaderBytesIn order (found.0, found.1.now) (frame_bytes order frame.now.format frame.now.body.now)) }
-    ensures err { IfErr result (λ fault. fault.reason ≢ Reason.Memory → BrokenHeader order fault frame.now.offset (frame_bytes order frame.now.format frame.now.body.now)) }
+    ensures err { IfErr result (λ fault. fault.reason ≢ Reason.Memory
+        → BrokenHeader order fault frame.now.offset (frame_bytes order frame.now.format frame.now.body.now)) }
 {
     let mut cursor = behind_version(frame, order);
     let start = read_start(&mut cursor, frame.format)?;
@@ -110,7 +112,8 @@ fn view_parts<'a>(
     requires size { IsAddressSize address_size }
     requires room { place + length header.now < 2 ^ 64 }
     ensures ok { IfOk result (λ h. HasFields format order address_size header.entry.now h) }
-    ensures err { IfErr result (λ fault. RefusesOr (IsHeaderFault format order) (FieldsBytes format order) (standing place header.entry.now order) fault) }
+    ensures err { IfErr result (λ fault. RefusesOr (IsHeaderFault format order) (FieldsBytes format order)
+        (standing place header.entry.now order) fault) }
 {
     let mut cursor = Cursor::new(header, place, order);
     let FieldsRead {
@@ -188,7 +191,8 @@ fn read_fields<'a>(
     format: Format,
 ) -> Result<FieldsRead<'a>, Fault>
     ensures ok { IfOk result (λ f. AreFieldsRead format f.singles f.lengths.now f.directories f.files cursor.old cursor.new) }
-    ensures err { IfErr result (λ fault. RefusesOr (IsHeaderFault format cursor.old.order) (FieldsBytes format cursor.old.order) cursor.old fault) }
+    ensures err { IfErr result (λ fault. RefusesOr (IsHeaderFault format cursor.old.order) (FieldsBytes format cursor.old.order) cursor.old
+        fault) }
 {
     let singles = read_singles(cursor)?;
     let lengths = read_lengths(cursor, singles.opcode_base)?;

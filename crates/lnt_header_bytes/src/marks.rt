@@ -43,8 +43,10 @@ pub(crate) fn marks_of(
     pairs: &[Pair],
     entries: EntriesInPlace<'_>,
 ) -> Result<Vec<usize>, AllocError>
-    requires { AreEntryBytes (borrowed_table header.now.format header.now.order pairs.now entries.count entries.bytes.now) entries.bytes.now }
-    ensures marks { IfOk result (λ marks. AreMarks (borrowed_table header.now.format header.now.order pairs.now entries.entry.count entries.entry.bytes.now) entries.entry.bytes.now marks.items) }
+    requires { AreEntryBytes (borrowed_table header.now.format header.now.order pairs.now entries.count entries.bytes.now)
+        entries.bytes.now }
+    ensures marks { IfOk result (λ marks. AreMarks (borrowed_table header.now.format header.now.order pairs.now entries.entry.count
+        entries.entry.bytes.now) entries.entry.bytes.now marks.items) }
 {
     let count = entries.count / STRIDE;
     let mut marks = Vec::with_capacity(alloc, count as usize)?;
@@ -62,7 +64,8 @@ pub(crate) fn marks_of(
 /// such entry is marked.
 pub(crate) fn marked_before(marks: &[usize], number: u64) -> Option<(u64, usize)>
     ensures before { IfSome result (λ found. found.0 ≤ number) }
-    ensures begins { IfSome result (λ found. (table : BorrowedTable) (bytes : List ℕ) → AreMarks table bytes marks.now → BeginsAt table bytes found.0 found.1) }
+    ensures begins { IfSome result (λ found. (table : BorrowedTable) (bytes : List ℕ) → AreMarks table bytes marks.now
+        → BeginsAt table bytes found.0 found.1) }
 {
     let marked = number / STRIDE;
     if marked == 0 {

@@ -20,7 +20,8 @@ pub(crate) fn pass_entries<'a>(
     count: u64,
 ) -> Result<&'a [u8], Fault>
     ensures ok { IfOk result (λ bytes. PassesAll count (EntryBytes format cursor.old.order pairs.now) bytes.now cursor.old cursor.new) }
-    ensures err { IfErr result (λ fault. Refuses (IsEntriesFault format cursor.old.order pairs.now count) (Several count (EntryBytes format cursor.old.order pairs.now)) cursor.old fault) }
+    ensures err { IfErr result (λ fault. Refuses (IsEntriesFault format cursor.old.order pairs.now count)
+        (Several count (EntryBytes format cursor.old.order pairs.now)) cursor.old fault) }
 {
     let all = cursor.rest();
     let layout = layout_of(pairs);
@@ -41,7 +42,8 @@ fn pass_entry(
 ) -> Result<(), Fault>
     requires { IsLayout layout pairs.now }
     ensures ok { OnOk result (Passes (EntryBytes format cursor.old.order pairs.now) cursor.old cursor.new) }
-    ensures err { IfErr result (λ fault. Refuses (IsEntryFault format cursor.old.order pairs.now) (EntryBytes format cursor.old.order pairs.now) cursor.old fault) }
+    ensures err { IfErr result (λ fault. Refuses (IsEntryFault format cursor.old.order pairs.now)
+        (EntryBytes format cursor.old.order pairs.now) cursor.old fault) }
 {
     match layout {
         Layout::Path => pass_path(cursor, format, pairs),
@@ -57,7 +59,8 @@ fn pass_entry(
 fn pass_path(cursor: &mut Cursor<'_>, format: Format, pairs: &[Pair]) -> Result<(), Fault>
     requires { IsLayout Layout.Path pairs.now }
     ensures ok { OnOk result (Passes (EntryBytes format cursor.old.order pairs.now) cursor.old cursor.new) }
-    ensures err { IfErr result (λ fault. Refuses (IsEntryFault format cursor.old.order pairs.now) (EntryBytes format cursor.old.order pairs.now) cursor.old fault) }
+    ensures err { IfErr result (λ fault. Refuses (IsEntryFault format cursor.old.order pairs.now)
+        (EntryBytes format cursor.old.order pairs.now) cursor.old fault) }
 {
     cursor.value(Form::LineStrp, format)?;
     Ok(())
@@ -69,7 +72,8 @@ fn pass_path(cursor: &mut Cursor<'_>, format: Format, pairs: &[Pair]) -> Result<
 fn pass_indexed_path(cursor: &mut Cursor<'_>, format: Format, pairs: &[Pair]) -> Result<(), Fault>
     requires { IsLayout Layout.IndexedPath pairs.now }
     ensures ok { OnOk result (Passes (EntryBytes format cursor.old.order pairs.now) cursor.old cursor.new) }
-    ensures err { IfErr result (λ fault. Refuses (IsEntryFault format cursor.old.order pairs.now) (EntryBytes format cursor.old.order pairs.now) cursor.old fault) }
+    ensures err { IfErr result (λ fault. Refuses (IsEntryFault format cursor.old.order pairs.now)
+        (EntryBytes format cursor.old.order pairs.now) cursor.old fault) }
 {
     cursor.value(Form::LineStrp, format)?;
     cursor.value(Form::Udata, format)?;
@@ -82,7 +86,8 @@ fn pass_indexed_path(cursor: &mut Cursor<'_>, format: Format, pairs: &[Pair]) ->
 fn pass_summed_path(cursor: &mut Cursor<'_>, format: Format, pairs: &[Pair]) -> Result<(), Fault>
     requires { IsLayout Layout.SummedPath pairs.now }
     ensures ok { OnOk result (Passes (EntryBytes format cursor.old.order pairs.now) cursor.old cursor.new) }
-    ensures err { IfErr result (λ fault. Refuses (IsEntryFault format cursor.old.order pairs.now) (EntryBytes format cursor.old.order pairs.now) cursor.old fault) }
+    ensures err { IfErr result (λ fault. Refuses (IsEntryFault format cursor.old.order pairs.now)
+        (EntryBytes format cursor.old.order pairs.now) cursor.old fault) }
 {
     cursor.value(Form::LineStrp, format)?;
     cursor.value(Form::Udata, format)?;
@@ -95,7 +100,8 @@ fn pass_summed_path(cursor: &mut Cursor<'_>, format: Format, pairs: &[Pair]) -> 
 #[tactic(auto, using(crate::proofs::PassLemmas::values_begun, crate::proofs::PassLemmas::values_next_passed, crate::proofs::PassLemmas::values_passed, crate::proofs::PassLemmas::refuses_value_passed))]
 fn pass_values(cursor: &mut Cursor<'_>, format: Format, pairs: &[Pair]) -> Result<(), Fault>
     ensures ok { OnOk result (Passes (EntryBytes format cursor.old.order pairs.now) cursor.old cursor.new) }
-    ensures err { IfErr result (λ fault. Refuses (IsEntryFault format cursor.old.order pairs.now) (EntryBytes format cursor.old.order pairs.now) cursor.old fault) }
+    ensures err { IfErr result (λ fault. Refuses (IsEntryFault format cursor.old.order pairs.now)
+        (EntryBytes format cursor.old.order pairs.now) cursor.old fault) }
 {
     for pair in pairs {
         cursor.value(pair.form, format)?;

@@ -35,7 +35,8 @@ pub(crate) fn read_table<'a>(
     format: Format,
 ) -> Result<TableRead<'a>, Fault>
     ensures ok { IfOk result (λ table. IsTableRead format table cursor.old cursor.new) }
-    ensures err { IfErr result (λ fault. RefusesOr (IsTableFault format cursor.old.order) (TableOf format cursor.old.order) cursor.old fault) }
+    ensures err { IfErr result (λ fault. RefusesOr (IsTableFault format cursor.old.order) (TableOf format cursor.old.order) cursor.old
+        fault) }
 {
     let count = cursor.u8()?;
     let pairs = read_pairs(alloc, cursor, count)?;

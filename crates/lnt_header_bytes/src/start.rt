@@ -1,7 +1,8 @@
 //! The fields of a header after its version up to header_length.
 ghost use Rattle.std.specs.Prelude.{IfOk, IfErr};
 ghost use Rattle.lnt_wire.specs.Reading.{Reads, RefusesField, Refuses};
-ghost use Rattle.lnt_header_bytes.specs.StartBytes.{AddressSizeBytes, IsSizeFault, SelectorBytes, IsSelectorFault, CountedBytes, IsCountedFault, StartBytes, IsStartFault};
+ghost use Rattle.lnt_header_bytes.specs.StartBytes.{AddressSizeBytes, IsSizeFault, SelectorBytes, IsSelectorFault, CountedBytes};
+ghost use Rattle.lnt_header_bytes.specs.StartBytes.{IsCountedFault, StartBytes, IsStartFault};
 
 use lnt_header::is_address_size;
 use lnt_wire::{Cursor, Fault, Format, Reason};
@@ -17,8 +18,10 @@ pub(crate) struct Start<'a> {
 /// Reads the address size, which is 2, 4 or 8, the segment selector size, which is 0, and the bytes that header_length counts.
 #[tactic(auto, using(crate::proofs::StartReaders::size_refused, crate::proofs::StartReaders::selector_refused, crate::proofs::StartReaders::counted_refused, crate::proofs::StartReaders::start_read))]
 pub(crate) fn read_start<'a>(cursor: &mut Cursor<'a>, format: Format) -> Result<Start<'a>, Fault>
-    ensures ok { IfOk result (λ s. Reads (StartBytes format cursor.old.order) (s.address_size, (s.selector_size, s.header.now)) cursor.old cursor.new) }
-    ensures err { IfErr result (λ fault. Refuses (IsStartFault format cursor.old.order) (StartBytes format cursor.old.order) cursor.old fault) }
+    ensures ok { IfOk result (λ s. Reads (StartBytes format cursor.old.order) (s.address_size, (s.selector_size, s.header.now)) cursor.old
+        cursor.new) }
+    ensures err { IfErr result (λ fault. Refuses (IsStartFault format cursor.old.order) (StartBytes format cursor.old.order) cursor.old
+        fault) }
 {
     let address_size = read_address_size(cursor)?;
     let selector_size = read_selector_size(cursor)?;
@@ -69,7 +72,8 @@ fn read_selector_size(cursor: &mut Cursor<'_>) -> Result<u8, Fault>
 #[tactic(auto, using(crate::proofs::StartReaders::reads_counted, crate::proofs::StartReaders::refuses_length, crate::proofs::StartReaders::refuses_counted))]
 fn read_counted<'a>(cursor: &mut Cursor<'a>, format: Format) -> Result<&'a [u8], Fault>
     ensures ok { IfOk result (λ counted. Reads (CountedBytes format cursor.old.order) counted.now cursor.old cursor.new) }
-    ensures err { IfErr result (λ fault. RefusesField (IsCountedFault format cursor.old.order) (CountedBytes format cursor.old.order) cursor.old fault) }
+    ensures err { IfErr result (λ fault. RefusesField (IsCountedFault format cursor.old.order) (CountedBytes format cursor.old.order)
+        cursor.old fault) }
 {
     let place = cursor.place();
     let length = cursor.offset(format)?;

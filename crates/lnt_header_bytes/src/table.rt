@@ -60,7 +60,8 @@ fn read_values(
     pairs: &[Pair],
 ) -> Result<ShortList<FormValue>, Fault>
     ensures ok { IfOk result (λ values. Reads (ValuesBytes format cursor.old.order pairs.now) values cursor.old cursor.new) }
-    ensures err { IfErr result (λ fault. RefusesOr (IsEntryFault format cursor.old.order pairs.now) (ValuesBytes format cursor.old.order pairs.now) cursor.old fault) }
+    ensures err { IfErr result (λ fault. RefusesOr (IsEntryFault format cursor.old.order pairs.now)
+        (ValuesBytes format cursor.old.order pairs.now) cursor.old fault) }
 {
     let mut values = ShortList::new();
     for pair in pairs {
@@ -81,8 +82,10 @@ pub(crate) fn read_entries(
     pairs: &[Pair],
     count: u64,
 ) -> Result<Vec<Entry>, Fault>
-    ensures ok { IfOk result (λ entries. Reads (Several count (EntryBytes format cursor.old.order pairs.now)) entries.items cursor.old cursor.new) }
-    ensures err { IfErr result (λ fault. RefusesOr (IsEntriesFault format cursor.old.order pairs.now count) (Several count (EntryBytes format cursor.old.order pairs.now)) cursor.old fault) }
+    ensures ok { IfOk result (λ entries. Reads (Several count (EntryBytes format cursor.old.order pairs.now)) entries.items cursor.old
+        cursor.new) }
+    ensures err { IfErr result (λ fault. RefusesOr (IsEntriesFault format cursor.old.order pairs.now count)
+        (Several count (EntryBytes format cursor.old.order pairs.now)) cursor.old fault) }
 {
     let Ok(mut entries) = Vec::with_capacity(alloc, first_room(cursor, count)) else {
         return Err(no_memory(cursor));
@@ -162,8 +165,10 @@ fn read_entry(
     entries: &mut Vec<Entry>,
 ) -> Result<(), Fault>
     requires { IsLayout layout pairs.now }
-    ensures ok { IfOk result (λ _. ReadsNext (EntryBytes format cursor.old.order pairs.now) entries.old.items entries.new.items cursor.old cursor.new) }
-    ensures err { IfErr result (λ fault. RefusesOr (IsEntryFault format cursor.old.order pairs.now) (EntryBytes format cursor.old.order pairs.now) cursor.old fault) }
+    ensures ok { IfOk result (λ _. ReadsNext (EntryBytes format cursor.old.order pairs.now) entries.old.items entries.new.items cursor.old
+        cursor.new) }
+    ensures err { IfErr result (λ fault. RefusesOr (IsEntryFault format cursor.old.order pairs.now)
+        (EntryBytes format cursor.old.order pairs.now) cursor.old fault) }
 {
     match layout {
         Layout::Path => read_path(alloc, cursor, format, pairs, entries),
@@ -184,8 +189,10 @@ fn read_path(
     entries: &mut Vec<Entry>,
 ) -> Result<(), Fault>
     requires { IsLayout Layout.Path pairs.now }
-    ensures ok { IfOk result (λ _. ReadsNext (EntryBytes format cursor.old.order pairs.now) entries.old.items entries.new.items cursor.old cursor.new) }
-    ensures err { IfErr result (λ fault. RefusesOr (IsEntryFault format cursor.old.order pairs.now) (EntryBytes format cursor.old.order pairs.now) cursor.old fault) }
+    ensures ok { IfOk result (λ _. ReadsNext (EntryBytes format cursor.old.order pairs.now) entries.old.items entries.new.items cursor.old
+        cursor.new) }
+    ensures err { IfErr result (λ fault. RefusesOr (IsEntryFault format cursor.old.order pairs.now)
+        (EntryBytes format cursor.old.order pairs.now) cursor.old fault) }
 {
     let path = cursor.form(alloc, Form::LineStrp, format)?;
     push_entry(cursor, entries, ShortList::one(path))
@@ -202,8 +209,10 @@ fn read_indexed_path(
     entries: &mut Vec<Entry>,
 ) -> Result<(), Fault>
     requires { IsLayout Layout.IndexedPath pairs.now }
-    ensures ok { IfOk result (λ _. ReadsNext (EntryBytes format cursor.old.order pairs.now) entries.old.items entries.new.items cursor.old cursor.new) }
-    ensures err { IfErr result (λ fault. RefusesOr (IsEntryFault format cursor.old.order pairs.now) (EntryBytes format cursor.old.order pairs.now) cursor.old fault) }
+    ensures ok { IfOk result (λ _. ReadsNext (EntryBytes format cursor.old.order pairs.now) entries.old.items entries.new.items cursor.old
+        cursor.new) }
+    ensures err { IfErr result (λ fault. RefusesOr (IsEntryFault format cursor.old.order pairs.now)
+        (EntryBytes format cursor.old.order pairs.now) cursor.old fault) }
 {
     let path = cursor.form(alloc, Form::LineStrp, format)?;
     let directory = cursor.form(alloc, Form::Udata, format)?;
@@ -221,8 +230,10 @@ fn read_summed_path(
     entries: &mut Vec<Entry>,
 ) -> Result<(), Fault>
     requires { IsLayout Layout.SummedPath pairs.now }
-    ensures ok { IfOk result (λ _. ReadsNext (EntryBytes format cursor.old.order pairs.now) entries.old.items entries.new.items cursor.old cursor.new) }
-    ensures err { IfErr result (λ fault. RefusesOr (IsEntryFault format cursor.old.order pairs.now) (EntryBytes format cursor.old.order pairs.now) cursor.old fault) }
+    ensures ok { IfOk result (λ _. ReadsNext (EntryBytes format cursor.old.order pairs.now) entries.old.items entries.new.items cursor.old
+        cursor.new) }
+    ensures err { IfErr result (λ fault. RefusesOr (IsEntryFault format cursor.old.order pairs.now)
+        (EntryBytes format cursor.old.order pairs.now) cursor.old fault) }
 {
     let path = cursor.form(alloc, Form::LineStrp, format)?;
     let directory = cursor.form(alloc, Form::Udata, format)?;
@@ -239,8 +250,10 @@ fn read_other_entry(
     pairs: &[Pair],
     entries: &mut Vec<Entry>,
 ) -> Result<(), Fault>
-    ensures ok { IfOk result (λ _. ReadsNext (EntryBytes format cursor.old.order pairs.now) entries.old.items entries.new.items cursor.old cursor.new) }
-    ensures err { IfErr result (λ fault. RefusesOr (IsEntryFault format cursor.old.order pairs.now) (EntryBytes format cursor.old.order pairs.now) cursor.old fault) }
+    ensures ok { IfOk result (λ _. ReadsNext (EntryBytes format cursor.old.order pairs.now) entries.old.items entries.new.items cursor.old
+        cursor.new) }
+    ensures err { IfErr result (λ fault. RefusesOr (IsEntryFault format cursor.old.order pairs.now)
+        (EntryBytes format cursor.old.order pairs.now) cursor.old fault) }
 {
     let values = read_values(alloc, cursor, format, pairs)?;
     push_entry(cursor, entries, values)

@@ -32,7 +32,8 @@ impl<'a> Model for TableView<'a> {
 
     ghost view = { λ t. borrowed_table t.format t.order t.pairs.now t.entries.count t.entries.bytes.now };
 
-    ghost invariant = { λ t. IsMarkedTable (borrowed_table t.format t.order t.pairs.now t.entries.count t.entries.bytes.now) t.entries.bytes.now t.marks.now };
+    ghost invariant = { λ t. IsMarkedTable (borrowed_table t.format t.order t.pairs.now t.entries.count t.entries.bytes.now)
+        t.entries.bytes.now t.marks.now };
 }
 
 impl<'a> TableView<'a> {
@@ -43,8 +44,10 @@ impl<'a> TableView<'a> {
         entries: EntriesInPlace<'a>,
         marks: &'a [usize],
     ) -> TableView<'a>
-        requires lies { AreEntryBytes (borrowed_table header.now.format header.now.order pairs.now entries.count entries.bytes.now) entries.bytes.now }
-        requires marks { AreMarks (borrowed_table header.now.format header.now.order pairs.now entries.count entries.bytes.now) entries.bytes.now marks.now }
+        requires lies { AreEntryBytes (borrowed_table header.now.format header.now.order pairs.now entries.count entries.bytes.now)
+            entries.bytes.now }
+        requires marks { AreMarks (borrowed_table header.now.format header.now.order pairs.now entries.count entries.bytes.now)
+            entries.bytes.now marks.now }
         ensures { result ≡ borrowed_table header.now.format header.now.order pairs.entry.now entries.entry.count entries.entry.bytes.now }
     {
         TableView {

@@ -21,9 +21,11 @@ use Rattle.lnt_lines.proofs.WholeLemmas.{whole_spans}
 
 -- ---- the sequence at hand
 
-given_by : (new : Cursor) (here later spans : List Span) (walk : SequenceWalk) (result : Option Span) → new.rows ≡ Some walk → ComeLater later new → spans ≡ here ++ later
+given_by : (new : Cursor) (here later spans : List Span) (walk : SequenceWalk) (result : Option Span) → new.rows ≡ Some walk
+    → ComeLater later new → spans ≡ here ++ later
     → GivesSpan new.unit here result walk new.last → GivesHere new spans result
-given_by new [] later spans walk None is come_later are gives = record { sequences = come_later.sequences; each = come_later.each; spans_are = are ∙ come_later.spans_are }
+given_by new [] later spans walk None is come_later are gives =
+    record { sequences = come_later.sequences; each = come_later.each; spans_are = are ∙ come_later.spans_are }
 given_by new [] later spans walk (Some made) is come_later are gives = absurd gives
 given_by new (span ∷ here) later spans walk None is come_later are gives = absurd gives
 given_by new (span ∷ here) later spans walk (Some made) is come_later are gives =
@@ -36,14 +38,17 @@ given_by new (span ∷ here) later spans walk (Some made) is come_later are give
     } in
     subst (λ (list : List Span). GivesFirst (AreToCome new) list (Some made)) (sym are) (gives.0, come)
 
-pub given_here : (units : List ℕ) (programs : List Kept) (entries : List Extent) (unit : ℕ) (rows : Option SequenceWalk) (old new : SequenceWalk) (last last' : Option Row) (result : Option Span) (spans : List Span)
+pub given_here : (units : List ℕ) (programs : List Kept) (entries : List Extent) (unit : ℕ) (rows : Option SequenceWalk)
+    (old new : SequenceWalk) (last last' : Option Row) (result : Option Span) (spans : List Span)
     → rows ≡ Some old → ((here : List Span) → HasSpans unit here old last → GivesSpan unit here result new last')
     → AreToCome (record { units = units; programs = programs; entries = entries; unit = unit; rows = rows; last = last }) spans
     → GivesHere (record { units = units; programs = programs; entries = entries; unit = unit; rows = Some new; last = last' }) spans result
 given_here units programs entries unit rows old new last last' result spans is gives come =
     let here : HasSpans unit come.here old last = rw is at come.come_here in
-    given_by (record { units = units; programs = programs; entries = entries; unit = unit; rows = Some new; last = last' }) come.here come.later spans new result refl
-    (record { sequences = come.come_later.sequences; each = come.come_later.each; spans_are = come.come_later.spans_are }) come.spans_are (gives come.here here)
+    given_by (record { units = units; programs = programs; entries = entries; unit = unit; rows = Some new; last = last' }) come.here
+    come.later spans new result refl
+    (record { sequences = come.come_later.sequences; each = come.come_later.each; spans_are = come.come_later.spans_are }) come.spans_are
+    (gives come.here here)
 
 -- there is none
 pub none_here : (cursor : Cursor) (spans : List Span) → cursor.rows ≡ None → AreToCome cursor spans → ComeLater spans cursor
@@ -60,8 +65,10 @@ none_here cursor spans none come =
 abbrev IsEntry : List ℕ → List Kept → Extent → Placed → Type 0
 IsEntry units programs entry placed = (placed.id ≡ entry.id) × IsSequenceIn units programs entry.id placed.rows
 
-begun_by : (units : List ℕ) (programs : List Kept) (entry : Extent) (entries : List Extent) (placed : Placed) (sequences : List Placed) (found : Option SequenceWalk) (spans : List Span)
-    → AllZip (IsEntry units programs) entries sequences → placed.id ≡ entry.id → IsSomeAnd found (WillGive placed.rows) → spans ≡ spans_of (placed ∷ sequences)
+begun_by : (units : List ℕ) (programs : List Kept) (entry : Extent) (entries : List Extent) (placed : Placed) (sequences : List Placed)
+    (found : Option SequenceWalk) (spans : List Span)
+    → AllZip (IsEntry units programs) entries sequences → placed.id ≡ entry.id → IsSomeAnd found (WillGive placed.rows)
+    → spans ≡ spans_of (placed ∷ sequences)
     → AreToCome (record { units = units; programs = programs; entries = entries; unit = entry.id.unit; rows = found; last = None }) spans
 begun_by units programs entry entries placed sequences None spans each same gives are = absurd gives
 begun_by units programs entry entries placed sequences (Some walk) spans each same gives are = record {
@@ -72,16 +79,27 @@ begun_by units programs entry entries placed sequences (Some walk) spans each sa
   spans_are = are ∙ ap (λ (id : SeqId). row_spans id.unit placed.rows ++ spans_of sequences) same;
 }
 
-begun_from : (units : List ℕ) (programs : List Kept) (entry : Extent) (entries : List Extent) (sequences : List Placed) (found : Option SequenceWalk) (spans : List Span)
-    → AllZip (IsEntry units programs) (entry ∷ entries) sequences → ((rows : List Row) → IsSequenceIn units programs entry.id rows → IsSomeAnd found (WillGive rows)) → spans ≡ spans_of sequences
+begun_from : (units : List ℕ) (programs : List Kept) (entry : Extent) (entries : List Extent) (sequences : List Placed)
+    (found : Option SequenceWalk) (spans : List Span)
+    → AllZip (IsEntry units programs) (entry ∷ entries) sequences
+    → ((rows : List Row) → IsSequenceIn units programs entry.id rows → IsSomeAnd found (WillGive rows)) → spans ≡ spans_of sequences
     → AreToCome (record { units = units; programs = programs; entries = entries; unit = entry.id.unit; rows = found; last = None }) spans
 begun_from units programs entry entries [] found spans each gives are = absurd each
 begun_from units programs entry entries (placed ∷ sequences) found spans each gives are =
     begun_by units programs entry entries placed sequences found spans each.1 each.0.0 (gives placed.rows each.0.1) are
 
-pub begun : (cursor : Cursor) (entry : Extent) (entries : List Extent) (found : Option SequenceWalk) (spans : List Span) → cursor.entries ≡ entry ∷ entries
-    → ((rows : List Row) → IsSequenceIn cursor.units cursor.programs entry.id rows → IsSomeAnd found (WillGive rows)) → ComeLater spans cursor
-    → AreToCome (record { units = cursor.units; programs = cursor.programs; entries = entries; unit = entry.id.unit; rows = found; last = None }) spans
+pub begun : (cursor : Cursor) (entry : Extent) (entries : List Extent) (found : Option SequenceWalk) (spans : List Span)
+    → cursor.entries ≡ entry ∷ entries
+    → ((rows : List Row) → IsSequenceIn cursor.units cursor.programs entry.id rows → IsSomeAnd found (WillGive rows))
+    → ComeLater spans cursor
+    → AreToCome (record {
+      units = cursor.units;
+      programs = cursor.programs;
+      entries = entries;
+      unit = entry.id.unit;
+      rows = found;
+      last = None;
+    }) spans
 begun cursor entry entries found spans is gives later =
     begun_from cursor.units cursor.programs entry entries later.sequences found spans
     (subst (λ (es : List Extent). AllZip (IsEntry cursor.units cursor.programs) es later.sequences) is later.each) gives later.spans_are
@@ -90,32 +108,43 @@ room_some : (list : List Kept) → 0 < room_of list
 room_some [] = omega arith
 room_some (first ∷ list) = omega (arith, room_some list)
 
-pub begun_fewer : (programs : List Kept) (all entries : List Extent) (entry : Extent) (found : Option SequenceWalk) → all ≡ entry ∷ entries → IfSome found (λ walk. rows_left walk < room_of programs)
+pub begun_fewer : (programs : List Kept) (all entries : List Extent) (entry : Extent) (found : Option SequenceWalk) → all ≡ entry ∷ entries
+    → IfSome found (λ walk. rows_left walk < room_of programs)
     → rows_here found + room_for (room_of programs) entries < room_for (room_of programs) all
 begun_fewer programs all entries entry None is left = rw is (omega (arith, room_some programs))
 begun_fewer programs all entries entry (Some walk) is left = rw is (omega (arith, left))
 
 -- ---- all of them
 
-entries_found : (dead : Option ℕ) (skip : Bool) (units : List (ℕ × Parts)) (index : Indexed) (entries : List Extent) (in_turn : List Placed) → IsIndexOf dead skip units index
+entries_found : (dead : Option ℕ) (skip : Bool) (units : List (ℕ × Parts)) (index : Indexed) (entries : List Extent) (in_turn : List Placed)
+    → IsIndexOf dead skip units index
     → AllZip (IsEntryOf (kept_sequences dead skip units)) entries in_turn → AllZip (IsEntry index.units index.programs) entries in_turn
 entries_found dead skip units index [] [] is each = tt
 entries_found dead skip units index [] (placed ∷ in_turn) is each = absurd each
 entries_found dead skip units index (entry ∷ entries) [] is each = absurd each
-entries_found dead skip units index (entry ∷ entries) (placed ∷ in_turn) is each =
-    ((each.0.id_is, sequence_in dead skip units index entry.id placed is each.0.contained each.0.id_is), entries_found dead skip units index entries in_turn is each.1)
+entries_found dead skip units index (entry ∷ entries) (placed ∷ in_turn) is each = (
+  (each.0.id_is, sequence_in dead skip units index entry.id placed is each.0.contained each.0.id_is),
+  entries_found dead skip units index entries in_turn is each.1,
+)
 
-pub gives_all : (dead : Option ℕ) (skip : Bool) (units : List (ℕ × Parts)) (index : Indexed) → EntriesInTurn → IsIndexOf dead skip units index
-    → GivesAllOf dead skip units (length index.entries) (record { units = index.units; programs = index.programs; entries = index.entries; unit = 0; rows = None; last = None })
+pub gives_all : (dead : Option ℕ) (skip : Bool) (units : List (ℕ × Parts)) (index : Indexed) → EntriesInTurn
+    → IsIndexOf dead skip units index
+    → GivesAllOf dead skip units (length index.entries)
+    (record { units = index.units; programs = index.programs; entries = index.entries; unit = 0; rows = None; last = None })
 gives_all dead skip units index law is =
-    let all = law (kept_sequences dead skip units) index.entries is.settled is.entries is.apart (kept_ordered skip (live_sequences dead units) is.ordered) in
+    let all = law (kept_sequences dead skip units) index.entries is.settled is.entries is.apart
+    (kept_ordered skip (live_sequences dead units) is.ordered) in
     record {
       spans = spans_of all.in_turn;
       to_come = record {
         here = [];
         later = spans_of all.in_turn;
         come_here = refl;
-        come_later = record { sequences = all.in_turn; each = entries_found dead skip units index index.entries all.in_turn is all.each; spans_are = refl };
+        come_later = record {
+          sequences = all.in_turn;
+          each = entries_found dead skip units index index.entries all.in_turn is all.each;
+          spans_are = refl;
+        };
         spans_are = refl;
       };
       spans_are = all.permuted;

@@ -30,18 +30,22 @@ all_push : {X : Type 0} (P : X → Type 0) (xs : List X) (x : X) → AllByRecurs
 all_push P [] x all here = (here, tt)
 all_push P (y ∷ xs) x all here = (all.0, all_push P xs x all.1 here)
 
-pub zip_push : {X Y : Type 0} (R : X → Y → Type 0) (xs : List X) (ys : List Y) (x : X) (y : Y) → AllZip R xs ys → R x y → AllZip R (xs ++ x ∷ []) (ys ++ y ∷ [])
+pub zip_push : {X Y : Type 0} (R : X → Y → Type 0) (xs : List X) (ys : List Y) (x : X) (y : Y) → AllZip R xs ys → R x y
+    → AllZip R (xs ++ x ∷ []) (ys ++ y ∷ [])
 zip_push R [] [] x y all here = (here, tt)
 zip_push R [] (v ∷ ys) x y all here = absurd all
 zip_push R (u ∷ xs) [] x y all here = absurd all
 zip_push R (u ∷ xs) (v ∷ ys) x y all here = (all.0, zip_push R xs ys x y all.1 here)
 
-offsets_push : (units : List (ℕ × Parts)) (unit : ℕ × Parts) → map (λ (u : ℕ × Parts). u.0) (units ++ unit ∷ []) ≡ map (λ (u : ℕ × Parts). u.0) units ++ unit.0 ∷ []
+offsets_push : (units : List (ℕ × Parts)) (unit : ℕ × Parts)
+    → map (λ (u : ℕ × Parts). u.0) (units ++ unit ∷ []) ≡ map (λ (u : ℕ × Parts). u.0) units ++ unit.0 ∷ []
 offsets_push [] unit = refl
 offsets_push (first ∷ units) unit = ap (λ (rest : List ℕ). first.0 ∷ rest) (offsets_push units unit)
 
-pub added : (text general : List ℕ) (dead : Option ℕ) (buffer : UnitBytes) (old new : Draft) (offset : ℕ) (kept : Kept) → IsJudgedSound text general dead buffer old.collected new.collected kept
-    → offset ≡ buffer.offset → new.units.items ≡ old.units.items ++ offset ∷ [] → new.programs.items ≡ old.programs.items ++ kept ∷ [] → HasAdded text general dead buffer old new
+pub added : (text general : List ℕ) (dead : Option ℕ) (buffer : UnitBytes) (old new : Draft) (offset : ℕ) (kept : Kept)
+    → IsJudgedSound text general dead buffer old.collected new.collected kept
+    → offset ≡ buffer.offset → new.units.items ≡ old.units.items ++ offset ∷ [] → new.programs.items ≡ old.programs.items ++ kept ∷ []
+    → HasAdded text general dead buffer old new
 added text general dead buffer old new offset kept judged at offsets programs = record {
   unit = judged.unit;
   spelled = judged.spelled;
@@ -51,46 +55,62 @@ added text general dead buffer old new offset kept judged at offsets programs = 
     offsets = offsets ∙ ap (λ (n : ℕ). old.units.items ++ n ∷ []) at ∙ ap (λ (list : List ℕ). list ++ buffer.offset ∷ []) draft.offsets
         ∙ sym (offsets_push units (buffer.offset, judged.unit));
     programs = subst (AllZip (λ (unit : ℕ × Parts) (k : Kept). Keeps k unit.1) (units ++ (buffer.offset, judged.unit) ∷ [])) (sym programs)
-        (zip_push (λ (unit : ℕ × Parts) (k : Kept). Keeps k unit.1) units old.programs.items (buffer.offset, judged.unit) kept draft.programs judged.keeps);
+        (zip_push (λ (unit : ℕ × Parts) (k : Kept). Keeps k unit.1) units old.programs.items (buffer.offset, judged.unit) kept
+        draft.programs judged.keeps);
   };
 }
 
 -- ---- all units
 
-offsets_at_least : (order : Order) (k : ℕ) (units : List (ℕ × Parts)) (bytes : List ℕ) → UnitsFrom order k units bytes → All (λ (n : ℕ). k ≤ n) (map (λ (u : ℕ × Parts). u.0) units)
+offsets_at_least : (order : Order) (k : ℕ) (units : List (ℕ × Parts)) (bytes : List ℕ) → UnitsFrom order k units bytes
+    → All (λ (n : ℕ). k ≤ n) (map (λ (u : ℕ × Parts). u.0) units)
 offsets_at_least order k [] bytes u = All-nil (λ (n : ℕ). k ≤ n)
 offsets_at_least order k (unit ∷ units) bytes (front, back, at, spelled, whole, rest) =
     let offsets : List ℕ = map (λ (u : ℕ × Parts). u.0) units in
     All-cons (λ (n : ℕ). k ≤ n) unit.0 offsets (omega (arith, at))
-    (All-weaker (λ (n : ℕ). k + length front ≤ n) (λ (n : ℕ). k ≤ n) (λ n le. omega (arith, le)) offsets (offsets_at_least order (k + length front) units back rest))
+    (All-weaker (λ (n : ℕ). k + length front ≤ n) (λ (n : ℕ). k ≤ n) (λ n le. omega (arith, le)) offsets
+    (offsets_at_least order (k + length front) units back rest))
 
 -- the offsets of units rise
-pub rising_from : (order : Order) (k : ℕ) (units : List (ℕ × Parts)) (bytes : List ℕ) → UnitsFrom order k units bytes → AreRising (map (λ (u : ℕ × Parts). u.0) units)
+pub rising_from : (order : Order) (k : ℕ) (units : List (ℕ × Parts)) (bytes : List ℕ) → UnitsFrom order k units bytes
+    → AreRising (map (λ (u : ℕ × Parts). u.0) units)
 rising_from order k [] bytes u = pairs_nil (λ (one other : ℕ). one < other)
 rising_from order k (unit ∷ units) bytes (front, back, at, spelled, whole, rest) =
     let offsets : List ℕ = map (λ (u : ℕ × Parts). u.0) units in
     pairs_cons (λ (one other : ℕ). one < other) unit.0 offsets
-    (All-weaker (λ (n : ℕ). k + length front ≤ n) (λ (n : ℕ). unit.0 < n) (λ n le. omega (arith, le, at, unit_is_some order unit.1 front spelled)) offsets
+    (All-weaker (λ (n : ℕ). k + length front ≤ n) (λ (n : ℕ). unit.0 < n)
+    (λ n le. omega (arith, le, at, unit_is_some order unit.1 front spelled)) offsets
     (offsets_at_least order (k + length front) units back rest))
     (rising_from order (k + length front) units back rest)
 
-pub distinct : (order : Order) (dead : Option ℕ) (units : List (ℕ × Parts)) (bytes : List ℕ) → UnitsFrom order 0 units bytes → AreDistinct (live_sequences dead units)
+pub distinct : (order : Order) (dead : Option ℕ) (units : List (ℕ × Parts)) (bytes : List ℕ) → UnitsFrom order 0 units bytes
+    → AreDistinct (live_sequences dead units)
 distinct order dead units bytes u = distinct_sequences dead units (offsets_differ order 0 units bytes u)
 
 -- the live sequences of sound units are in order
-pub all_ordered : (text general : List ℕ) (dead : Option ℕ) (units : List (ℕ × Parts)) → AllByRecursion (IsSound text general dead) units → AreOrdered (live_sequences dead units)
+pub all_ordered : (text general : List ℕ) (dead : Option ℕ) (units : List (ℕ × Parts)) → AllByRecursion (IsSound text general dead) units
+    → AreOrdered (live_sequences dead units)
 all_ordered text general dead [] all = tt
-all_ordered text general dead (unit ∷ units) all = ordered-append (live_in dead unit) (live_sequences dead units) all.0.ordered (all_ordered text general dead units all.1)
+all_ordered text general dead (unit ∷ units) all =
+    ordered-append (live_in dead unit) (live_sequences dead units) all.0.ordered (all_ordered text general dead units all.1)
 
 -- ---- the index
 
-usable_tables : (text general : List ℕ) (dead : Option ℕ) (units : List (ℕ × Parts)) → AllByRecursion (IsSound text general dead) units → AllByRecursion (λ (unit : ℕ × Parts). AreUsableTables text general unit.1.header) units
+usable_tables : (text general : List ℕ) (dead : Option ℕ) (units : List (ℕ × Parts)) → AllByRecursion (IsSound text general dead) units
+    → AllByRecursion (λ (unit : ℕ × Parts). AreUsableTables text general unit.1.header) units
 usable_tables text general dead [] all = tt
 usable_tables text general dead (unit ∷ units) all = (all.0.well_formed.tables, usable_tables text general dead units all.1)
 
-pub index_of_draft : (text general : List ℕ) (dead : Option ℕ) (skip : Bool) (units : List (ℕ × Parts)) (draft : Draft) (entries : List Extent) → IsDraftOf text general dead units draft → AreRising draft.units.items
+pub index_of_draft : (text general : List ℕ) (dead : Option ℕ) (skip : Bool) (units : List (ℕ × Parts)) (draft : Draft)
+    (entries : List Extent) → IsDraftOf text general dead units draft → AreRising draft.units.items
     → AreSettled entries → IsPermutation (extents_of (kept_sequences dead skip units)) entries → AreApart (kept_sequences dead skip units)
-    → IsIndexOf dead skip units (record { line = text; general = general; entries = entries; units = draft.units.items; programs = draft.programs.items })
+    → IsIndexOf dead skip units (record {
+      line = text;
+      general = general;
+      entries = entries;
+      units = draft.units.items;
+      programs = draft.programs.items;
+    })
 index_of_draft text general dead skip units draft entries d rising settled permuted apart = record {
   settled = settled;
   entries = permuted;

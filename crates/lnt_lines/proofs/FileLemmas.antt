@@ -1,5 +1,6 @@
 -- The files that are held of a unit.
-use Rattle.std.proofs.Common.{◌≡◌, ◌≢◌, Bool, ℕ, zero, suc, ◌==◌, ◌<◌, false, List, [], ◌∷◌, map, length, get_or, refl, sym, ap, subst, ◌∙◌, arith}
+use Rattle.std.proofs.Common.{◌≡◌, ◌≢◌, Bool, ℕ, zero, suc, ◌==◌, ◌<◌, false, List, [], ◌∷◌, map, length, get_or, refl, sym, ap, subst, ◌∙◌}
+use Rattle.std.proofs.Common.{arith}
 use Rattle.std.specs.Prelude.{None, Option, Some}
 use Rattle.std.specs.List.{All, AllZip, Contains, position, position_or_len, slice_get}
 use Rattle.std.specs.Option.{option_and_then, option_map, option_map_or}
@@ -22,7 +23,8 @@ record StandsAt {X Y : Type 0} (R : X → Y → Type 0) (x : X) (ys : List Y) (k
   there : slice_get ys k ≡ Some y
   related : R x y
 
-zip_at : {X Y : Type 0} (R : X → Y → Type 0) (xs : List X) (ys : List Y) (k : ℕ) (d : X) → AllZip R xs ys → k < length xs → StandsAt R (get_or xs k d) ys k
+zip_at : {X Y : Type 0} (R : X → Y → Type 0) (xs : List X) (ys : List Y) (k : ℕ) (d : X) → AllZip R xs ys → k < length xs
+    → StandsAt R (get_or xs k d) ys k
 zip_at R [] [] k d all lt = absurd (omega arith)
 zip_at R [] (y ∷ ys) k d all lt = absurd all
 zip_at R (x ∷ xs) [] k d all lt = absurd all
@@ -31,7 +33,8 @@ zip_at R (x ∷ xs) (y ∷ ys) (suc k) d all lt =
     let rest = zip_at R xs ys k d all.1 (omega arith) in
     record { y = rest.y; there = rest.there; related = rest.related }
 
-offset_at : (units : List (ℕ × Parts)) (k : ℕ) (d : ℕ × Parts) → k < length units → get_or (map (λ (u : ℕ × Parts). u.0) units) k 0 ≡ (get_or units k d).0
+offset_at : (units : List (ℕ × Parts)) (k : ℕ) (d : ℕ × Parts) → k < length units
+    → get_or (map (λ (u : ℕ × Parts). u.0) units) k 0 ≡ (get_or units k d).0
 offset_at [] k d lt = absurd (omega arith)
 offset_at (unit ∷ units) zero d lt = refl
 offset_at (unit ∷ units) (suc k) d lt = offset_at units k d (omega arith)
@@ -44,36 +47,45 @@ abbrev FilesOf : List ℕ → List ℕ → ℕ × Parts → List KeptFile → Ty
 FilesOf text general unit files = AreFilesOf text general unit.1.header files
 
 -- its files are held
-held : (text general : List ℕ) (dead : Option ℕ) (skip : Bool) (order : Order) (section : List ℕ) (units : List (ℕ × Parts)) (contents : Contents) (unit : ℕ × Parts)
-    → SectionBytes order units section → TellsOf text general dead skip units contents → Contains units unit → (files : List KeptFile) × (files_of contents unit.0 ≡ Some files) × AreFilesOf text general unit.1.header files
+held : (text general : List ℕ) (dead : Option ℕ) (skip : Bool) (order : Order) (section : List ℕ) (units : List (ℕ × Parts))
+    (contents : Contents) (unit : ℕ × Parts)
+    → SectionBytes order units section → TellsOf text general dead skip units contents → Contains units unit
+    → (files : List KeptFile) × (files_of contents unit.0 ≡ Some files) × AreFilesOf text general unit.1.header files
 held text general dead skip order section units contents unit spelled tells (k, lt, same) =
     let offsets : List ℕ = map (λ (u : ℕ × Parts). u.0) units in
     let at = zip_at (FilesOf text general) units contents.files k unit tells.files_are lt in
     let few : k < length offsets = omega (arith, lt, as_many units) in
     let place : Some k ≡ position (λ offset. offset == unit.0) offsets =
-    place_found offsets unit.0 k (rising_from order 0 units section spelled) few (offset_at units k unit lt ∙ ap (λ (u : ℕ × Parts). u.0) same) in
+    place_found offsets unit.0 k (rising_from order 0 units section spelled) few
+    (offset_at units k unit lt ∙ ap (λ (u : ℕ × Parts). u.0) same) in
     let there : files_of contents unit.0 ≡ Some at.y =
     ap (λ (list : List ℕ). files_at list contents.files unit.0) tells.units_are
     ∙ ap (λ (o : Option ℕ). option_and_then (slice_get contents.files) o) (sym place) ∙ at.there in
     (at.y, there, subst (λ (u : ℕ × Parts). AreFilesOf text general u.1.header at.y) same at.related)
 
-listed : (text general : List ℕ) (dead : Option ℕ) (skip : Bool) (order : Order) (section : List ℕ) (units : List (ℕ × Parts)) (contents : Contents) (unit : ℕ × Parts)
-    → SectionBytes order units section → TellsOf text general dead skip units contents → Contains units unit → ListsFilesOf text general unit contents
+listed : (text general : List ℕ) (dead : Option ℕ) (skip : Bool) (order : Order) (section : List ℕ) (units : List (ℕ × Parts))
+    (contents : Contents) (unit : ℕ × Parts)
+    → SectionBytes order units section → TellsOf text general dead skip units contents → Contains units unit
+    → ListsFilesOf text general unit contents
 listed text general dead skip order section units contents unit spelled tells within =
     let found = held text general dead skip order section units contents unit spelled tells within in
     let files = found.2 in
     record {
       count = ap (λ (o : Option (List KeptFile)). option_map_or length o 0) found.1 ∙ files.count;
-      paths = λ file. ap (λ (o : Option (List KeptFile)). option_and_then (λ (f : List KeptFile). kept_path f file) o) found.1 ∙ files.paths file;
-      sums = λ file. ap (λ (o : Option (List KeptFile)). option_and_then (λ (f : List KeptFile). kept_sum f file) o) found.1 ∙ files.sums file;
+      paths = λ file. ap (λ (o : Option (List KeptFile)). option_and_then (λ (f : List KeptFile). kept_path f file) o) found.1
+          ∙ files.paths file;
+      sums =
+          λ file. ap (λ (o : Option (List KeptFile)). option_and_then (λ (f : List KeptFile). kept_sum f file) o) found.1 ∙ files.sums file;
     }
 
-no_place : (units : List (ℕ × Parts)) (offset : ℕ) → All (λ (unit : ℕ × Parts). unit.0 ≢ offset) units → position (λ (n : ℕ). n == offset) (map (λ (u : ℕ × Parts). u.0) units) ≡ None
+no_place : (units : List (ℕ × Parts)) (offset : ℕ) → All (λ (unit : ℕ × Parts). unit.0 ≢ offset) units
+    → position (λ (n : ℕ). n == offset) (map (λ (u : ℕ × Parts). u.0) units) ≡ None
 no_place units offset all =
     let offsets : List ℕ = map (λ (u : ℕ × Parts). u.0) units in
     let none : (j : ℕ) → j < length offsets → (get_or offsets j 0 == offset) ≡ false = λ j lt.
     let few : j < length units = omega (arith, lt, as_many units) in
-    other_is (get_or offsets j 0) offset (λ same. all j (0, get_or_unit units j few) few (sym (offset_at units j (0, get_or_unit units j few) few) ∙ same)) in
+    other_is (get_or offsets j 0) offset (λ same. all j (0, get_or_unit units j few) few
+    (sym (offset_at units j (0, get_or_unit units j few) few) ∙ same)) in
     let at : position_or_len (λ (n : ℕ). n == offset) offsets ≡ length offsets =
     position_or_len_is (λ (n : ℕ). n == offset) offsets (length offsets) 0 (omega arith) none (λ lt. absurd (omega arith)) in
     rw (at, outside_is (length offsets) (length offsets) (omega arith)) refl
@@ -84,7 +96,8 @@ no_place units offset all =
 
 pub files_of_units : FilesOfUnits
 files_of_units = record {
-  listed = λ text general dead skip order section units contents unit spelled tells within. listed text general dead skip order section units contents unit spelled tells within;
+  listed = λ text general dead skip order section units contents unit spelled tells within. listed text general dead skip order section
+      units contents unit spelled tells within;
   none = λ text general dead skip units contents offset tells all.
       ap (λ (list : List ℕ). files_at list contents.files offset) tells.units_are
       ∙ ap (λ (o : Option ℕ). option_and_then (slice_get contents.files) o) (no_place units offset all);
@@ -95,13 +108,15 @@ files_of_units = record {
 abbrev say_header : Option Kept → Option HeaderParts
 say_header found = option_map (λ (kept : Kept). kept.header) found
 
-header_found : (dead : Option ℕ) (skip : Bool) (units : List (ℕ × Parts)) (index : Indexed) (unit : ℕ × Parts) → IsIndexOf dead skip units index → Contains units unit → header_in index unit.0 ≡ Some unit.1.header
+header_found : (dead : Option ℕ) (skip : Bool) (units : List (ℕ × Parts)) (index : Indexed) (unit : ℕ × Parts)
+    → IsIndexOf dead skip units index → Contains units unit → header_in index unit.0 ≡ Some unit.1.header
 header_found dead skip units index unit is (k, lt, same) =
     let offsets : List ℕ = map (λ (u : ℕ × Parts). u.0) units in
     let at = zip_at (λ (u : ℕ × Parts) (kept : Kept). Keeps kept u.1) units index.programs k unit is.programs lt in
     let few : k < length offsets = omega (arith, lt, as_many units) in
     let place : Some k ≡ position (λ offset. offset == unit.0) offsets =
-    place_found offsets unit.0 k (subst AreRising is.offsets is.rising) few (offset_at units k unit lt ∙ ap (λ (u : ℕ × Parts). u.0) same) in
+    place_found offsets unit.0 k (subst AreRising is.offsets is.rising) few
+    (offset_at units k unit lt ∙ ap (λ (u : ℕ × Parts). u.0) same) in
     ap (λ (list : List ℕ). say_header (option_and_then (slice_get index.programs) (position (λ offset. offset == unit.0) list))) is.offsets
     ∙ ap (λ (o : Option ℕ). say_header (option_and_then (slice_get index.programs) o)) (sym place)
     ∙ ap say_header at.there

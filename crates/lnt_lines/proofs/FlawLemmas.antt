@@ -34,7 +34,8 @@ runs_well unit (run.LineOutOfRange k) runs some f = f.2 (runs.lines (k + 1) (ome
 runs_well unit run.OpenSequence runs some f = f.1 runs.closed
 runs_well unit run.Memory runs some f = some refl
 
-pub tables_well : (text general : List ℕ) (h : HeaderParts) (fault : EntryTableFault) → AreUsableTables text general h → IsTablesFault text general h fault → ⊥
+pub tables_well : (text general : List ℕ) (h : HeaderParts) (fault : EntryTableFault) → AreUsableTables text general h
+    → IsTablesFault text general h fault → ⊥
 tables_well text general h (table.EntryFormat Directories) usable f = f usable.directories.format
 tables_well text general h (table.EntryFormat Files) usable f = f.1 usable.files.format
 tables_well text general h (table.StringOutside Directories entry) usable f = first_is_wrong f.1 usable.directories.paths
@@ -45,9 +46,12 @@ pub sound_well : FallIsNotOrdered → MissingFileIsNotThere → (text general : 
     → IsSound text general dead unit → IsFlaw text general dead unit reason → ⊥
 sound_well falls missing text general dead unit (no.Malformed fault) s f = f
 sound_well falls missing text general dead unit (no.Run offset fault) s f = runs_well unit.1 fault s.well_formed.runs f.1 f.2
-sound_well falls missing text general dead unit (no.EntryFormat offset which) s f = tables_well text general unit.1.header (table.EntryFormat which) s.well_formed.tables f.2
-sound_well falls missing text general dead unit (no.StringOutside offset which entry) s f = tables_well text general unit.1.header (table.StringOutside which entry) s.well_formed.tables f.2
-sound_well falls missing text general dead unit (no.DirectoryNumber offset file) s f = tables_well text general unit.1.header (table.DirectoryNumber file) s.well_formed.tables f.2
+sound_well falls missing text general dead unit (no.EntryFormat offset which) s f =
+    tables_well text general unit.1.header (table.EntryFormat which) s.well_formed.tables f.2
+sound_well falls missing text general dead unit (no.StringOutside offset which entry) s f =
+    tables_well text general unit.1.header (table.StringOutside which entry) s.well_formed.tables f.2
+sound_well falls missing text general dead unit (no.DirectoryNumber offset file) s f =
+    tables_well text general unit.1.header (table.DirectoryNumber file) s.well_formed.tables f.2
 sound_well falls missing text general dead unit (no.FileNumber offset row file) s f =
     missing dead (length unit.1.header.files) (placed_in unit) (record { row = row; file = file }) f.2.file s.files
 sound_well falls missing text general dead unit (no.Falls offset row) s f = falls dead (placed_in unit) row f.3.fall s.ordered
@@ -58,16 +62,27 @@ sound_well falls missing text general dead unit (no.Overlap first second positio
 pub same_pair : (u v : ℕ × Parts) → u.0 ≡ v.0 → u.1 ≡ v.1 → u ≡ v
 same_pair (m, x) (n, y) places parts = cc (places, parts)
 
-pub units_begin : (order : Order) (offset : ℕ) (us vs : List (ℕ × Parts)) (front rest whole : List ℕ) → UnitsFrom order offset us front → UnitsFrom order offset vs whole → whole ≡ front ++ rest
+pub units_begin : (order : Order) (offset : ℕ) (us vs : List (ℕ × Parts)) (front rest whole : List ℕ) → UnitsFrom order offset us front
+    → UnitsFrom order offset vs whole → whole ≡ front ++ rest
     → (ws : List (ℕ × Parts)) × (vs ≡ us ++ ws)
 units_begin order offset [] vs front rest whole p q e = (vs, refl)
 units_begin order offset (u ∷ us) [] front rest whole p q e =
-    absurd (omega (arith, unit_is_some order u.1 p.0 p.3, ap length p.4, length-append p.0 p.1, ap length q, ap length e, length-append front rest))
+    absurd (omega (
+      arith,
+      unit_is_some order u.1 p.0 p.3,
+      ap length p.4,
+      length-append p.0 p.1,
+      ap length q,
+      ap length e,
+      length-append front rest,
+    ))
 units_begin order offset (u ∷ us) (v ∷ vs) front rest whole p q e =
-    let all : p.0 ++ (p.1 ++ rest) ≡ q.0 ++ q.1 = sym (append_assoc p.0 p.1 rest) ∙ ap (λ (z : List ℕ). z ++ rest) (sym p.4) ∙ sym e ∙ q.4 in
+    let all : p.0 ++ (p.1 ++ rest) ≡ q.0 ++ q.1 =
+    sym (append_assoc p.0 p.1 rest) ∙ ap (λ (z : List ℕ). z ++ rest) (sym p.4) ∙ sym e ∙ q.4 in
     let one = (one_spelling order).one u.1 v.1 p.0 q.0 (p.1 ++ rest) q.1 p.3 q.3 all in
     let behind : p.1 ++ rest ≡ q.1 = same_rest p.0 q.0 (p.1 ++ rest) q.1 one.1 all in
-    let later : UnitsFrom order (offset + length p.0) vs q.1 = subst (λ (z : List ℕ). UnitsFrom order (offset + length z) vs q.1) (sym one.1) q.5 in
+    let later : UnitsFrom order (offset + length p.0) vs q.1 =
+    subst (λ (z : List ℕ). UnitsFrom order (offset + length z) vs q.1) (sym one.1) q.5 in
     let more = units_begin order (offset + length p.0) us vs p.1 rest q.1 p.5 later (sym behind) in
     let heads : u ≡ v = same_pair u v (p.2 ∙ sym q.2) one.0 in
     (more.0, cc (heads, more.1))
@@ -76,25 +91,31 @@ pub all_at : {X : Type 0} (P : X → Type 0) (xs ys : List X) (x : X) → AllByR
 all_at P [] ys x all = all.0
 all_at P (y ∷ xs) ys x all = all_at P xs ys x all.1
 
-no_first_flaw : FallIsNotOrdered → MissingFileIsNotThere → (text general : List ℕ) (options : Options) (section : List ℕ) (units : List (ℕ × Parts)) (reason : No)
+no_first_flaw : FallIsNotOrdered → MissingFileIsNotThere
+    → (text general : List ℕ) (options : Options) (section : List ℕ) (units : List (ℕ × Parts)) (reason : No)
     → IsGood text general options section units → IsFirstFlaw text general options section reason → ⊥
 no_first_flaw falls missing text general options section units reason good f =
     let more = units_begin options.order 0 (f.units ++ f.unit ∷ []) units f.front f.rest section f.spelled good.spelled f.split in
     sound_well falls missing text general options.dead f.unit reason
-    (all_at (IsSound text general options.dead) f.units more.0 f.unit (subst (AllByRecursion (IsSound text general options.dead)) more.1 good.sound)) f.flaw
+    (all_at (IsSound text general options.dead) f.units more.0 f.unit
+    (subst (AllByRecursion (IsSound text general options.dead)) more.1 good.sound)) f.flaw
 
 pub no_flaw : FallIsNotOrdered → MissingFileIsNotThere → OverlapIsNotApart → GoodHasNoFlaw
 no_flaw falls missing overlaps text general options section units (no.Malformed fault) good f = f.broken.none units good.spelled
 no_flaw falls missing overlaps text general options section units (no.Overlap first second position) good f =
     let same : f.units ≡ units = one_section.units options.order f.units units section f.spelled good.spelled in
-    overlaps (kept_sequences options.dead options.skip_copies f.units) (record { first = first; second = second; position = position }) f.first
+    overlaps (kept_sequences options.dead options.skip_copies f.units) (record { first = first; second = second; position = position })
+    f.first
     (subst (λ (list : List (ℕ × Parts)). AreApart (kept_sequences options.dead options.skip_copies list)) (sym same) good.apart)
-no_flaw falls missing overlaps text general options section units (no.Run unit fault) good f = no_first_flaw falls missing text general options section units (no.Run unit fault) good f
-no_flaw falls missing overlaps text general options section units (no.EntryFormat unit which) good f = no_first_flaw falls missing text general options section units (no.EntryFormat unit which) good f
+no_flaw falls missing overlaps text general options section units (no.Run unit fault) good f =
+    no_first_flaw falls missing text general options section units (no.Run unit fault) good f
+no_flaw falls missing overlaps text general options section units (no.EntryFormat unit which) good f =
+    no_first_flaw falls missing text general options section units (no.EntryFormat unit which) good f
 no_flaw falls missing overlaps text general options section units (no.StringOutside unit which entry) good f =
     no_first_flaw falls missing text general options section units (no.StringOutside unit which entry) good f
 no_flaw falls missing overlaps text general options section units (no.DirectoryNumber unit file) good f =
     no_first_flaw falls missing text general options section units (no.DirectoryNumber unit file) good f
 no_flaw falls missing overlaps text general options section units (no.FileNumber unit row file) good f =
     no_first_flaw falls missing text general options section units (no.FileNumber unit row file) good f
-no_flaw falls missing overlaps text general options section units (no.Falls unit row) good f = no_first_flaw falls missing text general options section units (no.Falls unit row) good f
+no_flaw falls missing overlaps text general options section units (no.Falls unit row) good f =
+    no_first_flaw falls missing text general options section units (no.Falls unit row) good f

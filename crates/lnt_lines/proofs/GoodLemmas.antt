@@ -5,7 +5,9 @@ use Rattle.lnt_lines.specs.Laws.{AnswersAsHolder}
 
 pub answers_as_holder : rows.AnswersAsHolder → AnswersAsHolder
 answers_as_holder law = record {
-  one_alone = λ line general options section units one other p good a b. law.one_alone (kept_sequences options.dead options.skip_copies units) one other p good.apart a b;
-  held = λ line general options section units placed p good c. law.held (kept_sequences options.dead options.skip_copies units) placed p good.apart c;
+  one_alone = λ line general options section units one other p good a b. law.one_alone
+      (kept_sequences options.dead options.skip_copies units) one other p good.apart a b;
+  held = λ line general options section units placed p good c. law.held (kept_sequences options.dead options.skip_copies units) placed p
+      good.apart c;
   none = λ dead skip units p. law.none (kept_sequences dead skip units) p;
 }

@@ -1,5 +1,6 @@
 -- The sequence that holds a position, found again in the program of its unit.
-use Rattle.std.proofs.Common.{◌≡◌, ℕ, zero, suc, ◌==◌, ◌<◌, ◌≤◌, Bool, true, false, List, [], ◌∷◌, Option, Some, None, refl, sym, ap, ◌∙◌, subst, arith, length, get_or}
+use Rattle.std.proofs.Common.{◌≡◌, ℕ, zero, suc, ◌==◌, ◌<◌, ◌≤◌, Bool, true, false, List, [], ◌∷◌, Option, Some, None, refl, sym, ap, ◌∙◌}
+use Rattle.std.proofs.Common.{subst, arith, length, get_or}
 use Rattle.std.specs.Prelude.{cond, IfNone, IfSome, IsSomeAnd, map}
 use Rattle.std.specs.List.{AllByRecursion, AllZip, Contains, position}
 use Rattle.std.specs.Option.{option_map}
@@ -24,24 +25,28 @@ use Rattle.lnt_lines.specs.Cursors.{room_of}
 use Rattle.lnt_lines.specs.Indexed.{Indexed, IsIndexOf, IsSequenceIn}
 use Rattle.lnt_lines.proofs.PlaceLemmas.{place_found}
 
-offset_at : (units : List (ℕ × Parts)) (k : ℕ) (d : ℕ × Parts) → k < length units → (get_or (map (λ (u : ℕ × Parts). u.0) units) k 0 ≡ (get_or units k d).0) × (k < length (map (λ (u : ℕ × Parts). u.0) units))
+offset_at : (units : List (ℕ × Parts)) (k : ℕ) (d : ℕ × Parts) → k < length units
+    → (get_or (map (λ (u : ℕ × Parts). u.0) units) k 0 ≡ (get_or units k d).0) × (k < length (map (λ (u : ℕ × Parts). u.0) units))
 offset_at [] k d few = absurd (omega arith)
 offset_at (unit ∷ units) zero d few = (refl, omega arith)
 offset_at (unit ∷ units) (suc k) d few = let more = offset_at units k d (omega arith) in (more.0, omega (arith, more.1))
 
-zip_at : {X Y : Type 0} (R : X → Y → Type 0) (xs : List X) (ys : List Y) (k : ℕ) (x : X) (y : Y) → AllZip R xs ys → k < length xs → R (get_or xs k x) (get_or ys k y) × (k < length ys)
+zip_at : {X Y : Type 0} (R : X → Y → Type 0) (xs : List X) (ys : List Y) (k : ℕ) (x : X) (y : Y) → AllZip R xs ys → k < length xs
+    → R (get_or xs k x) (get_or ys k y) × (k < length ys)
 zip_at R [] ys k x y all few = absurd (omega arith)
 zip_at R (u ∷ xs) [] k x y all few = absurd all
 zip_at R (u ∷ xs) (v ∷ ys) zero x y all few = (all.0, omega arith)
 zip_at R (u ∷ xs) (v ∷ ys) (suc k) x y all few = let more = zip_at R xs ys k x y all.1 (omega arith) in (more.0, omega (arith, more.1))
 
-pub sequence_in : (dead : Option ℕ) (skip : Bool) (units : List (ℕ × Parts)) (index : Indexed) (id : SeqId) (placed : Placed) → IsIndexOf dead skip units index → Contains (kept_sequences dead skip units) placed → placed.id ≡ id
+pub sequence_in : (dead : Option ℕ) (skip : Bool) (units : List (ℕ × Parts)) (index : Indexed) (id : SeqId) (placed : Placed)
+    → IsIndexOf dead skip units index → Contains (kept_sequences dead skip units) placed → placed.id ≡ id
     → IsSequenceIn index.units index.programs id placed.rows
 sequence_in dead skip units index id placed is contained same =
     let one = live_placed dead units placed (kept_live skip (live_sequences dead units) placed contained) in
     let at = offset_at units one.place one.unit one.within in
     let offset : get_or index.units one.place 0 ≡ id.unit =
-    ap (λ (list : List ℕ). get_or list one.place 0) is.offsets ∙ at.0 ∙ ap (λ (u : ℕ × Parts). u.0) (one.unit_at one.unit) ∙ sym one.unit_is ∙ ap (λ (i : SeqId). i.unit) same in
+    ap (λ (list : List ℕ). get_or list one.place 0) is.offsets ∙ at.0 ∙ ap (λ (u : ℕ × Parts). u.0) (one.unit_at one.unit) ∙ sym one.unit_is
+    ∙ ap (λ (i : SeqId). i.unit) same in
     let kept : (d : Kept) → Keeps (get_or index.programs one.place d) one.unit.1 × (one.place < length index.programs) =
     λ d. let z = zip_at (λ (u : ℕ × Parts) (k : Kept). Keeps k u.1) units index.programs one.place one.unit d is.programs one.within in
     (subst (λ (u : ℕ × Parts). Keeps (get_or index.programs one.place d) u.1) (one.unit_at one.unit) z.0, z.1) in
@@ -56,12 +61,14 @@ sequence_in dead skip units index id placed is contained same =
     }
 
 -- The sequence with this id has rows that answer.
-pub record Answers (dead : Option ℕ) (skip : Bool) (units : List (ℕ × Parts)) (index : Indexed) (p : spans.Position) (id : SeqId) : Type 0 where
+pub record Answers (dead : Option ℕ) (skip : Bool) (units : List (ℕ × Parts)) (index : Indexed) (p : spans.Position) (id : SeqId) : Type
+    0 where
   pub rows : List Row
   pub sequence_is : IsSequenceIn index.units index.programs id rows
   pub answer_is : line_answer dead skip units p ≡ option_map (answer_of id.unit) (row_at p rows)
 
-pub found_answer : (dead : Option ℕ) (skip : Bool) (units : List (ℕ × Parts)) (index : Indexed) (p : spans.Position) (extent : Extent) → HolderAnswers → IsIndexOf dead skip units index
+pub found_answer : (dead : Option ℕ) (skip : Bool) (units : List (ℕ × Parts)) (index : Indexed) (p : spans.Position) (extent : Extent)
+    → HolderAnswers → IsIndexOf dead skip units index
     → IsHolder index.entries p extent → Answers dead skip units index p extent.id
 found_answer dead skip units index p extent law is holder =
     let answers = law.some (kept_sequences dead skip units) index.entries p extent is.entries is.apart holder in
@@ -71,19 +78,23 @@ found_answer dead skip units index p extent law is holder =
       answer_is = answers.answer_is ∙ ap (λ (i : SeqId). option_map (answer_of i.unit) (row_at p answers.placed.rows)) answers.id_is;
     }
 
-pub found_none : (dead : Option ℕ) (skip : Bool) (units : List (ℕ × Parts)) (index : Indexed) (p : spans.Position) → HolderAnswers → IsIndexOf dead skip units index → NoneHolds index.entries p → None ≡ line_answer dead skip units p
+pub found_none : (dead : Option ℕ) (skip : Bool) (units : List (ℕ × Parts)) (index : Indexed) (p : spans.Position) → HolderAnswers
+    → IsIndexOf dead skip units index → NoneHolds index.entries p → None ≡ line_answer dead skip units p
 found_none dead skip units index p law is none = sym (law.none (kept_sequences dead skip units) index.entries p is.entries none)
 
 -- ---- the rows of a sequence
 
 -- the place of the unit is that which was found
-pub same_place : (units : List ℕ) (unit place found : ℕ) → Some place ≡ position (λ offset. offset == unit) units → Some found ≡ position (λ offset. offset == unit) units → place ≡ found
+pub same_place : (units : List ℕ) (unit place found : ℕ) → Some place ≡ position (λ offset. offset == unit) units
+    → Some found ≡ position (λ offset. offset == unit) units → place ≡ found
 same_place units unit place found p q = same_Some place found (p ∙ sym q)
 
 -- they come where the unit's program keeps the sequence
-pub rows_come : (kept : Kept) (unit : Parts) (index : ℕ) (rows : List Row) (found : Option SequenceWalk) → Keeps kept unit → index < length (sequences unit)
+pub rows_come : (kept : Kept) (unit : Parts) (index : ℕ) (rows : List Row) (found : Option SequenceWalk) → Keeps kept unit
+    → index < length (sequences unit)
     → ((d : Sequence) → rows ≡ (get_or (sequences unit) index d).rows) → IfNone found (length kept.places ≤ index)
-    → IfSome found (λ walk. (unit : Parts) (d : Sequence) → Keeps kept unit → WillGive (get_or (sequences unit) index d).rows walk) → IsSomeAnd found (WillGive rows)
+    → IfSome found (λ walk. (unit : Parts) (d : Sequence) → Keeps kept unit → WillGive (get_or (sequences unit) index d).rows walk)
+    → IsSomeAnd found (WillGive rows)
 rows_come kept unit index rows None keeps few are none some = absurd (omega (arith, none, keeps.count, few))
 rows_come kept unit index rows (Some walk) keeps few are none some =
     let d : Sequence = record { rows = [] } in
@@ -105,7 +116,8 @@ left_at_most walk = by_end walk.ended
     by_end true = omega arith
     by_end false = omega arith
 
-pub rows_few : (programs : List Kept) (place : ℕ) (kept : Kept) (found : Option SequenceWalk) → place < length programs → kept ≡ get_or programs place kept
+pub rows_few : (programs : List Kept) (place : ℕ) (kept : Kept) (found : Option SequenceWalk) → place < length programs
+    → kept ≡ get_or programs place kept
     → IfSome found (λ walk. length walk.walk.at.rest ≤ length kept.program) → IfSome found (λ walk. rows_left walk < room_of programs)
 rows_few programs place kept None few is left = tt
 rows_few programs place kept (Some walk) few is left =
@@ -113,16 +125,21 @@ rows_few programs place kept (Some walk) few is left =
 
 -- ---- tables and files
 
-pub usable_at : (line general : List ℕ) (units : List (ℕ × Parts)) (programs : List Kept) (k : ℕ) (d : Kept) → AllZip (λ (unit : ℕ × Parts) (kept : Kept). Keeps kept unit.1) units programs
-    → AllByRecursion (λ (unit : ℕ × Parts). AreUsableTables line general unit.1.header) units → k < length programs → AreUsableTables line general (get_or programs k d).header
+pub usable_at : (line general : List ℕ) (units : List (ℕ × Parts)) (programs : List Kept) (k : ℕ) (d : Kept)
+    → AllZip (λ (unit : ℕ × Parts) (kept : Kept). Keeps kept unit.1) units programs
+    → AllByRecursion (λ (unit : ℕ × Parts). AreUsableTables line general unit.1.header) units → k < length programs
+    → AreUsableTables line general (get_or programs k d).header
 usable_at line general [] [] k d keeps usable few = absurd (omega arith)
 usable_at line general [] (kept ∷ programs) k d keeps usable few = absurd keeps
 usable_at line general (unit ∷ units) [] k d keeps usable few = absurd keeps
-usable_at line general (unit ∷ units) (kept ∷ programs) zero d keeps usable few = subst (AreUsableTables line general) (sym keeps.0.header_is) usable.0
-usable_at line general (unit ∷ units) (kept ∷ programs) (suc k) d keeps usable few = usable_at line general units programs k d keeps.1 usable.1 (omega arith)
+usable_at line general (unit ∷ units) (kept ∷ programs) zero d keeps usable few =
+    subst (AreUsableTables line general) (sym keeps.0.header_is) usable.0
+usable_at line general (unit ∷ units) (kept ∷ programs) (suc k) d keeps usable few =
+    usable_at line general units programs k d keeps.1 usable.1 (omega arith)
 
 -- the files of programs are those of the units
-pub files_zip : (line general : List ℕ) (units : List (ℕ × Parts)) (programs : List Kept) (files : List (List KeptFile)) → AllZip (λ (unit : ℕ × Parts) (kept : Kept). Keeps kept unit.1) units programs
+pub files_zip : (line general : List ℕ) (units : List (ℕ × Parts)) (programs : List Kept) (files : List (List KeptFile))
+    → AllZip (λ (unit : ℕ × Parts) (kept : Kept). Keeps kept unit.1) units programs
     → AllZip (λ (kept : Kept) (some : List KeptFile). AreFilesOf line general kept.header some) programs files
     → AllZip (λ (unit : ℕ × Parts) (some : List KeptFile). AreFilesOf line general unit.1.header some) units files
 files_zip line general [] [] [] keeps are = tt
@@ -130,8 +147,10 @@ files_zip line general [] [] (some ∷ files) keeps are = absurd are
 files_zip line general [] (kept ∷ programs) files keeps are = absurd keeps
 files_zip line general (unit ∷ units) [] files keeps are = absurd keeps
 files_zip line general (unit ∷ units) (kept ∷ programs) [] keeps are = absurd are
-files_zip line general (unit ∷ units) (kept ∷ programs) (some ∷ files) keeps are =
-    (subst (λ (h : HeaderParts). AreFilesOf line general h some) keeps.0.header_is are.0, files_zip line general units programs files keeps.1 are.1)
+files_zip line general (unit ∷ units) (kept ∷ programs) (some ∷ files) keeps are = (
+  subst (λ (h : HeaderParts). AreFilesOf line general h some) keeps.0.header_is are.0,
+  files_zip line general units programs files keeps.1 are.1,
+)
 
 -- as many files as units
 zip_length : {X Y : Type 0} (R : X → Y → Type 0) (f : X → ℕ) (xs : List X) (ys : List Y) → AllZip R xs ys → length (map f xs) ≡ length ys
@@ -140,6 +159,8 @@ zip_length R f [] (y ∷ ys) all = absurd all
 zip_length R f (x ∷ xs) [] all = absurd all
 zip_length R f (x ∷ xs) (y ∷ ys) all = let more = zip_length R f xs ys all.1 in omega (arith, more)
 
-pub same_number : (line general : List ℕ) (units : List (ℕ × Parts)) (files : List (List KeptFile)) → AllZip (λ (unit : ℕ × Parts) (some : List KeptFile). AreFilesOf line general unit.1.header some) units files
+pub same_number : (line general : List ℕ) (units : List (ℕ × Parts)) (files : List (List KeptFile))
+    → AllZip (λ (unit : ℕ × Parts) (some : List KeptFile). AreFilesOf line general unit.1.header some) units files
     → length (map (λ (u : ℕ × Parts). u.0) units) ≡ length files
-same_number line general units files all = zip_length (λ (unit : ℕ × Parts) (some : List KeptFile). AreFilesOf line general unit.1.header some) (λ (u : ℕ × Parts). u.0) units files all
+same_number line general units files all = zip_length
+    (λ (unit : ℕ × Parts) (some : List KeptFile). AreFilesOf line general unit.1.header some) (λ (u : ℕ × Parts). u.0) units files all

@@ -23,37 +23,57 @@ use Rattle.lnt_lines.specs.Refusals.{table_no}
 
 -- ---- what is wrong with it
 
-flaw_in_tables : (text general : List ℕ) (dead : Option ℕ) (view : View) (unit : ℕ) (places : List ℕ) (old new : Collected) (watch : Watch) (fault : EntryTableFault) → HasRun dead view places old new watch
+flaw_in_tables : (text general : List ℕ) (dead : Option ℕ) (view : View) (unit : ℕ) (places : List ℕ) (old new : Collected) (watch : Watch)
+    (fault : EntryTableFault) → HasRun dead view places old new watch
     → unit ≡ view.unit.offset → IsTablesFault text general view.header fault → IsUnitNo text general dead view.unit (table_no unit fault)
 flaw_in_tables text general dead view unit places old new watch (EntryFormat which) run at f =
-    record { unit = run.unit; spelled = run.spelled; flaw = (at, run.runs, subst (λ (h : HeaderParts). IsTablesFault text general h (EntryFormat which)) (sym run.header_is) f) }
+    record {
+      unit = run.unit;
+      spelled = run.spelled;
+      flaw = (at, run.runs, subst (λ (h : HeaderParts). IsTablesFault text general h (EntryFormat which)) (sym run.header_is) f);
+    }
 flaw_in_tables text general dead view unit places old new watch (StringOutside which entry) run at f =
-    record { unit = run.unit; spelled = run.spelled; flaw = (at, run.runs, subst (λ (h : HeaderParts). IsTablesFault text general h (StringOutside which entry)) (sym run.header_is) f) }
+    record {
+      unit = run.unit;
+      spelled = run.spelled;
+      flaw = (at, run.runs, subst (λ (h : HeaderParts). IsTablesFault text general h (StringOutside which entry)) (sym run.header_is) f);
+    }
 flaw_in_tables text general dead view unit places old new watch (DirectoryNumber file) run at f =
-    record { unit = run.unit; spelled = run.spelled; flaw = (at, run.runs, subst (λ (h : HeaderParts). IsTablesFault text general h (DirectoryNumber file)) (sym run.header_is) f) }
+    record {
+      unit = run.unit;
+      spelled = run.spelled;
+      flaw = (at, run.runs, subst (λ (h : HeaderParts). IsTablesFault text general h (DirectoryNumber file)) (sym run.header_is) f);
+    }
 
 pub tables_no : (text general : List ℕ) (view : View) (header : HeaderParts) (unit : ℕ) (watch : Watch) (fault : EntryTableFault)
-    → unit ≡ view.unit.offset → header ≡ view.header → IsTablesFault text general header fault → IsFlawedRun text general view watch (table_no unit fault)
+    → unit ≡ view.unit.offset → header ≡ view.header → IsTablesFault text general header fault
+    → IsFlawedRun text general view watch (table_no unit fault)
 tables_no text general view header unit watch fault at header_is f dead places old new run =
-    flaw_in_tables text general dead view unit places old new watch fault run at (subst (λ (h : HeaderParts). IsTablesFault text general h fault) header_is f)
+    flaw_in_tables text general dead view unit places old new watch fault run at
+    (subst (λ (h : HeaderParts). IsTablesFault text general h fault) header_is f)
 
-well_formed : (text general : List ℕ) (dead : Option ℕ) (view : View) (header : HeaderParts) (places : List ℕ) (old new : Collected) (watch : Watch) → (run : HasRun dead view places old new watch) → header ≡ view.header
+well_formed : (text general : List ℕ) (dead : Option ℕ) (view : View) (header : HeaderParts) (places : List ℕ) (old new : Collected)
+    (watch : Watch) → (run : HasRun dead view places old new watch) → header ≡ view.header
     → AreUsableTables text general header → IsWellFormed text general run.unit
 well_formed text general dead view header places old new watch run header_is usable =
     record { runs = run.runs; tables = rw run.header_is (rw (← header_is) usable) }
 
 -- what the watch says of the live sequences of whichever unit it has seen
 abbrev SaysMissing : Watch → MissingFile → Type 0
-SaysMissing watch missing = (dead : Option ℕ) (unit files : ℕ) (rows : List Row) → HasSeenAll dead unit files watch rows → IsFirstMissingFile dead files (placed_rows unit rows) missing
+SaysMissing watch missing = (dead : Option ℕ) (unit files : ℕ) (rows : List Row) → HasSeenAll dead unit files watch rows
+    → IsFirstMissingFile dead files (placed_rows unit rows) missing
 
 abbrev SaysNamed : Watch → Type 0
-SaysNamed watch = (dead : Option ℕ) (unit files : ℕ) (rows : List Row) → HasSeenAll dead unit files watch rows → HaveFiles files (live_of dead (placed_rows unit rows))
+SaysNamed watch = (dead : Option ℕ) (unit files : ℕ) (rows : List Row) → HasSeenAll dead unit files watch rows
+    → HaveFiles files (live_of dead (placed_rows unit rows))
 
 abbrev SaysFall : Watch → ℕ → Type 0
-SaysFall watch row = (dead : Option ℕ) (unit files : ℕ) (rows : List Row) → HasSeenAll dead unit files watch rows → IsFirstFall dead (placed_rows unit rows) row
+SaysFall watch row = (dead : Option ℕ) (unit files : ℕ) (rows : List Row) → HasSeenAll dead unit files watch rows
+    → IsFirstFall dead (placed_rows unit rows) row
 
 abbrev SaysOrdered : Watch → Type 0
-SaysOrdered watch = (dead : Option ℕ) (unit files : ℕ) (rows : List Row) → HasSeenAll dead unit files watch rows → AreOrdered (live_of dead (placed_rows unit rows))
+SaysOrdered watch = (dead : Option ℕ) (unit files : ℕ) (rows : List Row) → HasSeenAll dead unit files watch rows
+    → AreOrdered (live_of dead (placed_rows unit rows))
 
 pub missing_no : (text general : List ℕ) (view : View) (header : HeaderParts) (unit : ℕ) (watch : Watch) (missing : MissingFile)
     → unit ≡ view.unit.offset → header ≡ view.header → AreUsableTables text general header → SaysMissing watch missing
@@ -62,7 +82,11 @@ missing_no text general view header unit watch missing at header_is usable says 
     record {
       unit = run.unit;
       spelled = run.spelled;
-      flaw = (at, well_formed text general dead view header places old new watch run header_is usable, says dead view.unit.offset (length run.unit.header.files) (rows run.unit) run.seen);
+      flaw = (
+        at,
+        well_formed text general dead view header places old new watch run header_is usable,
+        says dead view.unit.offset (length run.unit.header.files) (rows run.unit) run.seen,
+      );
     }
 
 pub falls_no : (text general : List ℕ) (view : View) (header : HeaderParts) (unit : ℕ) (watch : Watch) (row : ℕ)
@@ -82,7 +106,8 @@ falls_no text general view header unit watch row at header_is usable named says 
 
 -- ---- nothing is wrong with it
 
-pub judged_sound : (text general : List ℕ) (view : View) (header : HeaderParts) (watch : Watch) → header ≡ view.header → AreUsableTables text general header → SaysNamed watch → SaysOrdered watch
+pub judged_sound : (text general : List ℕ) (view : View) (header : HeaderParts) (watch : Watch) → header ≡ view.header
+    → AreUsableTables text general header → SaysNamed watch → SaysOrdered watch
     → IsSoundRun text general view watch
 judged_sound text general view header watch header_is usable named ordered dead places old new run =
     record {
@@ -94,5 +119,6 @@ judged_sound text general view header watch header_is usable named ordered dead 
         ordered = ordered dead view.unit.offset (length run.unit.header.files) (rows run.unit) run.seen;
       };
       keeps = run.kept;
-      collects = λ units c. collects_more dead units (view.unit.offset, run.unit) new run.runs run.seen.few (run.collects (live_sequences dead units) c);
+      collects = λ units c. collects_more dead units (view.unit.offset, run.unit) new run.runs run.seen.few
+          (run.collects (live_sequences dead units) c);
     }

@@ -1,5 +1,6 @@
 -- A unit has one first flaw.
-use Rattle.std.proofs.Common.{◌≡◌, ◌≢◌, ℕ, ◌+◌, ◌<◌, ◌≤◌, List, [], ◌∷◌, ◌++◌, length, refl, sym, ap, subst, ◌∙◌, append_assoc, arith, ⊎_elim}
+use Rattle.std.proofs.Common.{◌≡◌, ◌≢◌, ℕ, ◌+◌, ◌<◌, ◌≤◌, List, [], ◌∷◌, ◌++◌, length, refl, sym, ap, subst, ◌∙◌, append_assoc, arith}
+use Rattle.std.proofs.Common.{⊎_elim}
 use Rattle.std.specs.Prelude.{Option}
 use Rattle.std.specs.List.{AllByRecursion}
 use Rattle.std.proofs.lemmas.Bool.{cases_lt}
@@ -32,10 +33,12 @@ use Rattle.lnt_lines.proofs.FlawLemmas.{runs_well, tables_well}
 
 pub same_least : (i j : ℕ) → (i < j → ⊥) → (j < i → ⊥) → i ≡ j
 same_least i j below above =
-    ⊎_elim (λ (lt : i < j). absurd (below lt)) (λ (le : j ≤ i). ⊎_elim (λ (lt : j < i). absurd (above lt)) (λ (ge : i ≤ j). omega arith) (cases_lt j i)) (cases_lt i j)
+    ⊎_elim (λ (lt : i < j). absurd (below lt)) (λ (le : j ≤ i). ⊎_elim (λ (lt : j < i). absurd (above lt)) (λ (ge : i ≤ j). omega arith)
+    (cases_lt j i)) (cases_lt i j)
 
 -- an element that stands before another is among those before it
-earlier_is : {X : Type 0} (P : X → Type 0) (before behind before' behind' : List X) (x y : X) → before ++ x ∷ behind ≡ before' ++ y ∷ behind' → length before < length before' → AllByRecursion P before' → P x
+earlier_is : {X : Type 0} (P : X → Type 0) (before behind before' behind' : List X) (x y : X)
+    → before ++ x ∷ behind ≡ before' ++ y ∷ behind' → length before < length before' → AllByRecursion P before' → P x
 earlier_is P before behind [] behind' x y e lt all = absurd (omega arith)
 earlier_is {X} P [] behind (z ∷ before') behind' x y e lt all = let heads : z ≡ x = cc in subst P heads all.0
 earlier_is {X} P (w ∷ before) behind (z ∷ before') behind' x y e lt all =
@@ -43,7 +46,8 @@ earlier_is {X} P (w ∷ before) behind (z ∷ before') behind' x y e lt all =
     earlier_is P before behind before' behind' x y tails (omega arith) all.1
 
 -- elements at one place are one
-same_at : {X : Type 0} (before behind before' behind' : List X) (x y : X) → before ++ x ∷ behind ≡ before' ++ y ∷ behind' → length before ≡ length before' → x ≡ y
+same_at : {X : Type 0} (before behind before' behind' : List X) (x y : X) → before ++ x ∷ behind ≡ before' ++ y ∷ behind'
+    → length before ≡ length before' → x ≡ y
 same_at [] behind [] behind' x y e same = cc
 same_at [] behind (z ∷ before') behind' x y e same = absurd (omega arith)
 same_at (w ∷ before) behind [] behind' x y e same = absurd (omega arith)
@@ -54,8 +58,10 @@ same_at {X} (w ∷ before) behind (z ∷ before') behind' x y e same =
 one_first : {X : Type 0} (P : X → Type 0) (xs : List X) (i j : ℕ) → IsFirstNot P xs i → IsFirstNot P xs j → i ≡ j
 one_first P xs i j a b =
     same_least i j
-    (λ lt. a.not_so (earlier_is P a.before a.behind b.before b.behind a.value b.value (sym a.joined ∙ b.joined) (omega (arith, lt, a.index_is, b.index_is)) b.all_before))
-    (λ lt. b.not_so (earlier_is P b.before b.behind a.before a.behind b.value a.value (sym b.joined ∙ a.joined) (omega (arith, lt, a.index_is, b.index_is)) a.all_before))
+    (λ lt. a.not_so (earlier_is P a.before a.behind b.before b.behind a.value b.value (sym a.joined ∙ b.joined)
+    (omega (arith, lt, a.index_is, b.index_is)) b.all_before))
+    (λ lt. b.not_so (earlier_is P b.before b.behind a.before a.behind b.value a.value (sym b.joined ∙ a.joined)
+    (omega (arith, lt, a.index_is, b.index_is)) a.all_before))
 
 -- ---- runs
 
@@ -71,7 +77,8 @@ one_run unit run.OpenSequence run.Memory m n f g = absurd (n refl)
 
 -- ---- tables
 
-one_table : (text general : List ℕ) (h : HeaderParts) (f g : EntryTableFault) → IsTablesFault text general h f → IsTablesFault text general h g → f ≡ g
+one_table : (text general : List ℕ) (h : HeaderParts) (f g : EntryTableFault) → IsTablesFault text general h f
+    → IsTablesFault text general h g → f ≡ g
 one_table text general h (table.EntryFormat Directories) (table.EntryFormat Directories) f g = refl
 one_table text general h (table.EntryFormat Directories) (table.EntryFormat Files) f g = absurd (f g.0)
 one_table text general h (table.EntryFormat Directories) (table.StringOutside Directories j) f g = absurd (f g.0.directories)
@@ -84,19 +91,22 @@ one_table text general h (table.EntryFormat Files) (table.StringOutside Files j)
 one_table text general h (table.EntryFormat Files) (table.DirectoryNumber j) f g = absurd (f.1 g.1.format)
 one_table text general h (table.StringOutside Directories i) (table.EntryFormat Directories) f g = absurd (g f.0.directories)
 one_table text general h (table.StringOutside Directories i) (table.EntryFormat Files) f g = absurd (g.1 f.0.files)
-one_table text general h (table.StringOutside Directories i) (table.StringOutside Directories j) f g = ap (table.StringOutside Directories) (one_first _ h.directories i j f.1 g.1)
+one_table text general h (table.StringOutside Directories i) (table.StringOutside Directories j) f g =
+    ap (table.StringOutside Directories) (one_first _ h.directories i j f.1 g.1)
 one_table text general h (table.StringOutside Directories i) (table.StringOutside Files j) f g = absurd (first_is_wrong f.1 g.1)
 one_table text general h (table.StringOutside Directories i) (table.DirectoryNumber j) f g = absurd (first_is_wrong f.1 g.0.paths)
 one_table text general h (table.StringOutside Files i) (table.EntryFormat Directories) f g = absurd (g f.0.directories)
 one_table text general h (table.StringOutside Files i) (table.EntryFormat Files) f g = absurd (g.1 f.0.files)
 one_table text general h (table.StringOutside Files i) (table.StringOutside Directories j) f g = absurd (first_is_wrong g.1 f.1)
-one_table text general h (table.StringOutside Files i) (table.StringOutside Files j) f g = ap (table.StringOutside Files) (one_first _ h.files i j f.2 g.2)
+one_table text general h (table.StringOutside Files i) (table.StringOutside Files j) f g =
+    ap (table.StringOutside Files) (one_first _ h.files i j f.2 g.2)
 one_table text general h (table.StringOutside Files i) (table.DirectoryNumber j) f g = absurd (first_is_wrong f.2 g.1.paths)
 one_table text general h (table.DirectoryNumber i) (table.EntryFormat Directories) f g = absurd (g f.0.format)
 one_table text general h (table.DirectoryNumber i) (table.EntryFormat Files) f g = absurd (g.1 f.1.format)
 one_table text general h (table.DirectoryNumber i) (table.StringOutside Directories j) f g = absurd (first_is_wrong g.1 f.0.paths)
 one_table text general h (table.DirectoryNumber i) (table.StringOutside Files j) f g = absurd (first_is_wrong g.2 f.1.paths)
-one_table text general h (table.DirectoryNumber i) (table.DirectoryNumber j) f g = ap table.DirectoryNumber (one_first _ h.files i j f.2 g.2)
+one_table text general h (table.DirectoryNumber i) (table.DirectoryNumber j) f g =
+    ap table.DirectoryNumber (one_first _ h.files i j f.2 g.2)
 
 -- ---- rows
 
@@ -108,7 +118,8 @@ rows_at ss placed before row index s =
     ∙ ap (λ (rows : List Row). rows_of s.earlier ++ rows) (append_assoc before (row ∷ s.after) (rows_of s.later))
     ∙ sym (append_assoc (rows_of s.earlier) before (row ∷ (s.after ++ rows_of s.later)))
 
-same_row : (ss : List Placed) (one two : Placed) (before before' : List Row) (row row' : Row) (i j : ℕ) → StandsIn ss one before row i → StandsIn ss two before' row' j → i ≡ j → row ≡ row'
+same_row : (ss : List Placed) (one two : Placed) (before before' : List Row) (row row' : Row) (i j : ℕ) → StandsIn ss one before row i
+    → StandsIn ss two before' row' j → i ≡ j → row ≡ row'
 same_row ss one two before before' row row' i j s t same =
     same_at (rows_of s.earlier ++ before) (s.after ++ rows_of s.later) (rows_of t.earlier ++ before') (t.after ++ rows_of t.later) row row'
     (sym (rows_at ss one before row i s) ∙ rows_at ss two before' row' j t) (sym s.index_is ∙ same ∙ t.index_is)
@@ -116,11 +127,13 @@ same_row ss one two before before' row row' i j s t same =
 missing_parts : ℕ → ℕ → MissingFile
 missing_parts row file = record { row = row; file = file }
 
-one_missing : (dead : Option ℕ) (files : ℕ) (ss : List Placed) (a b : MissingFile) → IsFirstMissingFile dead files ss a → IsFirstMissingFile dead files ss b → a ≡ b
+one_missing : (dead : Option ℕ) (files : ℕ) (ss : List Placed) (a b : MissingFile) → IsFirstMissingFile dead files ss a
+    → IsFirstMissingFile dead files ss b → a ≡ b
 unfolding missing_parts
 one_missing dead files ss a b f g =
     let rows : a.row ≡ b.row = same_least a.row b.row (λ lt. g.first a lt f.file) (λ lt. f.first b lt g.file) in
-    let row = same_row ss f.file.placed g.file.placed f.file.before g.file.before f.file.row g.file.row a.row b.row f.file.stands g.file.stands rows in
+    let row = same_row ss f.file.placed g.file.placed f.file.before g.file.before f.file.row g.file.row a.row b.row f.file.stands
+    g.file.stands rows in
     let file : a.file ≡ b.file = f.file.file_is ∙ ap (λ (r : Row). r.file) row ∙ sym g.file.file_is in
     ap (λ (k : ℕ). missing_parts k a.file) rows ∙ ap (missing_parts b.row) file
 
@@ -130,41 +143,62 @@ one_fall dead ss i j f g = same_least i j (λ lt. g.first i lt f.fall) (λ lt. f
 -- ---- flaws, by their kinds
 
 data Flaw (text general : List ℕ) (dead : Option ℕ) (unit : ℕ × Parts) (reason : No) : Type 0 where
-  of_run : (fault : RunFault) → reason ≡ no.Run unit.0 fault → fault ≢ run.Memory → IsRunFault unit.1 fault → Flaw text general dead unit reason
-  of_tables : (fault : EntryTableFault) → reason ≡ table_no unit.0 fault → Runs unit.1 → IsTablesFault text general unit.1.header fault → Flaw text general dead unit reason
+  of_run : (fault : RunFault) → reason ≡ no.Run unit.0 fault → fault ≢ run.Memory → IsRunFault unit.1 fault
+      → Flaw text general dead unit reason
+  of_tables : (fault : EntryTableFault) → reason ≡ table_no unit.0 fault → Runs unit.1 → IsTablesFault text general unit.1.header fault
+      → Flaw text general dead unit reason
   of_file : (missing : MissingFile) → reason ≡ no.FileNumber unit.0 missing.row missing.file → IsWellFormed text general unit.1
       → IsFirstMissingFile dead (length unit.1.header.files) (placed_in unit) missing → Flaw text general dead unit reason
-  of_fall : (row : ℕ) → reason ≡ no.Falls unit.0 row → IsWellFormed text general unit.1 → HaveFiles (length unit.1.header.files) (live_in dead unit) → IsFirstFall dead (placed_in unit) row
+  of_fall : (row : ℕ) → reason ≡ no.Falls unit.0 row → IsWellFormed text general unit.1
+      → HaveFiles (length unit.1.header.files) (live_in dead unit) → IsFirstFall dead (placed_in unit) row
       → Flaw text general dead unit reason
 
-flaw_kind : (text general : List ℕ) (dead : Option ℕ) (unit : ℕ × Parts) (reason : No) → IsFlaw text general dead unit reason → Flaw text general dead unit reason
+flaw_kind : (text general : List ℕ) (dead : Option ℕ) (unit : ℕ × Parts) (reason : No) → IsFlaw text general dead unit reason
+    → Flaw text general dead unit reason
 flaw_kind text general dead unit (no.Malformed fault) f = absurd f
 flaw_kind text general dead unit (no.Run offset fault) f = of_run fault (ap (λ (o : ℕ). no.Run o fault) f.0) f.1 f.2
-flaw_kind text general dead unit (no.EntryFormat offset which) f = of_tables (table.EntryFormat which) (ap (λ (o : ℕ). no.EntryFormat o which) f.0) f.1 f.2
-flaw_kind text general dead unit (no.StringOutside offset which entry) f = of_tables (table.StringOutside which entry) (ap (λ (o : ℕ). no.StringOutside o which entry) f.0) f.1 f.2
-flaw_kind text general dead unit (no.DirectoryNumber offset file) f = of_tables (table.DirectoryNumber file) (ap (λ (o : ℕ). no.DirectoryNumber o file) f.0) f.1 f.2
-flaw_kind text general dead unit (no.FileNumber offset row file) f = of_file (record { row = row; file = file }) (ap (λ (o : ℕ). no.FileNumber o row file) f.0) f.1 f.2
+flaw_kind text general dead unit (no.EntryFormat offset which) f =
+    of_tables (table.EntryFormat which) (ap (λ (o : ℕ). no.EntryFormat o which) f.0) f.1 f.2
+flaw_kind text general dead unit (no.StringOutside offset which entry) f =
+    of_tables (table.StringOutside which entry) (ap (λ (o : ℕ). no.StringOutside o which entry) f.0) f.1 f.2
+flaw_kind text general dead unit (no.DirectoryNumber offset file) f =
+    of_tables (table.DirectoryNumber file) (ap (λ (o : ℕ). no.DirectoryNumber o file) f.0) f.1 f.2
+flaw_kind text general dead unit (no.FileNumber offset row file) f =
+    of_file (record { row = row; file = file }) (ap (λ (o : ℕ). no.FileNumber o row file) f.0) f.1 f.2
 flaw_kind text general dead unit (no.Falls offset row) f = of_fall row (ap (λ (o : ℕ). no.Falls o row) f.0) f.1 f.2 f.3
 flaw_kind text general dead unit (no.Overlap first second position) f = absurd f
 
-one_kind : MissingFileIsNotThere → (text general : List ℕ) (dead : Option ℕ) (unit : ℕ × Parts) (r s : No) → Flaw text general dead unit r → Flaw text general dead unit s → r ≡ s
-one_kind law text general dead unit r s (of_run f e some is) (of_run g e' some' is') = e ∙ ap (no.Run unit.0) (one_run unit.1 f g some some' is is') ∙ sym e'
+one_kind : MissingFileIsNotThere → (text general : List ℕ) (dead : Option ℕ) (unit : ℕ × Parts) (r s : No) → Flaw text general dead unit r
+    → Flaw text general dead unit s → r ≡ s
+one_kind law text general dead unit r s (of_run f e some is) (of_run g e' some' is') =
+    e ∙ ap (no.Run unit.0) (one_run unit.1 f g some some' is is') ∙ sym e'
 one_kind law text general dead unit r s (of_run f e some is) (of_tables g e' runs' is') = absurd (runs_well unit.1 f runs' some is)
 one_kind law text general dead unit r s (of_run f e some is) (of_file g e' well' is') = absurd (runs_well unit.1 f well'.runs some is)
 one_kind law text general dead unit r s (of_run f e some is) (of_fall g e' well' have' is') = absurd (runs_well unit.1 f well'.runs some is)
 one_kind law text general dead unit r s (of_tables f e runs is) (of_run g e' some' is') = absurd (runs_well unit.1 g runs some' is')
-one_kind law text general dead unit r s (of_tables f e runs is) (of_tables g e' runs' is') = e ∙ ap (table_no unit.0) (one_table text general unit.1.header f g is is') ∙ sym e'
-one_kind law text general dead unit r s (of_tables f e runs is) (of_file g e' well' is') = absurd (tables_well text general unit.1.header f well'.tables is)
-one_kind law text general dead unit r s (of_tables f e runs is) (of_fall g e' well' have' is') = absurd (tables_well text general unit.1.header f well'.tables is)
+one_kind law text general dead unit r s (of_tables f e runs is) (of_tables g e' runs' is') =
+    e ∙ ap (table_no unit.0) (one_table text general unit.1.header f g is is') ∙ sym e'
+one_kind law text general dead unit r s (of_tables f e runs is) (of_file g e' well' is') =
+    absurd (tables_well text general unit.1.header f well'.tables is)
+one_kind law text general dead unit r s (of_tables f e runs is) (of_fall g e' well' have' is') =
+    absurd (tables_well text general unit.1.header f well'.tables is)
 one_kind law text general dead unit r s (of_file f e well is) (of_run g e' some' is') = absurd (runs_well unit.1 g well.runs some' is')
-one_kind law text general dead unit r s (of_file f e well is) (of_tables g e' runs' is') = absurd (tables_well text general unit.1.header g well.tables is')
+one_kind law text general dead unit r s (of_file f e well is) (of_tables g e' runs' is') =
+    absurd (tables_well text general unit.1.header g well.tables is')
 one_kind law text general dead unit r s (of_file f e well is) (of_file g e' well' is') =
-    e ∙ ap (λ (m : MissingFile). no.FileNumber unit.0 m.row m.file) (one_missing dead (length unit.1.header.files) (placed_in unit) f g is is') ∙ sym e'
-one_kind law text general dead unit r s (of_file f e well is) (of_fall g e' well' have' is') = absurd (law dead (length unit.1.header.files) (placed_in unit) f is.file have')
+    e ∙ ap (λ (m : MissingFile). no.FileNumber unit.0 m.row m.file)
+    (one_missing dead (length unit.1.header.files) (placed_in unit) f g is is') ∙ sym e'
+one_kind law text general dead unit r s (of_file f e well is) (of_fall g e' well' have' is') =
+    absurd (law dead (length unit.1.header.files) (placed_in unit) f is.file have')
 one_kind law text general dead unit r s (of_fall f e well have is) (of_run g e' some' is') = absurd (runs_well unit.1 g well.runs some' is')
-one_kind law text general dead unit r s (of_fall f e well have is) (of_tables g e' runs' is') = absurd (tables_well text general unit.1.header g well.tables is')
-one_kind law text general dead unit r s (of_fall f e well have is) (of_file g e' well' is') = absurd (law dead (length unit.1.header.files) (placed_in unit) g is'.file have)
-one_kind law text general dead unit r s (of_fall f e well have is) (of_fall g e' well' have' is') = e ∙ ap (no.Falls unit.0) (one_fall dead (placed_in unit) f g is is') ∙ sym e'
+one_kind law text general dead unit r s (of_fall f e well have is) (of_tables g e' runs' is') =
+    absurd (tables_well text general unit.1.header g well.tables is')
+one_kind law text general dead unit r s (of_fall f e well have is) (of_file g e' well' is') =
+    absurd (law dead (length unit.1.header.files) (placed_in unit) g is'.file have)
+one_kind law text general dead unit r s (of_fall f e well have is) (of_fall g e' well' have' is') =
+    e ∙ ap (no.Falls unit.0) (one_fall dead (placed_in unit) f g is is') ∙ sym e'
 
-pub one_flaw : MissingFileIsNotThere → (text general : List ℕ) (dead : Option ℕ) (unit : ℕ × Parts) (r s : No) → IsFlaw text general dead unit r → IsFlaw text general dead unit s → r ≡ s
-one_flaw law text general dead unit r s f g = one_kind law text general dead unit r s (flaw_kind text general dead unit r f) (flaw_kind text general dead unit s g)
+pub one_flaw : MissingFileIsNotThere → (text general : List ℕ) (dead : Option ℕ) (unit : ℕ × Parts) (r s : No)
+    → IsFlaw text general dead unit r → IsFlaw text general dead unit s → r ≡ s
+one_flaw law text general dead unit r s f g =
+    one_kind law text general dead unit r s (flaw_kind text general dead unit r f) (flaw_kind text general dead unit s g)

@@ -85,7 +85,8 @@ both_ways one two h k =
     let first : h.other_first ≡ k.first = same_Some h.other_first k.first (sym h.other_is ∙ k.first_is) in
     let last : h.first ≡ k.other_first = same_Some h.first k.other_first (sym h.first_is ∙ k.other_is) in
     let back : IsNotLater (position_of h.other_first) two.id (position_of h.first) one.id =
-    subst (λ (row : Row). IsNotLater (position_of row) two.id (position_of h.first) one.id) (sym first) (subst (λ (row : Row). IsNotLater (position_of k.first) two.id (position_of row) one.id) (sym last) k.order) in
+    subst (λ (row : Row). IsNotLater (position_of row) two.id (position_of h.first) one.id) (sym first)
+    (subst (λ (row : Row). IsNotLater (position_of k.first) two.id (position_of row) one.id) (sym last) k.order) in
     same_id (position_of h.first) (position_of h.other_first) one.id two.id h.order back
   where
     same_id : (p q : Position) (a b : SeqId) → IsNotLater p a q b → IsNotLater q b p a → a ≡ b
@@ -99,9 +100,11 @@ both_ways one two h k =
 -- ---- the first two
 
 -- of one sequence that holds the position, seen from an overlap: it is the first, or the second doesn't begin later
-first_or_later : (ss : List Placed) (o : Overlap) → (f : IsFirstOverlap ss o) → (s : Placed) → Contains ss s → Holds s.rows o.position → (s.id ≡ o.first) ⊎ ((s.id ≡ o.second) ⊎ BeginsNoLater f.other s)
+first_or_later : (ss : List Placed) (o : Overlap) → (f : IsFirstOverlap ss o) → (s : Placed) → Contains ss s → Holds s.rows o.position
+    → (s.id ≡ o.first) ⊎ ((s.id ≡ o.second) ⊎ BeginsNoLater f.other s)
 first_or_later ss o f s c h =
-    subst (λ (t : Placed). (t.id ≡ o.first) ⊎ ((t.id ≡ o.second) ⊎ BeginsNoLater f.other t)) c.2 (f.first_two c.0 s c.1 (subst (λ (t : Placed). Holds t.rows o.position) (sym c.2) h))
+    subst (λ (t : Placed). (t.id ≡ o.first) ⊎ ((t.id ≡ o.second) ⊎ BeginsNoLater f.other t)) c.2
+    (f.first_two c.0 s c.1 (subst (λ (t : Placed). Holds t.rows o.position) (sym c.2) h))
 
 same_placed : (ss : List Placed) (a b : Placed) → AreDistinct ss → Contains ss a → Contains ss b → a.id ≡ b.id → a ≡ b
 same_placed ss a b apart c d same =
@@ -109,7 +112,8 @@ same_placed ss a b apart c d same =
     let there : get_or ss d.0 a ≡ b = get_or_default ss d.0 a b d.1 ∙ d.2 in
     ⊎_elim
     (λ (e : c.0 ≡ d.0). sym c.2 ∙ ap (λ (k : ℕ). get_or ss k a) e ∙ there)
-    (λ (ne : (c.0 ≡ d.0) → ⊥). absurd (two c.0 d.0 a ne c.1 d.1 (ap (λ (s : Placed). s.id) c.2 ∙ same ∙ ap (λ (s : Placed). s.id) (sym there))))
+    (λ (ne : (c.0 ≡ d.0) → ⊥). absurd (two c.0 d.0 a ne c.1 d.1
+    (ap (λ (s : Placed). s.id) c.2 ∙ same ∙ ap (λ (s : Placed). s.id) (sym there))))
     (cases_eq c.0 d.0)
 
 itself : (one two : Placed) → BeginsNoLater one two → BeginsNoLater two two
@@ -122,17 +126,20 @@ itself one two h = record {
 }
 
 -- it is the first, or the second doesn't begin later
-first_or_behind : (ss : List Placed) (o : Overlap) → AreDistinct ss → (f : IsFirstOverlap ss o) → (s : Placed) → Contains ss s → Holds s.rows o.position → (s.id ≡ o.first) ⊎ BeginsNoLater f.other s
+first_or_behind : (ss : List Placed) (o : Overlap) → AreDistinct ss → (f : IsFirstOverlap ss o) → (s : Placed) → Contains ss s
+    → Holds s.rows o.position → (s.id ≡ o.first) ⊎ BeginsNoLater f.other s
 first_or_behind ss o apart f s c h = elim (first_or_later ss o f s c h) [
   | inl first ↦ inl first
-  | inr (inl second) ↦ inr (subst (BeginsNoLater f.other) (same_placed ss f.other s apart f.other_in c (sym f.second_is ∙ sym second)) (itself f.one f.other f.in_turn))
+  | inr (inl second) ↦ inr (subst (BeginsNoLater f.other) (same_placed ss f.other s apart f.other_in c (sym f.second_is ∙ sym second))
+      (itself f.one f.other f.in_turn))
   | inr (inr later) ↦ inr later
 ]
 
 held_at : (s : Placed) (p q : Position) → p ≡ q → Holds s.rows p → Holds s.rows q
 held_at s p q same h = subst (Holds s.rows) same h
 
-same_first : (ss : List Placed) (a b : Overlap) → AreDistinct ss → (f : IsFirstOverlap ss a) → (q : IsFirstOverlap ss b) → a.position ≡ b.position → a.first ≡ b.first
+same_first : (ss : List Placed) (a b : Overlap) → AreDistinct ss → (f : IsFirstOverlap ss a) → (q : IsFirstOverlap ss b)
+    → a.position ≡ b.position → a.first ≡ b.first
 same_first ss a b apart f q same =
     elim (first_or_behind ss a apart f q.one q.one_in (held_at q.one b.position a.position (sym same) q.one_holds)) [
       | inl first ↦ sym first ∙ sym q.first_is
@@ -145,7 +152,8 @@ same_first ss a b apart f q same =
     ]
 
 -- with one first, the other's second doesn't begin earlier
-second_behind : (ss : List Placed) (a b : Overlap) → AreDistinct ss → (f : IsFirstOverlap ss a) → (q : IsFirstOverlap ss b) → a.position ≡ b.position → a.first ≡ b.first → BeginsNoLater f.other q.other
+second_behind : (ss : List Placed) (a b : Overlap) → AreDistinct ss → (f : IsFirstOverlap ss a) → (q : IsFirstOverlap ss b)
+    → a.position ≡ b.position → a.first ≡ b.first → BeginsNoLater f.other q.other
 second_behind ss a b apart f q same first =
     elim (first_or_behind ss a apart f q.other q.other_in (held_at q.other b.position a.position (sym same) q.other_holds)) [
       | inl is ↦ absurd (q.different (sym first ∙ sym is ∙ sym q.second_is))
@@ -161,5 +169,7 @@ one_overlap ss a b apart f q =
     let same = one_position ss a b f q in
     let first = same_first ss a b apart f q same in
     let second : a.second ≡ b.second =
-    f.second_is ∙ both_ways f.other q.other (second_behind ss a b apart f q same first) (second_behind ss b a apart q f (sym same) (sym first)) ∙ sym q.second_is in
-    ap (λ (id : SeqId). overlap_of id a.second a.position) first ∙ ap (λ (id : SeqId). overlap_of b.first id a.position) second ∙ ap (overlap_of b.first b.second) same
+    f.second_is ∙ both_ways f.other q.other (second_behind ss a b apart f q same first)
+    (second_behind ss b a apart q f (sym same) (sym first)) ∙ sym q.second_is in
+    ap (λ (id : SeqId). overlap_of id a.second a.position) first ∙ ap (λ (id : SeqId). overlap_of b.first id a.position) second
+    ∙ ap (overlap_of b.first b.second) same

@@ -33,10 +33,12 @@ pub outside_is : (m n : ℕ) → n ≤ m → nat_lt m n ≡ false
 outside_is m n le = grind (arith, nat_tests)
 
 pub between_all : (units : List ℕ) (unit : ℕ) → IsBetween units unit 0 (length units)
-between_all units unit = record { within = omega arith; inside = omega arith; before = λ k lt. absurd (omega arith); behind = λ k le lt. absurd (omega arith) }
+between_all units unit =
+    record { within = omega arith; inside = omega arith; before = λ k lt. absurd (omega arith); behind = λ k le lt. absurd (omega arith) }
 
 -- the one in the middle is less
-pub between_above : (units : List ℕ) (unit low high middle : ℕ) → AreRising units → IsBetween units unit low high → middle < high → get_or units middle 0 < unit → IsBetween units unit (middle + 1) high
+pub between_above : (units : List ℕ) (unit low high middle : ℕ) → AreRising units → IsBetween units unit low high → middle < high
+    → get_or units middle 0 < unit → IsBetween units unit (middle + 1) high
 between_above units unit low high middle rising b lt less =
     let inside = b.inside in
     let before : (k : ℕ) → k < middle + 1 → get_or units k 0 < unit = λ k below. elim (cases_lt k middle) [
@@ -46,7 +48,8 @@ between_above units unit low high middle rising b lt less =
     record { within = omega arith; inside = inside; before = before; behind = b.behind }
 
 -- it is greater
-pub between_below : (units : List ℕ) (unit low high middle : ℕ) → AreRising units → IsBetween units unit low high → low ≤ middle → middle < high → unit < get_or units middle 0 → IsBetween units unit low middle
+pub between_below : (units : List ℕ) (unit low high middle : ℕ) → AreRising units → IsBetween units unit low high → low ≤ middle
+    → middle < high → unit < get_or units middle 0 → IsBetween units unit low middle
 between_below units unit low high middle rising b from lt more =
     let inside = b.inside in
     let behind : (k : ℕ) → middle ≤ k → k < length units → unit < get_or units k 0 = λ k le few. elim (cases_lt middle k) [
@@ -56,14 +59,18 @@ between_below units unit low high middle rising b from lt more =
     record { within = from; inside = omega arith; before = b.before; behind = behind }
 
 -- it is the one
-pub place_found : (units : List ℕ) (unit k : ℕ) → AreRising units → k < length units → get_or units k 0 ≡ unit → Some k ≡ position (λ offset. offset == unit) units
+pub place_found : (units : List ℕ) (unit k : ℕ) → AreRising units → k < length units → get_or units k 0 ≡ unit
+    → Some k ≡ position (λ offset. offset == unit) units
 place_found units unit k rising lt is =
     let at : position_or_len (λ offset. offset == unit) units ≡ k =
-    position_or_len_is (λ offset. offset == unit) units k 0 (omega arith) (λ j earlier. less_is_other (get_or units j 0) unit (omega (arith, rising j k 0 earlier lt, is))) (λ _. same_is_itself (get_or units k 0) unit is) in
+    position_or_len_is (λ offset. offset == unit) units k 0 (omega arith)
+    (λ j earlier. less_is_other (get_or units j 0) unit (omega (arith, rising j k 0 earlier lt, is)))
+    (λ _. same_is_itself (get_or units k 0) unit is) in
     rw (at, inside_is k (length units) lt) refl
 
 -- none is the one
-pub place_missing : (units : List ℕ) (unit low high : ℕ) → IsBetween units unit low high → high ≤ low → None ≡ position (λ offset. offset == unit) units
+pub place_missing : (units : List ℕ) (unit low high : ℕ) → IsBetween units unit low high → high ≤ low
+    → None ≡ position (λ offset. offset == unit) units
 place_missing units unit low high b empty =
     let within = b.within in
     let other : (j : ℕ) → j < length units → (get_or units j 0 == unit) ≡ false = λ j few. elim (cases_lt j low) [

@@ -11,7 +11,8 @@ use Rattle.lnt_lines.specs.Refusals.{IsFaultRefusal}
 use Rattle.lnt_lines.specs.Refusals.IsFaultRefusal.{malformed, memory}
 
 -- bytes that are no unit's
-pub fault_refused : (text general : List ℕ) (dead : Option ℕ) (buffer : UnitBytes) (fault : Fault) (refusal : Refusal) → IsFaultRefusal fault refusal
+pub fault_refused : (text general : List ℕ) (dead : Option ℕ) (buffer : UnitBytes) (fault : Fault) (refusal : Refusal)
+    → IsFaultRefusal fault refusal
     → (fault.reason ≢ Memory → BrokenUnit buffer.order fault buffer.offset buffer.bytes) → IsUnitRefusal text general dead buffer refusal
 fault_refused text general dead buffer fault refusal (memory is e) b = subst (IsUnitRefusal text general dead buffer) (sym e) tt
 fault_refused text general dead buffer fault refusal (malformed is e) b = subst (IsUnitRefusal text general dead buffer) (sym e) (b is)

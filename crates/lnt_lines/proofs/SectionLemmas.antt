@@ -48,15 +48,19 @@ pub record JudgedSoFar (text general : List ℕ) (options : Options) (old now : 
   pub place : offset ≡ length front
   pub draft_is : IsDraftOf text general options.dead units draft
 
-pub judged_more : (text general : List ℕ) (options : Options) (old now now' : Option (List ℕ)) (order : Order) (offset offset' : ℕ) (buffer : UnitBytes) (draft draft' : Draft)
-    → JudgedSoFar text general options old now offset draft → order ≡ options.order → IsNextUnit offset order now now' buffer → offset' ≡ offset + length buffer.bytes
+pub judged_more : (text general : List ℕ) (options : Options) (old now now' : Option (List ℕ)) (order : Order) (offset offset' : ℕ)
+    (buffer : UnitBytes) (draft draft' : Draft)
+    → JudgedSoFar text general options old now offset draft → order ≡ options.order → IsNextUnit offset order now now' buffer
+    → offset' ≡ offset + length buffer.bytes
     → HasAdded text general options.dead buffer draft draft' → JudgedSoFar text general options old now' offset' draft'
 judged_more text general options old now now' order offset offset' buffer draft draft' so_far same next at added =
-    let spelled : UnitBytesIn options.order added.unit buffer.bytes = subst (λ (o : Order). UnitBytesIn o added.unit buffer.bytes) (next.order_is ∙ same) added.spelled in
+    let spelled : UnitBytesIn options.order added.unit buffer.bytes =
+    subst (λ (o : Order). UnitBytesIn o added.unit buffer.bytes) (next.order_is ∙ same) added.spelled in
     record {
       units = so_far.units ++ (buffer.offset, added.unit) ∷ [];
       front = so_far.front ++ buffer.bytes;
-      spelled = units_push options.order 0 so_far.units (buffer.offset, added.unit) so_far.front buffer.bytes so_far.spelled (omega (arith, next.offset_is, so_far.place)) spelled;
+      spelled = units_push options.order 0 so_far.units (buffer.offset, added.unit) so_far.front buffer.bytes so_far.spelled
+          (omega (arith, next.offset_is, so_far.place)) spelled;
       pulls = pulls_append old now now' so_far.front buffer.bytes so_far.pulls next.pulls;
       place = omega (arith, at, so_far.place, length-append so_far.front buffer.bytes);
       draft_is = added.drafts so_far.units so_far.draft_is;
@@ -66,28 +70,39 @@ judged_more text general options old now now' order offset offset' buffer draft 
 
 -- a frame has some byte
 frame_is_some : (order : Order) (frame : Format × List ℕ) (bytes : List ℕ) → FrameBytes order frame bytes → 0 < length bytes
-frame_is_some order frame bytes f = omega (arith, ap length f.joined, length-append (initial_length frame.0 order (length frame.1)) frame.1, length-initial frame.0 order (length frame.1))
+frame_is_some order frame bytes f = omega (
+  arith,
+  ap length f.joined,
+  length-append (initial_length frame.0 order (length frame.1)) frame.1,
+  length-initial frame.0 order (length frame.1),
+)
 
 -- the unit after the sound ones has the flaw
-first_flaw : (text general : List ℕ) (options : Options) (old now : Option (List ℕ)) (bytes rest : List ℕ) (offset : ℕ) (draft : Draft) (buffer : UnitBytes) (reason : No)
-    → (so_far : JudgedSoFar text general options old now offset draft) → buffer.offset ≡ offset → buffer.order ≡ options.order → bytes ≡ so_far.front ++ (buffer.bytes ++ rest)
+first_flaw : (text general : List ℕ) (options : Options) (old now : Option (List ℕ)) (bytes rest : List ℕ) (offset : ℕ) (draft : Draft)
+    (buffer : UnitBytes) (reason : No)
+    → (so_far : JudgedSoFar text general options old now offset draft) → buffer.offset ≡ offset → buffer.order ≡ options.order
+    → bytes ≡ so_far.front ++ (buffer.bytes ++ rest)
     → HasFlaw text general options.dead buffer reason → IsFirstFlaw text general options bytes reason
 first_flaw text general options old now bytes rest offset draft buffer reason so_far at same whole flaw =
-    let here : UnitBytesIn options.order flaw.unit buffer.bytes = subst (λ (o : Order). UnitBytesIn o flaw.unit buffer.bytes) same flaw.spelled in
+    let here : UnitBytesIn options.order flaw.unit buffer.bytes =
+    subst (λ (o : Order). UnitBytesIn o flaw.unit buffer.bytes) same flaw.spelled in
     record {
       units = so_far.units;
       unit = (buffer.offset, flaw.unit);
       front = so_far.front ++ buffer.bytes;
       rest = rest;
-      spelled = units_push options.order 0 so_far.units (buffer.offset, flaw.unit) so_far.front buffer.bytes so_far.spelled (omega (arith, at, so_far.place)) here;
+      spelled = units_push options.order 0 so_far.units (buffer.offset, flaw.unit) so_far.front buffer.bytes so_far.spelled
+          (omega (arith, at, so_far.place)) here;
       split = whole ∙ sym (append_assoc so_far.front buffer.bytes rest);
       sound = so_far.draft_is.sound;
       flaw = flaw.flaw;
     }
 
 -- no unit begins what stands after the sound ones
-malformed : (text general : List ℕ) (options : Options) (old now : Option (List ℕ)) (bytes rest : List ℕ) (offset : ℕ) (draft : Draft) (fault : Fault)
-    → (so_far : JudgedSoFar text general options old now offset draft) → bytes ≡ so_far.front ++ rest → 0 < length rest → BrokenUnit options.order fault offset rest
+malformed : (text general : List ℕ) (options : Options) (old now : Option (List ℕ)) (bytes rest : List ℕ) (offset : ℕ) (draft : Draft)
+    (fault : Fault)
+    → (so_far : JudgedSoFar text general options old now offset draft) → bytes ≡ so_far.front ++ rest → 0 < length rest
+    → BrokenUnit options.order fault offset rest
     → IsMalformed text general options bytes fault
 malformed text general options old now bytes rest offset draft fault so_far whole some b =
     let t : IsTrueFault options.order fault bytes = record {
@@ -101,22 +116,29 @@ malformed text general options old now bytes rest offset draft fault so_far whol
     } in
     record { broken = record { none = no_section options.order fault bytes t; true_fault = t }; sound = so_far.draft_is.sound }
 
-malformed_in : (text general : List ℕ) (options : Options) (old now : Option (List ℕ)) (bytes rest : List ℕ) (offset : ℕ) (draft : Draft) (buffer : UnitBytes) (fault : Fault)
-    → (so_far : JudgedSoFar text general options old now offset draft) → IsWholeUnit buffer → buffer.offset ≡ offset → buffer.order ≡ options.order → bytes ≡ so_far.front ++ (buffer.bytes ++ rest)
+malformed_in : (text general : List ℕ) (options : Options) (old now : Option (List ℕ)) (bytes rest : List ℕ) (offset : ℕ) (draft : Draft)
+    (buffer : UnitBytes) (fault : Fault)
+    → (so_far : JudgedSoFar text general options old now offset draft) → IsWholeUnit buffer → buffer.offset ≡ offset
+    → buffer.order ≡ options.order → bytes ≡ so_far.front ++ (buffer.bytes ++ rest)
     → BrokenUnit buffer.order fault buffer.offset buffer.bytes → IsMalformed text general options bytes fault
 malformed_in text general options old now bytes rest offset draft buffer fault so_far is at same whole b =
-    let more : BrokenUnit buffer.order fault buffer.offset (buffer.bytes ++ rest) = broken_more buffer.order fault buffer.offset (is.format, is.body) buffer.bytes rest is.spelled b in
+    let more : BrokenUnit buffer.order fault buffer.offset (buffer.bytes ++ rest) =
+    broken_more buffer.order fault buffer.offset (is.format, is.body) buffer.bytes rest is.spelled b in
     let here : BrokenUnit options.order fault offset (buffer.bytes ++ rest) =
-    subst (λ (n : ℕ). BrokenUnit options.order fault n (buffer.bytes ++ rest)) at (subst (λ (o : Order). BrokenUnit o fault buffer.offset (buffer.bytes ++ rest)) same more) in
+    subst (λ (n : ℕ). BrokenUnit options.order fault n (buffer.bytes ++ rest)) at
+    (subst (λ (o : Order). BrokenUnit o fault buffer.offset (buffer.bytes ++ rest)) same more) in
     malformed text general options old now bytes (buffer.bytes ++ rest) offset draft fault so_far whole
     (omega (arith, length-append buffer.bytes rest, frame_is_some buffer.order (is.format, is.body) buffer.bytes is.spelled)) here
 
-refused : (text general : List ℕ) (options : Options) (old now : Option (List ℕ)) (bytes rest : List ℕ) (offset : ℕ) (draft : Draft) (buffer : UnitBytes) (reason : No)
-    → (so_far : JudgedSoFar text general options old now offset draft) → IsWholeUnit buffer → buffer.offset ≡ offset → buffer.order ≡ options.order → bytes ≡ so_far.front ++ (buffer.bytes ++ rest)
+refused : (text general : List ℕ) (options : Options) (old now : Option (List ℕ)) (bytes rest : List ℕ) (offset : ℕ) (draft : Draft)
+    (buffer : UnitBytes) (reason : No)
+    → (so_far : JudgedSoFar text general options old now offset draft) → IsWholeUnit buffer → buffer.offset ≡ offset
+    → buffer.order ≡ options.order → bytes ≡ so_far.front ++ (buffer.bytes ++ rest)
     → IsUnitNo text general options.dead buffer reason → IsTrueNo text general options bytes reason
 refused text general options old now bytes rest offset draft buffer (bad.Malformed fault) so_far is at same whole b =
     malformed_in text general options old now bytes rest offset draft buffer fault so_far is at same whole b
-refused text general options old now bytes rest offset draft buffer (bad.Overlap first second position) so_far is at same whole h = absurd h.flaw
+refused text general options old now bytes rest offset draft buffer (bad.Overlap first second position) so_far is at same whole h =
+    absurd h.flaw
 refused text general options old now bytes rest offset draft buffer (bad.Run unit fault) so_far is at same whole h =
     first_flaw text general options old now bytes rest offset draft buffer (bad.Run unit fault) so_far at same whole h
 refused text general options old now bytes rest offset draft buffer (bad.EntryFormat unit which) so_far is at same whole h =
@@ -130,43 +152,53 @@ refused text general options old now bytes rest offset draft buffer (bad.FileNum
 refused text general options old now bytes rest offset draft buffer (bad.Falls unit row) so_far is at same whole h =
     first_flaw text general options old now bytes rest offset draft buffer (bad.Falls unit row) so_far at same whole h
 
-pub unit_refused : (text general : List ℕ) (options : Options) (old now now' : Option (List ℕ)) (order : Order) (offset : ℕ) (buffer : UnitBytes) (draft : Draft) (told : Refusal)
-    → JudgedSoFar text general options old now offset draft → order ≡ options.order → IsNextUnit offset order now now' buffer → IsUnitRefusal text general options.dead buffer told
+pub unit_refused : (text general : List ℕ) (options : Options) (old now now' : Option (List ℕ)) (order : Order) (offset : ℕ)
+    (buffer : UnitBytes) (draft : Draft) (told : Refusal)
+    → JudgedSoFar text general options old now offset draft → order ≡ options.order → IsNextUnit offset order now now' buffer
+    → IsUnitRefusal text general options.dead buffer told
     → IfSome old (λ bytes. IsRefusal text general options bytes told)
 unit_refused text general options None now now' order offset buffer draft told so_far same next r = tt
 unit_refused text general options (Some bytes) now now' order offset buffer draft (refusal.Stop stop) so_far same next r = tt
 unit_refused text general options (Some bytes) now now' order offset buffer draft (refusal.No reason) so_far same next r =
     by_left now now' so_far.pulls next.pulls
   where
-    by_left : (a b : Option (List ℕ)) → Pulls (Some bytes) a so_far.front → Pulls a b buffer.bytes → IsTrueNo text general options bytes reason
+    by_left : (a b : Option (List ℕ)) → Pulls (Some bytes) a so_far.front → Pulls a b buffer.bytes
+        → IsTrueNo text general options bytes reason
     by_left None b p q = absurd p
     by_left (Some x) None p q = absurd q
     by_left (Some x) (Some y) p q =
-        refused text general options (Some bytes) now bytes y offset draft buffer reason so_far next.whole next.offset_is (next.order_is ∙ same)
+        refused text general options (Some bytes) now bytes y offset draft buffer reason so_far next.whole next.offset_is
+        (next.order_is ∙ same)
         (p ∙ ap (λ (z : List ℕ). so_far.front ++ z) q) r
 
 -- ---- no unit comes
 
-fault_refused : (text general : List ℕ) (options : Options) (old now : Option (List ℕ)) (order : Order) (offset : ℕ) (draft : Draft) (fault : Fault)
+fault_refused : (text general : List ℕ) (options : Options) (old now : Option (List ℕ)) (order : Order) (offset : ℕ) (draft : Draft)
+    (fault : Fault)
     → JudgedSoFar text general options old now offset draft → order ≡ options.order → SectionEndsBy offset order now (Some fault)
     → IfSome old (λ bytes. IsMalformed text general options bytes fault)
 fault_refused text general options None now order offset draft fault so_far same ends = tt
 fault_refused text general options (Some bytes) now order offset draft fault so_far same ends = by_left now so_far.pulls ends
   where
-    by_left : (a : Option (List ℕ)) → Pulls (Some bytes) a so_far.front → SectionEndsBy offset order a (Some fault) → IsMalformed text general options bytes fault
+    by_left : (a : Option (List ℕ)) → Pulls (Some bytes) a so_far.front → SectionEndsBy offset order a (Some fault)
+        → IsMalformed text general options bytes fault
     by_left None p e = absurd p
     by_left (Some x) p e =
         malformed text general options (Some bytes) now bytes x offset draft fault so_far p e.0
-        (subst (λ (o : Order). BrokenUnit o fault offset x) same (frame_broken order (record { place = offset; rest = x; order = order }) fault e.1))
+        (subst (λ (o : Order). BrokenUnit o fault offset x) same
+        (frame_broken order (record { place = offset; rest = x; order = order }) fault e.1))
 
 nothing_said : (old : Option (List ℕ)) → IfSome old (λ bytes. Unit {0})
 nothing_said None = tt
 nothing_said (Some bytes) = tt
 
-pub stop_refused : (text general : List ℕ) (options : Options) (old now : Option (List ℕ)) (order : Order) (offset : ℕ) (draft : Draft) (stop : SectionStop)
-    → JudgedSoFar text general options old now offset draft → order ≡ options.order → IfFault stop (λ fault. SectionEndsBy offset order now (Some fault))
+pub stop_refused : (text general : List ℕ) (options : Options) (old now : Option (List ℕ)) (order : Order) (offset : ℕ) (draft : Draft)
+    (stop : SectionStop)
+    → JudgedSoFar text general options old now offset draft → order ≡ options.order
+    → IfFault stop (λ fault. SectionEndsBy offset order now (Some fault))
     → IfSome old (λ bytes. IsRefusal text general options bytes (stop_refusal stop))
-stop_refused text general options old now order offset draft (section.Fault fault) so_far same ends = fault_refused text general options old now order offset draft fault so_far same ends
+stop_refused text general options old now order offset draft (section.Fault fault) so_far same ends =
+    fault_refused text general options old now order offset draft fault so_far same ends
 stop_refused text general options old now order offset draft section.Memory so_far same ends = nothing_said old
 stop_refused text general options old now order offset draft section.Read so_far same ends = nothing_said old
 stop_refused text general options old now order offset draft section.TooLong so_far same ends = nothing_said old
@@ -179,7 +211,8 @@ weaker None P Q f p = tt
 weaker (Some bytes) P Q f p = f bytes p
 
 -- what the end of the draft needs
-pub whole_draft : (text general : List ℕ) (options : Options) (section : Option (List ℕ)) (draft : Draft) → IsDraftOfSection text general options section draft → IsWholeDraft text general draft
+pub whole_draft : (text general : List ℕ) (options : Options) (section : Option (List ℕ)) (draft : Draft)
+    → IsDraftOfSection text general options section draft → IsWholeDraft text general draft
 whole_draft text general options section draft all = record {
   dead = options.dead;
   units = all.units;
@@ -188,15 +221,21 @@ whole_draft text general options section draft all = record {
   rising = subst AreRising (sym all.draft_is.offsets) (rising_from options.order 0 all.units all.bytes all.spelled);
 }
 
-pub indexed : (text general : List ℕ) (options : Options) (section : Option (List ℕ)) (draft : Draft) (index : Indexed) → IsDraftOfSection text general options section draft
+pub indexed : (text general : List ℕ) (options : Options) (section : Option (List ℕ)) (draft : Draft) (index : Indexed)
+    → IsDraftOfSection text general options section draft
     → ((sequences : List Placed) → Collects draft.collected sequences → AreApart (kept_of options.skip_copies sequences))
-    → ((dead : Option ℕ) (units : List (ℕ × Parts)) → IsDraftOf text general dead units draft → IsIndexOf dead options.skip_copies units index) → index.line ≡ text → index.general ≡ general
+    → ((dead : Option ℕ) (units : List (ℕ × Parts)) → IsDraftOf text general dead units draft
+    → IsIndexOf dead options.skip_copies units index) → index.line ≡ text → index.general ≡ general
     → IfSome section (λ bytes. IsIndexOfSection text general options bytes index)
 indexed text general options section draft index all apart is line_is general_is =
     weaker section (λ bytes. all.bytes ≡ bytes) (λ bytes. IsIndexOfSection text general options bytes index)
     (λ bytes whole. record {
       units = all.units;
-      good = record { spelled = subst (SectionBytes options.order all.units) whole all.spelled; sound = all.draft_is.sound; apart = apart (live_sequences options.dead all.units) all.draft_is.collects };
+      good = record {
+        spelled = subst (SectionBytes options.order all.units) whole all.spelled;
+        sound = all.draft_is.sound;
+        apart = apart (live_sequences options.dead all.units) all.draft_is.collects;
+      };
       index_is = is options.dead all.units all.draft_is;
       line_is = line_is;
       general_is = general_is;

@@ -57,7 +57,8 @@ all_are_whole : (spans : List Span) (answers : Position → Option Answer) → A
 all_are_whole [] answers o h same = tt
 all_are_whole (span ∷ spans) answers o h same = each_is_whole span spans answers o h (λ p k. same p)
 
-pub whole_spans : (dead : Option ℕ) (skip : Bool) (units : List (ℕ × Parts)) (spans : List Span) → AreInOrder spans → ((p : Position) → span_answer spans p ≡ line_answer dead skip units p) → AreWhole spans
+pub whole_spans : (dead : Option ℕ) (skip : Bool) (units : List (ℕ × Parts)) (spans : List Span) → AreInOrder spans
+    → ((p : Position) → span_answer spans p ≡ line_answer dead skip units p) → AreWhole spans
 whole_spans dead skip units spans o answers =
     all_are_whole spans (line_answer dead skip units) o
     (λ p. found_is_whole p (find (λ (placed : Placed). holds p placed.rows) (kept_sequences dead skip units))) answers

@@ -29,7 +29,8 @@ pub record Cursor : Type 0 where
 -- The spans of the sequences that weren't begun are these.
 pub record ComeLater (spans : List Span) (cursor : Cursor) : Type 0 where
   pub sequences : List Placed
-  pub each : AllZip (λ entry placed. (placed.id ≡ entry.id) × IsSequenceIn cursor.units cursor.programs entry.id placed.rows) cursor.entries sequences
+  pub each : AllZip (λ entry placed. (placed.id ≡ entry.id) × IsSequenceIn cursor.units cursor.programs entry.id placed.rows) cursor.entries
+      sequences
   pub spans_are : spans ≡ spans_of sequences
 
 -- Those of the sequence at hand that are still to come are these.

@@ -50,7 +50,8 @@ pub record IsDraftOfSection (line general : List ℕ) (options : Options) (secti
 pub record HasAdded (line general : List ℕ) (dead : Option ℕ) (buffer : UnitBytes) (old new : Draft) : Type 0 where
   pub unit : Parts
   pub spelled : UnitBytesIn buffer.order unit buffer.bytes
-  pub drafts : (units : List (ℕ × Parts)) → IsDraftOf line general dead units old → IsDraftOf line general dead (units ++ (buffer.offset, unit) ∷ []) new
+  pub drafts : (units : List (ℕ × Parts)) → IsDraftOf line general dead units old
+      → IsDraftOf line general dead (units ++ (buffer.offset, unit) ∷ []) new
 
 -- The section is good, and these are its lines.
 pub record AreLinesOf (line general : List ℕ) (options : Options) (section : List ℕ) (lines : Contents) : Type 0 where

@@ -51,7 +51,8 @@ pub record IsIndex (index : Indexed) : Type 0 where
 
 -- the header of the unit at an offset, if one stands there
 abbrev pub header_in : Indexed → ℕ → Option HeaderParts
-header_in index unit = option_map (λ kept. kept.header) (option_and_then (slice_get index.programs) (position (λ offset. offset == unit) index.units))
+header_in index unit =
+    option_map (λ kept. kept.header) (option_and_then (slice_get index.programs) (position (λ offset. offset == unit) index.units))
 
 -- how many files it has; 0 where no unit stands there
 abbrev pub file_count_in : Indexed → ℕ → ℕ

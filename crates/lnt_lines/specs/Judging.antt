@@ -45,7 +45,8 @@ IsUnitRefusal line general dead buffer (refusal.Stop _) = ⊥
 -- else why they aren't.
 pub data IsTold (view : View) (unit : ℕ) (fault : RunFault) (told : Refusal) : Type 0 where
   of_unit : (count : ℕ) → HasCount view count → told ≡ refusal.No (no.Run unit fault) → IsTold view unit fault told
-  broken : (first : Fault) → BrokenUnit view.unit.order first view.unit.offset view.unit.bytes → told ≡ refusal.No (no.Malformed first) → IsTold view unit fault told
+  broken : (first : Fault) → BrokenUnit view.unit.order first view.unit.offset view.unit.bytes → told ≡ refusal.No (no.Malformed first)
+      → IsTold view unit fault told
 
 -- The program of the unit ran to its end, all of its rows were seen, and these are the places of its sequences.
 pub record HasRun (dead : Option ℕ) (view : View) (places : List ℕ) (old new : Collected) (watch : Watch) : Type 0 where
@@ -67,12 +68,14 @@ pub record IsJudgedSound (line general : List ℕ) (dead : Option ℕ) (buffer :
   pub spelled : UnitBytesIn buffer.order unit buffer.bytes
   pub sound : IsSound line general dead (buffer.offset, unit)
   pub keeps : Keeps kept unit
-  pub collects : (units : List (ℕ × Parts)) → Collects old (live_sequences dead units) → Collects new (live_sequences dead (units ++ (buffer.offset, unit) ∷ []))
+  pub collects : (units : List (ℕ × Parts)) → Collects old (live_sequences dead units)
+      → Collects new (live_sequences dead (units ++ (buffer.offset, unit) ∷ []))
 
 -- A unit whose program ran to its end, and whose rows the watch has seen, has this flaw; or it is sound.
 abbrev pub IsFlawedRun : List ℕ → List ℕ → View → Watch → No → Type 0
 IsFlawedRun line general view watch reason =
-    (dead : Option ℕ) (places : List ℕ) (old new : Collected) → HasRun dead view places old new watch → IsUnitNo line general dead view.unit reason
+    (dead : Option ℕ) (places : List ℕ) (old new : Collected) → HasRun dead view places old new watch
+    → IsUnitNo line general dead view.unit reason
 
 abbrev pub IsSoundRun : List ℕ → List ℕ → View → Watch → Type 0
 IsSoundRun line general view watch =

@@ -31,28 +31,36 @@ pub record ListsFilesOf (line general : List ℕ) (unit : ℕ × Parts) (content
 
 -- So it is of each unit of the section, and no files are held where no unit stands.
 pub record FilesOfUnits : Type 0 where
-  pub listed : (line general : List ℕ) (dead : Option ℕ) (skip : Bool) (order : Order) (section : List ℕ) (units : List (ℕ × Parts)) (contents : Contents) (unit : ℕ × Parts)
-      → SectionBytes order units section → TellsOf line general dead skip units contents → Contains units unit → ListsFilesOf line general unit contents
+  pub listed : (line general : List ℕ) (dead : Option ℕ) (skip : Bool) (order : Order) (section : List ℕ) (units : List (ℕ × Parts))
+      (contents : Contents) (unit : ℕ × Parts)
+      → SectionBytes order units section → TellsOf line general dead skip units contents → Contains units unit
+      → ListsFilesOf line general unit contents
   pub none : (line general : List ℕ) (dead : Option ℕ) (skip : Bool) (units : List (ℕ × Parts)) (contents : Contents) (offset : ℕ)
       → TellsOf line general dead skip units contents → All (λ unit. unit.0 ≢ offset) units → files_of contents offset ≡ None
 
 -- The header that an index finds at the offset of a unit is that of the unit, and it finds none where no unit stands.
 pub record HeadersOfUnits : Type 0 where
-  pub found : (dead : Option ℕ) (skip : Bool) (units : List (ℕ × Parts)) (index : Indexed) (unit : ℕ × Parts) → IsIndexOf dead skip units index → Contains units unit → header_in index unit.0 ≡ Some unit.1.header
-  pub none : (dead : Option ℕ) (skip : Bool) (units : List (ℕ × Parts)) (index : Indexed) (offset : ℕ) → IsIndexOf dead skip units index → All (λ unit. unit.0 ≢ offset) units → header_in index offset ≡ None
+  pub found : (dead : Option ℕ) (skip : Bool) (units : List (ℕ × Parts)) (index : Indexed) (unit : ℕ × Parts)
+      → IsIndexOf dead skip units index → Contains units unit → header_in index unit.0 ≡ Some unit.1.header
+  pub none : (dead : Option ℕ) (skip : Bool) (units : List (ℕ × Parts)) (index : Indexed) (offset : ℕ) → IsIndexOf dead skip units index
+      → All (λ unit. unit.0 ≢ offset) units → header_in index offset ≡ None
 
 -- Of the kept sequences of a good section at most one holds p, and the section answers at p what its last row at or before p says.
 -- Where none holds p, it answers nothing.
 pub record AnswersAsHolder : Type 0 where
-  pub one_alone : (line general : List ℕ) (options : Options) (section : List ℕ) (units : List (ℕ × Parts)) (one other : Placed) (p : Position) → IsGood line general options section units
-      → Contains (kept_sequences options.dead options.skip_copies units) one → Contains (kept_sequences options.dead options.skip_copies units) other → Holds one.rows p
+  pub one_alone : (line general : List ℕ) (options : Options) (section : List ℕ) (units : List (ℕ × Parts)) (one other : Placed)
+      (p : Position) → IsGood line general options section units
+      → Contains (kept_sequences options.dead options.skip_copies units) one
+      → Contains (kept_sequences options.dead options.skip_copies units) other → Holds one.rows p
       → Holds other.rows p → one ≡ other
   pub held : (line general : List ℕ) (options : Options) (section : List ℕ) (units : List (ℕ × Parts)) (placed : Placed) (p : Position)
       → IsGood line general options section units
       → Contains (kept_sequences options.dead options.skip_copies units) placed → Holds placed.rows p
-      → (row : Row) × IsLastAt p placed.rows row × (line_answer options.dead options.skip_copies units p ≡ Some (answer_of placed.id.unit row))
+      → (row : Row) × IsLastAt p placed.rows row
+      × (line_answer options.dead options.skip_copies units p ≡ Some (answer_of placed.id.unit row))
   pub none : (dead : Option ℕ) (skip : Bool) (units : List (ℕ × Parts)) (p : Position)
-      → ((placed : Placed) → Contains (kept_sequences dead skip units) placed → Holds placed.rows p → ⊥) → line_answer dead skip units p ≡ None
+      → ((placed : Placed) → Contains (kept_sequences dead skip units) placed → Holds placed.rows p → ⊥)
+      → line_answer dead skip units p ≡ None
 
 -- Of one section, under one choice of options, at most one reason is true. Where the bytes are malformed, that is one fault, at one
 -- place.

@@ -32,9 +32,11 @@ IsFlaw line general dead unit (no.StringOutside offset which entry) =
 IsFlaw line general dead unit (no.DirectoryNumber offset file) =
     (offset ≡ unit.0) × Runs unit.1 × IsTablesFault line general unit.1.header (table.DirectoryNumber file)
 IsFlaw line general dead unit (no.FileNumber offset row file) =
-    (offset ≡ unit.0) × IsWellFormed line general unit.1 × IsFirstMissingFile dead (length unit.1.header.files) (placed_in unit) (record { row = row; file = file })
+    (offset ≡ unit.0) × IsWellFormed line general unit.1
+    × IsFirstMissingFile dead (length unit.1.header.files) (placed_in unit) (record { row = row; file = file })
 IsFlaw line general dead unit (no.Falls offset row) =
-    (offset ≡ unit.0) × IsWellFormed line general unit.1 × HaveFiles (length unit.1.header.files) (live_in dead unit) × IsFirstFall dead (placed_in unit) row
+    (offset ≡ unit.0) × IsWellFormed line general unit.1 × HaveFiles (length unit.1.header.files) (live_in dead unit)
+    × IsFirstFall dead (placed_in unit) row
 IsFlaw line general dead unit _ = ⊥
 
 -- A front of the section is the bytes of sound units, and of one after them that has the flaw.

@@ -31,7 +31,8 @@ are_some (row ∷ rows) = true
 
 -- What was run so far: the operations that the walk has given, whose rows the watch has seen. Those of sequences that have
 -- ended stand in sequences, of which the places are known. It is run by a header that needn't have its files: so many there are.
-pub record RanSoFar (dead : Option ℕ) (view : View) (files : ℕ) (old now : Collected) (walk : Walk) (machine : State) (watch : Watch) (is_open : Bool)
+pub record RanSoFar (dead : Option ℕ) (view : View) (files : ℕ) (old now : Collected) (walk : Walk) (machine : State) (watch : Watch)
+    (is_open : Bool)
     (places : List ℕ) (place : ℕ) : Type 0 where
   pub ops : List Op
   pub given : HasGiven view ops walk
@@ -41,7 +42,8 @@ pub record RanSoFar (dead : Option ℕ) (view : View) (files : ℕ) (old now : C
   pub count : machine.count ≡ length ops
   pub lines : LinesFit (with_ops view ops) (length ops)
   pub seen : HasSeen dead view.unit.offset files watch (rows (with_ops view ops))
-  pub collects : (sequences : List Placed) → Collects old sequences → CollectsRows dead view.unit.offset now sequences (rows (with_ops view ops))
+  pub collects : (sequences : List Placed) → Collects old sequences
+      → CollectsRows dead view.unit.offset now sequences (rows (with_ops view ops))
   pub ended : List Sequence
   pub left : List Row
   pub cut : IsCut (rows (with_ops view ops)) ended left
@@ -92,12 +94,14 @@ pub record IsOut (dead : Option ℕ) (view : View) (files : ℕ) (old : Collecte
 -- of memory.
 abbrev pub StopsAt : OpView → Run → Collected → List ℕ → RunFault → Type 0
 StopsAt item run now places fault =
-    fault ≢ Memory → (dead : Option ℕ) (view : View) (files : ℕ) (old : Collected) (walk walk' : Walk) → RunsSoFar dead view files run old now walk places
+    fault ≢ Memory → (dead : Option ℕ) (view : View) (files : ℕ) (old : Collected) (walk walk' : Walk)
+    → RunsSoFar dead view files run old now walk places
     → walks.Steps item walk walk' → IsOut dead view files old fault
 
 abbrev pub StopsAfter : Walk → Run → Collected → List ℕ → RunFault → Type 0
 StopsAfter walk run now places fault =
-    fault ≢ Memory → (dead : Option ℕ) (view : View) (files : ℕ) (old : Collected) → RunsSoFar dead view files run old now walk places → HasRoom view run
+    fault ≢ Memory → (dead : Option ℕ) (view : View) (files : ℕ) (old : Collected) → RunsSoFar dead view files run old now walk places
+    → HasRoom view run
     → IsOut dead view files old fault
 
 -- What is told for the fault of a program.

@@ -71,18 +71,22 @@ impl Draft {
         Ok(taken.room)
     }
 
-    /// The index, after the last unit, or the first overlap, of the live sequences or of all of them but copies. The strings are those that the units were judged by.
+    /// The index, after the last unit, or the first overlap, of the live sequences or of all of them but copies. The strings
+    /// are those that the units were judged by.
     pub(crate) fn index<'a>(
         self,
         strings: &Strings<'a>,
         skip_copies: bool,
     ) -> Result<Index<'a>, Overlap>
         requires { IsWholeDraft strings.now.line.now strings.now.general.now self }
-        ensures index { IfOk result (λ index. (dead : Option ℕ) (units : List (ℕ × Parts)) → IsDraftOf strings.now.line.now strings.now.general.now dead units self → IsIndexOf dead skip_copies units index) }
+        ensures index { IfOk result (λ index. (dead : Option ℕ) (units : List (ℕ × Parts))
+            → IsDraftOf strings.now.line.now strings.now.general.now dead units self → IsIndexOf dead skip_copies units index) }
         ensures line { IfOk result (λ index. index.line ≡ strings.now.line.now) }
         ensures general { IfOk result (λ index. index.general ≡ strings.now.general.now) }
-        ensures apart { OnOk result ((sequences : List Placed) → Collects self.collected sequences → AreApart (kept_of skip_copies sequences)) }
-        ensures overlap { IfErr result (λ overlap. (sequences : List Placed) → Collects self.collected sequences → IsFirstOverlap (kept_of skip_copies sequences) overlap) }
+        ensures apart { OnOk result ((sequences : List Placed) → Collects self.collected sequences
+            → AreApart (kept_of skip_copies sequences)) }
+        ensures overlap { IfErr result (λ overlap. (sequences : List Placed) → Collects self.collected sequences
+            → IsFirstOverlap (kept_of skip_copies sequences) overlap) }
     {
         let Draft {
             collected,

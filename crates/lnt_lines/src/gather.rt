@@ -13,7 +13,8 @@ use std::alloc::Global;
 
 // The lines of the units that the index is of. It refuses only where memory runs out.
 pub(crate) fn lines_of(alloc: Global, index: &Index<'_>) -> Result<Lines, Stop>
-    ensures lines { IfOk result (λ lines. (dead : Option ℕ) (skip : Bool) (units : List (ℕ × Parts)) → IsIndexOf dead skip units index.now → TellsOf index.now.line index.now.general dead skip units lines) }
+    ensures lines { IfOk result (λ lines. (dead : Option ℕ) (skip : Bool) (units : List (ℕ × Parts)) → IsIndexOf dead skip units index.now
+        → TellsOf index.now.line index.now.general dead skip units lines) }
     ensures err { IfErr result (λ stop. stop ≡ Memory) }
 {
     let Ok(spans) = collect(alloc, index.spans()) else {

@@ -51,9 +51,21 @@ impl<'a> Model for Index<'a> {
 
     ghost Value = { Indexed };
 
-    ghost view = { λ i. record { line = i.strings.line.now; general = i.strings.general.now; entries = i.entries.items; units = i.units.items; programs = i.programs.items } };
+    ghost view = { λ i. record {
+      line = i.strings.line.now;
+      general = i.strings.general.now;
+      entries = i.entries.items;
+      units = i.units.items;
+      programs = i.programs.items;
+    } };
 
-    ghost invariant = { λ i. IsIndex (record { line = i.strings.line.now; general = i.strings.general.now; entries = i.entries.items; units = i.units.items; programs = i.programs.items }) };
+    ghost invariant = { λ i. IsIndex (record {
+      line = i.strings.line.now;
+      general = i.strings.general.now;
+      entries = i.entries.items;
+      units = i.units.items;
+      programs = i.programs.items;
+    }) };
 }
 
 impl<'a> Index<'a> {
@@ -64,8 +76,20 @@ impl<'a> Index<'a> {
         units: Vec<u64>,
         programs: Vec<Program>,
     ) -> Index<'a>
-        requires { IsIndex (record { line = strings.now.line.now; general = strings.now.general.now; entries = entries.items; units = units.items; programs = programs.items }) }
-        ensures { result ≡ record { line = strings.now.line.now; general = strings.now.general.now; entries = entries.items; units = units.items; programs = programs.items } }
+        requires { IsIndex (record {
+          line = strings.now.line.now;
+          general = strings.now.general.now;
+          entries = entries.items;
+          units = units.items;
+          programs = programs.items;
+        }) }
+        ensures { result ≡ record {
+          line = strings.now.line.now;
+          general = strings.now.general.now;
+          entries = entries.items;
+          units = units.items;
+          programs = programs.items;
+        } }
     {
         Index {
             strings: *strings,
@@ -82,7 +106,8 @@ impl<'a> Index<'a> {
     /// digits: `probes` rises by the comparisons. The caller sees to it that `probes` stands at 2^63 or below.
     pub fn lookup(&self, position: Position, probes: &mut Probes) -> Option<Answer>
         requires { probes.old ≤ 2 ^ 63 }
-        ensures answer { (dead : Option ℕ) (skip : Bool) (units : List (ℕ × Parts)) → IsIndexOf dead skip units self.now → result ≡ line_answer dead skip units position }
+        ensures answer { (dead : Option ℕ) (skip : Bool) (units : List (ℕ × Parts)) → IsIndexOf dead skip units self.now
+            → result ≡ line_answer dead skip units position }
         ensures rises { probes.old ≤ probes.new }
         ensures counted { (digits : ℕ) → length self.now.entries < 2 ^ digits → probes.new ≤ probes.old + digits }
     {
@@ -102,7 +127,8 @@ impl<'a> Index<'a> {
     /// takes no memory.
     pub fn spans(&self) -> Spans<'_>
         ensures is_index { IsIndex self.now }
-        ensures gives { (dead : Option ℕ) (skip : Bool) (units : List (ℕ × Parts)) → IsIndexOf dead skip units self.now → GivesAllOf dead skip units (length self.now.entries) result }
+        ensures gives { (dead : Option ℕ) (skip : Bool) (units : List (ℕ × Parts)) → IsIndexOf dead skip units self.now
+            → GivesAllOf dead skip units (length self.now.entries) result }
     {
         lnt_sequences::laws::entries_in_turn();
         Spans::of(&self.units, &self.programs, &self.entries)
@@ -184,7 +210,8 @@ impl<'a> Index<'a> {
 
     // The files of each unit, with their whole paths.
     pub(crate) fn files(&self, alloc: Global) -> Result<Vec<Files>, AllocError>
-        ensures { IfOk result (λ all. AllZip (λ kept files. AreFilesOf self.now.line self.now.general kept.header files) self.now.programs all.items) }
+        ensures { IfOk result (λ all. AllZip (λ kept files. AreFilesOf self.now.line self.now.general kept.header files) self.now.programs
+            all.items) }
     {
         files_of(alloc, &self.programs, &self.strings)
     }
@@ -219,7 +246,8 @@ fn files_of(
     strings: &Strings<'_>,
 ) -> Result<Vec<Files>, AllocError>
     requires { All (λ kept. AreUsableTables strings.now.line.now strings.now.general.now kept.header) programs.now }
-    ensures { IfOk result (λ all. AllZip (λ kept files. AreFilesOf strings.now.line.now strings.now.general.now kept.header files) programs.now all.items) }
+    ensures { IfOk result (λ all. AllZip (λ kept files. AreFilesOf strings.now.line.now strings.now.general.now kept.header files)
+        programs.now all.items) }
 {
     let mut all = Vec::new(alloc);
     for program in programs {

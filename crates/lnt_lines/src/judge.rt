@@ -38,7 +38,8 @@ pub(crate) fn judge_unit(
     collected: &mut Collected,
     other: Option<&KeptHeader>,
 ) -> Result<SoundUnit, Refusal>
-    ensures sound { IfOk result (λ unit. IsJudgedSound ends.now.line ends.now.general dead buffer.now collected.old collected.new (kept_of buffer.now unit)) }
+    ensures sound { IfOk result (λ unit. IsJudgedSound ends.now.line ends.now.general dead buffer.now collected.old collected.new
+        (kept_of buffer.now unit)) }
     ensures within { IfOk result (λ unit. unit.start ≤ length buffer.now.bytes) }
     ensures err { IfErr result (IsUnitRefusal ends.now.line ends.now.general dead buffer.now) }
 {
@@ -74,7 +75,8 @@ fn judge_run(
 // seen. None where it is sound.
 fn flaw_of(view: &UnitInPlace<'_>, unit: u64, watch: &Watch, ends: &StringEnds<'_>) -> Option<No>
     requires { unit ≡ view.now.unit.offset }
-    ensures { MatchOption result (IsSoundRun ends.now.line ends.now.general view.now watch.now) (IsFlawedRun ends.now.line ends.now.general view.now watch.now) }
+    ensures { MatchOption result (IsSoundRun ends.now.line ends.now.general view.now watch.now)
+        (IsFlawedRun ends.now.line ends.now.general view.now watch.now) }
 {
     if let Some(fault) = tables_fault(&view.header(), ends) {
         return Some(table_no(unit, fault));
@@ -99,7 +101,8 @@ fn sound_unit(
     mut places: Vec<usize>,
     other: Option<&KeptHeader>,
 ) -> Result<SoundUnit, AllocError>
-    ensures kept { IfOk result (λ unit. kept_of view.entry.unit unit ≡ record { header = view.entry.header; program = view.entry.program; places = places.items }) }
+    ensures kept { IfOk result (λ unit. kept_of view.entry.unit unit
+        ≡ record { header = view.entry.header; program = view.entry.program; places = places.items }) }
     ensures within { IfOk result (λ unit. unit.start ≤ length view.entry.unit.bytes) }
 {
     let (header, start) = view.into_parts();

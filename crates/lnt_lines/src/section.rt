@@ -122,13 +122,15 @@ fn judge_units<R: Source>(
     requires reading { reader.old.progress ≡ Reading }
     requires offset { reader.old.offset ≡ 0 }
     requires order { reader.old.order ≡ options.now.order }
-    ensures draft { IfOk result (IsDraftOfSection strings.now.line.now strings.now.general.now options.now (R.remaining reader.old.source.now)) }
+    ensures draft { IfOk result (IsDraftOfSection strings.now.line.now strings.now.general.now options.now
+        (R.remaining reader.old.source.now)) }
     ensures bad { IfErr result (λ refusal. IfSome (R.remaining reader.old.source.now) (λ bytes.
         IsRefusal strings.now.line.now strings.now.general.now options.now bytes refusal)) }
     ensures read { IsErrOf result (Refusal.Stop Stop.Read) → R.failures reader.new.source.now ≡ R.failures reader.old.source.now + 1 }
     ensures no_failure { result ≢ Err (Refusal.Stop Stop.Read) → R.failures reader.new.source.now ≡ R.failures reader.old.source.now }
     ensures too_long { IsErrOf result (Refusal.Stop Stop.TooLong) → IsTrue (R.too_long reader.new.source.now) }
-    ensures more { IsErrOf result (Refusal.Stop Stop.TooLong) → HasMoreThan (R.remaining reader.old.source.now) (R.left reader.old.source.now) }
+    ensures more { IsErrOf result (Refusal.Stop Stop.TooLong)
+        → HasMoreThan (R.remaining reader.old.source.now) (R.left reader.old.source.now) }
     ensures same_reference { reader.new.source.ghost_name ≡ reader.old.source.ghost_name }
 {
     let mut draft = Draft::new(alloc);

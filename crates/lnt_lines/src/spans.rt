@@ -33,7 +33,14 @@ impl<'a> Model for Spans<'a> {
 
     ghost Value = { Cursor };
 
-    ghost view = { λ s. record { units = s.units.now; programs = s.programs.now; entries = s.entries.now; unit = s.unit; rows = s.rows; last = s.last } };
+    ghost view = { λ s. record {
+      units = s.units.now;
+      programs = s.programs.now;
+      entries = s.entries.now;
+      unit = s.unit;
+      rows = s.rows;
+      last = s.last;
+    } };
 
     ghost invariant = { λ s. AreRising s.units.now };
 }
@@ -42,7 +49,14 @@ impl<'a> Spans<'a> {
     // The spans of the sequences that these entries are of, in this order.
     pub(crate) fn of(units: &'a [u64], programs: &'a [Program], entries: &'a [Extent]) -> Spans<'a>
         requires { AreRising units.now }
-        ensures { result ≡ record { units = units.entry.now; programs = programs.entry.now; entries = entries.entry.now; unit = 0; rows = None; last = None } }
+        ensures { result ≡ record {
+          units = units.entry.now;
+          programs = programs.entry.now;
+          entries = entries.entry.now;
+          unit = 0;
+          rows = None;
+          last = None;
+        } }
     {
         Spans {
             units,

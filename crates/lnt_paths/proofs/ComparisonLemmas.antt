@@ -31,7 +31,8 @@ use Rattle.lnt_paths.proofs.MergingLemmas.{low_high, merged_none}
 origin_first : (p : Position) → IsAtMost (whole 0) p
 origin_first p = record { address = omega arith; op = λ e. omega arith }
 
-order_push : (table : List PathSpan) (span : PathSpan) → StandInOrder table → IsAtMost (path_end table) span.low → IsBelow span.low span.high
+order_push : (table : List PathSpan) (span : PathSpan) → StandInOrder table → IsAtMost (path_end table) span.low
+    → IsBelow span.low span.high
     → StandInOrder (table ++ span ∷ [])
 order_push [] span o le lt = lt
 order_push (r ∷ []) span o le lt = (o, le, lt)
@@ -44,29 +45,40 @@ order_pushed (r ∷ []) span o = (o.1, o.2)
 order_pushed (r ∷ next ∷ table) span o = order_pushed (next ∷ table) span o.2
 
 holds_some : (low high : ℕ) → IsBelow (whole low) (whole high) → low < high
-holds_some low high b = ⊎_elim (λ (h : low < high). h) (λ (h : high ≤ low). absurd (let le = b.address in let z = b.op (omega (arith, h, le)) in omega (arith, z))) (cases_lt low high)
+holds_some low high b = ⊎_elim (λ (h : low < high). h) (λ (h : high ≤ low). absurd (let le = b.address in
+    let z = b.op (omega (arith, h, le)) in omega (arith, z))) (cases_lt low high)
 
 -- ---- one more record
 
-zip_push : {A B : Type 0} (R : A → B → Type 0) (xs : List A) (ys : List B) (x : A) (y : B) → AllZip R xs ys → R x y → AllZip R (xs ++ x ∷ []) (ys ++ y ∷ [])
+zip_push : {A B : Type 0} (R : A → B → Type 0) (xs : List A) (ys : List B) (x : A) (y : B) → AllZip R xs ys → R x y
+    → AllZip R (xs ++ x ∷ []) (ys ++ y ∷ [])
 zip_push R [] [] x y z h = (h, tt)
 zip_push R [] (b ∷ ys) x y z h = absurd z
 zip_push R (a ∷ xs) [] x y z h = absurd z
 zip_push R (a ∷ xs) (b ∷ ys) x y z h = (z.0, zip_push R xs ys x y z.1 h)
 
-table_push : (version : PathVersion) (records : List Fields) (table : List PathSpan) (fields : Fields) (span : PathSpan) → IsPathTable version records table
+table_push : (version : PathVersion) (records : List Fields) (table : List PathSpan) (fields : Fields) (span : PathSpan)
+    → IsPathTable version records table
     → IsPathRecord version fields span → IsAtMost (path_end table) span.low → IsBelow span.low span.high
     → IsPathTable version (records ++ fields ∷ []) (table ++ span ∷ [])
 table_push version [] table fields span t s le lt = absurd t
-table_push version (first ∷ records) table fields span t s le lt =
-    (t.0, record { each = zip_push (IsPathRecord version) records table fields span t.1.each s; in_order = order_push table span t.1.in_order le lt })
+table_push version (first ∷ records) table fields span t s le lt = (
+  t.0,
+  record {
+    each = zip_push (IsPathRecord version) records table fields span t.1.each s;
+    in_order = order_push table span t.1.in_order le lt;
+  },
+)
 
-says_span : (version : PathVersion) (fields : Fields) (said : PathRecord) → SaysPath IsAddress IsDecimal version fields said.low said.high (record_answer said)
+says_span : (version : PathVersion) (fields : Fields) (said : PathRecord)
+    → SaysPath IsAddress IsDecimal version fields said.low said.high (record_answer said)
     → IsPathRecord version fields (record_span said)
 says_span version fields said h = record { says = h; low_op = refl; high_op = refl }
 
-pub record_taken : {S : Type 0} (to_come : S → List Span → Type 0) (tell : Answer → PathAnswer) (version : PathVersion) (old new : PathComparison S)
-    (section : List Span) (records : List Fields) (fields : Fields) (said : PathRecord) → (j : JudgesByPath to_come tell version old section records)
+pub record_taken : {S : Type 0} (to_come : S → List Span → Type 0) (tell : Answer → PathAnswer) (version : PathVersion)
+    (old new : PathComparison S)
+    (section : List Span) (records : List Fields) (fields : Fields) (said : PathRecord)
+    → (j : JudgesByPath to_come tell version old section records)
     → SaysPath IsAddress IsDecimal version fields said.low said.high (record_answer said) → old.at ≤ said.low → said.low < said.high
     → new.count ≡ old.count + 1
     → ((list : List Span) (table : List PathSpan)
@@ -84,8 +96,10 @@ record_taken to_come tell version old new section records fields said j says le 
     }
 
 -- it begins too early, or holds nothing
-pub order_fault : {S : Type 0} (to_come : S → List Span → Type 0) (tell : Answer → PathAnswer) (version : PathVersion) (old : PathComparison S)
-    (section : List Span) (records : List Fields) (fields : Fields) (said : PathRecord) → (j : JudgesByPath to_come tell version old section records)
+pub order_fault : {S : Type 0} (to_come : S → List Span → Type 0) (tell : Answer → PathAnswer) (version : PathVersion)
+    (old : PathComparison S)
+    (section : List Span) (records : List Fields) (fields : Fields) (said : PathRecord)
+    → (j : JudgesByPath to_come tell version old section records)
     → SaysPath IsAddress IsDecimal version fields said.low said.high (record_answer said) → (old.at ≤ said.low → said.low < said.high → ⊥)
     → IsFaultyRecord version j.table (length records) fields (fault.Order old.count)
 order_fault to_come tell version old section records fields said j says not = (
@@ -94,14 +108,17 @@ order_fault to_come tell version old section records fields said j says not = (
   says_span version fields said says,
   λ o.
       let both = order_pushed j.table (record_span said) o in
-      let behind : IsAtMost (whole old.at) (whole said.low) = subst (λ (p : Position). IsAtMost p (whole said.low)) (sym j.merged.at_is) both.0 in
+      let behind : IsAtMost (whole old.at) (whole said.low) =
+      subst (λ (p : Position). IsAtMost p (whole said.low)) (sym j.merged.at_is) both.0 in
       not behind.address (holds_some said.low said.high both.1),
 )
 
 -- ---- what is told
 
-pub fault_told : (bytes : List ℕ) (version : PathVersion) (records : List Fields) (fields : Fields) (table : List PathSpan) (told : TableFault)
-    → BeginsWith bytes (records ++ fields ∷ []) → IsPathTable version records table → IsFaultyRecord version table (length records) fields told
+pub fault_told : (bytes : List ℕ) (version : PathVersion) (records : List Fields) (fields : Fields) (table : List PathSpan)
+    (told : TableFault)
+    → BeginsWith bytes (records ++ fields ∷ []) → IsPathTable version records table
+    → IsFaultyRecord version table (length records) fields told
     → IsPathFault bytes told
 fault_told bytes version records fields table fault.Header h t f = absurd f
 fault_told bytes version records fields table (fault.Fields k) h t f =
@@ -115,7 +132,8 @@ pub begins : (reader : BytesReader) (bytes : List ℕ) (records : List Fields) �
 begins reader bytes records h = (reader_state reader, h.rest, h.reached)
 
 -- the header alone
-pub judges_none : {S : Type 0} (to_come : S → List Span → Type 0) (tell : Answer → PathAnswer) (version : PathVersion) (comparison : PathComparison S)
+pub judges_none : {S : Type 0} (to_come : S → List Span → Type 0) (tell : Answer → PathAnswer) (version : PathVersion)
+    (comparison : PathComparison S)
     (list : List Span) → IsLeft to_come comparison.section.next comparison.section.spans list → AreInOrder list
     → (comparison.at ≡ 0) × (comparison.first ≡ None) × (comparison.count ≡ 1)
     → JudgesByPath to_come tell version comparison list (path_column_names version ∷ [])
@@ -126,15 +144,19 @@ judges_none to_come tell version comparison list left order e = record {
   merged = rw (e.0, e.1) (merged_none to_come tell list comparison.section.next comparison.section.spans left order);
 }
 
-pub same_told : {S : Type 0} (to_come : S → List Span → Type 0) (tell : PathVersion → Answer → PathAnswer) (version : PathVersion) (comparison : PathComparison S)
-    (bytes : List ℕ) (list : List Span) (records : List Fields) → (j : JudgesByPath to_come (tell version) version comparison list records) → RecordsOf bytes records
+pub same_told : {S : Type 0} (to_come : S → List Span → Type 0) (tell : PathVersion → Answer → PathAnswer) (version : PathVersion)
+    (comparison : PathComparison S)
+    (bytes : List ℕ) (list : List Span) (records : List Fields) → (j : JudgesByPath to_come (tell version) version comparison list records)
+    → RecordsOf bytes records
     → ((p : Position) → answer_told (tell version) list p ≡ path_span_answer j.table p)
     → AnswersByPath bytes (λ version. answer_told (tell version) list)
 same_told to_come tell version comparison bytes list records j all agree =
     record { version = version; table = j.table; is_table = (records, all, j.is_table); agree = agree }
 
-pub difference_told : {S : Type 0} (to_come : S → List Span → Type 0) (tell : PathVersion → Answer → PathAnswer) (version : PathVersion) (comparison : PathComparison S)
-    (bytes : List ℕ) (list : List Span) (records : List Fields) (difference : DifferenceByPath) → (j : JudgesByPath to_come (tell version) version comparison list records)
+pub difference_told : {S : Type 0} (to_come : S → List Span → Type 0) (tell : PathVersion → Answer → PathAnswer) (version : PathVersion)
+    (comparison : PathComparison S)
+    (bytes : List ℕ) (list : List Span) (records : List Fields) (difference : DifferenceByPath)
+    → (j : JudgesByPath to_come (tell version) version comparison list records)
     → RecordsOf bytes records → IsLeastPathDifference (answer_told (tell version) list) (path_span_answer j.table) difference
     → DiffersByPath bytes (λ version. answer_told (tell version) list) difference
 difference_told to_come tell version comparison bytes list records difference j all least =

@@ -1,5 +1,6 @@
 -- What joined spans are: in order, none of them goes on with the one before it, and told by path they answer as all do.
-use Rattle.std.proofs.Common.{◌≡◌, ◌∙◌, ◌⊎◌, ◌==◌, ℕ, Bool, true, false, cond, List, [], ◌∷◌, map, inl, inr, Option, Some, None, refl, sym, ap, subst, eq-eqb}
+use Rattle.std.proofs.Common.{◌≡◌, ◌∙◌, ◌⊎◌, ◌==◌, ℕ, Bool, true, false, cond, List, [], ◌∷◌, map, inl, inr, Option, Some, None, refl, sym}
+use Rattle.std.proofs.Common.{ap, subst, eq-eqb}
 use Rattle.std.specs.List.{find}
 use Rattle.std.specs.Option.{option_map}
 use Rattle.std.proofs.lemmas.Bool.{cases_Bool, eqb-true}
@@ -110,21 +111,26 @@ starts tell last (next ∷ rest) joined (inr j) = record { first = last; more = 
 
 -- ---- in order
 
-grown_holds : (last next : Span) → last.high ≡ next.low → IsBelow last.low last.high → IsBelow next.low next.high → IsBelow last.low next.high
+grown_holds : (last next : Span) → last.high ≡ next.low → IsBelow last.low last.high → IsBelow next.low next.high
+    → IsBelow last.low next.high
 grown_holds last next touch h k = below_at_most (subst (λ (p : Position). IsBelow last.low p) touch h) (below_is_at_most k)
 
-grown_order : (last next : Span) (rest : List Span) → last.high ≡ next.low → AreInOrder (last ∷ next ∷ rest) → AreInOrder (grown last next.high ∷ rest)
+grown_order : (last next : Span) (rest : List Span) → last.high ≡ next.low → AreInOrder (last ∷ next ∷ rest)
+    → AreInOrder (grown last next.high ∷ rest)
 grown_order last next [] touch h = grown_holds last next touch h.0 h.2
 grown_order last next (r ∷ rest) touch h = (grown_holds last next touch h.0 h.2.0, h.2.1, h.2.2)
 
-put_before : (last next : Span) (joined : List Span) → IsBelow last.low last.high → IsAtMost last.high next.low → BeginsLike next joined → AreInOrder joined → AreInOrder (last ∷ joined)
+put_before : (last next : Span) (joined : List Span) → IsBelow last.low last.high → IsAtMost last.high next.low → BeginsLike next joined
+    → AreInOrder joined → AreInOrder (last ∷ joined)
 put_before last next joined holds behind like order =
     subst (λ (list : List Span). AreInOrder (last ∷ list)) (sym like.list_is)
     (holds, subst (λ (p : Position). IsAtMost last.high p) (sym like.low) behind, subst AreInOrder like.list_is order)
 
-joined_order : (tell : Answer → PathAnswer) (last : Span) (rest joined : List Span) → AreInOrder (last ∷ rest) → JoinsTo tell last rest joined → AreInOrder joined
+joined_order : (tell : Answer → PathAnswer) (last : Span) (rest joined : List Span) → AreInOrder (last ∷ rest)
+    → JoinsTo tell last rest joined → AreInOrder joined
 joined_order tell last [] joined h j = subst AreInOrder (sym j) h
-joined_order tell last (next ∷ rest) joined h (inl j) = joined_order tell (grown last next.high) rest joined (grown_order last next rest j.0.0 h) j.1
+joined_order tell last (next ∷ rest) joined h (inl j) =
+    joined_order tell (grown last next.high) rest joined (grown_order last next rest j.0.0 h) j.1
 joined_order tell last (next ∷ rest) joined h (inr j) =
     subst AreInOrder (sym j.2) (put_before last next j.1 h.0 h.1 (starts tell next rest j.1 j.3) (joined_order tell next rest j.1 h.2 j.3))
 
@@ -133,7 +139,8 @@ joined_order tell last (next ∷ rest) joined h (inr j) =
 abbrev by_path : (Answer → PathAnswer) → List Span → Position → Option PathAnswer
 by_path tell list p = option_map tell (span_answer list p)
 
-grown_answer : (tell : Answer → PathAnswer) (last next : Span) (rest : List Span) (p : Position) → GoesOn tell last next → AreInOrder (last ∷ next ∷ rest)
+grown_answer : (tell : Answer → PathAnswer) (last next : Span) (rest : List Span) (p : Position) → GoesOn tell last next
+    → AreInOrder (last ∷ next ∷ rest)
     → by_path tell (grown last next.high ∷ rest) p ≡ by_path tell (last ∷ next ∷ rest) p
 grown_answer tell last next rest p goes o =
     let told : Option Answer → Option PathAnswer = option_map tell in
@@ -143,11 +150,13 @@ grown_answer tell last next rest p goes o =
     elim (order_cases p last.low) [
       | inl before ↦
           let early : IsBelow p next.low = subst (λ (q : Position). IsBelow p q) goes.0 (below_at_most before (below_is_at_most o.0)) in
-          ap told (answer_before whole rest p before) ∙ sym (ap told (answer_before last (next ∷ rest) p before ∙ answer_before next rest p early))
+          ap told (answer_before whole rest p before)
+          ∙ sym (ap told (answer_before last (next ∷ rest) p before ∙ answer_before next rest p early))
       | inr from ↦ elim (order_cases p last.high) [
         | inl under ↦
             let early : IsBelow p next.low = subst (λ (q : Position). IsBelow p q) goes.0 under in
-            ap told (answer_in whole rest p from (below_at_most early (below_is_at_most k))) ∙ sym (ap told (answer_in last (next ∷ rest) p from under))
+            ap told (answer_in whole rest p from (below_at_most early (below_is_at_most k)))
+            ∙ sym (ap told (answer_in last (next ∷ rest) p from under))
         | inr over ↦
             let late : IsAtMost next.low p = subst (λ (q : Position). IsAtMost q p) goes.0 over in
             elim (order_cases p next.high) [
@@ -160,7 +169,8 @@ grown_answer tell last next rest p goes o =
     ]
 
 -- one more in front of lists that agree
-same_behind : (tell : Answer → PathAnswer) (last : Span) (xs ys : List Span) (p : Position) → by_path tell xs p ≡ by_path tell ys p → by_path tell (last ∷ xs) p ≡ by_path tell (last ∷ ys) p
+same_behind : (tell : Answer → PathAnswer) (last : Span) (xs ys : List Span) (p : Position) → by_path tell xs p ≡ by_path tell ys p
+    → by_path tell (last ∷ xs) p ≡ by_path tell (last ∷ ys) p
 same_behind tell last xs ys p e =
     let told : Option Answer → Option PathAnswer = option_map tell in
     elim (order_cases p last.low) [
@@ -171,26 +181,33 @@ same_behind tell last xs ys p e =
       ]
     ]
 
-joined_same : (tell : Answer → PathAnswer) (last : Span) (rest joined : List Span) (p : Position) → AreInOrder (last ∷ rest) → JoinsTo tell last rest joined
+joined_same : (tell : Answer → PathAnswer) (last : Span) (rest joined : List Span) (p : Position) → AreInOrder (last ∷ rest)
+    → JoinsTo tell last rest joined
     → by_path tell joined p ≡ by_path tell (last ∷ rest) p
 joined_same tell last [] joined p h j = ap (λ (list : List Span). by_path tell list p) j
 joined_same tell last (next ∷ rest) joined p h (inl j) =
-    joined_same tell (grown last next.high) rest joined p (grown_order last next rest j.0.0 h) j.1 ∙ grown_answer tell last next rest p j.0 h
+    joined_same tell (grown last next.high) rest joined p (grown_order last next rest j.0.0 h) j.1
+    ∙ grown_answer tell last next rest p j.0 h
 joined_same tell last (next ∷ rest) joined p h (inr j) =
-    ap (λ (list : List Span). by_path tell list p) j.2 ∙ same_behind tell last j.1 (next ∷ rest) p (joined_same tell next rest j.1 p h.2 j.3)
+    ap (λ (list : List Span). by_path tell list p) j.2
+    ∙ same_behind tell last j.1 (next ∷ rest) p (joined_same tell next rest j.1 p h.2 j.3)
 
 -- ---- none goes on with the one before it
 
 abbrev by_paths : (Answer → PathAnswer) → List Span → List PathSpan
 by_paths tell list = map (tell_span tell) list
 
-put_differ : (tell : Answer → PathAnswer) (last next : Span) (joined : List Span) → (GoesOn tell last next → ⊥) → BeginsLike next joined → PathsDifferWhereTheyTouch (by_paths tell joined)
+put_differ : (tell : Answer → PathAnswer) (last next : Span) (joined : List Span) → (GoesOn tell last next → ⊥) → BeginsLike next joined
+    → PathsDifferWhereTheyTouch (by_paths tell joined)
     → PathsDifferWhereTheyTouch (by_paths tell (last ∷ joined))
 put_differ tell last next joined differs like differ =
-    subst (λ (list : List Span). PathsDifferWhereTheyTouch (by_paths tell (last ∷ list))) (sym like.list_is)
-    (λ touch same. differs (touch ∙ like.low, same ∙ ap tell like.answer), subst (λ (list : List Span). PathsDifferWhereTheyTouch (by_paths tell list)) like.list_is differ)
+    subst (λ (list : List Span). PathsDifferWhereTheyTouch (by_paths tell (last ∷ list))) (sym like.list_is) (
+      λ touch same. differs (touch ∙ like.low, same ∙ ap tell like.answer),
+      subst (λ (list : List Span). PathsDifferWhereTheyTouch (by_paths tell list)) like.list_is differ,
+    )
 
-joined_differ : (tell : Answer → PathAnswer) (last : Span) (rest joined : List Span) → JoinsTo tell last rest joined → PathsDifferWhereTheyTouch (by_paths tell joined)
+joined_differ : (tell : Answer → PathAnswer) (last : Span) (rest joined : List Span) → JoinsTo tell last rest joined
+    → PathsDifferWhereTheyTouch (by_paths tell joined)
 joined_differ tell last [] joined j = subst (λ (list : List Span). PathsDifferWhereTheyTouch (by_paths tell list)) (sym j) tt
 joined_differ tell last (next ∷ rest) joined (inl j) = joined_differ tell (grown last next.high) rest joined j.1
 joined_differ tell last (next ∷ rest) joined (inr j) =
@@ -204,7 +221,8 @@ by_paths_order tell [] h = tt
 by_paths_order tell (span ∷ []) h = h
 by_paths_order tell (span ∷ next ∷ list) h = (h.0, h.1, by_paths_order tell (next ∷ list) h.2)
 
-by_paths_answer : (tell : Answer → PathAnswer) (list : List Span) (p : Position) → path_span_answer (by_paths tell list) p ≡ by_path tell list p
+by_paths_answer : (tell : Answer → PathAnswer) (list : List Span) (p : Position)
+    → path_span_answer (by_paths tell list) p ≡ by_path tell list p
 by_paths_answer tell [] p = refl
 by_paths_answer tell (span ∷ list) p = by (is_in_span p span) (by_paths_answer tell list p)
   where
@@ -224,6 +242,9 @@ joined_canonical tell [] joined o j = record {
   same = λ p. by_paths_answer tell joined p ∙ ap (λ (xs : List Span). by_path tell xs p) j;
 }
 joined_canonical tell (first ∷ rest) joined o j = record {
-  canonical = record { in_order = by_paths_order tell joined (joined_order tell first rest joined o j); differ = joined_differ tell first rest joined j };
+  canonical = record {
+    in_order = by_paths_order tell joined (joined_order tell first rest joined o j);
+    differ = joined_differ tell first rest joined j;
+  };
   same = λ p. by_paths_answer tell joined p ∙ joined_same tell first rest joined p o j;
 }

@@ -1,5 +1,6 @@
 -- Lines that are written, and that `csv` reads them as a table.
-use Rattle.std.proofs.Common.{◌≡◌, ◌∙◌, ℕ, ◌+◌, ◌-◌, ◌≤◌, false, List, [], ◌∷◌, ◌++◌, Option, Some, None, length, get_or, take, refl, sym, ap, subst, append_assoc, arith, length-append}
+use Rattle.std.proofs.Common.{◌≡◌, ◌∙◌, ℕ, ◌+◌, ◌-◌, ◌≤◌, false, List, [], ◌∷◌, ◌++◌, Option, Some, None, length, get_or, take, refl, sym}
+use Rattle.std.proofs.Common.{ap, subst, append_assoc, arith, length-append}
 use Rattle.std.proofs.lemmas.Bool.{ne_eqb}
 use Rattle.std.proofs.lemmas.List.{append-nil, take-append-le, take_all}
 use Rattle.std.specs.List.{All, AllByRecursion, AllZip, list_any}
@@ -24,11 +25,13 @@ use Rattle.lnt_paths.specs.Written.{IsPlainPathRecord, records_text}
 
 -- ---- the header
 
-pub names_three : (108 ∷ 111 ∷ 119 ∷ 44 ∷ 104 ∷ 105 ∷ 103 ∷ 104 ∷ 44 ∷ 112 ∷ 97 ∷ 116 ∷ 104 ∷ 44 ∷ 108 ∷ 105 ∷ 110 ∷ 101 ∷ 44 ∷ 99 ∷ 111 ∷ 108 ∷ 117 ∷ 109 ∷ 110 ∷ 10 ∷ []) ≡ row_text default_writer (path_column_names Three)
+pub names_three : (108 ∷ 111 ∷ 119 ∷ 44 ∷ 104 ∷ 105 ∷ 103 ∷ 104 ∷ 44 ∷ 112 ∷ 97 ∷ 116 ∷ 104 ∷ 44 ∷ 108 ∷ 105 ∷ 110 ∷ 101 ∷ 44 ∷ 99 ∷ 111
+    ∷ 108 ∷ 117 ∷ 109 ∷ 110 ∷ 10 ∷ []) ≡ row_text default_writer (path_column_names Three)
 unfolding is_blank fields_text
 names_three = refl
 
-pub names_four : (108 ∷ 111 ∷ 119 ∷ 44 ∷ 104 ∷ 105 ∷ 103 ∷ 104 ∷ 44 ∷ 112 ∷ 97 ∷ 116 ∷ 104 ∷ 44 ∷ 108 ∷ 105 ∷ 110 ∷ 101 ∷ 10 ∷ []) ≡ row_text default_writer (path_column_names Four)
+pub names_four : (108 ∷ 111 ∷ 119 ∷ 44 ∷ 104 ∷ 105 ∷ 103 ∷ 104 ∷ 44 ∷ 112 ∷ 97 ∷ 116 ∷ 104 ∷ 44 ∷ 108 ∷ 105 ∷ 110 ∷ 101 ∷ 10 ∷ [])
+    ≡ row_text default_writer (path_column_names Four)
 unfolding is_blank fields_text
 names_four = refl
 
@@ -82,7 +85,8 @@ pair_text : (path : List ℕ) → row_text default_writer (path ∷ [] ∷ []) �
 unfolding is_blank fields_text
 pair_text path = refl
 
-pub field_made : (path text new : List ℕ) (n : ℕ) → text ≡ row_text default_writer (path ∷ [] ∷ []) → n ≡ length text → new ≡ take (n - 1) text → new ≡ field_with_comma path
+pub field_made : (path text new : List ℕ) (n : ℕ) → text ≡ row_text default_writer (path ∷ [] ∷ []) → n ≡ length text
+    → new ≡ take (n - 1) text → new ≡ field_with_comma path
 field_made path text new n e l f =
     let whole : text ≡ field_with_comma path ++ 10 ∷ [] = e ∙ pair_text path in
     let long : length text ≡ length (field_with_comma path) + 1 = ap length whole ∙ length-append (field_with_comma path) (10 ∷ []) in
@@ -94,7 +98,8 @@ field_made path text new n e l f =
 -- ---- a line
 
 -- what stands in a line after the two addresses and the path
-line_fields : (low high path line : List ℕ) (more : Fields) → field_text default_writer low ≡ low → field_text default_writer high ≡ high → field_text default_writer line ≡ line
+line_fields : (low high path line : List ℕ) (more : Fields) → field_text default_writer low ≡ low → field_text default_writer high ≡ high
+    → field_text default_writer line ≡ line
     → row_text default_writer (low ∷ high ∷ path ∷ line ∷ more)
     ≡ low ++ (44 ∷ high ++ (44 ∷ field_text default_writer path ++ (44 ∷ line ++ (fields_text default_writer more ++ 10 ∷ []))))
 unfolding is_blank fields_text
@@ -109,38 +114,53 @@ EndSays Four fields answer = fields ≡ []
 end_fields : (version : PathVersion) (answer : Answer) (more : List ℕ) → IsPlaceEnd version answer.column more
     → (fields : Fields) × (more ≡ fields_text default_writer fields ++ 10 ∷ []) × EndSays version fields answer
 unfolding fields_text
-end_fields Three answer more e = (e.0 ∷ [], e.2 ∙ rw (number_text e.0 answer.column e.1) (ap (λ (t : List ℕ). 44 ∷ t ++ 10 ∷ []) (sym (append-nil e.0))), (e.0, refl, e.1))
+end_fields Three answer more e = (
+  e.0 ∷ [],
+  e.2 ∙ rw (number_text e.0 answer.column e.1) (ap (λ (t : List ℕ). 44 ∷ t ++ 10 ∷ []) (sym (append-nil e.0))),
+  (e.0, refl, e.1),
+)
 end_fields Four answer more e = ([], e, refl)
 
-says_line : (version : PathVersion) (path : ℕ → ℕ → List ℕ) (answer : Answer) (low high line : List ℕ) (a b : ℕ) (more : Fields) → IsPlainAddress low a → IsPlainAddress high b
+says_line : (version : PathVersion) (path : ℕ → ℕ → List ℕ) (answer : Answer) (low high line : List ℕ) (a b : ℕ) (more : Fields)
+    → IsPlainAddress low a → IsPlainAddress high b
     → IsPlainDecimal line answer.line → EndSays version more answer
-    → SaysPath IsPlainAddress IsPlainDecimal version (low ∷ high ∷ path answer.unit answer.file ∷ line ∷ more) a b (path_answer version path answer)
+    → SaysPath IsPlainAddress IsPlainDecimal version (low ∷ high ∷ path answer.unit answer.file ∷ line ∷ more) a b
+    (path_answer version path answer)
 says_line Three path answer low high line a b more l h n e =
-    subst (λ (m : Fields). SaysPath IsPlainAddress IsPlainDecimal Three (low ∷ high ∷ path answer.unit answer.file ∷ line ∷ m) a b (path_answer Three path answer)) (sym e.1)
+    subst (λ (m : Fields). SaysPath IsPlainAddress IsPlainDecimal Three (low ∷ high ∷ path answer.unit answer.file ∷ line ∷ m) a b
+    (path_answer Three path answer)) (sym e.1)
     (record { count = refl; low_is = l; high_is = h; path = refl; line = n; column = e.2 })
 says_line Four path answer low high line a b more l h n e =
-    subst (λ (m : Fields). SaysPath IsPlainAddress IsPlainDecimal Four (low ∷ high ∷ path answer.unit answer.file ∷ line ∷ m) a b (path_answer Four path answer)) (sym e)
+    subst (λ (m : Fields). SaysPath IsPlainAddress IsPlainDecimal Four (low ∷ high ∷ path answer.unit answer.file ∷ line ∷ m) a b
+    (path_answer Four path answer)) (sym e)
     (record { count = refl; low_is = l; high_is = h; path = refl; line = n; column = refl })
 
-line_join : (old b1 b2 b3 b4 b5 new low high file place more : List ℕ) → b1 ≡ old ++ low → b2 ≡ b1 ++ 44 ∷ [] → b3 ≡ b2 ++ high → b4 ≡ b3 ++ 44 ∷ []
+line_join : (old b1 b2 b3 b4 b5 new low high file place more : List ℕ) → b1 ≡ old ++ low → b2 ≡ b1 ++ 44 ∷ [] → b3 ≡ b2 ++ high
+    → b4 ≡ b3 ++ 44 ∷ []
     → b5 ≡ b4 ++ (file ++ 44 ∷ []) → new ≡ b5 ++ (place ++ more) → new ≡ old ++ (low ++ (44 ∷ high ++ (44 ∷ file ++ (44 ∷ place ++ more))))
 line_join old b1 b2 b3 b4 b5 new low high file place more e1 e2 e3 e4 e5 e6 = rw (e6, e5, e4, e3, e2, e1) (simp append_assoc)
 
 -- what a line's parts add, one after another
-pub line_put : (version : PathVersion) (path : ℕ → ℕ → List ℕ) (span : Span) (old b1 b2 b3 b4 b5 new : List ℕ) → Puts IsPlainAddress span.low.address old b1 → b2 ≡ b1 ++ 44 ∷ []
-    → Puts IsPlainAddress span.high.address b2 b3 → b4 ≡ b3 ++ 44 ∷ [] → b5 ≡ b4 ++ field_with_comma (path span.answer.unit span.answer.file) → AddsPlace version span.answer b5 new
+pub line_put : (version : PathVersion) (path : ℕ → ℕ → List ℕ) (span : Span) (old b1 b2 b3 b4 b5 new : List ℕ)
+    → Puts IsPlainAddress span.low.address old b1 → b2 ≡ b1 ++ 44 ∷ []
+    → Puts IsPlainAddress span.high.address b2 b3 → b4 ≡ b3 ++ 44 ∷ []
+    → b5 ≡ b4 ++ field_with_comma (path span.answer.unit span.answer.file) → AddsPlace version span.answer b5 new
     → AddsPathLine (path_answer version path) version span old new
 line_put version path span old b1 b2 b3 b4 b5 new low e2 high e4 e5 place =
     let file : List ℕ = path span.answer.unit span.answer.file in
     let end = end_fields version span.answer place.more place.column in
-    let text = line_fields low.text high.text file place.text end.0 (address_text low.text span.low.address low.spells) (address_text high.text span.high.address high.spells) (number_text place.text span.answer.line place.line) in
+    let text = line_fields low.text high.text file place.text end.0 (address_text low.text span.low.address low.spells)
+    (address_text high.text span.high.address high.spells) (number_text place.text span.answer.line place.line) in
     record {
       fields = low.text ∷ high.text ∷ file ∷ place.text ∷ end.0;
       joined =
-          line_join old b1 b2 b3 b4 b5 new low.text high.text (field_text default_writer file) place.text place.more low.joined e2 high.joined e4 e5 place.joined
-          ∙ ap (λ (m : List ℕ). old ++ (low.text ++ (44 ∷ high.text ++ (44 ∷ field_text default_writer file ++ (44 ∷ place.text ++ m))))) end.1
+          line_join old b1 b2 b3 b4 b5 new low.text high.text (field_text default_writer file) place.text place.more low.joined e2
+          high.joined e4 e5 place.joined
+          ∙ ap (λ (m : List ℕ). old ++ (low.text ++ (44 ∷ high.text ++ (44 ∷ field_text default_writer file ++ (44 ∷ place.text ++ m)))))
+          end.1
           ∙ ap (λ (t : List ℕ). old ++ t) (sym text);
-      says = says_line version path span.answer low.text high.text place.text span.low.address span.high.address end.0 low.spells high.spells place.line end.2;
+      says = says_line version path span.answer low.text high.text place.text span.low.address span.high.address end.0 low.spells
+          high.spells place.line end.2;
     }
 
 -- ---- lines are read back
@@ -152,18 +172,24 @@ same_back : (fields : Fields) → 2 ≤ length fields → fields ≡ read_back f
 same_back [] h = absurd (omega (arith, h))
 same_back (x ∷ fields) h = refl
 
-lines_read : (records : List Fields) → AreSome records → Reached default_config st.StartRecord (records_text records) records st.StartRecord []
+lines_read : (records : List Fields) → AreSome records
+    → Reached default_config st.StartRecord (records_text records) records st.StartRecord []
 unfolding Reached
 lines_read [] q = (refl, refl)
-lines_read (fields ∷ records) q =
-    ((read_back fields, st.StartRecord, records_text records), read-write fields (records_text records), same_back fields q.0, lines_read records q.1)
+lines_read (fields ∷ records) q = (
+  (read_back fields, st.StartRecord, records_text records),
+  read-write fields (records_text records),
+  same_back fields q.0,
+  lines_read records q.1,
+)
 
 none_left : next_record default_config st.StartRecord [] [] [] ≡ None
 unfolding next_record
 none_left = refl
 
 -- a table begins with no byte order mark
-no_mark : (version : PathVersion) (records : List Fields) → strip_bom (records_text (path_column_names version ∷ records)) ≡ records_text (path_column_names version ∷ records)
+no_mark : (version : PathVersion) (records : List Fields)
+    → strip_bom (records_text (path_column_names version ∷ records)) ≡ records_text (path_column_names version ∷ records)
 unfolding strip_bom is_blank fields_text
 no_mark Three records = refl
 no_mark Four records = refl
@@ -172,29 +198,35 @@ names_some : (version : PathVersion) → 2 ≤ length (path_column_names version
 names_some Three = omega arith
 names_some Four = omega arith
 
-record_some : (version : PathVersion) (fields : Fields) (low high : ℕ) (answer : PathAnswer) → SaysPath IsPlainAddress IsPlainDecimal version fields low high answer → 2 ≤ length fields
+record_some : (version : PathVersion) (fields : Fields) (low high : ℕ) (answer : PathAnswer)
+    → SaysPath IsPlainAddress IsPlainDecimal version fields low high answer → 2 ≤ length fields
 record_some Three fields low high answer s = omega (arith, s.count)
 record_some Four fields low high answer s = omega (arith, s.count)
 
-records_some : (version : PathVersion) (records : List Fields) (spans : List PathSpan) → AllZip (IsPlainPathRecord version) records spans → AreSome records
+records_some : (version : PathVersion) (records : List Fields) (spans : List PathSpan) → AllZip (IsPlainPathRecord version) records spans
+    → AreSome records
 records_some version [] [] z = tt
 records_some version [] (s ∷ spans) z = absurd z
 records_some version (r ∷ records) [] z = absurd z
-records_some version (r ∷ records) (s ∷ spans) z = (record_some version r s.low.address s.high.address s.answer z.0.says, records_some version records spans z.1)
+records_some version (r ∷ records) (s ∷ spans) z =
+    (record_some version r s.low.address s.high.address s.answer z.0.says, records_some version records spans z.1)
 
-records_of_lines : (version : PathVersion) (records : List Fields) → AreSome records → RecordsOf (records_text (path_column_names version ∷ records)) (path_column_names version ∷ records)
+records_of_lines : (version : PathVersion) (records : List Fields) → AreSome records
+    → RecordsOf (records_text (path_column_names version ∷ records)) (path_column_names version ∷ records)
 records_of_lines version records some =
     let all : AreSome (path_column_names version ∷ records) = (names_some version, some) in
     (st.StartRecord, [], rw (no_mark version records) (lines_read (path_column_names version ∷ records) all), none_left)
 
 -- ---- what is plain is a record
 
-column_said : (version : PathVersion) (fields : Fields) (column : Option ℕ) → SaysColumn IsPlainDecimal version fields column → SaysColumn IsDecimal version fields column
+column_said : (version : PathVersion) (fields : Fields) (column : Option ℕ) → SaysColumn IsPlainDecimal version fields column
+    → SaysColumn IsDecimal version fields column
 column_said Three fields None s = absurd s
 column_said Three fields (Some column) s = s.number
 column_said Four fields column s = s
 
-record_said : (version : PathVersion) (fields : Fields) (span : PathSpan) → IsPlainPathRecord version fields span → IsPathRecord version fields span
+record_said : (version : PathVersion) (fields : Fields) (span : PathSpan) → IsPlainPathRecord version fields span
+    → IsPathRecord version fields span
 record_said version fields span s = record {
   says = record {
     count = s.says.count;
@@ -208,16 +240,19 @@ record_said version fields span s = record {
   high_op = s.high_op;
 }
 
-records_said : (version : PathVersion) (records : List Fields) (spans : List PathSpan) → AllZip (IsPlainPathRecord version) records spans → AllZip (IsPathRecord version) records spans
+records_said : (version : PathVersion) (records : List Fields) (spans : List PathSpan) → AllZip (IsPlainPathRecord version) records spans
+    → AllZip (IsPathRecord version) records spans
 records_said version [] [] z = tt
 records_said version [] (s ∷ spans) z = absurd z
 records_said version (r ∷ records) [] z = absurd z
 records_said version (r ∷ records) (s ∷ spans) z = (record_said version r s z.0, records_said version records spans z.1)
 
-pub table_of : (version : PathVersion) (bytes : List ℕ) (records : List Fields) (spans : List PathSpan) → bytes ≡ records_text (path_column_names version ∷ records)
+pub table_of : (version : PathVersion) (bytes : List ℕ) (records : List Fields) (spans : List PathSpan)
+    → bytes ≡ records_text (path_column_names version ∷ records)
     → AllZip (IsPlainPathRecord version) records spans → StandInOrder spans → IsPathTableOf version bytes spans
 table_of version bytes records spans e z o = (
   path_column_names version ∷ records,
-  subst (λ (b : List ℕ). RecordsOf b (path_column_names version ∷ records)) (sym e) (records_of_lines version records (records_some version records spans z)),
+  subst (λ (b : List ℕ). RecordsOf b (path_column_names version ∷ records)) (sym e)
+      (records_of_lines version records (records_some version records spans z)),
   (refl, record { each = records_said version records spans z; in_order = o }),
 )

@@ -1,5 +1,6 @@
 -- A section's spans compared with one record of a table by path after another.
-use Rattle.std.proofs.Common.{◌≡◌, ◌≢◌, ◌∙◌, ℕ, ◌<◌, ◌≤◌, true, false, List, [], ◌∷◌, ◌++◌, inl, inr, refl, ap, sym, subst, Some, None, Option, arith}
+use Rattle.std.proofs.Common.{◌≡◌, ◌≢◌, ◌∙◌, ℕ, ◌<◌, ◌≤◌, true, false, List, [], ◌∷◌, ◌++◌, inl, inr, refl, ap, sym, subst, Some, None}
+use Rattle.std.proofs.Common.{Option, arith}
 use Rattle.std.specs.Option.{is_some, option_map}
 use Rattle.std.proofs.lemmas.Bool.{true≢false}
 use Rattle.std.specs.Prelude.{IfSome, MatchOption}
@@ -8,7 +9,8 @@ use Rattle.lnt_spans.specs.declared.answer.Answer.{Answer}
 use Rattle.lnt_spans.specs.declared.position.Position.{Position}
 use Rattle.lnt_spans.specs.declared.span.Span.{Span}
 use Rattle.lnt_spans.specs.Laws.Answering as answering
-use Rattle.lnt_spans.specs.Laws.Positions.{at_most_below, at_most_itself, at_most_trans, below_at_most, below_is_at_most, not_both, order_cases}
+use Rattle.lnt_spans.specs.Laws.Positions.{at_most_below, at_most_itself, at_most_trans, below_at_most, below_is_at_most, not_both}
+use Rattle.lnt_spans.specs.Laws.Positions.{order_cases}
 use Rattle.lnt_spans.specs.Positions.{IsBelow, IsAtMost}
 use Rattle.lnt_spans.specs.Spans.{AreInOrder, span_answer}
 use Rattle.lnt_spans.specs.Coming.{GivesFirst}
@@ -102,7 +104,8 @@ passed_span tell list by_table at AreLeft AreLeft' span more passed e le h left 
       order = answering.rest_in_order span more order;
       from = behind_first span more order;
       agree = agree_more tell list by_table at span.high AreLeft span more passed e h;
-      same = λ p k. passed.same p (at_most_trans le k) ∙ ap (λ (xs : List Span). span_answer xs p) e ∙ answering.answer_behind span more p k;
+      same =
+          λ p k. passed.same p (at_most_trans le k) ∙ ap (λ (xs : List Span). span_answer xs p) e ∙ answering.answer_behind span more p k;
     }
 
 -- the next span up to a position in it
@@ -139,7 +142,8 @@ passed_part tell list by_table at end AreLeft AreLeft' span more passed e le lt 
 abbrev pub alone : PathRecord → Position → Option PathAnswer
 alone said = path_span_answer (record_span said ∷ [])
 
-alone_in : (said : PathRecord) (at : Position) → IsAtMost (whole said.low) at → IsBelow at (whole said.high) → alone said at ≡ Some (record_answer said)
+alone_in : (said : PathRecord) (at : Position) → IsAtMost (whole said.low) at → IsBelow at (whole said.high)
+    → alone said at ≡ Some (record_answer said)
 alone_in said at h k = answer_in (record_span said) [] at h k
 
 pub low_high : (said : PathRecord) → said.low < said.high → IsBelow (whole said.low) (whole said.high)
@@ -166,12 +170,15 @@ apart_before to_come tell list said next spans span holds is lt left order =
 
 -- it begins at the record or after, or has no span
 pub begun : {S : Type 0} (to_come : S → List Span → Type 0) (tell : Answer → PathAnswer) (list : List Span) (said : PathRecord)
-    (next : Option Span) (spans : S) → IfSome next (λ span. IsAtMost (whole said.low) span.low) → IsLeft to_come next spans list → AreInOrder list
+    (next : Option Span) (spans : S) → IfSome next (λ span. IsAtMost (whole said.low) span.low) → IsLeft to_come next spans list
+    → AreInOrder list
     → ArePassed tell list (alone said) (whole said.low) (IsLeft to_come next spans)
 begun to_come tell list said next spans behind left order =
-    passed_none tell list (record_span said) (whole said.low) (IsLeft to_come next spans) left order (from list next behind left) (at_most_itself (whole said.low))
+    passed_none tell list (record_span said) (whole said.low) (IsLeft to_come next spans) left order (from list next behind left)
+    (at_most_itself (whole said.low))
   where
-    from : (xs : List Span) (first : Option Span) → IfSome first (λ span. IsAtMost (whole said.low) span.low) → IsLeft to_come first spans xs → BeginFrom (whole said.low) xs
+    from : (xs : List Span) (first : Option Span) → IfSome first (λ span. IsAtMost (whole said.low) span.low)
+        → IsLeft to_come first spans xs → BeginFrom (whole said.low) xs
     from [] first h l = tt
     from (span ∷ xs) first h l = subst (λ (o : Option Span). IfSome o (λ span. IsAtMost (whole said.low) span.low)) l.0 h
 
@@ -192,7 +199,8 @@ apart_gap to_come tell list said at next spans span is gap le lt passed =
 
 -- the next span answers otherwise
 pub apart_other : {S : Type 0} (to_come : S → List Span → Type 0) (tell : Answer → PathAnswer) (list : List Span) (said : PathRecord)
-    (at : Position) (next : Option Span) (spans : S) (span : Span) → next ≡ Some span → IsAtMost span.low at → tell span.answer ≢ record_answer said
+    (at : Position) (next : Option Span) (spans : S) (span : Span) → next ≡ Some span → IsAtMost span.low at
+    → tell span.answer ≢ record_answer said
     → IsAtMost (whole said.low) at → IsBelow at (whole said.high) → ArePassed tell list (alone said) at (IsLeft to_come next spans)
     → AreApart tell list said (record { position = at; by_table = true; by_section = Some span.answer })
 apart_other to_come tell list said at next spans span is from ne le lt passed =
@@ -208,7 +216,8 @@ apart_other to_come tell list said at next spans span is from ne le lt passed =
     }
 
 answers : (tell : Answer → PathAnswer) (said : PathRecord) (at end : Position) (span : Span) → tell span.answer ≡ record_answer said
-    → IsAtMost end span.high → IsAtMost span.low at → IsAtMost (whole said.low) at → IsAtMost end (whole said.high) → Answers tell (alone said) at end span
+    → IsAtMost end span.high → IsAtMost span.low at → IsAtMost (whole said.low) at → IsAtMost end (whole said.high)
+    → Answers tell (alone said) at end span
 answers tell said at end span same within from le ge = record {
   within = within;
   from = from;
@@ -217,17 +226,20 @@ answers tell said at end span same within from le ge = record {
 
 -- it answers alike beyond the record
 pub passed_within : {S : Type 0} (to_come : S → List Span → Type 0) (tell : Answer → PathAnswer) (list : List Span) (said : PathRecord)
-    (at : Position) (next : Option Span) (spans : S) (span : Span) → next ≡ Some span → IsAtMost span.low at → tell span.answer ≡ record_answer said
+    (at : Position) (next : Option Span) (spans : S) (span : Span) → next ≡ Some span → IsAtMost span.low at
+    → tell span.answer ≡ record_answer said
     → IsAtMost (whole said.low) at → IsBelow at (whole said.high) → IsBelow (whole said.high) span.high
     → ArePassed tell list (alone said) at (IsLeft to_come next spans)
     → ArePassed tell list (alone said) (whole said.high) (IsLeft to_come (Some (record span { low = whole said.high })) spans)
 passed_within to_come tell list said at next spans span is from same le lt over passed =
     let first = left_first to_come next spans passed.rest span is passed.left in
-    passed_part tell list (alone said) at (whole said.high) (IsLeft to_come next spans) (IsLeft to_come (Some (record span { low = whole said.high })) spans)
+    passed_part tell list (alone said) at (whole said.high) (IsLeft to_come next spans)
+    (IsLeft to_come (Some (record span { low = whole said.high })) spans)
     span first.0 passed first.1 (below_is_at_most lt) over
     (answers tell said at (whole said.high) span same (below_is_at_most over) from le (at_most_itself (whole said.high))) (refl, first.2)
 
-given_left : {S : Type 0} (to_come : S → List Span → Type 0) (given : Option Span) (spans : S) (list : List Span) → GivesFirst (to_come spans) list given
+given_left : {S : Type 0} (to_come : S → List Span → Type 0) (given : Option Span) (spans : S) (list : List Span)
+    → GivesFirst (to_come spans) list given
     → IsLeft to_come given spans list
 given_left to_come None spans [] g = refl
 given_left to_come (Some given) spans [] g = absurd g
@@ -236,7 +248,8 @@ given_left to_come (Some given) spans (span ∷ list) g = (ap Some g.0, g.1)
 
 -- it answers alike up to its end
 pub passed_whole : {S : Type 0} (to_come : S → List Span → Type 0) (tell : Answer → PathAnswer) (list : List Span) (said : PathRecord)
-    (at : Position) (next given : Option Span) (spans spans' : S) (span : Span) → next ≡ Some span → IsAtMost span.low at → tell span.answer ≡ record_answer said
+    (at : Position) (next given : Option Span) (spans spans' : S) (span : Span) → next ≡ Some span → IsAtMost span.low at
+    → tell span.answer ≡ record_answer said
     → IsAtMost (whole said.low) at → IsAtMost span.high (whole said.high)
     → ((rest : List Span) → to_come spans rest → GivesFirst (to_come spans') rest given)
     → ArePassed tell list (alone said) at (IsLeft to_come next spans)
@@ -265,7 +278,8 @@ low_behind to_come tell list said at next spans span is le passed =
 origin_first : (p : Position) → IsAtMost (whole 0) p
 origin_first p = record { address = omega arith; op = λ e. omega arith }
 
-pub merged_none : {S : Type 0} (to_come : S → List Span → Type 0) (tell : Answer → PathAnswer) (list : List Span) (next : Option Span) (spans : S)
+pub merged_none : {S : Type 0} (to_come : S → List Span → Type 0) (tell : Answer → PathAnswer) (list : List Span) (next : Option Span)
+    (spans : S)
     → IsLeft to_come next spans list → AreInOrder list → IsMerged tell (IsLeft to_come next spans) (whole 0) None list []
 merged_none to_come tell list next spans left order = record {
   at_is = refl;
@@ -329,15 +343,19 @@ ended_on at table said f ended p h =
     ∙ answer_behind (record_span said) [] p h
 
 -- what both answer up to p, where the section is as the records so far and what is left of it as the record
-agree_on : (tell : Answer → PathAnswer) (section : List Span) (table : List PathSpan) (said : PathRecord) (at : Position) (AreLeft : List Span → Type 0)
-    (m : ArePassed tell section (path_span_answer table) at AreLeft) → Follows at said → ((p : Position) → IsAtMost at p → path_span_answer table p ≡ None)
-    → (p : Position) → (answer_told tell m.rest p ≡ alone said p) → answer_told tell section p ≡ path_span_answer (table ++ record_span said ∷ []) p
+agree_on : (tell : Answer → PathAnswer) (section : List Span) (table : List PathSpan) (said : PathRecord) (at : Position)
+    (AreLeft : List Span → Type 0)
+    (m : ArePassed tell section (path_span_answer table) at AreLeft) → Follows at said
+    → ((p : Position) → IsAtMost at p → path_span_answer table p ≡ None)
+    → (p : Position) → (answer_told tell m.rest p ≡ alone said p)
+    → answer_told tell section p ≡ path_span_answer (table ++ record_span said ∷ []) p
 agree_on tell section table said at AreLeft m f ended p e = elim (order_cases p at) [
   | inl early ↦ m.agree p early ∙ sym (answer_push_before table (record_span said) p (below_at_most early f.behind))
   | inr late ↦ ap (option_map tell) (m.same p late) ∙ e ∙ sym (answer_push_none table (record_span said ∷ []) p (ended p late))
 ]
 
-pub merged_on : (tell : Answer → PathAnswer) (section : List Span) (table : List PathSpan) (said : PathRecord) (at : Position) (first : Option DifferenceByPath)
+pub merged_on : (tell : Answer → PathAnswer) (section : List Span) (table : List PathSpan) (said : PathRecord) (at : Position)
+    (first : Option DifferenceByPath)
     (AreLeft AreLeft' : List Span → Type 0) → Follows at said → first ≡ None
     → ((list : List Span) → AreLeft list → AreInOrder list → ArePassed tell list (alone said) (whole said.high) AreLeft')
     → IsMerged tell AreLeft at first section table → IsMerged tell AreLeft' (whole said.high) None section (table ++ record_span said ∷ [])
@@ -359,7 +377,8 @@ merged_on tell section table said at None AreLeft AreLeft' f e step c =
 merged_on tell section table said at (Some difference) AreLeft AreLeft' f e step c = absurd (cc e)
 
 -- what differs first from the record alone differs first
-differ_on : (tell : Answer → PathAnswer) (section : List Span) (table : List PathSpan) (said : PathRecord) (at position : Position) (one other : Option PathAnswer)
+differ_on : (tell : Answer → PathAnswer) (section : List Span) (table : List PathSpan) (said : PathRecord) (at position : Position)
+    (one other : Option PathAnswer)
     (AreLeft : List Span → Type 0) (m : ArePassed tell section (path_span_answer table) at AreLeft) → Follows at said
     → ((p : Position) → IsAtMost at p → path_span_answer table p ≡ None)
     → DifferFirst (answer_told tell m.rest) (alone said) position one other
@@ -377,12 +396,15 @@ differ_on tell section table said at position one other AreLeft m f ended d =
       before = λ p h. agree_on tell section table said at AreLeft m f ended p (d.before p h);
     }
 
-pub merged_apart : (tell : Answer → PathAnswer) (section : List Span) (table : List PathSpan) (said : PathRecord) (at : Position) (first : Option DifferenceByPath)
+pub merged_apart : (tell : Answer → PathAnswer) (section : List Span) (table : List PathSpan) (said : PathRecord) (at : Position)
+    (first : Option DifferenceByPath)
     (AreLeft AreLeft' : List Span → Type 0) (apart : Apart) (difference : DifferenceByPath) → Follows at said → first ≡ None
     → ((list : List Span) → AreLeft list → AreInOrder list → AreApart tell list said apart)
-    → difference.position ≡ apart.position → option_map told_path_answer difference.by_table ≡ table_side apart.by_table (record_answer said)
+    → difference.position ≡ apart.position → option_map told_path_answer difference.by_table ≡ table_side apart.by_table
+    (record_answer said)
     → option_map told_path_answer difference.by_section ≡ option_map tell apart.by_section
-    → IsMerged tell AreLeft at first section table → IsMerged tell AreLeft' (whole said.high) (Some difference) section (table ++ record_span said ∷ [])
+    → IsMerged tell AreLeft at first section table → IsMerged tell AreLeft' (whole said.high) (Some difference) section
+    (table ++ record_span said ∷ [])
 merged_apart tell section table said at None AreLeft AreLeft' apart difference f e step position one other c =
     let m = c.merged in
     let n = step m.rest m.left m.order in
@@ -390,7 +412,8 @@ merged_apart tell section table said at None AreLeft AreLeft' apart difference f
       at_is = sym (end_pushed table (record_span said));
       ended = ended_on at table said f c.ended;
       merged = (
-        rw (position, one, other) (differ_on tell section table said at apart.position (table_side apart.by_table (record_answer said)) (option_map tell apart.by_section)
+        rw (position, one, other) (differ_on tell section table said at apart.position (table_side apart.by_table (record_answer said))
+            (option_map tell apart.by_section)
             AreLeft m f c.ended n.first),
         subst (λ (p : Position). IsBelow p (whole said.high)) (sym position) n.below,
       );
@@ -398,7 +421,8 @@ merged_apart tell section table said at None AreLeft AreLeft' apart difference f
 merged_apart tell section table said at (Some was) AreLeft AreLeft' apart difference f e step position one other c = absurd (cc e)
 
 -- there was a difference before
-pub merged_still : (tell : Answer → PathAnswer) (section : List Span) (table : List PathSpan) (said : PathRecord) (at : Position) (first : Option DifferenceByPath)
+pub merged_still : (tell : Answer → PathAnswer) (section : List Span) (table : List PathSpan) (said : PathRecord) (at : Position)
+    (first : Option DifferenceByPath)
     (AreLeft AreLeft' : List Span → Type 0) → Follows at said → true ≡ is_some first
     → IsMerged tell AreLeft at first section table → IsMerged tell AreLeft' (whole said.high) first section (table ++ record_span said ∷ [])
 merged_still tell section table said at None AreLeft AreLeft' f e c = absurd (true≢false e)
@@ -426,28 +450,34 @@ not_found (Some difference) e = absurd (true≢false (sym e))
 
 -- ---- the end of the table
 
-pub finish_found : (tell : Answer → PathAnswer) (section : List Span) (table : List PathSpan) (at : Position) (first : Option DifferenceByPath) (AreLeft : List Span → Type 0)
+pub finish_found : (tell : Answer → PathAnswer) (section : List Span) (table : List PathSpan) (at : Position)
+    (first : Option DifferenceByPath) (AreLeft : List Span → Type 0)
     → true ≡ is_some first → IsMerged tell AreLeft at first section table
     → MatchOption first ((p : Position) → answer_told tell section p ≡ path_span_answer table p)
     (λ difference. IsLeastPathDifference (answer_told tell section) (path_span_answer table) difference)
 finish_found tell section table at None AreLeft e c = absurd (true≢false e)
 finish_found tell section table at (Some d) AreLeft e c = c.merged.0
 
-pub finish_none : {S : Type 0} (to_come : S → List Span → Type 0) (tell : Answer → PathAnswer) (section : List Span) (table : List PathSpan) (at : Position)
+pub finish_none : {S : Type 0} (to_come : S → List Span → Type 0) (tell : Answer → PathAnswer) (section : List Span) (table : List PathSpan)
+    (at : Position)
     (first : Option DifferenceByPath) (next : Option Span) (spans : S) → first ≡ None → next ≡ None
-    → IsMerged tell (IsLeft to_come next spans) at first section table → (p : Position) → answer_told tell section p ≡ path_span_answer table p
+    → IsMerged tell (IsLeft to_come next spans) at first section table → (p : Position)
+    → answer_told tell section p ≡ path_span_answer table p
 finish_none to_come tell section table at None next spans e is c p =
     let m = c.merged in
     elim (order_cases p at) [
       | inl early ↦ m.agree p early
-      | inr late ↦ ap (option_map tell) (m.same p late ∙ ap (λ (xs : List Span). span_answer xs p) (left_none to_come next spans m.rest is m.left)) ∙ sym (c.ended p late)
+      | inr late ↦ ap (option_map tell) (m.same p late
+          ∙ ap (λ (xs : List Span). span_answer xs p) (left_none to_come next spans m.rest is m.left)) ∙ sym (c.ended p late)
     ]
 finish_none to_come tell section table at (Some d) next spans e is c p = absurd (cc e)
 
-pub finish_more : {S : Type 0} (to_come : S → List Span → Type 0) (tell : Answer → PathAnswer) (section : List Span) (table : List PathSpan) (at : Position)
+pub finish_more : {S : Type 0} (to_come : S → List Span → Type 0) (tell : Answer → PathAnswer) (section : List Span) (table : List PathSpan)
+    (at : Position)
     (first : Option DifferenceByPath) (next : Option Span) (spans : S) (span : Span) (told : AnswerByPath) → first ≡ None → next ≡ Some span
     → told_path_answer told ≡ tell span.answer → IsMerged tell (IsLeft to_come next spans) at first section table
-    → IsLeastPathDifference (answer_told tell section) (path_span_answer table) (record { position = span.low; by_table = None; by_section = Some told })
+    → IsLeastPathDifference (answer_told tell section) (path_span_answer table)
+    (record { position = span.low; by_table = None; by_section = Some told })
 finish_more to_come tell section table at None next spans span told e is same c =
     let m = c.merged in
     let one = left_first to_come next spans m.rest span is m.left in
@@ -460,7 +490,8 @@ finish_more to_come tell section table at None next spans span told e is same c 
       differ = λ x. cc x;
       before = λ p h. elim (order_cases p at) [
         | inl early ↦ m.agree p early
-        | inr late ↦ ap (option_map tell) (m.same p late ∙ ap (λ (xs : List Span). span_answer xs p) one.1 ∙ answering.none_before span one.0 p order h)
+        | inr late ↦ ap (option_map tell) (m.same p late ∙ ap (λ (xs : List Span). span_answer xs p) one.1
+            ∙ answering.none_before span one.0 p order h)
             ∙ sym (c.ended p late)
       ];
     }

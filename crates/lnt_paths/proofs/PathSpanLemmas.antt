@@ -7,18 +7,21 @@ use Rattle.lnt_spans.specs.Laws.Positions.{test_below, test_not_below, test_at_m
 use Rattle.lnt_paths.specs.PathSpans.{PathSpan, StandInOrder, path_span_answer}
 
 -- p is in the first span
-pub answer_in : (s : PathSpan) (rest : List PathSpan) (p : Position) → IsAtMost s.low p → IsBelow p s.high → path_span_answer (s ∷ rest) p ≡ Some s.answer
+pub answer_in : (s : PathSpan) (rest : List PathSpan) (p : Position) → IsAtMost s.low p → IsBelow p s.high
+    → path_span_answer (s ∷ rest) p ≡ Some s.answer
 answer_in s rest p h k = rw (test_at_most s.low p h, test_below p s.high k) refl
 
 -- p is before it, or after
-pub answer_before : (s : PathSpan) (rest : List PathSpan) (p : Position) → IsBelow p s.low → path_span_answer (s ∷ rest) p ≡ path_span_answer rest p
+pub answer_before : (s : PathSpan) (rest : List PathSpan) (p : Position) → IsBelow p s.low
+    → path_span_answer (s ∷ rest) p ≡ path_span_answer rest p
 answer_before s rest p h = rw (test_not_at_most s.low p h) refl
 
 false-and : (a : Bool) → (a && false) ≡ false
 false-and true = refl
 false-and false = refl
 
-pub answer_behind : (s : PathSpan) (rest : List PathSpan) (p : Position) → IsAtMost s.high p → path_span_answer (s ∷ rest) p ≡ path_span_answer rest p
+pub answer_behind : (s : PathSpan) (rest : List PathSpan) (p : Position) → IsAtMost s.high p
+    → path_span_answer (s ∷ rest) p ≡ path_span_answer rest p
 answer_behind s rest p h = rw (test_not_below p s.high h, false-and) refl
 
 pub first_holds : (s : PathSpan) (rest : List PathSpan) → StandInOrder (s ∷ rest) → IsBelow s.low s.high
@@ -30,12 +33,14 @@ rest_in_order s [] h = tt
 rest_in_order s (t ∷ rest) h = h.2
 
 -- before the first span nothing answers
-pub none_before : (s : PathSpan) (rest : List PathSpan) (p : Position) → StandInOrder (s ∷ rest) → IsBelow p s.low → path_span_answer (s ∷ rest) p ≡ None
+pub none_before : (s : PathSpan) (rest : List PathSpan) (p : Position) → StandInOrder (s ∷ rest) → IsBelow p s.low
+    → path_span_answer (s ∷ rest) p ≡ None
 none_before s [] p h k = answer_before s [] p k
 none_before s (t ∷ rest) p h k =
     answer_before s (t ∷ rest) p k ∙ none_before t rest p h.2 (below_at_most (below_at_most k (below_is_at_most h.0)) h.1)
 
 -- up to the end of the first span the rest doesn't answer
-pub rest_none : (s : PathSpan) (rest : List PathSpan) (p : Position) → StandInOrder (s ∷ rest) → IsBelow p s.high → path_span_answer rest p ≡ None
+pub rest_none : (s : PathSpan) (rest : List PathSpan) (p : Position) → StandInOrder (s ∷ rest) → IsBelow p s.high
+    → path_span_answer rest p ≡ None
 rest_none s [] p h k = refl
 rest_none s (t ∷ rest) p h k = none_before t rest p h.2 (below_at_most k h.1)

@@ -43,7 +43,8 @@ names_none fields h k Four = k
 
 -- ---- a column
 
-of_kind : (kind : PathKind) (fields : Fields) (i : ℕ) → IsFieldOfKind kind i → IsOfPathKind kind (get_or fields i []) → IsSoundField fields i
+of_kind : (kind : PathKind) (fields : Fields) (i : ℕ) → IsFieldOfKind kind i → IsOfPathKind kind (get_or fields i [])
+    → IsSoundField fields i
 of_kind kind fields i e h = subst (λ (k : PathKind). IsOfPathKind k (get_or fields i [])) (sym e) h
 
 not_of_kind : (kind : PathKind) (fields : Fields) (i : ℕ) → IsFieldOfKind kind i → (IsOfPathKind kind (get_or fields i []) → ⊥)
@@ -87,7 +88,8 @@ none_before fields k lt = absurd (omega (arith, lt))
 
 pub says_path : (version : PathVersion) (fields : Fields) (low high line : ℕ) (path : List ℕ) (column : Option ℕ)
     → length fields ≡ path_column_count version
-    → IsAddress (get_or fields 0 []) low → IsAddress (get_or fields 1 []) high → path ≡ get_or fields 2 [] → IsDecimal (get_or fields 3 []) line
+    → IsAddress (get_or fields 0 []) low → IsAddress (get_or fields 1 []) high → path ≡ get_or fields 2 []
+    → IsDecimal (get_or fields 3 []) line
     → SaysColumn IsDecimal version fields column
     → SaysPath IsAddress IsDecimal version fields low high (record { path = path; line = line; column = column })
 says_path version fields low high line path column count l h p n c =

@@ -13,21 +13,24 @@ rest_differ s [] h = tt
 rest_differ s (t ∷ rest) h = h.1
 
 -- a list whose first span begins first answers where the other doesn't
-not_earlier : (x y : PathSpan) (xs ys : List PathSpan) → StandInOrder (x ∷ xs) → StandInOrder (y ∷ ys) → AgreeByPath (x ∷ xs) (y ∷ ys) → IsBelow x.low y.low → ⊥
+not_earlier : (x y : PathSpan) (xs ys : List PathSpan) → StandInOrder (x ∷ xs) → StandInOrder (y ∷ ys) → AgreeByPath (x ∷ xs) (y ∷ ys)
+    → IsBelow x.low y.low → ⊥
 not_earlier x y xs ys ox oy same lt =
     let here = answer_in x xs x.low (at_most_itself x.low) (first_holds x xs ox) in
     let none = none_before y ys x.low oy lt in
     let e = same x.low in
     cc
 
-same_low : (x y : PathSpan) (xs ys : List PathSpan) → StandInOrder (x ∷ xs) → StandInOrder (y ∷ ys) → AgreeByPath (x ∷ xs) (y ∷ ys) → x.low ≡ y.low
+same_low : (x y : PathSpan) (xs ys : List PathSpan) → StandInOrder (x ∷ xs) → StandInOrder (y ∷ ys) → AgreeByPath (x ∷ xs) (y ∷ ys)
+    → x.low ≡ y.low
 same_low x y xs ys ox oy same = elim (order_three x.low y.low) [
   | inl lt ↦ absurd (not_earlier x y xs ys ox oy same lt)
   | inr (inl e) ↦ e
   | inr (inr gt) ↦ absurd (not_earlier y x ys xs oy ox (λ p. sym (same p)) gt)
 ]
 
-same_answer : (x y : PathSpan) (xs ys : List PathSpan) → StandInOrder (x ∷ xs) → StandInOrder (y ∷ ys) → AgreeByPath (x ∷ xs) (y ∷ ys) → x.low ≡ y.low → x.answer ≡ y.answer
+same_answer : (x y : PathSpan) (xs ys : List PathSpan) → StandInOrder (x ∷ xs) → StandInOrder (y ∷ ys) → AgreeByPath (x ∷ xs) (y ∷ ys)
+    → x.low ≡ y.low → x.answer ≡ y.answer
 same_answer x y xs ys ox oy same low =
     let here = answer_in x xs x.low (at_most_itself x.low) (first_holds x xs ox) in
     let there = answer_in y ys y.low (at_most_itself y.low) (first_holds y ys oy) in
@@ -35,7 +38,8 @@ same_answer x y xs ys ox oy same low =
     cc
 
 -- at its end a canonical list doesn't answer as in its first span
-answers_other : (x : PathSpan) (xs : List PathSpan) → StandInOrder (x ∷ xs) → PathsDifferWhereTheyTouch (x ∷ xs) → path_span_answer (x ∷ xs) x.high ≡ Some x.answer → ⊥
+answers_other : (x : PathSpan) (xs : List PathSpan) → StandInOrder (x ∷ xs) → PathsDifferWhereTheyTouch (x ∷ xs)
+    → path_span_answer (x ∷ xs) x.high ≡ Some x.answer → ⊥
 answers_other x [] o d e = let none = answer_behind x [] x.high (at_most_itself x.high) in cc
 answers_other x (t ∷ rest) o d e = elim (order_cases x.high t.low) [
   | inl gap ↦
@@ -57,7 +61,8 @@ not_shorter x y xs ys cx oy same low answer lt =
     let e = same x.high in
     answers_other x xs cx.in_order cx.differ (cc)
 
-same_high : (x y : PathSpan) (xs ys : List PathSpan) → AreCanonicalPaths (x ∷ xs) → AreCanonicalPaths (y ∷ ys) → AgreeByPath (x ∷ xs) (y ∷ ys)
+same_high : (x y : PathSpan) (xs ys : List PathSpan) → AreCanonicalPaths (x ∷ xs) → AreCanonicalPaths (y ∷ ys)
+    → AgreeByPath (x ∷ xs) (y ∷ ys)
     → x.low ≡ y.low → x.answer ≡ y.answer → x.high ≡ y.high
 same_high x y xs ys cx cy same low answer = elim (order_three x.high y.high) [
   | inl lt ↦ absurd (not_shorter x y xs ys cx cy.in_order same low answer lt)
@@ -72,7 +77,8 @@ made : (s : PathSpan) → make s.low s.high s.answer ≡ s
 unfolding make
 made s = refl
 
-same_rest : (x y : PathSpan) (xs ys : List PathSpan) → StandInOrder (x ∷ xs) → StandInOrder (y ∷ ys) → AgreeByPath (x ∷ xs) (y ∷ ys) → x.high ≡ y.high → AgreeByPath xs ys
+same_rest : (x y : PathSpan) (xs ys : List PathSpan) → StandInOrder (x ∷ xs) → StandInOrder (y ∷ ys) → AgreeByPath (x ∷ xs) (y ∷ ys)
+    → x.high ≡ y.high → AgreeByPath xs ys
 same_rest x y xs ys ox oy same high p = elim (order_cases p x.high) [
   | inl lt ↦ rest_none x xs p ox lt ∙ sym (rest_none y ys p oy (subst (λ (q : Position). IsBelow p q) high lt))
   | inr ge ↦ sym (answer_behind x xs p ge) ∙ same p ∙ answer_behind y ys p (subst (λ (q : Position). IsAtMost q p) high ge)

@@ -30,7 +30,8 @@ pub keeps_same : (known : Option (List ℕ)) → Keeps known known
 keeps_same None = tt
 keeps_same (Some bytes) = refl
 
-pub names_written : (tell : Answer → PathAnswer) (version : PathVersion) (old new : Option (List ℕ)) (header : List ℕ) → header ≡ row_text default_writer (path_column_names version) → Appends old new header
+pub names_written : (tell : Answer → PathAnswer) (version : PathVersion) (old new : Option (List ℕ)) (header : List ℕ)
+    → header ≡ row_text default_writer (path_column_names version) → Appends old new header
     → HasWritten tell version old new []
 names_written tell version old new header e more = record {
   records = [];
@@ -40,9 +41,11 @@ names_written tell version old new header e more = record {
 
 records_append : (xs ys : List Fields) → records_text (xs ++ ys) ≡ records_text xs ++ records_text ys
 records_append [] ys = refl
-records_append (x ∷ xs) ys = ap (λ (t : List ℕ). row_text default_writer x ++ t) (records_append xs ys) ∙ sym (append_assoc (row_text default_writer x) (records_text xs) (records_text ys))
+records_append (x ∷ xs) ys = ap (λ (t : List ℕ). row_text default_writer x ++ t) (records_append xs ys)
+    ∙ sym (append_assoc (row_text default_writer x) (records_text xs) (records_text ys))
 
-zip_more : {X Y : Type 0} (R : X → Y → Type 0) (xs : List X) (ys : List Y) (x : X) (y : Y) → AllZip R xs ys → R x y → AllZip R (xs ++ x ∷ []) (ys ++ y ∷ [])
+zip_more : {X Y : Type 0} (R : X → Y → Type 0) (xs : List X) (ys : List Y) (x : X) (y : Y) → AllZip R xs ys → R x y
+    → AllZip R (xs ++ x ∷ []) (ys ++ y ∷ [])
 zip_more R [] [] x y z r = (r, tt)
 zip_more R [] (b ∷ ys) x y z r = absurd z
 zip_more R (a ∷ xs) [] x y z r = absurd z
@@ -51,13 +54,16 @@ zip_more R (a ∷ xs) (b ∷ ys) x y z r = (z.0, zip_more R xs ys x y z.1 r)
 abbrev Says : (Answer → PathAnswer) → PathVersion → Fields → Span → Type 0
 Says tell version fields span = SaysPath IsPlainAddress IsPlainDecimal version fields span.low.address span.high.address (tell span.answer)
 
-pub one_written : (tell : Answer → PathAnswer) (version : PathVersion) (old now new : Option (List ℕ)) (given : List Span) (span : Span) (empty line : List ℕ) → HasWritten tell version old now given → empty ≡ []
+pub one_written : (tell : Answer → PathAnswer) (version : PathVersion) (old now new : Option (List ℕ)) (given : List Span) (span : Span)
+    (empty line : List ℕ) → HasWritten tell version old now given → empty ≡ []
     → AddsPathLine tell version span empty line → Appends now new line → HasWritten tell version old new (given ++ span ∷ [])
 one_written tell version old now new given span empty line w none adds more =
     let before : List Fields = path_column_names version ∷ w.records in
-    let text : line ≡ row_text default_writer adds.fields = adds.joined ∙ ap (λ (t : List ℕ). t ++ row_text default_writer adds.fields) none in
+    let text : line ≡ row_text default_writer adds.fields =
+    adds.joined ∙ ap (λ (t : List ℕ). t ++ row_text default_writer adds.fields) none in
     let grown : records_text before ++ line ≡ records_text (before ++ adds.fields ∷ []) =
-    ap (λ (t : List ℕ). records_text before ++ t) (text ∙ sym (append-nil (row_text default_writer adds.fields))) ∙ sym (records_append before (adds.fields ∷ [])) in
+    ap (λ (t : List ℕ). records_text before ++ t) (text ∙ sym (append-nil (row_text default_writer adds.fields)))
+    ∙ sym (records_append before (adds.fields ∷ [])) in
     record {
       records = w.records ++ adds.fields ∷ [];
       written = subst (Appends old new) grown (Appends-trans old now new (records_text before) line w.written more);
@@ -69,11 +75,13 @@ one_written tell version old now new given span empty line w none adds more =
 abbrev HasNone : PathSpan → Type 0
 HasNone span = (span.low.op ≡ 0) × (span.high.op ≡ 0)
 
-none_by_path : (tell : Answer → PathAnswer) (joined : List Span) → AllByRecursion HasNoOperation joined → AllByRecursion HasNone (map (tell_span tell) joined)
+none_by_path : (tell : Answer → PathAnswer) (joined : List Span) → AllByRecursion HasNoOperation joined
+    → AllByRecursion HasNone (map (tell_span tell) joined)
 none_by_path tell [] h = tt
 none_by_path tell (s ∷ joined) h = (h.0, none_by_path tell joined h.1)
 
-plain_records : (tell : Answer → PathAnswer) (version : PathVersion) (records : List Fields) (joined : List Span) → AllZip (Says tell version) records joined
+plain_records : (tell : Answer → PathAnswer) (version : PathVersion) (records : List Fields) (joined : List Span)
+    → AllZip (Says tell version) records joined
     → AllByRecursion HasNone (map (tell_span tell) joined) → AllZip (IsPlainPathRecord version) records (map (tell_span tell) joined)
 plain_records tell version [] [] z h = tt
 plain_records tell version [] (s ∷ joined) z h = absurd z
@@ -90,7 +98,8 @@ pub record AnswerAlike (other list : List Span) : Type 0 where
   pub second : AreInOrder list
   pub same : (p : Position) → span_answer other p ≡ span_answer list p
 
-canonical_of : (tell : Answer → PathAnswer) (other list joined : List Span) → AnswerAlike other list → AllJoinTo tell other joined → AreCanonicalOf (By tell list) (map (tell_span tell) joined)
+canonical_of : (tell : Answer → PathAnswer) (other list joined : List Span) → AnswerAlike other list → AllJoinTo tell other joined
+    → AreCanonicalOf (By tell list) (map (tell_span tell) joined)
 canonical_of tell other list joined alike j =
     let all = joined_canonical tell other joined alike.first j in
     record { canonical = all.canonical; same = λ p. all.same p ∙ ap (option_map tell) (alike.same p) }
@@ -100,10 +109,16 @@ pub operation_found : (tell : Answer → PathAnswer) (other list : List Span) (p
 operation_found tell other list p alike first =
     let joined = all_join tell other in
     let all = canonical_of tell other list joined.0 alike joined.1 in
-    record { spans = map (tell_span tell) joined.0; canonical = all; least = first_least tell joined.0 p all.canonical.in_order (first joined.0 joined.1) }
+    record {
+      spans = map (tell_span tell) joined.0;
+      canonical = all;
+      least = first_least tell joined.0 p all.canonical.in_order (first joined.0 joined.1);
+    }
 
-pub table_written : (tell : Answer → PathAnswer) (version : PathVersion) (old new : Option (List ℕ)) (other list joined : List Span) → AnswerAlike other list
-    → ((whole : List Span) → AllJoinTo tell other whole → AllByRecursion HasNoOperation whole) → ((all : List Span) → AllJoinTo tell list all → all ≡ joined) → HasWritten tell version old new joined
+pub table_written : (tell : Answer → PathAnswer) (version : PathVersion) (old new : Option (List ℕ)) (other list joined : List Span)
+    → AnswerAlike other list
+    → ((whole : List Span) → AllJoinTo tell other whole → AllByRecursion HasNoOperation whole)
+    → ((all : List Span) → AllJoinTo tell list all → all ≡ joined) → HasWritten tell version old new joined
     → (bytes : List ℕ) × Appends old new bytes × IsCanonicalPathTable version (By tell list) bytes
 table_written tell version old new other list joined alike none are w =
     let judged = all_join tell other in
@@ -112,8 +127,10 @@ table_written tell version old new other list joined alike none are w =
     let one = canonical_of tell other list judged.0 alike judged.1 in
     let two = joined_canonical tell list joined alike.second joins in
     let equal : map (tell_span tell) judged.0 ≡ map (tell_span tell) joined =
-    one_list (map (tell_span tell) judged.0) (map (tell_span tell) joined) one.canonical two.canonical (λ p. one.same p ∙ sym (two.same p)) in
-    let whole : AllByRecursion HasNone (map (tell_span tell) joined) = subst (AllByRecursion HasNone) equal (none_by_path tell judged.0 (none judged.0 judged.1)) in
+    one_list (map (tell_span tell) judged.0) (map (tell_span tell) joined) one.canonical two.canonical
+    (λ p. one.same p ∙ sym (two.same p)) in
+    let whole : AllByRecursion HasNone (map (tell_span tell) joined) =
+    subst (AllByRecursion HasNone) equal (none_by_path tell judged.0 (none judged.0 judged.1)) in
     let each = plain_records tell version w.records joined w.each whole in
     let bytes : List ℕ = records_text (path_column_names version ∷ w.records) in (
       bytes,

@@ -102,4 +102,5 @@ pub record AddsPlace (version : PathVersion) (answer : Answer) (old new : List �
 pub record HasWritten (tell : Answer → PathAnswer) (version : PathVersion) (old new : Option (List ℕ)) (joined : List Span) : Type 0 where
   pub records : List Fields
   pub written : Appends old new (records_text (path_column_names version ∷ records))
-  pub each : AllZip (λ fields span. SaysPath IsPlainAddress IsPlainDecimal version fields span.low.address span.high.address (tell span.answer)) records joined
+  pub each : AllZip (λ fields span. SaysPath IsPlainAddress IsPlainDecimal version fields span.low.address span.high.address
+      (tell span.answer)) records joined

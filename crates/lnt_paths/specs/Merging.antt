@@ -73,7 +73,8 @@ path_end (first ∷ []) = first.high
 path_end (first ∷ next ∷ spans) = path_end (next ∷ spans)
 
 -- Nothing differs below the end of the records, or this is what differs first.
-abbrev pub IsMergedBy : Option DifferenceByPath → (Answer → PathAnswer) → (List Span → Type 0) → Position → List Span → List PathSpan → Type 0
+abbrev pub IsMergedBy : Option DifferenceByPath → (Answer → PathAnswer) → (List Span → Type 0) → Position → List Span → List PathSpan
+    → Type 0
 IsMergedBy None tell AreLeft at section table = ArePassed tell section (path_span_answer table) at AreLeft
 IsMergedBy (Some difference) tell AreLeft at section table =
     IsLeastPathDifference (answer_told tell section) (path_span_answer table) difference × IsBelow difference.position at
@@ -91,4 +92,5 @@ pub record JudgesByPath {S : Type 0} (to_come : S → List Span → Type 0) (tel
   pub table : List PathSpan
   pub is_table : IsPathTable version records table
   pub count : comparison.count ≡ length records
-  pub merged : IsMerged tell (IsLeft to_come comparison.section.next comparison.section.spans) (whole comparison.at) comparison.first section table
+  pub merged : IsMerged tell (IsLeft to_come comparison.section.next comparison.section.spans) (whole comparison.at) comparison.first
+      section table

@@ -20,7 +20,8 @@ told_column Four column = None
 
 -- an answer told by path, where the files of units have these paths
 abbrev pub path_answer : PathVersion → (ℕ → ℕ → List ℕ) → Answer → PathAnswer
-path_answer version path answer = record { path = path answer.unit answer.file; line = answer.line; column = told_column version answer.column }
+path_answer version path answer =
+    record { path = path answer.unit answer.file; line = answer.line; column = told_column version answer.column }
 
 -- what spans answer at a position, told by path
 abbrev pub spans_by_path : PathVersion → (ℕ → ℕ → List ℕ) → List Span → Position → Option PathAnswer

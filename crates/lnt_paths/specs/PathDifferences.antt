@@ -18,7 +18,8 @@ abbrev pub told_path_answer : AnswerByPath → PathAnswer
 told_path_answer answer = record { path = answer.path.items; line = answer.line; column = answer.column }
 
 -- At the position the two answer as told, and differently, and alike at every lower one.
-pub record DifferFirst (by_section by_table : Position → Option PathAnswer) (position : Position) (table section : Option PathAnswer) : Type 0 where
+pub record DifferFirst (by_section by_table : Position → Option PathAnswer) (position : Position) (table section : Option PathAnswer) : Type
+    0 where
   pub section_is : section ≡ by_section position
   pub table_is : table ≡ by_table position
   pub differ : table ≢ section
@@ -27,7 +28,8 @@ pub record DifferFirst (by_section by_table : Position → Option PathAnswer) (p
 -- The difference tells the least position at which the two answer differently, and both answers there.
 abbrev pub IsLeastPathDifference : (Position → Option PathAnswer) → (Position → Option PathAnswer) → DifferenceByPath → Type 0
 IsLeastPathDifference by_section by_table difference =
-    DifferFirst by_section by_table difference.position (option_map told_path_answer difference.by_table) (option_map told_path_answer difference.by_section)
+    DifferFirst by_section by_table difference.position (option_map told_path_answer difference.by_table)
+    (option_map told_path_answer difference.by_section)
 
 -- ---- a comparison of bytes with what a section answers, as each version tells answers
 
@@ -39,7 +41,8 @@ pub record AnswersByPath (bytes : List ℕ) (section : PathVersion → Position 
   pub agree : (p : Position) → section version p ≡ path_span_answer table p
 
 -- The bytes are a table by path, and this is where it differs from the section first.
-pub record DiffersByPath (bytes : List ℕ) (section : PathVersion → Position → Option PathAnswer) (difference : DifferenceByPath) : Type 0 where
+pub record DiffersByPath (bytes : List ℕ) (section : PathVersion → Position → Option PathAnswer) (difference : DifferenceByPath) : Type
+    0 where
   pub version : PathVersion
   pub table : List PathSpan
   pub is_table : IsPathTableOf version bytes table

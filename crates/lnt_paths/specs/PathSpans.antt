@@ -34,7 +34,8 @@ StandInOrder (span ∷ next ∷ spans) = IsBelow span.low span.high × IsAtMost 
 abbrev pub PathsDifferWhereTheyTouch : List PathSpan → Type 0
 PathsDifferWhereTheyTouch [] = Unit {0}
 PathsDifferWhereTheyTouch (span ∷ []) = Unit {0}
-PathsDifferWhereTheyTouch (span ∷ next ∷ spans) = (span.high ≡ next.low → span.answer ≢ next.answer) × PathsDifferWhereTheyTouch (next ∷ spans)
+PathsDifferWhereTheyTouch (span ∷ next ∷ spans) =
+    (span.high ≡ next.low → span.answer ≢ next.answer) × PathsDifferWhereTheyTouch (next ∷ spans)
 
 -- In order, none empty, and no two that touch with the same answer.
 pub record AreCanonicalPaths (spans : List PathSpan) : Type 0 where

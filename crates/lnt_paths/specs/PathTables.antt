@@ -24,7 +24,8 @@ SaysColumn Number Three fields (Some column) = Number (get_or fields 4 []) colum
 SaysColumn Number Four fields column = column ≡ None
 
 -- A record that says two addresses and an answer, where addresses and numbers are written in these ways.
-pub record SaysPath (Address Number : List ℕ → ℕ → Type 0) (version : PathVersion) (fields : Fields) (low high : ℕ) (answer : PathAnswer) : Type 0 where
+pub record SaysPath (Address Number : List ℕ → ℕ → Type 0) (version : PathVersion) (fields : Fields) (low high : ℕ)
+    (answer : PathAnswer) : Type 0 where
   pub count : length fields ≡ path_column_count version
   pub low_is : Address (get_or fields 0 []) low
   pub high_is : Address (get_or fields 1 []) high

@@ -20,7 +20,8 @@ pub(crate) fn first_operation<S: SpanSource + Drop, P: Paths>(
     paths: &P,
     version: PathVersion,
 ) -> Result<Option<Position>, WriteStop>
-    ensures { IfOk result (λ found. (list joined : List spec.Span) → S.to_come spans list → AllJoinTo (path_answer version (P.bytes_of paths.now)) list joined
+    ensures { IfOk result (λ found. (list joined : List spec.Span) → S.to_come spans list
+        → AllJoinTo (path_answer version (P.bytes_of paths.now)) list joined
         → MatchOption found (AllByRecursion HasNoOperation joined) (λ position. IsFirstOperation position joined)) }
 {
     let mut joined = Joined::of(spans);

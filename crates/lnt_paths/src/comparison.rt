@@ -106,7 +106,8 @@ impl<S: SpanSource + Drop> PathComparison<S> {
     // With the header alone.
     fn new(alloc: Global, spans: S) -> Result<PathComparison<S>, AllocError>
         ensures known { IfOk result (λ comparison. (path : ℕ → ℕ → List ℕ) → AreKnownOf path comparison.known.slots.items) }
-        ensures left { IfOk result (λ comparison. (list : List spec.Span) → S.to_come spans list → IsLeft S.to_come comparison.section.next comparison.section.spans list) }
+        ensures left { IfOk result (λ comparison. (list : List spec.Span) → S.to_come spans list
+            → IsLeft S.to_come comparison.section.next comparison.section.spans list) }
         ensures none { IfOk result (λ comparison. (comparison.at ≡ 0) × (comparison.first ≡ None) × (comparison.count ≡ 1)) }
     {
         let known = KnownPaths::new(alloc)?;
@@ -133,8 +134,10 @@ impl<S: SpanSource + Drop> PathComparison<S> {
         ensures known { OnOk result (AreKnownOf (P.bytes_of paths.now) self.new.known.slots.items) }
         ensures count { OnOk result (self.new.count ≡ self.old.count) }
         ensures merged { OnOk result ((list : List spec.Span) (table : List PathSpan)
-            → IsMerged (path_answer version (P.bytes_of paths.now)) (IsLeft S.to_come self.old.section.next self.old.section.spans) (whole self.old.at) self.old.first list table
-            → IsMerged (path_answer version (P.bytes_of paths.now)) (IsLeft S.to_come self.new.section.next self.new.section.spans) (whole self.new.at) self.new.first list (table ++ record_span said.now ∷ [])) }
+            → IsMerged (path_answer version (P.bytes_of paths.now)) (IsLeft S.to_come self.old.section.next self.old.section.spans)
+            (whole self.old.at) self.old.first list table
+            → IsMerged (path_answer version (P.bytes_of paths.now)) (IsLeft S.to_come self.new.section.next self.new.section.spans)
+            (whole self.new.at) self.new.first list (table ++ record_span said.now ∷ [])) }
     {
         self.at = said.high;
         if self.first.is_some() {
@@ -157,7 +160,8 @@ impl<S: SpanSource + Drop> PathComparison<S> {
 
     // Whether a record begins where the records end or after that, and holds something.
     fn takes(&self, said: &PathRecord<'_>) -> bool
-        ensures { MatchBool result ((self.now.at ≤ said.now.low) × (said.now.low < said.now.high)) (self.now.at ≤ said.now.low → said.now.low < said.now.high → ⊥) }
+        ensures { MatchBool result ((self.now.at ≤ said.now.low) × (said.now.low < said.now.high))
+            (self.now.at ≤ said.now.low → said.now.low < said.now.high → ⊥) }
     {
         self.at <= said.low && said.low < said.high
     }
@@ -175,8 +179,10 @@ impl<S: SpanSource + Drop> PathComparison<S> {
         ensures known { OnOk result (AreKnownOf (P.bytes_of paths.now) self.new.known.slots.items) }
         ensures judged { IfOk result (λ found. (list : List spec.Span) (records : List Fields)
             → JudgesByPath S.to_come (path_answer version (P.bytes_of paths.now)) version self.old list records
-            → MatchOption found (JudgesByPath S.to_come (path_answer version (P.bytes_of paths.now)) version self.new list (records ++ fields_of row.now ∷ []))
-            (λ fault. (table : List PathSpan) × IsPathTable version records table × IsFaultyRecord version table (length records) (fields_of row.now) fault)) }
+            → MatchOption found (JudgesByPath S.to_come (path_answer version (P.bytes_of paths.now)) version self.new list
+            (records ++ fields_of row.now ∷ []))
+            (λ fault. (table : List PathSpan) × IsPathTable version records table
+            × IsFaultyRecord version table (length records) (fields_of row.now) fault)) }
         ensures count { IfOk result (λ found. MatchOption found (self.new.count ≡ self.old.count + 1) (λ _. Unit {0})) }
     {
         let said = match record_of(row, version) {
@@ -202,9 +208,12 @@ impl<S: SpanSource + Drop> PathComparison<S> {
         version: PathVersion,
     ) -> Result<Option<DifferenceByPath>, AllocError>
         ensures { IfOk result (λ found. (list : List spec.Span) (table : List PathSpan)
-            → IsMerged (path_answer version (P.bytes_of paths.now)) (IsLeft S.to_come self.section.next self.section.spans) (whole self.at) self.first list table
-            → MatchOption found ((p : position.Position) → answer_told (path_answer version (P.bytes_of paths.now)) list p ≡ path_span_answer table p)
-            (λ difference. IsLeastPathDifference (answer_told (path_answer version (P.bytes_of paths.now)) list) (path_span_answer table) difference)) }
+            → IsMerged (path_answer version (P.bytes_of paths.now)) (IsLeft S.to_come self.section.next self.section.spans) (whole self.at)
+            self.first list table
+            → MatchOption found ((p : position.Position)
+            → answer_told (path_answer version (P.bytes_of paths.now)) list p ≡ path_span_answer table p)
+            (λ difference. IsLeastPathDifference (answer_told (path_answer version (P.bytes_of paths.now)) list) (path_span_answer table)
+            difference)) }
     {
         if self.first.is_some() {
             return Ok(self.first);
@@ -259,8 +268,10 @@ fn difference_of<P: Paths>(
     said: &PathRecord<'_>,
 ) -> Result<DifferenceByPath, AllocError>
     ensures position { IfOk result (λ difference. difference.position ≡ apart.now.position) }
-    ensures table { IfOk result (λ difference. option_map told_path_answer difference.by_table ≡ table_side apart.now.by_table (record_answer said.now)) }
-    ensures section { IfOk result (λ difference. option_map told_path_answer difference.by_section ≡ option_map (path_answer version (P.bytes_of paths.now)) apart.now.by_section) }
+    ensures table { IfOk result (λ difference. option_map told_path_answer difference.by_table
+        ≡ table_side apart.now.by_table (record_answer said.now)) }
+    ensures section { IfOk result (λ difference. option_map told_path_answer difference.by_section
+        ≡ option_map (path_answer version (P.bytes_of paths.now)) apart.now.by_section) }
 {
     let by_table = if apart.by_table {
         Some(said_of(alloc, said)?)

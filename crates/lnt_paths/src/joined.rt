@@ -24,7 +24,8 @@ pub(crate) struct Joined<S> {
 impl<S: SpanSource> Joined<S> {
     // All spans of the source.
     pub(crate) fn of(mut spans: S) -> Joined<S>
-        ensures { (tell : answer.Answer → PathAnswer) (list joined : List spec.Span) → S.to_come spans list → AllJoinTo tell list joined → WillGive tell result.next (S.to_come result.spans) joined }
+        ensures { (tell : answer.Answer → PathAnswer) (list joined : List spec.Span) → S.to_come spans list → AllJoinTo tell list joined
+            → WillGive tell result.next (S.to_come result.spans) joined }
     {
         let next = spans.next_span();
         Joined { next, spans }
@@ -37,9 +38,11 @@ impl<S: SpanSource> Joined<S> {
         paths: &P,
         version: PathVersion,
     ) -> Result<Option<Span>, WriteStop>
-        ensures gives { IfOk result (λ given. (joined : List spec.Span) → WillGive (path_answer version (P.bytes_of paths.now)) self.old.next (S.to_come self.old.spans) joined
+        ensures gives { IfOk result (λ given. (joined : List spec.Span)
+            → WillGive (path_answer version (P.bytes_of paths.now)) self.old.next (S.to_come self.old.spans) joined
             → GivesFirst (WillGive (path_answer version (P.bytes_of paths.now)) self.new.next (S.to_come self.new.spans)) joined given) }
-        ensures fewer { IfOk result (λ given. IfSome given (λ _. count_ahead self.new.next (S.left self.new.spans) < count_ahead self.old.next (S.left self.old.spans))) }
+        ensures fewer { IfOk result (λ given. IfSome given
+            (λ _. count_ahead self.new.next (S.left self.new.spans) < count_ahead self.old.next (S.left self.old.spans))) }
     {
         let Some(mut last) = self.next.take() else {
             return Ok(None);
@@ -63,7 +66,8 @@ fn goes_on<P: Paths>(
     last: &Span,
     span: &Span,
 ) -> Result<bool, WriteStop>
-    ensures { IfOk result (λ goes. MatchBool goes (GoesOn (path_answer version (P.bytes_of paths.now)) last.now span.now) (GoesOn (path_answer version (P.bytes_of paths.now)) last.now span.now → ⊥)) }
+    ensures { IfOk result (λ goes. MatchBool goes (GoesOn (path_answer version (P.bytes_of paths.now)) last.now span.now)
+        (GoesOn (path_answer version (P.bytes_of paths.now)) last.now span.now → ⊥)) }
 {
     if last.high != span.low || !same_place(version, &last.answer, &span.answer) {
         return Ok(false);
@@ -73,7 +77,8 @@ fn goes_on<P: Paths>(
 
 // Whether two answers have the same line, and the same column where the version tells it.
 fn same_place(version: PathVersion, one: &Answer, other: &Answer) -> bool
-    ensures { MatchBool result ((one.now.line ≡ other.now.line) × (told_column version one.now.column ≡ told_column version other.now.column))
+    ensures { MatchBool result ((one.now.line ≡ other.now.line)
+        × (told_column version one.now.column ≡ told_column version other.now.column))
         (one.now.line ≡ other.now.line → told_column version one.now.column ≢ told_column version other.now.column) }
 {
     match version {

@@ -65,8 +65,10 @@ pub(crate) fn first_apart<S: SpanSource, P: Paths>(
     requires known { AreKnownOf (P.bytes_of paths.now) known.old.slots.items }
     requires holds { said.now.low < said.now.high }
     ensures known { OnOk result (AreKnownOf (P.bytes_of paths.now) known.new.slots.items) }
-    ensures apart { IfOk result (λ found. (list : List spec.Span) → IsLeft S.to_come section.old.next section.old.spans list → AreInOrder list
-        → MatchOption found (ArePassed (path_answer version (P.bytes_of paths.now)) list (path_span_answer (record_span said.now ∷ [])) (whole said.now.high) (IsLeft S.to_come section.new.next section.new.spans))
+    ensures apart { IfOk result (λ found. (list : List spec.Span) → IsLeft S.to_come section.old.next section.old.spans list
+        → AreInOrder list
+        → MatchOption found (ArePassed (path_answer version (P.bytes_of paths.now)) list (path_span_answer (record_span said.now ∷ []))
+        (whole said.now.high) (IsLeft S.to_come section.new.next section.new.spans))
         (λ apart. AreApart (path_answer version (P.bytes_of paths.now)) list said.now apart)) }
 {
     let mut at = whole(said.low);

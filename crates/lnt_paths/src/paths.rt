@@ -24,7 +24,8 @@ pub(crate) fn same_path<P: Paths>(
     one: &Answer,
     other: &Answer,
 ) -> Result<bool, WriteStop>
-    ensures { IfOk result (λ same. MatchBool same (P.bytes_of paths.now one.now.unit one.now.file ≡ P.bytes_of paths.now other.now.unit other.now.file)
+    ensures { IfOk result (λ same. MatchBool same (P.bytes_of paths.now one.now.unit one.now.file
+        ≡ P.bytes_of paths.now other.now.unit other.now.file)
         (P.bytes_of paths.now one.now.unit one.now.file ≢ P.bytes_of paths.now other.now.unit other.now.file)) }
 {
     if one.unit == other.unit && one.file == other.file {

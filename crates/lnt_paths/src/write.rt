@@ -43,7 +43,8 @@ pub fn write_by_path<S: SpanSource + Drop, P: Paths, W: Write>(
     version: PathVersion,
     out: &mut W,
 ) -> Result<PathTable, WriteStop>
-    ensures { IfOk result (λ table. (list other : List spec.Span) → S.to_come judged other → S.to_come spans list → AreInOrder other → AreInOrder list
+    ensures { IfOk result (λ table. (list other : List spec.Span) → S.to_come judged other → S.to_come spans list → AreInOrder other
+        → AreInOrder list
         → ((p : position.Position) → span_answer other p ≡ span_answer list p)
         → HasBecome version (spans_by_path version (P.bytes_of paths.now) list) (W.contents out.old) (W.contents out.new) table) }
 {
@@ -80,8 +81,10 @@ fn write_lines<S: SpanSource + Drop, P: Paths, W: Write>(
     version: PathVersion,
     out: &mut W,
 ) -> Result<(), WriteStop>
-    ensures { OnOk result ((joined : List spec.Span) × HasWritten (path_answer version (P.bytes_of paths.now)) version (W.contents out.old) (W.contents out.new) joined
-        × ((list all : List spec.Span) → S.to_come spans list → AllJoinTo (path_answer version (P.bytes_of paths.now)) list all → all ≡ joined)) }
+    ensures { OnOk result ((joined : List spec.Span)
+        × HasWritten (path_answer version (P.bytes_of paths.now)) version (W.contents out.old) (W.contents out.new) joined
+        × ((list all : List spec.Span) → S.to_come spans list → AllJoinTo (path_answer version (P.bytes_of paths.now)) list all
+        → all ≡ joined)) }
 {
     let mut joined = Joined::of(spans);
     let mut fields = PathFields::new(alloc)?;

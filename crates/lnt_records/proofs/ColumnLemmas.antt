@@ -34,23 +34,29 @@ sound_more fields i before s k lt =
     same : i ≤ k → i ≡ k
     same h = omega (arith, h, lt)
 
-pub sound_address : (fields : Fields) (i n : ℕ) → IsColumnOf address i → AreSoundBefore fields i → IsAddress (get_or fields i []) n → AreSoundBefore fields (i + 1)
+pub sound_address : (fields : Fields) (i n : ℕ) → IsColumnOf address i → AreSoundBefore fields i → IsAddress (get_or fields i []) n
+    → AreSoundBefore fields (i + 1)
 sound_address fields i n e before h = sound_more fields i before (of_kind address fields i e (n, h))
 
-pub sound_decimal : (fields : Fields) (i n : ℕ) → IsColumnOf decimal i → AreSoundBefore fields i → IsDecimal (get_or fields i []) n → AreSoundBefore fields (i + 1)
+pub sound_decimal : (fields : Fields) (i n : ℕ) → IsColumnOf decimal i → AreSoundBefore fields i → IsDecimal (get_or fields i []) n
+    → AreSoundBefore fields (i + 1)
 sound_decimal fields i n e before h = sound_more fields i before (of_kind decimal fields i e (n, h))
 
-pub sound_flag : (fields : Fields) (i : ℕ) (on : Bool) → IsColumnOf flag i → AreSoundBefore fields i → IsFlag (get_or fields i []) on → AreSoundBefore fields (i + 1)
+pub sound_flag : (fields : Fields) (i : ℕ) (on : Bool) → IsColumnOf flag i → AreSoundBefore fields i → IsFlag (get_or fields i []) on
+    → AreSoundBefore fields (i + 1)
 sound_flag fields i on e before h = sound_more fields i before (of_kind flag fields i e (on, h))
 
-pub no_address : (fields : Fields) (i : ℕ) → i < length fields → IsColumnOf address i → AreSoundBefore fields i → ((n : ℕ) → IsAddress (get_or fields i []) n → ⊥)
+pub no_address : (fields : Fields) (i : ℕ) → i < length fields → IsColumnOf address i → AreSoundBefore fields i
+    → ((n : ℕ) → IsAddress (get_or fields i []) n → ⊥)
     → IsFaultyColumn fields i
 no_address fields i lt e before h = record { there = lt; before = before; faulty = not_of_kind address fields i e (λ k. h k.0 k.1) }
 
-pub no_decimal : (fields : Fields) (i : ℕ) → i < length fields → IsColumnOf decimal i → AreSoundBefore fields i → ((n : ℕ) → IsDecimal (get_or fields i []) n → ⊥)
+pub no_decimal : (fields : Fields) (i : ℕ) → i < length fields → IsColumnOf decimal i → AreSoundBefore fields i
+    → ((n : ℕ) → IsDecimal (get_or fields i []) n → ⊥)
     → IsFaultyColumn fields i
 no_decimal fields i lt e before h = record { there = lt; before = before; faulty = not_of_kind decimal fields i e (λ k. h k.0 k.1) }
 
-pub no_flag : (fields : Fields) (i : ℕ) → i < length fields → IsColumnOf flag i → AreSoundBefore fields i → ((on : Bool) → IsFlag (get_or fields i []) on → ⊥)
+pub no_flag : (fields : Fields) (i : ℕ) → i < length fields → IsColumnOf flag i → AreSoundBefore fields i
+    → ((on : Bool) → IsFlag (get_or fields i []) on → ⊥)
     → IsFaultyColumn fields i
 no_flag fields i lt e before h = record { there = lt; before = before; faulty = not_of_kind flag fields i e (λ k. h k.0 k.1) }

@@ -1,5 +1,6 @@
 -- What a comparison knows after one more record, and what it tells.
-use Rattle.std.proofs.Common.{◌≡◌, ◌∙◌, ℕ, ◌+◌, ◌^◌, ◌<◌, List, [], ◌∷◌, ◌++◌, append-nil, append_assoc, length, length-append, refl, subst, sym, arith}
+use Rattle.std.proofs.Common.{◌≡◌, ◌∙◌, ℕ, ◌+◌, ◌^◌, ◌<◌, List, [], ◌∷◌, ◌++◌, append-nil, append_assoc, length, length-append, refl, subst}
+use Rattle.std.proofs.Common.{sym, arith}
 use Rattle.std.specs.List.{AllZip}
 use Rattle.lnt_spans.specs.declared.answer.Version.{Version}
 use Rattle.lnt_spans.specs.declared.position.Position.{Position}
@@ -19,20 +20,23 @@ use Rattle.lnt_records.specs.Table.{BeginsWith, Fields, IsSpanRecord, IsTable, R
 
 -- ---- one more record
 
-pub zip_push : {A B : Type 0} (R : A → B → Type 0) (xs : List A) (ys : List B) (x : A) (y : B) → AllZip R xs ys → R x y → AllZip R (xs ++ x ∷ []) (ys ++ y ∷ [])
+pub zip_push : {A B : Type 0} (R : A → B → Type 0) (xs : List A) (ys : List B) (x : A) (y : B) → AllZip R xs ys → R x y
+    → AllZip R (xs ++ x ∷ []) (ys ++ y ∷ [])
 zip_push R [] [] x y z h = (h, tt)
 zip_push R [] (b ∷ ys) x y z h = absurd z
 zip_push R (a ∷ xs) [] x y z h = absurd z
 zip_push R (a ∷ xs) (b ∷ ys) x y z h = (z.0, zip_push R xs ys x y z.1 h)
 
-pub table_push : (version : Version) (records : List Fields) (table : List Span) (fields : Fields) (span : Span) → IsTable version records table → IsSpanRecord version fields span
+pub table_push : (version : Version) (records : List Fields) (table : List Span) (fields : Fields) (span : Span)
+    → IsTable version records table → IsSpanRecord version fields span
     → AreInOrder (table ++ span ∷ []) → IsTable version (records ++ fields ∷ []) (table ++ span ∷ [])
 table_push version [] table fields span t s o = absurd t
 table_push version (first ∷ records) table fields span t s o =
     (t.0, record { each = zip_push (IsSpanRecord version) records table fields span t.1.each s; in_order = o })
 
 -- the header alone
-pub judges_header : {S : Type 0} (to_come : S → List Span → Type 0) (comparison : Comparison S) (section : List Span) → comparison.count ≡ 1 → comparison.merge.version ≡ comparison.version → Compares to_come comparison.merge section []
+pub judges_header : {S : Type 0} (to_come : S → List Span → Type 0) (comparison : Comparison S) (section : List Span) → comparison.count ≡ 1
+    → comparison.merge.version ≡ comparison.version → Compares to_come comparison.merge section []
     → Judges to_come comparison section (column_names comparison.version ∷ [])
 judges_header to_come comparison section count version c = record {
   table = [];
@@ -42,9 +46,12 @@ judges_header to_come comparison section count version c = record {
   compares = c;
 }
 
-pub record_taken : {S : Type 0} (to_come : S → List Span → Type 0) (old new : Comparison S) (section : List Span) (records : List Fields) (fields : Fields) (span : Span) → (j : Judges to_come old section records)
-    → IsSpanRecord old.version fields span → AreInOrder (j.table ++ span ∷ []) → new.version ≡ old.version → new.count ≡ old.count + 1 → new.merge.version ≡ old.merge.version
-    → ((spans table : List Span) → Compares to_come old.merge spans table → Compares to_come new.merge spans (table ++ span ∷ [])) → Judges to_come new section (records ++ fields ∷ [])
+pub record_taken : {S : Type 0} (to_come : S → List Span → Type 0) (old new : Comparison S) (section : List Span) (records : List Fields)
+    (fields : Fields) (span : Span) → (j : Judges to_come old section records)
+    → IsSpanRecord old.version fields span → AreInOrder (j.table ++ span ∷ []) → new.version ≡ old.version → new.count ≡ old.count + 1
+    → new.merge.version ≡ old.merge.version
+    → ((spans table : List Span) → Compares to_come old.merge spans table → Compares to_come new.merge spans (table ++ span ∷ []))
+    → Judges to_come new section (records ++ fields ∷ [])
 record_taken to_come old new section records fields span j s o same count version step = record {
   table = j.table ++ span ∷ [];
   is_table = rw same (table_push old.version records j.table fields span j.is_table s o);
@@ -62,7 +69,8 @@ pub record Stops (version : Version) (records : List Fields) (fields : Fields) (
 -- ---- what is told
 
 pub fault_told : (bytes : List ℕ) (version : Version) (records : List Fields) (fields : Fields) (table : List Span) (told : TableFault)
-    → BeginsWith bytes (records ++ fields ∷ []) → IsTable version records table → IsFaulty version table (length records) fields told → IsFault bytes told
+    → BeginsWith bytes (records ++ fields ∷ []) → IsTable version records table → IsFaulty version table (length records) fields told
+    → IsFault bytes told
 fault_told bytes version records fields table fault.Header h t f = absurd f
 fault_told bytes version records fields table (fault.Fields k) h t f =
     record { version = version; records = records; spans = table; fields = fields; begins = h; table = t; faulty = f }
@@ -75,8 +83,10 @@ fault_told bytes version records fields table (fault.Order k) h t f =
 abbrev pub AnswersSo : Version → List Span → List Span → Type 0
 AnswersSo version list section = (p : Position) → version_answer version list p ≡ version_answer version section p
 
-pub same_told : {S : Type 0} (to_come : S → List Span → Type 0) (bytes : List ℕ) (comparison : Comparison S) (list section : List Span) (records : List Fields) → (j : Judges to_come comparison list records) → RecordsOf bytes records
-    → AnswersSo comparison.version list section → Agree (version_answer comparison.merge.version list) (span_answer j.table) → AnswersAs bytes section
+pub same_told : {S : Type 0} (to_come : S → List Span → Type 0) (bytes : List ℕ) (comparison : Comparison S) (list section : List Span)
+    (records : List Fields) → (j : Judges to_come comparison list records) → RecordsOf bytes records
+    → AnswersSo comparison.version list section → Agree (version_answer comparison.merge.version list) (span_answer j.table)
+    → AnswersAs bytes section
 same_told to_come bytes comparison list section records j all same agree =
     let own : Agree (version_answer comparison.version list) (span_answer j.table) = rw j.version at agree in
     record {
@@ -86,41 +96,55 @@ same_told to_come bytes comparison list section records j all same agree =
       agree = λ p. sym (same p) ∙ own p;
     }
 
-pub difference_told : {S : Type 0} (to_come : S → List Span → Type 0) (bytes : List ℕ) (comparison : Comparison S) (list section : List Span) (records : List Fields) (difference : Difference) → (j : Judges to_come comparison list records)
-    → RecordsOf bytes records → AnswersSo comparison.version list section → IsLeastDifference (version_answer comparison.merge.version list) (span_answer j.table) difference → DiffersSo bytes section difference
+pub difference_told : {S : Type 0} (to_come : S → List Span → Type 0) (bytes : List ℕ) (comparison : Comparison S)
+    (list section : List Span) (records : List Fields) (difference : Difference) → (j : Judges to_come comparison list records)
+    → RecordsOf bytes records → AnswersSo comparison.version list section
+    → IsLeastDifference (version_answer comparison.merge.version list) (span_answer j.table) difference → DiffersSo bytes section difference
 difference_told to_come bytes comparison list section records difference j all same least =
     let own : IsLeastDifference (version_answer comparison.version list) (span_answer j.table) difference = rw j.version at least in
     record {
       version = comparison.version;
       table = j.table;
       is_table = (records, all, j.is_table);
-      least = record { section = own.section ∙ same difference.position; table = own.table; differ = own.differ; least = λ p below. sym (same p) ∙ own.least p below };
+      least = record {
+        section = own.section ∙ same difference.position;
+        table = own.table;
+        differ = own.differ;
+        least = λ p below. sym (same p) ∙ own.least p below;
+      };
     }
 
 -- ---- records after lines that were cut out
 
 -- From one state of a comparison to another these records were read after the header of a text.
-pub record HasCompared {S : Type 0} (to_come : S → List Span → Type 0) (reader : BytesReader) (text : List ℕ) (version : Version) (old new : Comparison S) : Type 0 where
+pub record HasCompared {S : Type 0} (to_come : S → List Span → Type 0) (reader : BytesReader) (text : List ℕ) (version : Version)
+    (old new : Comparison S) : Type 0 where
   pub more : List Fields
   pub read : HasRead reader text (column_names version ∷ more)
   pub version_is : new.version ≡ version
-  pub judged : (list : List Span) (passed : List Fields) → Judges to_come old list (column_names version ∷ passed) → Judges to_come new list (column_names version ∷ (passed ++ more))
+  pub judged : (list : List Span) (passed : List Fields) → Judges to_come old list (column_names version ∷ passed)
+      → Judges to_come new list (column_names version ∷ (passed ++ more))
 
-pub compared_none : {S : Type 0} (to_come : S → List Span → Type 0) (reader : BytesReader) (text : List ℕ) (version : Version) (comparison : Comparison S) → HasRead reader text (column_names version ∷ []) → comparison.version ≡ version
+pub compared_none : {S : Type 0} (to_come : S → List Span → Type 0) (reader : BytesReader) (text : List ℕ) (version : Version)
+    (comparison : Comparison S) → HasRead reader text (column_names version ∷ []) → comparison.version ≡ version
     → HasCompared to_come reader text version comparison comparison
 compared_none to_come reader text version comparison read same = record {
   more = [];
   read = read;
   version_is = same;
-  judged = λ list passed j. subst (λ (records : List Fields). Judges to_come comparison list (column_names version ∷ records)) (sym (append-nil passed)) j;
+  judged = λ list passed j. subst (λ (records : List Fields). Judges to_come comparison list (column_names version ∷ records))
+      (sym (append-nil passed)) j;
 }
 
 -- what is known of one more record
 abbrev pub Judged : {S : Type 0} → (S → List Span → Type 0) → Comparison S → Comparison S → Fields → Type 0
-Judged to_come old new fields = (section : List Span) (records : List Fields) → Judges to_come old section records → Judges to_come new section (records ++ fields ∷ [])
+Judged to_come old new fields =
+    (section : List Span) (records : List Fields) → Judges to_come old section records → Judges to_come new section (records ++ fields ∷ [])
 
-pub compared_more : {S : Type 0} (to_come : S → List Span → Type 0) (before after : BytesReader) (text : List ℕ) (version : Version) (first old new : Comparison S) (fields : Fields) → (h : HasCompared to_come before text version first old)
-    → HasRead after text (column_names version ∷ (h.more ++ fields ∷ [])) → new.version ≡ old.version → Judged to_come old new fields → HasCompared to_come after text version first new
+pub compared_more : {S : Type 0} (to_come : S → List Span → Type 0) (before after : BytesReader) (text : List ℕ) (version : Version)
+    (first old new : Comparison S) (fields : Fields) → (h : HasCompared to_come before text version first old)
+    → HasRead after text (column_names version ∷ (h.more ++ fields ∷ [])) → new.version ≡ old.version → Judged to_come old new fields
+    → HasCompared to_come after text version first new
 compared_more to_come before after text version first old new fields h read same step = record {
   more = h.more ++ fields ∷ [];
   read = read;
@@ -131,21 +155,28 @@ compared_more to_come before after text version first old new fields h read same
 }
 
 -- there is room to count one more
-pub compared_few : {S : Type 0} (to_come : S → List Span → Type 0) (before after : BytesReader) (text : List ℕ) (version : Version) (first now : Comparison S) (fields : Fields) (list : List Span) (passed : List Fields)
-    → (h : HasCompared to_come before text version first now) → HasRead after text (column_names version ∷ (h.more ++ fields ∷ [])) → Judges to_come first list (column_names version ∷ passed) → first.count + length text < 2 ^ 64 + 1
+pub compared_few : {S : Type 0} (to_come : S → List Span → Type 0) (before after : BytesReader) (text : List ℕ) (version : Version)
+    (first now : Comparison S) (fields : Fields) (list : List Span) (passed : List Fields)
+    → (h : HasCompared to_come before text version first now) → HasRead after text (column_names version ∷ (h.more ++ fields ∷ []))
+    → Judges to_come first list (column_names version ∷ passed) → first.count + length text < 2 ^ 64 + 1
     → length (column_names version ∷ (passed ++ h.more)) + 1 < 2 ^ 64
 compared_few to_come before after text version first now fields list passed h read j few =
     omega (arith, few, j.count, read.few, length-append passed h.more, length-append h.more (fields ∷ []))
 
-pub fault_behind : {S : Type 0} (to_come : S → List Span → Type 0) (before after : BytesReader) (text bytes : List ℕ) (version : Version) (first now : Comparison S) (fields : Fields) (passed : List Fields) (table : List Span) (told : TableFault)
-    → (h : HasCompared to_come before text version first now) → HasRead after text (column_names version ∷ (h.more ++ fields ∷ [])) → IsCut version text bytes passed
-    → IsTable now.version (column_names version ∷ (passed ++ h.more)) table → IsFaulty now.version table (length (column_names version ∷ (passed ++ h.more))) fields told → IsFault bytes told
+pub fault_behind : {S : Type 0} (to_come : S → List Span → Type 0) (before after : BytesReader) (text bytes : List ℕ) (version : Version)
+    (first now : Comparison S) (fields : Fields) (passed : List Fields) (table : List Span) (told : TableFault)
+    → (h : HasCompared to_come before text version first now) → HasRead after text (column_names version ∷ (h.more ++ fields ∷ []))
+    → IsCut version text bytes passed
+    → IsTable now.version (column_names version ∷ (passed ++ h.more)) table
+    → IsFaulty now.version table (length (column_names version ∷ (passed ++ h.more))) fields told → IsFault bytes told
 fault_behind to_come before after text bytes version first now fields passed table told h read cut is_table faulty =
     let names : Fields = column_names version in
     let all = cut (h.more ++ fields ∷ []) (reader_state after) read.rest read.reached in
     let begins : BeginsWith bytes (names ∷ (passed ++ h.more ++ fields ∷ [])) =
-    subst (λ (records : List Fields). BeginsWith bytes (names ∷ records)) (sym (append_assoc passed h.more (fields ∷ []))) (reader_state after, read.rest, all) in
+    subst (λ (records : List Fields). BeginsWith bytes (names ∷ records)) (sym (append_assoc passed h.more (fields ∷ [])))
+    (reader_state after, read.rest, all) in
     fault_told bytes now.version (names ∷ (passed ++ h.more)) fields table told begins is_table faulty
 
-pub all_behind : (text bytes : List ℕ) (version : Version) (passed more : List Fields) → IsCut version text bytes passed → RecordsOf text (column_names version ∷ more) → RecordsOf bytes (column_names version ∷ (passed ++ more))
+pub all_behind : (text bytes : List ℕ) (version : Version) (passed more : List Fields) → IsCut version text bytes passed
+    → RecordsOf text (column_names version ∷ more) → RecordsOf bytes (column_names version ∷ (passed ++ more))
 all_behind text bytes version passed more cut all = (all.0, all.1, cut more all.0 all.1 all.2, all.3)

@@ -1,5 +1,6 @@
 -- A number in front of a byte.
-use Rattle.std.proofs.Common.{◌≡◌, ◌∙◌, ℕ, ◌+◌, ◌*◌, ◌^◌, ◌%◌, ◌<◌, ◌≤◌, Bool, true, false, List, [], ◌∷◌, ◌++◌, length, length-append, get_or, drop, append_assoc, refl, sym, ap, arith}
+use Rattle.std.proofs.Common.{◌≡◌, ◌∙◌, ℕ, ◌+◌, ◌*◌, ◌^◌, ◌%◌, ◌<◌, ◌≤◌, Bool, true, false, List, [], ◌∷◌, ◌++◌, length, length-append}
+use Rattle.std.proofs.Common.{get_or, drop, append_assoc, refl, sym, ap, arith}
 use Rattle.std.proofs.Math.Nat.{pow-le-pow_right}
 use Rattle.std.proofs.lemmas.Grind.{pow_more}
 use Rattle.std.proofs.lemmas.List.{drop_more}
@@ -19,7 +20,8 @@ all_push : (P : ℕ → Type 0) (front : List ℕ) (b : ℕ) → AllByRecursion 
 all_push P [] b h k = (k, tt)
 all_push P (a ∷ front) b h k = (h.0, all_push P front b h.1 k)
 
-value_push : (radix value c : ℕ) (text : List ℕ) → digits_value radix value (text ++ c ∷ []) ≡ digits_value radix value text * radix + digit_value c
+value_push : (radix value c : ℕ) (text : List ℕ) → digits_value radix value (text ++ c ∷ []) ≡ digits_value radix value text * radix
+    + digit_value c
 value_push radix value c [] = refl
 value_push radix value c (b ∷ text) = value_push radix (value * radix + digit_value b) c text
 
@@ -36,7 +38,8 @@ bound_more : (radix : Radix) (value d k : ℕ) → value < base radix ^ k → d 
 bound_more Ten value d k h lt = omega (arith, h, lt, pow_more 10 k)
 bound_more Sixteen value d k h lt = omega (arith, h, lt, pow_more 16 k)
 
-pub digits_more : (radix : Radix) (text : List ℕ) (at i value d more : ℕ) → i < length text → HasDigits radix text at i value → IsDigit radix (get_or text i 0)
+pub digits_more : (radix : Radix) (text : List ℕ) (at i value d more : ℕ) → i < length text → HasDigits radix text at i value
+    → IsDigit radix (get_or text i 0)
     → d ≡ digit_value (get_or text i 0) → d < base radix → more ≡ value * base radix + d → HasDigits radix text at (i + 1) more
 digits_more radix text at i value d more lt h is e small m =
     let c : ℕ = get_or text i 0 in
@@ -45,7 +48,8 @@ digits_more radix text at i value d more lt h is e small m =
     let pushed = value_push (base radix) 0 c h.front in
     record {
       front = h.front ++ c ∷ [];
-      joined = h.joined ∙ ap (λ (t : List ℕ). h.front ++ t) (drop_more text i 0 lt) ∙ sym (append_assoc h.front (c ∷ []) (drop (i + 1) text));
+      joined =
+          h.joined ∙ ap (λ (t : List ℕ). h.front ++ t) (drop_more text i 0 lt) ∙ sym (append_assoc h.front (c ∷ []) (drop (i + 1) text));
       count = omega (arith, h.count, long);
       digits = all_push (IsDigit radix) h.front c h.digits is;
       value_is = rw pushed (rw (sym before) (rw (sym e) m));
@@ -62,8 +66,10 @@ room_for_digit text at i value h few =
 
 -- one more hexadecimal digit, where all so far were such
 pub hexadecimal_more : (text : List ℕ) (at i value worth : ℕ) (before is : Bool) → i < length text
-    → (before ≡ true → i ≤ at + 16 → HasDigits Sixteen text at i value) → MatchBool is (IsHexadecimalDigit (get_or text i 0)) (IsHexadecimalDigit (get_or text i 0) → ⊥)
-    → (IsHexadecimalDigit (get_or text i 0) → (worth ≡ digit_value (get_or text i 0)) × (worth < 16)) → (before && is) ≡ true → i + 1 ≤ at + 16
+    → (before ≡ true → i ≤ at + 16 → HasDigits Sixteen text at i value)
+    → MatchBool is (IsHexadecimalDigit (get_or text i 0)) (IsHexadecimalDigit (get_or text i 0) → ⊥)
+    → (IsHexadecimalDigit (get_or text i 0) → (worth ≡ digit_value (get_or text i 0)) × (worth < 16)) → (before && is) ≡ true
+    → i + 1 ≤ at + 16
     → HasDigits Sixteen text at (i + 1) ((value * 16 % 2 ^ 64 + worth) % 2 ^ 64)
 hexadecimal_more text at i value worth true true lt h is says e few =
     let d = h refl (omega (arith, few)) in
@@ -77,7 +83,8 @@ hexadecimal_more text at i value worth true false lt h is says e few = absurd (c
 hexadecimal_more text at i value worth false is lt h m says e few = absurd (cc e)
 
 -- after 0x
-pub address_begins : (s0 s1 s2 rest : List ℕ) (n end : ℕ) → s0 ≡ 48 ∷ s1 → s1 ≡ 120 ∷ s2 → Begins (IsNumber Sixteen) s2 n end rest → Begins IsAddress s0 n end rest
+pub address_begins : (s0 s1 s2 rest : List ℕ) (n end : ℕ) → s0 ≡ 48 ∷ s1 → s1 ≡ 120 ∷ s2 → Begins (IsNumber Sixteen) s2 n end rest
+    → Begins IsAddress s0 n end rest
 address_begins s0 s1 s2 rest n end e f b = record {
   front = 48 ∷ 120 ∷ b.front;
   joined = e ∙ ap (λ (t : List ℕ). 48 ∷ t) f ∙ ap (λ (t : List ℕ). 48 ∷ 120 ∷ t) b.joined;
@@ -88,7 +95,8 @@ no_zero : (n : ℕ) → n ≡ 0 + n
 no_zero n = omega arith
 
 -- a lone digit
-pub digit_begins : (text rest : List ℕ) (at d end : ℕ) → at < length text → IsDigit Ten (get_or text at 0) → d ≡ digit_value (get_or text at 0) → d < 10
+pub digit_begins : (text rest : List ℕ) (at d end : ℕ) → at < length text → IsDigit Ten (get_or text at 0)
+    → d ≡ digit_value (get_or text at 0) → d < 10
     → drop (at + 1) text ≡ end ∷ rest → Begins (IsNumber Ten) (drop at text) d end rest
 digit_begins text rest at d end lt is e small f = record {
   front = get_or text at 0 ∷ [];

@@ -28,25 +28,30 @@ use Rattle.lnt_records.proofs.ComparisonLemmas.{HasCompared, Judged, all_behind,
 use Rattle.lnt_records.proofs.LawLemmas.{one_spans}
 use Rattle.lnt_records.proofs.PassingLemmas.{all_told, version_same}
 
-zip_both : {A B : Type 0} (R : A → B → Type 0) (xs xs' : List A) (ys ys' : List B) → AllZip R xs ys → AllZip R xs' ys' → AllZip R (xs ++ xs') (ys ++ ys')
+zip_both : {A B : Type 0} (R : A → B → Type 0) (xs xs' : List A) (ys ys' : List B) → AllZip R xs ys → AllZip R xs' ys'
+    → AllZip R (xs ++ xs') (ys ++ ys')
 zip_both R [] xs' [] ys' z h = h
 zip_both R [] xs' (b ∷ ys) ys' z h = absurd z
 zip_both R (a ∷ xs) xs' [] ys' z h = absurd z
 zip_both R (a ∷ xs) xs' (b ∷ ys) ys' z h = (z.0, zip_both R xs xs' ys ys' z.1 h)
 
 -- the spans of the records that were read after the header
-pub record HasGathered {S : Type 0} (to_come : S → List Span → Type 0) (reader : BytesReader) (text : List ℕ) (version : Version) (old new : Comparison S) (spans : List Span) : Type 0 where
+pub record HasGathered {S : Type 0} (to_come : S → List Span → Type 0) (reader : BytesReader) (text : List ℕ) (version : Version)
+    (old new : Comparison S) (spans : List Span) : Type 0 where
   pub compared : HasCompared to_come reader text version old new
   pub each : AllZip (IsSpanRecord version) compared.more spans
 
-pub gathered_all : {S : Type 0} (to_come : S → List Span → Type 0) (reader : BytesReader) (text bytes : List ℕ) (version : Version) (old new : Comparison S) (spans list : List Span) (passed : List Fields)
-    → (h : HasGathered to_come reader text version old new spans) → (j : Judges to_come old list (column_names version ∷ passed)) → old.version ≡ version → IsCut version text bytes passed
+pub gathered_all : {S : Type 0} (to_come : S → List Span → Type 0) (reader : BytesReader) (text bytes : List ℕ) (version : Version)
+    (old new : Comparison S) (spans list : List Span) (passed : List Fields)
+    → (h : HasGathered to_come reader text version old new spans) → (j : Judges to_come old list (column_names version ∷ passed))
+    → old.version ≡ version → IsCut version text bytes passed
     → RecordsOf text (column_names version ∷ h.compared.more) → IsTableOf version bytes (j.table ++ spans)
 gathered_all to_come reader text bytes version old new spans list passed h j same cut rest =
     let now = h.compared.judged list passed j in
     let table : IsTable version (column_names version ∷ (passed ++ h.compared.more)) now.table =
     subst (λ (v : Version). IsTable v (column_names version ∷ (passed ++ h.compared.more)) now.table) h.compared.version_is now.is_table in
-    let before : IsTable version (column_names version ∷ passed) j.table = subst (λ (v : Version). IsTable v (column_names version ∷ passed) j.table) same j.is_table in
+    let before : IsTable version (column_names version ∷ passed) j.table =
+    subst (λ (v : Version). IsTable v (column_names version ∷ passed) j.table) same j.is_table in
     let spans_are = one_spans version (passed ++ h.compared.more) now.table (j.table ++ spans) table.1.each
     (zip_both (IsSpanRecord version) passed h.compared.more j.table spans before.1.each h.each) in (
       column_names version ∷ (passed ++ h.compared.more),
@@ -54,8 +59,11 @@ gathered_all to_come reader text bytes version old new spans list passed h j sam
       subst (IsTable version (column_names version ∷ (passed ++ h.compared.more))) spans_are table,
     )
 
-pub gathered_more : {S : Type 0} (to_come : S → List Span → Type 0) (before after : BytesReader) (text : List ℕ) (version : Version) (first old new : Comparison S) (fields : Fields) (spans : List Span) (span : Span)
-    → (h : HasGathered to_come before text version first old spans) → HasRead after text (column_names version ∷ (h.compared.more ++ fields ∷ [])) → new.version ≡ old.version → Judged to_come old new fields
+pub gathered_more : {S : Type 0} (to_come : S → List Span → Type 0) (before after : BytesReader) (text : List ℕ) (version : Version)
+    (first old new : Comparison S) (fields : Fields) (spans : List Span) (span : Span)
+    → (h : HasGathered to_come before text version first old spans)
+    → HasRead after text (column_names version ∷ (h.compared.more ++ fields ∷ [])) → new.version ≡ old.version
+    → Judged to_come old new fields
     → IsSpanRecord old.version fields span → HasGathered to_come after text version first new (spans ++ span ∷ [])
 gathered_more to_come before after text version first old new fields spans span h read same step says = record {
   compared = record {
@@ -63,27 +71,32 @@ gathered_more to_come before after text version first old new fields spans span 
     read = read;
     version_is = same ∙ h.compared.version_is;
     judged = λ list passed j.
-        subst (λ (records : List Fields). Judges to_come new list (column_names version ∷ records)) (append_assoc passed h.compared.more (fields ∷ []))
+        subst (λ (records : List Fields). Judges to_come new list (column_names version ∷ records))
+        (append_assoc passed h.compared.more (fields ∷ []))
         (step list (column_names version ∷ (passed ++ h.compared.more)) (h.compared.judged list passed j));
   };
-  each = zip_push (IsSpanRecord version) h.compared.more spans fields span h.each (subst (λ (v : Version). IsSpanRecord v fields span) h.compared.version_is says);
+  each = zip_push (IsSpanRecord version) h.compared.more spans fields span h.each
+      (subst (λ (v : Version). IsSpanRecord v fields span) h.compared.version_is says);
 }
 
-pub gathered_none : {S : Type 0} (to_come : S → List Span → Type 0) (reader : BytesReader) (text : List ℕ) (version : Version) (comparison : Comparison S) (spans : List Span) → HasRead reader text (column_names version ∷ [])
+pub gathered_none : {S : Type 0} (to_come : S → List Span → Type 0) (reader : BytesReader) (text : List ℕ) (version : Version)
+    (comparison : Comparison S) (spans : List Span) → HasRead reader text (column_names version ∷ [])
     → comparison.version ≡ version → spans ≡ [] → HasGathered to_come reader text version comparison comparison spans
 gathered_none to_come reader text version comparison spans read same none = rw none (record {
   compared = record {
     more = [];
     read = read;
     version_is = same;
-    judged = λ list passed j. subst (λ (records : List Fields). Judges to_come comparison list (column_names version ∷ records)) (sym (append-nil passed)) j;
+    judged = λ list passed j. subst (λ (records : List Fields). Judges to_come comparison list (column_names version ∷ records))
+        (sym (append-nil passed)) j;
   };
   each = tt;
 })
 
 -- ---- the stretches after the records that a table has in common with a section
 
-pub version_told : (version : Version) (bytes : List ℕ) (table : List Span) → IsTableOf version bytes table → AllByRecursion (IsTold version) table
+pub version_told : (version : Version) (bytes : List ℕ) (table : List Span) → IsTableOf version bytes table
+    → AllByRecursion (IsTold version) table
 version_told version bytes table t = by_records t.0 t.2
   where
     by_records : (records : List Fields) → IsTable version records table → AllByRecursion (IsTold version) table
@@ -98,9 +111,11 @@ version_order version bytes table t = by_records t.0 t.2
     by_records (first ∷ records) t = t.1.in_order
 
 -- A merge that has compared no spans but those of the first lines.
-pub judges_off : {S : Type 0} (to_come : S → List Span → Type 0) (P : List Span → Type 0) (merge : Merging S) (version : Version) (section : List Span) (text : List ℕ) (count : ℕ) (end : Position)
+pub judges_off : {S : Type 0} (to_come : S → List Span → Type 0) (P : List Span → Type 0) (merge : Merging S) (version : Version)
+    (section : List Span) (text : List ℕ) (count : ℕ) (end : Position)
     → (off : LeavesOff P version section text count end) → merge.version ≡ version → Compares to_come merge (off.table ++ []) off.table
-    → (j : Judges to_come (record { merge = merge; version = version; count = count }) (off.table ++ []) (column_names version ∷ off.lines.records)) × (j.table ≡ off.table)
+    → (j : Judges to_come (record { merge = merge; version = version; count = count }) (off.table ++ [])
+    (column_names version ∷ off.lines.records)) × (j.table ≡ off.table)
 judges_off to_come P merge version section text count end off same compares = (
   record {
     table = off.table;
@@ -112,7 +127,8 @@ judges_off to_come P merge version section text count end off same compares = (
   refl,
 )
 
-pub judges_none : {S : Type 0} (to_come : S → List Span → Type 0) (merge : Merging S) (version : Version) → merge.version ≡ version → Compares to_come merge [] []
+pub judges_none : {S : Type 0} (to_come : S → List Span → Type 0) (merge : Merging S) (version : Version) → merge.version ≡ version
+    → Compares to_come merge [] []
     → (j : Judges to_come (record { merge = merge; version = version; count = 1 }) [] (column_names version ∷ [])) × (j.table ≡ [])
 judges_none to_come merge version same compares = (
   record {
@@ -130,26 +146,34 @@ pub order_alone : (table rest : List Span) → AreInOrder (table ++ rest) → Ar
 order_alone table rest o = subst AreInOrder (sym (append-nil table)) (front_in_order table rest o)
 
 -- what is gathered after the records of some spans
-pub gathered_is : {S : Type 0} (to_come : S → List Span → Type 0) (comparison : Comparison S) (list table : List Span) (passed : List Fields) (bytes : List ℕ) (version : Version) (text : List ℕ) (gathered : Result Gathered TableStop)
+pub gathered_is : {S : Type 0} (to_come : S → List Span → Type 0) (comparison : Comparison S) (list table : List Span)
+    (passed : List Fields) (bytes : List ℕ) (version : Version) (text : List ℕ) (gathered : Result Gathered TableStop)
     → (j : Judges to_come comparison list (column_names version ∷ passed)) → j.table ≡ table → IsCut version text bytes passed
-    → IfOk gathered (λ it. (list : List Span) (passed : List Fields) (bytes : List ℕ) → (j : Judges to_come comparison list (column_names version ∷ passed)) → IsCut version text bytes passed → IsGathered bytes version j.table it)
+    → IfOk gathered (λ it. (list : List Span) (passed : List Fields) (bytes : List ℕ)
+    → (j : Judges to_come comparison list (column_names version ∷ passed)) → IsCut version text bytes passed
+    → IsGathered bytes version j.table it)
     → IfOk gathered (IsGathered bytes version table)
 gathered_is to_come comparison list table passed bytes version text gathered j same cut h =
     IfOk-weaker gathered _ _ (λ it so. subst (λ (spans : List Span). IsGathered bytes version spans it) same (so list passed bytes j cut)) h
 
 -- a section that answers as spans do
-pub goes_on : (version : Version) (list table rest : List Span) (section : Position → Option Answer) (at : Position) → AreInOrder (table ++ rest) → ((p : Position) → version_answer version (table ++ rest) p ≡ version_answer version list p)
+pub goes_on : (version : Version) (list table rest : List Span) (section : Position → Option Answer) (at : Position)
+    → AreInOrder (table ++ rest) → ((p : Position) → version_answer version (table ++ rest) p ≡ version_answer version list p)
     → at ≡ end_of table → ((p : Position) → span_answer list p ≡ section p) → GoesOn version section table rest at
-goes_on version list table rest section at order same end answers = record { order = order; same = λ p. same p ∙ ap (option_map (in_version version)) (answers p); end_is = end }
+goes_on version list table rest section at order same end answers =
+    record { order = order; same = λ p. same p ∙ ap (option_map (in_version version)) (answers p); end_is = end }
 
 -- all its spans, where a table has none that were passed
-pub all_to_come : (version : Version) (list : List Span) (section : Position → Option Answer) → AreInOrder list → ((p : Position) → span_answer list p ≡ section p)
+pub all_to_come : (version : Version) (list : List Span) (section : Position → Option Answer) → AreInOrder list
+    → ((p : Position) → span_answer list p ≡ section p)
     → GoesOn version section [] (map (span_in_version version) list) (record { address = 0; op = 0 })
 all_to_come version list section order answers =
-    goes_on version list [] (told version list) section (record { address = 0; op = 0 }) (told_order version list order) (λ p. version_same version (told version list) list p (told_answer version list p)) refl answers
+    goes_on version list [] (told version list) section (record { address = 0; op = 0 }) (told_order version list order)
+    (λ p. version_same version (told version list) list p (told_answer version list p)) refl answers
 
 -- no stretch is told of a table
-pub started : {S : Type 0} (of_section : Remaining S → List Span → Type 0) (of_table : SpanList → List Span → Type 0) (bytes : List ℕ) (section : Position → Option Answer) (differing : Differing S)
+pub started : {S : Type 0} (of_section : Remaining S → List Span → Type 0) (of_table : SpanList → List Span → Type 0) (bytes : List ℕ)
+    (section : Position → Option Answer) (differing : Differing S)
     → IsDiffering of_section of_table bytes section differing → IsStarted of_section of_table differing
 started of_section of_table bytes section (Fault told) h = tt
 started of_section of_table bytes section (Table differences) h = (_, _, h.told)

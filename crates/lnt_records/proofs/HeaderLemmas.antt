@@ -6,7 +6,8 @@ use Rattle.lnt_spans.specs.declared.answer.Version.TheVariants.{One, Two}
 use Rattle.lnt_records.specs.Progress.{AreNamed}
 use Rattle.lnt_records.specs.Table.{Fields, column_names, common_names}
 
-named_behind : (i : ℕ) (names : Fields) (field : List ℕ) (fields : Fields) → AreNamed (suc i) names (field ∷ fields) → AreNamed i names fields
+named_behind : (i : ℕ) (names : Fields) (field : List ℕ) (fields : Fields) → AreNamed (suc i) names (field ∷ fields)
+    → AreNamed i names fields
 named_behind i [] field fields h = tt
 named_behind i (name ∷ names) field fields h = (h.0, named_behind (suc i) names field fields h.1)
 
@@ -23,10 +24,26 @@ all_named (name ∷ names) (field ∷ fields) e h =
 pub names_one : (fields : Fields) → length fields ≡ 9 → AreNamed 0 common_names fields → fields ≡ column_names One
 names_one fields e h = all_named common_names fields e h
 
-pub names_two : (fields : Fields) → length fields ≡ 11 → AreNamed 0 common_names fields → get_or fields 9 [] ≡ codes "isa" → get_or fields 10 [] ≡ codes "discriminator"
+pub names_two : (fields : Fields) → length fields ≡ 11 → AreNamed 0 common_names fields → get_or fields 9 [] ≡ codes "isa"
+    → get_or fields 10 [] ≡ codes "discriminator"
     → fields ≡ column_names Two
 names_two fields e h isa discriminator =
-    all_named (column_names Two) fields e (h.0, (h.1.0, (h.1.1.0, (h.1.1.1.0, (h.1.1.1.1.0, (h.1.1.1.1.1.0, (h.1.1.1.1.1.1.0, (h.1.1.1.1.1.1.1.0, (h.1.1.1.1.1.1.1.1.0, (isa, (discriminator, tt)))))))))))
+    all_named (column_names Two) fields e (
+      h.0,
+      (
+        h.1.0,
+        (
+          h.1.1.0,
+          (
+            h.1.1.1.0,
+            (
+              h.1.1.1.1.0,
+              (h.1.1.1.1.1.0, (h.1.1.1.1.1.1.0, (h.1.1.1.1.1.1.1.0, (h.1.1.1.1.1.1.1.1.0, (isa, (discriminator, tt)))))),
+            ),
+          ),
+        ),
+      ),
+    )
 
 named_common : (version : Version) → AreNamed 0 common_names (column_names version)
 named_common One = (refl, (refl, (refl, (refl, (refl, (refl, (refl, (refl, (refl, tt)))))))))
@@ -41,6 +58,7 @@ not_one fields h e = not_common One fields h e
 pub not_two : (fields : Fields) → (AreNamed 0 common_names fields → ⊥) → fields ≢ column_names Two
 not_two fields h e = not_common Two fields h e
 
-pub names_none : (fields : Fields) → fields ≢ column_names One → fields ≢ column_names Two → (version : Version) → fields ≢ column_names version
+pub names_none : (fields : Fields) → fields ≢ column_names One → fields ≢ column_names Two → (version : Version)
+    → fields ≢ column_names version
 names_none fields h k One = h
 names_none fields h k Two = k

@@ -37,15 +37,19 @@ to_all : {X : Type 0} (P : X → Type 0) (xs : List X) → AllByRecursion P xs �
 to_all P [] h = All-nil P
 to_all P (x ∷ xs) h = All-cons P x xs h.0 (to_all P xs h.1)
 
-joined_of_version : (version : Version) (pushed given : List Span) (last : Option Span) → HasJoined version pushed given last → AreInOrder pushed → AllByRecursion TellsAll pushed
+joined_of_version : (version : Version) (pushed given : List Span) (last : Option Span) → HasJoined version pushed given last
+    → AreInOrder pushed → AllByRecursion TellsAll pushed
     → AllByRecursion (HasVersion version) (given ++ cons_option last [])
 joined_of_version version pushed given None joined order tells = rw joined.1 tt
 joined_of_version version pushed given (Some last) joined order tells =
     let all : AreInOrder (pushed ++ []) = subst AreInOrder (sym (append-nil pushed)) order in
     of_all (HasVersion version) (given ++ last ∷ [])
-    (answers_of_version version pushed (given ++ last ∷ []) (joined.order [] all) (λ p. joined.same [] all p ∙ ap (λ (list : List Span). version_answer version list p) (append-nil pushed)) (to_all TellsAll pushed tells))
+    (answers_of_version version pushed (given ++ last ∷ []) (joined.order [] all)
+    (λ p. joined.same [] all p ∙ ap (λ (list : List Span). version_answer version list p) (append-nil pushed))
+    (to_all TellsAll pushed tells))
 
-last_of_version : (version : Version) (given : List Span) (one : Option Span) → AllByRecursion (HasVersion version) (given ++ cons_option one []) → IfSome one (HasVersion version)
+last_of_version : (version : Version) (given : List Span) (one : Option Span)
+    → AllByRecursion (HasVersion version) (given ++ cons_option one []) → IfSome one (HasVersion version)
 last_of_version version given None h = tt
 last_of_version version given (Some one) h = (all_right (HasVersion version) given (one ∷ []) h).0
 
@@ -65,27 +69,40 @@ front_told list pushed AreLeft told h = record {
 }
 
 -- the one that a push gives
-pub given_of_version : (version : Version) (list pushed given : List Span) (one last : Option Span) (AreLeft : List Span → Type 0) → AreTold list → HasGiven list pushed AreLeft
+pub given_of_version : (version : Version) (list pushed given : List Span) (one last : Option Span) (AreLeft : List Span → Type 0)
+    → AreTold list → HasGiven list pushed AreLeft
     → HasJoined version pushed (given ++ cons_option one []) last → IfSome one (HasVersion version)
 given_of_version version list pushed given one last AreLeft told h joined =
     let front = front_told list pushed AreLeft told h in
     last_of_version version given one
-    (all_left (HasVersion version) (given ++ cons_option one []) (cons_option last []) (joined_of_version version pushed (given ++ cons_option one []) last joined front.order front.tells))
+    (all_left (HasVersion version) (given ++ cons_option one []) (cons_option last [])
+    (joined_of_version version pushed (given ++ cons_option one []) last joined front.order front.tells))
 
 -- the last one
-pub rest_of_version : (version : Version) (list pushed given : List Span) (last : Option Span) (AreLeft : List Span → Type 0) → AreTold list → HasGiven list pushed AreLeft
+pub rest_of_version : (version : Version) (list pushed given : List Span) (last : Option Span) (AreLeft : List Span → Type 0) → AreTold list
+    → HasGiven list pushed AreLeft
     → AreGiven version pushed (given ++ cons_option last []) → IfSome last (HasVersion version)
 rest_of_version version list pushed given last AreLeft told h all =
     let front = front_told list pushed AreLeft told h in
     last_of_version version given last
-    (of_all (HasVersion version) (given ++ cons_option last []) (answers_of_version version pushed (given ++ cons_option last []) all.0.in_order all.1 (to_all TellsAll pushed front.tells)))
+    (of_all (HasVersion version) (given ++ cons_option last [])
+    (answers_of_version version pushed (given ++ cons_option last []) all.0.in_order all.1 (to_all TellsAll pushed front.tells)))
 
 -- ---- all of them
 
-pub canonical_written : (version : Version) (old now new : Option (List ℕ)) (block : List ℕ) (written : List Span) (known : List Span) (IsGiven : List Span → Type 0) → IsGiven known → AreInOrder known
+pub canonical_written : (version : Version) (old now new : Option (List ℕ)) (block : List ℕ) (written : List Span) (known : List Span)
+    (IsGiven : List Span → Type 0) → IsGiven known → AreInOrder known
     → ((list : List Span) → IsGiven list → AreInOrder list → AreGiven version list written)
     → Lines version old now block written → Appends now new block
     → (bytes : List ℕ) × Appends old new bytes × ((list : List Span) → IsGiven list → AreInOrder list → IsCanonicalTable version list bytes)
 canonical_written version old now new block written known IsGiven given order canonical l more =
-    let all = lines_done version old now new block written (canonical known given order).0.in_order l more in
-    (all.0, all.1, λ list is o. record { spans = written; canonical = (canonical list is o).0; same = (canonical list is o).1; written = all.2 })
+    let all = lines_done version old now new block written (canonical known given order).0.in_order l more in (
+      all.0,
+      all.1,
+      λ list is o. record {
+        spans = written;
+        canonical = (canonical list is o).0;
+        same = (canonical list is o).1;
+        written = all.2;
+      },
+    )

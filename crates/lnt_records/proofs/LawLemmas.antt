@@ -23,7 +23,8 @@ use Rattle.lnt_records.proofs.SaidLemmas.{one_span, sound_column}
 -- ---- one list of records
 
 -- The records begin with any that are read first.
-read_front : (cfg : Config) (s s1 s2 : State) (xs y1 y2 : List ℕ) (front records : List Fields) → Reached cfg s xs front s1 y1 → Reached cfg s xs records s2 y2
+read_front : (cfg : Config) (s s1 s2 : State) (xs y1 y2 : List ℕ) (front records : List Fields) → Reached cfg s xs front s1 y1
+    → Reached cfg s xs records s2 y2
     → next_record cfg s2 [] [] y2 ≡ None → (behind : List Fields) × (records ≡ front ++ behind)
 unfolding Reached
 read_front cfg s s1 s2 xs y1 y2 [] records h k none = (records, refl)
@@ -36,11 +37,13 @@ read_front cfg s s1 s2 xs y1 y2 (r ∷ front) (q ∷ records) h k none =
     let two = k.1 in
     let same : k.0 ≡ h.0 = cc in
     let first : q ≡ r = k.2 ∙ ap (λ (p : Read). p.0) same ∙ sym h.2 in
-    let rest = read_front cfg h.0.1 s1 s2 h.0.2 y1 y2 front records h.3 (subst (λ (p : Read). Reached cfg p.1 p.2 records s2 y2) same k.3) none in
+    let rest = read_front cfg h.0.1 s1 s2 h.0.2 y1 y2 front records h.3 (subst (λ (p : Read). Reached cfg p.1 p.2 records s2 y2) same k.3)
+    none in
     let behind = rest.1 in
     (rest.0, cc)
 
-front_of : (bytes : List ℕ) (front records : List Fields) → BeginsWith bytes front → RecordsOf bytes records → (behind : List Fields) × (records ≡ front ++ behind)
+front_of : (bytes : List ℕ) (front records : List Fields) → BeginsWith bytes front → RecordsOf bytes records
+    → (behind : List Fields) × (records ≡ front ++ behind)
 front_of bytes front records h k = read_front _ _ _ _ _ _ _ front records h.2 k.2 k.3
 
 begins_all : (bytes : List ℕ) (records : List Fields) → RecordsOf bytes records → BeginsWith bytes records
@@ -71,7 +74,8 @@ one_version Two Two e = refl
 one_version One Two e = let lengths : 9 ≡ 11 = ap length e in absurd (omega (arith, lengths))
 one_version Two One e = let lengths : 11 ≡ 9 = ap length e in absurd (omega (arith, lengths))
 
-pub one_spans : (version : Version) (records : List Fields) (xs ys : List Span) → AllZip (IsSpanRecord version) records xs → AllZip (IsSpanRecord version) records ys → xs ≡ ys
+pub one_spans : (version : Version) (records : List Fields) (xs ys : List Span) → AllZip (IsSpanRecord version) records xs
+    → AllZip (IsSpanRecord version) records ys → xs ≡ ys
 one_spans version [] [] [] a b = refl
 one_spans version [] (x ∷ xs) ys a b = absurd a
 one_spans version [] [] (y ∷ ys) a b = absurd b
@@ -104,20 +108,30 @@ record Parted (version : Version) (records : List Fields) (fields : Fields) (spa
   each : AllZip (IsSpanRecord version) records front
   says : IsSpanRecord version fields span
 
-part : (version : Version) (records : List Fields) (fields : Fields) (behind : List Fields) (spans : List Span) → AllZip (IsSpanRecord version) ((records ++ fields ∷ []) ++ behind) spans
+part : (version : Version) (records : List Fields) (fields : Fields) (behind : List Fields) (spans : List Span)
+    → AllZip (IsSpanRecord version) ((records ++ fields ∷ []) ++ behind) spans
     → Parted version records fields spans
 part version [] fields behind [] z = absurd z
 part version [] fields behind (s ∷ spans) z = record { front = []; span = s; behind = spans; joined = refl; each = tt; says = z.0 }
 part version (r ∷ records) fields behind [] z = absurd z
 part version (r ∷ records) fields behind (s ∷ spans) z =
     let p = part version records fields behind spans z.1 in
-    record { front = s ∷ p.front; span = p.span; behind = p.behind; joined = ap (λ (l : List Span). s ∷ l) p.joined; each = (z.0, p.each); says = p.says }
+    record {
+      front = s ∷ p.front;
+      span = p.span;
+      behind = p.behind;
+      joined = ap (λ (l : List Span). s ∷ l) p.joined;
+      each = (z.0, p.each);
+      says = p.says;
+    }
 
-not_faulty : (version : Version) (records : List Fields) (fields : Fields) (spans : List Span) (number : ℕ) (told : TableFault) → (p : Parted version records fields spans)
+not_faulty : (version : Version) (records : List Fields) (fields : Fields) (spans : List Span) (number : ℕ) (told : TableFault)
+    → (p : Parted version records fields spans)
     → AreInOrder spans → IsFaulty version p.front number fields told → ⊥
 not_faulty version records fields spans number fault.Header p o f = f
 not_faulty version records fields spans number (fault.Fields k) p o f = f.1 p.says.count
-not_faulty version records fields spans number (fault.Number k i) p o f = f.2.faulty (sound_column version fields p.span p.says i (rw f.1 at f.2.there))
+not_faulty version records fields spans number (fault.Number k i) p o f =
+    f.2.faulty (sound_column version fields p.span p.says i (rw f.1 at f.2.there))
 not_faulty version records fields spans number (fault.Order k) p o f =
     let same : f.1 ≡ p.span = one_span version fields f.1 p.span f.2 p.says in
     let front = front_in_order (p.front ++ p.span ∷ []) p.behind (rw p.joined at o) in
@@ -125,23 +139,28 @@ not_faulty version records fields spans number (fault.Order k) p o f =
 
 -- a faulty record among those of a table
 pub faulty_none : (v version : Version) (records behind : List Fields) (fields : Fields) (before spans : List Span) (told : TableFault)
-    → IsTable v records before → IsFaulty v before (length records) fields told → IsTable version ((records ++ fields ∷ []) ++ behind) spans → ⊥
+    → IsTable v records before → IsFaulty v before (length records) fields told → IsTable version ((records ++ fields ∷ []) ++ behind) spans
+    → ⊥
 faulty_none v version [] behind fields before spans told t f all = absurd t
 faulty_none v version (first ∷ records) behind fields before spans told t f all =
     let same : v ≡ version = one_version v version (sym t.0 ∙ all.0) in
     let p = part version records fields behind spans all.1.each in
     let ours = subst (λ (k : Version). AllZip (IsSpanRecord k) records before) same t.1.each in
     let front : before ≡ p.front = one_spans version records before p.front ours p.each in
-    let faulty = subst (λ (xs : List Span). IsFaulty version xs (length (first ∷ records)) fields told) front (subst (λ (k : Version). IsFaulty k before (length (first ∷ records)) fields told) same f) in
+    let faulty = subst (λ (xs : List Span). IsFaulty version xs (length (first ∷ records)) fields told) front
+    (subst (λ (k : Version). IsFaulty k before (length (first ∷ records)) fields told) same f) in
     not_faulty version records fields spans (length (first ∷ records)) told p all.1.in_order faulty
 
-record_none : (bytes : List ℕ) (version : Version) (spans : List Span) (records : List Fields) (told : TableFault) → RecordsOf bytes records → IsTable version records spans
+record_none : (bytes : List ℕ) (version : Version) (spans : List Span) (records : List Fields) (told : TableFault) → RecordsOf bytes records
+    → IsTable version records spans
     → HasFaultyRecord bytes told → ⊥
 record_none bytes version spans records told all t f =
     let front = front_of bytes (f.records ++ f.fields ∷ []) records f.begins all in
-    faulty_none f.version version f.records front.0 f.fields f.spans spans told f.table f.faulty (subst (λ (r : List Fields). IsTable version r spans) front.1 t)
+    faulty_none f.version version f.records front.0 f.fields f.spans spans told f.table f.faulty
+    (subst (λ (r : List Fields). IsTable version r spans) front.1 t)
 
-header_first : (bytes : List ℕ) (version : Version) (records : List Fields) (spans : List Span) → BeginsWith bytes records → IsTable version records spans → BeginsWith bytes (column_names version ∷ [])
+header_first : (bytes : List ℕ) (version : Version) (records : List Fields) (spans : List Span) → BeginsWith bytes records
+    → IsTable version records spans → BeginsWith bytes (column_names version ∷ [])
 unfolding Reached
 header_first bytes version [] spans h t = absurd t
 header_first bytes version (first ∷ records) spans h t =
@@ -167,4 +186,5 @@ no_difference bytes version section table difference t agree d =
 pub agreement : Agreement
 agreement bytes version section table Same t agree h = refl
 agreement bytes version section table (Fault told) t agree h = absurd (no_fault bytes version table told t h)
-agreement bytes version section table (Differs difference) t agree h = absurd (no_difference bytes version section table difference t agree h)
+agreement bytes version section table (Differs difference) t agree h =
+    absurd (no_difference bytes version section table difference t agree h)

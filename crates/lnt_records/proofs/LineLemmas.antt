@@ -1,5 +1,6 @@
 -- Lines that are read, and that they are the records that `csv` reads.
-use Rattle.std.proofs.Common.{◌≡◌, ◌∙◌, ℕ, ◌<◌, ◌≤◌, List, [], ◌∷◌, ◌++◌, Option, Some, None, length, length-append, refl, sym, ap, subst, append_assoc, arith}
+use Rattle.std.proofs.Common.{◌≡◌, ◌∙◌, ℕ, ◌<◌, ◌≤◌, List, [], ◌∷◌, ◌++◌, Option, Some, None, length, length-append, refl, sym, ap, subst}
+use Rattle.std.proofs.Common.{append_assoc, arith}
 use Rattle.std.proofs.lemmas.List.{append-nil}
 use Rattle.std.specs.List.{AllByRecursion}
 use Rattle.csv.specs.Machine.{next_record}
@@ -18,16 +19,19 @@ use Rattle.lnt_records.specs.Lines.{Begins, AreMoreFields, IsAnswer, IsFlagBefor
 use Rattle.lnt_records.specs.Table.{AreMore, Fields, IsSpanRecord, Kind, column_count, column_names}
 use Rattle.lnt_records.specs.Written.{following, line_text}
 use Rattle.lnt_records.proofs.SaidLemmas.{each_holds}
-use Rattle.lnt_records.proofs.WriteLemmas.{IsQuiet, all_from_each, count_some, names_count, quiet_bytes, quiet_flag, quiet_line, quiet_names, same_back}
+use Rattle.lnt_records.proofs.WriteLemmas.{IsQuiet, all_from_each, count_some, names_count, quiet_bytes, quiet_flag, quiet_line}
+use Rattle.lnt_records.proofs.WriteLemmas.{quiet_names, same_back}
 
 -- ---- parts of a line
 
 -- one more field before others
-behind : (field bytes next tail : List ℕ) (fields : Fields) → bytes ≡ field ++ 44 ∷ next → 44 ∷ next ≡ following fields ++ tail → 44 ∷ bytes ≡ following (field ∷ fields) ++ tail
+behind : (field bytes next tail : List ℕ) (fields : Fields) → bytes ≡ field ++ 44 ∷ next → 44 ∷ next ≡ following fields ++ tail
+    → 44 ∷ bytes ≡ following (field ∷ fields) ++ tail
 behind field bytes next tail fields e f =
     ap (λ (t : List ℕ). 44 ∷ t) e ∙ ap (λ (t : List ℕ). 44 ∷ field ++ t) f ∙ sym (append_assoc (44 ∷ field) (following fields) tail)
 
-pub position_taken : (Address Number : List ℕ → ℕ → Type 0) (position : Position) (bytes next rest : List ℕ) → Begins Address bytes position.address 44 next
+pub position_taken : (Address Number : List ℕ → ℕ → Type 0) (position : Position) (bytes next rest : List ℕ)
+    → Begins Address bytes position.address 44 next
     → Begins Number next position.op 44 rest → IsPosition Address Number position bytes rest
 position_taken Address Number position bytes next rest a b = record {
   address = a.front;
@@ -40,7 +44,8 @@ position_taken Address Number position bytes next rest a b = record {
 pub no_more_taken : (Number : List ℕ → ℕ → Type 0) (bytes rest : List ℕ) → bytes ≡ 10 ∷ rest → IsMore Number One None bytes rest
 no_more_taken Number bytes rest e = record { fields = []; joined = e; fields_are = (refl, refl) }
 
-pub more_taken : (Number : List ℕ → ℕ → Type 0) (more : More) (bytes s1 s2 rest : List ℕ) → bytes ≡ 44 ∷ s1 → Begins Number s1 more.isa 44 s2
+pub more_taken : (Number : List ℕ → ℕ → Type 0) (more : More) (bytes s1 s2 rest : List ℕ) → bytes ≡ 44 ∷ s1
+    → Begins Number s1 more.isa 44 s2
     → Begins Number s2 more.discriminator 10 rest → IsMore Number Two (Some more) bytes rest
 more_taken Number more bytes s1 s2 rest e a b =
     let last : 44 ∷ s2 ≡ following (b.front ∷ []) ++ 10 ∷ rest =
@@ -51,8 +56,10 @@ more_taken Number more bytes s1 s2 rest e a b =
       fields_are = (a.front, b.front, refl, a.spells, b.spells);
     }
 
-pub answer_taken : (Number : List ℕ → ℕ → Type 0) (version : Version) (answer : Answer) (s0 s1 s2 s3 s4 s5 s6 : List ℕ) → Begins Number s0 answer.unit 44 s1
-    → Begins Number s1 answer.file 44 s2 → Begins Number s2 answer.line 44 s3 → Begins Number s3 answer.column 44 s4 → IsFlagBefore answer.is_stmt s4 s5
+pub answer_taken : (Number : List ℕ → ℕ → Type 0) (version : Version) (answer : Answer) (s0 s1 s2 s3 s4 s5 s6 : List ℕ)
+    → Begins Number s0 answer.unit 44 s1
+    → Begins Number s1 answer.file 44 s2 → Begins Number s2 answer.line 44 s3 → Begins Number s3 answer.column 44 s4
+    → IsFlagBefore answer.is_stmt s4 s5
     → IsMore Number version answer.more s5 s6 → IsAnswer Number version answer s0 s6
 answer_taken Number version answer s0 s1 s2 s3 s4 s5 s6 unit file line column is_stmt more =
     let flag : 44 ∷ s4 ≡ following (is_stmt.text ∷ more.fields) ++ 10 ∷ s6 =
@@ -80,8 +87,10 @@ answer_taken Number version answer s0 s1 s2 s3 s4 s5 s6 unit file line column is
 
 -- ---- a line
 
-more_said : (Number : List ℕ → ℕ → Type 0) (version : Version) (answer : Answer) (m : Fields) (a b c d e f g h i : List ℕ) → AreMoreFields Number version m answer.more
-    → (length (a ∷ b ∷ c ∷ d ∷ e ∷ f ∷ g ∷ h ∷ i ∷ m) ≡ column_count version) × AreMore Number version (a ∷ b ∷ c ∷ d ∷ e ∷ f ∷ g ∷ h ∷ i ∷ m) answer.more
+more_said : (Number : List ℕ → ℕ → Type 0) (version : Version) (answer : Answer) (m : Fields) (a b c d e f g h i : List ℕ)
+    → AreMoreFields Number version m answer.more
+    → (length (a ∷ b ∷ c ∷ d ∷ e ∷ f ∷ g ∷ h ∷ i ∷ m) ≡ column_count version)
+    × AreMore Number version (a ∷ b ∷ c ∷ d ∷ e ∷ f ∷ g ∷ h ∷ i ∷ m) answer.more
 more_said Number version answer m a b c d e f g h i p = by version answer.more p
   where
     by : (v : Version) (more : Option More) → AreMoreFields Number v m more
@@ -90,13 +99,17 @@ more_said Number version answer m a b c d e f g h i p = by version answer.more p
     by Two None p = absurd p
     by Two (Some more) p = rw p.2 (refl, (p.3, p.4))
 
-pub line_taken : (Address Number : List ℕ → ℕ → Type 0) (version : Version) (span : Span) (s0 s1 s2 s3 : List ℕ) → IsPosition Address Number span.low s0 s1
+pub line_taken : (Address Number : List ℕ → ℕ → Type 0) (version : Version) (span : Span) (s0 s1 s2 s3 : List ℕ)
+    → IsPosition Address Number span.low s0 s1
     → IsPosition Address Number span.high s1 s2 → IsAnswer Number version span.answer s2 s3 → SaysLine Address Number version span s0 s3
 line_taken Address Number version span s0 s1 s2 s3 low high answer =
     let rest : Fields = answer.unit ∷ answer.file ∷ answer.line ∷ answer.column ∷ answer.is_stmt ∷ answer.more in
-    let more = more_said Number version span.answer answer.more low.address low.op high.address high.op answer.unit answer.file answer.line answer.column answer.is_stmt answer.more_are in
-    let op : 44 ∷ (high.op ++ 44 ∷ s2) ≡ following (high.op ∷ rest) ++ 10 ∷ s3 = behind high.op (high.op ++ 44 ∷ s2) s2 (10 ∷ s3) rest refl answer.joined in
-    let address : 44 ∷ s1 ≡ following (high.address ∷ high.op ∷ rest) ++ 10 ∷ s3 = behind high.address s1 (high.op ++ 44 ∷ s2) (10 ∷ s3) (high.op ∷ rest) high.joined op in
+    let more = more_said Number version span.answer answer.more low.address low.op high.address high.op answer.unit answer.file answer.line
+    answer.column answer.is_stmt answer.more_are in
+    let op : 44 ∷ (high.op ++ 44 ∷ s2) ≡ following (high.op ∷ rest) ++ 10 ∷ s3 =
+    behind high.op (high.op ++ 44 ∷ s2) s2 (10 ∷ s3) rest refl answer.joined in
+    let address : 44 ∷ s1 ≡ following (high.address ∷ high.op ∷ rest) ++ 10 ∷ s3 =
+    behind high.address s1 (high.op ++ 44 ∷ s2) (10 ∷ s3) (high.op ∷ rest) high.joined op in
     let all : 44 ∷ (low.op ++ 44 ∷ s1) ≡ following (low.op ∷ high.address ∷ high.op ∷ rest) ++ 10 ∷ s3 =
     behind low.op (low.op ++ 44 ∷ s1) s1 (10 ∷ s3) (high.address ∷ high.op ∷ rest) refl address in
     let fields : Fields = low.op ∷ high.address ∷ high.op ∷ rest in
@@ -125,7 +138,8 @@ line_taken Address Number version span s0 s1 s2 s3 low high answer =
 line_read : (fields : Fields) (rest : List ℕ) → 2 ≤ length fields → AllByRecursion IsQuiet fields
     → next_record default_config st.StartRecord [] [] (line_text fields ++ rest) ≡ Some (fields, st.StartRecord, rest)
 line_read fields rest some quiet =
-    ap (λ (t : List ℕ). next_record default_config st.StartRecord [] [] (t ++ rest)) (sym (quiet_line fields some quiet)) ∙ read-write fields rest
+    ap (λ (t : List ℕ). next_record default_config st.StartRecord [] [] (t ++ rest)) (sym (quiet_line fields some quiet))
+    ∙ read-write fields rest
     ∙ ap (λ (r : Fields). Some (r, st.StartRecord, rest)) (sym (same_back fields some))
 
 quiet_said : (version : Version) (fields : Fields) (span : Span) → IsSpanRecord version fields span → AllByRecursion IsQuiet fields
@@ -133,7 +147,11 @@ quiet_said version fields span s =
     all_from_each IsQuiet fields
     (λ i lt.
     each_holds IsAddress IsDecimal (λ (k : Kind) (text : List ℕ). IsQuiet text) version fields span
-    (record { of_address = λ text n h. quiet_bytes text (address_from_zero text n h); of_number = λ text n h. quiet_bytes text (decimal_from_zero text n h); of_flag = quiet_flag })
+    (record {
+      of_address = λ text n h. quiet_bytes text (address_from_zero text n h);
+      of_number = λ text n h. quiet_bytes text (decimal_from_zero text n h);
+      of_flag = quiet_flag;
+    })
     s i (rw s.count at lt))
 
 pub span_read : (version : Version) (fields : Fields) (span : Span) (rest : List ℕ) → IsSpanRecord version fields span
@@ -143,21 +161,25 @@ span_read version fields span rest s =
     line_read fields rest some (quiet_said version fields span s)
 
 pub names_read : (version : Version) (rest : List ℕ)
-    → next_record default_config st.StartRecord [] [] (line_text (column_names version) ++ rest) ≡ Some (column_names version, st.StartRecord, rest)
+    → next_record default_config st.StartRecord [] [] (line_text (column_names version) ++ rest)
+    ≡ Some (column_names version, st.StartRecord, rest)
 names_read version rest =
     let some : 2 ≤ length (column_names version) = subst (λ (n : ℕ). 2 ≤ n) (sym (names_count version)) (count_some version) in
     line_read (column_names version) rest some (quiet_names version)
 
 -- a header is no byte order mark
-pub no_mark : (version : Version) (rest : List ℕ) → strip_bom (line_text (column_names version) ++ rest) ≡ line_text (column_names version) ++ rest
+pub no_mark : (version : Version) (rest : List ℕ) → strip_bom (line_text (column_names version) ++ rest) ≡ line_text (column_names version)
+    ++ rest
 unfolding strip_bom
 no_mark One rest = refl
 no_mark Two rest = refl
 
 pub header_reached : (version : Version) (rest : List ℕ)
-    → Reached default_config st.StartRecord (strip_bom (line_text (column_names version) ++ rest)) (column_names version ∷ []) st.StartRecord rest
+    → Reached default_config st.StartRecord (strip_bom (line_text (column_names version) ++ rest)) (column_names version ∷ [])
+    st.StartRecord rest
 unfolding Reached
-header_reached version rest = rw (no_mark version rest) ((column_names version, st.StartRecord, rest), names_read version rest, refl, (refl, refl))
+header_reached version rest =
+    rw (no_mark version rest) ((column_names version, st.StartRecord, rest), names_read version rest, refl, (refl, refl))
 
 some_end : (field fields : List ℕ) → 0 < length (field ++ fields ++ 10 ∷ [])
 some_end field fields = omega (arith, length-append (field ++ fields) (10 ∷ []))

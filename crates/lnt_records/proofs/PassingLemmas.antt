@@ -1,5 +1,6 @@
 -- Bytes of a table that are taken and passed.
-use Rattle.std.proofs.Common.{◌≡◌, ◌∙◌, ℕ, ◌+◌, ◌≤◌, Bool, true, false, List, [], ◌∷◌, ◌++◌, Option, Some, None, IfSome, map, subst, append-nil, append_assoc, drop, length, length-append, refl, ap, sym, arith}
+use Rattle.std.proofs.Common.{◌≡◌, ◌∙◌, ℕ, ◌+◌, ◌≤◌, Bool, true, false, List, [], ◌∷◌, ◌++◌, Option, Some, None, IfSome, map, subst}
+use Rattle.std.proofs.Common.{append-nil, append_assoc, drop, length, length-append, refl, ap, sym, arith}
 use Rattle.std.proofs.lemmas.List.{drop-drop}
 use Rattle.std.specs.Bool.{MatchBool}
 use Rattle.std.specs.List.{AllByRecursion, AllZip, cons_option}
@@ -31,7 +32,8 @@ pub passes_none : (a : Option (List ℕ)) (l : ℕ) (window : List ℕ) → Pass
 passes_none a l window = record { given = []; joined = append-nil window; pulls = pulls_none a; count = omega arith }
 
 -- what was passed and taken so far, and then
-pub passes_both : (a b c : Option (List ℕ)) (la lb lc : ℕ) (w0 w1 w2 one two : List ℕ) → Passes a b la lb w0 w1 one → Passes b c lb lc w1 w2 two → Passes a c la lc w0 w2 (one ++ two)
+pub passes_both : (a b c : Option (List ℕ)) (la lb lc : ℕ) (w0 w1 w2 one two : List ℕ) → Passes a b la lb w0 w1 one
+    → Passes b c lb lc w1 w2 two → Passes a c la lc w0 w2 (one ++ two)
 passes_both a b c la lb lc w0 w1 w2 one two p q = record {
   given = p.given ++ q.given;
   joined =
@@ -42,12 +44,15 @@ passes_both a b c la lb lc w0 w1 w2 one two p q = record {
 }
 
 -- one more block
-pub passes_block : (a b c : Option (List ℕ)) (la lb lc : ℕ) (w0 w1 w2 : List ℕ) (k : ℕ) → Passes a b la lb w0 w1 [] → GivesMore b c w1 w2 k → lc + k ≡ lb → Passes a c la lc w0 w2 []
+pub passes_block : (a b c : Option (List ℕ)) (la lb lc : ℕ) (w0 w1 w2 : List ℕ) (k : ℕ) → Passes a b la lb w0 w1 [] → GivesMore b c w1 w2 k
+    → lc + k ≡ lb → Passes a c la lc w0 w2 []
 passes_block a b c la lb lc w0 w1 w2 k p more count =
-    passes_both a b c la lb lc w0 w1 w2 [] [] p (record { given = more.given; joined = sym more.joined; pulls = more.pulls; count = omega (arith, count, more.count) })
+    passes_both a b c la lb lc w0 w1 w2 [] [] p (record
+    { given = more.given; joined = sym more.joined; pulls = more.pulls; count = omega (arith, count, more.count) })
 
 -- one more line
-pub passes_line : (a b : Option (List ℕ)) (la lb : ℕ) (w0 w1 w2 text line : List ℕ) → Passes a b la lb w0 w1 text → w1 ≡ line ++ w2 → Passes a b la lb w0 w2 (text ++ line)
+pub passes_line : (a b : Option (List ℕ)) (la lb : ℕ) (w0 w1 w2 text line : List ℕ) → Passes a b la lb w0 w1 text → w1 ≡ line ++ w2
+    → Passes a b la lb w0 w2 (text ++ line)
 passes_line a b la lb w0 w1 w2 text line p e = record {
   given = p.given;
   joined = p.joined ∙ ap (λ (t : List ℕ). text ++ t) e ∙ sym (append_assoc text line w2);
@@ -55,7 +60,8 @@ passes_line a b la lb w0 w1 w2 text line p e = record {
   count = p.count;
 }
 
-pub passes_all : (a b : Option (List ℕ)) (la lb : ℕ) (w0 w1 : List ℕ) → Passes a b la lb w0 w1 [] → IfSome b (λ bytes. bytes ≡ []) → Ends a la w0 w1
+pub passes_all : (a b : Option (List ℕ)) (la lb : ℕ) (w0 w1 : List ℕ) → Passes a b la lb w0 w1 [] → IfSome b (λ bytes. bytes ≡ [])
+    → Ends a la w0 w1
 passes_all a b la lb w0 w1 p none = record {
   given = p.given;
   joined = sym p.joined;
@@ -64,31 +70,40 @@ passes_all a b la lb w0 w1 p none = record {
 }
 
 -- where a source that gave some bytes has more than it may give, it had more from the start
-pub longer_from_start : (a b : Option (List ℕ)) (la lb : ℕ) (w0 w1 text : List ℕ) → Passes a b la lb w0 w1 text → HasMoreThan b lb → HasMoreThan a la
+pub longer_from_start : (a b : Option (List ℕ)) (la lb : ℕ) (w0 w1 text : List ℕ) → Passes a b la lb w0 w1 text → HasMoreThan b lb
+    → HasMoreThan a la
 longer_from_start a b la lb w0 w1 text p more = more_from_start a b p.given la lb p.pulls p.count more
 
 -- the bytes after a text at a place
-pub text_passed : (block text window : List ℕ) (at : ℕ) → window ≡ drop at block → window ≡ text ++ drop (length text) window → window ≡ text ++ drop (at + length text) block
+pub text_passed : (block text window : List ℕ) (at : ℕ) → window ≡ drop at block → window ≡ text ++ drop (length text) window
+    → window ≡ text ++ drop (at + length text) block
 text_passed block text window at e f =
     f ∙ ap (λ (t : List ℕ). text ++ drop (length text) t) e ∙ ap (λ (t : List ℕ). text ++ t) (drop-drop (length text) at block)
 
 -- ---- lines
 
-pub line_passed : (r : Bool) (version : Version) (span : Span) (text line old new : List ℕ) → MatchBool r (old ≡ text ++ new) (new ≡ old) → text ≡ line → IsLine version span line []
+pub line_passed : (r : Bool) (version : Version) (span : Span) (text line old new : List ℕ) → MatchBool r (old ≡ text ++ new) (new ≡ old)
+    → text ≡ line → IsLine version span line []
     → MatchBool r (IsLine version span old new) (new ≡ old)
 line_passed true version span text line old new e same l =
-    record { fields = l.fields; joined = e ∙ ap (λ (t : List ℕ). t ++ new) (same ∙ l.joined ∙ append-nil (line_text l.fields)); says = l.says }
+    record {
+      fields = l.fields;
+      joined = e ∙ ap (λ (t : List ℕ). t ++ new) (same ∙ l.joined ∙ append-nil (line_text l.fields));
+      says = l.says;
+    }
 line_passed false version span text line old new e same l = e
 
 pub no_lines_passed : (version : Version) → AreLines version [] [] 1
 no_lines_passed version = record { records = []; text_is = refl; each = tt; count_is = refl }
 
-pub lines_more : (version : Version) (text : List ℕ) (table : List Span) (count : ℕ) (fields : Fields) (span : Span) → AreLines version text table count → IsSpanRecord version fields span
+pub lines_more : (version : Version) (text : List ℕ) (table : List Span) (count : ℕ) (fields : Fields) (span : Span)
+    → AreLines version text table count → IsSpanRecord version fields span
     → AreLines version (text ++ line_text fields) (table ++ span ∷ []) (count + 1)
 lines_more version text table count fields span a says = record {
   records = a.records ++ fields ∷ [];
   text_is =
-      ap (λ (t : List ℕ). t ++ line_text fields) a.text_is ∙ ap (λ (t : List ℕ). lines_text a.records ++ t) (sym (append-nil (line_text fields)))
+      ap (λ (t : List ℕ). t ++ line_text fields) a.text_is
+      ∙ ap (λ (t : List ℕ). lines_text a.records ++ t) (sym (append-nil (line_text fields)))
       ∙ sym (lines_append a.records (fields ∷ []));
   each = zip_push (IsSpanRecord version) a.records table fields span a.each says;
   count_is = omega (arith, a.count_is, length-append a.records (fields ∷ []));
@@ -99,10 +114,12 @@ lines_long : (records : List Fields) → length records ≤ length (lines_text r
 lines_long [] = omega arith
 lines_long (fields ∷ records) = omega (arith, line_some fields, lines_long records, length-append (line_text fields) (lines_text records))
 
-pub few_records : (version : Version) (text : List ℕ) (table : List Span) (count : ℕ) → AreLines version text table count → count ≤ length text + 1
+pub few_records : (version : Version) (text : List ℕ) (table : List Span) (count : ℕ) → AreLines version text table count
+    → count ≤ length text + 1
 few_records version text table count a = omega (arith, a.count_is, lines_long a.records, ap length a.text_is)
 
-pub few_passed : (a b : Option (List ℕ)) (la lb : ℕ) (w0 w1 text : List ℕ) → Passes a b la lb w0 w1 text → lb + (length text + length w1) ≡ la + length w0
+pub few_passed : (a b : Option (List ℕ)) (la lb : ℕ) (w0 w1 text : List ℕ) → Passes a b la lb w0 w1 text
+    → lb + (length text + length w1) ≡ la + length w0
 few_passed a b la lb w0 w1 text p = omega (arith, p.count, ap length p.joined, length-append w0 p.given, length-append text w1)
 
 -- ---- answers that a version tells
@@ -114,24 +131,28 @@ told_one : (version : Version) (fields : Fields) (span : Span) → IsSpanRecord 
 told_one One fields span says = made_one span says.more
 told_one Two fields span says = refl
 
-pub all_told : (version : Version) (records : List Fields) (table : List Span) → AllZip (IsSpanRecord version) records table → AllByRecursion (IsTold version) table
+pub all_told : (version : Version) (records : List Fields) (table : List Span) → AllZip (IsSpanRecord version) records table
+    → AllByRecursion (IsTold version) table
 all_told version [] [] z = tt
 all_told version [] (s ∷ table) z = absurd z
 all_told version (r ∷ records) [] z = absurd z
 all_told version (r ∷ records) (s ∷ table) z = (told_one version r s z.0, all_told version records table z.1)
 
-told_twice : (version : Version) (answer : Option Answer) → option_map (in_version version) (option_map (in_version version) answer) ≡ option_map (in_version version) answer
+told_twice : (version : Version) (answer : Option Answer)
+    → option_map (in_version version) (option_map (in_version version) answer) ≡ option_map (in_version version) answer
 told_twice version None = refl
 told_twice One (Some answer) = refl
 told_twice Two (Some answer) = refl
 
-pub version_same : (version : Version) (xs ys : List Span) (p : Position) → span_answer xs p ≡ version_answer version ys p → version_answer version xs p ≡ version_answer version ys p
+pub version_same : (version : Version) (xs ys : List Span) (p : Position) → span_answer xs p ≡ version_answer version ys p
+    → version_answer version xs p ≡ version_answer version ys p
 version_same version xs ys p e = ap (option_map (in_version version)) e ∙ told_twice version (span_answer ys p)
 
 -- ---- canonical spans whose lines were passed
 
 -- So far the lines of canonical spans were passed, as the spans came.
-pub record Stands {S : Type 0} (to_come : S → List Span → Type 0) (first now : S) (version : Version) (last : Option Span) (a b : Option (List ℕ)) (la lb : ℕ) (w0 w1 : List ℕ) (count : ℕ) (end : Position) : Type 0 where
+pub record Stands {S : Type 0} (to_come : S → List Span → Type 0) (first now : S) (version : Version) (last : Option Span)
+    (a b : Option (List ℕ)) (la lb : ℕ) (w0 w1 : List ℕ) (count : ℕ) (end : Position) : Type 0 where
   pub pushed : List Span
   pub table : List Span
   pub text : List ℕ
@@ -141,7 +162,8 @@ pub record Stands {S : Type 0} (to_come : S → List Span → Type 0) (first now
   pub end_is : end ≡ end_of table
   pub given : (list : List Span) → to_come first list → HasGiven list pushed (to_come now)
 
-pub stands_first : {S : Type 0} (to_come : S → List Span → Type 0) (first : S) (version : Version) (last : Option Span) (a : Option (List ℕ)) (la : ℕ) (w : List ℕ) → HasJoined version [] [] last
+pub stands_first : {S : Type 0} (to_come : S → List Span → Type 0) (first : S) (version : Version) (last : Option Span)
+    (a : Option (List ℕ)) (la : ℕ) (w : List ℕ) → HasJoined version [] [] last
     → Stands to_come first first version last a a la la w w 1 (record { address = 0; op = 0 })
 stands_first to_come first version last a la w j = record {
   pushed = [];
@@ -155,17 +177,23 @@ stands_first to_come first version last a la w j = record {
 }
 
 -- what a push of the next span makes of it
-pub record Pushes {S : Type 0} (to_come : S → List Span → Type 0) (now next : S) (version : Version) (span : Span) (one old new : Option Span) : Type 0 where
+pub record Pushes {S : Type 0} (to_come : S → List Span → Type 0) (now next : S) (version : Version) (span : Span)
+    (one old new : Option Span) : Type 0 where
   pub gives : (spans : List Span) → to_come now spans → GivesFirst (to_come next) spans (Some span)
-  pub joined : (pushed given : List Span) → HasJoined version pushed given old → HasJoined version (pushed ++ span ∷ []) (given ++ cons_option one []) new
+  pub joined : (pushed given : List Span) → HasJoined version pushed given old
+      → HasJoined version (pushed ++ span ∷ []) (given ++ cons_option one []) new
 
-pub stands_grown : {S : Type 0} (to_come : S → List Span → Type 0) (first now next : S) (version : Version) (old new one : Option Span) (a b : Option (List ℕ)) (la lb : ℕ) (w0 w1 : List ℕ) (count : ℕ) (end : Position) (span : Span)
-    → Stands to_come first now version old a b la lb w0 w1 count end → Pushes to_come now next version span one old new → one ≡ None → Stands to_come first next version new a b la lb w0 w1 count end
+pub stands_grown : {S : Type 0} (to_come : S → List Span → Type 0) (first now next : S) (version : Version) (old new one : Option Span)
+    (a b : Option (List ℕ)) (la lb : ℕ) (w0 w1 : List ℕ) (count : ℕ) (end : Position) (span : Span)
+    → Stands to_come first now version old a b la lb w0 w1 count end → Pushes to_come now next version span one old new → one ≡ None
+    → Stands to_come first next version new a b la lb w0 w1 count end
 stands_grown to_come first now next version old new one a b la lb w0 w1 count end span s p none = record {
   pushed = s.pushed ++ span ∷ [];
   table = s.table;
   text = s.text;
-  joined = subst (λ (xs : List Span). HasJoined version (s.pushed ++ span ∷ []) xs new) (append-nil s.table) (subst (λ (o : Option Span). HasJoined version (s.pushed ++ span ∷ []) (s.table ++ cons_option o []) new) none (p.joined s.pushed s.table s.joined));
+  joined = subst (λ (xs : List Span). HasJoined version (s.pushed ++ span ∷ []) xs new) (append-nil s.table)
+      (subst (λ (o : Option Span). HasJoined version (s.pushed ++ span ∷ []) (s.table ++ cons_option o []) new) none
+      (p.joined s.pushed s.table s.joined));
   bytes = s.bytes;
   lines = s.lines;
   end_is = s.end_is;
@@ -177,16 +205,20 @@ end_added [] span = refl
 end_added (r ∷ []) span = refl
 end_added (r ∷ next ∷ table) span = end_added (next ∷ table) span
 
-pub stands_more : {S : Type 0} (to_come : S → List Span → Type 0) (first now next : S) (version : Version) (old new one : Option Span) (a b c : Option (List ℕ)) (la lb lc : ℕ) (w0 w1 w2 w3 : List ℕ) (count : ℕ) (end : Position) (span joined : Span)
-    → Stands to_come first now version old a b la lb w0 w1 count end → Pushes to_come now next version span one old new → one ≡ Some joined → Passes b c lb lc w1 w2 [] → IsLine version joined w2 w3
+pub stands_more : {S : Type 0} (to_come : S → List Span → Type 0) (first now next : S) (version : Version) (old new one : Option Span)
+    (a b c : Option (List ℕ)) (la lb lc : ℕ) (w0 w1 w2 w3 : List ℕ) (count : ℕ) (end : Position) (span joined : Span)
+    → Stands to_come first now version old a b la lb w0 w1 count end → Pushes to_come now next version span one old new → one ≡ Some joined
+    → Passes b c lb lc w1 w2 [] → IsLine version joined w2 w3
     → Stands to_come first next version new a c la lc w0 w3 (count + 1) joined.high
 stands_more to_come first now next version old new one a b c la lb lc w0 w1 w2 w3 count end span joined s p some filled line =
-    let both : Passes a c la lc w0 w2 s.text = subst (λ (t : List ℕ). Passes a c la lc w0 w2 t) (append-nil s.text) (passes_both a b c la lb lc w0 w1 w2 s.text [] s.bytes filled) in
+    let both : Passes a c la lc w0 w2 s.text = subst (λ (t : List ℕ). Passes a c la lc w0 w2 t) (append-nil s.text)
+    (passes_both a b c la lb lc w0 w1 w2 s.text [] s.bytes filled) in
     record {
       pushed = s.pushed ++ span ∷ [];
       table = s.table ++ joined ∷ [];
       text = s.text ++ line_text line.fields;
-      joined = subst (λ (o : Option Span). HasJoined version (s.pushed ++ span ∷ []) (s.table ++ cons_option o []) new) some (p.joined s.pushed s.table s.joined);
+      joined = subst (λ (o : Option Span). HasJoined version (s.pushed ++ span ∷ []) (s.table ++ cons_option o []) new) some
+          (p.joined s.pushed s.table s.joined);
       bytes = passes_line a c la lc w0 w2 w3 s.text (line_text line.fields) both line.joined;
       lines = lines_more version s.text s.table count line.fields joined s.lines line.says;
       end_is = sym (end_added s.table joined);
@@ -204,11 +236,13 @@ record AreRest (version : Version) (all front rest : List Span) : Type 0 where
   order : AreInOrder (front ++ rest)
   same : (p : Position) → span_answer (front ++ rest) p ≡ version_answer version all p
 
-rest_joined : (version : Version) (pushed table rest : List Span) (first last : Option Span) → HasJoined version pushed (table ++ cons_option first []) last → AreInOrder (pushed ++ rest)
+rest_joined : (version : Version) (pushed table rest : List Span) (first last : Option Span)
+    → HasJoined version pushed (table ++ cons_option first []) last → AreInOrder (pushed ++ rest)
     → AreRest version (pushed ++ rest) table (cons_option first (cons_option last (map (span_in_version version) rest)))
 rest_joined version pushed [] rest None None j o =
     let all : AreInOrder rest = subst (λ (xs : List Span). AreInOrder (xs ++ rest)) j.0 o in
-    subst (λ (xs : List Span). AreRest version (xs ++ rest) [] (told version rest)) (sym j.0) (record { order = told_order version rest all; same = λ p. told_answer version rest p })
+    subst (λ (xs : List Span). AreRest version (xs ++ rest) [] (told version rest)) (sym j.0)
+    (record { order = told_order version rest all; same = λ p. told_answer version rest p })
 rest_joined version pushed [] rest (Some first) None j o = absurd (cc (j.1))
 rest_joined version pushed (s ∷ table) rest first None j o = absurd (cc (j.1))
 rest_joined version pushed table rest first (Some last) j o =
@@ -218,9 +252,12 @@ rest_joined version pushed table rest first (Some last) j o =
       same = λ p. ap (λ (xs : List Span). span_answer xs p) (sym e) ∙ j.same rest o p;
     }
 
-left_off : (P : List Span → Type 0) (version : Version) (list pushed table : List Span) (one last : Option Span) (text : List ℕ) (count : ℕ) (end : Position)
-    → HasGiven list pushed P → HasJoined version pushed (table ++ cons_option one []) last → AreLines version text table count → end ≡ end_of table → AreInOrder list
-    → LeavesOff (λ (xs : List Span). (rest : List Span) × P rest × (xs ≡ cons_option one (cons_option last (map (span_in_version version) rest)))) version list text count end
+left_off : (P : List Span → Type 0) (version : Version) (list pushed table : List Span) (one last : Option Span) (text : List ℕ) (count : ℕ)
+    (end : Position)
+    → HasGiven list pushed P → HasJoined version pushed (table ++ cons_option one []) last → AreLines version text table count
+    → end ≡ end_of table → AreInOrder list
+    → LeavesOff (λ (xs : List Span). (rest : List Span) × P rest
+    × (xs ≡ cons_option one (cons_option last (map (span_in_version version) rest)))) version list text count end
 left_off P version list pushed table one last text count end given joined lines end_is order =
     let behind = rest_joined version pushed table given.rest one last joined (subst AreInOrder given.list_is order) in
     record {
@@ -229,25 +266,33 @@ left_off P version list pushed table one last text count end given joined lines 
       lines = lines;
       left = (given.rest, given.left, refl);
       order = behind.order;
-      same = λ p. version_same version _ (pushed ++ given.rest) p (behind.same p) ∙ ap (λ (xs : List Span). version_answer version xs p) (sym given.list_is);
+      same = λ p. version_same version _ (pushed ++ given.rest) p (behind.same p)
+          ∙ ap (λ (xs : List Span). version_answer version xs p) (sym given.list_is);
       told = all_told version lines.records table lines.each;
       end_is = end_is;
     }
 
 -- what the passing of lines says at its end
-abbrev pub LeftOff : {S : Type 0} → (S → List Span → Type 0) → S → S → Bool → Version → Option Span → Option Span → Option (List ℕ) → Option (List ℕ) → ℕ → ℕ → List ℕ → List ℕ → ℕ → Position → Type 0
+abbrev pub LeftOff : {S : Type 0} → (S → List Span → Type 0) → S → S → Bool → Version → Option Span → Option Span → Option (List ℕ)
+    → Option (List ℕ) → ℕ → ℕ → List ℕ → List ℕ → ℕ → Position → Type 0
 LeftOff {S} to_come first now is_ended version one last a b la lb w0 w1 count end =
     (text : List ℕ) × Passes a b la lb w0 w1 text
     × ((list : List Span) → to_come first list → AreInOrder list
-    → LeavesOff (λ (xs : List Span). (rest : List Span) × AreLeft is_ended (to_come now) rest × (xs ≡ cons_option one (cons_option last (map (span_in_version version) rest)))) version list text count end)
+    → LeavesOff (λ (xs : List Span). (rest : List Span) × AreLeft is_ended (to_come now) rest
+    × (xs ≡ cons_option one (cons_option last (map (span_in_version version) rest)))) version list text count end)
 
 -- where the next span's line wasn't there
-pub leaves_off_at : {S : Type 0} (to_come : S → List Span → Type 0) (first now next : S) (version : Version) (old new one : Option Span) (a b c : Option (List ℕ)) (la lb lc : ℕ) (w0 w1 w2 w3 : List ℕ) (count : ℕ) (end : Position) (span joined : Span)
-    → Stands to_come first now version old a b la lb w0 w1 count end → Pushes to_come now next version span one old new → one ≡ Some joined → Passes b c lb lc w1 w2 [] → w3 ≡ w2
+pub leaves_off_at : {S : Type 0} (to_come : S → List Span → Type 0) (first now next : S) (version : Version) (old new one : Option Span)
+    (a b c : Option (List ℕ)) (la lb lc : ℕ) (w0 w1 w2 w3 : List ℕ) (count : ℕ) (end : Position) (span joined : Span)
+    → Stands to_come first now version old a b la lb w0 w1 count end → Pushes to_come now next version span one old new → one ≡ Some joined
+    → Passes b c lb lc w1 w2 [] → w3 ≡ w2
     → LeftOff to_come first next false version (Some joined) new a c la lc w0 w3 count end
 leaves_off_at to_come first now next version old new one a b c la lb lc w0 w1 w2 w3 count end span joined s p some filled same =
-    let both : Passes a c la lc w0 w2 s.text = subst (λ (t : List ℕ). Passes a c la lc w0 w2 t) (append-nil s.text) (passes_both a b c la lb lc w0 w1 w2 s.text [] s.bytes filled) in
-    let grown : HasJoined version (s.pushed ++ span ∷ []) (s.table ++ joined ∷ []) new = subst (λ (o : Option Span). HasJoined version (s.pushed ++ span ∷ []) (s.table ++ cons_option o []) new) some (p.joined s.pushed s.table s.joined) in (
+    let both : Passes a c la lc w0 w2 s.text = subst (λ (t : List ℕ). Passes a c la lc w0 w2 t) (append-nil s.text)
+    (passes_both a b c la lb lc w0 w1 w2 s.text [] s.bytes filled) in
+    let grown : HasJoined version (s.pushed ++ span ∷ []) (s.table ++ joined ∷ []) new = subst
+    (λ (o : Option Span). HasJoined version (s.pushed ++ span ∷ []) (s.table ++ cons_option o []) new) some
+    (p.joined s.pushed s.table s.joined) in (
       s.text,
       subst (λ (w : List ℕ). Passes a c la lc w0 w s.text) (sym same) both,
       λ list coming order.
@@ -256,26 +301,33 @@ leaves_off_at to_come first now next version old new one a b c la lb lc w0 w1 w2
     )
 
 -- where no span was left
-pub leaves_off : {S : Type 0} (to_come : S → List Span → Type 0) (first now next : S) (version : Version) (last : Option Span) (a b : Option (List ℕ)) (la lb : ℕ) (w0 w1 : List ℕ) (count : ℕ) (end : Position)
-    → Stands to_come first now version last a b la lb w0 w1 count end → ((spans : List Span) → to_come now spans → GivesFirst (to_come next) spans None)
+pub leaves_off : {S : Type 0} (to_come : S → List Span → Type 0) (first now next : S) (version : Version) (last : Option Span)
+    (a b : Option (List ℕ)) (la lb : ℕ) (w0 w1 : List ℕ) (count : ℕ) (end : Position)
+    → Stands to_come first now version last a b la lb w0 w1 count end
+    → ((spans : List Span) → to_come now spans → GivesFirst (to_come next) spans None)
     → LeftOff to_come first next true version None last a b la lb w0 w1 count end
 leaves_off to_come first now next version last a b la lb w0 w1 count end s gives = (
   s.text,
   s.bytes,
   λ list coming order.
       let all = all_given list s.pushed (to_come now) (to_come next) (s.given list coming) gives in
-      let given : HasGiven list s.pushed (λ (rest : List Span). rest ≡ []) = record { rest = []; list_is = all ∙ sym (append-nil s.pushed); left = refl } in
-      let joined : HasJoined version s.pushed (s.table ++ []) last = subst (λ (xs : List Span). HasJoined version s.pushed xs last) (sym (append-nil s.table)) s.joined in
-      left_off (λ (rest : List Span). rest ≡ []) version list s.pushed s.table None last s.text count end given joined s.lines s.end_is order,
+      let given : HasGiven list s.pushed (λ (rest : List Span). rest ≡ []) =
+      record { rest = []; list_is = all ∙ sym (append-nil s.pushed); left = refl } in
+      let joined : HasJoined version s.pushed (s.table ++ []) last =
+      subst (λ (xs : List Span). HasJoined version s.pushed xs last) (sym (append-nil s.table)) s.joined in
+      left_off (λ (rest : List Span). rest ≡ []) version list s.pushed s.table None last s.text count end given joined s.lines s.end_is
+      order,
 )
 
 -- ---- spans that are left, as they come
 
 -- a source that gives one more, where nothing stands before it
-pub gives_told : (version : Version) (old new : List Span → Type 0) (first second first' second' : Option Span) (is_ended : Bool) (span : Span) → first ≡ None → second ≡ None → first' ≡ None → second' ≡ None → is_ended ≡ false
+pub gives_told : (version : Version) (old new : List Span → Type 0) (first second first' second' : Option Span) (is_ended : Bool)
+    (span : Span) → first ≡ None → second ≡ None → first' ≡ None → second' ≡ None → is_ended ≡ false
     → ((spans : List Span) → old spans → GivesFirst new spans (Some span)) → (spans : List Span)
     → (rest : List Span) × AreLeft is_ended old rest × (spans ≡ cons_option first (cons_option second (map (span_in_version version) rest)))
-    → GivesFirst (λ (xs : List Span). (rest : List Span) × AreLeft is_ended new rest × (xs ≡ cons_option first' (cons_option second' (map (span_in_version version) rest)))) spans (Some (span_in_version version span))
+    → GivesFirst (λ (xs : List Span). (rest : List Span) × AreLeft is_ended new rest
+    × (xs ≡ cons_option first' (cons_option second' (map (span_in_version version) rest)))) spans (Some (span_in_version version span))
 gives_told version old new None None None None false span e1 e2 e3 e4 e5 gives spans ([], left, e) = absurd (gives [] left)
 gives_told version old new None None None None false span e1 e2 e3 e4 e5 gives spans (y ∷ rest, left, e) =
     let g = gives (y ∷ rest) left in
@@ -289,16 +341,19 @@ gives_told version old new None None None None true span e1 e2 e3 e4 e5 gives sp
 -- ---- lines that are read and pushed
 
 -- From one state of a merge to another lines were passed, whatever was before them.
-pub record Reads {S : Type 0} (to_come : S → List Span → Type 0) (old new : Merging S) (version : Version) (before_count count : ℕ) (a b : Option (List ℕ)) (la lb : ℕ) (w0 w1 : List ℕ) : Type 0 where
+pub record Reads {S : Type 0} (to_come : S → List Span → Type 0) (old new : Merging S) (version : Version) (before_count count : ℕ)
+    (a b : Option (List ℕ)) (la lb : ℕ) (w0 w1 : List ℕ) : Type 0 where
   pub text : List ℕ
   pub bytes : Passes a b la lb w0 w1 text
-  pub passed : (section : List Span) (before : List ℕ) → HasPassed to_come old version section before before_count → HasPassed to_come new version section (before ++ text) count
+  pub passed : (section : List Span) (before : List ℕ) → HasPassed to_come old version section before before_count
+      → HasPassed to_come new version section (before ++ text) count
   pub list : List Span
   pub table : List Span
   pub compares : Compares to_come new list table
   pub few : count ≤ before_count + length text
 
-pub reads_none : {S : Type 0} (to_come : S → List Span → Type 0) (merge : Merging S) (version : Version) (count : ℕ) (a : Option (List ℕ)) (la : ℕ) (w : List ℕ) (list table : List Span) → Compares to_come merge list table
+pub reads_none : {S : Type 0} (to_come : S → List Span → Type 0) (merge : Merging S) (version : Version) (count : ℕ) (a : Option (List ℕ))
+    (la : ℕ) (w : List ℕ) (list table : List Span) → Compares to_come merge list table
     → Reads to_come merge merge version count count a a la la w w
 reads_none to_come merge version count a la w list table c = record {
   text = [];
@@ -310,8 +365,10 @@ reads_none to_come merge version count a la w list table c = record {
   few = omega arith;
 }
 
-pub reads_filled : {S : Type 0} (to_come : S → List Span → Type 0) (old new : Merging S) (version : Version) (n count : ℕ) (a b c : Option (List ℕ)) (la lb lc : ℕ) (w0 w1 w2 : List ℕ)
-    → Reads to_come old new version n count a b la lb w0 w1 → Passes b c lb lc w1 w2 [] → Reads to_come old new version n count a c la lc w0 w2
+pub reads_filled : {S : Type 0} (to_come : S → List Span → Type 0) (old new : Merging S) (version : Version) (n count : ℕ)
+    (a b c : Option (List ℕ)) (la lb lc : ℕ) (w0 w1 w2 : List ℕ)
+    → Reads to_come old new version n count a b la lb w0 w1 → Passes b c lb lc w1 w2 []
+    → Reads to_come old new version n count a c la lc w0 w2
 reads_filled to_come old new version n count a b c la lb lc w0 w1 w2 r p = record {
   text = r.text;
   bytes = subst (λ (t : List ℕ). Passes a c la lc w0 w2 t) (append-nil r.text) (passes_both a b c la lb lc w0 w1 w2 r.text [] r.bytes p);
@@ -328,8 +385,10 @@ pub record Takes {S : Type 0} (to_come : S → List Span → Type 0) (old new : 
   pub version : new.version ≡ old.version
   pub compares : (spans records : List Span) → Compares to_come old spans records → Compares to_come new spans (records ++ span ∷ [])
 
-line_pushed : {S : Type 0} (to_come : S → List Span → Type 0) (old new : Merging S) (version : Version) (section : List Span) (text : List ℕ) (count : ℕ) (fields : Fields) (span : Span)
-    → HasPassed to_come old version section text count → IsSpanRecord version fields span → Takes to_come old new span → HasPassed to_come new version section (text ++ line_text fields) (count + 1)
+line_pushed : {S : Type 0} (to_come : S → List Span → Type 0) (old new : Merging S) (version : Version) (section : List Span)
+    (text : List ℕ) (count : ℕ) (fields : Fields) (span : Span)
+    → HasPassed to_come old version section text count → IsSpanRecord version fields span → Takes to_come old new span
+    → HasPassed to_come new version section (text ++ line_text fields) (count + 1)
 line_pushed to_come old new version section text count fields span h says t = record {
   table = h.table ++ span ∷ [];
   order = t.order h.follows.spans h.table h.follows.compares;
@@ -342,8 +401,10 @@ line_pushed to_come old new version section text count fields span h says t = re
   };
 }
 
-pub reads_line : {S : Type 0} (to_come : S → List Span → Type 0) (first old new : Merging S) (version : Version) (n count : ℕ) (a b : Option (List ℕ)) (la lb : ℕ) (w0 w1 w2 : List ℕ) (span : Span)
-    → Reads to_come first old version n count a b la lb w0 w1 → IsLine version span w1 w2 → Takes to_come old new span → Reads to_come first new version n (count + 1) a b la lb w0 w2
+pub reads_line : {S : Type 0} (to_come : S → List Span → Type 0) (first old new : Merging S) (version : Version) (n count : ℕ)
+    (a b : Option (List ℕ)) (la lb : ℕ) (w0 w1 w2 : List ℕ) (span : Span)
+    → Reads to_come first old version n count a b la lb w0 w1 → IsLine version span w1 w2 → Takes to_come old new span
+    → Reads to_come first new version n (count + 1) a b la lb w0 w2
 reads_line to_come first old new version n count a b la lb w0 w1 w2 span r line t = record {
   text = r.text ++ line_text line.fields;
   bytes = passes_line a b la lb w0 w1 w2 r.text (line_text line.fields) r.bytes line.joined;

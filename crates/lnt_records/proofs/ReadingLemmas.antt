@@ -1,9 +1,12 @@
 -- Records read one by one from bytes in memory.
-use Rattle.std.proofs.Common.{Bor, ◌≡◌, ◌≢◌, ◌∙◌, ℕ, ◌<◌, ◌≤◌, Bool, true, false, List, [], ◌∷◌, ◌++◌, Option, Some, None, length, length-append, refl, sym, ap, subst, arith, inl}
+use Rattle.std.proofs.Common.{Bor, ◌≡◌, ◌≢◌, ◌∙◌, ℕ, ◌<◌, ◌≤◌, Bool, true, false, List, [], ◌∷◌, ◌++◌, Option, Some, None, length}
+use Rattle.std.proofs.Common.{length-append, refl, sym, ap, subst, arith, inl}
 use Rattle.std.specs.Bool.{MatchBool}
 use Rattle.std.specs.Prelude.{MatchOption, ◌==◌, if◌then◌else◌}
-use Rattle.csv.specs.Machine.{Read, after_end, ends_at_end, ends_with, field_after, fields_after, in_field, is_end, next_record, start_field, start_record, step}
-use Rattle.csv.specs.Reading.{NextIs, Reached, ReadRecord, default_config, is_bom, is_flexible, pending_of, reader_state, strip_bom, took_first}
+use Rattle.csv.specs.Machine.{Read, after_end, ends_at_end, ends_with, field_after, fields_after, in_field, is_end, next_record}
+use Rattle.csv.specs.Machine.{start_field, start_record, step}
+use Rattle.csv.specs.Reading.{NextIs, Reached, ReadRecord, default_config, is_bom, is_flexible, pending_of, reader_state, strip_bom}
+use Rattle.csv.specs.Reading.{took_first}
 use Rattle.csv.specs.declared.parser.Action.{Action}
 use Rattle.csv.specs.declared.parser.Action.TheVariants as act
 use Rattle.csv.specs.declared.parser.State.{State}
@@ -40,7 +43,8 @@ start_field_ends : (c : ℕ) → EndsBetween (start_field default_config c)
 start_field_ends c = by_test (c == 34) (st.InQuoted, act.Skip) (in_field default_config c) (λ e. absurd (cc e)) (in_field_ends c)
 
 start_record_ends : (c : ℕ) → EndsBetween (start_record default_config c)
-start_record_ends c = by_test (ends_with term.CRLF c) (st.StartRecord, act.Skip) (start_field default_config c) (λ e. absurd (cc e)) (start_field_ends c)
+start_record_ends c =
+    by_test (ends_with term.CRLF c) (st.StartRecord, act.Skip) (start_field default_config c) (λ e. absurd (cc e)) (start_field_ends c)
 
 step_ends : (s : State) (c : ℕ) → EndsBetween (step default_config s c)
 step_ends st.StartRecord c = start_record_ends c
@@ -50,7 +54,8 @@ step_ends st.InQuoted c = by_test (c == 34) (st.AfterQuote, act.Skip) (st.InQuot
 step_ends st.InEscape c = λ e. absurd (cc e)
 step_ends st.AfterQuote c = by_test (c == 34) (st.InQuoted, act.Copy) (in_field default_config c) (λ e. absurd (cc e)) (in_field_ends c)
 step_ends st.InComment c = by_test (c == 10) (st.StartRecord, act.Skip) (st.InComment, act.Skip) (λ e. absurd (cc e)) (λ e. absurd (cc e))
-step_ends st.AfterCr c = by_test (c == 10) (st.StartRecord, act.Skip) (start_record default_config c) (λ e. absurd (cc e)) (start_record_ends c)
+step_ends st.AfterCr c =
+    by_test (c == 10) (st.StartRecord, act.Skip) (start_record default_config c) (λ e. absurd (cc e)) (start_record_ends c)
 
 -- what is left after a record
 record Left (s : State) (bytes : List ℕ) (p : Read) : Type 0 where
@@ -64,7 +69,8 @@ left_some s bytes p q e h = subst (Left s bytes) e h
 same_read : (p q : Read) → Some p ≡ Some q → p ≡ q
 same_read p q e = cc
 
-record_left : (s : State) (fields : Fields) (field bytes : List ℕ) (p : Read) → next_record default_config s fields field bytes ≡ Some p → Left s bytes p
+record_left : (s : State) (fields : Fields) (field bytes : List ℕ) (p : Read) → next_record default_config s fields field bytes ≡ Some p
+    → Left s bytes p
 unfolding next_record
 record_left s fields field [] p e = by (ends_at_end s) refl e
   where
@@ -74,16 +80,21 @@ record_left s fields field [] p e = by (ends_at_end s) refl e
     by false t e = absurd (cc e)
 record_left s fields field (c ∷ bytes) p e =
     by (is_end (step default_config s c).1) refl e
-    (record_left (step default_config s c).0 (fields_after (step default_config s c).1 fields field) (field_after (step default_config s c).1 c field) bytes p)
+    (record_left (step default_config s c).0 (fields_after (step default_config s c).1 fields field)
+    (field_after (step default_config s c).1 c field) bytes p)
   where
     by : (b : Bool) → is_end (step default_config s c).1 ≡ b
         → (if b then Some (fields_after (step default_config s c).1 fields field, (step default_config s c).0, bytes)
-        else next_record default_config (step default_config s c).0 (fields_after (step default_config s c).1 fields field) (field_after (step default_config s c).1 c field) bytes) ≡ Some p
-        → (next_record default_config (step default_config s c).0 (fields_after (step default_config s c).1 fields field) (field_after (step default_config s c).1 c field) bytes ≡ Some p
+        else next_record default_config (step default_config s c).0 (fields_after (step default_config s c).1 fields field)
+        (field_after (step default_config s c).1 c field) bytes) ≡ Some p
+        → (next_record default_config (step default_config s c).0 (fields_after (step default_config s c).1 fields field)
+        (field_after (step default_config s c).1 c field) bytes ≡ Some p
         → Left (step default_config s c).0 bytes p)
         → Left s (c ∷ bytes) p
-    by true t e more = left_some s (c ∷ bytes) p _ (same_read _ _ e) (record { between = step_ends s c t; no_more = omega arith; fewer = λ f. omega arith })
-    by false t e more = let rest = more e in record { between = rest.between; no_more = omega (arith, rest.no_more); fewer = λ f. omega (arith, rest.no_more) }
+    by true t e more = left_some s (c ∷ bytes) p _ (same_read _ _ e)
+        (record { between = step_ends s c t; no_more = omega arith; fewer = λ f. omega arith })
+    by false t e more = let rest = more e in
+        record { between = rest.between; no_more = omega (arith, rest.no_more); fewer = λ f. omega (arith, rest.no_more) }
 
 -- ---- a reader's next record
 
@@ -94,11 +105,13 @@ pub record Step (old new : BytesReader) (rest : List ℕ) : Type 0 where
   pub fewer : length after < length rest
   pub between : ends_at_end (reader_state new) ≡ false
 
-next_left : (s after : State) (fields : Fields) (rest bytes : List ℕ) → NextIs (next_record default_config s [] [] bytes) true fields after rest → ends_at_end s ≡ false
+next_left : (s after : State) (fields : Fields) (rest bytes : List ℕ)
+    → NextIs (next_record default_config s [] [] bytes) true fields after rest → ends_at_end s ≡ false
     → (length rest < length bytes) × (ends_at_end after ≡ false)
 next_left s after fields rest bytes h e = by (next_record default_config s [] [] bytes) refl h
   where
-    by : (o : Option Read) → next_record default_config s [] [] bytes ≡ o → NextIs o true fields after rest → (length rest < length bytes) × (ends_at_end after ≡ false)
+    by : (o : Option Read) → next_record default_config s [] [] bytes ≡ o → NextIs o true fields after rest
+        → (length rest < length bytes) × (ends_at_end after ≡ false)
     by None t h = absurd (cc h)
     by (Some p) t h = let left = record_left s [] [] bytes p t in rw (h.2, h.3) (left.fewer e, left.between)
 
@@ -106,15 +119,18 @@ abbrev known : Bor (List ℕ) → Option (List ℕ)
 known s = Some s.now
 
 -- the reads so far, with one more record
-read_step : (old new : BytesReader) (fields : Fields) (bytes : List ℕ) (records : List Fields) → (h : HasRead old bytes records) → ReadRecord known old new true fields
+read_step : (old new : BytesReader) (fields : Fields) (bytes : List ℕ) (records : List Fields) → (h : HasRead old bytes records)
+    → ReadRecord known old new true fields
     → (z : List ℕ) → bytes_left new ≡ Some z → (length z < length h.rest) × (ends_at_end (reader_state new) ≡ false)
 read_step old new fields bytes records h r z e =
     let pending : pending_of (known new.rdr) new ≡ Some z = rw r.1 at e in
     let next = rw (h.config, h.left, pending) at r.0 in
     next_left old.state new.state fields z h.rest next h.between
 
-pub more_read : (old new : BytesReader) (fields : Fields) (found : Bool) (bytes : List ℕ) (records : List Fields) → HasRead old bytes records → took_first new ≡ true
-    → is_flexible new ≡ is_flexible old → ReadRecord known old new found fields → MatchBool found (HasRead new bytes (records ++ fields ∷ [])) (RecordsOf bytes records)
+pub more_read : (old new : BytesReader) (fields : Fields) (found : Bool) (bytes : List ℕ) (records : List Fields)
+    → HasRead old bytes records → took_first new ≡ true
+    → is_flexible new ≡ is_flexible old → ReadRecord known old new found fields
+    → MatchBool found (HasRead new bytes (records ++ fields ∷ [])) (RecordsOf bytes records)
 more_read old new fields true bytes records h took any r =
     let m = rows-more known old new fields default_config st.StartRecord (strip_bom bytes) h.rest records h.config h.left h.reached r in
     let left = read_step old new fields bytes records h r m.0 m.1 in
@@ -132,7 +148,8 @@ more_read old new fields true bytes records h took any r =
 more_read old new fields false bytes records h took any r =
     (old.state, h.rest, h.reached, rows-end known old new fields default_config h.rest h.config h.left r)
 
-pub less_left : (old new : BytesReader) (fields : Fields) (found : Bool) (bytes : List ℕ) (records : List Fields) → HasRead old bytes records → took_first new ≡ true
+pub less_left : (old new : BytesReader) (fields : Fields) (found : Bool) (bytes : List ℕ) (records : List Fields)
+    → HasRead old bytes records → took_first new ≡ true
     → ReadRecord known old new found fields → found ≡ true → known_length (bytes_left new) < known_length (bytes_left old)
 less_left old new fields true bytes records h took r e =
     let m = rows-more known old new fields default_config st.StartRecord (strip_bom bytes) h.rest records h.config h.left h.reached r in
@@ -183,9 +200,11 @@ pub first_read : (found : Bool) (reader : BytesReader) (bytes : List ℕ) (field
 first_read true reader bytes fields h = (h, λ other x. first_same bytes other fields x (begins reader bytes (fields ∷ []) h))
 first_read false reader bytes fields h = λ other x. no_record bytes other h x
 
-pub no_header : (reader : BytesReader) (bytes : List ℕ) (fields : Fields) → HasRead reader bytes (fields ∷ []) → ((version : Version) → fields ≢ column_names version)
+pub no_header : (reader : BytesReader) (bytes : List ℕ) (fields : Fields) → HasRead reader bytes (fields ∷ [])
+    → ((version : Version) → fields ≢ column_names version)
     → (version : Version) → BeginsWith bytes (column_names version ∷ []) → ⊥
-no_header reader bytes fields h other version x = other version (first_same bytes fields (column_names version) (begins reader bytes (fields ∷ []) h) x)
+no_header reader bytes fields h other version x =
+    other version (first_same bytes fields (column_names version) (begins reader bytes (fields ∷ []) h) x)
 
 -- the version whose columns record 0 names, if it does
 pub header_read : (found : Option Version) (reader : BytesReader) (bytes : List ℕ) (fields : Fields) → HasRead reader bytes (fields ∷ [])
@@ -194,13 +213,16 @@ pub header_read : (found : Option Version) (reader : BytesReader) (bytes : List 
 header_read None reader bytes fields h other = no_header reader bytes fields h other
 header_read (Some v) reader bytes fields h same = subst (λ (names : Fields). HasRead reader bytes (names ∷ [])) same h
 
-pub begins_found : (found : Option Version) (reader : BytesReader) (bytes : List ℕ) → MatchOption found ((v : Version) → BeginsWith bytes (column_names v ∷ []) → ⊥) (λ v. HasRead reader bytes (column_names v ∷ []))
+pub begins_found : (found : Option Version) (reader : BytesReader) (bytes : List ℕ)
+    → MatchOption found ((v : Version) → BeginsWith bytes (column_names v ∷ []) → ⊥) (λ v. HasRead reader bytes (column_names v ∷ []))
     → MatchOption found ((v : Version) → BeginsWith bytes (column_names v ∷ []) → ⊥) (λ v. BeginsWith bytes (column_names v ∷ []))
 begins_found None reader bytes h = h
 begins_found (Some v) reader bytes h = begins reader bytes (column_names v ∷ []) h
 
 -- the header of a text that begins with one
-pub header_passed : (reader : BytesReader) (text : List ℕ) (fields : Fields) (found : Bool) (version : Version) → BeginsWith text (column_names version ∷ [])
+pub header_passed : (reader : BytesReader) (text : List ℕ) (fields : Fields) (found : Bool) (version : Version)
+    → BeginsWith text (column_names version ∷ [])
     → MatchBool found (HasRead reader text (fields ∷ [])) (RecordsOf text []) → HasRead reader text (column_names version ∷ [])
-header_passed reader text fields true version b h = subst (λ (names : Fields). HasRead reader text (names ∷ [])) (first_same text fields (column_names version) (begins reader text (fields ∷ []) h) b) h
+header_passed reader text fields true version b h = subst (λ (names : Fields). HasRead reader text (names ∷ []))
+    (first_same text fields (column_names version) (begins reader text (fields ∷ []) h) b) h
 header_passed reader text fields false version b h = absurd (no_record text (column_names version) h b)

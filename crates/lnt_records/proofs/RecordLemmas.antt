@@ -33,6 +33,7 @@ says_span version fields low high answer count l h a = record {
   more = a.more;
 }
 
-pub column_fault : (version : Version) (fields : Fields) (told : RecordFault) → length fields ≡ column_count version → IsColumnFault fields told → IsRecordFault version fields told
+pub column_fault : (version : Version) (fields : Fields) (told : RecordFault) → length fields ≡ column_count version
+    → IsColumnFault fields told → IsRecordFault version fields told
 column_fault version fields fault.Fields count h = absurd h
 column_fault version fields (fault.Number i) count h = (count, h)

@@ -1,5 +1,6 @@
 -- What each column of a span's record holds, and that it says one span.
-use Rattle.std.proofs.Common.{◌≡◌, ◌∙◌, ℕ, zero, suc, ◌<◌, Bool, true, false, List, [], ◌∷◌, Option, Some, None, get_or, refl, sym, ap, arith}
+use Rattle.std.proofs.Common.{◌≡◌, ◌∙◌, ℕ, zero, suc, ◌<◌, Bool, true, false, List, [], ◌∷◌, Option, Some, None, get_or, refl, sym, ap}
+use Rattle.std.proofs.Common.{arith}
 use Rattle.std.specs.List.{AllZip}
 use Rattle.lnt_digits.specs.Digits.{IsAddress, IsDecimal, IsPlainDecimal}
 use Rattle.lnt_digits.specs.Laws.Texts.{one_address_number, one_decimal_number, plain_address}
@@ -7,7 +8,8 @@ use Rattle.lnt_spans.specs.declared.answer.More.{More}
 use Rattle.lnt_spans.specs.declared.answer.Version.{Version}
 use Rattle.lnt_spans.specs.declared.answer.Version.TheVariants.{One, Two}
 use Rattle.lnt_spans.specs.declared.span.Span.{Span}
-use Rattle.lnt_records.specs.Table.{AreMore, Fields, IsFlag, IsOfKind, IsSound, IsSpanRecord, Kind, SaysSpan, address, column_count, decimal, flag, kinds}
+use Rattle.lnt_records.specs.Table.{AreMore, Fields, IsFlag, IsOfKind, IsSound, IsSpanRecord, Kind, SaysSpan, address, column_count}
+use Rattle.lnt_records.specs.Table.{decimal, flag, kinds}
 use Rattle.lnt_records.specs.Written.{IsPlainRecord}
 
 -- ---- each column
@@ -18,7 +20,8 @@ pub record Holds (Address Number : List ℕ → ℕ → Type 0) (Is : Kind → L
   pub of_number : (text : List ℕ) (n : ℕ) → Number text n → Is decimal text
   pub of_flag : (text : List ℕ) (on : Bool) → IsFlag text on → Is flag text
 
-more_hold : (Address Number : List ℕ → ℕ → Type 0) (Is : Kind → List ℕ → Type 0) (version : Version) (fields : Fields) (more : Option More) → Holds Address Number Is
+more_hold : (Address Number : List ℕ → ℕ → Type 0) (Is : Kind → List ℕ → Type 0) (version : Version) (fields : Fields) (more : Option More)
+    → Holds Address Number Is
     → AreMore Number version fields more → 9 < column_count version → Is decimal (get_or fields 9 []) × Is decimal (get_or fields 10 [])
 more_hold Address Number Is One fields more h m lt = absurd (omega (arith, lt))
 more_hold Address Number Is Two fields None h m lt = absurd m
@@ -28,7 +31,8 @@ count_at_most : (version : Version) (i : ℕ) → i < column_count version → i
 count_at_most One i lt = omega (arith, lt)
 count_at_most Two i lt = omega (arith, lt)
 
-pub each_holds : (Address Number : List ℕ → ℕ → Type 0) (Is : Kind → List ℕ → Type 0) (version : Version) (fields : Fields) (span : Span) → Holds Address Number Is
+pub each_holds : (Address Number : List ℕ → ℕ → Type 0) (Is : Kind → List ℕ → Type 0) (version : Version) (fields : Fields) (span : Span)
+    → Holds Address Number Is
     → SaysSpan Address Number version fields span → (i : ℕ) → i < column_count version → Is (get_or kinds i decimal) (get_or fields i [])
 each_holds Address Number Is version fields span h s zero lt = h.of_address _ _ s.low
 each_holds Address Number Is version fields span h s (suc zero) lt = h.of_number _ _ s.low_op
@@ -39,11 +43,15 @@ each_holds Address Number Is version fields span h s (suc (suc (suc (suc (suc ze
 each_holds Address Number Is version fields span h s (suc (suc (suc (suc (suc (suc zero)))))) lt = h.of_number _ _ s.line
 each_holds Address Number Is version fields span h s (suc (suc (suc (suc (suc (suc (suc zero))))))) lt = h.of_number _ _ s.column
 each_holds Address Number Is version fields span h s (suc (suc (suc (suc (suc (suc (suc (suc zero)))))))) lt = h.of_flag _ _ s.is_stmt
-each_holds Address Number Is version fields span h s (suc (suc (suc (suc (suc (suc (suc (suc (suc zero))))))))) lt = (more_hold Address Number Is version fields span.answer.more h s.more lt).0
-each_holds Address Number Is version fields span h s (suc (suc (suc (suc (suc (suc (suc (suc (suc (suc zero)))))))))) lt = (more_hold Address Number Is version fields span.answer.more h s.more (omega (arith, lt))).1
-each_holds Address Number Is version fields span h s (suc (suc (suc (suc (suc (suc (suc (suc (suc (suc (suc i))))))))))) lt = absurd (omega (arith, count_at_most version _ lt))
+each_holds Address Number Is version fields span h s (suc (suc (suc (suc (suc (suc (suc (suc (suc zero))))))))) lt =
+    (more_hold Address Number Is version fields span.answer.more h s.more lt).0
+each_holds Address Number Is version fields span h s (suc (suc (suc (suc (suc (suc (suc (suc (suc (suc zero)))))))))) lt =
+    (more_hold Address Number Is version fields span.answer.more h s.more (omega (arith, lt))).1
+each_holds Address Number Is version fields span h s (suc (suc (suc (suc (suc (suc (suc (suc (suc (suc (suc i))))))))))) lt =
+    absurd (omega (arith, count_at_most version _ lt))
 
-pub sound_column : (version : Version) (fields : Fields) (span : Span) → IsSpanRecord version fields span → (i : ℕ) → i < column_count version → IsSound fields i
+pub sound_column : (version : Version) (fields : Fields) (span : Span) → IsSpanRecord version fields span → (i : ℕ)
+    → i < column_count version → IsSound fields i
 sound_column version fields span s i lt =
     each_holds IsAddress IsDecimal IsOfKind version fields span
     (record { of_address = λ text n h. (n, h); of_number = λ text n h. (n, h); of_flag = λ text on h. (on, h) }) s i lt
@@ -63,7 +71,8 @@ made_more : (m : More) → make_more m.isa m.discriminator ≡ m
 unfolding make_more
 made_more m = refl
 
-one_more : (version : Version) (fields : Fields) (m n : Option More) → AreMore IsDecimal version fields m → AreMore IsDecimal version fields n → m ≡ n
+one_more : (version : Version) (fields : Fields) (m n : Option More) → AreMore IsDecimal version fields m
+    → AreMore IsDecimal version fields n → m ≡ n
 one_more One fields m n a b = a ∙ sym b
 one_more Two fields None n a b = absurd a
 one_more Two fields (Some m) None a b = absurd b
@@ -76,9 +85,14 @@ one_more Two fields (Some m) (Some n) a b =
 
 make : ℕ → ℕ → ℕ → ℕ → ℕ → ℕ → ℕ → ℕ → Bool → Option More → Span
 make a b c d e f g h i m =
-    record { low = record { address = a; op = b }; high = record { address = c; op = d }; answer = record { unit = e; file = f; line = g; column = h; is_stmt = i; more = m } }
+    record {
+      low = record { address = a; op = b };
+      high = record { address = c; op = d };
+      answer = record { unit = e; file = f; line = g; column = h; is_stmt = i; more = m };
+    }
 
-made : (s : Span) → make s.low.address s.low.op s.high.address s.high.op s.answer.unit s.answer.file s.answer.line s.answer.column s.answer.is_stmt s.answer.more ≡ s
+made : (s : Span) → make s.low.address s.low.op s.high.address s.high.op s.answer.unit s.answer.file s.answer.line s.answer.column
+    s.answer.is_stmt s.answer.more ≡ s
 unfolding make
 made s = refl
 
@@ -100,12 +114,14 @@ one_span version fields s t a b =
 
 -- ---- what is plain is said
 
-more_plain : (version : Version) (fields : Fields) (more : Option More) → AreMore IsPlainDecimal version fields more → AreMore IsDecimal version fields more
+more_plain : (version : Version) (fields : Fields) (more : Option More) → AreMore IsPlainDecimal version fields more
+    → AreMore IsDecimal version fields more
 more_plain One fields more h = h
 more_plain Two fields None h = absurd h
 more_plain Two fields (Some more) h = (h.0.number, h.1.number)
 
-pub record_plain : (version : Version) (fields : Fields) (span : Span) → IsPlainRecord version fields span → IsSpanRecord version fields span
+pub record_plain : (version : Version) (fields : Fields) (span : Span) → IsPlainRecord version fields span
+    → IsSpanRecord version fields span
 record_plain version fields span s = record {
   count = s.count;
   low = plain_address _ _ s.low;
@@ -120,7 +136,8 @@ record_plain version fields span s = record {
   more = more_plain version fields span.answer.more s.more;
 }
 
-pub records_plain : (version : Version) (records : List Fields) (spans : List Span) → AllZip (IsPlainRecord version) records spans → AllZip (IsSpanRecord version) records spans
+pub records_plain : (version : Version) (records : List Fields) (spans : List Span) → AllZip (IsPlainRecord version) records spans
+    → AllZip (IsSpanRecord version) records spans
 records_plain version [] [] h = tt
 records_plain version [] (s ∷ spans) h = absurd h
 records_plain version (r ∷ records) [] h = absurd h

@@ -29,63 +29,90 @@ use Rattle.lnt_records.proofs.PassingLemmas.{few_passed, few_records, passes_lin
 
 -- ---- lines cut out
 
-lines_reached : (version : Version) (records : List Fields) (table : List Span) (rest : List ℕ) (more : List Fields) (after : State) (left : List ℕ) → AllZip (IsSpanRecord version) records table
-    → Reached default_config st.StartRecord rest more after left → Reached default_config st.StartRecord (lines_text records ++ rest) (records ++ more) after left
+lines_reached : (version : Version) (records : List Fields) (table : List Span) (rest : List ℕ) (more : List Fields) (after : State)
+    (left : List ℕ) → AllZip (IsSpanRecord version) records table
+    → Reached default_config st.StartRecord rest more after left
+    → Reached default_config st.StartRecord (lines_text records ++ rest) (records ++ more) after left
 unfolding Reached
 lines_reached version [] [] rest more after left z r = r
 lines_reached version [] (s ∷ table) rest more after left z r = absurd z
 lines_reached version (f ∷ records) [] rest more after left z r = absurd z
 lines_reached version (f ∷ records) (s ∷ table) rest more after left z r =
     let behind : List ℕ = lines_text records ++ rest in
-    let read : next_record default_config st.StartRecord [] [] ((line_text f ++ lines_text records) ++ rest) ≡ Some (f, st.StartRecord, behind) =
-    ap (λ (t : List ℕ). next_record default_config st.StartRecord [] [] t) (append_assoc (line_text f) (lines_text records) rest) ∙ span_read version f s behind z.0 in
+    let read : next_record default_config st.StartRecord [] [] ((line_text f ++ lines_text records) ++ rest)
+    ≡ Some (f, st.StartRecord, behind) =
+    ap (λ (t : List ℕ). next_record default_config st.StartRecord [] [] t) (append_assoc (line_text f) (lines_text records) rest)
+    ∙ span_read version f s behind z.0 in
     ((f, st.StartRecord, behind), read, refl, lines_reached version records table rest more after left z.1 r)
 
 same_some : (p q : Read) → Some p ≡ Some q → p ≡ q
 same_some p q e = cc
 
 -- what is read after the header
-behind_header : (version : Version) (rest : List ℕ) (more : List Fields) (after : State) (left : List ℕ) → Reached default_config st.StartRecord (strip_bom (line_text (column_names version) ++ rest)) (column_names version ∷ more) after left
+behind_header : (version : Version) (rest : List ℕ) (more : List Fields) (after : State) (left : List ℕ)
+    → Reached default_config st.StartRecord (strip_bom (line_text (column_names version) ++ rest)) (column_names version ∷ more) after left
     → Reached default_config st.StartRecord rest more after left
 unfolding Reached
 behind_header version rest more after left r =
     let plain = rw (no_mark version rest) at r in
-    let same : (column_names version, st.StartRecord, rest) ≡ plain.0 = same_some (column_names version, st.StartRecord, rest) plain.0 (sym (names_read version rest) ∙ plain.1) in
+    let same : (column_names version, st.StartRecord, rest) ≡ plain.0 =
+    same_some (column_names version, st.StartRecord, rest) plain.0 (sym (names_read version rest) ∙ plain.1) in
     subst (λ (p : Read). Reached default_config p.1 p.2 more after left) (sym same) plain.3
 
-with_header : (version : Version) (rest : List ℕ) (more : List Fields) (after : State) (left : List ℕ) → Reached default_config st.StartRecord rest more after left
+with_header : (version : Version) (rest : List ℕ) (more : List Fields) (after : State) (left : List ℕ)
+    → Reached default_config st.StartRecord rest more after left
     → Reached default_config st.StartRecord (strip_bom (line_text (column_names version) ++ rest)) (column_names version ∷ more) after left
 unfolding Reached
-with_header version rest more after left r = rw (no_mark version rest) ((column_names version, st.StartRecord, rest), names_read version rest, refl, r)
+with_header version rest more after left r =
+    rw (no_mark version rest) ((column_names version, st.StartRecord, rest), names_read version rest, refl, r)
 
 cut_lines : (version : Version) (records : List Fields) (table : List Span) (rest : List ℕ) → AllZip (IsSpanRecord version) records table
     → IsCut version (line_text (column_names version) ++ rest) (line_text (column_names version) ++ (lines_text records ++ rest)) records
 cut_lines version records table rest z more after left r =
-    with_header version (lines_text records ++ rest) (records ++ more) after left (lines_reached version records table rest more after left z (behind_header version rest more after left r))
+    with_header version (lines_text records ++ rest) (records ++ more) after left
+    (lines_reached version records table rest more after left z (behind_header version rest more after left r))
 
 -- ---- the stages
 
-pub begun : (version : Version) (a b : Option (List ℕ)) (la lb : ℕ) (w0 w1 w2 : List ℕ) → w0 ≡ [] → Passes a b la lb w0 w1 [] → w1 ≡ line_text (column_names version) ++ w2
+pub begun : (version : Version) (a b : Option (List ℕ)) (la lb : ℕ) (w0 w1 w2 : List ℕ) → w0 ≡ [] → Passes a b la lb w0 w1 []
+    → w1 ≡ line_text (column_names version) ++ w2
     → Passes a b la lb [] w2 (line_text (column_names version))
-begun version a b la lb w0 w1 w2 none p e = passes_line a b la lb [] w1 w2 [] (line_text (column_names version)) (subst (λ (w : List ℕ). Passes a b la lb w w1 []) none p) e
+begun version a b la lb w0 w1 w2 none p e =
+    passes_line a b la lb [] w1 w2 [] (line_text (column_names version)) (subst (λ (w : List ℕ). Passes a b la lb w w1 []) none p) e
 
-pub few_lines : (version : Version) (a b c : Option (List ℕ)) (la lb lc : ℕ) (w2 w3 text : List ℕ) (table : List Span) (count : ℕ) → Passes a b la lb [] w2 (line_text (column_names version)) → Passes b c lb lc w2 w3 text
+pub few_lines : (version : Version) (a b c : Option (List ℕ)) (la lb lc : ℕ) (w2 w3 text : List ℕ) (table : List Span) (count : ℕ)
+    → Passes a b la lb [] w2 (line_text (column_names version)) → Passes b c lb lc w2 w3 text
     → AreLines version text table count → la < 2 ^ 64 → length w3 + lc + count < 2 ^ 64
 few_lines version a b c la lb lc w2 w3 text table count p q lines fits =
-    omega (arith, fits, few_passed a b la lb [] w2 (line_text (column_names version)) p, few_passed b c lb lc w2 w3 text q, few_records version text table count lines, line_some (column_names version))
+    omega (
+      arith,
+      fits,
+      few_passed a b la lb [] w2 (line_text (column_names version)) p,
+      few_passed b c lb lc w2 w3 text q,
+      few_records version text table count lines,
+      line_some (column_names version),
+    )
 
-pub passed_behind : {S : Type 0} (to_come : S → List Span → Type 0) (P : List Span → Type 0) (merge : Merging S) (version : Version) (section : List Span) (text : List ℕ) (count : ℕ) (end : Position) → LeavesOff P version section text count end
+pub passed_behind : {S : Type 0} (to_come : S → List Span → Type 0) (P : List Span → Type 0) (merge : Merging S) (version : Version)
+    (section : List Span) (text : List ℕ) (count : ℕ) (end : Position) → LeavesOff P version section text count end
     → merge.version ≡ version
-    → ((passed list : List Span) → P list → AreInOrder (passed ++ list) → AllByRecursion (IsTold version) passed → end ≡ end_of passed → Compares to_come merge (passed ++ list) passed)
+    → ((passed list : List Span) → P list → AreInOrder (passed ++ list) → AllByRecursion (IsTold version) passed → end ≡ end_of passed
+    → Compares to_come merge (passed ++ list) passed)
     → HasPassed to_come merge version section text count
 passed_behind to_come P merge version section text count end l same behind = record {
   table = l.table;
   order = front_in_order l.table l.rest l.order;
   lines = l.lines;
-  follows = record { spans = l.table ++ l.rest; same = l.same; version_is = same; compares = behind l.table l.rest l.left l.order l.told l.end_is };
+  follows = record {
+    spans = l.table ++ l.rest;
+    same = l.same;
+    version_is = same;
+    compares = behind l.table l.rest l.left l.order l.told l.end_is;
+  };
 }
 
-pub judges_passed : {S : Type 0} (to_come : S → List Span → Type 0) (merge : Merging S) (version : Version) (section : List Span) (text : List ℕ) (count : ℕ) → (h : HasPassed to_come merge version section text count)
+pub judges_passed : {S : Type 0} (to_come : S → List Span → Type 0) (merge : Merging S) (version : Version) (section : List Span)
+    (text : List ℕ) (count : ℕ) → (h : HasPassed to_come merge version section text count)
     → Judges to_come (record { merge = merge; version = version; count = count }) h.follows.spans (column_names version ∷ h.lines.records)
 judges_passed to_come merge version section text count h = record {
   table = h.table;
@@ -101,16 +128,22 @@ judges_passed to_come merge version section text count h = record {
 record IsRest (version : Version) (window given all : List ℕ) : Type 0 where
   joined : all ≡ line_text (column_names version) ++ (window ++ given)
 
-rest_is : (version : Version) (names window given all : List ℕ) → names ≡ line_text (column_names version) → all ≡ (names ++ window) ++ given → IsRest version window given all
-rest_is version names window given all e f = record { joined = f ∙ ap (λ (t : List ℕ). (t ++ window) ++ given) e ∙ append_assoc (line_text (column_names version)) window given }
+rest_is : (version : Version) (names window given all : List ℕ) → names ≡ line_text (column_names version)
+    → all ≡ (names ++ window) ++ given → IsRest version window given all
+rest_is version names window given all e f =
+    record { joined = f ∙ ap (λ (t : List ℕ). (t ++ window) ++ given) e ∙ append_assoc (line_text (column_names version)) window given }
 
-pub rest_begins : (version : Version) (d : Option (List ℕ)) (ld : ℕ) (names window all : List ℕ) → names ≡ line_text (column_names version) → Ends d ld (names ++ window) all → BeginsWith all (column_names version ∷ [])
+pub rest_begins : (version : Version) (d : Option (List ℕ)) (ld : ℕ) (names window all : List ℕ) → names ≡ line_text (column_names version)
+    → Ends d ld (names ++ window) all → BeginsWith all (column_names version ∷ [])
 rest_begins version d ld names window all e ends =
     let rest = rest_is version names window ends.given all e ends.joined in
-    subst (λ (t : List ℕ). BeginsWith t (column_names version ∷ [])) (sym rest.joined) (st.StartRecord, window ++ ends.given, header_reached version (window ++ ends.given))
+    subst (λ (t : List ℕ). BeginsWith t (column_names version ∷ [])) (sym rest.joined)
+    (st.StartRecord, window ++ ends.given, header_reached version (window ++ ends.given))
 
-pub few_all : (version : Version) (a d : Option (List ℕ)) (la ld : ℕ) (names window text all : List ℕ) (table : List Span) (count : ℕ) → names ≡ line_text (column_names version)
-    → Passes a d la ld [] window (line_text (column_names version) ++ text) → Ends d ld (names ++ window) all → AreLines version text table count → la < 2 ^ 64 → count + length all < 2 ^ 64 + 1
+pub few_all : (version : Version) (a d : Option (List ℕ)) (la ld : ℕ) (names window text all : List ℕ) (table : List Span) (count : ℕ)
+    → names ≡ line_text (column_names version)
+    → Passes a d la ld [] window (line_text (column_names version) ++ text) → Ends d ld (names ++ window) all
+    → AreLines version text table count → la < 2 ^ 64 → count + length all < 2 ^ 64 + 1
 few_all version a d la ld names window text all table count e p ends lines fits =
     let line : List ℕ = line_text (column_names version) in
     let rest = rest_is version names window ends.given all e ends.joined in
@@ -126,7 +159,8 @@ few_all version a d la ld names window text all table count e p ends lines fits 
       length-append line text,
     )
 
-whole_bytes : (a d : Option (List ℕ)) (given rest : List ℕ) → Pulls a d given → IfSome d (λ bytes. rest ≡ bytes) → IfSome a (λ bytes. given ++ rest ≡ bytes)
+whole_bytes : (a d : Option (List ℕ)) (given rest : List ℕ) → Pulls a d given → IfSome d (λ bytes. rest ≡ bytes)
+    → IfSome a (λ bytes. given ++ rest ≡ bytes)
 whole_bytes None d given rest p e = tt
 whole_bytes (Some x) None given rest p e = absurd p
 whole_bytes (Some x) (Some y) given rest p e = ap (λ (t : List ℕ). given ++ t) e ∙ sym p
@@ -151,9 +185,12 @@ cut_begins version text bytes passed cut b =
     first_begins bytes (column_names version) (passed ++ []) (b.0, b.1, cut [] b.0 b.1 b.2)
 
 -- what the comparison of the rest tells of the whole
-pub whole_told : {S : Type 0} (to_come : S → List Span → Type 0) (merge : Merging S) (version : Version) (section : List Span) (a d : Option (List ℕ)) (la ld : ℕ) (names window text all : List ℕ) (count : ℕ) (compared : Compared)
-    → names ≡ line_text (column_names version) → Passes a d la ld [] window (line_text (column_names version) ++ text) → Ends d ld (names ++ window) all → HasPassed to_come merge version section text count
-    → ((list section : List Span) (passed : List Fields) (bytes : List ℕ) → Judges to_come (record { merge = merge; version = version; count = count }) list (column_names version ∷ passed)
+pub whole_told : {S : Type 0} (to_come : S → List Span → Type 0) (merge : Merging S) (version : Version) (section : List Span)
+    (a d : Option (List ℕ)) (la ld : ℕ) (names window text all : List ℕ) (count : ℕ) (compared : Compared)
+    → names ≡ line_text (column_names version) → Passes a d la ld [] window (line_text (column_names version) ++ text)
+    → Ends d ld (names ++ window) all → HasPassed to_come merge version section text count
+    → ((list section : List Span) (passed : List Fields) (bytes : List ℕ)
+    → Judges to_come (record { merge = merge; version = version; count = count }) list (column_names version ∷ passed)
     → IsCut version all bytes passed → AnswersSo version list section → IsComparison bytes section compared)
     → IfSome a (λ bytes. IsTableRead bytes section (Told compared))
 whole_told to_come merge version section a d la ld names window text all count compared e p ends h compare =
@@ -161,11 +198,14 @@ whole_told to_come merge version section a d la ld names window text all count c
     let rest : List ℕ = window ++ ends.given in
     let records = h.lines.records in
     let given : p.given ++ ends.given ≡ line ++ (lines_text records ++ rest) =
-    ap (λ (t : List ℕ). t ++ ends.given) p.joined ∙ append_assoc (line ++ text) window ends.given ∙ append_assoc line text rest ∙ ap (λ (t : List ℕ). line ++ (t ++ rest)) h.lines.text_is in
+    ap (λ (t : List ℕ). t ++ ends.given) p.joined ∙ append_assoc (line ++ text) window ends.given ∙ append_assoc line text rest
+    ∙ ap (λ (t : List ℕ). line ++ (t ++ rest)) h.lines.text_is in
     let cut = cut_lines version records h.table rest h.lines.each in
     let cut_all : IsCut version all (line ++ (lines_text records ++ rest)) records =
-    subst (λ (t : List ℕ). IsCut version t (line ++ (lines_text records ++ rest)) records) (sym (rest_is version names window ends.given all e ends.joined).joined) cut in
-    let cut_both : IsCut version all (p.given ++ ends.given) records = subst (λ (t : List ℕ). IsCut version all t records) (sym given) cut_all in
+    subst (λ (t : List ℕ). IsCut version t (line ++ (lines_text records ++ rest)) records)
+    (sym (rest_is version names window ends.given all e ends.joined).joined) cut in
+    let cut_both : IsCut version all (p.given ++ ends.given) records =
+    subst (λ (t : List ℕ). IsCut version all t records) (sym given) cut_all in
     let told = compare h.follows.spans section records (p.given ++ ends.given)
     (judges_passed to_come merge version section text count h) cut_both h.follows.same in
     let begins = cut_begins version all (p.given ++ ends.given) records cut_both (rest_begins version d ld names window all e ends) in
@@ -174,28 +214,36 @@ whole_told to_come merge version section a d la ld names window text all count c
     (told, not_header (p.given ++ ends.given) version section compared begins told)
 
 -- the bytes of which the rest, after the names of the columns, is a text with lines cut out
-pub rest_cut : (version : Version) (a d : Option (List ℕ)) (la ld : ℕ) (names window text all : List ℕ) (table : List Span) (count : ℕ) → names ≡ line_text (column_names version)
-    → (p : Passes a d la ld [] window (line_text (column_names version) ++ text)) → (ends : Ends d ld (names ++ window) all) → (lines : AreLines version text table count)
+pub rest_cut : (version : Version) (a d : Option (List ℕ)) (la ld : ℕ) (names window text all : List ℕ) (table : List Span) (count : ℕ)
+    → names ≡ line_text (column_names version)
+    → (p : Passes a d la ld [] window (line_text (column_names version) ++ text)) → (ends : Ends d ld (names ++ window) all)
+    → (lines : AreLines version text table count)
     → IsCut version all (p.given ++ ends.given) lines.records
 rest_cut version a d la ld names window text all table count e p ends lines =
     let line : List ℕ = line_text (column_names version) in
     let rest : List ℕ = window ++ ends.given in
     let given : p.given ++ ends.given ≡ line ++ (lines_text lines.records ++ rest) =
-    ap (λ (t : List ℕ). t ++ ends.given) p.joined ∙ append_assoc (line ++ text) window ends.given ∙ append_assoc line text rest ∙ ap (λ (t : List ℕ). line ++ (t ++ rest)) lines.text_is in
+    ap (λ (t : List ℕ). t ++ ends.given) p.joined ∙ append_assoc (line ++ text) window ends.given ∙ append_assoc line text rest
+    ∙ ap (λ (t : List ℕ). line ++ (t ++ rest)) lines.text_is in
     let cut = cut_lines version lines.records table rest lines.each in
     let cut_all : IsCut version all (line ++ (lines_text lines.records ++ rest)) lines.records =
-    subst (λ (t : List ℕ). IsCut version t (line ++ (lines_text lines.records ++ rest)) lines.records) (sym (rest_is version names window ends.given all e ends.joined).joined) cut in
+    subst (λ (t : List ℕ). IsCut version t (line ++ (lines_text lines.records ++ rest)) lines.records)
+    (sym (rest_is version names window ends.given all e ends.joined).joined) cut in
     subst (λ (t : List ℕ). IsCut version all t lines.records) (sym given) cut_all
 
 -- what is so of them
-pub whole_cut : (version : Version) (a d : Option (List ℕ)) (la ld : ℕ) (names window text all : List ℕ) (table : List Span) (count : ℕ) (P : List ℕ → Type 0)
-    → names ≡ line_text (column_names version) → Passes a d la ld [] window (line_text (column_names version) ++ text) → Ends d ld (names ++ window) all → (lines : AreLines version text table count)
+pub whole_cut : (version : Version) (a d : Option (List ℕ)) (la ld : ℕ) (names window text all : List ℕ) (table : List Span) (count : ℕ)
+    (P : List ℕ → Type 0)
+    → names ≡ line_text (column_names version) → Passes a d la ld [] window (line_text (column_names version) ++ text)
+    → Ends d ld (names ++ window) all → (lines : AreLines version text table count)
     → ((bytes : List ℕ) → IsCut version all bytes lines.records → P bytes) → IfSome a P
 whole_cut version a d la ld names window text all table count P e p ends lines h =
-    told_bytes a (p.given ++ ends.given) P (whole_bytes a d p.given ends.given p.pulls ends.whole) (h (p.given ++ ends.given) (rest_cut version a d la ld names window text all table count e p ends lines))
+    told_bytes a (p.given ++ ends.given) P (whole_bytes a d p.given ends.given p.pulls ends.whole)
+    (h (p.given ++ ends.given) (rest_cut version a d la ld names window text all table count e p ends lines))
 
 -- what is so of a text that is all bytes
-pub all_bytes : (a b : Option (List ℕ)) (la lb : ℕ) (w0 w1 w2 all : List ℕ) (P : List ℕ → Type 0) → w0 ≡ [] → Passes a b la lb w0 w1 [] → w2 ≡ w1 → Ends b lb w2 all → P all → IfSome a P
+pub all_bytes : (a b : Option (List ℕ)) (la lb : ℕ) (w0 w1 w2 all : List ℕ) (P : List ℕ → Type 0) → w0 ≡ [] → Passes a b la lb w0 w1 []
+    → w2 ≡ w1 → Ends b lb w2 all → P all → IfSome a P
 all_bytes a b la lb w0 w1 w2 all P none p same ends h =
     let given : w1 ≡ p.given = sym p.joined ∙ ap (λ (t : List ℕ). t ++ p.given) none in
     let whole : p.given ++ ends.given ≡ all = sym (ends.joined ∙ ap (λ (t : List ℕ). t ++ ends.given) (same ∙ given)) in

@@ -1,5 +1,6 @@
 -- A line that is written from its end on.
-use Rattle.std.proofs.Common.{◌≡◌, ◌∙◌, ℕ, ◌+◌, ◌-◌, ◌<◌, ◌≤◌, Bool, true, false, List, [], ◌∷◌, ◌++◌, Some, None, drop, length, length-drop, slice_set, take, refl, ap, sym, arith}
+use Rattle.std.proofs.Common.{◌≡◌, ◌∙◌, ℕ, ◌+◌, ◌-◌, ◌<◌, ◌≤◌, Bool, true, false, List, [], ◌∷◌, ◌++◌, Some, None, drop, length}
+use Rattle.std.proofs.Common.{length-drop, slice_set, take, refl, ap, sym, arith}
 use Rattle.std.proofs.lemmas.List.{drop-append-le, drop-set, drop_all, length-take-le, take-append-drop, take_all}
 use mir.Val.{bool_byte}
 use Rattle.lnt_digits.specs.Digits.{IsPlainDecimal}
@@ -13,7 +14,8 @@ use Rattle.lnt_records.specs.Written.{IsOfVersion}
 use Rattle.lnt_records.proofs.LineLemmas.{more_taken, no_more_taken}
 use Rattle.lnt_records.proofs.SaidLemmas.{record_plain}
 
-split_before : (text : List ℕ) (start end : ℕ) → start ≤ end → end ≤ length text → drop start text ≡ drop start (take end text) ++ drop end text
+split_before : (text : List ℕ) (start end : ℕ) → start ≤ end → end ≤ length text
+    → drop start text ≡ drop start (take end text) ++ drop end text
 split_before text start end le long =
     let all : start ≤ length (take end text) = omega (arith, le, length-take-le end text long) in
     ap (drop start) (sym (take-append-drop end text)) ∙ drop-append-le start (take end text) (drop end text) all
@@ -25,8 +27,10 @@ set_before text end c some long =
     drop-set text (end - 1) c within ∙ ap (λ (k : ℕ). c ∷ drop k text) back
 
 -- a number, and a byte after it
-pub put_before : (Spells : List ℕ → ℕ → Type 0) (room new : List ℕ) (start end n behind : ℕ) → length room ≡ 256 → length new ≡ 256 → start < end - 1 → end ≤ 256
-    → Spells (drop start (take (end - 1) new)) n → drop (end - 1) new ≡ drop (end - 1) (slice_set room (end - 1) behind) → Begins Spells (drop start new) n behind (drop end room)
+pub put_before : (Spells : List ℕ → ℕ → Type 0) (room new : List ℕ) (start end n behind : ℕ) → length room ≡ 256 → length new ≡ 256
+    → start < end - 1 → end ≤ 256
+    → Spells (drop start (take (end - 1) new)) n → drop (end - 1) new ≡ drop (end - 1) (slice_set room (end - 1) behind)
+    → Begins Spells (drop start new) n behind (drop end room)
 put_before Spells room new start end n behind long long' within le spells after =
     let some : 0 < end = omega (arith, within) in
     let fits : end ≤ length room = omega (arith, long, le) in
@@ -34,13 +38,23 @@ put_before Spells room new start end n behind long long' within le spells after 
     let at_most : start ≤ end - 1 = omega (arith, within) in
     record {
       front = drop start (take (end - 1) new);
-      joined = split_before new start (end - 1) at_most fits' ∙ ap (λ (t : List ℕ). drop start (take (end - 1) new) ++ t) (after ∙ set_before room end behind some fits);
+      joined = split_before new start (end - 1) at_most fits'
+          ∙ ap (λ (t : List ℕ). drop start (take (end - 1) new) ++ t) (after ∙ set_before room end behind some fits);
       spells = spells;
     }
 
-pub flag_put : (on : Bool) (room : List ℕ) (end k : ℕ) → k ≡ bool_byte on → 0 < end → end ≤ length room → IsFlagBefore on (drop (end - 1) (slice_set room (end - 1) (48 + k))) (drop end room)
-flag_put true room end k e some long = record { text = 49 ∷ []; joined = ap (λ (n : ℕ). drop (end - 1) (slice_set room (end - 1) (48 + n))) e ∙ set_before room end 49 some long; text_is = refl }
-flag_put false room end k e some long = record { text = 48 ∷ []; joined = ap (λ (n : ℕ). drop (end - 1) (slice_set room (end - 1) (48 + n))) e ∙ set_before room end 48 some long; text_is = refl }
+pub flag_put : (on : Bool) (room : List ℕ) (end k : ℕ) → k ≡ bool_byte on → 0 < end → end ≤ length room
+    → IsFlagBefore on (drop (end - 1) (slice_set room (end - 1) (48 + k))) (drop end room)
+flag_put true room end k e some long = record {
+  text = 49 ∷ [];
+  joined = ap (λ (n : ℕ). drop (end - 1) (slice_set room (end - 1) (48 + n))) e ∙ set_before room end 49 some long;
+  text_is = refl;
+}
+flag_put false room end k e some long = record {
+  text = 48 ∷ [];
+  joined = ap (λ (n : ℕ). drop (end - 1) (slice_set room (end - 1) (48 + n))) e ∙ set_before room end 48 some long;
+  text_is = refl;
+}
 
 pub room_ends : (room : List ℕ) → length room ≡ 256 → drop 256 room ≡ []
 room_ends room long = drop_all 256 room (omega (arith, long))
@@ -67,5 +81,6 @@ more_put Two answer more bytes s1 s2 some e a b is = rw some (more_taken IsPlain
 -- ---- a line
 
 -- a plain line is a line
-pub line_said : (version : Version) (span : Span) (bytes rest : List ℕ) → IsPlainLine version span bytes rest → IsLine version span bytes rest
+pub line_said : (version : Version) (span : Span) (bytes rest : List ℕ) → IsPlainLine version span bytes rest
+    → IsLine version span bytes rest
 line_said version span bytes rest is = record { fields = is.fields; joined = is.joined; says = record_plain version is.fields span is.says }

@@ -1,5 +1,6 @@
 -- Lines that are written, and that `csv` reads them as a table.
-use Rattle.std.proofs.Common.{◌≡◌, ◌∙◌, ℕ, suc, ◌+◌, ◌<◌, ◌≤◌, Bool, true, false, List, [], ◌∷◌, ◌++◌, Option, Some, None, length, get_or, take, refl, sym, ap, subst, append_assoc, arith}
+use Rattle.std.proofs.Common.{◌≡◌, ◌∙◌, ℕ, suc, ◌+◌, ◌<◌, ◌≤◌, Bool, true, false, List, [], ◌∷◌, ◌++◌, Option, Some, None, length, get_or}
+use Rattle.std.proofs.Common.{take, refl, sym, ap, subst, append_assoc, arith}
 use Rattle.std.proofs.KnownBytes.{Appends-nil, Appends-trans}
 use Rattle.std.proofs.lemmas.Bool.{ne_eqb}
 use Rattle.std.proofs.lemmas.List.{append-nil, take_more, take_all}
@@ -24,7 +25,8 @@ use Rattle.lnt_records.proofs.SaidLemmas.{each_holds, records_plain}
 -- ---- a line
 
 -- what was added is a line
-pub line_put : (version : Version) (span : Span) (old new line : List ℕ) → new ≡ old ++ line → IsPlainLine version span line [] → AddsRecord version span old new
+pub line_put : (version : Version) (span : Span) (old new line : List ℕ) → new ≡ old ++ line → IsPlainLine version span line []
+    → AddsRecord version span old new
 line_put version span old new line e is = record {
   fields = is.fields;
   joined = e ∙ ap (λ (t : List ℕ). old ++ t) (is.joined ∙ append-nil (line_text is.fields));
@@ -58,7 +60,8 @@ pub quiet_flag : (text : List ℕ) (on : Bool) → IsFlag text on → IsQuiet te
 quiet_flag text true e = rw e refl
 quiet_flag text false e = rw e refl
 
-pub all_from_each : (P : List ℕ → Type 0) (fields : Fields) → ((i : ℕ) → i < length fields → P (get_or fields i [])) → AllByRecursion P fields
+pub all_from_each : (P : List ℕ → Type 0) (fields : Fields) → ((i : ℕ) → i < length fields → P (get_or fields i []))
+    → AllByRecursion P fields
 all_from_each P [] h = tt
 all_from_each P (x ∷ fields) h = (h 0 (omega arith), all_from_each P fields (λ i lt. h (suc i) (omega (arith, lt))))
 
@@ -115,23 +118,30 @@ pub same_back : (fields : Fields) → 2 ≤ length fields → fields ≡ read_ba
 same_back [] h = absurd (omega (arith, h))
 same_back (x ∷ fields) h = refl
 
-lines_read : (records : List Fields) → AreQuiet records → Reached default_config st.StartRecord (rows_text records) records st.StartRecord []
+lines_read : (records : List Fields) → AreQuiet records
+    → Reached default_config st.StartRecord (rows_text records) records st.StartRecord []
 unfolding Reached rows_text
 lines_read [] q = (refl, refl)
-lines_read (fields ∷ records) q =
-    ((read_back fields, st.StartRecord, rows_text records), read-write fields (rows_text records), same_back fields q.0.0, lines_read records q.1)
+lines_read (fields ∷ records) q = (
+  (read_back fields, st.StartRecord, rows_text records),
+  read-write fields (rows_text records),
+  same_back fields q.0.0,
+  lines_read records q.1,
+)
 
 pub none_left : next_record default_config st.StartRecord [] [] [] ≡ None
 unfolding next_record
 none_left = refl
 
 -- a table begins with no byte order mark
-no_mark : (version : Version) (records : List Fields) → strip_bom (lines_text (column_names version ∷ records)) ≡ lines_text (column_names version ∷ records)
+no_mark : (version : Version) (records : List Fields)
+    → strip_bom (lines_text (column_names version ∷ records)) ≡ lines_text (column_names version ∷ records)
 unfolding strip_bom
 no_mark One records = refl
 no_mark Two records = refl
 
-quiet_spans : (version : Version) (records : List Fields) (spans : List Span) → AllZip (IsPlainRecord version) records spans → AreQuiet records
+quiet_spans : (version : Version) (records : List Fields) (spans : List Span) → AllZip (IsPlainRecord version) records spans
+    → AreQuiet records
 quiet_spans version [] [] z = tt
 quiet_spans version [] (s ∷ spans) z = absurd z
 quiet_spans version (r ∷ records) [] z = absurd z
@@ -147,7 +157,8 @@ records_of_lines version records spans z =
     let read = lines_read (column_names version ∷ records) quiet in
     (st.StartRecord, [], rw (no_mark version records) (rw (quiet_lines (column_names version ∷ records) quiet) at read), none_left)
 
-written_table : (version : Version) (bytes : List ℕ) (records : List Fields) (spans : List Span) → AllZip (IsPlainRecord version) records spans → AreInOrder spans
+written_table : (version : Version) (bytes : List ℕ) (records : List Fields) (spans : List Span)
+    → AllZip (IsPlainRecord version) records spans → AreInOrder spans
     → bytes ≡ lines_text (column_names version ∷ records) → IsWrittenTable version bytes spans
 written_table version bytes records spans z o e = record {
   table = (
@@ -162,7 +173,8 @@ written_table version bytes records spans z o e = record {
 
 pub lines_append : (xs ys : List Fields) → lines_text (xs ++ ys) ≡ lines_text xs ++ lines_text ys
 lines_append [] ys = refl
-lines_append (x ∷ xs) ys = ap (λ (t : List ℕ). line_text x ++ t) (lines_append xs ys) ∙ sym (append_assoc (line_text x) (lines_text xs) (lines_text ys))
+lines_append (x ∷ xs) ys =
+    ap (λ (t : List ℕ). line_text x ++ t) (lines_append xs ys) ∙ sym (append_assoc (line_text x) (lines_text xs) (lines_text ys))
 
 -- These bytes are the lines of the spans. A front of them was handed on.
 pub record Lines (version : Version) (old now : Option (List ℕ)) (block : List ℕ) (spans : List Span) : Type 0 where
@@ -172,7 +184,8 @@ pub record Lines (version : Version) (old now : Option (List ℕ)) (block : List
   pub lines : sent ++ block ≡ lines_text (column_names version ∷ records)
   pub each : AllZip (IsPlainRecord version) records spans
 
-pub no_lines : (version : Version) (old : Option (List ℕ)) (block : List ℕ) → block ≡ line_text (column_names version) → Lines version old old block []
+pub no_lines : (version : Version) (old : Option (List ℕ)) (block : List ℕ) → block ≡ line_text (column_names version)
+    → Lines version old old block []
 no_lines version old block e = record {
   sent = [];
   handed = Appends-nil old;
@@ -188,40 +201,46 @@ no_span = record {
   answer = record { unit = 0; file = 0; line = 0; column = 0; is_stmt = false; more = None };
 }
 
-zip_join : {A B : Type 0} (R : A → B → Type 0) (xs more : List A) (ys others : List B) → AllZip R xs ys → AllZip R more others → AllZip R (xs ++ more) (ys ++ others)
+zip_join : {A B : Type 0} (R : A → B → Type 0) (xs more : List A) (ys others : List B) → AllZip R xs ys → AllZip R more others
+    → AllZip R (xs ++ more) (ys ++ others)
 zip_join R [] more [] others z h = h
 zip_join R [] more (y ∷ ys) others z h = absurd z
 zip_join R (x ∷ xs) more [] others z h = absurd z
 zip_join R (x ∷ xs) more (y ∷ ys) others z h = (z.0, zip_join R xs more ys others z.1 h)
 
-one_record : (version : Version) (span : Span) (old new : List ℕ) → AddsRecord version span old new → AddsRecords version (span ∷ []) old new
+one_record : (version : Version) (span : Span) (old new : List ℕ) → AddsRecord version span old new
+    → AddsRecords version (span ∷ []) old new
 one_record version span old new r = record {
   records = r.fields ∷ [];
   joined = r.joined ∙ ap (λ (t : List ℕ). old ++ t) (sym (append-nil (line_text r.fields)));
   each = (r.plain, tt);
 }
 
-pub some_put : (version : Version) (span : Option Span) (one : Span) (old new : List ℕ) → span ≡ Some one → AddsRecord version one old new → AddsRecords version (cons_option span []) old new
+pub some_put : (version : Version) (span : Option Span) (one : Span) (old new : List ℕ) → span ≡ Some one → AddsRecord version one old new
+    → AddsRecords version (cons_option span []) old new
 some_put version span one old new e r = rw e (one_record version one old new r)
 
 pub none_put : (version : Version) (span : Option Span) (old : List ℕ) → span ≡ None → AddsRecords version (cons_option span []) old old
 none_put version span old e = rw e (record { records = []; joined = sym (append-nil old); each = tt })
 
 -- some more were put into the block
-pub lines_put : (version : Version) (old now : Option (List ℕ)) (block grown : List ℕ) (spans more : List Span) → Lines version old now block spans → AddsRecords version more block grown
+pub lines_put : (version : Version) (old now : Option (List ℕ)) (block grown : List ℕ) (spans more : List Span)
+    → Lines version old now block spans → AddsRecords version more block grown
     → Lines version old now grown (spans ++ more)
 lines_put version old now block grown spans more l r = record {
   sent = l.sent;
   handed = l.handed;
   records = l.records ++ r.records;
   lines =
-      ap (λ (t : List ℕ). l.sent ++ t) r.joined ∙ sym (append_assoc l.sent block (lines_text r.records)) ∙ ap (λ (t : List ℕ). t ++ lines_text r.records) l.lines
+      ap (λ (t : List ℕ). l.sent ++ t) r.joined ∙ sym (append_assoc l.sent block (lines_text r.records))
+      ∙ ap (λ (t : List ℕ). t ++ lines_text r.records) l.lines
       ∙ sym (lines_append (column_names version ∷ l.records) r.records);
   each = zip_join (IsPlainRecord version) l.records r.records spans more l.each r.each;
 }
 
 -- a front of the block was handed on
-pub lines_sent : (version : Version) (old now new : Option (List ℕ)) (block left sent : List ℕ) (spans : List Span) → Lines version old now block spans → Appends now new sent → block ≡ sent ++ left
+pub lines_sent : (version : Version) (old now new : Option (List ℕ)) (block left sent : List ℕ) (spans : List Span)
+    → Lines version old now block spans → Appends now new sent → block ≡ sent ++ left
     → Lines version old new left spans
 lines_sent version old now new block left sent spans l more e = record {
   sent = l.sent ++ sent;
@@ -231,18 +250,28 @@ lines_sent version old now new block left sent spans l more e = record {
   each = l.each;
 }
 
-pub line_more : (version : Version) (old now new : Option (List ℕ)) (block grown left sent : List ℕ) (spans : List Span) (i : ℕ) (d : Span) → i < length spans
-    → Lines version old now block (take i spans) → AddsRecord version (get_or spans i d) block grown → Appends now new sent → grown ≡ sent ++ left → Lines version old new left (take (i + 1) spans)
+pub line_more : (version : Version) (old now new : Option (List ℕ)) (block grown left sent : List ℕ) (spans : List Span) (i : ℕ) (d : Span)
+    → i < length spans
+    → Lines version old now block (take i spans) → AddsRecord version (get_or spans i d) block grown → Appends now new sent
+    → grown ≡ sent ++ left → Lines version old new left (take (i + 1) spans)
 line_more version old now new block grown left sent spans i d lt l r more e =
     subst (λ (xs : List Span). Lines version old new left xs) (sym (take_more spans i d lt))
-    (lines_sent version old now new grown left sent (take i spans ++ get_or spans i d ∷ []) (lines_put version old now block grown (take i spans) (get_or spans i d ∷ []) l (one_record version (get_or spans i d) block grown r)) more e)
+    (lines_sent version old now new grown left sent (take i spans ++ get_or spans i d ∷ [])
+    (lines_put version old now block grown (take i spans) (get_or spans i d ∷ []) l
+    (one_record version (get_or spans i d) block grown r)) more e)
 
 pub lines_done : (version : Version) (old now new : Option (List ℕ)) (block : List ℕ) (spans : List Span) → AreInOrder spans
-    → Lines version old now block spans → Appends now new block → (bytes : List ℕ) × Appends old new bytes × IsWrittenTable version bytes spans
-lines_done version old now new block spans o l more =
-    (l.sent ++ block, Appends-trans old now new l.sent block l.handed more, written_table version (l.sent ++ block) l.records spans l.each o l.lines)
+    → Lines version old now block spans → Appends now new block
+    → (bytes : List ℕ) × Appends old new bytes × IsWrittenTable version bytes spans
+lines_done version old now new block spans o l more = (
+  l.sent ++ block,
+  Appends-trans old now new l.sent block l.handed more,
+  written_table version (l.sent ++ block) l.records spans l.each o l.lines,
+)
 
-pub all_lines : (version : Version) (old now new : Option (List ℕ)) (block : List ℕ) (spans : List Span) (i : ℕ) → length spans ≤ i → AreInOrder spans
-    → Lines version old now block (take i spans) → Appends now new block → (bytes : List ℕ) × Appends old new bytes × IsWrittenTable version bytes spans
+pub all_lines : (version : Version) (old now new : Option (List ℕ)) (block : List ℕ) (spans : List Span) (i : ℕ) → length spans ≤ i
+    → AreInOrder spans
+    → Lines version old now block (take i spans) → Appends now new block
+    → (bytes : List ℕ) × Appends old new bytes × IsWrittenTable version bytes spans
 all_lines version old now new block spans i le o l more =
     lines_done version old now new block spans o (subst (λ (xs : List Span). Lines version old now block xs) (take_all i spans le) l) more

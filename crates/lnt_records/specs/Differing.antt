@@ -21,14 +21,16 @@ use Rattle.lnt_records.specs.Table.{IsTableOf}
 
 -- The bytes are a table, and the stretches at which it answers otherwise than a section, as far as its version tells, come
 -- one after another.
-pub record DiffersAlong {S T : Type 0} (of_section : S → List Span → Type 0) (of_table : T → List Span → Type 0) (bytes : List ℕ) (section : Position → Option Answer) (differences : Differences S T) : Type 0 where
+pub record DiffersAlong {S T : Type 0} (of_section : S → List Span → Type 0) (of_table : T → List Span → Type 0) (bytes : List ℕ)
+    (section : Position → Option Answer) (differences : Differences S T) : Type 0 where
   pub version : Version
   pub table : List Span
   pub is_table : IsTableOf version bytes table
   pub told : HasTold of_section of_table differences (λ p. option_map (in_version version) (section p)) (span_answer table) []
 
 -- That, or the first fault of the bytes.
-abbrev pub IsDiffering : {S : Type 0} → (Remaining S → List Span → Type 0) → (SpanList → List Span → Type 0) → List ℕ → (Position → Option Answer) → Differing S → Type 0
+abbrev pub IsDiffering : {S : Type 0} → (Remaining S → List Span → Type 0) → (SpanList → List Span → Type 0) → List ℕ
+    → (Position → Option Answer) → Differing S → Type 0
 IsDiffering of_section of_table bytes section (differing.Fault told) = IsFault bytes told
 IsDiffering of_section of_table bytes section (differing.Table differences) = DiffersAlong of_section of_table bytes section differences
 
@@ -36,7 +38,8 @@ IsDiffering of_section of_table bytes section (differing.Table differences) = Di
 abbrev pub IsStarted : {S : Type 0} → (Remaining S → List Span → Type 0) → (SpanList → List Span → Type 0) → Differing S → Type 0
 IsStarted of_section of_table (differing.Fault told) = Unit {0}
 IsStarted of_section of_table (differing.Table differences) =
-    (by_section : Position → Option Answer) × (by_table : Position → Option Answer) × HasTold of_section of_table differences by_section by_table []
+    (by_section : Position → Option Answer) × (by_table : Position → Option Answer)
+    × HasTold of_section of_table differences by_section by_table []
 
 -- After the records of these spans the bytes have records of these others, or a fault. The bodies of this crate use it
 -- among themselves.

@@ -26,7 +26,8 @@ abbrev pub IsFaulty : Version → List Span → ℕ → Fields → TableFault �
 IsFaulty version spans number fields fault.Header = ⊥
 IsFaulty version spans number fields (fault.Fields k) = (k ≡ number) × (length fields ≢ column_count version)
 IsFaulty version spans number fields (fault.Number k i) = (k ≡ number) × (length fields ≡ column_count version) × IsFaultyColumn fields i
-IsFaulty version spans number fields (fault.Order k) = (k ≡ number) × (span : Span) × IsSpanRecord version fields span × (AreInOrder (spans ++ span ∷ []) → ⊥)
+IsFaulty version spans number fields (fault.Order k) =
+    (k ≡ number) × (span : Span) × IsSpanRecord version fields span × (AreInOrder (spans ++ span ∷ []) → ⊥)
 
 -- ---- all records
 

@@ -18,7 +18,8 @@ OneTable = (bytes : List ℕ) (v w : Version) (xs ys : List Span) → IsTableOf 
 
 -- No fault is told of a table.
 abbrev pub NoFault : Type 0
-NoFault = (bytes : List ℕ) (version : Version) (spans : List Span) (told : TableFault) → IsTableOf version bytes spans → IsFault bytes told → ⊥
+NoFault =
+    (bytes : List ℕ) (version : Version) (spans : List Span) (told : TableFault) → IsTableOf version bytes spans → IsFault bytes told → ⊥
 
 -- At most one fault is the first one of the bytes.
 abbrev pub OneFault : Type 0

@@ -37,7 +37,8 @@ abbrev pub AreMoreFields : (List ℕ → ℕ → Type 0) → Version → Fields 
 AreMoreFields Number One fields more = (fields ≡ []) × (more ≡ None)
 AreMoreFields Number Two fields None = ⊥
 AreMoreFields Number Two fields (Some more) =
-    (isa : List ℕ) × (discriminator : List ℕ) × (fields ≡ isa ∷ discriminator ∷ []) × Number isa more.isa × Number discriminator more.discriminator
+    (isa : List ℕ) × (discriminator : List ℕ) × (fields ≡ isa ∷ discriminator ∷ []) × Number isa more.isa
+    × Number discriminator more.discriminator
 
 -- those fields, each with a comma before it, and the end of the line
 pub record IsMore (Number : List ℕ → ℕ → Type 0) (version : Version) (more : Option More) (bytes rest : List ℕ) : Type 0 where

@@ -41,14 +41,16 @@ pub record AreLines (version : Version) (text : List ℕ) (table : List Span) (c
 
 -- The spans of a list in order answer as the section does, as far as the version tells. The merge has compared them with
 -- these records.
-pub record Follows {S : Type 0} (to_come : S → List Span → Type 0) (merge : Merging S) (version : Version) (section table : List Span) : Type 0 where
+pub record Follows {S : Type 0} (to_come : S → List Span → Type 0) (merge : Merging S) (version : Version)
+    (section table : List Span) : Type 0 where
   pub spans : List Span
   pub same : (p : Position) → version_answer version spans p ≡ version_answer version section p
   pub version_is : merge.version ≡ version
   pub compares : Compares to_come merge spans table
 
 -- After the line with the names of the columns these lines were passed, which say records that the merge has compared.
-pub record HasPassed {S : Type 0} (to_come : S → List Span → Type 0) (merge : Merging S) (version : Version) (section : List Span) (text : List ℕ) (count : ℕ) : Type 0 where
+pub record HasPassed {S : Type 0} (to_come : S → List Span → Type 0) (merge : Merging S) (version : Version) (section : List Span)
+    (text : List ℕ) (count : ℕ) : Type 0 where
   pub table : List Span
   pub order : AreInOrder table
   pub lines : AreLines version text table count
@@ -63,7 +65,8 @@ AreLeft false to_come rest = to_come rest
 
 -- The lines of a text say the first spans of a list in order, which answers as the section does, as far as the version
 -- tells. The spans after them are to come, and the text's last span ends at `end`.
-pub record LeavesOff (ToCome : List Span → Type 0) (version : Version) (section : List Span) (text : List ℕ) (count : ℕ) (end : Position) : Type 0 where
+pub record LeavesOff (ToCome : List Span → Type 0) (version : Version) (section : List Span) (text : List ℕ) (count : ℕ)
+    (end : Position) : Type 0 where
   pub table : List Span
   pub rest : List Span
   pub lines : AreLines version text table count

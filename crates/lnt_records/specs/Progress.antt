@@ -84,7 +84,8 @@ pub record HasRead (reader : BytesReader) (bytes : List ℕ) (records : List Fie
   pub few : length records + length rest ≤ length bytes
 
 -- These records are a table so far, and compared with the spans of a section.
-pub record Judges {S : Type 0} (to_come : S → List Span → Type 0) (comparison : Comparison S) (section : List Span) (records : List Fields) : Type 0 where
+pub record Judges {S : Type 0} (to_come : S → List Span → Type 0) (comparison : Comparison S) (section : List Span)
+    (records : List Fields) : Type 0 where
   pub table : List Span
   pub is_table : IsTable comparison.version records table
   pub count : comparison.count ≡ length records

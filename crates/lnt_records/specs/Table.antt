@@ -19,7 +19,8 @@ Fields = List (List ℕ)
 
 abbrev pub common_names : Fields
 common_names =
-    codes "low" ∷ codes "low_op" ∷ codes "high" ∷ codes "high_op" ∷ codes "unit" ∷ codes "file" ∷ codes "line" ∷ codes "column" ∷ codes "is_stmt" ∷ []
+    codes "low" ∷ codes "low_op" ∷ codes "high" ∷ codes "high_op" ∷ codes "unit" ∷ codes "file" ∷ codes "line" ∷ codes "column"
+    ∷ codes "is_stmt" ∷ []
 
 -- record 0
 abbrev pub column_names : Version → Fields

@@ -54,7 +54,8 @@ fn put_some(
     room: &mut [u8; ROOM],
     span: Option<Span>,
 ) -> Result<(), AllocError>
-    ensures { (version : Version) → IfSome span (λ span. IsOfVersion version span.answer) → OnOk result (AddsRecords version (cons_option span []) block.old.items block.new.items) }
+    ensures { (version : Version) → IfSome span (λ span. IsOfVersion version span.answer)
+        → OnOk result (AddsRecords version (cons_option span []) block.old.items block.new.items) }
 {
     match &span {
         Some(span) => put_span(block, room, span),

@@ -59,7 +59,8 @@ pub(crate) fn compare_records<S: SpanSource + Drop>(
 
 // The version whose columns record 0 names, if it is a header.
 pub(crate) fn header_of(alloc: Global, table: &[u8]) -> Result<Option<Version>, TableStop>
-    ensures { IfOk result (λ found. MatchOption found ((v : Version) → BeginsWith table.now (column_names v ∷ []) → ⊥) (λ v. BeginsWith table.now (column_names v ∷ []))) }
+    ensures { IfOk result (λ found. MatchOption found ((v : Version) → BeginsWith table.now (column_names v ∷ []) → ⊥)
+        (λ v. BeginsWith table.now (column_names v ∷ []))) }
 {
     let mut reader = reader_of(alloc, table);
     let mut row = ByteRecord::new(alloc);
@@ -77,9 +78,12 @@ pub(crate) fn compare_behind<S: SpanSource + Drop>(
 ) -> Result<Compared, TableStop>
     requires begins { BeginsWith text.now (column_names version ∷ []) }
     requires few { count + length text.now < 2 ^ 64 + 1 }
-    requires judged { (list : List Span) × (passed : List Fields) × Judges S.to_come (record { merge = merge; version = version; count = count }) list (column_names version ∷ passed) }
-    ensures { IfOk result (λ compared. (list section : List Span) (passed : List Fields) (bytes : List ℕ) → Judges S.to_come (record { merge = merge; version = version; count = count }) list (column_names version ∷ passed)
-        → IsCut version text.now bytes passed → ((p : Position) → version_answer version list p ≡ version_answer version section p) → IsComparison bytes section compared) }
+    requires judged { (list : List Span) × (passed : List Fields)
+        × Judges S.to_come (record { merge = merge; version = version; count = count }) list (column_names version ∷ passed) }
+    ensures { IfOk result (λ compared. (list section : List Span) (passed : List Fields) (bytes : List ℕ)
+        → Judges S.to_come (record { merge = merge; version = version; count = count }) list (column_names version ∷ passed)
+        → IsCut version text.now bytes passed → ((p : Position) → version_answer version list p ≡ version_answer version section p)
+        → IsComparison bytes section compared) }
 {
     let mut reader = reader_of(alloc, text);
     let mut row = ByteRecord::new(alloc);
@@ -131,11 +135,13 @@ pub(crate) struct Comparison<S> {
 impl<S: SpanSource + Drop> Comparison<S> {
     // Takes the next record, if it isn't faulty.
     fn take_record(&mut self, row: &ByteRecord) -> Option<TableFault>
-        requires { (section : List Span) × (records : List Fields) × Judges S.to_come self.old section records × (length records + 1 < 2 ^ 64) }
+        requires { (section : List Span) × (records : List Fields) × Judges S.to_come self.old section records
+            × (length records + 1 < 2 ^ 64) }
         ensures version { self.new.version ≡ self.old.version }
         ensures judged { (section : List Span) (records : List Fields) → Judges S.to_come self.old section records
             → MatchOption result (Judges S.to_come self.new section (records ++ fields_of row.now ∷ []))
-            (λ fault. (table : List Span) × IsTable self.old.version records table × IsFaulty self.old.version table (length records) (fields_of row.now) fault) }
+            (λ fault. (table : List Span) × IsTable self.old.version records table
+            × IsFaulty self.old.version table (length records) (fields_of row.now) fault) }
     {
         match self.take_span(row) {
             Ok(_) => None,
@@ -145,12 +151,15 @@ impl<S: SpanSource + Drop> Comparison<S> {
 
     // The same, and the span that it says.
     pub(crate) fn take_span(&mut self, row: &ByteRecord) -> Result<Span, TableFault>
-        requires { (section : List Span) × (records : List Fields) × Judges S.to_come self.old section records × (length records + 1 < 2 ^ 64) }
+        requires { (section : List Span) × (records : List Fields) × Judges S.to_come self.old section records
+            × (length records + 1 < 2 ^ 64) }
         ensures version { self.new.version ≡ self.old.version }
         ensures says { IfOk result (λ span. IsSpanRecord self.old.version (fields_of row.now) span) }
-        ensures taken { OnOk result ((section : List Span) (records : List Fields) → Judges S.to_come self.old section records → Judges S.to_come self.new section (records ++ fields_of row.now ∷ [])) }
+        ensures taken { OnOk result ((section : List Span) (records : List Fields) → Judges S.to_come self.old section records
+            → Judges S.to_come self.new section (records ++ fields_of row.now ∷ [])) }
         ensures faulty { IfErr result (λ fault. (section : List Span) (records : List Fields) → Judges S.to_come self.old section records
-            → (table : List Span) × IsTable self.old.version records table × IsFaulty self.old.version table (length records) (fields_of row.now) fault) }
+            → (table : List Span) × IsTable self.old.version records table
+            × IsFaulty self.old.version table (length records) (fields_of row.now) fault) }
     {
         let span = match span_of(row, self.version) {
             Ok(span) => span,

@@ -46,9 +46,12 @@ pub fn compare_all<S: SpanSource + Drop, T: Source>(
 ) -> Result<Differing<S>, Stop>
     requires failures { T.failures table.old < 2 ^ 64 - 1 }
     requires spans { (list : List Span) × S.to_come spans list × AreInOrder list }
-    ensures ok { IfOk result (λ differing. (list : List Span) (section : Place → Option Answer) → S.to_come spans list → AreInOrder list → ((p : Place) → span_answer list p ≡ section p)
-        → IfSome (T.remaining table.old) (λ bytes. IsDiffering ⟦<Remaining<S> as SpanSource>⟧.to_come ⟦<SpanList as SpanSource>⟧.to_come bytes section differing)) }
-    ensures started { IfOk result (λ differing. IsStarted ⟦<Remaining<S> as SpanSource>⟧.to_come ⟦<SpanList as SpanSource>⟧.to_come differing) }
+    ensures ok { IfOk result (λ differing. (list : List Span) (section : Place → Option Answer) → S.to_come spans list → AreInOrder list
+        → ((p : Place) → span_answer list p ≡ section p)
+        → IfSome (T.remaining table.old) (λ bytes. IsDiffering ⟦<Remaining<S> as SpanSource>⟧.to_come ⟦<SpanList as SpanSource>⟧.to_come
+        bytes section differing)) }
+    ensures started { IfOk result (λ differing. IsStarted ⟦<Remaining<S> as SpanSource>⟧.to_come ⟦<SpanList as SpanSource>⟧.to_come
+        differing) }
     ensures read { IsErrOf result Stop.Read → T.failures table.new ≡ T.failures table.old + 1 }
     ensures no_failure { result ≢ Err Stop.Read → T.failures table.new ≡ T.failures table.old }
     ensures too_long { IsErrOf result Stop.TooLong → IsTrue (T.too_long table.new) }
@@ -76,8 +79,10 @@ fn compare_text<S: SpanSource + Drop>(
     spans: S,
 ) -> Result<Differing<S>, TableStop>
     requires { (list : List Span) × S.to_come spans list × AreInOrder list }
-    ensures started { IfOk result (λ differing. IsStarted ⟦<Remaining<S> as SpanSource>⟧.to_come ⟦<SpanList as SpanSource>⟧.to_come differing) }
-    ensures differing { IfOk result (λ differing. (list : List Span) (section : Place → Option Answer) → S.to_come spans list → AreInOrder list → ((p : Place) → span_answer list p ≡ section p)
+    ensures started { IfOk result (λ differing. IsStarted ⟦<Remaining<S> as SpanSource>⟧.to_come ⟦<SpanList as SpanSource>⟧.to_come
+        differing) }
+    ensures differing { IfOk result (λ differing. (list : List Span) (section : Place → Option Answer) → S.to_come spans list
+        → AreInOrder list → ((p : Place) → span_answer list p ≡ section p)
         → IsDiffering ⟦<Remaining<S> as SpanSource>⟧.to_come ⟦<SpanList as SpanSource>⟧.to_come text.now section differing) }
 {
     let Some(version) = header_of(alloc, text)? else {
@@ -102,8 +107,10 @@ fn differ_behind<S: SpanSource + Drop>(
     version: Version,
     at: Position,
 ) -> Result<Differing<S>, TableStop>
-    ensures { IfOk result (λ differing. (bytes : List ℕ) (section : Place → Option Answer) (table rest : List Span) → IfOk gathered (IsGathered bytes version table) → GoesOn version section table rest at
-        → ⟦<Remaining<S> as SpanSource>⟧.to_come spans rest → IsDiffering ⟦<Remaining<S> as SpanSource>⟧.to_come ⟦<SpanList as SpanSource>⟧.to_come bytes section differing) }
+    ensures { IfOk result (λ differing. (bytes : List ℕ) (section : Place → Option Answer) (table rest : List Span)
+        → IfOk gathered (IsGathered bytes version table) → GoesOn version section table rest at
+        → ⟦<Remaining<S> as SpanSource>⟧.to_come spans rest
+        → IsDiffering ⟦<Remaining<S> as SpanSource>⟧.to_come ⟦<SpanList as SpanSource>⟧.to_come bytes section differing) }
 {
     match gathered? {
         Gathered::Fault(fault) => Ok(Differing::Fault(fault)),

@@ -34,8 +34,10 @@ pub(crate) fn gather_behind<S: SpanSource + Drop>(
 ) -> Result<Gathered, TableStop>
     requires begins { BeginsWith text.now (column_names version ∷ []) }
     requires few { count + length text.now < 2 ^ 64 + 1 }
-    requires judged { (list : List Span) × (passed : List Fields) × Judges S.to_come (record { merge = merge; version = version; count = count }) list (column_names version ∷ passed) }
-    ensures { IfOk result (λ gathered. (list : List Span) (passed : List Fields) (bytes : List ℕ) → (j : Judges S.to_come (record { merge = merge; version = version; count = count }) list (column_names version ∷ passed))
+    requires judged { (list : List Span) × (passed : List Fields)
+        × Judges S.to_come (record { merge = merge; version = version; count = count }) list (column_names version ∷ passed) }
+    ensures { IfOk result (λ gathered. (list : List Span) (passed : List Fields) (bytes : List ℕ)
+        → (j : Judges S.to_come (record { merge = merge; version = version; count = count }) list (column_names version ∷ passed))
         → IsCut version text.now bytes passed → IsGathered bytes version j.table gathered) }
 {
     let mut reader = reader_of(alloc, text);

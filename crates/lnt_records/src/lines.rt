@@ -29,8 +29,10 @@ pub(crate) fn push_lines<S: SpanSource + Drop, T: Source>(
     requires failures { T.failures source.old < 2 ^ 64 - 1 }
     requires few { length window.old + T.left source.old + count.old < 2 ^ 64 }
     requires merge { (list table : List spec.Span) × Compares S.to_come merge.old list table }
-    ensures ok { OnOk result ((text : List ℕ) × Passes (T.remaining source.old) (T.remaining source.new) (T.left source.old) (T.left source.new) window.old window.new text
-        × ((section : List spec.Span) (before : List ℕ) → HasPassed S.to_come merge.old version section before count.old → HasPassed S.to_come merge.new version section (before ++ text) count.new)) }
+    ensures ok { OnOk result ((text : List ℕ) × Passes (T.remaining source.old) (T.remaining source.new) (T.left source.old)
+        (T.left source.new) window.old window.new text
+        × ((section : List spec.Span) (before : List ℕ) → HasPassed S.to_come merge.old version section before count.old
+        → HasPassed S.to_come merge.new version section (before ++ text) count.new)) }
     ensures read { IsErrOf result Stop.Read → T.failures source.new ≡ T.failures source.old + 1 }
     ensures no_failure { result ≢ Err Stop.Read → T.failures source.new ≡ T.failures source.old }
     ensures not_long { IsErrOf result Stop.TooLong → ⊥ }

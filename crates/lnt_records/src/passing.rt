@@ -38,8 +38,10 @@ pub(crate) fn pass_spans<S: SpanSource + Drop, T: Source, C>(
     requires failures { T.failures source.old < 2 ^ 64 - 1 }
     requires few { length window.old + T.left source.old + 1 < 2 ^ 64 }
     requires spans { (list : List spec.Span) × S.to_come spans list × AreInOrder list }
-    ensures ok { IfOk result (λ passed. (text : List ℕ) × Passes (T.remaining source.old) (T.remaining source.new) (T.left source.old) (T.left source.new) window.old window.new text
-        × ((list : List spec.Span) → S.to_come spans list → AreInOrder list → LeavesOff (⟦<Remaining<S> as SpanSource>⟧.to_come passed.spans) version list text passed.count passed.end)) }
+    ensures ok { IfOk result (λ passed. (text : List ℕ)
+        × Passes (T.remaining source.old) (T.remaining source.new) (T.left source.old) (T.left source.new) window.old window.new text
+        × ((list : List spec.Span) → S.to_come spans list → AreInOrder list
+        → LeavesOff (⟦<Remaining<S> as SpanSource>⟧.to_come passed.spans) version list text passed.count passed.end)) }
     ensures read { IsErrOf result Stop.Read → T.failures source.new ≡ T.failures source.old + 1 }
     ensures no_failure { result ≢ Err Stop.Read → T.failures source.new ≡ T.failures source.old }
     ensures not_long { IsErrOf result Stop.TooLong → ⊥ }

@@ -55,7 +55,8 @@ pub(crate) fn read_header(
 ) -> Result<Option<Version>, TableStop>
     requires { (bytes : List ℕ) × HasRead reader.old bytes [] }
     ensures { IfOk result (λ found. (bytes : List ℕ) → HasRead reader.old bytes []
-        → MatchOption found ((v : Version) → BeginsWith bytes (column_names v ∷ []) → ⊥) (λ v. HasRead reader.new bytes (column_names v ∷ []))) }
+        → MatchOption found ((v : Version) → BeginsWith bytes (column_names v ∷ []) → ⊥)
+        (λ v. HasRead reader.new bytes (column_names v ∷ []))) }
 {
     if !read_next(reader, row)? {
         return Ok(None);

@@ -53,7 +53,8 @@ impl<S: SpanSource + Drop> Remaining<S> {
 }
 
 impl<S: SpanSource> SpanSource for Remaining<S> {
-    ghost to_come = { λ s list. (rest : List Span) × AreLeft s.is_ended (S.to_come s.spans) rest × (list ≡ cons_option s.first (cons_option s.second (map (span_in_version s.version) rest))) };
+    ghost to_come = { λ s list. (rest : List Span) × AreLeft s.is_ended (S.to_come s.spans) rest
+        × (list ≡ cons_option s.first (cons_option s.second (map (span_in_version s.version) rest))) };
 
     ghost left = { λ s. S.left s.spans + length (cons_option s.first (cons_option s.second [])) };
 

@@ -37,7 +37,8 @@ pub fn compare_table<S: SpanSource + Drop, T: Source>(
 ) -> Result<Compared, Stop>
     requires failures { T.failures table.old < 2 ^ 64 - 1 }
     requires spans { (list : List Span) × S.to_come spans list × AreInOrder list }
-    ensures ok { IfOk result (λ compared. (list : List Span) → S.to_come spans list → AreInOrder list → IfSome (T.remaining table.old) (λ bytes. IsComparison bytes list compared)) }
+    ensures ok { IfOk result (λ compared. (list : List Span) → S.to_come spans list → AreInOrder list
+        → IfSome (T.remaining table.old) (λ bytes. IsComparison bytes list compared)) }
     ensures read { IsErrOf result Stop.Read → T.failures table.new ≡ T.failures table.old + 1 }
     ensures no_failure { result ≢ Err Stop.Read → T.failures table.new ≡ T.failures table.old }
     ensures too_long { IsErrOf result Stop.TooLong → IsTrue (T.too_long table.new) }
@@ -67,7 +68,8 @@ pub fn compare_or_take<S: SpanSource + Drop, T: Source>(
 ) -> Result<TableRead, Stop>
     requires failures { T.failures table.old < 2 ^ 64 - 1 }
     requires spans { (list : List Span) × S.to_come spans list × AreInOrder list }
-    ensures ok { IfOk result (λ read. (list : List Span) → S.to_come spans list → AreInOrder list → IfSome (T.remaining table.old) (λ bytes. IsTableRead bytes list read)) }
+    ensures ok { IfOk result (λ read. (list : List Span) → S.to_come spans list → AreInOrder list
+        → IfSome (T.remaining table.old) (λ bytes. IsTableRead bytes list read)) }
     ensures read { IsErrOf result Stop.Read → T.failures table.new ≡ T.failures table.old + 1 }
     ensures no_failure { result ≢ Err Stop.Read → T.failures table.new ≡ T.failures table.old }
     ensures too_long { IsErrOf result Stop.TooLong → IsTrue (T.too_long table.new) }

@@ -39,7 +39,8 @@ fn position_before(room: &mut [u8; ROOM], end: usize, position: Position) -> usi
 #[inline(always)]
 fn answer_before(room: &mut [u8; ROOM], answer: &Answer) -> usize
     ensures begins { (80 ≤ result) × (result < 256) }
-    ensures written { (version : Version) → IsOfVersion version answer.now → IsAnswer IsPlainDecimal version answer.now (drop result room.new) [] }
+    ensures written { (version : Version) → IsOfVersion version answer.now
+        → IsAnswer IsPlainDecimal version answer.now (drop result room.new) [] }
 {
     let at = more_before(room, answer);
     let at = flag_before(room, at, answer.is_stmt);
@@ -54,7 +55,8 @@ fn answer_before(room: &mut [u8; ROOM], answer: &Answer) -> usize
 #[inline(always)]
 fn more_before(room: &mut [u8; ROOM], answer: &Answer) -> usize
     ensures begins { (212 ≤ result) × (result < 256) }
-    ensures written { (version : Version) → IsOfVersion version answer.now → IsMore IsPlainDecimal version answer.now.more (drop result room.new) [] }
+    ensures written { (version : Version) → IsOfVersion version answer.now
+        → IsMore IsPlainDecimal version answer.now.more (drop result room.new) [] }
 {
     match &answer.more {
         None => {

@@ -69,7 +69,8 @@ impl Window {
     #[inline(always)]
     pub(crate) fn fill<T: Source>(&mut self, alloc: Global, source: &mut T) -> Result<(), Stop>
         requires { T.failures source.old < 2 ^ 64 - 1 }
-        ensures taken { OnOk result (Passes (T.remaining source.old) (T.remaining source.new) (T.left source.old) (T.left source.new) self.old self.new []) }
+        ensures taken { OnOk result (Passes (T.remaining source.old) (T.remaining source.new) (T.left source.old) (T.left source.new)
+            self.old self.new []) }
         ensures read { IsErrOf result Stop.Read → T.failures source.new ≡ T.failures source.old + 1 }
         ensures no_failure { result ≢ Err Stop.Read → T.failures source.new ≡ T.failures source.old }
         ensures not_long { IsErrOf result Stop.TooLong → ⊥ }
@@ -84,7 +85,8 @@ impl Window {
     #[inline(never)]
     fn refill<T: Source>(&mut self, alloc: Global, source: &mut T) -> Result<(), Stop>
         requires { T.failures source.old < 2 ^ 64 - 1 }
-        ensures taken { OnOk result (Passes (T.remaining source.old) (T.remaining source.new) (T.left source.old) (T.left source.new) self.old self.new []) }
+        ensures taken { OnOk result (Passes (T.remaining source.old) (T.remaining source.new) (T.left source.old) (T.left source.new)
+            self.old self.new []) }
         ensures read { IsErrOf result Stop.Read → T.failures source.new ≡ T.failures source.old + 1 }
         ensures no_failure { result ≢ Err Stop.Read → T.failures source.new ≡ T.failures source.old }
         ensures not_long { IsErrOf result Stop.TooLong → ⊥ }
@@ -132,7 +134,8 @@ fn joined(alloc: Global, first: &[u8], second: &[u8]) -> Result<Vec<u8>, AllocEr
 #[tactic(auto, using(crate::proofs::PassingLemmas::passes_none, crate::proofs::PassingLemmas::passes_block))]
 fn fill_block<T: Source>(source: &mut T, block: &mut Vec<u8>) -> Result<(), Stop>
     requires { T.failures source.old < 2 ^ 64 - 1 }
-    ensures taken { OnOk result (Passes (T.remaining source.old) (T.remaining source.new) (T.left source.old) (T.left source.new) block.old.items block.new.items []) }
+    ensures taken { OnOk result (Passes (T.remaining source.old) (T.remaining source.new) (T.left source.old) (T.left source.new)
+        block.old.items block.new.items []) }
     ensures read { IsErrOf result Stop.Read → T.failures source.new ≡ T.failures source.old + 1 }
     ensures no_failure { result ≢ Err Stop.Read → T.failures source.new ≡ T.failures source.old }
     ensures not_long { IsErrOf result Stop.TooLong → ⊥ }

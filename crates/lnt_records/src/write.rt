@@ -34,7 +34,8 @@ pub fn write_spans<W: Write>(
 ) -> Result<(), WriteStop>
     requires order { AreInOrder spans.now }
     requires version { All (λ span. IsOfVersion version span.answer) spans.now }
-    ensures { OnOk result ((bytes : List ℕ) × Appends (W.contents out.old) (W.contents out.new) bytes × IsWrittenTable version bytes spans.now) }
+    ensures { OnOk result ((bytes : List ℕ) × Appends (W.contents out.old) (W.contents out.new) bytes
+        × IsWrittenTable version bytes spans.now) }
 {
     let mut block = Vec::new(alloc);
     put_header(&mut block, version)?;
@@ -48,7 +49,8 @@ pub fn write_spans<W: Write>(
 
 // Hands a block to the writer, if it is full.
 pub(crate) fn send_full<W: Write>(block: &mut Vec<u8>, out: &mut W) -> Result<(), WriteStop>
-    ensures { OnOk result ((sent : List ℕ) × Appends (W.contents out.old) (W.contents out.new) sent × (block.old.items ≡ sent ++ block.new.items)) }
+    ensures { OnOk result ((sent : List ℕ) × Appends (W.contents out.old) (W.contents out.new) sent
+        × (block.old.items ≡ sent ++ block.new.items)) }
 {
     if block.len() < BLOCK {
         return Ok(());
@@ -82,7 +84,8 @@ pub(crate) fn put_span(
     room: &mut [u8; ROOM],
     span: &Span,
 ) -> Result<(), AllocError>
-    ensures { (version : Version) → IsOfVersion version span.now.answer → OnOk result (AddsRecord version span.now block.old.items block.new.items) }
+    ensures { (version : Version) → IsOfVersion version span.now.answer
+        → OnOk result (AddsRecord version span.now block.old.items block.new.items) }
 {
     let start = line_of(room, span);
     block.extend_from_slice(&room[start..])?;

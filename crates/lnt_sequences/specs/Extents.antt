@@ -11,7 +11,8 @@ use Rattle.lnt_sequences.specs.declared.extent.Extent.{Extent}
 use Rattle.lnt_sequences.specs.declared.extent.Overlap.{Overlap}
 use Rattle.lnt_sequences.specs.declared.sequence.SeqId.{SeqId}
 use Rattle.lnt_sequences.specs.Rules.{AreApart}
-use Rattle.lnt_sequences.specs.Sequences.{answer_in, answer_of, is_same, position_of, first_row, last_row, Holds, Placed, row_at, stands_before}
+use Rattle.lnt_sequences.specs.Sequences.{answer_in, answer_of, is_same, position_of, first_row, last_row, Holds, Placed, row_at}
+use Rattle.lnt_sequences.specs.Sequences.{stands_before}
 
 -- ---- which comes first
 

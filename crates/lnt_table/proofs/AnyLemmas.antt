@@ -32,7 +32,8 @@ use Rattle.lnt_table.proofs.CheckLemmas.{compared_told}
 
 -- a comparison with what is answered alike
 compared_so : (bytes : List ℕ) (f g : PathVersion → Position → Option PathAnswer) (compared : ComparedByPath)
-    → ((version : PathVersion) (p : Position) → f version p ≡ g version p) → IsPathComparison bytes f compared → IsPathComparison bytes g compared
+    → ((version : PathVersion) (p : Position) → f version p ≡ g version p) → IsPathComparison bytes f compared
+    → IsPathComparison bytes g compared
 compared_so bytes f g Same e h =
     record { version = h.version; table = h.table; is_table = h.is_table; agree = λ p. sym (e h.version p) ∙ h.agree p }
 compared_so bytes f g (Fault told) e h = h
@@ -48,7 +49,8 @@ compared_so bytes f g (Differs difference) e h = record {
   };
 }
 
-pub path_told : (text : Option (List ℕ)) (taken : List ℕ) (index : Indexed) (dead : Option ℕ) (skip : Bool) (units : List (ℕ × Parts)) (spans : List Span) (compared : ComparedByPath)
+pub path_told : (text : Option (List ℕ)) (taken : List ℕ) (index : Indexed) (dead : Option ℕ) (skip : Bool) (units : List (ℕ × Parts))
+    (spans : List Span) (compared : ComparedByPath)
     → IfSome text (λ bytes. (taken ≡ bytes) × ((version : Version) → BeginsWith bytes (column_names version ∷ []) → ⊥))
     → ((p : Position) → span_answer spans p ≡ line_answer dead skip units p)
     → IsPathComparison taken (λ version. spans_by_path version (path_at index) spans) compared
@@ -57,7 +59,8 @@ path_told None taken index dead skip units spans compared other answers h = tt
 path_told (Some bytes) taken index dead skip units spans compared other answers h = record {
   unnumbered = other.1;
   comparison = subst (λ (b : List ℕ). IsPathComparison b (λ version. told_path version index dead skip units) compared) other.0
-      (compared_so taken (λ version. spans_by_path version (path_at index) spans) (λ version. told_path version index dead skip units) compared
+      (compared_so taken (λ version. spans_by_path version (path_at index) spans) (λ version. told_path version index dead skip units)
+      compared
       (λ version p. ap (option_map (path_answer version (path_at index))) (answers p)) h);
 }
 
@@ -70,7 +73,8 @@ header_found (kind.Fault (fault.Number k i)) e = cc
 header_found (kind.Fault (fault.Order k)) e = cc
 header_found (kind.Differs difference) e = cc
 
-pub numbered_told : (text : Option (List ℕ)) (dead : Option ℕ) (skip : Bool) (units : List (ℕ × Parts)) (spans : List Span) (compared : Compared)
+pub numbered_told : (text : Option (List ℕ)) (dead : Option ℕ) (skip : Bool) (units : List (ℕ × Parts)) (spans : List Span)
+    (compared : Compared)
     → ((p : Position) → span_answer spans p ≡ line_answer dead skip units p)
     → IfSome text (λ bytes. IsComparison bytes spans compared × (compared ≢ kind.Fault fault.Header))
     → IfSome text (λ bytes. (compared' : Compared) × IsComparedWith dead skip units bytes compared'
@@ -92,10 +96,12 @@ check_told line general options section table index (ByPath compared) i h = reco
 
 pub any_told : (line general : List ℕ) (options : Options) (section table : Option (List ℕ)) (index : Indexed) (checked : Checked)
     → IfSome section (λ bytes. IsIndexOfSection line general options bytes index)
-    → ((dead : Option ℕ) (skip : Bool) (units : List (ℕ × Parts)) → IsIndexOf dead skip units index → IfSome table (λ text. IsCheckedWith index dead skip units text checked))
+    → ((dead : Option ℕ) (skip : Bool) (units : List (ℕ × Parts)) → IsIndexOf dead skip units index
+    → IfSome table (λ text. IsCheckedWith index dead skip units text checked))
     → IfSome section (λ bytes. IfSome table (λ text. IsTrueCheck line general options bytes text checked))
 any_told line general options None table index checked i h = tt
-any_told line general options (Some section) table index checked i h = of_table table (h options.dead options.skip_copies i.units i.index_is)
+any_told line general options (Some section) table index checked i h =
+    of_table table (h options.dead options.skip_copies i.units i.index_is)
   where
     of_table : (text : Option (List ℕ)) → IfSome text (λ bytes. IsCheckedWith index options.dead options.skip_copies i.units bytes checked)
         → IfSome text (λ bytes. IsTrueCheck line general options section bytes checked)

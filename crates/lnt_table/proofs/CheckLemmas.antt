@@ -22,12 +22,15 @@ use Rattle.lnt_table.specs.Headline.{IsFaultyTable, IsTrueOfSection, IsTrueVerdi
 use Rattle.lnt_table.specs.Verdicts.{IsComparedWith, verdict_of}
 
 -- Lines tell what the rows answer in each version.
-pub told_so : (version : Version) (dead : Option ℕ) (skip : Bool) (units : List (ℕ × Parts)) (spans : List Span) → ((p : Position) → span_answer spans p ≡ line_answer dead skip units p)
+pub told_so : (version : Version) (dead : Option ℕ) (skip : Bool) (units : List (ℕ × Parts)) (spans : List Span)
+    → ((p : Position) → span_answer spans p ≡ line_answer dead skip units p)
     → (p : Position) → version_answer version spans p ≡ told_answer version dead skip units p
 told_so version dead skip units spans same p = ap (option_map (in_version version)) (same p)
 
-least_told : (version : Version) (dead : Option ℕ) (skip : Bool) (units : List (ℕ × Parts)) (spans table : List Span) (difference : Difference)
-    → ((p : Position) → span_answer spans p ≡ line_answer dead skip units p) → IsLeastDifference (version_answer version spans) (span_answer table) difference
+least_told : (version : Version) (dead : Option ℕ) (skip : Bool) (units : List (ℕ × Parts)) (spans table : List Span)
+    (difference : Difference)
+    → ((p : Position) → span_answer spans p ≡ line_answer dead skip units p)
+    → IsLeastDifference (version_answer version spans) (span_answer table) difference
     → IsLeastDifference (told_answer version dead skip units) (span_answer table) difference
 least_told version dead skip units spans table difference same d = record {
   section = d.section ∙ told_so version dead skip units spans same difference.position;
@@ -36,12 +39,15 @@ least_told version dead skip units spans table difference same d = record {
   least = λ p below. sym (told_so version dead skip units spans same p) ∙ d.least p below;
 }
 
-faulty_told : (line general : List ℕ) (options : Options) (section table : List ℕ) (index : Indexed) (told : TableFault) → IsIndexOfSection line general options section index
+faulty_told : (line general : List ℕ) (options : Options) (section table : List ℕ) (index : Indexed) (told : TableFault)
+    → IsIndexOfSection line general options section index
     → IsFault table told → IsFaultyTable line general options section table told
 faulty_told line general options section table index told i f = record { units = i.units; good = i.good; faulty = f }
 
-pub compared_told : (line general : List ℕ) (options : Options) (section table : List ℕ) (index : Indexed) (spans : List Span) (compared : Compared) → (i : IsIndexOfSection line general options section index)
-    → ((p : Position) → span_answer spans p ≡ line_answer options.dead options.skip_copies i.units p) → IsComparison table spans compared → IsTrueVerdict line general options section table (verdict_of compared)
+pub compared_told : (line general : List ℕ) (options : Options) (section table : List ℕ) (index : Indexed) (spans : List Span)
+    (compared : Compared) → (i : IsIndexOfSection line general options section index)
+    → ((p : Position) → span_answer spans p ≡ line_answer options.dead options.skip_copies i.units p) → IsComparison table spans compared
+    → IsTrueVerdict line general options section table (verdict_of compared)
 compared_told line general options section table index spans Same i answers h = record {
   units = i.units;
   good = i.good;
@@ -50,10 +56,14 @@ compared_told line general options section table index spans Same i answers h = 
   is_table = h.is_table;
   answers = λ p. sym (h.agree p) ∙ told_so h.version options.dead options.skip_copies i.units spans answers p;
 }
-compared_told line general options section table index spans (Fault fault.Header) i answers h = faulty_told line general options section table index fault.Header i h
-compared_told line general options section table index spans (Fault (fault.Fields k)) i answers h = faulty_told line general options section table index (fault.Fields k) i h
-compared_told line general options section table index spans (Fault (fault.Number k n)) i answers h = faulty_told line general options section table index (fault.Number k n) i h
-compared_told line general options section table index spans (Fault (fault.Order k)) i answers h = faulty_told line general options section table index (fault.Order k) i h
+compared_told line general options section table index spans (Fault fault.Header) i answers h =
+    faulty_told line general options section table index fault.Header i h
+compared_told line general options section table index spans (Fault (fault.Fields k)) i answers h =
+    faulty_told line general options section table index (fault.Fields k) i h
+compared_told line general options section table index spans (Fault (fault.Number k n)) i answers h =
+    faulty_told line general options section table index (fault.Number k n) i h
+compared_told line general options section table index spans (Fault (fault.Order k)) i answers h =
+    faulty_told line general options section table index (fault.Order k) i h
 compared_told line general options section table index spans (Differs difference) i answers h = record {
   units = i.units;
   good = i.good;
@@ -75,22 +85,28 @@ section_told line general options section index (Differs difference) i = (i.unit
 -- ---- the same where sources tell their bytes
 
 abbrev Compares : Option (List ℕ) → Indexed → Compared → Type 0
-Compares table index compared = (dead : Option ℕ) (skip : Bool) (units : List (ℕ × Parts)) → IsIndexOf dead skip units index → IfSome table (λ text. IsComparedWith dead skip units text compared)
+Compares table index compared = (dead : Option ℕ) (skip : Bool) (units : List (ℕ × Parts)) → IsIndexOf dead skip units index
+    → IfSome table (λ text. IsComparedWith dead skip units text compared)
 
-table_told : (line general : List ℕ) (options : Options) (section : List ℕ) (table : Option (List ℕ)) (index : Indexed) (compared : Compared)
-    → (i : IsIndexOfSection line general options section index) → IfSome table (λ text. IsComparedWith options.dead options.skip_copies i.units text compared)
+table_told : (line general : List ℕ) (options : Options) (section : List ℕ) (table : Option (List ℕ)) (index : Indexed)
+    (compared : Compared)
+    → (i : IsIndexOfSection line general options section index)
+    → IfSome table (λ text. IsComparedWith options.dead options.skip_copies i.units text compared)
     → IfSome table (λ text. IsTrueVerdict line general options section text (verdict_of compared))
 table_told line general options section None index compared i h = tt
-table_told line general options section (Some text) index compared i h = compared_told line general options section text index h.spans compared i h.answers h.comparison
+table_told line general options section (Some text) index compared i h =
+    compared_told line general options section text index h.spans compared i h.answers h.comparison
 
 pub verdict_told : (line general : List ℕ) (options : Options) (section table : Option (List ℕ)) (index : Indexed) (compared : Compared)
     → IfSome section (λ bytes. IsIndexOfSection line general options bytes index) → Compares table index compared
     → IfSome section (λ bytes. IfSome table (λ text. IsTrueVerdict line general options bytes text (verdict_of compared)))
 verdict_told line general options None table index compared i h = tt
-verdict_told line general options (Some section) table index compared i h = table_told line general options section table index compared i (h options.dead options.skip_copies i.units i.index_is)
+verdict_told line general options (Some section) table index compared i h =
+    table_told line general options section table index compared i (h options.dead options.skip_copies i.units i.index_is)
 
 -- what is found of the spans of an index
-pub found_with : (table : Option (List ℕ)) (dead : Option ℕ) (skip : Bool) (units : List (ℕ × Parts)) (spans : List Span) (compared : Compared) → ((p : Position) → span_answer spans p ≡ line_answer dead skip units p)
+pub found_with : (table : Option (List ℕ)) (dead : Option ℕ) (skip : Bool) (units : List (ℕ × Parts)) (spans : List Span)
+    (compared : Compared) → ((p : Position) → span_answer spans p ≡ line_answer dead skip units p)
     → IfSome table (λ bytes. IsComparison bytes spans compared) → IfSome table (λ text. IsComparedWith dead skip units text compared)
 found_with None dead skip units spans compared answers h = tt
 found_with (Some text) dead skip units spans compared answers h = record { spans = spans; answers = answers; comparison = h }

@@ -17,32 +17,48 @@ use Rattle.lnt_table.specs.Headline.{AnswersOtherwise, AnswersRight, told_answer
 use Rattle.lnt_table.specs.Laws.{OnlyYes, OwnTable, OwnTableOfUnits}
 use Rattle.lnt_table.proofs.CheckLemmas.{told_so}
 
-difference_none : (line general : List ℕ) (options : Options) (bytes table : List ℕ) (difference : Difference) → OneTable → AnswersRight line general options bytes table
+difference_none : (line general : List ℕ) (options : Options) (bytes table : List ℕ) (difference : Difference) → OneTable
+    → AnswersRight line general options bytes table
     → AnswersOtherwise line general options bytes table difference → ⊥
 difference_none line general options bytes table difference one h d =
     let tables = one table d.version h.version d.spans h.spans d.is_table h.is_table in
     let units = same_units options.order 0 d.units h.units bytes d.good.spelled h.good.spelled in
-    let in_version = subst (λ (v : Version). IsLeastDifference (told_answer v options.dead options.skip_copies d.units) (span_answer d.spans) difference) tables.0 d.least in
-    let of_table = subst (λ (xs : List Span). IsLeastDifference (told_answer h.version options.dead options.skip_copies d.units) (span_answer xs) difference) tables.1 in_version in
-    let here = subst (λ (us : List (ℕ × Parts)). IsLeastDifference (told_answer h.version options.dead options.skip_copies us) (span_answer h.spans) difference) units of_table in
+    let in_version = subst (λ (v : Version). IsLeastDifference (told_answer v options.dead options.skip_copies d.units)
+    (span_answer d.spans) difference) tables.0 d.least in
+    let of_table = subst (λ (xs : List Span). IsLeastDifference (told_answer h.version options.dead options.skip_copies d.units)
+    (span_answer xs) difference) tables.1 in_version in
+    let here = subst (λ (us : List (ℕ × Parts)). IsLeastDifference (told_answer h.version options.dead options.skip_copies us)
+    (span_answer h.spans) difference) units of_table in
     here.differ (here.table ∙ h.answers difference.position ∙ sym here.section)
 
 pub only_yes : GoodHasNoFlaw → OneTable → NoFault → OnlyYes
 only_yes flawless one none line general options bytes table Yes h v = refl
 only_yes flawless one none line general options bytes table (No (no.Section reason)) h v =
     absurd (flawless line general options bytes h.units reason h.good v)
-only_yes flawless one none line general options bytes table (No no.Header) h v = absurd (none table h.version h.spans fault.Header h.is_table v.faulty)
-only_yes flawless one none line general options bytes table (No (no.Fields k)) h v = absurd (none table h.version h.spans (fault.Fields k) h.is_table v.faulty)
-only_yes flawless one none line general options bytes table (No (no.Number k i)) h v = absurd (none table h.version h.spans (fault.Number k i) h.is_table v.faulty)
-only_yes flawless one none line general options bytes table (No (no.Order k)) h v = absurd (none table h.version h.spans (fault.Order k) h.is_table v.faulty)
+only_yes flawless one none line general options bytes table (No no.Header) h v =
+    absurd (none table h.version h.spans fault.Header h.is_table v.faulty)
+only_yes flawless one none line general options bytes table (No (no.Fields k)) h v =
+    absurd (none table h.version h.spans (fault.Fields k) h.is_table v.faulty)
+only_yes flawless one none line general options bytes table (No (no.Number k i)) h v =
+    absurd (none table h.version h.spans (fault.Number k i) h.is_table v.faulty)
+only_yes flawless one none line general options bytes table (No (no.Order k)) h v =
+    absurd (none table h.version h.spans (fault.Order k) h.is_table v.faulty)
 only_yes flawless one none line general options bytes table (No (no.Differs position by_table by_section)) h v =
-    absurd (difference_none line general options bytes table (record { position = position; by_table = by_table; by_section = by_section }) one h v)
+    absurd (difference_none line general options bytes table (record { position = position; by_table = by_table; by_section = by_section })
+    one h v)
 
 pub own_table_of_units : OnlyYes → OwnTableOfUnits
 own_table_of_units only line general options bytes table units version verdict good w v =
-    only line general options bytes table verdict (record { units = units; good = good; version = version; spans = w.spans; is_table = w.written.table; answers = w.same }) v
+    only line general options bytes table verdict (record
+    { units = units; good = good; version = version; spans = w.spans; is_table = w.written.table; answers = w.same }) v
 
 pub own_table : OwnTableOfUnits → OwnTable
 own_table own line general options bytes table lines version verdict l w v =
     own line general options bytes table l.units version verdict l.good
-    (record { spans = w.spans; canonical = w.canonical; same = λ p. w.same p ∙ told_so version options.dead options.skip_copies l.units lines.spans l.tells.answers p; written = w.written }) v
+    (record {
+      spans = w.spans;
+      canonical = w.canonical;
+      same =
+          λ p. w.same p ∙ told_so version options.dead options.skip_copies l.units lines.spans l.tells.answers p;
+      written = w.written;
+    }) v

@@ -8,10 +8,12 @@ use Rattle.lnt_paths.specs.PathSpans.{AreCanonicalOf, PathSpan}
 use Rattle.lnt_paths.specs.Written.{HasBecome}
 use Rattle.lnt_spans.specs.declared.position.Position.{Position}
 
-canonical_so : (f g : Position → Option PathAnswer) (spans : List PathSpan) → ((p : Position) → f p ≡ g p) → AreCanonicalOf f spans → AreCanonicalOf g spans
+canonical_so : (f g : Position → Option PathAnswer) (spans : List PathSpan) → ((p : Position) → f p ≡ g p) → AreCanonicalOf f spans
+    → AreCanonicalOf g spans
 canonical_so f g spans e h = record { canonical = h.canonical; same = λ p. h.same p ∙ e p }
 
-pub becomes_so : (version : PathVersion) (f g : Position → Option PathAnswer) (old new : Option (List ℕ)) (table : PathTable) → ((p : Position) → f p ≡ g p)
+pub becomes_so : (version : PathVersion) (f g : Position → Option PathAnswer) (old new : Option (List ℕ)) (table : PathTable)
+    → ((p : Position) → f p ≡ g p)
     → HasBecome version f old new table → HasBecome version g old new table
 becomes_so version f g old new Written e h =
     (h.0, h.1, record { spans = h.2.spans; canonical = canonical_so f g h.2.spans e h.2.canonical; table = h.2.table; plain = h.2.plain })

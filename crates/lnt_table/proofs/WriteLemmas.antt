@@ -19,5 +19,7 @@ all_told [] h = All-nil TellsAll
 all_told (span ∷ spans) h = All-cons TellsAll span spans h.0 (all_told spans h.1)
 
 pub told_in_version : (version : Version) (spans joined : List Span) → AreWhole spans → IsCanonical joined
-    → ((p : Position) → span_answer joined p ≡ version_answer version spans p) → All (λ (span : Span). IsOfVersion version span.answer) joined
-told_in_version version spans joined whole canonical same = answers_of_version version spans joined canonical.in_order same (all_told spans whole)
+    → ((p : Position) → span_answer joined p ≡ version_answer version spans p)
+    → All (λ (span : Span). IsOfVersion version span.answer) joined
+told_in_version version spans joined whole canonical same =
+    answers_of_version version spans joined canonical.in_order same (all_told spans whole)

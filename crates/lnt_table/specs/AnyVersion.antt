@@ -22,7 +22,8 @@ use Rattle.lnt_table.specs.Verdicts.{IsComparedWith, verdict_of}
 -- The bytes don't begin with the header of version 1 or 2. This is what their comparison with what the rows of the units
 -- answer tells, with the whole path of each file, as versions 3 and 4 tell answers; `Fault` of the header, where they begin
 -- with the header of neither of these.
-pub record IsComparedByPath (index : Indexed) (dead : Option ℕ) (skip : Bool) (units : List (ℕ × Parts)) (table : List ℕ) (compared : ComparedByPath) : Type 0 where
+pub record IsComparedByPath (index : Indexed) (dead : Option ℕ) (skip : Bool) (units : List (ℕ × Parts)) (table : List ℕ)
+    (compared : ComparedByPath) : Type 0 where
   pub unnumbered : (version : Version) → BeginsWith table (column_names version ∷ []) → ⊥
   pub comparison : IsPathComparison table (λ version. told_path version index dead skip units) compared
 

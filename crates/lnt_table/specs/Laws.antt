@@ -21,7 +21,8 @@ use Rattle.lnt_table.specs.Written.{IsTableOfLines, IsTableOfUnits}
 
 -- Of a good section, and a table that answers as it does, no verdict is true but Yes.
 abbrev pub OnlyYes : Type 0
-OnlyYes = (line general : List ℕ) (options : Options) (section table : List ℕ) (verdict : Verdict) → AnswersRight line general options section table
+OnlyYes = (line general : List ℕ) (options : Options) (section table : List ℕ) (verdict : Verdict)
+    → AnswersRight line general options section table
     → IsTrueVerdict line general options section table verdict → verdict ≡ Yes
 
 -- Of one section, table and choice of options at most one verdict is true.
@@ -32,12 +33,15 @@ pub record OneVerdict : Type 0 where
 -- Of a good section, and a table that was written of its lines, no verdict is true but Yes.
 abbrev pub OwnTable : Type 0
 OwnTable = (line general : List ℕ) (options : Options) (section table : List ℕ) (lines : Contents) (version : Version) (verdict : Verdict)
-    → AreLinesOf line general options section lines → IsTableOfLines version lines.spans table → IsTrueVerdict line general options section table verdict → verdict ≡ Yes
+    → AreLinesOf line general options section lines → IsTableOfLines version lines.spans table
+    → IsTrueVerdict line general options section table verdict → verdict ≡ Yes
 
 -- The same of a table that was written of its index.
 abbrev pub OwnTableOfUnits : Type 0
-OwnTableOfUnits = (line general : List ℕ) (options : Options) (section table : List ℕ) (units : List (ℕ × Parts)) (version : Version) (verdict : Verdict)
-    → IsGood line general options section units → IsTableOfUnits version options.dead options.skip_copies units table → IsTrueVerdict line general options section table verdict → verdict ≡ Yes
+OwnTableOfUnits =
+    (line general : List ℕ) (options : Options) (section table : List ℕ) (units : List (ℕ × Parts)) (version : Version) (verdict : Verdict)
+    → IsGood line general options section units → IsTableOfUnits version options.dead options.skip_copies units table
+    → IsTrueVerdict line general options section table verdict → verdict ≡ Yes
 
 -- ---- checks of a table of any version
 

@@ -16,13 +16,16 @@ use Rattle.lnt_table.specs.Headline.{told_answer}
 
 -- The bytes are a table, and the stretches at which it answers otherwise than the rows of the units, as far as its version
 -- tells, come one after another: no stretch is told yet.
-pub record DiffersFromUnits {S T : Type 0} (of_section : S → List Span → Type 0) (of_table : T → List Span → Type 0) (dead : Option ℕ) (skip : Bool) (units : List (ℕ × Parts)) (table : List ℕ) (differences : Differences S T) : Type 0 where
+pub record DiffersFromUnits {S T : Type 0} (of_section : S → List Span → Type 0) (of_table : T → List Span → Type 0) (dead : Option ℕ)
+    (skip : Bool) (units : List (ℕ × Parts)) (table : List ℕ) (differences : Differences S T) : Type 0 where
   pub version : Version
   pub spans : List Span
   pub is_table : IsTableOf version table spans
   pub told : HasTold of_section of_table differences (told_answer version dead skip units) (span_answer spans) []
 
 -- That, or the first fault of the bytes.
-abbrev pub IsDifferingFrom : {S : Type 0} → (Remaining S → List Span → Type 0) → (SpanList → List Span → Type 0) → Option ℕ → Bool → List (ℕ × Parts) → List ℕ → Differing S → Type 0
+abbrev pub IsDifferingFrom : {S : Type 0} → (Remaining S → List Span → Type 0) → (SpanList → List Span → Type 0) → Option ℕ → Bool
+    → List (ℕ × Parts) → List ℕ → Differing S → Type 0
 IsDifferingFrom of_section of_table dead skip units table (Fault told) = IsFault table told
-IsDifferingFrom of_section of_table dead skip units table (Table differences) = DiffersFromUnits of_section of_table dead skip units table differences
+IsDifferingFrom of_section of_table dead skip units table (Table differences) =
+    DiffersFromUnits of_section of_table dead skip units table differences

@@ -61,7 +61,8 @@ pub fn check<R: Source, T: Source>(
     ensures of_section { IfOk result (λ verdict. IfSome (R.remaining section.old) (λ bytes.
         IsTrueOfSection strings.now.line.now strings.now.general.now options.now bytes verdict)) }
     ensures unread { (no : SectionNo) → result ≡ Ok (Verdict.No (TableNo.Section no)) → table.new ≡ table.old }
-    ensures read { IsErrOf result Stop.Read → R.failures section.new + T.failures table.new ≡ R.failures section.old + T.failures table.old + 1 }
+    ensures read { IsErrOf result Stop.Read → R.failures section.new + T.failures table.new ≡ R.failures section.old + T.failures table.old
+        + 1 }
     ensures section_fine { result ≢ Err Stop.Read → R.failures section.new ≡ R.failures section.old }
     ensures table_fine { result ≢ Err Stop.Read → T.failures table.new ≡ T.failures table.old }
     ensures too_long { IsErrOf result Stop.TooLong → IsTooLong (R.too_long section.new) (R.remaining section.old) (R.left section.old)
@@ -82,7 +83,8 @@ fn compare_index<T: Source>(
     index: &Index<'_>,
 ) -> Result<Compared, Stop>
     requires { T.failures table.old < 2 ^ 64 - 1 }
-    ensures ok { IfOk result (λ compared. (dead : Option ℕ) (skip : Bool) (units : List (ℕ × Parts)) → IsIndexOf dead skip units index.now → IfSome (T.remaining table.old) (λ text. IsComparedWith dead skip units text compared)) }
+    ensures ok { IfOk result (λ compared. (dead : Option ℕ) (skip : Bool) (units : List (ℕ × Parts)) → IsIndexOf dead skip units index.now
+        → IfSome (T.remaining table.old) (λ text. IsComparedWith dead skip units text compared)) }
     ensures read { IsErrOf result Stop.Read → T.failures table.new ≡ T.failures table.old + 1 }
     ensures no_failure { result ≢ Err Stop.Read → T.failures table.new ≡ T.failures table.old }
     ensures too_long { IsErrOf result Stop.TooLong → IsTooLong (T.too_long table.new) (T.remaining table.old) (T.left table.old) }

@@ -1,8 +1,10 @@
 //! A line number section of DWARF 5 checked against an address table, and the table of a section written.
 //!
 //! [`check`] answers whether a table says of every address and operation index what the section says, and what is wrong
-//! where it doesn't, and [`differences`] gives all places where it doesn't. [`write_table`] writes the one shortest table of a section's lines, and
-//! [`write_index`] that of an index, whose spans come one by one; [`write_paths`] writes the table by path of an index. The records of a table are
+//! where it doesn't, and [`differences`] gives all places where it doesn't. [`write_table`] writes the one shortest table of a
+//! section's lines, and
+//! [`write_index`] that of an index, whose spans come one by one; [`write_paths`] writes the table by path of an index. The
+//! records of a table are
 //! those of `lnt_records`.
 #![tactic(auto)]
 

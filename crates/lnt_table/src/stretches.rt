@@ -28,9 +28,11 @@ pub fn differences<'i, T: Source>(
     index: &'i Index<'_>,
 ) -> Result<Differing<Spans<'i>>, Stop>
     requires { T.failures table.old < 2 ^ 64 - 1 }
-    ensures ok { IfOk result (λ differing. (dead : Option ℕ) (skip : Bool) (units : List (ℕ × Parts)) → IsIndexOf dead skip units index.entry.now → IfSome (T.remaining table.old) (λ text.
+    ensures ok { IfOk result (λ differing. (dead : Option ℕ) (skip : Bool) (units : List (ℕ × Parts))
+        → IsIndexOf dead skip units index.entry.now → IfSome (T.remaining table.old) (λ text.
         IsDifferingFrom ⟦<Remaining<Spans<'i>> as SpanSource>⟧.to_come ⟦<SpanList as SpanSource>⟧.to_come dead skip units text differing)) }
-    ensures started { IfOk result (λ differing. IsStarted ⟦<Remaining<Spans<'i>> as SpanSource>⟧.to_come ⟦<SpanList as SpanSource>⟧.to_come differing) }
+    ensures started { IfOk result (λ differing. IsStarted ⟦<Remaining<Spans<'i>> as SpanSource>⟧.to_come ⟦<SpanList as SpanSource>⟧.to_come
+        differing) }
     ensures read { IsErrOf result Stop.Read → T.failures table.new ≡ T.failures table.old + 1 }
     ensures no_failure { result ≢ Err Stop.Read → T.failures table.new ≡ T.failures table.old }
     ensures too_long { IsErrOf result Stop.TooLong → IsTooLong (T.too_long table.new) (T.remaining table.old) (T.left table.old) }

@@ -26,7 +26,8 @@ pub fn write_table<W: Write>(
     version: Version,
     out: &mut W,
 ) -> Result<(), WriteStop>
-    ensures { OnOk result ((bytes : List ℕ) × Appends (W.contents out.old) (W.contents out.new) bytes × IsTableOfLines version lines.now.spans bytes) }
+    ensures { OnOk result ((bytes : List ℕ) × Appends (W.contents out.old) (W.contents out.new) bytes
+        × IsTableOfLines version lines.now.spans bytes) }
 {
     let Ok(spans) = lines.canonical(alloc, version) else {
         return Err(WriteStop::Memory);
@@ -47,7 +48,8 @@ pub fn write_index<W: Write>(
     out: &mut W,
 ) -> Result<(), WriteStop>
     ensures { OnOk result ((bytes : List ℕ) × Appends (W.contents out.old) (W.contents out.new) bytes
-        × ((dead : Option ℕ) (skip : Bool) (units : List (ℕ × Parts)) → IsIndexOf dead skip units index.now → IsTableOfUnits version dead skip units bytes)) }
+        × ((dead : Option ℕ) (skip : Bool) (units : List (ℕ × Parts)) → IsIndexOf dead skip units index.now
+        → IsTableOfUnits version dead skip units bytes)) }
 {
     write_canonical(alloc, index.spans(), version, out)
 }

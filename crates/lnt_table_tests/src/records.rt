@@ -14,7 +14,11 @@ use std::alloc::Global;
 // The spans of a unit with two rows, with these answers.
 fn plain(first: Answer, second: Answer) -> [Span; 2]
     ensures order { AreInOrder result }
-    ensures spans { result ≡ record { low = record { address = 0x1000; op = 0 }; high = record { address = 0x1004; op = 0 }; answer = first }
+    ensures spans { result ≡ record {
+      low = record { address = 0x1000; op = 0 };
+      high = record { address = 0x1004; op = 0 };
+      answer = first;
+    }
         ∷ record { low = record { address = 0x1004; op = 0 }; high = record { address = 0x1006; op = 0 }; answer = second } ∷ [] }
 {
     [

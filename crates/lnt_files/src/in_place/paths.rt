@@ -45,7 +45,8 @@ pub fn path_of(
     file: u64,
 ) -> Result<Option<Vec<u8>>, AllocError>
     requires { AreUsableTables strings.line.now strings.general.now header.now }
-    ensures path { IfOk result (λ path. option_map (λ path. path.items) path ≡ path_bytes strings.entry.line.now strings.entry.general.now header.now file) }
+    ensures path { IfOk result (λ path. option_map (λ path. path.items) path
+        ≡ path_bytes strings.entry.line.now strings.entry.general.now header.now file) }
     ensures there { IfOk result (λ path. IsSome path ↔ (file < length header.now.files)) }
 {
     let Some(entry) = entry_at(header.files(), file) else {
@@ -107,7 +108,8 @@ fn directory_pieces<'s>(
     strings: Strings<'s>,
     number: u64,
 ) -> Option<(&'s [u8], &'s [u8])>
-    ensures { option_map (λ pieces. join pieces.0.now pieces.1.now) result ≡ directory_path strings.entry.line.now strings.entry.general.now header.entry.now number }
+    ensures { option_map (λ pieces. join pieces.0.now pieces.1.now) result
+        ≡ directory_path strings.entry.line.now strings.entry.general.now header.entry.now number }
 {
     let directory = directory_text(header, strings, number)?;
     if number == 0 || begins_with_slash(directory) {
@@ -124,7 +126,8 @@ fn directory_text<'s>(
     strings: Strings<'s>,
     number: u64,
 ) -> Option<&'s [u8]>
-    ensures { option_map (λ text. text.now) result ≡ directory_text strings.entry.line.now strings.entry.general.now header.entry.now number }
+    ensures { option_map (λ text. text.now) result ≡ directory_text strings.entry.line.now strings.entry.general.now header.entry.now
+        number }
 {
     entry_at(header.directories(), number)?.path_text(strings)
 }

@@ -1,12 +1,14 @@
 -- What lies after the first of several spellings, and that so many are there. These are proofs: nothing here is to be believed.
-use Rattle.std.proofs.Common.{◌≡◌, ℕ, zero, suc, ◌+◌, ◌<◌, ◌≤◌, List, [], ◌∷◌, ◌++◌, length, take, drop, refl, sym, ap, subst, ◌∙◌, append_assoc, drop-drop, length-drop, length-take-le, arith}
+use Rattle.std.proofs.Common.{◌≡◌, ℕ, zero, suc, ◌+◌, ◌<◌, ◌≤◌, List, [], ◌∷◌, ◌++◌, length, take, drop, refl, sym, ap, subst, ◌∙◌}
+use Rattle.std.proofs.Common.{append_assoc, drop-drop, length-drop, length-take-le, arith}
 use Rattle.std.proofs.lemmas.List.{append-nil}
 use Rattle.lnt_wire.specs.Bytes.{IsCode, NoneSpelled}
 use Rattle.lnt_wire.proofs.CodeLaws.{peel}
 use Rattle.lnt_header.specs.Joins.{Each, Several}
 
 -- after spellings of as many values lie the others
-pub others_behind : {X : Type 0} (P : X → List ℕ → Type 0) → IsCode P → (us vs : List X) (x rest bytes : List ℕ) → length us ≤ length vs → Each P us x → Each P vs bytes → bytes ≡ x ++ rest
+pub others_behind : {X : Type 0} (P : X → List ℕ → Type 0) → IsCode P → (us vs : List X) (x rest bytes : List ℕ) → length us ≤ length vs
+    → Each P us x → Each P vs bytes → bytes ≡ x ++ rest
     → Each P (drop (length us) vs) rest
 others_behind P code [] vs x rest bytes le p q e = subst (Each P vs) (e ∙ ap (λ (z : List ℕ). z ++ rest) p) q
 others_behind P code (u ∷ us) [] x rest bytes le p q e = absurd (omega arith)
@@ -34,18 +36,22 @@ front_of P (suc n) (v ∷ vs) bytes q =
     }
 
 -- so many are there
-pub several_there : {X : Type 0} (P : X → List ℕ → Type 0) (n : ℕ) (vs : List X) (bytes : List ℕ) → n ≤ length vs → Each P vs bytes → NoneSpelled (Several n P) bytes → ⊥
+pub several_there : {X : Type 0} (P : X → List ℕ → Type 0) (n : ℕ) (vs : List X) (bytes : List ℕ) → n ≤ length vs → Each P vs bytes
+    → NoneSpelled (Several n P) bytes → ⊥
 several_there P n vs bytes le q none =
     let r = front_of P n vs bytes q in
     none (take n vs) r.front r.back (length-take-le n vs le, r.spelled) (sym r.joined)
 
 -- the same of one value after some others
-pub one_behind : {X : Type 0} (P : X → List ℕ → Type 0) → IsCode P → (vs : List X) (n : ℕ) (u : X) (x rest bytes : List ℕ) → n < length vs → P u x → Each P (drop n vs) bytes → bytes ≡ x ++ rest → Each P (drop (n + 1) vs) rest
+pub one_behind : {X : Type 0} (P : X → List ℕ → Type 0) → IsCode P → (vs : List X) (n : ℕ) (u : X) (x rest bytes : List ℕ) → n < length vs
+    → P u x → Each P (drop n vs) bytes → bytes ≡ x ++ rest → Each P (drop (n + 1) vs) rest
 one_behind {X = X} P code vs n u x rest bytes lt p q e =
     let one : Each P (u ∷ []) x = record { front = x; back = []; first = p; second = refl; joined = sym (append-nil x) } in
-    subst (λ (ws : List X). Each P ws rest) (drop-drop 1 n vs) (others_behind P code (u ∷ []) (drop n vs) x rest bytes (omega (arith, length-drop n vs)) one q e)
+    subst (λ (ws : List X). Each P ws rest) (drop-drop 1 n vs)
+    (others_behind P code (u ∷ []) (drop n vs) x rest bytes (omega (arith, length-drop n vs)) one q e)
 
-pub one_there : {X : Type 0} (P : X → List ℕ → Type 0) (vs : List X) (n : ℕ) (bytes : List ℕ) → n < length vs → Each P (drop n vs) bytes → NoneSpelled P bytes → ⊥
+pub one_there : {X : Type 0} (P : X → List ℕ → Type 0) (vs : List X) (n : ℕ) (bytes : List ℕ) → n < length vs → Each P (drop n vs) bytes
+    → NoneSpelled P bytes → ⊥
 one_there {X = X} P vs n bytes lt q none = of_some (drop n vs) (omega (arith, length-drop n vs)) q
   where
     of_some : (ws : List X) → 0 < length ws → Each P ws bytes → ⊥

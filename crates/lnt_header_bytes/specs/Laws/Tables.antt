@@ -24,7 +24,8 @@ same_pair a b x y r s p q e =
     let content = peel unsigned_code a.content b.content x y r s p q e in
     let code = unsigned_code.one (form_code a.form) (form_code b.form) p.back q.back r s p.second q.second content.behind in
     let form : a.form ≡ b.form = same_code a.form b.form code.0 in
-    let both : pair_of a.content a.form ≡ pair_of b.content b.form = ap (λ (c : ℕ). pair_of c a.form) content.value ∙ ap (pair_of b.content) form in
+    let both : pair_of a.content a.form ≡ pair_of b.content b.form =
+    ap (λ (c : ℕ). pair_of c a.form) content.value ∙ ap (pair_of b.content) form in
     (both, same_join x y p q content.bytes code.1)
 
 pub pair_code : IsCode PairBytes
@@ -62,18 +63,21 @@ pub record SameTable (pairs pairs' : List Pair) (entries entries' : List Entry) 
   pub behind : r ≡ s
 
 pub same_table : (format : Format) (order : Order) (pairs pairs' : List Pair) (entries entries' : List Entry) (x y r s : List ℕ)
-    → TableBytes format order pairs entries x → TableBytes format order pairs' entries' y → x ++ r ≡ y ++ s → SameTable pairs pairs' entries entries' x y r s
+    → TableBytes format order pairs entries x → TableBytes format order pairs' entries' y → x ++ r ≡ y ++ s
+    → SameTable pairs pairs' entries entries' x y r s
 same_table format order pairs pairs' entries entries' x y r s p q e =
     let p1 = p.spelled in
     let q1 = q.spelled in
     let count = peel byte_code (length pairs) (length pairs') x y r s p1 q1 e in
     let p2 = p1.second in
     let q2 = q1.second in
-    let kinds = peel_by pairs pairs' p1.back q1.back r s (λ a b c d. same_each pair_code pairs pairs' a b c d count.value) p2 q2 count.behind in
+    let kinds =
+    peel_by pairs pairs' p1.back q1.back r s (λ a b c d. same_each pair_code pairs pairs' a b c d count.value) p2 q2 count.behind in
     let p3 = p2.second in
     let q3 = q2.second in
     let number = peel unsigned_code (length entries) (length entries') p2.back q2.back r s p3 q3 kinds.behind in
-    let spelled : Each (EntryBytes format order pairs) entries' q3.back = subst (λ (ps : List Pair). Each (EntryBytes format order ps) entries' q3.back) (sym kinds.value) q3.second in
+    let spelled : Each (EntryBytes format order pairs) entries' q3.back =
+    subst (λ (ps : List Pair). Each (EntryBytes format order ps) entries' q3.back) (sym kinds.value) q3.second in
     let all = same_each (entry_code format order pairs) entries entries' p3.back q3.back r s number.value p3.second spelled number.behind in
     let back2 : p2.back ≡ q2.back = same_join p2.back q2.back p3 q3 number.bytes all.1 in
     let back1 : p1.back ≡ q1.back = same_join p1.back q1.back p2 q2 kinds.bytes back2 in

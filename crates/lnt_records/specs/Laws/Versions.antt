@@ -28,11 +28,13 @@ answer_of : (version : Version) (spans : List Span) (p : Position) → All (HasV
 answer_of version [] p h = tt
 answer_of version (span ∷ spans) p h = by (is_in_span p span) (answer_of version spans p (All-tail (HasVersion version) span spans h))
   where
-    by : (test : Bool) → IsAnswer version (span_answer spans p) → IsAnswer version (option_map (λ (s : Span). s.answer) (cond test (Some span) (find (is_in_span p) spans)))
+    by : (test : Bool) → IsAnswer version (span_answer spans p)
+        → IsAnswer version (option_map (λ (s : Span). s.answer) (cond test (Some span) (find (is_in_span p) spans)))
     by true rest = All-head (HasVersion version) span spans h
     by false rest = rest
 
-narrowed_has : (version : Version) (answer : Option Answer) → IsAnswer Two answer → IsAnswer version (option_map (in_version version) answer)
+narrowed_has : (version : Version) (answer : Option Answer) → IsAnswer Two answer
+    → IsAnswer version (option_map (in_version version) answer)
 narrowed_has version None h = tt
 narrowed_has One (Some answer) h = refl
 narrowed_has Two (Some answer) h = h
@@ -47,16 +49,20 @@ each_has : (version : Version) (span : Span) (spans : List Span) (answers : Posi
     → ((p : Position) → IsAnswer version (answers p)) → ((p : Position) → IsAtMost span.low p → span_answer (span ∷ spans) p ≡ answers p)
     → All (HasVersion version) (span ∷ spans)
 each_has version span [] answers o h same =
-    All-cons (HasVersion version) span [] (first_has version span [] answers o h (same span.low (at_most_itself span.low))) (All-nil (HasVersion version))
+    All-cons (HasVersion version) span [] (first_has version span [] answers o h (same span.low (at_most_itself span.low)))
+    (All-nil (HasVersion version))
 each_has version span (next ∷ spans) answers o h same =
-    All-cons (HasVersion version) span (next ∷ spans) (first_has version span (next ∷ spans) answers o h (same span.low (at_most_itself span.low)))
+    All-cons (HasVersion version) span (next ∷ spans)
+    (first_has version span (next ∷ spans) answers o h (same span.low (at_most_itself span.low)))
     (each_has version next spans answers o.2 h
     (λ p k.
     let behind = at_most_trans o.1 k in
     sym (answer_behind span (next ∷ spans) p behind) ∙ same p (at_most_trans (below_is_at_most o.0) behind)))
 
-pub answers_of_version : (version : Version) (spans joined : List Span) → AreInOrder joined → ((p : Position) → span_answer joined p ≡ version_answer version spans p)
+pub answers_of_version : (version : Version) (spans joined : List Span) → AreInOrder joined
+    → ((p : Position) → span_answer joined p ≡ version_answer version spans p)
     → All (λ (s : Span). IsOfVersion Two s.answer) spans → All (λ (s : Span). IsOfVersion version s.answer) joined
 answers_of_version version spans [] o same h = All-nil (HasVersion version)
 answers_of_version version spans (span ∷ joined) o same h =
-    each_has version span joined (version_answer version spans) o (λ p. narrowed_has version (span_answer spans p) (answer_of Two spans p h)) (λ p k. same p)
+    each_has version span joined (version_answer version spans) o
+    (λ p. narrowed_has version (span_answer spans p) (answer_of Two spans p h)) (λ p k. same p)

@@ -7,7 +7,8 @@ returns-in_default-clause-lines g c f f' h = ([], c.in_default.ensures.told f f'
 
 pub loop-difference-init : goal.loop-difference-init
 loop-difference-init g c f f' h =
-    printed_first g.S.SpanSource.to_come g.T.SpanSource.to_come c.next_difference.new.self f f' (g.W.Write.contents c.args.out.now) _ c.in-Some.first (c.in-Some.ensures.told f f' [] h) (search rules)
+    printed_first g.S.SpanSource.to_come g.T.SpanSource.to_come c.next_difference.new.self f f' (g.W.Write.contents c.args.out.now) _
+    c.in-Some.first (c.in-Some.ensures.told f f' [] h) (search rules)
 
 pub next_difference-requires-in-loop-difference : goal.next_difference-requires-in-loop-difference
 next_difference-requires-in-loop-difference g c =
@@ -18,11 +19,16 @@ next_difference-requires-in-loop-difference g c =
 pub loop-difference-preserved : goal.loop-difference-preserved
 loop-difference-preserved g c f f' h =
     let printed = c.loop-difference.invariant f f' h in
-    printed_more g.S.SpanSource.to_come g.T.SpanSource.to_come c.loop-difference.differences c.next_difference-in-loop-difference.new.self f f' (g.W.Write.contents c.args.out.now) (g.W.Write.contents c.loop-difference.out)
+    printed_more g.S.SpanSource.to_come g.T.SpanSource.to_come c.loop-difference.differences c.next_difference-in-loop-difference.new.self f
+    f' (g.W.Write.contents c.args.out.now) (g.W.Write.contents c.loop-difference.out)
     (g.W.Write.contents c.writeln-in-Some-next_difference.new.self) c.in-Some-next_difference.difference printed
     (c.in-Some-next_difference.ensures.told f f' (printed.first ∷ printed.more) printed.told) (search rules)
 
 pub returns-clause-lines : goal.returns-clause-lines
 returns-clause-lines g c f f' h =
-    let printed = c.loop-difference.invariant f f' h in
-    (printed.first ∷ printed.more, c.in_default-next_difference.ensures.told f f' (printed.first ∷ printed.more) printed.told, printed.text, refl)
+    let printed = c.loop-difference.invariant f f' h in (
+      printed.first ∷ printed.more,
+      c.in_default-next_difference.ensures.told f f' (printed.first ∷ printed.more) printed.told,
+      printed.text,
+      refl,
+    )

@@ -6,9 +6,11 @@ use Rattle.lnt_answers.proofs.DifferenceLemmas.{HasPrinted}
 use Rattle.lnt_answers.proofs.differences.print_differences.Given as goal
 
 abbrev pub invariant-loop-difference : goal.invariant-loop-difference
-invariant-loop-difference g l = (f f' : Position → Option Answer) → HasTold g.S.SpanSource.to_come g.T.SpanSource.to_come l.fn.differences f f' []
+invariant-loop-difference g l =
+    (f f' : Position → Option Answer) → HasTold g.S.SpanSource.to_come g.T.SpanSource.to_come l.fn.differences f f' []
     → HasPrinted g.S.SpanSource.to_come g.T.SpanSource.to_come l.differences f f' (g.W.Write.contents l.fn.out) (g.W.Write.contents l.out)
 
 abbrev pub decreases-loop-difference : goal.decreases-loop-difference
 decreases-loop-difference g l =
-    runs_left l.differences.at l.differences.section.next (g.S.SpanSource.left l.differences.section.spans) + runs_left l.differences.at l.differences.table.next (g.T.SpanSource.left l.differences.table.spans)
+    runs_left l.differences.at l.differences.section.next (g.S.SpanSource.left l.differences.section.spans)
+    + runs_left l.differences.at l.differences.table.next (g.T.SpanSource.left l.differences.table.spans)

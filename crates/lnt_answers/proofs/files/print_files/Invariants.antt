@@ -5,4 +5,5 @@ use Rattle.lnt_answers.specs.FileLines.{unit_records}
 use Rattle.lnt_answers.proofs.files.print_files.Given as goal
 
 abbrev pub invariant-loop-unit : goal.invariant-loop-unit
-invariant-loop-unit g l = Appends (g.W.Write.contents l.fn.out) (g.W.Write.contents l.out) (codes "unit,file,path,md5\n" ++ flat_map (unit_records l.index) (take l.unit-index l.index.units))
+invariant-loop-unit g l = Appends (g.W.Write.contents l.fn.out) (g.W.Write.contents l.out)
+    (codes "unit,file,path,md5\n" ++ flat_map (unit_records l.index) (take l.unit-index l.index.units))

@@ -4,6 +4,7 @@ use Rattle.lnt_answers.specs.Lines.{lookup_line}
 use Rattle.lnt_answers.proofs.lookup.print_lookups.Goals as goal
 
 pub loop-position-preserved : goal.loop-position-preserved
-loop-position-preserved g c dead skip units is = gained_more (lookup_line c.args.index.now dead skip units) [] c.args.positions.now c.loop-position.position-index _
+loop-position-preserved g c dead skip units is =
+    gained_more (lookup_line c.args.index.now dead skip units) [] c.args.positions.now c.loop-position.position-index _
     (g.W.Write.contents c.args.out.now) (g.W.Write.contents c.loop-position.out) (g.W.Write.contents c.print_lookup.new.out)
     c.loop-position-test.true (c.loop-position.invariant dead skip units is) (c.in_ok-print_lookup.ensures.line dead skip units is)

@@ -8,4 +8,5 @@ use Rattle.lnt_answers.proofs.lookup.print_lookups.Given as goal
 
 abbrev pub invariant-loop-position : goal.invariant-loop-position
 invariant-loop-position g l = (dead : Option ℕ) (skip : Bool) (units : List (ℕ × Parts)) → IsIndexOf dead skip units l.index
-    → Appends (g.W.Write.contents l.fn.out) (g.W.Write.contents l.out) ([] ++ flat_map (lookup_line l.index dead skip units) (take l.position-index l.positions))
+    → Appends (g.W.Write.contents l.fn.out) (g.W.Write.contents l.out)
+    ([] ++ flat_map (lookup_line l.index dead skip units) (take l.position-index l.positions))

@@ -4,7 +4,8 @@ use Rattle.lnt_dump.proofs.header.print_entry.Goals as goal
 
 pub unreachable-requires : goal.unreachable-requires
 unreachable-requires g c = c.requires
-    (none_there c.args.format c.args.pairs.now c.loop-pair.pair-index _ c.args.cursor.now c.loop-pair.cursor c.loop-pair-test.true c.loop-pair.invariant c.in_default.ensures.err.none)
+    (none_there c.args.format c.args.pairs.now c.loop-pair.pair-index _ c.args.cursor.now c.loop-pair.cursor c.loop-pair-test.true
+    c.loop-pair.invariant c.in_default.ensures.err.none)
 
 pub returns : goal.returns
 returns g c = read_all c.args.format c.args.pairs.now _ c.args.cursor.now c.loop-pair.cursor (omega arith) c.loop-pair.invariant

@@ -9,8 +9,10 @@ pub returns-in_err-value-clause-err : goal.returns-in_err-value-clause-err
 returns-in_err-value-clause-err c =
     let p = err_from_is_err_and c.from_residual.result c.from_residual.ensures.1 in
     let rest : NoneSpelled (EntryBytes c.args.format c.args.cursor.now.order c.args.pairs.now) c.args.cursor.now.rest =
-    none_there c.args.format c.args.pairs.now c.args.places c.loop-place.place _ c.loop-place.entry c.args.cursor.now c.loop-place.cursor c.loop-place-test.true c.loop-place.invariant c.in_err-value.ensures.err.none in
+    none_there c.args.format c.args.pairs.now c.args.places c.loop-place.place _ c.loop-place.entry c.args.cursor.now c.loop-place.cursor
+    c.loop-place-test.true c.loop-place.invariant c.in_err-value.ensures.err.none in
     rw p.1 rest
 
 pub returns-clause-ok : goal.returns-clause-ok
-returns-clause-ok c = all_read c.args.format c.args.pairs.now c.args.places _ c.loop-place.entry c.args.cursor.now c.loop-place.cursor c.requires (omega arith) c.loop-place.invariant
+returns-clause-ok c = all_read c.args.format c.args.pairs.now c.args.places _ c.loop-place.entry c.args.cursor.now c.loop-place.cursor
+    c.requires (omega arith) c.loop-place.invariant

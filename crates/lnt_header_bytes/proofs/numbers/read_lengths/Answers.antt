@@ -26,4 +26,5 @@ returns-in-Err-clause-err c =
     λ lt.
     let whole = c.known_end-known.ensures.whole (omega (arith, low, lt, c.loop-opcode-test.false)) in
     omega (arith, low, whole, c.loop-opcode-test.false, c.loop-opcode.auto.opcode-end) in
-    cut_lengths c.args.opcode_base i c.args.cursor.now _ c.requires c.in-Err.ensures.err.reason.short agrees all (omega (arith, c.place-place.ensures.value, ap length same)) refl
+    cut_lengths c.args.opcode_base i c.args.cursor.now _ c.requires c.in-Err.ensures.err.reason.short agrees all
+    (omega (arith, c.place-place.ensures.value, ap length same)) refl

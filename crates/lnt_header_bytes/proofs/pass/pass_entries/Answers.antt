@@ -12,6 +12,8 @@ returns-in_err-pass_entry-clause-err c =
     let pairs = c.args.pairs.now in
     let old = c.args.cursor.now in
     let fault = c.in_err-pass_entry.field-0.0 in
-    let rest : Refuses (IsEntriesFault c.args.format old.order pairs c.args.count) (Several c.args.count (EntryBytes c.args.format old.order pairs)) old fault =
-    refuses_passed c.args.format pairs c.args.count c.loop.counter old c.loop.cursor fault c.loop.invariant c.loop-test.true c.in_err-pass_entry.ensures.err in
+    let rest : Refuses (IsEntriesFault c.args.format old.order pairs c.args.count)
+    (Several c.args.count (EntryBytes c.args.format old.order pairs)) old fault =
+    refuses_passed c.args.format pairs c.args.count c.loop.counter old c.loop.cursor fault c.loop.invariant c.loop-test.true
+    c.in_err-pass_entry.ensures.err in
     rw (p.1, p.2) rest

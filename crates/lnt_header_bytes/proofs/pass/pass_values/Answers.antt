@@ -10,6 +10,8 @@ returns-in_err-value-clause-err c =
     let p = err_from_is_err_and c.from_residual.result c.from_residual.ensures.1 in
     let pairs = c.args.pairs.now in
     let old = c.args.cursor.now in
-    let rest : Refuses (IsEntryFault c.args.format old.order pairs) (EntryBytes c.args.format old.order pairs) old c.in_err-value.field-0.0 =
-    refuses_value_passed c.args.format pairs c.loop-pair.pair-index _ old c.loop-pair.cursor c.in_err-value.field-0.0 c.loop-pair-test.true c.loop-pair.invariant c.in_err-value.ensures.err in
+    let rest : Refuses (IsEntryFault c.args.format old.order pairs) (EntryBytes c.args.format old.order pairs) old
+    c.in_err-value.field-0.0 =
+    refuses_value_passed c.args.format pairs c.loop-pair.pair-index _ old c.loop-pair.cursor c.in_err-value.field-0.0 c.loop-pair-test.true
+    c.loop-pair.invariant c.in_err-value.ensures.err in
     rw (p.1, p.2) rest

@@ -9,7 +9,10 @@ pub returns-clause-ok : goal.returns-clause-ok
 returns-clause-ok c =
     let middle = c.uleb.new.self in
     let size = c.in_ok-size.size in
-    let passed : PassesAll size (EntryBytes c.args.format middle.order c.in_ok-pairs.pairs.items) c.in_ok-bytes.bytes.now middle c.pass_entries.new.cursor =
-    subst (λ (ps : List Pair). PassesAll size (EntryBytes c.args.format middle.order ps) c.in_ok-bytes.bytes.now middle c.pass_entries.new.cursor) c.deref.ensures.value c.in_ok-bytes.ensures.ok in
-    table_read c.args.format c.in_ok-count.count size _ c.args.cursor.now c.u8.new.self c.read_pairs.new.cursor middle c.pass_entries.new.cursor
+    let passed : PassesAll size (EntryBytes c.args.format middle.order c.in_ok-pairs.pairs.items) c.in_ok-bytes.bytes.now middle
+    c.pass_entries.new.cursor =
+    subst (λ (ps : List Pair). PassesAll size (EntryBytes c.args.format middle.order ps) c.in_ok-bytes.bytes.now middle
+    c.pass_entries.new.cursor) c.deref.ensures.value c.in_ok-bytes.ensures.ok in
+    table_read c.args.format c.in_ok-count.count size _ c.args.cursor.now c.u8.new.self c.read_pairs.new.cursor middle
+    c.pass_entries.new.cursor
     c.in_ok-count.ensures.ok c.in_ok-pairs.ensures.ok c.in_ok-size.ensures.ok (λ none. search rules) refl passed

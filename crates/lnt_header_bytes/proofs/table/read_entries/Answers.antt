@@ -12,12 +12,15 @@ pub returns-in_err-read_entry-clause-err : goal.returns-in_err-read_entry-clause
 returns-in_err-read_entry-clause-err c =
     let p = err_from_is_err_and c.from_residual.result c.from_residual.ensures.1 in
     let fault = c.in_err-read_entry.field-0.0 in
-    let rest : RefusesOr (IsEntriesFault c.args.format c.args.cursor.now.order c.args.pairs.now c.args.count) (Several c.args.count (EntryBytes c.args.format c.args.cursor.now.order c.args.pairs.now)) c.args.cursor.now fault =
+    let rest : RefusesOr (IsEntriesFault c.args.format c.args.cursor.now.order c.args.pairs.now c.args.count)
+    (Several c.args.count (EntryBytes c.args.format c.args.cursor.now.order c.args.pairs.now)) c.args.cursor.now fault =
     λ some.
-    refuses_entries c.args.format c.args.pairs.now c.args.count c.loop.entries.items c.args.cursor.now c.loop.cursor fault c.loop.invariant.1 (omega (arith, c.loop.invariant.0, c.loop-test.true)) (c.in_err-read_entry.ensures.err some) in
+    refuses_entries c.args.format c.args.pairs.now c.args.count c.loop.entries.items c.args.cursor.now c.loop.cursor fault
+    c.loop.invariant.1 (omega (arith, c.loop.invariant.0, c.loop-test.true)) (c.in_err-read_entry.ensures.err some) in
     rw (p.1, p.2) rest
 
 pub loop-preserved : goal.loop-preserved
 loop-preserved c =
-    let more = one_more_entry c.args.format c.args.pairs.now c.loop.entries.items c.read_entry.new.entries.items c.args.cursor.now c.loop.cursor c.read_entry.new.cursor c.loop.invariant.1 c.in_ok-read_entry.ensures.ok in
+    let more = one_more_entry c.args.format c.args.pairs.now c.loop.entries.items c.read_entry.new.entries.items c.args.cursor.now
+    c.loop.cursor c.read_entry.new.cursor c.loop.invariant.1 c.in_ok-read_entry.ensures.ok in
     (omega (arith, more.0, c.loop.invariant.0), more.1)

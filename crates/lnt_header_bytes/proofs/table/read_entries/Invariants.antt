@@ -5,4 +5,5 @@ use Rattle.lnt_header_bytes.specs.TableBytes.{EntryBytes}
 use Rattle.lnt_header_bytes.proofs.table.read_entries.Given as goal
 
 abbrev pub invariant-loop : goal.invariant-loop
-invariant-loop l = (length l.entries.items ≡ l.counter) × Reads (Each (EntryBytes l.fn.format l.fn.cursor.order l.fn.pairs)) l.entries.items l.fn.cursor l.cursor
+invariant-loop l = (length l.entries.items ≡ l.counter)
+    × Reads (Each (EntryBytes l.fn.format l.fn.cursor.order l.fn.pairs)) l.entries.items l.fn.cursor l.cursor

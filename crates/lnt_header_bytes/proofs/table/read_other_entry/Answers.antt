@@ -10,6 +10,7 @@ returns-in_err-values-clause-err c =
     let p = err_from_is_err_and c.from_residual.result c.from_residual.ensures.1 in
     let old = c.args.cursor.now in
     let fault = c.in_err-values.field-0.0 in
-    let rest : RefusesOr (IsEntryFault c.args.format old.order c.args.pairs.now) (EntryBytes c.args.format old.order c.args.pairs.now) old fault =
+    let rest : RefusesOr (IsEntryFault c.args.format old.order c.args.pairs.now) (EntryBytes c.args.format old.order c.args.pairs.now) old
+    fault =
     λ some. entry_refused c.args.format c.args.pairs.now old fault (c.in_err-values.ensures.err some) in
     rw (p.1, p.2) rest

@@ -22,13 +22,16 @@ of-requires-clause-whole c =
     subst AreWhole (sym (c.in-Ok.ensures all.spans all.to_come)) all.whole
 
 pub of-requires-clause-rising : goal.of-requires-clause-rising
-of-requires-clause-rising c = subst AreRising (sym (c.in-Ok-from_slice.ensures.items ∙ c.units.ensures)) c.spans.ensures.is_index.index_is.rising
+of-requires-clause-rising c =
+    subst AreRising (sym (c.in-Ok-from_slice.ensures.items ∙ c.units.ensures)) c.spans.ensures.is_index.index_is.rising
 
 pub of-requires-clause-each : goal.of-requires-clause-each
 of-requires-clause-each c =
     let known = c.spans.ensures.is_index in
-    let files = files_zip c.args.index.now.line c.args.index.now.general known.units c.args.index.now.programs c.in-Ok-files.files.items known.index_is.programs c.in-Ok-files.ensures in
-    ap length (c.in-Ok-from_slice.ensures.items ∙ c.units.ensures ∙ known.index_is.offsets) ∙ same_number c.args.index.now.line c.args.index.now.general known.units c.in-Ok-files.files.items files
+    let files = files_zip c.args.index.now.line c.args.index.now.general known.units c.args.index.now.programs c.in-Ok-files.files.items
+    known.index_is.programs c.in-Ok-files.ensures in
+    ap length (c.in-Ok-from_slice.ensures.items ∙ c.units.ensures ∙ known.index_is.offsets)
+    ∙ same_number c.args.index.now.line c.args.index.now.general known.units c.in-Ok-files.files.items files
 
 pub returns-clause-lines : goal.returns-clause-lines
 returns-clause-lines c dead skip units is =
@@ -39,5 +42,6 @@ returns-clause-lines c dead skip units is =
       in_order = subst AreInOrder (sym spans) all.in_order;
       answers = subst (λ (list : List Span). (p : Position) → span_answer list p ≡ line_answer dead skip units p) (sym spans) all.answers;
       units_are = c.in-Ok-from_slice.ensures.items ∙ c.units.ensures ∙ is.offsets;
-      files_are = files_zip c.args.index.now.line c.args.index.now.general units c.args.index.now.programs c.in-Ok-files.files.items is.programs c.in-Ok-files.ensures;
+      files_are = files_zip c.args.index.now.line c.args.index.now.general units c.args.index.now.programs c.in-Ok-files.files.items
+          is.programs c.in-Ok-files.ensures;
     })

@@ -10,11 +10,13 @@ pub loop-program-preserved : goal.loop-program-preserved
 loop-program-preserved c =
     let programs = c.args.programs.now in
     let i = c.loop-program.program-index in
-    let R : Kept → List KeptFile → Type 0 = λ kept files. AreFilesOf c.args.strings.now.line.now c.args.strings.now.general.now kept.header files in
+    let R : Kept → List KeptFile → Type 0 =
+    λ kept files. AreFilesOf c.args.strings.now.line.now c.args.strings.now.general.now kept.header files in
     let d : Kept = c.program-item.result in
     let files = c.in_ok-files_in.field-0 in
     let item : get_or programs i d ≡ d = sym (c.program-item.is ∙ get_or_default programs i _ d c.loop-program-test.true) in
     subst (λ (all : List (List KeptFile)). AllZip R (take (i + 1) programs) all) (sym {A = List (List KeptFile)} c.in_ok-push.ensures.items)
-    (subst (λ (ks : List Kept). AllZip R ks (c.loop-program.all.items ++ files ∷ [])) (sym (take_more programs i d c.loop-program-test.true))
+    (subst (λ (ks : List Kept). AllZip R ks (c.loop-program.all.items ++ files ∷ []))
+    (sym (take_more programs i d c.loop-program-test.true))
     (zip_push R (take i programs) c.loop-program.all.items (get_or programs i d) files c.loop-program.invariant
     (subst (λ (k : Kept). R k files) (sym item) c.in_ok-files_in.ensures)))

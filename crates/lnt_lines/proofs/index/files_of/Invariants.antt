@@ -5,4 +5,5 @@ use Rattle.lnt_files.specs.Files.{AreFilesOf, KeptFile}
 use Rattle.lnt_lines.proofs.index.files_of.Given as goal
 
 abbrev pub invariant-loop-program : goal.invariant-loop-program
-invariant-loop-program l = AllZip (λ (kept : Kept) (files : List KeptFile). AreFilesOf l.strings.line.now l.strings.general.now kept.header files) (take l.program-index l.programs) l.all.items
+invariant-loop-program l = AllZip (λ (kept : Kept) (files : List KeptFile). AreFilesOf l.strings.line.now l.strings.general.now kept.header
+    files) (take l.program-index l.programs) l.all.items

@@ -8,4 +8,5 @@ returns-then-offset-unit c =
     place_found c.args.units.now c.args.unit _ c.requires (omega (arith, inside, c.loop-low-test.true)) c.if-offset-unit.true
 
 pub returns : goal.returns
-returns c = place_missing c.args.units.now c.args.unit c.loop-low.low c.loop-low.high c.loop-low.invariant (omega (arith, c.loop-low-test.false))
+returns c =
+    place_missing c.args.units.now c.args.unit c.loop-low.low c.loop-low.high c.loop-low.invariant (omega (arith, c.loop-low-test.false))

@@ -5,7 +5,8 @@ use Rattle.lnt_lines.proofs.section.judge_units.Given as goal
 
 abbrev pub invariant-loop-draft : goal.invariant-loop-draft
 invariant-loop-draft g l = record {
-  judged : JudgedSoFar l.strings.line.now l.strings.general.now l.options (g.R.Source.remaining l.fn.reader.source.now) (g.R.Source.remaining l.reader.source.now) l.reader.offset l.draft;
+  judged : JudgedSoFar l.strings.line.now l.strings.general.now l.options (g.R.Source.remaining l.fn.reader.source.now)
+      (g.R.Source.remaining l.reader.source.now) l.reader.offset l.draft;
   order_is : l.reader.order ≡ l.options.order;
   reading : l.reader.progress ≡ Reading;
   failures : g.R.Source.failures l.reader.source.now ≡ g.R.Source.failures l.fn.reader.source.now;

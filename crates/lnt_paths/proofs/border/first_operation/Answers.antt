@@ -16,7 +16,8 @@ returns-then-span-ne0 g c list joined come joins =
     let new : List Span → Type 0 = WillGive tell c.next_joined.new.self.next (g.S.SpanSource.to_come c.next_joined.new.self.spans) in
     let gives : (spans : List Span) → old spans → GivesFirst new spans (Some c.in-Some.span) =
     subst (λ (o : Option Span). (spans : List Span) → old spans → GivesFirst new spans o) c.in-Some.is c.in_ok-span.ensures.gives in
-    found joined inv.0 c.in-Some.span c.in-Some.span.low old new (inv.2 list joined come joins) gives inv.1 (λ more. inl (c.if-span-ne0.true, refl))
+    found joined inv.0 c.in-Some.span c.in-Some.span.low old new (inv.2 list joined come joins) gives inv.1
+    (λ more. inl (c.if-span-ne0.true, refl))
 
 pub returns-then-span-ne0-2 : goal.returns-then-span-ne0-2
 returns-then-span-ne0-2 g c list joined come joins =
@@ -26,7 +27,8 @@ returns-then-span-ne0-2 g c list joined come joins =
     let new : List Span → Type 0 = WillGive tell c.next_joined.new.self.next (g.S.SpanSource.to_come c.next_joined.new.self.spans) in
     let gives : (spans : List Span) → old spans → GivesFirst new spans (Some c.in-Some.span) =
     subst (λ (o : Option Span). (spans : List Span) → old spans → GivesFirst new spans o) c.in-Some.is c.in_ok-span.ensures.gives in
-    found joined inv.0 c.in-Some.span c.in-Some.span.high old new (inv.2 list joined come joins) gives inv.1 (λ more. inr (inl (c.if-span-ne0.false, c.if-span-ne0-2.true, refl)))
+    found joined inv.0 c.in-Some.span c.in-Some.span.high old new (inv.2 list joined come joins) gives inv.1
+    (λ more. inr (inl (c.if-span-ne0.false, c.if-span-ne0-2.true, refl)))
 
 pub loop-joined-preserved : goal.loop-joined-preserved
 loop-joined-preserved g c =

@@ -10,8 +10,10 @@ use Rattle.lnt_paths.proofs.border.first_operation.Given as goal
 
 abbrev pub invariant-loop-joined : goal.invariant-loop-joined
 invariant-loop-joined g l = (given : List Span) × AllByRecursion HasNoOperation given
-    × ((list joined : List Span) → g.S.SpanSource.to_come l.fn.spans list → AllJoinTo (path_answer l.version (g.P.Paths.bytes_of l.paths)) list joined
-    → HasGiven joined given (WillGive (path_answer l.version (g.P.Paths.bytes_of l.paths)) l.joined.next (g.S.SpanSource.to_come l.joined.spans)))
+    × ((list joined : List Span) → g.S.SpanSource.to_come l.fn.spans list
+    → AllJoinTo (path_answer l.version (g.P.Paths.bytes_of l.paths)) list joined
+    → HasGiven joined given (WillGive (path_answer l.version (g.P.Paths.bytes_of l.paths)) l.joined.next
+    (g.S.SpanSource.to_come l.joined.spans)))
 
 abbrev pub decreases-loop-joined : goal.decreases-loop-joined
 decreases-loop-joined g l = count_ahead l.joined.next (g.S.SpanSource.left l.joined.spans)

@@ -3,7 +3,8 @@ use Rattle.lnt_paths.proofs.LineLemmas.{field_made, plain_made}
 use Rattle.lnt_paths.proofs.field.field_of.Goals as goal
 
 pub returns : goal.returns
-returns g c = field_made (g.P.Paths.bytes_of c.args.paths.now c.args.unit c.args.file) c.in_ok-text.text.items c.pop.new.self.items c.in_ok-text.text.len (search rules) (search rules) (search rules)
+returns g c = field_made (g.P.Paths.bytes_of c.args.paths.now c.args.unit c.args.file) c.in_ok-text.text.items c.pop.new.self.items
+    c.in_ok-text.text.len (search rules) (search rules) (search rules)
 
 pub returns-then-is_plain : goal.returns-then-is_plain
 returns-then-is_plain g c =

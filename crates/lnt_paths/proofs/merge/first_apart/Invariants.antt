@@ -13,7 +13,8 @@ abbrev pub invariant-loop-alloc : goal.invariant-loop-alloc
 invariant-loop-alloc g l = AreKnownOf (g.P.Paths.bytes_of l.paths) l.known.slots.items
     × IsAtMost l.at (whole l.said.high) × (l.end ≡ whole l.said.high)
     × ((list : List Span) → IsLeft g.S.SpanSource.to_come l.fn.section.next l.fn.section.spans list → AreInOrder list
-    → IsAtMost (whole l.said.low) l.at × ArePassed (path_answer l.version (g.P.Paths.bytes_of l.paths)) list (alone l.said) l.at (IsLeft g.S.SpanSource.to_come l.section.next l.section.spans))
+    → IsAtMost (whole l.said.low) l.at × ArePassed (path_answer l.version (g.P.Paths.bytes_of l.paths)) list (alone l.said) l.at
+    (IsLeft g.S.SpanSource.to_come l.section.next l.section.spans))
 
 abbrev pub decreases-loop-alloc : goal.decreases-loop-alloc
 decreases-loop-alloc g l = count_ahead l.section.next (g.S.SpanSource.left l.section.spans)

@@ -15,7 +15,8 @@ returns-in-Some g c list other come come' o o' same =
       keeps_same (g.W.Write.contents c.args.out.now),
       operation_found tell other list c.in-Some.position (record { first = o; second = o'; same = same })
           (λ joined joins.
-          subst (λ (f : Option Position). MatchOption f (AllByRecursion HasNoOperation joined) (λ position. IsFirstOperation position joined)) c.in-Some.is
+          subst (λ (f : Option Position). MatchOption f (AllByRecursion HasNoOperation joined)
+          (λ position. IsFirstOperation position joined)) c.in-Some.is
           (c.in_ok-position.ensures other joined come joins)),
     )
 
@@ -23,8 +24,10 @@ pub returns : goal.returns
 returns g c list other come come' o o' same =
     let tell : Answer → PathAnswer = path_answer c.args.version (g.P.Paths.bytes_of c.args.paths.now) in
     let written = c.in_ok-write_lines.ensures in
-    table_written tell c.args.version (g.W.Write.contents c.args.out.now) (g.W.Write.contents c.write_lines.new.out) other list written.0 (record { first = o; second = o'; same = same })
+    table_written tell c.args.version (g.W.Write.contents c.args.out.now) (g.W.Write.contents c.write_lines.new.out) other list written.0
+    (record { first = o; second = o'; same = same })
     (λ whole joins.
-    subst (λ (f : Option Position). MatchOption f (AllByRecursion HasNoOperation whole) (λ position. IsFirstOperation position whole)) c.in_default.is
+    subst (λ (f : Option Position). MatchOption f (AllByRecursion HasNoOperation whole) (λ position. IsFirstOperation position whole))
+    c.in_default.is
     (c.in_ok-position.ensures other whole come joins))
     (λ all joins. written.2 list all come' joins) written.1

@@ -28,8 +28,10 @@ loop-line-preserved g c =
     let gives : (spans : List Span) → old spans → GivesFirst new spans (Some c.in-Some.span) =
     subst (λ (o : Option Span). (spans : List Span) → old spans → GivesFirst new spans o) c.in-Some.is c.in_ok-span.ensures.gives in (
       inv.0 ++ c.in-Some.span ∷ [],
-      one_written tell c.args.version _ _ _ inv.0 c.in-Some.span c.clear.new.self.items c.put_line.new.line.items inv.1 c.clear.ensures.items c.in_ok-put_line.ensures.added
-          (subst (Appends (g.W.Write.contents c.loop-line.out) (g.W.Write.contents c.send-in-Some.new.out)) c.as_slice.ensures.value c.in_ok-send-2.ensures),
+      one_written tell c.args.version _ _ _ inv.0 c.in-Some.span c.clear.new.self.items c.put_line.new.line.items inv.1
+          c.clear.ensures.items c.in_ok-put_line.ensures.added
+          (subst (Appends (g.W.Write.contents c.loop-line.out) (g.W.Write.contents c.send-in-Some.new.out)) c.as_slice.ensures.value
+          c.in_ok-send-2.ensures),
       c.in_ok-put_line.ensures.kept,
       λ list joined come joins. one_given joined inv.0 c.in-Some.span old new (inv.3 list joined come joins) gives,
     )

@@ -7,10 +7,13 @@ use Rattle.lnt_paths.specs.PathAnswers.{path_answer}
 use Rattle.lnt_paths.proofs.write.write_lines.Given as goal
 
 abbrev pub invariant-loop-line : goal.invariant-loop-line
-invariant-loop-line g l = (given : List Span) × HasWritten (path_answer l.version (g.P.Paths.bytes_of l.paths)) l.version (g.W.Write.contents l.fn.out) (g.W.Write.contents l.out) given
+invariant-loop-line g l = (given : List Span) × HasWritten (path_answer l.version (g.P.Paths.bytes_of l.paths)) l.version
+    (g.W.Write.contents l.fn.out) (g.W.Write.contents l.out) given
     × AreFieldsOf (g.P.Paths.bytes_of l.paths) l.fields.slots.items
-    × ((list joined : List Span) → g.S.SpanSource.to_come l.fn.spans list → AllJoinTo (path_answer l.version (g.P.Paths.bytes_of l.paths)) list joined
-    → HasGiven joined given (WillGive (path_answer l.version (g.P.Paths.bytes_of l.paths)) l.joined.next (g.S.SpanSource.to_come l.joined.spans)))
+    × ((list joined : List Span) → g.S.SpanSource.to_come l.fn.spans list
+    → AllJoinTo (path_answer l.version (g.P.Paths.bytes_of l.paths)) list joined
+    → HasGiven joined given (WillGive (path_answer l.version (g.P.Paths.bytes_of l.paths)) l.joined.next
+    (g.S.SpanSource.to_come l.joined.spans)))
 
 abbrev pub decreases-loop-line : goal.decreases-loop-line
 decreases-loop-line g l = count_ahead l.joined.next (g.S.SpanSource.left l.joined.spans)

@@ -18,7 +18,8 @@ loop-span-init g c = (
   [],
   c.new-joiner.ensures.joined,
   c.new-joiner.ensures.version,
-  no_lines c.args.version _ _ (c.in_ok-put_header.ensures ∙ ap (λ (t : List ℕ). t ++ line_text (column_names c.args.version)) c.new-block.ensures.items),
+  no_lines c.args.version _ _ (c.in_ok-put_header.ensures
+      ∙ ap (λ (t : List ℕ). t ++ line_text (column_names c.args.version)) c.new-block.ensures.items),
   λ list coming. none_given list (g.S.SpanSource.to_come c.args.spans) coming,
 )
 
@@ -32,16 +33,21 @@ loop-span-preserved g c =
     let old : List Span → Type 0 = g.S.SpanSource.to_come c.loop-span.spans in
     let new : List Span → Type 0 = g.S.SpanSource.to_come c.next_span.new.self in
     let joined : HasJoined version (inv.0 ++ span ∷ []) (inv.1 ++ cons_option one []) c.push-joined.new.self.last =
-    subst (λ (v : Version). HasJoined v inv.0 inv.1 c.loop-span.joiner.last → HasJoined v (inv.0 ++ span ∷ []) (inv.1 ++ cons_option one []) c.push-joined.new.self.last) inv.3 (c.push-joined.ensures.joined inv.0 inv.1) inv.2 in
-    let pushed : (list : List Span) → g.S.SpanSource.to_come c.args.spans list → HasGiven list (inv.0 ++ span ∷ []) new = λ list coming. one_given list inv.0 span old new (inv.5 list coming) c.in-Some.ensures.gives in
+    subst (λ (v : Version). HasJoined v inv.0 inv.1 c.loop-span.joiner.last
+    → HasJoined v (inv.0 ++ span ∷ []) (inv.1 ++ cons_option one []) c.push-joined.new.self.last) inv.3
+    (c.push-joined.ensures.joined inv.0 inv.1) inv.2 in
+    let pushed : (list : List Span) → g.S.SpanSource.to_come c.args.spans list → HasGiven list (inv.0 ++ span ∷ []) new =
+    λ list coming. one_given list inv.0 span old new (inv.5 list coming) c.in-Some.ensures.gives in
     let added = c.in_ok-put_some.ensures version
-    (given_of_version version known.0 (inv.0 ++ span ∷ []) inv.1 one c.push-joined.new.self.last new (record { order = known.2; tells = known.3 }) (pushed known.0 known.1) joined) in
+    (given_of_version version known.0 (inv.0 ++ span ∷ []) inv.1 one c.push-joined.new.self.last new
+    (record { order = known.2; tells = known.3 }) (pushed known.0 known.1) joined) in
     let handed = c.in_ok-send_full.ensures in (
       inv.0 ++ span ∷ [],
       inv.1 ++ cons_option one [],
       joined,
       c.push-joined.ensures.version ∙ inv.3,
-      lines_sent version _ _ _ _ _ handed.0 (inv.1 ++ cons_option one []) (lines_put version _ _ _ _ inv.1 (cons_option one []) inv.4 added) handed.1 handed.2,
+      lines_sent version _ _ _ _ _ handed.0 (inv.1 ++ cons_option one []) (lines_put version _ _ _ _ inv.1 (cons_option one []) inv.4 added)
+          handed.1 handed.2,
       pushed,
     )
 
@@ -53,13 +59,19 @@ returns g c =
     let last = c.finish.result in
     let old : List Span → Type 0 = g.S.SpanSource.to_come c.loop-span.spans in
     let new : List Span → Type 0 = g.S.SpanSource.to_come c.next_span.new.self in
-    let ends : (list : List Span) → g.S.SpanSource.to_come c.args.spans list → list ≡ inv.0 = λ list coming. all_given list inv.0 old new (inv.5 list coming) c.in_default.ensures.gives in
+    let ends : (list : List Span) → g.S.SpanSource.to_come c.args.spans list → list ≡ inv.0 =
+    λ list coming. all_given list inv.0 old new (inv.5 list coming) c.in_default.ensures.gives in
     let all : AreInOrder inv.0 → AreGiven version inv.0 (inv.1 ++ cons_option last []) =
-    subst (λ (v : Version). HasJoined v inv.0 inv.1 c.loop-span.joiner.last → AreInOrder inv.0 → AreGiven v inv.0 (inv.1 ++ cons_option last [])) inv.3 (c.finish.ensures.joined inv.0 inv.1) inv.2 in
-    let canonical : (list : List Span) → g.S.SpanSource.to_come c.args.spans list → AreInOrder list → AreGiven version list (inv.1 ++ cons_option last []) =
-    λ list coming order. subst (λ (xs : List Span). AreGiven version xs (inv.1 ++ cons_option last [])) (sym (ends list coming)) (all (subst AreInOrder (ends list coming) order)) in
+    subst (λ (v : Version). HasJoined v inv.0 inv.1 c.loop-span.joiner.last → AreInOrder inv.0
+    → AreGiven v inv.0 (inv.1 ++ cons_option last [])) inv.3 (c.finish.ensures.joined inv.0 inv.1) inv.2 in
+    let canonical : (list : List Span) → g.S.SpanSource.to_come c.args.spans list → AreInOrder list
+    → AreGiven version list (inv.1 ++ cons_option last []) =
+    λ list coming order. subst (λ (xs : List Span). AreGiven version xs (inv.1 ++ cons_option last [])) (sym (ends list coming))
+    (all (subst AreInOrder (ends list coming) order)) in
     let added = c.in_ok-put_some-2.ensures version
-    (rest_of_version version known.0 inv.0 inv.1 last old (record { order = known.2; tells = known.3 }) (inv.5 known.0 known.1) (all (subst AreInOrder (ends known.0 known.1) known.2))) in
+    (rest_of_version version known.0 inv.0 inv.1 last old (record { order = known.2; tells = known.3 }) (inv.5 known.0 known.1)
+    (all (subst AreInOrder (ends known.0 known.1) known.2))) in
     on_ok_weaker c.send.result
-    (λ handed. canonical_written version _ _ _ _ (inv.1 ++ cons_option last []) known.0 (g.S.SpanSource.to_come c.args.spans) known.1 known.2 canonical (lines_put version _ _ _ _ inv.1 (cons_option last []) inv.4 added) handed)
+    (λ handed. canonical_written version _ _ _ _ (inv.1 ++ cons_option last []) known.0 (g.S.SpanSource.to_come c.args.spans) known.1
+    known.2 canonical (lines_put version _ _ _ _ inv.1 (cons_option last []) inv.4 added) handed)
     c.send.ensures.handed

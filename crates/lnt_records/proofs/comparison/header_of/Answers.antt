@@ -4,4 +4,5 @@ use Rattle.lnt_records.proofs.comparison.header_of.Goals as goal
 
 pub returns : goal.returns
 returns c =
-    IfOk-weaker c.read_header.result _ _ (λ found h. begins_found found c.read_header.new.reader c.args.table.now (h c.args.table.now c.reader_of-reader.ensures)) c.read_header.ensures
+    IfOk-weaker c.read_header.result _ _ (λ found h. begins_found found c.read_header.new.reader c.args.table.now
+    (h c.args.table.now c.reader_of-reader.ensures)) c.read_header.ensures

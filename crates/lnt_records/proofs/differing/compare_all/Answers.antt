@@ -13,8 +13,10 @@ pub returns-in_default-clause-ok : goal.returns-in_default-clause-ok
 returns-in_default-clause-ok g c =
     IfOk-weaker c.told.result _ _
     (λ differing is list section coming order answers.
-    let ends : Ends (g.T.Source.remaining c.fill.new.source) (g.T.Source.left c.fill.new.source) c.pass_header.new.window c.deref.result.now = rw (← c.deref.ensures.value) at c.in_ok-text.ensures.ok in
-    all_bytes _ _ _ _ c.new-window.result c.fill.new.self c.pass_header.new.window c.deref.result.now _ c.new-window.ensures c.in_ok-fill.ensures.taken c.in_default.ensures ends
+    let ends : Ends (g.T.Source.remaining c.fill.new.source) (g.T.Source.left c.fill.new.source) c.pass_header.new.window
+    c.deref.result.now = rw (← c.deref.ensures.value) at c.in_ok-text.ensures.ok in
+    all_bytes _ _ _ _ c.new-window.result c.fill.new.self c.pass_header.new.window c.deref.result.now _ c.new-window.ensures
+    c.in_ok-fill.ensures.taken c.in_default.ensures ends
     ((rw is at c.compare_text.ensures).differing list section coming order answers))
     c.told.ensures.ok
 
@@ -22,21 +24,25 @@ pub gather_behind-gathered-requires-clause-begins : goal.gather_behind-gathered-
 gather_behind-gathered-requires-clause-begins g c =
     let version = c.in-Some.version in
     let behind : List ℕ = c.pass_spans.new.window in
-    let ends : Ends (g.T.Source.remaining c.pass_spans.new.source) (g.T.Source.left c.pass_spans.new.source) (c.header_line.result.now ++ behind) c.deref-2.result.now = rw (← c.deref-2.ensures.value) at c.in_ok-text-2.ensures.ok in
+    let ends : Ends (g.T.Source.remaining c.pass_spans.new.source) (g.T.Source.left c.pass_spans.new.source)
+    (c.header_line.result.now ++ behind) c.deref-2.result.now = rw (← c.deref-2.ensures.value) at c.in_ok-text-2.ensures.ok in
     rest_begins version _ _ c.header_line.result.now behind c.deref-2.result.now c.header_line.ensures ends
 
 pub gather_behind-gathered-requires-clause-few : goal.gather_behind-gathered-requires-clause-few
 gather_behind-gathered-requires-clause-few g c =
     let version = c.in-Some.version in
-    let begun = begun version _ _ _ _ c.new-window.result c.fill.new.self c.pass_header.new.window c.new-window.ensures c.in_ok-fill.ensures.taken c.in-Some.ensures in
+    let begun = begun version _ _ _ _ c.new-window.result c.fill.new.self c.pass_header.new.window c.new-window.ensures
+    c.in_ok-fill.ensures.taken c.in-Some.ensures in
     let spans = c.in_ok-passed.ensures.ok in
     let behind : List ℕ = c.pass_spans.new.window in
     let both = passes_both _ _ _ _ _ _ [] c.pass_header.new.window behind (line_text (column_names version)) spans.0 begun spans.1 in
-    let ends : Ends (g.T.Source.remaining c.pass_spans.new.source) (g.T.Source.left c.pass_spans.new.source) (c.header_line.result.now ++ behind) c.deref-2.result.now = rw (← c.deref-2.ensures.value) at c.in_ok-text-2.ensures.ok in
+    let ends : Ends (g.T.Source.remaining c.pass_spans.new.source) (g.T.Source.left c.pass_spans.new.source)
+    (c.header_line.result.now ++ behind) c.deref-2.result.now = rw (← c.deref-2.ensures.value) at c.in_ok-text-2.ensures.ok in
     let known = c.requires.spans in
     let off = spans.2 known.0 known.1 known.2 in
     let fits : g.T.Source.left c.args.table.now < 2 ^ 64 = omega (arith, c.left-may_give.ensures, c.left-may_give.type_inv) in
-    few_all version _ _ _ _ c.header_line.result.now behind spans.0 c.deref-2.result.now off.table c.in_ok-passed.passed.count c.header_line.ensures both ends off.lines fits
+    few_all version _ _ _ _ c.header_line.result.now behind spans.0 c.deref-2.result.now off.table c.in_ok-passed.passed.count
+    c.header_line.ensures both ends off.lines fits
 
 pub gather_behind-gathered-requires-clause-judged : goal.gather_behind-gathered-requires-clause-judged
 gather_behind-gathered-requires-clause-judged g c =
@@ -44,10 +50,12 @@ gather_behind-gathered-requires-clause-judged g c =
     let spans = c.in_ok-passed.ensures.ok in
     let known = c.requires.spans in
     let off = spans.2 known.0 known.1 known.2 in
-    let compares = c.behind-merge.ensures.compares off.table [] c.of.ensures (order_alone off.table off.rest off.order) off.told off.end_is in (
+    let compares =
+    c.behind-merge.ensures.compares off.table [] c.of.ensures (order_alone off.table off.rest off.order) off.told off.end_is in (
       off.table ++ [],
       off.lines.records,
-      (judges_off _ _ c.behind-merge.result version known.0 spans.0 c.in_ok-passed.passed.count c.in_ok-passed.passed.end off c.behind-merge.ensures.version compares).0,
+      (judges_off _ _ c.behind-merge.result version known.0 spans.0 c.in_ok-passed.passed.count c.in_ok-passed.passed.end off
+          c.behind-merge.ensures.version compares).0,
     )
 
 pub returns-clause-ok : goal.returns-clause-ok
@@ -56,18 +64,24 @@ returns-clause-ok g c =
     (λ differing is list section coming order answers.
     let version = c.in-Some.version in
     let count = c.in_ok-passed.passed.count in
-    let begun = begun version _ _ _ _ c.new-window.result c.fill.new.self c.pass_header.new.window c.new-window.ensures c.in_ok-fill.ensures.taken c.in-Some.ensures in
+    let begun = begun version _ _ _ _ c.new-window.result c.fill.new.self c.pass_header.new.window c.new-window.ensures
+    c.in_ok-fill.ensures.taken c.in-Some.ensures in
     let spans = c.in_ok-passed.ensures.ok in
     let behind : List ℕ = c.pass_spans.new.window in
     let both = passes_both _ _ _ _ _ _ [] c.pass_header.new.window behind (line_text (column_names version)) spans.0 begun spans.1 in
-    let ends : Ends (g.T.Source.remaining c.pass_spans.new.source) (g.T.Source.left c.pass_spans.new.source) (c.header_line.result.now ++ behind) c.deref-2.result.now = rw (← c.deref-2.ensures.value) at c.in_ok-text-2.ensures.ok in
+    let ends : Ends (g.T.Source.remaining c.pass_spans.new.source) (g.T.Source.left c.pass_spans.new.source)
+    (c.header_line.result.now ++ behind) c.deref-2.result.now = rw (← c.deref-2.ensures.value) at c.in_ok-text-2.ensures.ok in
     let off = spans.2 list coming order in
-    let compares = c.behind-merge.ensures.compares off.table [] c.of.ensures (order_alone off.table off.rest off.order) off.told off.end_is in
-    let j = judges_off _ _ c.behind-merge.result version list spans.0 count c.in_ok-passed.passed.end off c.behind-merge.ensures.version compares in
-    whole_cut version _ _ _ _ c.header_line.result.now behind spans.0 c.deref-2.result.now off.table count _ c.header_line.ensures both ends off.lines
+    let compares =
+    c.behind-merge.ensures.compares off.table [] c.of.ensures (order_alone off.table off.rest off.order) off.told off.end_is in
+    let j = judges_off _ _ c.behind-merge.result version list spans.0 count c.in_ok-passed.passed.end off c.behind-merge.ensures.version
+    compares in
+    whole_cut version _ _ _ _ c.header_line.result.now behind spans.0 c.deref-2.result.now off.table count _ c.header_line.ensures both ends
+    off.lines
     (λ bytes cut.
     (rw is at c.differ_behind.ensures) bytes section off.table off.rest
-    (gathered_is _ (record { merge = c.behind-merge.result; version = version; count = count }) (off.table ++ []) off.table off.lines.records bytes version c.deref-2.result.now c.gather_behind-gathered.result j.0 j.1 cut
+    (gathered_is _ (record { merge = c.behind-merge.result; version = version; count = count }) (off.table ++ []) off.table
+    off.lines.records bytes version c.deref-2.result.now c.gather_behind-gathered.result j.0 j.1 cut
     c.gather_behind-gathered.ensures)
     (goes_on version list off.table off.rest section c.in_ok-passed.passed.end off.order off.same off.end_is answers) off.left))
     c.told-2.ensures.ok
@@ -78,20 +92,27 @@ returns-clause-started g c =
     (λ differing is.
     let version = c.in-Some.version in
     let count = c.in_ok-passed.passed.count in
-    let begun = begun version _ _ _ _ c.new-window.result c.fill.new.self c.pass_header.new.window c.new-window.ensures c.in_ok-fill.ensures.taken c.in-Some.ensures in
+    let begun = begun version _ _ _ _ c.new-window.result c.fill.new.self c.pass_header.new.window c.new-window.ensures
+    c.in_ok-fill.ensures.taken c.in-Some.ensures in
     let spans = c.in_ok-passed.ensures.ok in
     let behind : List ℕ = c.pass_spans.new.window in
     let both = passes_both _ _ _ _ _ _ [] c.pass_header.new.window behind (line_text (column_names version)) spans.0 begun spans.1 in
-    let ends : Ends (g.T.Source.remaining c.pass_spans.new.source) (g.T.Source.left c.pass_spans.new.source) (c.header_line.result.now ++ behind) c.deref-2.result.now = rw (← c.deref-2.ensures.value) at c.in_ok-text-2.ensures.ok in
+    let ends : Ends (g.T.Source.remaining c.pass_spans.new.source) (g.T.Source.left c.pass_spans.new.source)
+    (c.header_line.result.now ++ behind) c.deref-2.result.now = rw (← c.deref-2.ensures.value) at c.in_ok-text-2.ensures.ok in
     let known = c.requires.spans in
     let list = known.0 in
     let off = spans.2 list known.1 known.2 in
-    let compares = c.behind-merge.ensures.compares off.table [] c.of.ensures (order_alone off.table off.rest off.order) off.told off.end_is in
-    let j = judges_off _ _ c.behind-merge.result version list spans.0 count c.in_ok-passed.passed.end off c.behind-merge.ensures.version compares in
-    let cut = rest_cut version _ _ _ _ c.header_line.result.now behind spans.0 c.deref-2.result.now off.table count c.header_line.ensures both ends off.lines in
+    let compares =
+    c.behind-merge.ensures.compares off.table [] c.of.ensures (order_alone off.table off.rest off.order) off.told off.end_is in
+    let j = judges_off _ _ c.behind-merge.result version list spans.0 count c.in_ok-passed.passed.end off c.behind-merge.ensures.version
+    compares in
+    let cut = rest_cut version _ _ _ _ c.header_line.result.now behind spans.0 c.deref-2.result.now off.table count c.header_line.ensures
+    both ends off.lines in
     started _ _ (both.given ++ ends.given) (span_answer list) differing
     ((rw is at c.differ_behind.ensures) (both.given ++ ends.given) (span_answer list) off.table off.rest
-    (gathered_is _ (record { merge = c.behind-merge.result; version = version; count = count }) (off.table ++ []) off.table off.lines.records (both.given ++ ends.given) version c.deref-2.result.now c.gather_behind-gathered.result j.0 j.1 cut
+    (gathered_is _ (record { merge = c.behind-merge.result; version = version; count = count }) (off.table ++ []) off.table
+    off.lines.records (both.given ++ ends.given) version c.deref-2.result.now c.gather_behind-gathered.result j.0 j.1 cut
     c.gather_behind-gathered.ensures)
-    (goes_on version list off.table off.rest (span_answer list) c.in_ok-passed.passed.end off.order off.same off.end_is (λ p. refl)) off.left))
+    (goes_on version list off.table off.rest (span_answer list) c.in_ok-passed.passed.end off.order off.same off.end_is (λ p. refl))
+    off.left))
     c.told-2.ensures.ok

@@ -2,4 +2,5 @@ use Rattle.lnt_records.proofs.FrontLemmas.{digit_begins}
 use Rattle.lnt_records.proofs.front.digit_before.Goals as goal
 
 pub returns : goal.returns
-returns c = digit_begins _ _ _ _ _ c.if-at-text.false c.in_ok-digit.ensures.0 c.in_ok-digit.ensures.1 c.in_ok-digit.ensures.2 c.in_ok-next.ensures
+returns c =
+    digit_begins _ _ _ _ _ c.if-at-text.false c.in_ok-digit.ensures.0 c.in_ok-digit.ensures.1 c.in_ok-digit.ensures.2 c.in_ok-next.ensures

@@ -18,5 +18,6 @@ overflow_add-value c =
 pub loop-i-preserved : goal.loop-i-preserved
 loop-i-preserved c =
     let least : c.loop-i.i < length c.args.text.now = omega (arith, c.loop-i-test.true, c.min-i-end.ensures) in
-    digits_more Ten c.args.text.now c.args.at c.loop-i.i c.loop-i.value c.in-Some.digit (c.loop-i.value * 10 + c.in-Some.digit) least c.loop-i.invariant c.in-Some.ensures.0 c.in-Some.ensures.1
+    digits_more Ten c.args.text.now c.args.at c.loop-i.i c.loop-i.value c.in-Some.digit (c.loop-i.value * 10 + c.in-Some.digit) least
+    c.loop-i.invariant c.in-Some.ensures.0 c.in-Some.ensures.1
     c.in-Some.ensures.2 refl

@@ -9,5 +9,7 @@ returns c =
     let start = put.result in
     let room = put.new.room in
     let is = rw c.if-not-tells.false at c.tells.ensures in
-    line_passed c.pass_text.result c.args.version c.args.span.now (take (256 - start) (drop start room)) (drop start room) c.args.window.now c.pass_text.new.self c.pass_text.ensures
-    (room_from room start put.array_long) (line_said c.args.version c.args.span.now (drop start room) [] (put.ensures.written c.args.version is))
+    line_passed c.pass_text.result c.args.version c.args.span.now (take (256 - start) (drop start room)) (drop start room) c.args.window.now
+    c.pass_text.new.self c.pass_text.ensures
+    (room_from room start put.array_long) (line_said c.args.version c.args.span.now (drop start room) []
+    (put.ensures.written c.args.version is))

@@ -6,5 +6,6 @@ use Rattle.lnt_records.proofs.reading.read_first.Goals as goal
 
 pub returns : goal.returns
 returns c =
-    IfOk-weaker c.read_next.result _ _ (λ found h bytes is. first_read found c.read_next.new.reader bytes (fields_of c.read_next.new.row) (h bytes [] is))
+    IfOk-weaker c.read_next.result _ _ (λ found h bytes is. first_read found c.read_next.new.reader bytes (fields_of c.read_next.new.row)
+    (h bytes [] is))
     c.read_next.ensures.read

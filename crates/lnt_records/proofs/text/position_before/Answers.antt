@@ -11,5 +11,6 @@ returns-clause-written c =
     let long : length put.new.text ≡ 256 = omega (arith, put.auto.text, op.array_long) in
     let within : op.result ≤ 256 = omega (arith, op.ensures.begins.0, c.requires.1) in
     position_taken IsPlainAddress IsPlainDecimal c.args.position _ _ _
-    (put_before IsPlainAddress op.new.room put.new.text put.result op.result c.args.position.address 44 op.array_long long put.ensures.begins.0 within put.ensures.written put.ensures.after)
+    (put_before IsPlainAddress op.new.room put.new.text put.result op.result c.args.position.address 44 op.array_long long
+    put.ensures.begins.0 within put.ensures.written put.ensures.after)
     op.ensures.written

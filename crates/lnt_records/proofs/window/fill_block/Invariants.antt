@@ -5,7 +5,8 @@ use Rattle.lnt_records.proofs.window.fill_block.Given as goal
 abbrev pub invariant-loop-source : goal.invariant-loop-source
 invariant-loop-source g l = record {
   failures : g.T.Source.failures l.source ≡ g.T.Source.failures l.initial.source;
-  taken : Passes (g.T.Source.remaining l.initial.source) (g.T.Source.remaining l.source) (g.T.Source.left l.initial.source) (g.T.Source.left l.source) l.initial.block.items l.block.items [];
+  taken : Passes (g.T.Source.remaining l.initial.source) (g.T.Source.remaining l.source) (g.T.Source.left l.initial.source)
+      (g.T.Source.left l.source) l.initial.block.items l.block.items [];
 }
 
 abbrev pub decreases-loop-source : goal.decreases-loop-source

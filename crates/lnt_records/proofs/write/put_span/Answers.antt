@@ -7,4 +7,5 @@ pub returns : goal.returns
 returns c version is =
     let put = c.line_of-start in
     let all = room_from put.new.room put.result put.array_long in
-    line_put version c.args.span.now _ _ _ (c.in_ok-extend_from_slice.ensures.items ∙ ap (λ (t : List ℕ). c.args.block.now.items ++ t) all) (put.ensures.written version is)
+    line_put version c.args.span.now _ _ _ (c.in_ok-extend_from_slice.ensures.items ∙ ap (λ (t : List ℕ). c.args.block.now.items ++ t) all)
+    (put.ensures.written version is)

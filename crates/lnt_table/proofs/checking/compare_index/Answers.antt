@@ -10,4 +10,5 @@ compare_table-requires-clause-spans g c =
 pub returns-clause-ok : goal.returns-clause-ok
 returns-clause-ok g c dead skip units is =
     let all = c.spans.ensures.gives dead skip units is in
-    found_with (g.T.Source.remaining c.args.table.now) dead skip units all.spans c.in_ok-compared.compared all.answers (c.in_ok-compared.ensures.ok all.spans all.to_come all.in_order)
+    found_with (g.T.Source.remaining c.args.table.now) dead skip units all.spans c.in_ok-compared.compared all.answers
+    (c.in_ok-compared.ensures.ok all.spans all.to_come all.in_order)

@@ -12,7 +12,8 @@ returns g c = IfOk-weaker c.write_by_path.result _ _
     (λ table become dead skip units is.
     let judged = c.spans-2.ensures.gives dead skip units is in
     let all = c.spans-3.ensures.gives dead skip units is in
-    becomes_so c.args.version (spans_by_path c.args.version (path_at c.args.index.now) all.spans) (told_path c.args.version c.args.index.now dead skip units)
+    becomes_so c.args.version (spans_by_path c.args.version (path_at c.args.index.now) all.spans)
+    (told_path c.args.version c.args.index.now dead skip units)
     (g.W.Write.contents c.args.out.now) (g.W.Write.contents c.write_by_path.new.out) table
     (λ p. ap (option_map (path_answer c.args.version (path_at c.args.index.now))) (all.answers p))
     (become all.spans judged.spans judged.to_come all.to_come judged.in_order all.in_order (λ p. judged.answers p ∙ sym (all.answers p))))

@@ -11,4 +11,5 @@ compare_all-requires-clause-spans g c =
 pub returns-clause-ok : goal.returns-clause-ok
 returns-clause-ok g c dead skip units is =
     let all = c.spans.ensures.gives dead skip units is in
-    from_units _ _ dead skip units (g.T.Source.remaining c.args.table.now) c.in_ok-differing.differing (c.in_ok-differing.ensures.ok all.spans (line_answer dead skip units) all.to_come all.in_order all.answers)
+    from_units _ _ dead skip units (g.T.Source.remaining c.args.table.now) c.in_ok-differing.differing
+    (c.in_ok-differing.ensures.ok all.spans (line_answer dead skip units) all.to_come all.in_order all.answers)

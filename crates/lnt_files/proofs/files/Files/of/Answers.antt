@@ -7,14 +7,17 @@ use Rattle.lnt_files.proofs.files.Files.of.Goals as goal
 
 pub add_path-requires : goal.add_path-requires
 add_path-requires c =
-    path_in c.args.strings.now.line.now c.args.strings.now.general.now c.args.header.now c.files-file-items.result.now c.loop-file.file-index c.file-item.result
+    path_in c.args.strings.now.line.now c.args.strings.now.general.now c.args.header.now c.files-file-items.result.now
+    c.loop-file.file-index c.file-item.result
     c.requires c.files-file-items.ensures c.loop-file-test.true c.file-item.is
 
 pub loop-file-preserved : goal.loop-file-preserved
 loop-file-preserved c =
-    let sum : sum_of c.args.header.now.file_format c.file-item.result ≡ c.sum_of.result = subst (λ (pairs : List Pair). sum_of pairs c.file-item.result ≡ c.sum_of.result) c.file_format.ensures (sym c.sum_of.ensures) in
+    let sum : sum_of c.args.header.now.file_format c.file-item.result ≡ c.sum_of.result =
+    subst (λ (pairs : List Pair). sum_of pairs c.file-item.result ≡ c.sum_of.result) c.file_format.ensures (sym c.sum_of.ensures) in
     let end : c.len.result ≡ length c.add_path.new.out.items = search rules in
     rw c.in_ok-push.ensures.items
-    (keeps_more c.args.strings.now.line.now c.args.strings.now.general.now c.args.header.now c.files-file-items.result.now c.loop-file.file-index c.file-item.result
+    (keeps_more c.args.strings.now.line.now c.args.strings.now.general.now c.args.header.now c.files-file-items.result.now
+    c.loop-file.file-index c.file-item.result
     c.loop-file.paths.items c.add_path.new.out.items c.loop-file.kept.items (record { end = c.len.result; listed = c.sum_of.result })
     c.loop-file.invariant c.files-file-items.ensures c.loop-file-test.true c.file-item.is c.in_ok-add_path.ensures sum end)

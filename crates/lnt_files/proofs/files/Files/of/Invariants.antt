@@ -3,4 +3,5 @@ use Rattle.lnt_files.specs.Kept.{Keeps}
 use Rattle.lnt_files.proofs.files.Files.of.Given as goal
 
 abbrev pub invariant-loop-file : goal.invariant-loop-file
-invariant-loop-file l = Keeps l.fn.strings.line.now l.fn.strings.general.now l.fn.header (take l.file-index l.fn.header.files) l.paths.items l.kept.items
+invariant-loop-file l =
+    Keeps l.fn.strings.line.now l.fn.strings.general.now l.fn.header (take l.file-index l.fn.header.files) l.paths.items l.kept.items

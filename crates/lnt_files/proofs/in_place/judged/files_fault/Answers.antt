@@ -7,6 +7,9 @@ pub loop-index-preserved : goal.loop-index-preserved
 loop-index-preserved c =
     let ends = c.args.ends.now in
     let below = nat_lt c.directory_number.result c.args.directories in
-    subst (FilesSeen ends.line ends.general c.args.directories c.args.files.now c.next_entry.new.self (c.loop-index.index + 1)) (sym c.first_missing-missing.ensures)
-    (files_stepped ends.line ends.general c.args.directories c.args.files.now c.loop-index.entries c.next_entry.new.self c.loop-index.index c.loop-index.missing c.in-Some.file c.has_path.result below c.directory_number.result
-    c.loop-index.invariant c.in-Some.ensures c.has_path.ensures c.if-not-has_path.false c.directory_number.ensures (Decides-ltb c.directory_number.result c.args.directories))
+    subst (FilesSeen ends.line ends.general c.args.directories c.args.files.now c.next_entry.new.self (c.loop-index.index + 1))
+    (sym c.first_missing-missing.ensures)
+    (files_stepped ends.line ends.general c.args.directories c.args.files.now c.loop-index.entries c.next_entry.new.self c.loop-index.index
+    c.loop-index.missing c.in-Some.file c.has_path.result below c.directory_number.result
+    c.loop-index.invariant c.in-Some.ensures c.has_path.ensures c.if-not-has_path.false c.directory_number.ensures
+    (Decides-ltb c.directory_number.result c.args.directories))

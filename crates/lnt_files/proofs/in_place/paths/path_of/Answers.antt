@@ -4,10 +4,12 @@ use Rattle.lnt_files.proofs.in_place.paths.path_of.Goals as goal
 
 pub unreachable-requires : goal.unreachable-requires
 unreachable-requires c =
-    never_without c.args.strings.line.now c.args.strings.general.now c.args.header.now c.files.result.now c.args.file c.in-Some.entry c.requires c.files.ensures.pairs c.files.ensures.entries c.in-Some.ensures
+    never_without c.args.strings.line.now c.args.strings.general.now c.args.header.now c.files.result.now c.args.file c.in-Some.entry
+    c.requires c.files.ensures.pairs c.files.ensures.entries c.in-Some.ensures
     c.in_default-pieces_of.ensures
 
 pub returns-clause-there : goal.returns-clause-there
 returns-clause-there c =
-    let lt = within_files c.args.header.now c.files.result.now c.args.file c.in-Some.entry c.files.ensures.pairs c.files.ensures.entries c.in-Some.ensures in
+    let lt = within_files c.args.header.now c.files.result.now c.args.file c.in-Some.entry c.files.ensures.pairs c.files.ensures.entries
+    c.in-Some.ensures in
     ((λ t. lt), (λ h. refl))

@@ -14,7 +14,8 @@ of-requires c =
       dead = known.dead;
       skip = c.args.skip_copies;
       units = known.units;
-      index_is = index_of_draft c.args.strings.now.line.now c.args.strings.now.general.now known.dead c.args.skip_copies known.units c.args.self c.in_ok-entries.entries.items known.draft_is known.rising
+      index_is = index_of_draft c.args.strings.now.line.now c.args.strings.now.general.now known.dead c.args.skip_copies known.units
+          c.args.self c.in_ok-entries.entries.items known.draft_is known.rising
           done.settled (done.entries sequences known.draft_is.collects) (done.apart sequences known.draft_is.collects);
     }
 
@@ -22,5 +23,6 @@ pub returns-clause-index : goal.returns-clause-index
 returns-clause-index c dead units d =
     let done = c.in_ok-entries.ensures in
     rw c.of.ensures
-    (index_of_draft c.args.strings.now.line.now c.args.strings.now.general.now dead c.args.skip_copies units c.args.self c.in_ok-entries.entries.items d c.requires.rising
+    (index_of_draft c.args.strings.now.line.now c.args.strings.now.general.now dead c.args.skip_copies units c.args.self
+    c.in_ok-entries.entries.items d c.requires.rising
     done.settled (done.entries (live_sequences dead units) d.collects) (done.apart (live_sequences dead units) d.collects))

@@ -8,28 +8,51 @@ use Rattle.lnt_lines.proofs.index.Index.lookup.Goals as goal
 
 pub returns-in_default-clause-answer : goal.returns-in_default-clause-answer
 returns-in_default-clause-answer c dead skip units is =
-    let index : Indexed = record { line = c.self.inside.strings.line.now; general = c.self.inside.strings.general.now; entries = c.self.inside.entries.items; units = c.self.inside.units.items; programs = c.self.inside.programs.items } in
+    let index : Indexed = record {
+      line = c.self.inside.strings.line.now;
+      general = c.self.inside.strings.general.now;
+      entries = c.self.inside.entries.items;
+      units = c.self.inside.units.items;
+      programs = c.self.inside.programs.items;
+    } in
     let of_index : IsIndexOf dead skip units index = subst (IsIndexOf dead skip units) (sym c.self.view_is) is in
-    found_none dead skip units index c.args.position c.holder_answers.ensures of_index (subst (λ (es : List Extent). NoneHolds es c.args.position) c.deref.ensures.value c.in_default.ensures.found)
+    found_none dead skip units index c.args.position c.holder_answers.ensures of_index
+    (subst (λ (es : List Extent). NoneHolds es c.args.position) c.deref.ensures.value c.in_default.ensures.found)
 
 pub returns-in_default-rows_of-clause-answer : goal.returns-in_default-rows_of-clause-answer
 returns-in_default-rows_of-clause-answer c dead skip units is =
-    let index : Indexed = record { line = c.self.inside.strings.line.now; general = c.self.inside.strings.general.now; entries = c.self.inside.entries.items; units = c.self.inside.units.items; programs = c.self.inside.programs.items } in
+    let index : Indexed = record {
+      line = c.self.inside.strings.line.now;
+      general = c.self.inside.strings.general.now;
+      entries = c.self.inside.entries.items;
+      units = c.self.inside.units.items;
+      programs = c.self.inside.programs.items;
+    } in
     let of_index : IsIndexOf dead skip units index = subst (IsIndexOf dead skip units) (sym c.self.view_is) is in
     let found : Answers dead skip units index c.args.position c.in-Some.extent.id =
-    found_answer dead skip units index c.args.position c.in-Some.extent c.holder_answers.ensures of_index (subst (λ (es : List Extent). IsHolder es c.args.position c.in-Some.extent) c.deref.ensures.value c.in-Some.ensures.found) in
+    found_answer dead skip units index c.args.position c.in-Some.extent c.holder_answers.ensures of_index
+    (subst (λ (es : List Extent). IsHolder es c.args.position c.in-Some.extent) c.deref.ensures.value c.in-Some.ensures.found) in
     let sequence : IsSequenceIn c.deref-2.result.now c.deref-3.result.now c.in-Some.extent.id found.rows =
     subst (λ (us : List ℕ). IsSequenceIn us c.deref-3.result.now c.in-Some.extent.id found.rows) (sym c.deref-2.ensures.value)
-    (subst (λ (ks : List Kept). IsSequenceIn index.units ks c.in-Some.extent.id found.rows) (sym c.deref-3.ensures.value) found.sequence_is) in
+    (subst (λ (ks : List Kept). IsSequenceIn index.units ks c.in-Some.extent.id found.rows) (sym c.deref-3.ensures.value)
+    found.sequence_is) in
     absurd (c.in_default-rows_of.ensures.rows found.rows sequence)
 
 pub returns-clause-answer : goal.returns-clause-answer
 returns-clause-answer c dead skip units is =
-    let index : Indexed = record { line = c.self.inside.strings.line.now; general = c.self.inside.strings.general.now; entries = c.self.inside.entries.items; units = c.self.inside.units.items; programs = c.self.inside.programs.items } in
+    let index : Indexed = record {
+      line = c.self.inside.strings.line.now;
+      general = c.self.inside.strings.general.now;
+      entries = c.self.inside.entries.items;
+      units = c.self.inside.units.items;
+      programs = c.self.inside.programs.items;
+    } in
     let of_index : IsIndexOf dead skip units index = subst (IsIndexOf dead skip units) (sym c.self.view_is) is in
     let found : Answers dead skip units index c.args.position c.in-Some.extent.id =
-    found_answer dead skip units index c.args.position c.in-Some.extent c.holder_answers.ensures of_index (subst (λ (es : List Extent). IsHolder es c.args.position c.in-Some.extent) c.deref.ensures.value c.in-Some.ensures.found) in
+    found_answer dead skip units index c.args.position c.in-Some.extent c.holder_answers.ensures of_index
+    (subst (λ (es : List Extent). IsHolder es c.args.position c.in-Some.extent) c.deref.ensures.value c.in-Some.ensures.found) in
     let sequence : IsSequenceIn c.deref-2.result.now c.deref-3.result.now c.in-Some.extent.id found.rows =
     subst (λ (us : List ℕ). IsSequenceIn us c.deref-3.result.now c.in-Some.extent.id found.rows) (sym c.deref-2.ensures.value)
-    (subst (λ (ks : List Kept). IsSequenceIn index.units ks c.in-Some.extent.id found.rows) (sym c.deref-3.ensures.value) found.sequence_is) in
+    (subst (λ (ks : List Kept). IsSequenceIn index.units ks c.in-Some.extent.id found.rows) (sym c.deref-3.ensures.value)
+    found.sequence_is) in
     c.answer_at.ensures found.rows (c.in-Some-rows_of.ensures.rows found.rows sequence) ∙ sym found.answer_is

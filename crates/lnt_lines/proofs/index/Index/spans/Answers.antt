@@ -5,6 +5,12 @@ use Rattle.lnt_lines.proofs.index.Index.spans.Goals as goal
 
 pub returns-clause-gives : goal.returns-clause-gives
 returns-clause-gives c dead skip units is =
-    let index : Indexed = record { line = c.self.inside.strings.line.now; general = c.self.inside.strings.general.now; entries = c.self.inside.entries.items; units = c.self.inside.units.items; programs = c.self.inside.programs.items } in
+    let index : Indexed = record {
+      line = c.self.inside.strings.line.now;
+      general = c.self.inside.strings.general.now;
+      entries = c.self.inside.entries.items;
+      units = c.self.inside.units.items;
+      programs = c.self.inside.programs.items;
+    } in
     rw (c.of.ensures, c.deref.ensures.value, c.deref-2.ensures.value, c.deref-3.ensures.value, ← c.self.view_is)
     (gives_all dead skip units index c.entries_in_turn.ensures (subst (IsIndexOf dead skip units) (sym c.self.view_is) is))

@@ -5,4 +5,5 @@ pub returns-in_err-step-clause-err : goal.returns-in_err-step-clause-err
 returns-in_err-step-clause-err c =
     let p = err_from_is_err_and c.from_residual.result c.from_residual.ensures.1 in
     rw (p.1, p.2) (λ other dead view files old ran room.
-    c.in_err-step.ensures.err other dead view files old c.loop-op.ops c.next_short.new.self (c.loop-op.invariant.3 dead view files old ran room) c.in-Some.ensures.steps)
+    c.in_err-step.ensures.err other dead view files old c.loop-op.ops c.next_short.new.self
+    (c.loop-op.invariant.3 dead view files old ran room) c.in-Some.ensures.steps)

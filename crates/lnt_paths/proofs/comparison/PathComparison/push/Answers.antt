@@ -15,17 +15,22 @@ pub returns-in_default-clause-merged : goal.returns-in_default-clause-merged
 returns-in_default-clause-merged g c list table m =
     let none = not_found c.args.self.now.first c.if-is_some.ensures in
     subst (λ (f : Option DifferenceByPath). IsMerged (path_answer c.args.version (g.P.Paths.bytes_of c.args.paths.now))
-    (IsLeft g.S.SpanSource.to_come c.first_apart.new.section.next c.first_apart.new.section.spans) (whole c.args.said.now.high) f list (table ++ record_span c.args.said.now ∷ []))
+    (IsLeft g.S.SpanSource.to_come c.first_apart.new.section.next c.first_apart.new.section.spans) (whole c.args.said.now.high) f list
+    (table ++ record_span c.args.said.now ∷ []))
     (sym none)
-    (merged_on (path_answer c.args.version (g.P.Paths.bytes_of c.args.paths.now)) list table c.args.said.now (whole c.args.self.now.at) c.args.self.now.first
-    (IsLeft g.S.SpanSource.to_come c.args.self.now.section.next c.args.self.now.section.spans) (IsLeft g.S.SpanSource.to_come c.first_apart.new.section.next c.first_apart.new.section.spans)
+    (merged_on (path_answer c.args.version (g.P.Paths.bytes_of c.args.paths.now)) list table c.args.said.now (whole c.args.self.now.at)
+    c.args.self.now.first
+    (IsLeft g.S.SpanSource.to_come c.args.self.now.section.next c.args.self.now.section.spans)
+    (IsLeft g.S.SpanSource.to_come c.first_apart.new.section.next c.first_apart.new.section.spans)
     (follows c.args.self.now.at c.args.said.now c.requires.behind c.requires.holds) none
     (λ rest left order. rw c.in_default.is at c.in_ok-found.ensures.apart rest left order) m)
 
 pub returns-clause-merged : goal.returns-clause-merged
 returns-clause-merged g c list table m =
-    merged_apart (path_answer c.args.version (g.P.Paths.bytes_of c.args.paths.now)) list table c.args.said.now (whole c.args.self.now.at) c.args.self.now.first
-    (IsLeft g.S.SpanSource.to_come c.args.self.now.section.next c.args.self.now.section.spans) _ c.in-Some.apart c.in_ok-difference_of.field-0
+    merged_apart (path_answer c.args.version (g.P.Paths.bytes_of c.args.paths.now)) list table c.args.said.now (whole c.args.self.now.at)
+    c.args.self.now.first
+    (IsLeft g.S.SpanSource.to_come c.args.self.now.section.next c.args.self.now.section.spans) _ c.in-Some.apart
+    c.in_ok-difference_of.field-0
     (follows c.args.self.now.at c.args.said.now c.requires.behind c.requires.holds) (not_found c.args.self.now.first c.if-is_some.ensures)
     (λ rest left order. rw c.in-Some.is at c.in_ok-found.ensures.apart rest left order)
     c.in_ok-difference_of.ensures.position c.in_ok-difference_of.ensures.table c.in_ok-difference_of.ensures.section m

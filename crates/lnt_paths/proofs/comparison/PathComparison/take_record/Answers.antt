@@ -8,12 +8,15 @@ pub returns-then-not-takes-clause-judged : goal.returns-then-not-takes-clause-ju
 returns-then-not-takes-clause-judged g c list records j = (
   j.table,
   j.is_table,
-  order_fault g.S.SpanSource.to_come (path_answer c.args.version (g.P.Paths.bytes_of c.args.paths.now)) c.args.version c.args.self.now list records
+  order_fault g.S.SpanSource.to_come (path_answer c.args.version (g.P.Paths.bytes_of c.args.paths.now)) c.args.version c.args.self.now list
+      records
       (fields_of c.args.row.now) c.in-Ok.said j c.in-Ok.ensures.ok c.if-not-takes.ensures,
 )
 
 pub returns-clause-judged : goal.returns-clause-judged
 returns-clause-judged g c list records j =
-    record_taken g.S.SpanSource.to_come (path_answer c.args.version (g.P.Paths.bytes_of c.args.paths.now)) c.args.version c.args.self.now _ list records
-    (fields_of c.args.row.now) c.in-Ok.said j c.in-Ok.ensures.ok c.if-not-takes.ensures.0 c.if-not-takes.ensures.1 (omega (arith, c.in_ok-push.ensures.count))
+    record_taken g.S.SpanSource.to_come (path_answer c.args.version (g.P.Paths.bytes_of c.args.paths.now)) c.args.version c.args.self.now _
+    list records
+    (fields_of c.args.row.now) c.in-Ok.said j c.in-Ok.ensures.ok c.if-not-takes.ensures.0 c.if-not-takes.ensures.1
+    (omega (arith, c.in_ok-push.ensures.count))
     c.in_ok-push.ensures.merged

@@ -6,7 +6,8 @@ use Rattle.lnt_paths.proofs.joined.Joined.next_joined.Given as goal
 
 abbrev pub invariant-loop-span : goal.invariant-loop-span
 invariant-loop-span g l = (l.self.next ≡ None) × (g.S.SpanSource.left l.self.spans ≤ g.S.SpanSource.left l.fn.self.spans)
-    × ((joined : List Span) → WillGive (path_answer l.version (g.P.Paths.bytes_of l.paths)) l.fn.self.next (g.S.SpanSource.to_come l.fn.self.spans) joined
+    × ((joined : List Span) → WillGive (path_answer l.version (g.P.Paths.bytes_of l.paths)) l.fn.self.next
+    (g.S.SpanSource.to_come l.fn.self.spans) joined
     → GrowsTo (path_answer l.version (g.P.Paths.bytes_of l.paths)) l.last (g.S.SpanSource.to_come l.self.spans) joined)
 
 abbrev pub decreases-loop-span : goal.decreases-loop-span
