@@ -37,6 +37,8 @@ use std::alloc::{AllocError, Global};
 ///
 /// No list of the spans is made, and a path is made again only where it was asked for long ago. The caller sees to it that the
 /// spans are in order and none is empty. The one error is that memory ran out.
+// Its reader of records is large, and the stack is short: a caller doesn't hold it beside its own.
+#[inline(never)]
 pub fn compare_by_path<S: SpanSource + Drop, P: Paths>(
     alloc: Global,
     table: &[u8],
