@@ -13,13 +13,15 @@ for tool in bash sed find sort xargs sha256sum readlink dirname mktemp mkdir rm 
   ln -s "$(command -v "$tool")" "$work/without/$tool"
 done
 
-# A toolchain that proves nothing and copies the program, and keeps a line for each time that it is asked.
+# A toolchain that proves three crates at once and copies the program, and keeps a line for each time that it is asked.
 cat >"$work/bin/rt" <<END
 #!/usr/bin/env bash
-echo "\$1 \${PWD##*/}" >>"$work/asked"
-echo "of \${PWD##*/}"
-[ ! -e "$work/no_\${PWD##*/}" ] || exit 1
-[ "\$1" = lib ] || { sleep 1; mkdir -p out && cp "$top/crates/linetab/out/linetab" out/linetab; }
+echo "\$1" >>"$work/asked"
+case \$1 in
+  lib) [ ! -e "$work/no_\${PWD##*/}" ] ;;
+  all) sleep 1; printf '== %s\n' lnt_wire lnt_header linetab summary; [ ! -e "$work/broken" ] ;;
+  run) mkdir -p out && cp "$top/crates/linetab/out/linetab" out/linetab ;;
+esac
 END
 chmod +x "$work/bin/rt"
 with_rt() { env PATH="$work/bin:$work/without" "$@"; }
@@ -35,40 +37,18 @@ plainly() {
 all=$(cd crates && printf '%s\n' */ | grep -cvE '^lnt_(bench|ffi|samples)/|_tests/$')
 section=$top/examples/hello.debug_line
 
-# What is said while all that was asked for is proved.
-told() {
-  local name count=0
-  echo 'linetab: proving and building the program, which takes some minutes the first time'
-  while read -r _ name; do
-    echo "linetab: proving $name ($((count += 1)) of $all), N s"
-  done <"$work/asked"
-}
-# Whether each crate was proved after those that it uses.
-in_order() {
-  local name below seen=' '
-  while read -r _ name; do
-    for below in $(sed -n "s/^$name:\([^#]*\).*/\1/p" crates.txt); do
-      [[ $seen == *" $below "* || ! -d crates/$below ]] || return 1
-    done
-    seen+="$name "
-  done <"$work/asked"
-}
-# What was asked for of the libraries, how often, and of what else.
-asked() {
-  grep -c '^lib ' "$work/asked"
-  grep -v '^lib ' "$work/asked"
-}
-
 expect 'no program and no toolchain' 127 '' "linetab: the program isn't built: it would be WORK/tree/crates/linetab/out/linetab. To prove and build it, install the Rattle toolchain, so that its command rt is on the PATH"$'\n' \
   plainly without_rt "$tree/linetab" units "$section"
 touch "$work/no_lnt_header"
-plainly with_rt "$tree/linetab" units "$section" >"$work/out" 2>"$work/all"
-is_written 'a crate that is not proved' 126 $? '' "$(told)"$'\nof lnt_header\nlinetab: the program isn\'t proved\n' "$work/all"
-rm "$work/no_lnt_header" "$work/asked"
-plainly with_rt "$tree/linetab" units "$section" >"$work/out" 2>"$work/all"
-is_written 'the first build' 0 $? $'0x0 32 156\n' "$(told)"$'\nlinetab: built in N s\n' "$work/all"
-expect 'each crate once' 0 "$((all - 1))"$'\nrun linetab\n' '' asked
-expect 'after those that it uses' 0 '' '' in_order
+expect 'a crate that others wait for is not proved' 126 '' $'linetab: proving and building the program, which takes some minutes the first time\nlinetab: proved lnt_wire (1 of '"$all"$'), N s\n== lnt_wire\nlinetab: the program isn\'t proved\n' \
+  plainly with_rt "$tree/linetab" units "$section"
+mv "$work/no_lnt_header" "$work/broken"
+expect 'a crate that is not proved' 126 '' $'linetab: proving and building the program, which takes some minutes the first time\nlinetab: proved lnt_wire (1 of '"$all"$'), N s\nlinetab: proved lnt_header (2 of '"$all"$'), N s\nlinetab: proved lnt_header_bytes (3 of '"$all"$'), N s\nlinetab: proved lnt_ops (4 of '"$all"$'), N s\nlinetab: proved linetab (5 of '"$all"$'), N s\n== lnt_wire\n== lnt_header\n== lnt_header_bytes\n== lnt_ops\n== lnt_wire\n== lnt_header\n== linetab\n== summary\nlinetab: the program isn\'t proved\n' \
+  plainly with_rt "$tree/linetab" units "$section"
+rm "$work/broken" "$work/asked"
+expect 'the first build' 0 $'0x0 32 156\n' $'linetab: proving and building the program, which takes some minutes the first time\nlinetab: proved lnt_wire (1 of '"$all"$'), N s\nlinetab: proved lnt_header (2 of '"$all"$'), N s\nlinetab: proved lnt_header_bytes (3 of '"$all"$'), N s\nlinetab: proved lnt_ops (4 of '"$all"$'), N s\nlinetab: proved linetab (5 of '"$all"$'), N s\nlinetab: built in N s\n' \
+  plainly with_rt "$tree/linetab" units "$section"
+expect 'once built, nothing is asked of the toolchain' 0 $'lib\nlib\nlib\nlib\nall\nrun\n' '' cat "$work/asked"
 expect 'it runs without one' 0 $'0x0 32 156\n' '' without_rt "$tree/linetab" units "$section"
 cp -r "$tree" "$work/copy"
 find "$work/copy" -name '*.rt' -exec touch {} +
@@ -78,5 +58,5 @@ touch -d 2000-01-01 "$tree/crates/lnt_wire/src/lib.rt"
 rm "$work/asked"
 expect 'a changed source, and two that ask at once' 0 $'0x0 64 172\n' '' \
   env PATH="$work/bin:$work/without" bash -c '"$0" convert "$1" --format 64 --order little 2>/dev/null | "$0" units - 2>/dev/null' "$tree/linetab" "$section"
-expect 'are one build' 0 "$((all - 1))"$'\nrun linetab\n' '' asked
+expect 'are one build' 0 $'lib\nlib\nlib\nlib\nall\nrun\n' '' cat "$work/asked"
 finish
