@@ -3,6 +3,8 @@ pub mod ComparisonLemmas
 pub mod JoiningLemmas
 pub mod LineLemmas
 pub mod MergingLemmas
+pub mod OneComparisonLemmas
+pub mod OneTableLemmas
 pub mod PathSpanLemmas
 pub mod ReadingLemmas
 pub mod StepLemmas

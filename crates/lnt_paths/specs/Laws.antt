@@ -1,7 +1,17 @@
--- What the laws of spans by path say.
-use Rattle.std.specs.Prelude.{◌≡◌, List}
+pub mod Beginnings
+-- What the laws of spans and of tables by path say.
+use Rattle.std.specs.Prelude.{◌≡◌, ℕ, List, Option}
+use Rattle.std.specs.Option.{option_map}
 use Rattle.lnt_spans.specs.declared.position.Position.{Position}
+use Rattle.lnt_records.specs.declared.fault.TableFault.{TableFault}
+use Rattle.lnt_paths.specs.declared.answer.ComparedByPath.{ComparedByPath}
+use Rattle.lnt_paths.specs.declared.answer.ComparedByPath.TheVariants.{Same, Fault, Differs}
+use Rattle.lnt_paths.specs.declared.version.PathVersion.{PathVersion}
+use Rattle.lnt_paths.specs.PathAnswers.{PathAnswer}
+use Rattle.lnt_paths.specs.PathDifferences.{DifferFirst, IsPathComparison, told_path_answer}
+use Rattle.lnt_paths.specs.PathFaults.{IsPathFault}
 use Rattle.lnt_paths.specs.PathSpans.{AreCanonicalPaths, PathSpan, path_span_answer}
+use Rattle.lnt_paths.specs.PathTables.{IsPathTableOf}
 
 abbrev pub AgreeByPath : List PathSpan → List PathSpan → Type 0
 AgreeByPath xs ys = (p : Position) → path_span_answer xs p ≡ path_span_answer ys p
@@ -9,3 +19,45 @@ AgreeByPath xs ys = (p : Position) → path_span_answer xs p ≡ path_span_answe
 -- Canonical lists that answer alike everywhere are the same list.
 abbrev pub OneCanonicalOfPaths : Type 0
 OneCanonicalOfPaths = (xs ys : List PathSpan) → AreCanonicalPaths xs → AreCanonicalPaths ys → AgreeByPath xs ys → xs ≡ ys
+
+-- ---- bytes
+
+-- Bytes are a table by path of one version and of one list of spans.
+abbrev pub OnePathTable : Type 0
+OnePathTable = (bytes : List ℕ) (v w : PathVersion) (xs ys : List PathSpan) → IsPathTableOf v bytes xs → IsPathTableOf w bytes ys
+    → (v ≡ w) × (xs ≡ ys)
+
+-- No fault is told of a table by path.
+abbrev pub NoPathFault : Type 0
+NoPathFault = (bytes : List ℕ) (version : PathVersion) (spans : List PathSpan) (told : TableFault) → IsPathTableOf version bytes spans
+    → IsPathFault bytes told → ⊥
+
+-- At most one fault is the first one of the bytes.
+abbrev pub OnePathFault : Type 0
+OnePathFault = (bytes : List ℕ) (told other : TableFault) → IsPathFault bytes told → IsPathFault bytes other → told ≡ other
+
+-- ---- a comparison
+
+-- Two answer differently first at one position, where each has its answer.
+abbrev pub OneLeastPathDifference : Type 0
+OneLeastPathDifference =
+    (by_section by_table : Position → Option PathAnswer) (p q : Position) (table section table' section' : Option PathAnswer)
+    → DifferFirst by_section by_table p table section → DifferFirst by_section by_table q table' section'
+    → (p ≡ q) × (table ≡ table') × (section ≡ section')
+
+-- What a comparison tells: of a path the bytes, wherever they are held.
+pub data ToldByPath : Type 0 where
+  tells_same : ToldByPath
+  tells_fault : TableFault → ToldByPath
+  tells_difference : Position → Option PathAnswer → Option PathAnswer → ToldByPath
+
+abbrev pub told_by_path : ComparedByPath → ToldByPath
+told_by_path Same = tells_same
+told_by_path (Fault told) = tells_fault told
+told_by_path (Differs difference) = tells_difference difference.position (option_map told_path_answer difference.by_table)
+    (option_map told_path_answer difference.by_section)
+
+-- Of bytes, and of what a section answers, a comparison tells one thing.
+abbrev pub OnePathComparison : Type 0
+OnePathComparison = (bytes : List ℕ) (section : PathVersion → Position → Option PathAnswer) (one other : ComparedByPath)
+    → IsPathComparison bytes section one → IsPathComparison bytes section other → told_by_path one ≡ told_by_path other

@@ -1,10 +1,6 @@
--- Bytes have one list of records, these are one table, and no fault is told of a table.
-use Rattle.std.proofs.Common.{◌≡◌, ◌∙◌, ℕ, List, [], ◌∷◌, ◌++◌, length, refl, sym, ap, subst, None, arith}
+-- Bytes are one table, and no fault is told of a table.
+use Rattle.std.proofs.Common.{◌≡◌, ◌∙◌, ℕ, List, [], ◌∷◌, ◌++◌, length, refl, sym, ap, subst, arith}
 use Rattle.std.specs.List.{AllZip}
-use Rattle.csv.specs.Machine.{Read, next_record}
-use Rattle.csv.specs.Reading.{Reached}
-use Rattle.csv.specs.declared.parser.Config.{Config}
-use Rattle.csv.specs.declared.parser.State.{State}
 use Rattle.lnt_spans.specs.declared.answer.Version.{Version}
 use Rattle.lnt_spans.specs.declared.answer.Version.TheVariants.{One, Two}
 use Rattle.lnt_spans.specs.declared.span.Span.{Span}
@@ -17,54 +13,10 @@ use Rattle.lnt_records.specs.declared.fault.TableFault.{TableFault}
 use Rattle.lnt_records.specs.declared.fault.TableFault.TheVariants as fault
 use Rattle.lnt_records.specs.Faults.{DiffersSo, HasFaultyRecord, IsFaulty}
 use Rattle.lnt_records.specs.Laws.{Agreement, NoFault, OneTable}
-use Rattle.lnt_records.specs.Table.{BeginsWith, Fields, IsSpanRecord, IsTable, IsTableOf, RecordsOf, column_names}
+use Rattle.lnt_records.specs.Laws.Beginnings.{table_begins}
+use Rattle.lnt_records.specs.Laws.Records.{front_of, one_list}
+use Rattle.lnt_records.specs.Table.{Fields, IsSpanRecord, IsTable, IsTableOf, RecordsOf, column_names}
 use Rattle.lnt_records.proofs.SaidLemmas.{one_span, sound_column}
-
--- ---- one list of records
-
--- The records begin with any that are read first.
-read_front : (cfg : Config) (s s1 s2 : State) (xs y1 y2 : List ℕ) (front records : List Fields) → Reached cfg s xs front s1 y1
-    → Reached cfg s xs records s2 y2
-    → next_record cfg s2 [] [] y2 ≡ None → (behind : List Fields) × (records ≡ front ++ behind)
-unfolding Reached
-read_front cfg s s1 s2 xs y1 y2 [] records h k none = (records, refl)
-read_front cfg s s1 s2 xs y1 y2 (r ∷ front) [] h k none =
-    let last : next_record cfg s [] [] xs ≡ None = rw (k.0, k.1) none in
-    let first = h.1 in
-    absurd (cc (last, first))
-read_front cfg s s1 s2 xs y1 y2 (r ∷ front) (q ∷ records) h k none =
-    let one = h.1 in
-    let two = k.1 in
-    let same : k.0 ≡ h.0 = cc in
-    let first : q ≡ r = k.2 ∙ ap (λ (p : Read). p.0) same ∙ sym h.2 in
-    let rest = read_front cfg h.0.1 s1 s2 h.0.2 y1 y2 front records h.3 (subst (λ (p : Read). Reached cfg p.1 p.2 records s2 y2) same k.3)
-    none in
-    let behind = rest.1 in
-    (rest.0, cc)
-
-front_of : (bytes : List ℕ) (front records : List Fields) → BeginsWith bytes front → RecordsOf bytes records
-    → (behind : List Fields) × (records ≡ front ++ behind)
-front_of bytes front records h k = read_front _ _ _ _ _ _ _ front records h.2 k.2 k.3
-
-begins_all : (bytes : List ℕ) (records : List Fields) → RecordsOf bytes records → BeginsWith bytes records
-begins_all bytes records h = (h.0, h.1, h.2)
-
-same_lists : (xs ys behind more : List Fields) → xs ≡ ys ++ behind → ys ≡ xs ++ more → xs ≡ ys
-same_lists [] [] behind more e f = refl
-same_lists [] (y ∷ ys) behind more e f = absurd (cc e)
-same_lists (x ∷ xs) [] behind more e f = absurd (cc f)
-same_lists (x ∷ xs) (y ∷ ys) behind more e f =
-    let first : x ≡ y = cc in
-    let left : xs ≡ ys ++ behind = cc in
-    let right : ys ≡ xs ++ more = cc in
-    let rest = same_lists xs ys behind more left right in
-    cc
-
-one_list : (bytes : List ℕ) (xs ys : List Fields) → RecordsOf bytes xs → RecordsOf bytes ys → xs ≡ ys
-one_list bytes xs ys h k =
-    let a = front_of bytes ys xs (begins_all bytes ys k) h in
-    let b = front_of bytes xs ys (begins_all bytes xs h) k in
-    same_lists xs ys a.0 b.0 a.1 b.1
 
 -- ---- one table
 
@@ -159,16 +111,8 @@ record_none bytes version spans records told all t f =
     faulty_none f.version version f.records front.0 f.fields f.spans spans told f.table f.faulty
     (subst (λ (r : List Fields). IsTable version r spans) front.1 t)
 
-header_first : (bytes : List ℕ) (version : Version) (records : List Fields) (spans : List Span) → BeginsWith bytes records
-    → IsTable version records spans → BeginsWith bytes (column_names version ∷ [])
-unfolding Reached
-header_first bytes version [] spans h t = absurd t
-header_first bytes version (first ∷ records) spans h t =
-    let read = h.2 in
-    (read.0.1, read.0.2, (read.0, read.1, sym t.0 ∙ read.2, (refl, refl)))
-
 pub no_fault : NoFault
-no_fault bytes version spans fault.Header t f = f version (header_first bytes version t.0 spans (begins_all bytes t.0 t.1) t.2)
+no_fault bytes version spans fault.Header t f = f version (table_begins bytes version spans t)
 no_fault bytes version spans (fault.Fields k) t f = record_none bytes version spans t.0 (fault.Fields k) t.1 t.2 f
 no_fault bytes version spans (fault.Number k i) t f = record_none bytes version spans t.0 (fault.Number k i) t.1 t.2 f
 no_fault bytes version spans (fault.Order k) t f = record_none bytes version spans t.0 (fault.Order k) t.1 t.2 f

@@ -1,4 +1,5 @@
 pub mod Beginnings
+pub mod Records
 pub mod Versions
 -- What the laws of tables say.
 use Rattle.std.specs.Prelude.{◌≡◌, ℕ, List}

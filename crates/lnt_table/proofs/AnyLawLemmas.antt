@@ -1,15 +1,15 @@
 -- Which answers of a check of a table of any version are true of a section and a table.
-use Rattle.std.proofs.Common.{◌≡◌, ℕ, List, [], ◌∷◌, length, refl, sym, ap, subst, arith}
+use Rattle.std.proofs.Common.{◌≡◌, ℕ, List, length, refl, sym, ap, arith}
 use Rattle.lnt_spans.specs.declared.answer.Version.{Version}
 use Rattle.lnt_spans.specs.declared.answer.Version.TheVariants.{One, Two}
 use Rattle.lnt_records.specs.declared.fault.TableFault.TheVariants as fault
-use Rattle.lnt_records.specs.Laws.Beginnings.{faulty_begins, one_beginning, records_begin, table_begins}
-use Rattle.lnt_records.specs.Table.{BeginsWith, Fields, RecordsOf, column_names}
+use Rattle.lnt_records.specs.Laws.Beginnings.{faulty_begins, one_beginning, table_begins}
+use Rattle.lnt_records.specs.Table.{column_names}
 use Rattle.lnt_paths.specs.declared.version.PathVersion.{PathVersion}
 use Rattle.lnt_paths.specs.declared.version.PathVersion.TheVariants.{Three, Four}
 use Rattle.lnt_paths.specs.declared.answer.ComparedByPath.TheVariants.{Same}
-use Rattle.lnt_paths.specs.PathSpans.{PathSpan}
-use Rattle.lnt_paths.specs.PathTables.{IsPathTable, IsPathTableOf, path_column_names}
+use Rattle.lnt_paths.specs.Laws.Beginnings.{path_table_begins}
+use Rattle.lnt_paths.specs.PathTables.{path_column_names}
 use Rattle.lnt_paths.specs.Written.{IsCanonicalPathTable}
 use Rattle.lnt_lines.specs.declared.options.Options.{Options}
 use Rattle.lnt_lines.specs.Drafts.{IsIndexOfSection}
@@ -56,15 +56,6 @@ names_differ One Three e = let count = ap length e in omega (arith, count)
 names_differ One Four e = let count = ap length e in omega (arith, count)
 names_differ Two Three e = let count = ap length e in omega (arith, count)
 names_differ Two Four e = let count = ap length e in omega (arith, count)
-
-path_table_begins : (bytes : List ℕ) (version : PathVersion) (spans : List PathSpan) → IsPathTableOf version bytes spans
-    → BeginsWith bytes (path_column_names version ∷ [])
-path_table_begins bytes version spans table = by table.0 table.1 table.2
-  where
-    by : (records : List Fields) → RecordsOf bytes records → IsPathTable version records spans
-        → BeginsWith bytes (path_column_names version ∷ [])
-    by [] r t = absurd t
-    by (first ∷ records) r t = subst (λ (f : Fields). BeginsWith bytes (f ∷ [])) t.0 (records_begin bytes first records r)
 
 own : (line general : List ℕ) (options : Options) (section table : List ℕ) (index : Indexed) (version : PathVersion)
     → (i : IsIndexOfSection line general options section index)

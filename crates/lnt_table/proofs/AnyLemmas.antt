@@ -31,7 +31,7 @@ use Rattle.lnt_table.specs.Verdicts.{IsComparedWith, verdict_of}
 use Rattle.lnt_table.proofs.CheckLemmas.{compared_told}
 
 -- a comparison with what is answered alike
-compared_so : (bytes : List ℕ) (f g : PathVersion → Position → Option PathAnswer) (compared : ComparedByPath)
+pub compared_so : (bytes : List ℕ) (f g : PathVersion → Position → Option PathAnswer) (compared : ComparedByPath)
     → ((version : PathVersion) (p : Position) → f version p ≡ g version p) → IsPathComparison bytes f compared
     → IsPathComparison bytes g compared
 compared_so bytes f g Same e h =

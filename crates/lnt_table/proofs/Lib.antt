@@ -6,3 +6,4 @@ mod StretchLemmas
 mod WriteLemmas
 pub mod OneVerdictLemmas
 mod AnyLawLemmas
+pub mod OneCheckLemmas

@@ -6,9 +6,10 @@ use Rattle.lnt_lines.specs.declared.options.Options.{Options}
 use Rattle.lnt_lines.specs.Contents.{Contents}
 use Rattle.lnt_lines.specs.Drafts.{AreLinesOf, IsIndexOfSection}
 use Rattle.lnt_lines.specs.Good.{IsGood}
-use Rattle.lnt_lines.specs.Indexed.{Indexed}
+use Rattle.lnt_lines.specs.Indexed.{file_path_in, Indexed}
 use Rattle.lnt_paths.specs.declared.answer.ComparedByPath.TheVariants.{Same}
 use Rattle.lnt_paths.specs.declared.version.PathVersion.{PathVersion}
+use Rattle.lnt_paths.specs.Laws.{told_by_path}
 use Rattle.lnt_paths.specs.Written.{IsCanonicalPathTable}
 use Rattle.lnt_table.specs.declared.by_path.Checked.{Checked}
 use Rattle.lnt_table.specs.declared.by_path.Checked.TheVariants.{Numbered, ByPath}
@@ -50,6 +51,23 @@ pub record OneNumbered : Type 0 where
   pub one : (line general : List ℕ) (options : Options) (section table : List ℕ) (verdict : Verdict) (checked : Checked)
       → IsTrueCheck line general options section table (Numbered verdict) → IsTrueCheck line general options section table checked
       → checked ≡ Numbered verdict
+
+-- Two indexes of one section tell the same path of each file.
+pub record OnePath : Type 0 where
+  pub one : (line general : List ℕ) (options : Options) (section : List ℕ) (one other : Indexed) (unit file : ℕ)
+      → IsIndexOfSection line general options section one → IsIndexOfSection line general options section other
+      → file_path_in one unit file ≡ file_path_in other unit file
+
+-- Two answers say the same: the same verdict, or the same by path.
+abbrev pub SayTheSame : Checked → Checked → Type 0
+SayTheSame (Numbered one) (Numbered other) = one ≡ other
+SayTheSame (ByPath one) (ByPath other) = told_by_path one ≡ told_by_path other
+SayTheSame one other = ⊥
+
+-- Of one section, table and choice of options all true answers say the same.
+pub record OneCheck : Type 0 where
+  pub one : (line general : List ℕ) (options : Options) (section table : List ℕ) (one other : Checked)
+      → IsTrueCheck line general options section table one → IsTrueCheck line general options section table other → SayTheSame one other
 
 -- Of a good section, and the table by path that was written of its index, it is true that both answer the same by path, and
 -- no verdict is.

@@ -1,6 +1,6 @@
 //! Laws of answers and verdicts, each the contract of a function without parameters that does nothing.
 ghost use Rattle.lnt_spans.specs.Laws.{Borders};
-ghost use Rattle.lnt_table.specs.Laws.{OneNumbered, OneVerdict, OnlyYes, OwnTable, OwnTableByPath, OwnTableOfUnits};
+ghost use Rattle.lnt_table.specs.Laws.{OneCheck, OneNumbered, OnePath, OneVerdict, OnlyYes, OwnTable, OwnTableByPath, OwnTableOfUnits};
 
 /// Two lists of spans in order, none empty, that answer alike wherever a span of either begins or ends answer alike at
 /// every position. So the spans of a table and of a section need comparing at their borders alone.
@@ -67,4 +67,20 @@ pub fn own_table_by_path()
     ensures { OwnTableByPath }
 {
     one_numbered();
+}
+
+/// Two indexes of one section, with the same string sections, tell the same path of each file of each unit.
+pub fn one_path()
+    ensures { OnePath }
+{}
+
+/// Of one section, table of any version and choice of options all true answers of `check_any` say the same, so where nothing stops
+/// it, it has no choice: neither of the fault that it tells, nor of the position, the two answers there and the bytes of their paths.
+pub fn one_check()
+    ensures { OneCheck }
+{
+    one_verdict();
+    one_numbered();
+    one_path();
+    lnt_paths::laws::one_comparison();
 }
