@@ -78,12 +78,14 @@ struct linetab_unit {
  *  31  the unit (offset) has a row (index) whose position is below that of the row before it
  *  32  two sequences hold one position (address, op): unit (offset) and sequence (index), and those of the other one
  *  33  memory ran out: nothing was judged
- *  36  the table has no header of either version
+ *  36  the table has no header of any version
  *  37  the table has a record (index) with a wrong number of fields
  *  38  the table has a record (index) with a column (value) that holds no number of its kind
  *  39  the table has a record (index) whose span is empty, or begins below the end of the one before it
  *  40  table and section answer differently at (address, op), and at no position below: by_table is what the table
- *      answers, where table_answers is true, and by_section what the section answers, where section_answers is true
+ *      answers, where table_answers is true, and by_section what the section answers, where section_answers is true.
+ *      Where path_version is 3 or 4, the table is one by path, of that version: the answers have a line and, in version 3,
+ *      a column, and index and value are how many bytes the path has that the table answers, and that of the section
  */
 struct linetab_verdict {
     uint32_t number;
@@ -92,6 +94,7 @@ struct linetab_verdict {
     uint64_t other_offset, other_index;
     uint64_t address, op;
     bool table_answers, section_answers;
+    uint32_t path_version; /* where answers are by path; it lies where nothing was before */
     struct linetab_answer by_table, by_section;
 };
 
@@ -136,9 +139,16 @@ bool linetab_path(const struct linetab_section *section, uint64_t unit, uint64_t
 size_t linetab_table(const struct linetab_section *section, bool is_wide, uint8_t *room, size_t len,
                      struct linetab_verdict *verdict);
 
-/* Whether the address table answers as the section does, at every position. */
+/* Whether the address table, of any of the four versions, answers as the section does, at every position. */
 void linetab_check(const struct linetab_section *section, const uint8_t *table, size_t len,
                    struct linetab_verdict *verdict);
+
+/* The same verdict, and where path_version isn't 0, the paths of the two answers: that of the table is put into the front of
+ * by_table, where by_table_len is enough for all of its verdict->index bytes, and that of the section into the front of
+ * by_section, where by_section_len is enough for all of its verdict->value bytes. No zero byte stands after them. A room that is
+ * too short stays as it was: ask again with more, or go without. */
+void linetab_check_paths(const struct linetab_section *section, const uint8_t *table, size_t len, uint8_t *by_table,
+                         size_t by_table_len, uint8_t *by_section, size_t by_section_len, struct linetab_verdict *verdict);
 
 /* ---- The heap, which the host defines: linetab_heap.c does over malloc. Lookups and linetab_index
  * need none of it.
@@ -178,6 +188,7 @@ LINETAB_PINNED(sizeof(struct linetab_unit) == 16);
 LINETAB_PINNED(sizeof(struct linetab_verdict) == 184);
 LINETAB_PINNED(offsetof(struct linetab_verdict, offset) == 8);
 LINETAB_PINNED(offsetof(struct linetab_verdict, table_answers) == 64);
+LINETAB_PINNED(offsetof(struct linetab_verdict, path_version) == 68);
 LINETAB_PINNED(offsetof(struct linetab_verdict, by_table) == 72);
 LINETAB_PINNED(offsetof(struct linetab_verdict, by_section) == 128);
 

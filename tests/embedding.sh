@@ -52,6 +52,16 @@ heap=$prefix/share/linetab/linetab_heap.c
 expect 'nothing but its heap and copies of bytes is asked of the host' 0 \
   $'memcpy\nmemmove\nmemset\nrattle_alloc\nrattle_dealloc\nrattle_realloc\n' '' bash -c 'nm -u "$0" | sed -n "s/^ *U //p" | sort' "$library"
 
+# ---- tables by path, each as it is and with another path at its end
+tables=()
+for flag in --paths --lines; do
+  ./linetab table "$flag" "${hello[0]}" --line-str "${hello[1]}" >"$work/by$flag"
+  sed '$s!,[^,]*/!,/elsewhere/!' "$work/by$flag" >"$work/other$flag"
+  tables+=("$work/by$flag" "$work/other$flag")
+done
+checked=$(for table in "${tables[@]}"; do ./linetab check "${hello[0]}" "$table" --line-str "${hello[1]}" --quiet; done)$'\n'
+expect 'two are right, and two are not' 0 $'yes\nno 40\nyes\nno 40\n' '' cut -d ' ' -f 1,2 <<<"${checked%?}"
+
 # ---- the examples
 wanted=$(lookup 0x1129 0x1137 0x1)$'\n'
 expect 'C compiles' 0 '' '' cc "${strict[@]}" -std=c11 -o "$work/lookup" examples/c/lookup.c "$heap" "$library"
@@ -70,18 +80,27 @@ if here g++; then
     '' "$prefix" "$work" "${strict[@]}"
   expect 'C++: lookups' 0 "$wanted" '' "$work/lookup_cc" "${hello[@]}" 0x1129 0x1137 0x1
   callers+=(--caller "$work/lookup_cc")
+  expect 'C++ compiles checks' 0 '' '' \
+    g++ -std=c++11 "${strict[@]}" -o "$work/checks_cc" tests/embedding/checks.cc "$work/heap.o" "$library"
+  expect 'C++: tables by path' 0 "$checked" '' "$work/checks_cc" "${hello[@]}" "${tables[@]}"
 fi
 if here cargo; then
   cp -r examples/rust "$work/rust"
+  install -D tests/embedding/checks.rs "$work/rust/src/bin/checks.rs"
   expect 'Rust compiles, and looks up' 0 "$wanted" '' \
     bash -c 'LINETAB=$1 cargo run --offline --quiet --manifest-path "$2/rust/Cargo.toml" --bin lookup -- "${@:3}"' \
     '' "$prefix" "$work" "${hello[@]}" 0x1129 0x1137 0x1
   callers+=(--caller "$work/rust/target/debug/lookup")
+  expect 'Rust: tables by path' 0 "$checked" '' \
+    bash -c 'LINETAB=$1 cargo run --offline --quiet --manifest-path "$2/rust/Cargo.toml" --bin checks -- "${@:3}"' \
+    '' "$prefix" "$work" "${hello[@]}" "${tables[@]}"
 fi
 if here python3; then
   expect 'a shared object' 0 '' '' cc -shared -fPIC -I"$prefix/include" -o "$work/liblinetab.so" -Wl,--whole-archive "$library" -Wl,--no-whole-archive "$heap"
   expect 'Python: lookups' 0 "$wanted" '' python3 examples/python/lookup.py "$work/liblinetab.so" "${hello[@]}" 0x1129 0x1137 0x1
   callers+=(--caller "python3 examples/python/lookup.py $work/liblinetab.so")
+  expect 'Python: tables by path' 0 "$checked" '' \
+    python3 tests/embedding/checks.py examples/python "$work/liblinetab.so" "${hello[@]}" "${tables[@]}"
 fi
 
 # ---- each call beside the program, on the generated cases
@@ -92,8 +111,10 @@ calls() { # NAME FILE..
   expect "$1 compiles" 0 '' '' cc "${strict[@]}" -std=c11 -g "${sanitizers[@]}" -o "$work/$1" "${@:2}" "$library" -lpthread
 }
 calls calls tests/embedding/calls.c "$heap"
+expect 'C: tables by path' 0 "$checked" '' \
+  bash -c 'for table in "${@:4}"; do "$1" check "$table" "$2" --line-str "$3"; done; true' '' "$work/calls" "${hello[@]}" "${tables[@]}"
 mkdir "$work/cases"
-for archive in tests/cases/{words,copies}.tar.gz; do
+for archive in tests/cases/{words,copies,checks_by_path}.tar.gz; do
   tar xzf "$archive" -C "$work/cases"
 done
 expect 'each call tells what the generated cases want' 0 '' '' python3 tests/embedding/cases.py "$work/calls" "$work/cases"
@@ -115,7 +136,8 @@ paths powerpc64 --big
 
 # ---- memory and threads
 calls refusing tests/embedding/refusing.c
-expect 'each request refused' 0 "$(printf '%s: each request\n' linetab_{verify,units,path,table,check})"$'\n' '' "$work/refusing" "${hello[@]}" examples/hello.csv
+expect 'each request refused' 0 "$(printf '%s: each request\n' linetab_{verify,units,path,table,check,check_paths})"$'\n' '' \
+  "$work/refusing" "${hello[@]}" examples/hello.csv "$work/other--paths"
 calls threads tests/embedding/threads.c "$heap"
 expect 'eight threads' 0 $'all alike\n' '' "$work/threads" "${hello[@]}" examples/hello.csv
 end

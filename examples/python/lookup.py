@@ -30,7 +30,8 @@ class Span(Structure):
 class Verdict(Structure):
     _fields_ = [("number", c_uint32), ("detail", c_uint32)]
     _fields_ += [(name, c_uint64) for name in ("offset", "index", "value", "other_offset", "other_index", "address", "op")]
-    _fields_ += [("table_answers", c_bool), ("section_answers", c_bool), ("by_table", Answer), ("by_section", Answer)]
+    _fields_ += [("table_answers", c_bool), ("section_answers", c_bool), ("path_version", c_uint32)]
+    _fields_ += [("by_table", Answer), ("by_section", Answer)]
 
 
 assert (sizeof(Section), sizeof(Span), sizeof(Verdict)) == (64, 88, 184)

@@ -34,9 +34,18 @@ static uint8_t *read_file(const char *name, size_t *len) {
     return bytes;
 }
 
-static void print_answer(bool is_there, const struct linetab_answer *answer) {
+/* Where the table is one by path, its path and that of the section, which stand in the verdict as lengths. */
+static uint8_t *paths[2];
+
+static void print_answer(const struct linetab_verdict *v, bool is_there, const struct linetab_answer *answer, int which) {
     if (!is_there) {
         printf("none");
+        return;
+    }
+    if (v->path_version != 0) {
+        printf("\"%.*s\",%" PRIu64, (int)(which == 0 ? v->index : v->value), (const char *)paths[which], answer->line);
+        if (v->path_version == 3)
+            printf(",%" PRIu64, answer->column);
         return;
     }
     printf("%" PRIu64 ",%" PRIu64 ",%" PRIu64 ",%" PRIu64 ",%d", answer->unit, answer->file, answer->line, answer->column, answer->is_stmt);
@@ -77,9 +86,9 @@ static int print_verdict(const struct linetab_verdict *v) {
     case 39: printf("no 39 table order record %" PRIu64, v->index); break;
     case 40:
         printf("no 40 differs at 0x%" PRIx64 ",%" PRIu64 " table ", v->address, v->op);
-        print_answer(v->table_answers, &v->by_table);
+        print_answer(v, v->table_answers, &v->by_table, 0);
         printf(" section ");
-        print_answer(v->section_answers, &v->by_section);
+        print_answer(v, v->section_answers, &v->by_section, 1);
         break;
     default: printf("%" PRIu32 "?", v->number);
     }
@@ -171,8 +180,29 @@ static int print_check(const struct linetab_section *section, const char *name) 
     size_t len;
     uint8_t *table = read_file(name, &len);
     linetab_check(section, table, len, &verdict);
+    if (verdict.path_version != 0) {
+        struct linetab_verdict again;
+        size_t lengths[2] = {verdict.index, verdict.value};
+        for (int which = 0; which < 2; which++)
+            paths[which] = memset(malloc(lengths[which] + 1), '?', lengths[which] + 1);
+        /* Where a room is too short by one byte, nothing is put there, and the other one is filled. */
+        for (int which = 0; which < 2; which++)
+            if (lengths[which] != 0) {
+                linetab_check_paths(section, table, len, paths[0], lengths[0] - (which == 0), paths[1], lengths[1] - (which == 1), &again);
+                for (size_t i = 0; i < lengths[which]; i++)
+                    if (paths[which][i] != '?')
+                        printf("a path that is cut: ");
+                memset(paths[1 - which], '?', lengths[1 - which]);
+            }
+        linetab_check_paths(section, table, len, paths[0], lengths[0], paths[1], lengths[1], &again);
+        if (memcmp(&again, &verdict, offsetof(struct linetab_verdict, by_table)) != 0 || again.by_table.line != verdict.by_table.line)
+            printf("another verdict with paths: ");
+    }
     free(table);
-    return print_verdict(&verdict);
+    int status = print_verdict(&verdict);
+    free(paths[0]);
+    free(paths[1]);
+    return status;
 }
 
 int main(int argc, char **argv) {

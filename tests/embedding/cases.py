@@ -21,6 +21,7 @@ def held(folder, name):
 
 def words_of(words):
     """The words for calls.c that ask the same, or none."""
+    words = [part for word in words for part in (word.split("=", 1) if word.startswith("--") else [word])]
     word, options, names, op, k = words[0], [], [], "0", 1
     while k < len(words):
         if words[k] in ("--line-str", "--str", "--dead"):

@@ -1,5 +1,5 @@
 /* A heap that refuses its nth request, and each call with each request refused in turn:
- *   refusing SECTION LINE_STR TABLE
+ *   refusing SECTION LINE_STR TABLE TABLE_BY_PATH
  * A call either tells that memory ran out, or what it tells with ample memory, and leaves no block behind. */
 #include "linetab.h"
 #include <inttypes.h>
@@ -54,31 +54,43 @@ struct told {
     struct linetab_verdict verdict;
     struct linetab_span spans[64];
     struct linetab_unit units[4];
-    uint8_t bytes[4096];
+    uint8_t bytes[4096], more[4096];
 };
 
-enum { CALLS = 5 };
-static const char *const names[CALLS] = {"linetab_verify", "linetab_units", "linetab_path", "linetab_table", "linetab_check"};
+struct table {
+    uint8_t *bytes;
+    size_t len;
+};
 
-static void call(int which, const struct linetab_section *section, const uint8_t *table, size_t len, struct told *told) {
+enum { CALLS = 6 };
+static const char *const names[CALLS] = {
+    "linetab_verify", "linetab_units", "linetab_path", "linetab_table", "linetab_check", "linetab_check_paths",
+};
+
+/* The tables are one by number, and one by path that answers otherwise. */
+static void call(int which, const struct linetab_section *section, const struct table *tables, struct told *told) {
     memset(told, 0, sizeof *told);
     switch (which) {
     case 0: told->count = linetab_verify(section, told->spans, 64, &told->verdict); break;
     case 1: told->count = linetab_units(section, told->units, 4, &told->verdict); break;
     case 2: told->count = linetab_path(section, 0, 1, told->bytes, sizeof told->bytes, &told->length, &told->verdict); break;
     case 3: told->count = linetab_table(section, true, told->bytes, sizeof told->bytes, &told->verdict); break;
-    case 4: linetab_check(section, table, len, &told->verdict); break;
+    case 4: linetab_check(section, tables[0].bytes, tables[0].len, &told->verdict); break;
+    case 5:
+        linetab_check_paths(section, tables[1].bytes, tables[1].len, told->bytes, sizeof told->bytes, told->more, sizeof told->more,
+                            &told->verdict);
+        break;
     }
 }
 
 /* Whether the call stops as it must at each refusal; else says at which it doesn't. */
-static bool try_call(int which, const struct linetab_section *section, const uint8_t *table, size_t len) {
+static bool try_call(int which, const struct linetab_section *section, const struct table *tables) {
     static struct told wanted, told;
-    call(which, section, table, len, &wanted);
+    call(which, section, tables, &wanted);
     for (size_t n = 1;; n++) {
         until_refusal = n;
         refused = 0;
-        call(which, section, table, len, &told);
+        call(which, section, tables, &told);
         until_refusal = 0;
         bool is_stop = told.verdict.number == 33 && told.count == 0;
         if (blocks != 0 || (memcmp(&told, &wanted, sizeof told) != 0 && !(refused != 0 && is_stop))) {
@@ -93,21 +105,23 @@ static bool try_call(int which, const struct linetab_section *section, const uin
 }
 
 int main(int argc, char **argv) {
-    if (argc != 4)
+    if (argc != 5)
         return 2;
     struct linetab_section section;
     memset(&section, 0, sizeof section);
-    size_t len;
+    struct table tables[2];
     uint8_t *line = read_file(argv[1], &section.line_len), *line_str = read_file(argv[2], &section.line_str_len);
-    uint8_t *table = read_file(argv[3], &len);
+    for (int i = 0; i < 2; i++)
+        tables[i].bytes = read_file(argv[3 + i], &tables[i].len);
     section.line = line;
     section.line_str = line_str;
     section.str = (const uint8_t *)"";
     int status = 0;
     for (int which = 0; which < CALLS; which++)
-        if (!try_call(which, &section, table, len))
+        if (!try_call(which, &section, tables))
             status = 1;
-    free(table);
+    for (int i = 0; i < 2; i++)
+        free(tables[i].bytes);
     free(line_str);
     free(line);
     return status;

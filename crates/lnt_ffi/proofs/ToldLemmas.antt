@@ -1,15 +1,16 @@
 -- What was judged of the bytes of a section is told of the section.
-use Rattle.std.proofs.Common.{◌≡◌, ℕ, List, subst}
+use Rattle.std.proofs.Common.{◌≡◌, ℕ, List, length, subst}
 use Rattle.lnt_lines.specs.declared.no.No.{No}
 use Rattle.lnt_lines.specs.declared.options.Options.{Options}
 use Rattle.lnt_lines.specs.declared.section.JudgedIndex.{JudgedIndex}
 use Rattle.lnt_lines.specs.declared.section.JudgedIndex.TheVariants.{Bad}
 use Rattle.lnt_lines.specs.Drafts.{IsJudgedIndex}
 use Rattle.lnt_lines.specs.Nos.{IsTrueNo}
-use Rattle.lnt_table.specs.declared.verdict.Verdict.{Verdict}
-use Rattle.lnt_table.specs.Headline.{IsTrueVerdict}
+use Rattle.lnt_table.specs.declared.by_path.Checked.{Checked}
+use Rattle.lnt_table.specs.AnyVersion.{IsTrueCheck}
 use Rattle.lnt_ffi.specs.declared.section.FlatSection.{FlatSection}
 use Rattle.lnt_ffi.specs.Flat.{options_of}
+use Rattle.lnt_ffi.specs.Told.{HoldsAll, IsFound}
 
 pub no_of : (section : FlatSection) (line general : List ℕ) (options : Options) (bytes : List ℕ) (judged : JudgedIndex) (reason : No)
     → line ≡ section.line_str.now → general ≡ section.general.now → options ≡ options_of section → bytes ≡ section.line.now
@@ -23,13 +24,18 @@ no_of section line general options bytes judged reason l g o b j h =
     (subst (λ (bs : List ℕ). IsTrueNo line general options bs reason) b
     (subst (λ (found : JudgedIndex). IsJudgedIndex line general options bytes found) j h))))
 
-pub verdict_is : (section : FlatSection) (line general : List ℕ) (options : Options) (bytes text table : List ℕ) (found : Verdict)
+pub found_is : (section : FlatSection) (line general : List ℕ) (options : Options) (bytes text table : List ℕ) (found : Checked)
     → line ≡ section.line_str.now → general ≡ section.general.now → options ≡ options_of section → bytes ≡ section.line.now → text ≡ table
-    → IsTrueVerdict line general options bytes text found
-    → IsTrueVerdict section.line_str.now section.general.now (options_of section) section.line.now table found
-verdict_is section line general options bytes text table found l g o b t h =
-    subst (λ (texts : List ℕ). IsTrueVerdict texts section.general.now (options_of section) section.line.now table found) l
-    (subst (λ (texts : List ℕ). IsTrueVerdict line texts (options_of section) section.line.now table found) g
-    (subst (λ (os : Options). IsTrueVerdict line general os section.line.now table found) o
-    (subst (λ (bs : List ℕ). IsTrueVerdict line general options bs table found) b
-    (subst (λ (ts : List ℕ). IsTrueVerdict line general options bytes ts found) t h))))
+    → IsTrueCheck line general options bytes text found → IsFound section table found
+found_is section line general options bytes text table found l g o b t h =
+    subst (λ (texts : List ℕ). IsTrueCheck texts section.general.now (options_of section) section.line.now table found) l
+    (subst (λ (texts : List ℕ). IsTrueCheck line texts (options_of section) section.line.now table found) g
+    (subst (λ (os : Options). IsTrueCheck line general os section.line.now table found) o
+    (subst (λ (bs : List ℕ). IsTrueCheck line general options bs table found) b
+    (subst (λ (ts : List ℕ). IsTrueCheck line general options bytes ts found) t h))))
+
+-- what was put into a room, told of what it is
+pub put_of : (room : List ℕ) (count : ℕ) (bytes path : List ℕ) → count ≡ length bytes → bytes ≡ path → HoldsAll room count bytes
+    → HoldsAll room (length path) path
+put_of room count bytes path long is h =
+    subst (λ (list : List ℕ). HoldsAll room (length list) list) is (subst (λ (n : ℕ). HoldsAll room n bytes) long h)

@@ -1,3 +1,4 @@
+pub mod ByPath
 pub mod Flat
 pub mod Index
 pub mod Told

@@ -14,15 +14,16 @@ use Rattle.lnt_lines.specs.Drafts.{IsIndexOfSection}
 use Rattle.lnt_lines.specs.Good.{IsGood}
 use Rattle.lnt_lines.specs.Indexed.{file_count_in, file_path_in, Indexed}
 use Rattle.lnt_lines.specs.Nos.{IsTrueNo}
-use Rattle.lnt_table.specs.declared.verdict.Verdict.{Verdict}
-use Rattle.lnt_table.specs.Headline.{IsTrueVerdict}
+use Rattle.lnt_table.specs.declared.by_path.Checked.{Checked}
+use Rattle.lnt_table.specs.AnyVersion.{IsTrueCheck}
 use Rattle.lnt_table.specs.Written.{IsTableOfUnits}
 use Rattle.lnt_ffi.specs.declared.flat.FlatSpan.{FlatSpan}
 use Rattle.lnt_ffi.specs.declared.section.FlatSection.{FlatSection}
 use Rattle.lnt_ffi.specs.declared.unit.FlatUnit.{FlatUnit}
 use Rattle.lnt_ffi.specs.declared.verdict.FlatVerdict.{FlatVerdict}
+use Rattle.lnt_ffi.specs.ByPath.{section_path, table_path, verdict_of_check}
 use Rattle.lnt_ffi.specs.Flat.{options_of, span_of}
-use Rattle.lnt_ffi.specs.Verdicts.{numbered, verdict_of_no, verdict_of_table, yes}
+use Rattle.lnt_ffi.specs.Verdicts.{numbered, verdict_of_no, yes}
 
 -- memory ran out
 abbrev pub memory : FlatVerdict
@@ -66,10 +67,21 @@ pub data IsToldOfSpans (section : FlatSection) (count : ℕ) (room : List FlatSp
       → (count ≤ length room → map span_of (take count room) ≡ spans) → told ≡ yes → IsToldOfSpans section count room told
   refused : IsRefused section told → count ≡ 0 → IsToldOfSpans section count room told
 
+-- what is so of the section and the bytes of a table of any version
+abbrev pub IsFound : FlatSection → List ℕ → Checked → Type 0
+IsFound section text found = IsTrueCheck section.line_str.now section.general.now (options_of section) section.line.now text found
+
 pub data IsToldOfTable (section : FlatSection) (text : List ℕ) (told : FlatVerdict) : Type 0 where
-  judged : (found : Verdict) → IsTrueVerdict section.line_str.now section.general.now (options_of section) section.line.now text found
-      → told ≡ verdict_of_table found → IsToldOfTable section text told
+  judged : (found : Checked) → IsFound section text found → told ≡ verdict_of_check found → IsToldOfTable section text told
   stopped : told ≡ memory → IsToldOfTable section text told
+
+-- the same, with the paths of a difference by path in two rooms
+pub data IsToldOfPaths (section : FlatSection) (text by_table by_section : List ℕ) (told : FlatVerdict) : Type 0 where
+  judged : (found : Checked) → IsFound section text found → told ≡ verdict_of_check found
+      → HoldsAll by_table (length (table_path found)) (table_path found)
+      → HoldsAll by_section (length (section_path found)) (section_path found)
+      → IsToldOfPaths section text by_table by_section told
+  stopped : told ≡ memory → IsToldOfPaths section text by_table by_section told
 
 abbrev pub version_of : Bool → Version
 version_of is_wide = if is_wide then Two else One

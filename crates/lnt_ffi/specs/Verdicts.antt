@@ -31,6 +31,7 @@ numbered number detail = record {
   op = 0;
   table_answers = false;
   section_answers = false;
+  path_version = 0;
   by_table = nothing;
   by_section = nothing;
 }

@@ -1,14 +1,18 @@
 //! Sections checked against address tables.
-ghost use Rattle.lnt_ffi.specs.Told.{IsToldOfTable};
+ghost use Rattle.std.specs.Prelude.{◌≡◌, IfErr, IfOk, length};
+ghost use Rattle.lnt_ffi.specs.Told.{IsFound, IsToldOfPaths, IsToldOfTable, memory};
 
+use crate::by_path::{section_path, table_path, verdict_of_check};
 use crate::bytes::Bytes;
+use crate::room::put_bytes;
 use crate::section::FlatSection;
-use crate::verdict::{FlatVerdict, verdict_of_stop, verdict_of_table};
-use lnt_table::check;
+use crate::verdict::{FlatVerdict, verdict_of_stop};
+use lnt_table::{Checked, check_any};
 use std::alloc::Global;
 
-/// Checks a section against the bytes of an address table. The verdict is yes, or it tells the first thing that stands
-/// against it, with the evidence: where the two differ (40), the least position at which they do, and both answers there.
+/// Checks a section against the bytes of an address table of any version. The verdict is yes, or it tells the first thing that
+/// stands against it, with the evidence: where the two differ (40), the least position at which they do, and both answers
+/// there, of a table by path but for the paths, of which it tells how long they are.
 #[unsafe(no_mangle)]
 pub extern "C" fn linetab_check(
     alloc: Global,
@@ -18,12 +22,59 @@ pub extern "C" fn linetab_check(
 )
     ensures { IsToldOfTable section.now table.now verdict.new }
 {
+    *verdict = match check_table(alloc, section, table) {
+        Ok(found) => verdict_of_check(&found),
+        Err(stopped) => stopped,
+    };
+}
+
+/// Checks as `linetab_check` does, with the same verdict. Where the two differ by path (40), the path that the table answers is put
+/// into the front of `by_table`, and that of the section into the front of `by_section`, each where there is room for all of it.
+///
+/// `index` and `value` of the verdict say how many bytes they have. Where these are more than there is room for, nothing is put
+/// there, and the caller may ask again with more room.
+#[unsafe(no_mangle)]
+pub extern "C" fn linetab_check_paths(
+    alloc: Global,
+    section: &FlatSection<'_>,
+    table: &[u8],
+    by_table: &mut [u8],
+    by_section: &mut [u8],
+    verdict: &mut FlatVerdict,
+)
+    ensures table_room { length by_table.new ≡ length by_table.old }
+    ensures section_room { length by_section.new ≡ length by_section.old }
+    ensures told { IsToldOfPaths section.now table.now by_table.new by_section.new verdict.new }
+{
+    match check_table(alloc, section, table) {
+        Ok(found) => {
+            *verdict = verdict_of_check(&found);
+            put_bytes(table_path(&found), by_table);
+            put_bytes(section_path(&found), by_section);
+        }
+        Err(stopped) => *verdict = stopped,
+    }
+}
+
+// What is found of a section and a table, or the verdict that memory ran out.
+fn check_table(
+    alloc: Global,
+    section: &FlatSection<'_>,
+    table: &[u8],
+) -> Result<Checked, FlatVerdict>
+    ensures found { IfOk result (IsFound section.now table.now) }
+    ensures stopped { IfErr result (λ told. told ≡ memory) }
+{
     let mut line = Bytes::of(section.line);
     let mut text = Bytes::of(table);
-    let strings = section.strings();
-    let options = section.options();
-    *verdict = match check(alloc, &mut line, &strings, &mut text, &options) {
-        Ok(found) => verdict_of_table(found),
-        Err(stop) => verdict_of_stop(stop),
-    };
+    match check_any(
+        alloc,
+        &mut line,
+        &section.strings(),
+        &mut text,
+        &section.options(),
+    ) {
+        Ok(found) => Ok(found),
+        Err(stop) => Err(verdict_of_stop(stop)),
+    }
 }

@@ -5,6 +5,7 @@
 //! it returns, so there is nothing to free, and no call shares anything with another.
 #![tactic(auto)]
 
+mod by_path;
 mod bytes;
 mod checking;
 mod flat;
@@ -19,7 +20,7 @@ mod verdict;
 mod version;
 mod writing;
 
-pub use checking::linetab_check;
+pub use checking::{linetab_check, linetab_check_paths};
 pub use flat::{FlatAnswer, FlatSpan};
 pub use indexed::linetab_lookup_indexed;
 pub use indexing::linetab_index;

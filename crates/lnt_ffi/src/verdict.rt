@@ -41,6 +41,9 @@ pub struct FlatVerdict {
     pub table_answers: bool,
     /// Whether the section answers something there.
     pub section_answers: bool,
+    /// The version of the table, 3 or 4, where the answers are by path; else 0. The answers have then a line and, in version 3, a
+    /// column, and `index` and `value` are how many bytes the table's path and the section's have.
+    pub path_version: u32,
     /// What the table answers there.
     pub by_table: FlatAnswer,
     /// What the section answers there, as the version of the table tells it.
@@ -60,12 +63,13 @@ pub(crate) const YES: FlatVerdict = FlatVerdict {
     op: 0,
     table_answers: false,
     section_answers: false,
+    path_version: 0,
     by_table: NOTHING,
     by_section: NOTHING,
 };
 
 // A number and a detail, with no evidence.
-fn numbered(number: u32, detail: u32) -> FlatVerdict
+pub(crate) fn numbered(number: u32, detail: u32) -> FlatVerdict
     ensures { result ≡ numbered number detail }
 {
     FlatVerdict {
@@ -194,7 +198,7 @@ fn of_overlap(first: SeqId, second: SeqId, position: Position) -> FlatVerdict
 }
 
 // A number and a position.
-fn at(position: Position, number: u32) -> FlatVerdict
+pub(crate) fn at(position: Position, number: u32) -> FlatVerdict
     ensures { result ≡ record (numbered number 0) { address = position.address; op = position.op } }
 {
     FlatVerdict {
@@ -205,7 +209,7 @@ fn at(position: Position, number: u32) -> FlatVerdict
 }
 
 // What is wrong with a record of a table.
-fn of_record(number: u32, entry: u64, column: u64) -> FlatVerdict
+pub(crate) fn of_record(number: u32, entry: u64, column: u64) -> FlatVerdict
     ensures { result ≡ record (numbered number 0) { index = entry; value = column } }
 {
     FlatVerdict {

@@ -66,12 +66,39 @@ impl Sections<'_> {
         })
     }
 
-    /// Whether an address table answers as the section does; else the first thing that stands against it.
+    /// Whether an address table, of any version, answers as the section does; else the first thing that stands against it.
     pub fn check(&self, table: &[u8]) -> Result<(), Verdict> {
         let mut verdict = Verdict::default();
         // SAFETY: as above.
         unsafe { raw::linetab_check(&self.raw(), table.as_ptr(), table.len(), &mut verdict) };
         verdict.into_result()
+    }
+
+    /// The paths that the table and the section answer where a table by path answers otherwise (`path_version` isn't 0); else empty.
+    pub fn differing_paths(&self, table: &[u8]) -> (Vec<u8>, Vec<u8>) {
+        let (mut by_table, mut by_section) = (Vec::new(), Vec::new());
+        for _ in 0..2 {
+            let mut verdict = Verdict::default();
+            // SAFETY: as above.
+            unsafe {
+                raw::linetab_check_paths(
+                    &self.raw(),
+                    table.as_ptr(),
+                    table.len(),
+                    by_table.as_mut_ptr(),
+                    by_table.len(),
+                    by_section.as_mut_ptr(),
+                    by_section.len(),
+                    &mut verdict,
+                )
+            };
+            if verdict.path_version == 0 {
+                return Default::default();
+            }
+            by_table.resize(verdict.index as usize, 0);
+            by_section.resize(verdict.value as usize, 0);
+        }
+        (by_table, by_section)
     }
 
     fn raw(&self) -> raw::Section {

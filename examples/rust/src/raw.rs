@@ -54,6 +54,7 @@ pub struct Verdict {
     pub op: u64,
     pub table_answers: bool,
     pub section_answers: bool,
+    pub path_version: u32,
     pub by_table: Answer,
     pub by_section: Answer,
 }
@@ -91,4 +92,14 @@ extern "C" {
         verdict: &mut Verdict,
     ) -> usize;
     pub(crate) fn linetab_check(section: &Section, table: *const u8, len: usize, verdict: &mut Verdict);
+    pub(crate) fn linetab_check_paths(
+        section: &Section,
+        table: *const u8,
+        len: usize,
+        by_table: *mut u8,
+        by_table_len: usize,
+        by_section: *mut u8,
+        by_section_len: usize,
+        verdict: &mut Verdict,
+    );
 }

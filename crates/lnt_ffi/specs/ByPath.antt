@@ -1,0 +1,72 @@
+-- The verdict that C sees of a check of a table of any version, and the paths beside it.
+use Rattle.std.specs.Prelude.{ℕ, Bool, ◌||◌, if◌then◌else◌, false, is_some, List, [], Option, Some, None, length, unwrap_or}
+use Rattle.lnt_records.specs.declared.fault.TableFault.{TableFault}
+use Rattle.lnt_records.specs.declared.fault.TableFault.TheVariants as fault
+use Rattle.lnt_paths.specs.declared.answer.AnswerByPath.{AnswerByPath}
+use Rattle.lnt_paths.specs.declared.answer.ComparedByPath.{ComparedByPath}
+use Rattle.lnt_paths.specs.declared.answer.ComparedByPath.TheVariants.{Same, Fault, Differs}
+use Rattle.lnt_paths.specs.declared.answer.DifferenceByPath.{DifferenceByPath}
+use Rattle.lnt_table.specs.declared.by_path.Checked.{Checked}
+use Rattle.lnt_table.specs.declared.by_path.Checked.TheVariants.{Numbered, ByPath}
+use Rattle.lnt_ffi.specs.declared.flat.FlatAnswer.{FlatAnswer}
+use Rattle.lnt_ffi.specs.declared.verdict.FlatVerdict.{FlatVerdict}
+use Rattle.lnt_ffi.specs.Flat.{nothing}
+use Rattle.lnt_ffi.specs.Verdicts.{numbered, verdict_of_table, yes}
+
+-- ---- one side of a difference, which may answer nothing
+
+-- its path
+abbrev pub path_in : Option AnswerByPath → List ℕ
+path_in None = []
+path_in (Some answer) = answer.path.items
+
+-- its line, and its column where that is told, else 0
+abbrev pub flat_place : Option AnswerByPath → FlatAnswer
+flat_place None = nothing
+flat_place (Some answer) = record nothing { line = answer.line; column = unwrap_or answer.column 0 }
+
+abbrev pub tells_column : Option AnswerByPath → Bool
+tells_column None = false
+tells_column (Some answer) = is_some answer.column
+
+-- ---- a difference
+
+-- The table's version is 3 where an answer has a column, and else 4.
+abbrev pub of_difference : DifferenceByPath → FlatVerdict
+of_difference difference = record (numbered 40 0) {
+  address = difference.position.address;
+  op = difference.position.op;
+  index = length (path_in difference.by_table);
+  value = length (path_in difference.by_section);
+  table_answers = is_some difference.by_table;
+  section_answers = is_some difference.by_section;
+  path_version = if tells_column difference.by_table || tells_column difference.by_section then 3 else 4;
+  by_table = flat_place difference.by_table;
+  by_section = flat_place difference.by_section;
+}
+
+-- ---- a check
+
+abbrev pub of_fault : TableFault → FlatVerdict
+of_fault fault.Header = numbered 36 0
+of_fault (fault.Fields entry) = record (numbered 37 0) { index = entry }
+of_fault (fault.Number entry column) = record (numbered 38 0) { index = entry; value = column }
+of_fault (fault.Order entry) = record (numbered 39 0) { index = entry }
+
+abbrev pub verdict_of_compared : ComparedByPath → FlatVerdict
+verdict_of_compared Same = yes
+verdict_of_compared (Fault told) = of_fault told
+verdict_of_compared (Differs difference) = of_difference difference
+
+abbrev pub verdict_of_check : Checked → FlatVerdict
+verdict_of_check (Numbered verdict) = verdict_of_table verdict
+verdict_of_check (ByPath compared) = verdict_of_compared compared
+
+-- the path that the table answers where the two differ by path, and that of the section
+abbrev pub table_path : Checked → List ℕ
+table_path (ByPath (Differs difference)) = path_in difference.by_table
+table_path other = []
+
+abbrev pub section_path : Checked → List ℕ
+section_path (ByPath (Differs difference)) = path_in difference.by_section
+section_path other = []
