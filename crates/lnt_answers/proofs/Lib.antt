@@ -2,3 +2,5 @@ pub mod AddressLemmas
 pub mod CommaLemmas
 pub mod DifferenceLemmas
 pub mod FileLemmas
+pub mod SumLaws
+pub mod SumLemmas

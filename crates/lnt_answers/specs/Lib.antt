@@ -2,4 +2,5 @@ pub mod AddressLines
 pub mod DifferenceLines
 pub mod FileLines
 pub mod Lines
+pub mod SumLines
 pub mod Texts

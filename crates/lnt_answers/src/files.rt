@@ -103,7 +103,12 @@ fn put_file(
 }
 
 // The whole path of a file.
-fn path_of(alloc: Global, index: &Index<'_>, unit: u64, file: u64) -> Result<Vec<u8>, Halt>
+pub(crate) fn path_of(
+    alloc: Global,
+    index: &Index<'_>,
+    unit: u64,
+    file: u64,
+) -> Result<Vec<u8>, Halt>
     ensures ok { IfOk result (λ path. path.items ≡ path_field (file_path_in index.now unit file)) }
     ensures err { IfErr result (λ halt. halt ≡ Memory) }
 {

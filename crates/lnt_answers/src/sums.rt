@@ -1,22 +1,23 @@
 //! Whether files have the sums that are listed.
-ghost use Rattle.std.specs.Prelude.{◌≡◌, IfErr, None, Ok};
-ghost use Rattle.lnt_sources.specs.declared.status.Status.TheVariants.{Done};
-ghost use Rattle.lnt_files.specs.Paths.{listed_sum};
-ghost use Rattle.lnt_files.specs.Tables.{AreUsableTables};
+ghost use Rattle.std.specs.Prelude.{◌≡◌, ◌++◌, IfErr, IfOk, OnOk, codes};
+ghost use Rattle.std.specs.Io.KnownBytes.{Appends};
+ghost use Rattle.lnt_sources.specs.Files.{TellsNoMore};
 ghost use Rattle.lnt_sources.specs.Halts.{IsPrinting};
+ghost use Rattle.lnt_text.specs.Quotes.{quoted_text};
+ghost use Rattle.lnt_answers.specs.SumLines.{AreSumsTold, IsFound, both, found_status, found_text, head_text, listed_at, listed_files, listed_in};
 
-use lnt_files::{file_count, listed, path_of};
-use lnt_header::Header;
+use crate::files::path_of;
 use lnt_lines::Index;
 use lnt_sources::{Halt, LIMIT, Opener, Status};
 use lnt_sums::{Agreement, md5_agrees};
 use lnt_text::Quoted;
-use lnt_wire::{Counted, Strings};
+use lnt_wire::Counted;
 use std::alloc::Global;
 use std::io::Write;
 use std::str;
 
-/// Prints a line for each file with a listed sum, unit by unit: whether the file has it.
+/// Prints a line for each file with a listed sum, unit by unit: whether the file has it, by the bytes that the opener tells
+/// of the file at its path, and if not, which sum it has; or that it can't be read. Nothing is read of a file named `-`.
 ///
 /// It answers `Done` where all of them have their sums, and `No` where one has another sum or can't be read. It stops by
 /// `Write` where the writer failed, and by `Memory`; what was printed before stays. A file that can't be read stops
@@ -28,21 +29,19 @@ pub fn print_sums<O: Opener, W: Write>(
     out: &mut W,
 ) -> Result<Status, Halt>
     ensures err { IfErr result IsPrinting }
+    ensures sums { IfOk result (λ status. AreSumsTold (O.tells opener.old) index.now (listed_files index.now)
+        (W.contents out.old) (W.contents out.new) status) }
 {
     let mut status = Status::Done;
     for unit in index.units() {
-        // Where its first file lists none, none of a unit does: they have one format.
-        if index.listed(*unit, 0).is_some()
-            && print_unit(alloc, index, *unit, opener, out)? == Status::No
-        {
-            status = Status::No;
-        }
+        let of_unit = print_unit_sums(alloc, index, *unit, opener, out)?;
+        status = together(status, of_unit);
     }
     Ok(status)
 }
 
-// Prints the lines of the unit's files.
-fn print_unit<O: Opener, W: Write>(
+// Prints the lines of the files of the unit at this offset.
+fn print_unit_sums<O: Opener, W: Write>(
     alloc: Global,
     index: &Index<'_>,
     unit: u64,
@@ -50,94 +49,83 @@ fn print_unit<O: Opener, W: Write>(
     out: &mut W,
 ) -> Result<Status, Halt>
     ensures err { IfErr result IsPrinting }
-{
-    match index.header(alloc, unit) {
-        Ok(Some(header)) => print_files_of(alloc, &header, &index.strings(), unit, opener, out),
-        Ok(None) => Ok(Status::Done),
-        Err(_) => Err(Halt::Memory),
-    }
-}
-
-// Prints the lines of the files of a unit with this header.
-fn print_files_of<O: Opener, W: Write>(
-    alloc: Global,
-    header: &Header,
-    strings: &Strings<'_>,
-    unit: u64,
-    opener: &mut O,
-    out: &mut W,
-) -> Result<Status, Halt>
-    requires { AreUsableTables strings.now.line.now strings.now.general.now header.now }
-    ensures err { IfErr result IsPrinting }
+    ensures later { OnOk result (TellsNoMore (O.tells opener.old) (O.tells opener.new)) }
+    ensures sums { IfOk result (λ status. AreSumsTold (O.tells opener.old) index.now (listed_in index.now unit)
+        (W.contents out.old) (W.contents out.new) status) }
 {
     let mut status = Status::Done;
-    for file in 0..file_count(header) {
-        if print_sum(alloc, header, strings, unit, file, opener, out)? == Status::No {
-            status = Status::No;
-        }
+    for file in 0..index.file_count(unit) {
+        let of_file = print_sum(alloc, index, unit, file, opener, out)?;
+        status = together(status, of_file);
     }
     Ok(status)
-}
-
-/// Whether a sum is listed of any file. It takes no memory.
-pub fn lists_sums(index: &Index<'_>) -> bool {
-    for unit in index.units() {
-        if lists_sums_in(index, *unit) {
-            return true;
-        }
-    }
-    false
-}
-
-// Whether one is listed of a file of the unit at this offset.
-fn lists_sums_in(index: &Index<'_>, unit: u64) -> bool {
-    for file in 0..index.file_count(unit) {
-        if index.listed(unit, file).is_some() {
-            return true;
-        }
-    }
-    false
 }
 
 // Prints the line of a file, where a sum is listed for it.
 fn print_sum<O: Opener, W: Write>(
     alloc: Global,
-    header: &Header,
-    strings: &Strings<'_>,
+    index: &Index<'_>,
     unit: u64,
     file: u64,
     opener: &mut O,
     out: &mut W,
 ) -> Result<Status, Halt>
-    requires { AreUsableTables strings.now.line.now strings.now.general.now header.now }
     ensures err { IfErr result IsPrinting }
-    ensures unlisted { listed_sum header.now file ≡ None → (out.new ≡ out.old) × (opener.new ≡ opener.old) × (result ≡ Ok Done) }
+    ensures later { OnOk result (TellsNoMore (O.tells opener.old) (O.tells opener.new)) }
+    ensures sum { IfOk result (λ status. AreSumsTold (O.tells opener.old) index.now (listed_at index.now unit file)
+        (W.contents out.old) (W.contents out.new) status) }
 {
-    let Some(listed) = listed(header, file) else {
+    let Some(listed) = index.listed(unit, file) else {
         return Ok(Status::Done);
     };
-    let Some(path) = path_of(alloc, header, strings, file)? else {
-        return Ok(Status::Done);
-    };
-    let agreement = agreement_of(&path, &listed, opener);
-    write!(out, "unit {unit} file {file} ")?;
-    print_agreement(alloc, agreement, out)?;
-    writeln!(out, " {}", Quoted(&path))?;
-    Ok(match agreement {
-        Some(Agreement::Same) => Status::Done,
-        _ => Status::No,
-    })
+    let path = path_of(alloc, index, unit, file)?;
+    let found = found_of(&path, &listed, opener);
+    print_found(alloc, unit, file, &path, found, out)?;
+    Ok(status_of(found))
 }
 
-// Prints whether a file has its sum, and else its own; none where it can't be read.
-fn print_agreement<W: Write>(
+// Whether the file at the path has the sum. None where it can't be read.
+fn found_of<O: Opener>(path: &[u8], listed: &[u8; 16], opener: &mut O) -> Option<Agreement>
+    ensures later { TellsNoMore (O.tells opener.old) (O.tells opener.new) }
+    ensures found { IsFound (O.tells opener.old path.now) listed.now result }
+{
+    let name = str::from_utf8(path).ok()?;
+    if name == "-" {
+        return None;
+    }
+    let reader = opener.reader_of(name)?;
+    md5_agrees(&mut Counted::new(reader, LIMIT), listed).ok()
+}
+
+// Prints the line of what was found of a file.
+fn print_found<W: Write>(
     alloc: Global,
-    agreement: Option<Agreement>,
+    unit: u64,
+    file: u64,
+    path: &[u8],
+    found: Option<Agreement>,
     out: &mut W,
 ) -> Result<(), Halt>
     ensures err { IfErr result IsPrinting }
+    ensures line { OnOk result (Appends (W.contents out.old) (W.contents out.new)
+        ((head_text unit file ++ found_text found) ++ (codes " " ++ (quoted_text path.now ++ codes "\n")))) }
 {
-    match agreement {
+    write!(out, "unit {unit} file {file} ")?;
+    print_agreement(alloc, found, out)?;
+    writeln!(out, " {}", Quoted(path))?;
+    Ok(())
+}
+
+// Prints whether a file has its sum, and else its own; or that it can't be read.
+fn print_agreement<W: Write>(
+    alloc: Global,
+    found: Option<Agreement>,
+    out: &mut W,
+) -> Result<(), Halt>
+    ensures err { IfErr result IsPrinting }
+    ensures text { OnOk result (Appends (W.contents out.old) (W.contents out.new) (found_text found)) }
+{
+    match found {
         Some(Agreement::Same) => write!(out, "same")?,
         Some(Agreement::Differs(sum)) => {
             write!(out, "differs {}", hex::encode(alloc, sum.as_slice())?)?;
@@ -147,12 +135,33 @@ fn print_agreement<W: Write>(
     Ok(())
 }
 
-// Whether the file at the path has the sum. None where it can't be read.
-fn agreement_of<O: Opener>(path: &[u8], listed: &[u8; 16], opener: &mut O) -> Option<Agreement> {
-    let name = str::from_utf8(path).ok()?;
-    if name == "-" {
-        return None;
+// How a run ends that tells this.
+fn status_of(found: Option<Agreement>) -> Status
+    ensures { result ≡ found_status found }
+{
+    match found {
+        Some(Agreement::Same) => Status::Done,
+        Some(Agreement::Differs(_)) | None => Status::No,
     }
-    let reader = opener.reader_of(name)?;
-    md5_agrees(&mut Counted::new(reader, LIMIT), listed).ok()
+}
+
+// Done where both are.
+fn together(first: Status, second: Status) -> Status
+    ensures { result ≡ both first second }
+{
+    match first {
+        Status::Done => second,
+        Status::No => Status::No,
+    }
+}
+
+/// Whether a sum is listed of any file. It takes no memory.
+pub fn lists_sums(index: &Index<'_>) -> bool {
+    for unit in index.units() {
+        // Where its first file lists none, none of a unit does: they have one format.
+        if index.listed(*unit, 0).is_some() {
+            return true;
+        }
+    }
+    false
 }

@@ -71,7 +71,7 @@ pub record AnswersQuestion (tells : List ℕ → Option (List ℕ) → Type 0) (
   pub of_section : tells from.section.now section_bytes
   pub judged : JudgedIndex
   pub is_true : IfSome section_bytes (λ section. IsJudgedIndex line general (options_in from) section judged)
-  pub answered : AnswersJudged (options_in from) question judged old new status
+  pub answered : AnswersJudged tells (options_in from) question judged old new status
 
 -- What is told of the section whose file is named is so, and this is the answer to the text of the file of this name, whose lines
 -- tell positions.

@@ -1,4 +1,5 @@
 -- What is answered to a question about a section that was judged.
+--     tells       what may be told of the files of names
 --     old, new    what the writer of the answer holds before and afterwards
 use Rattle.std.specs.Prelude.{◌≡◌, ℕ, List, ◌++◌, Option, true, false, codes}
 use Rattle.std.specs.List.{flat_map}
@@ -14,7 +15,7 @@ use Rattle.lnt_lines.specs.declared.section.JudgedIndex.{JudgedIndex}
 use Rattle.lnt_lines.specs.declared.section.JudgedIndex.TheVariants.{Good, Bad}
 use Rattle.lnt_lines.specs.Indexed.{Indexed, IsIndexOf}
 use Rattle.lnt_words.specs.declared.request.Question.{Question}
-use Rattle.lnt_words.specs.declared.request.Question.TheVariants.{Verify, Lookup, Files, Table, TableByPath}
+use Rattle.lnt_words.specs.declared.request.Question.TheVariants.{Verify, Lookup, Files, Table, TableByPath, Md5}
 use Rattle.lnt_paths.specs.declared.version.PathVersion.{PathVersion}
 use Rattle.lnt_paths.specs.declared.version.PathVersion.TheVariants.{Three, Four}
 use Rattle.lnt_table.specs.ByPath.{told_path}
@@ -22,6 +23,7 @@ use Rattle.lnt_table.specs.Written.{IsTableOfUnits}
 use Rattle.lnt_answers.specs.AddressLines.{AreAddressesTold}
 use Rattle.lnt_answers.specs.FileLines.{files_text}
 use Rattle.lnt_answers.specs.Lines.{lookup_line}
+use Rattle.lnt_answers.specs.SumLines.{AreSumsTold, listed_files}
 use Rattle.lnt_answers.specs.Texts.{no_text}
 use Rattle.lnt_cli.specs.PathTables.{IsPrintedTable}
 
@@ -46,24 +48,27 @@ IsPathTableTold version options index old new status =
     ForUnitsOf options index (λ units. IsPrintedTable version (told_path version index options.dead options.skip_copies units) old new
     status)
 
--- What is answered of a good section with this index. Of the questions that aren't named here nothing is said.
-abbrev pub AnswersGood : Options → Question → Indexed → Option (List ℕ) → Option (List ℕ) → Status → Type 0
-AnswersGood options Verify index old new status = Appends old new (codes "yes\n") × (status ≡ ending.Done)
-AnswersGood options (Lookup positions) index old new status = AreLookupsTold options index positions.items old new × (status ≡ ending.Done)
-AnswersGood options Files index old new status = Appends old new (files_text index) × (status ≡ ending.Done)
-AnswersGood options (Table version) index old new status = IsTableTold version options index old new × (status ≡ ending.Done)
-AnswersGood options (TableByPath true) index old new status = IsPathTableTold Three options index old new status
-AnswersGood options (TableByPath false) index old new status = IsPathTableTold Four options index old new status
-AnswersGood options other index old new status = Unit {0}
+-- What is answered of a good section with this index.
+abbrev pub AnswersGood : (List ℕ → Option (List ℕ) → Type 0) → Options → Question → Indexed → Option (List ℕ) → Option (List ℕ) → Status
+    → Type 0
+AnswersGood tells options Verify index old new status = Appends old new (codes "yes\n") × (status ≡ ending.Done)
+AnswersGood tells options (Lookup positions) index old new status =
+    AreLookupsTold options index positions.items old new × (status ≡ ending.Done)
+AnswersGood tells options Files index old new status = Appends old new (files_text index) × (status ≡ ending.Done)
+AnswersGood tells options (Table version) index old new status = IsTableTold version options index old new × (status ≡ ending.Done)
+AnswersGood tells options (TableByPath true) index old new status = IsPathTableTold Three options index old new status
+AnswersGood tells options (TableByPath false) index old new status = IsPathTableTold Four options index old new status
+AnswersGood tells options Md5 index old new status = AreSumsTold tells index (listed_files index) old new status
 
 -- The line of what is wrong with the section was printed, and nothing else, and the run ends so.
 abbrev pub IsNoTold : No → Option (List ℕ) → Option (List ℕ) → Status → Type 0
 IsNoTold reason old new status = Appends old new (no_text reason ++ codes "\n") × (status ≡ ending.No)
 
 -- What is answered of a section that was judged so.
-abbrev pub AnswersJudged : Options → Question → JudgedIndex → Option (List ℕ) → Option (List ℕ) → Status → Type 0
-AnswersJudged options question (Good index) old new status = AnswersGood options question index old new status
-AnswersJudged options question (Bad reason) old new status = IsNoTold reason old new status
+abbrev pub AnswersJudged : (List ℕ → Option (List ℕ) → Type 0) → Options → Question → JudgedIndex → Option (List ℕ) → Option (List ℕ)
+    → Status → Type 0
+AnswersJudged tells options question (Good index) old new status = AnswersGood tells options question index old new status
+AnswersJudged tells options question (Bad reason) old new status = IsNoTold reason old new status
 
 -- What is answered to a text whose lines tell positions, where the section was judged so.
 abbrev pub AnswersAddressesJudged : JudgedIndex → ℕ → Option (List ℕ) → Option (List ℕ) → Option (List ℕ) → Status → Type 0

@@ -3,7 +3,7 @@ ghost use Rattle.std.specs.Prelude.{◌≡◌, IfErr, IfOk, Ok};
 ghost use Rattle.std.specs.Option.{option_copied};
 ghost use Rattle.lnt_sources.specs.Files.{TellsNoMore};
 ghost use Rattle.lnt_cli.specs.Answered.{AreStringsOf, AreTextsOf};
-ghost use Rattle.lnt_cli.specs.Stops.{IsUsage};
+ghost use Rattle.lnt_cli.specs.Stops.{IsFileStop, IsUsage};
 
 use crate::stop::CliStop;
 use lnt_notes::{Seen, Watched};
@@ -39,6 +39,7 @@ impl Texts {
 // How the work on the file of this name ended.
 pub(crate) fn of_file<T>(alloc: Global, name: &str, ended: Result<T, Halt>) -> Result<T, CliStop>
     ensures ok { IfOk result (λ value. ended ≡ Ok value) }
+    ensures told { IfErr result (λ stop. IfErr ended (λ halt. IsFileStop halt name.now stop)) }
     ensures usage { IfErr result (λ stop. IsUsage stop → ⊥) }
 {
     match ended {

@@ -5,9 +5,10 @@ ghost use Rattle.lnt_lines.specs.Indexed.{IsIndexOf};
 ghost use Rattle.lnt_table.specs.ByPath.{told_path};
 ghost use Rattle.lnt_unit.specs.declared.unit.Parts.{Parts};
 
+use crate::stop::halt_of;
 use lnt_lines::Index;
 use lnt_sources::{Halt, Status};
-use lnt_table::{PathTable, PathVersion, WriteStop, write_paths};
+use lnt_table::{PathTable, PathVersion, write_paths};
 use lnt_text::PositionText;
 use std::alloc::Global;
 use std::io::Write;
@@ -28,7 +29,6 @@ pub(crate) fn print_path_table<W: Write>(
             writeln!(out, "no 43 operation index at {}", PositionText(position))?;
             Ok(Status::No)
         }
-        Err(WriteStop::Memory) => Err(Halt::Memory),
-        Err(WriteStop::Write) => Err(Halt::Write),
+        Err(stop) => Err(halt_of(stop)),
     }
 }

@@ -54,7 +54,7 @@ pub fn run<O: Opener, W: Write, N: Write>(
 /// its frames, and of its first fault (`AnswersRead`). Where the lines of a file are answered, `out` has gained a line for each
 /// of them (`AnswersAddresses`).
 ///
-/// Nothing is said of what dumps and sums print, nor of `out` where it stops. It stops as `run` does, and never by `Usage`.
+/// Nothing is said of what dumps print, nor of `out` where it stops. It stops as `run` does, and never by `Usage`.
 pub fn answer<O: Opener, W: Write, N: Write>(
     alloc: Global,
     asked: &Asked<'_>,

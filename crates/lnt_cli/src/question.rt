@@ -176,7 +176,7 @@ fn print_answer<O: Opener, W: Write>(
     out: &mut W,
 ) -> Result<Status, Halt>
     ensures { IfOk result (λ status. (options : OptionsSpec)
-        → AnswersGood options question.now index.now (W.contents out.old) (W.contents out.new) status) }
+        → AnswersGood (O.tells opener.old) options question.now index.now (W.contents out.old) (W.contents out.new) status) }
 {
     match question {
         Question::Verify => {

@@ -1,9 +1,10 @@
 //! Why a run is stopped.
-ghost use Rattle.std.specs.Prelude.{◌≡◌};
-ghost use Rattle.lnt_cli.specs.Stops.{IsUsage};
+ghost use Rattle.std.specs.Prelude.{◌≡◌, IfOk, OnErr};
+ghost use Rattle.lnt_cli.specs.Stops.{IsFileStop, IsUsage, halt_of_write};
 ghost use Rattle.lnt_cli.specs.declared.stop.CliStop.TheVariants.{Memory, Write};
 
 use lnt_sources::Halt;
+use lnt_table::WriteStop;
 use lnt_text::Shown;
 use lnt_words::WordsStop;
 use std::alloc::{AllocError, Global};
@@ -31,19 +32,39 @@ pub enum CliStop {
 }
 
 impl CliStop {
-    // What stopped the work on the file of this name.
+    // What stopped the work on the file of this name. Memory may run out for the name; a stop that tells none stays as it is.
     pub(crate) fn of_file(alloc: Global, name: &str, halt: Halt) -> CliStop
-        ensures { IsUsage result → ⊥ }
+        ensures told { IsFileStop halt name.now result }
+        ensures usage { IsUsage result → ⊥ }
     {
-        let Ok(name) = String::from_str(alloc, name) else {
-            return CliStop::Memory;
-        };
-        match halt {
-            Halt::Read => CliStop::Read(name),
-            Halt::TooLong => CliStop::TooLong(name),
+        match CliStop::with_name(alloc, name, halt) {
+            Ok(stop) => stop,
+            Err(_) => CliStop::Memory,
+        }
+    }
+
+    // That, with the name where it is to be told.
+    fn with_name(alloc: Global, name: &str, halt: Halt) -> Result<CliStop, AllocError>
+        ensures told { IfOk result (IsFileStop halt name.now) }
+        ensures usage { IfOk result (λ stop. IsUsage stop → ⊥) }
+        ensures err { OnErr result (IsFileStop halt name.now Memory) }
+    {
+        Ok(match halt {
+            Halt::Read => CliStop::Read(String::from_str(alloc, name)?),
+            Halt::TooLong => CliStop::TooLong(String::from_str(alloc, name)?),
             Halt::Write => CliStop::Write,
             Halt::Memory => CliStop::Memory,
-        }
+        })
+    }
+}
+
+// Why no table was written, as why the work on its section was stopped.
+pub(crate) fn halt_of(stop: WriteStop) -> Halt
+    ensures { result ≡ halt_of_write stop }
+{
+    match stop {
+        WriteStop::Memory => Halt::Memory,
+        WriteStop::Write => Halt::Write,
     }
 }
 

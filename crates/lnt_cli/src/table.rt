@@ -8,11 +8,12 @@ ghost use Rattle.lnt_lines.specs.Indexed.{IsIndexOf};
 ghost use Rattle.lnt_table.specs.Written.{IsTableOfUnits};
 ghost use Rattle.lnt_cli.specs.Verdicts.{checked_text, compared_text, verdict_text};
 
+use crate::stop::halt_of;
 use crate::verdict::{PathDifferenceLine, TableNoLine, no_of};
 use lnt_lines::{Index, Options};
 use lnt_sources::{Halt, Status};
 use lnt_spans::Version;
-use lnt_table::{Checked, ComparedByPath, Verdict, WriteStop, check_any, write_index};
+use lnt_table::{Checked, ComparedByPath, Verdict, check_any, write_index};
 use lnt_wire::{Source, Strings};
 use std::alloc::Global;
 use std::io::Write;
@@ -31,8 +32,7 @@ pub(crate) fn print_table<W: Write>(
 {
     match write_index(alloc, index, version, out) {
         Ok(()) => Ok(Status::Done),
-        Err(WriteStop::Memory) => Err(Halt::Memory),
-        Err(WriteStop::Write) => Err(Halt::Write),
+        Err(stop) => Err(halt_of(stop)),
     }
 }
 

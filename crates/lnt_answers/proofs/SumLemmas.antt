@@ -1,0 +1,129 @@
+-- Findings of files, one after another.
+use Rattle.std.proofs.Common.{◌≡◌, ◌∙◌, ℕ, ◌+◌, ◌<◌, ◌≤◌, suc, List, [], ◌∷◌, ◌++◌, append-nil, length, get_or, take, Option, Some, None}
+use Rattle.std.proofs.Common.{IfSome, ap, codes, refl, sym, subst, map, arith}
+use Rattle.std.specs.List.{AllByRecursion, flat_map}
+use Rattle.std.specs.Option.{option_map_or}
+use Rattle.std.specs.Io.KnownBytes.{Appends}
+use Rattle.std.proofs.KnownBytes.{Appends-nil, Appends-trans}
+use Rattle.std.proofs.lemmas.List.{map-append, take_all, take_more}
+use Rattle.std.proofs.lemmas.List.Concat.{flat_map-append}
+use Rattle.lnt_sources.specs.Files.{TellsNoMore}
+use Rattle.lnt_sources.specs.declared.status.Status.{Status}
+use Rattle.lnt_sources.specs.declared.status.Status.TheVariants.{Done, No}
+use Rattle.lnt_sums.specs.declared.sums.Agreement.{Agreement}
+use Rattle.lnt_sums.specs.declared.sums.Agreement.TheVariants.{Same, Differs}
+use Rattle.lnt_text.specs.Quotes.{quoted_text}
+use Rattle.lnt_lines.specs.Indexed.{file_path_in, file_sum_in, Indexed}
+use Rattle.lnt_answers.specs.FileLines.{path_field}
+use Rattle.lnt_answers.proofs.SumLaws.{true_later}
+use Rattle.lnt_answers.specs.SumLines.{AreSumsTold, Finding, IsFound, IsTrueFinding, both, found_status, listed_at, listed_below, listed_in}
+use Rattle.lnt_answers.specs.SumLines.{found_text, head_text, place_of, sum_line, sums_status}
+
+-- ---- joins
+
+true_joined : (tells : List ℕ → Option (List ℕ) → Type 0) (index : Indexed) (first second : List Finding)
+    → AllByRecursion (IsTrueFinding tells index) first → AllByRecursion (IsTrueFinding tells index) second
+    → AllByRecursion (IsTrueFinding tells index) (first ++ second)
+true_joined tells index [] second all more = more
+true_joined tells index (finding ∷ first) second all more = (all.0, true_joined tells index first second all.1 more)
+
+both_joined : (s t u : Status) → both (both s t) u ≡ both s (both t u)
+both_joined Done t u = refl
+both_joined No t u = refl
+
+status_joined : (first second : List Finding) → sums_status (first ++ second) ≡ both (sums_status first) (sums_status second)
+status_joined [] second = refl
+status_joined (finding ∷ first) second =
+    ap (both (found_status finding.found)) (status_joined first second)
+    ∙ sym (both_joined (found_status finding.found) (sums_status first) (sums_status second))
+
+status_alone : (found : Option Agreement) → found_status found ≡ both (found_status found) Done
+status_alone None = refl
+status_alone (Some Same) = refl
+status_alone (Some (Differs sum)) = refl
+
+sums_joined : (tells tells' : List ℕ → Option (List ℕ) → Type 0) (index : Indexed) (files more : List (ℕ × ℕ)) (a b c : Option (List ℕ))
+    (s t : Status) → TellsNoMore tells tells' → AreSumsTold tells index files a b s → AreSumsTold tells' index more b c t
+    → AreSumsTold tells index (files ++ more) a c (both s t)
+sums_joined tells tells' index files more a b c s t later so next = record {
+  findings = so.findings ++ next.findings;
+  places = map-append place_of so.findings next.findings ∙ ap (λ list. list ++ map place_of next.findings) so.places
+      ∙ ap (λ list. files ++ list) next.places;
+  are_true = true_joined tells index so.findings next.findings so.are_true
+      (true_later tells tells' index next.findings later next.are_true);
+  printed = subst (Appends a c) (sym (flat_map-append (sum_line index) so.findings next.findings))
+      (Appends-trans a b c (flat_map (sum_line index) so.findings) (flat_map (sum_line index) next.findings) so.printed next.printed);
+  status_is = ap (λ status. both status t) so.status_is ∙ ap (both (sums_status so.findings)) next.status_is
+      ∙ sym (status_joined so.findings next.findings);
+}
+
+-- ---- the files of a unit
+
+pub sums_none : (tells : List ℕ → Option (List ℕ) → Type 0) (index : Indexed) (a : Option (List ℕ)) → AreSumsTold tells index [] a a Done
+sums_none tells index a = record { findings = []; places = refl; are_true = tt; printed = Appends-nil a; status_is = refl }
+
+-- no sum is listed of a file
+pub sum_unlisted : (tells : List ℕ → Option (List ℕ) → Type 0) (index : Indexed) (unit file : ℕ) (a : Option (List ℕ))
+    → file_sum_in index unit file ≡ None → AreSumsTold tells index (listed_at index unit file) a a Done
+sum_unlisted tells index unit file a none =
+    subst (λ (listed : Option (List ℕ)). AreSumsTold tells index (option_map_or (λ _. (unit, file) ∷ []) listed []) a a Done) (sym none)
+    (sums_none tells index a)
+
+-- what was found of one of which a sum is listed, and of whose path
+pub sum_listed : (tells : List ℕ → Option (List ℕ) → Type 0) (index : Indexed) (unit file : ℕ) (a b : Option (List ℕ))
+    (listed path shown : List ℕ) (found : Option Agreement) (status : Status) → file_sum_in index unit file ≡ Some listed
+    → path ≡ path_field (file_path_in index unit file) → shown ≡ path_field (file_path_in index unit file)
+    → IsFound (tells path) listed found
+    → Appends a b ((head_text unit file ++ found_text found) ++ (codes " " ++ (quoted_text shown ++ codes "\n")))
+    → status ≡ found_status found → AreSumsTold tells index (listed_at index unit file) a b status
+sum_listed tells index unit file a b listed path shown found status is path_is shown_is so printed status_is =
+    let finding : Finding = record { unit = unit; file = file; found = found } in
+    let named = subst (λ (name : List ℕ). IsFound (tells name) listed found) path_is so in
+    let line = subst (λ (name : List ℕ). Appends a b ((head_text unit file ++ found_text found)
+    ++ (codes " " ++ (quoted_text name ++ codes "\n")))) shown_is printed in
+    record {
+      findings = finding ∷ [];
+      places = sym (ap (λ (listed' : Option (List ℕ)). option_map_or (λ _. (unit, file) ∷ []) listed' []) is);
+      are_true = (
+        subst (λ (listed' : Option (List ℕ)). IfSome listed' (λ bytes.
+            IsFound (tells (path_field (file_path_in index unit file))) bytes found)) (sym is) named,
+        tt,
+      );
+      printed = subst (Appends a b) (sym (append-nil (sum_line index finding))) line;
+      status_is = status_is ∙ status_alone found;
+    }
+
+-- with one file more
+pub sums_more : (tells tells' : List ℕ → Option (List ℕ) → Type 0) (index : Indexed) (unit file : ℕ) (a b c : Option (List ℕ)) (s t : Status)
+    → TellsNoMore tells tells' → AreSumsTold tells index (listed_below index unit file) a b s
+    → AreSumsTold tells' index (listed_at index unit file) b c t → AreSumsTold tells index (listed_below index unit (file + 1)) a c (both s t)
+sums_more tells tells' index unit file a b c s t later so next =
+    let step : suc file ≡ file + 1 = omega arith in
+    subst (λ (n : ℕ). AreSumsTold tells index (listed_below index unit n) a c (both s t)) step
+    (sums_joined tells tells' index (listed_below index unit file) (listed_at index unit file) a b c s t later so next)
+
+-- ---- the files of all units
+
+units_more : (index : Indexed) (units : List ℕ) (i d : ℕ) → i < length units
+    → flat_map (listed_in index) (take (i + 1) units) ≡ flat_map (listed_in index) (take i units) ++ listed_in index (get_or units i d)
+units_more index units i d lt =
+    ap (flat_map (listed_in index)) (take_more units i d lt)
+    ∙ flat_map-append (listed_in index) (take i units) (get_or units i d ∷ [])
+    ∙ ap (λ list. flat_map (listed_in index) (take i units) ++ list) (append-nil (listed_in index (get_or units i d)))
+
+-- with one unit more
+pub sums_of_more : (tells tells' : List ℕ → Option (List ℕ) → Type 0) (index : Indexed) (units : List ℕ) (i d : ℕ) (a b c : Option (List ℕ))
+    (s t : Status) → i < length units → TellsNoMore tells tells'
+    → AreSumsTold tells index (flat_map (listed_in index) (take i units)) a b s
+    → AreSumsTold tells' index (listed_in index (get_or units i d)) b c t
+    → AreSumsTold tells index (flat_map (listed_in index) (take (i + 1) units)) a c (both s t)
+sums_of_more tells tells' index units i d a b c s t lt later so next =
+    subst (λ (files : List (ℕ × ℕ)). AreSumsTold tells index files a c (both s t)) (sym (units_more index units i d lt))
+    (sums_joined tells tells' index (flat_map (listed_in index) (take i units)) (listed_in index (get_or units i d)) a b c s t later so next)
+
+-- with all of them
+pub sums_of_all : (tells : List ℕ → Option (List ℕ) → Type 0) (index : Indexed) (units : List ℕ) (i : ℕ) (a b : Option (List ℕ)) (s : Status)
+    → length units ≤ i → AreSumsTold tells index (flat_map (listed_in index) (take i units)) a b s
+    → AreSumsTold tells index (flat_map (listed_in index) units) a b s
+sums_of_all tells index units i a b s le so =
+    subst (λ (list : List ℕ). AreSumsTold tells index (flat_map (listed_in index) list) a b s) (take_all i units le) so

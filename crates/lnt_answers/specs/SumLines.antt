@@ -1,0 +1,96 @@
+-- What is printed of the files of a good section whose MD5 sums are listed: whether each has its sum (DWARF 5, section 6.2.4.1).
+--     tells   what may be told of the files of names
+use Rattle.std.specs.Prelude.{◌≡◌, ℕ, List, [], ◌∷◌, ◌++◌, map, IfSome, None, Option, Some, codes, decimal, suc, zero}
+use Rattle.std.specs.List.{AllByRecursion, flat_map}
+use Rattle.std.specs.Option.{option_map_or}
+use Rattle.std.specs.Io.KnownBytes.{Appends}
+use Rattle.hex.specs.Hex.{encode_lower}
+use Rattle.md5.specs.Md5.{md5}
+use Rattle.lnt_sources.specs.declared.status.Status.{Status}
+use Rattle.lnt_sources.specs.declared.status.Status.TheVariants.{Done, No}
+use Rattle.lnt_sums.specs.declared.sums.Agreement.{Agreement}
+use Rattle.lnt_sums.specs.declared.sums.Agreement.TheVariants.{Same, Differs}
+use Rattle.lnt_sums.specs.Agreements.{Agrees}
+use Rattle.lnt_text.specs.Quotes.{quoted_text}
+use Rattle.lnt_lines.specs.Indexed.{file_count_in, file_path_in, file_sum_in, Indexed}
+use Rattle.lnt_answers.specs.FileLines.{path_field}
+
+-- ---- the files with a listed sum, each by its unit's offset and its index, in the order of the section
+
+abbrev pub listed_at : Indexed → ℕ → ℕ → List (ℕ × ℕ)
+listed_at index unit file = option_map_or (λ _. (unit, file) ∷ []) (file_sum_in index unit file) []
+
+-- those among the first files of a unit, so many of them
+abbrev pub listed_below : Indexed → ℕ → ℕ → List (ℕ × ℕ)
+listed_below index unit zero = []
+listed_below index unit (suc count) = listed_below index unit count ++ listed_at index unit count
+
+abbrev pub listed_in : Indexed → ℕ → List (ℕ × ℕ)
+listed_in index unit = listed_below index unit (file_count_in index unit)
+
+abbrev pub listed_files : Indexed → List (ℕ × ℕ)
+listed_files index = flat_map (listed_in index) index.units
+
+-- ---- what is found of one
+
+-- the file of a unit, and whether it has its sum; None where it couldn't be read
+pub record Finding : Type 0 where
+  pub unit : ℕ
+  pub file : ℕ
+  pub found : Option Agreement
+
+abbrev pub place_of : Finding → ℕ × ℕ
+place_of finding = (finding.unit, finding.file)
+
+-- It is so of the bytes that are told of the file. Of one that couldn't be read nothing is said.
+abbrev pub IsFound : (Option (List ℕ) → Type 0) → List ℕ → Option Agreement → Type 0
+IsFound tells listed None = Unit {0}
+IsFound tells listed (Some agreement) =
+    (told : Option (List ℕ)) × tells told × IfSome told (λ bytes. Agrees agreement (md5 bytes) listed)
+
+-- That, of the file at the path and of the sum that are listed.
+abbrev pub IsTrueFinding : (List ℕ → Option (List ℕ) → Type 0) → Indexed → Finding → Type 0
+IsTrueFinding tells index finding =
+    IfSome (file_sum_in index finding.unit finding.file)
+    (λ listed. IsFound (tells (path_field (file_path_in index finding.unit finding.file))) listed finding.found)
+
+-- ---- what is printed
+
+abbrev pub found_text : Option Agreement → List ℕ
+found_text (Some Same) = codes "same"
+found_text (Some (Differs sum)) = codes "differs " ++ encode_lower sum
+found_text None = codes "unreadable"
+
+abbrev pub head_text : ℕ → ℕ → List ℕ
+head_text unit file = codes "unit " ++ (decimal unit ++ (codes " file " ++ (decimal file ++ codes " ")))
+
+-- the line of a finding, with the whole path of the file
+abbrev pub sum_line : Indexed → Finding → List ℕ
+sum_line index finding =
+    (head_text finding.unit finding.file ++ found_text finding.found)
+    ++ (codes " " ++ (quoted_text (path_field (file_path_in index finding.unit finding.file)) ++ codes "\n"))
+
+-- how a run ends that tells it
+abbrev pub found_status : Option Agreement → Status
+found_status (Some Same) = Done
+found_status (Some (Differs sum)) = No
+found_status None = No
+
+-- Done exactly where both are
+abbrev pub both : Status → Status → Status
+both Done second = second
+both No second = No
+
+-- Done exactly where each file has its sum
+abbrev pub sums_status : List Finding → Status
+sums_status [] = Done
+sums_status (finding ∷ findings) = both (found_status finding.found) (sums_status findings)
+
+-- A writer that held these bytes has gained a line for each of these files and nothing else. What it tells is so.
+pub record AreSumsTold (tells : List ℕ → Option (List ℕ) → Type 0) (index : Indexed) (files : List (ℕ × ℕ)) (old new : Option (List ℕ))
+    (status : Status) : Type 0 where
+  pub findings : List Finding
+  pub places : map place_of findings ≡ files
+  pub are_true : AllByRecursion (IsTrueFinding tells index) findings
+  pub printed : Appends old new (flat_map (sum_line index) findings)
+  pub status_is : status ≡ sums_status findings
