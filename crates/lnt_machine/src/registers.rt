@@ -137,7 +137,8 @@ fn special(
     let by = i64::from(header.line_base()) + i64::from(lines);
     registers.line = moved_line(registers.line, by)?;
     advance(registers, header, u64::from(operations));
-    Ok(append(registers))
+    let row = append(registers);
+    Ok(row)
 }
 
 // The quotient and the rest of two bytes, by a multiplication: the reciprocal in units of 2^-16, rounded up, gives both

@@ -1,8 +1,8 @@
-use Rattle.std.proofs.Common.{rules, length, sym, subst, ◌≡◌, List}
+use Rattle.std.proofs.Common.{rules, length, sym, ap, subst, arith, ◌≡◌, ◌≤◌, List}
 use Rattle.lnt_header.specs.declared.header.Pair.{Pair}
 use Rattle.lnt_files.specs.Contents.{sum_of}
 use Rattle.lnt_files.proofs.PathLemmas.{path_in}
-use Rattle.lnt_files.proofs.KeptLemmas.{keeps_more}
+use Rattle.lnt_files.proofs.KeptLemmas.{keeps_more, kept_all}
 use Rattle.lnt_files.proofs.files.Files.of.Goals as goal
 
 pub add_path-requires : goal.add_path-requires
@@ -21,3 +21,11 @@ loop-file-preserved c =
     c.loop-file.file-index c.file-item.result
     c.loop-file.paths.items c.add_path.new.out.items c.loop-file.kept.items (record { end = c.len.result; listed = c.sum_of.result })
     c.loop-file.invariant c.files-file-items.ensures c.loop-file-test.true c.file-item.is c.in_ok-add_path.ensures sum end)
+
+pub returns : goal.returns
+returns c =
+    let h = c.args.header.now in
+    let all : length h.files ≤ c.loop-file.file-index =
+    omega (arith, c.loop-file-test.false, ap length c.files-file-items.ensures) in
+    rw c.shrink_to_fit.ensures.items (kept_all _ _ h c.loop-file.file-index c.loop-file.paths.items c.loop-file.kept.items
+    c.loop-file.invariant all)

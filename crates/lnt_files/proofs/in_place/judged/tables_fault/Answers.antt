@@ -1,3 +1,4 @@
+use Rattle.std.proofs.Common.{rules}
 use Rattle.lnt_files.proofs.JudgedLemmas.{AreJudged, judged}
 use Rattle.lnt_files.proofs.in_place.judged.tables_fault.Goals as goal
 
@@ -18,3 +19,6 @@ returns c =
       paths = c.in_default.ensures;
     } in
     judged ends.line ends.general h d f c.count.result c.files_fault.result are c.files_fault.ensures
+
+pub returns-then-not-has_usable_format : goal.returns-then-not-has_usable_format
+returns-then-not-has_usable_format c = search rules
