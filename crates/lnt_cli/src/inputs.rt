@@ -67,22 +67,33 @@ pub(crate) fn open_section<'c, O: Opener>(
     }
 }
 
-// The section that is to be judged.
+// The files of a section that is to be judged, open.
+#[derive(Drop)]
+pub(crate) struct Opened<'c, R> {
+    pub(crate) texts: Texts,
+    pub(crate) section: Section<'c, R>,
+}
+
+// Opens the files of the section that is to be judged.
 pub(crate) fn open_judged<'c, O: Opener>(
     alloc: Global,
     opener: &mut O,
     from: &Judging<'_>,
     seen: &'c Cell<Seen>,
-) -> Result<Section<'c, O::Reader>, CliStop>
+) -> Result<Opened<'c, O::Reader>, CliStop>
     ensures usage { IfErr result (λ stop. IsUsage stop → ⊥) }
-    ensures failures { IfOk result (λ source.
-        ⟦<Counted<BufReader<Watched<'c, O::Reader>>> as Source>⟧.failures source ≡ 0) }
-    ensures told { IfOk result (λ source.
-        O.tells opener.old from.now.section.now (⟦<Counted<BufReader<Watched<'c, O::Reader>>> as Source>⟧.remaining source)) }
+    ensures texts { IfOk result (λ opened.
+        AreTextsOf (O.tells opener.old) from.now opened.texts.line.items opened.texts.general.items) }
+    ensures failures { IfOk result (λ opened.
+        ⟦<Counted<BufReader<Watched<'c, O::Reader>>> as Source>⟧.failures opened.section ≡ 0) }
+    ensures told { IfOk result (λ opened. O.tells opener.old from.now.section.now
+        (⟦<Counted<BufReader<Watched<'c, O::Reader>>> as Source>⟧.remaining opened.section)) }
     ensures later { TellsNoMore (O.tells opener.old) (O.tells opener.new) }
 {
+    let texts = read_texts(alloc, opener, from)?;
     let opened = open_section(alloc, opener, from.section, seen);
-    of_file(alloc, from.section, opened)
+    let section = of_file(alloc, from.section, opened)?;
+    Ok(Opened { texts, section })
 }
 
 // The file of this name.

@@ -1,13 +1,15 @@
 //! Questions about a good section.
 ghost use Rattle.std.specs.Prelude.{◌≡◌, ◌-◌, ◌^◌, ◌<◌, IfErr, IfOk, IfSome};
+ghost use Rattle.lnt_answers.specs.AddressLines.{AreAddressesTold};
 ghost use Rattle.lnt_answers.specs.Lines.{IsIndexGiven, IsTold};
 ghost use Rattle.lnt_cli.specs.Answered.{AnswersAddresses, AnswersQuestion, options_in};
-ghost use Rattle.lnt_cli.specs.Questions.{AnswersGood};
+ghost use Rattle.lnt_cli.specs.Questions.{AnswersAddressesJudged, AnswersGood, AnswersJudged};
 ghost use Rattle.lnt_cli.specs.Stops.{IsUsage};
 ghost use Rattle.lnt_lines.specs.Drafts.{IsJudgedIndex};
 ghost use Rattle.lnt_lines.specs.declared.options.Options.{Options as OptionsSpec};
+ghost use Rattle.lnt_lines.specs.declared.section.JudgedIndex.{JudgedIndex};
 
-use crate::inputs::{Texts, of_file, open, open_judged, read_texts};
+use crate::inputs::{Texts, of_file, open, open_judged};
 use crate::judge::options_of;
 use crate::path_table::print_path_table;
 use crate::session::Session;
@@ -99,15 +101,51 @@ fn answer_alone<O: Opener, W: Write>(
     ensures answer { IfOk result (λ answered. AnswersQuestion (O.tells opener.old) from.now question.now
         (W.contents out.old) (W.contents out.new) answered.status) }
 {
-    let texts = read_texts(alloc, opener, from)?;
-    let mut section = open_judged(alloc, opener, from, seen)?;
-    let index = match judge(alloc, &mut section, &texts, from, out)? {
-        JudgedIndex::Good(index) => index,
-        JudgedIndex::Bad(no) => return Ok(refused(no)),
-    };
-    let printed = print_answer(alloc, &index, question, opener, out);
-    let status = of_file(alloc, from.section, printed)?;
-    let occasion = Occasion::Good(hints_to(&index, question));
+    let mut opened = open_judged(alloc, opener, from, seen)?;
+    let files = &mut opened;
+    let (texts, section) = (&files.texts, &mut files.section);
+    answer_opened(alloc, from, question, texts, section, opener, out)
+}
+
+// Answers a question about a section whose files are open.
+fn answer_opened<R: Source, O: Opener, W: Write>(
+    alloc: Global,
+    from: &Judging<'_>,
+    question: &Question,
+    texts: &Texts,
+    section: &mut R,
+    opener: &mut O,
+    out: &mut W,
+) -> Result<Answered, CliStop>
+    requires { R.failures section.old < 2 ^ 64 - 1 }
+    ensures usage { IfErr result (λ stop. IsUsage stop → ⊥) }
+    ensures answer { IfOk result (λ answered. (judged : JudgedIndex)
+        × IfSome (R.remaining section.old) (λ bytes.
+        IsJudgedIndex texts.now.line.items texts.now.general.items (options_in from.now) bytes judged)
+        × AnswersJudged (options_in from.now) question.now judged (W.contents out.old) (W.contents out.new) answered.status) }
+{
+    match judge(alloc, section, texts, from, out)? {
+        JudgedIndex::Good(index) => answer_good(alloc, from.section, &index, question, opener, out),
+        JudgedIndex::Bad(no) => Ok(refused(no)),
+    }
+}
+
+// Answers a question about a good section, whose file has this name.
+fn answer_good<O: Opener, W: Write>(
+    alloc: Global,
+    section: &str,
+    index: &Index<'_>,
+    question: &Question,
+    opener: &mut O,
+    out: &mut W,
+) -> Result<Answered, CliStop>
+    ensures usage { IfErr result (λ stop. IsUsage stop → ⊥) }
+    ensures answer { IfOk result (λ answered. (options : OptionsSpec)
+        → AnswersGood options question.now index.now (W.contents out.old) (W.contents out.new) answered.status) }
+{
+    let printed = print_answer(alloc, index, question, opener, out);
+    let status = of_file(alloc, section, printed)?;
+    let occasion = Occasion::Good(hints_to(index, question));
     Ok(Answered { status, occasion })
 }
 
@@ -125,16 +163,55 @@ fn answer_lines<O: Opener, W: Write>(
     ensures answer { IfOk result (λ answered. AnswersAddresses (O.tells opener.old) from.now file.now op
         (W.contents out.old) (W.contents out.new) answered.status) }
 {
-    let texts = read_texts(alloc, opener, from)?;
-    let mut section = open_judged(alloc, opener, from, seen)?;
+    let mut opened = open_judged(alloc, opener, from, seen)?;
     let mut lines = open(alloc, opener, file)?;
-    let index = match judge(alloc, &mut section, &texts, from, out)? {
-        JudgedIndex::Good(index) => index,
-        JudgedIndex::Bad(no) => return Ok(refused(no)),
-    };
-    let printed = print_addresses(alloc, &index, &mut lines, op, out);
+    let files = &mut opened;
+    let (texts, section) = (&files.texts, &mut files.section);
+    answer_lines_of(alloc, from, file, op, texts, section, &mut lines, out)
+}
+
+// Answers the lines of a file of this name, where they and the section's files are open.
+fn answer_lines_of<R: Source, T: Source, W: Write>(
+    alloc: Global,
+    from: &Judging<'_>,
+    file: &str,
+    op: u64,
+    texts: &Texts,
+    section: &mut R,
+    lines: &mut T,
+    out: &mut W,
+) -> Result<Answered, CliStop>
+    requires section { R.failures section.old < 2 ^ 64 - 1 }
+    requires lines { T.failures lines.old < 2 ^ 64 - 1 }
+    ensures usage { IfErr result (λ stop. IsUsage stop → ⊥) }
+    ensures answer { IfOk result (λ answered. (judged : JudgedIndex)
+        × IfSome (R.remaining section.old) (λ bytes.
+        IsJudgedIndex texts.now.line.items texts.now.general.items (options_in from.now) bytes judged)
+        × AnswersAddressesJudged judged op (T.remaining lines.old) (W.contents out.old) (W.contents out.new) answered.status) }
+{
+    match judge(alloc, section, texts, from, out)? {
+        JudgedIndex::Good(index) => print_lines(alloc, &index, file, op, lines, out),
+        JudgedIndex::Bad(no) => Ok(refused(no)),
+    }
+}
+
+// Prints what a good section answers to the lines of a file of this name.
+fn print_lines<T: Source, W: Write>(
+    alloc: Global,
+    index: &Index<'_>,
+    file: &str,
+    op: u64,
+    lines: &mut T,
+    out: &mut W,
+) -> Result<Answered, CliStop>
+    requires { T.failures lines.old < 2 ^ 64 - 1 }
+    ensures usage { IfErr result (λ stop. IsUsage stop → ⊥) }
+    ensures answer { IfOk result (λ answered. AreAddressesTold index.now op (T.remaining lines.old)
+        (W.contents out.old) (W.contents out.new) answered.status) }
+{
+    let printed = print_addresses(alloc, index, lines, op, out);
     let status = of_file(alloc, file, printed)?;
-    let occasion = Occasion::Good(hints_of(&index));
+    let occasion = Occasion::Good(hints_of(index));
     Ok(Answered { status, occasion })
 }
 

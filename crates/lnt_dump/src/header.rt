@@ -86,25 +86,43 @@ fn print_entry<W: Write>(
     Ok(())
 }
 
+// Prints a value in its form.
 fn print_value<W: Write>(alloc: Global, value: ValueView<'_>, out: &mut W) -> Result<(), Halt> {
     match value {
-        ValueView::Text(text) => write!(out, "{}", Quoted(text))?,
-        ValueView::LineStrp(offset) => write!(out, "line_strp:0x{offset:x}")?,
-        ValueView::Strp(offset) => write!(out, "strp:0x{offset:x}")?,
-        ValueView::Udata(n) | ValueView::Data8(n) => write!(out, "{n}")?,
-        ValueView::Data1(n) => write!(out, "{n}")?,
-        ValueView::Data2(n) => write!(out, "{n}")?,
-        ValueView::Data4(n) => write!(out, "{n}")?,
-        ValueView::Data16(bytes) => print_bytes(alloc, bytes.as_slice(), out)?,
+        ValueView::Text(text) => print_text(text, out),
+        ValueView::LineStrp(offset) => print_offset("line_strp", offset, out),
+        ValueView::Strp(offset) => print_offset("strp", offset, out),
+        ValueView::Udata(n) | ValueView::Data8(n) => print_number(n, out),
+        ValueView::Data1(n) => print_number(u64::from(n), out),
+        ValueView::Data2(n) => print_number(u64::from(n), out),
+        ValueView::Data4(n) => print_number(u64::from(n), out),
+        ValueView::Data16(bytes) => print_bytes(alloc, bytes.as_slice(), out),
         ValueView::Block(bytes)
         | ValueView::Block1(bytes)
         | ValueView::Block2(bytes)
-        | ValueView::Block4(bytes) => {
-            write!(out, "block:")?;
-            print_bytes(alloc, bytes, out)?;
-        }
+        | ValueView::Block4(bytes) => print_block(alloc, bytes, out),
     }
+}
+
+fn print_text<W: Write>(text: &[u8], out: &mut W) -> Result<(), Halt> {
+    write!(out, "{}", Quoted(text))?;
     Ok(())
+}
+
+// Prints an offset into the strings of this name.
+fn print_offset<W: Write>(strings: &str, offset: u64, out: &mut W) -> Result<(), Halt> {
+    write!(out, "{strings}:0x{offset:x}")?;
+    Ok(())
+}
+
+fn print_number<W: Write>(n: u64, out: &mut W) -> Result<(), Halt> {
+    write!(out, "{n}")?;
+    Ok(())
+}
+
+fn print_block<W: Write>(alloc: Global, bytes: &[u8], out: &mut W) -> Result<(), Halt> {
+    write!(out, "block:")?;
+    print_bytes(alloc, bytes, out)
 }
 
 // Prints the hexadecimal digits of the bytes, some bytes at a time.

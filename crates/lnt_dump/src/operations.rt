@@ -1,6 +1,6 @@
 //! How operations are printed.
 use crate::dump::Stop;
-use crate::page::{Page, Sheet, turn};
+use crate::page::{Page, Sheet, turn_full};
 use crate::run::{ended, not_run};
 use lnt_digits::{put_address, put_decimal};
 use lnt_header::{OpView, Operands};
@@ -29,19 +29,29 @@ pub(crate) fn print_ops<W: Write>(
                 Err(fault) => return Err(not_run(unit, fault)),
             }
         }
-        put_start(&mut page.text, index)?;
+        print_op(sheet, index, &op, page, out)?;
         index = index.saturating_add(1);
-        if let OpView::UnknownExtended(code, bytes) = &op {
-            print_extended(sheet, *code, bytes, page, out)?;
-        } else {
-            put_op(&mut page.text, &op)?;
-        }
-        put_one(&mut page.text, b'\n')?;
-        if page.is_full() {
-            turn(sheet, page, out)?;
-        }
     }
     ended(open)
+}
+
+// Prints the line of the `index`th operation.
+#[inline(always)]
+fn print_op<W: Write>(
+    sheet: &Sheet<'_>,
+    index: u64,
+    op: &OpView<'_>,
+    page: &mut Page,
+    out: &mut W,
+) -> Result<(), Stop> {
+    put_start(&mut page.text, index)?;
+    if let OpView::UnknownExtended(code, bytes) = op {
+        print_extended(sheet, *code, bytes, page, out)?;
+    } else {
+        put_op(&mut page.text, op)?;
+    }
+    put_one(&mut page.text, b'\n')?;
+    turn_full(sheet, page, out)
 }
 
 // Adds what the line of the `index`th operation begins with.
@@ -144,9 +154,7 @@ fn print_extended<W: Write>(
     }
     for byte in bytes {
         put_byte(&mut page.text, *byte)?;
-        if page.is_full() {
-            turn(sheet, page, out)?;
-        }
+        turn_full(sheet, page, out)?;
     }
     Ok(())
 }

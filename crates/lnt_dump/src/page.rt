@@ -39,7 +39,7 @@ impl Page {
 
     // Whether the text has to be handed on.
     #[inline(always)]
-    pub(crate) fn is_full(&self) -> bool {
+    fn is_full(&self) -> bool {
         self.text.len() >= PAGE
     }
 
@@ -50,8 +50,21 @@ impl Page {
     }
 }
 
+// Hands the page to the writer, if it is full.
+#[inline(always)]
+pub(crate) fn turn_full<W: Write>(
+    sheet: &Sheet<'_>,
+    page: &mut Page,
+    out: &mut W,
+) -> Result<(), Stop> {
+    if page.is_full() {
+        return turn(sheet, page, out);
+    }
+    Ok(())
+}
+
 // Hands a full page to the writer, once the unit is known to be sound.
-pub(crate) fn turn<W: Write>(sheet: &Sheet<'_>, page: &mut Page, out: &mut W) -> Result<(), Stop> {
+fn turn<W: Write>(sheet: &Sheet<'_>, page: &mut Page, out: &mut W) -> Result<(), Stop> {
     if !page.is_begun {
         judge(sheet)?;
     }

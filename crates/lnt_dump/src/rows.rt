@@ -1,9 +1,9 @@
 //! How rows are printed.
 use crate::dump::Stop;
 use crate::line::{MOST, row_line};
-use crate::page::{Page, Sheet, turn};
+use crate::page::{Page, Sheet, turn_full};
 use crate::run::{ended, not_run};
-use lnt_machine::Machine;
+use lnt_machine::{Machine, Row};
 use std::io::Write;
 
 // Prints a line for each row of a unit, and judges its program as it goes.
@@ -24,12 +24,23 @@ pub(crate) fn print_rows<W: Write>(
             Err(fault) => return Err(not_run(unit, fault)),
         };
         open = !row.end_sequence;
-        let start = row_line(&mut room, index, &row);
-        page.text.extend_from_slice(&room[start..])?;
+        print_row(sheet, index, &row, &mut room, page, out)?;
         index = index.saturating_add(1);
-        if page.is_full() {
-            turn(sheet, page, out)?;
-        }
     }
     ended(open)
+}
+
+// Prints the line of the `index`th row. The room is for its text.
+#[inline(always)]
+fn print_row<W: Write>(
+    sheet: &Sheet<'_>,
+    index: u64,
+    row: &Row,
+    room: &mut [u8; MOST],
+    page: &mut Page,
+    out: &mut W,
+) -> Result<(), Stop> {
+    let start = row_line(room, index, row);
+    page.text.extend_from_slice(&room[start..])?;
+    turn_full(sheet, page, out)
 }

@@ -1,5 +1,5 @@
 //! What is known of a section as far as its units were judged.
-ghost use Rattle.std.specs.Prelude.{◌≡◌, ◌≤◌, ℕ, List, [], length, drop, Option, IfOk, OnOk, IfErr};
+ghost use Rattle.std.specs.Prelude.{◌≡◌, ◌≤◌, ℕ, List, [], ◌∷◌, ◌++◌, length, drop, Option, IfOk, OnOk, IfErr};
 ghost use Rattle.lnt_unit.specs.declared.unit.Parts.{Parts};
 ghost use Rattle.lnt_sequences.specs.Extents.{IsFirstOverlap};
 ghost use Rattle.lnt_sequences.specs.Rules.{AreApart};
@@ -16,7 +16,7 @@ use lnt_files::StringEnds;
 use lnt_machine::Program;
 use lnt_sequences::{Collected, Overlap};
 use lnt_stream::UnitBuffer;
-use lnt_wire::{Stop, Strings};
+use lnt_wire::Strings;
 use std::alloc::{AllocError, Global};
 
 /// What is known of the units judged so far, all of which are sound.
@@ -62,13 +62,19 @@ impl Draft {
         let unit = judge_unit(alloc, &buffer, ends, dead, &mut self.collected, other)?;
         let taken = take_program(alloc, buffer.into_bytes(), unit.start)?;
         let program = Program::of(unit.header, taken.bytes, taken.start, unit.places);
-        if self.units.push(offset).is_err() {
-            return Err(Refusal::Stop(Stop::Memory));
-        }
-        if self.programs.push(program).is_err() {
-            return Err(Refusal::Stop(Stop::Memory));
-        }
+        self.keep(offset, program)?;
         Ok(taken.room)
+    }
+
+    // Adds the offset of a unit and its program.
+    fn keep(&mut self, offset: u64, program: Program) -> Result<(), AllocError>
+        ensures collected { self.new.collected ≡ self.old.collected }
+        ensures units { OnOk result (self.new.units.items ≡ self.old.units.items ++ offset ∷ []) }
+        ensures programs { OnOk result (self.new.programs.items ≡ self.old.programs.items ++ program ∷ []) }
+    {
+        self.units.push(offset)?;
+        self.programs.push(program)?;
+        Ok(())
     }
 
     /// The index, after the last unit, or the first overlap, of the live sequences or of all of them but copies. The strings

@@ -6,4 +6,5 @@ use Rattle.lnt_lines.proofs.draft.Draft.add_unit.Goals as goal
 pub returns-clause-ok : goal.returns-clause-ok
 returns-clause-ok c =
     added c.args.ends.now.line c.args.ends.now.general c.args.dead c.args.buffer c.args.self.now _ c.offset-offset.result
-    (kept_of c.args.buffer c.in_ok-unit.unit) c.in_ok-unit.ensures.sound c.offset-offset.ensures (grind arith) (grind arith)
+    (kept_of c.args.buffer c.in_ok-unit.unit) (rw c.keep.ensures.collected c.in_ok-unit.ensures.sound)
+    c.offset-offset.ensures (grind arith) (grind arith)
