@@ -3,6 +3,7 @@ pub mod ComparisonLemmas
 pub mod JoiningLemmas
 pub mod LineLemmas
 pub mod MergingLemmas
+pub mod PassingLemmas
 pub mod PathSpanLemmas
 pub mod ReadingLemmas
 pub mod StepLemmas
