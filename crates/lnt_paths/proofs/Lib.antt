@@ -5,6 +5,7 @@ pub mod LineLemmas
 pub mod MergingLemmas
 pub mod OneComparisonLemmas
 pub mod OneTableLemmas
+pub mod PassingLemmas
 pub mod PathSpanLemmas
 pub mod ReadingLemmas
 pub mod StepLemmas

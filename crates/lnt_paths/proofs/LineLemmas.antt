@@ -48,11 +48,11 @@ quiet_byte c h =
     let feed = ne_eqb c 10 (λ e. omega (arith, h, e)) in
     rw (comma, quote, return, feed) refl
 
-quiet_bytes : (text : List ℕ) → AllByRecursion FromZero text → IsQuiet text
+pub quiet_bytes : (text : List ℕ) → AllByRecursion FromZero text → IsQuiet text
 quiet_bytes [] h = refl
 quiet_bytes (c ∷ text) h = rw (quiet_byte c h.0, quiet_bytes text h.1) refl
 
-quiet_text : (field : List ℕ) → IsQuiet field → field_text default_writer field ≡ field
+pub quiet_text : (field : List ℕ) → IsQuiet field → field_text default_writer field ≡ field
 quiet_text field q = rw q refl
 
 number_text : (text : List ℕ) (n : ℕ) → IsPlainDecimal text n → field_text default_writer text ≡ text
@@ -63,7 +63,7 @@ address_text text n h = quiet_text text (quiet_bytes text (address_from_zero tex
 
 -- ---- the field of a path
 
-quiet_by_recursion : (text : List ℕ) → AllByRecursion IsPlainByte text → IsQuiet text
+pub quiet_by_recursion : (text : List ℕ) → AllByRecursion IsPlainByte text → IsQuiet text
 quiet_by_recursion [] h = refl
 quiet_by_recursion (c ∷ text) h = rw (h.0.needs_none, quiet_by_recursion text h.1) refl
 
@@ -98,7 +98,8 @@ field_made path text new n e l f =
 -- ---- a line
 
 -- what stands in a line after the two addresses and the path
-line_fields : (low high path line : List ℕ) (more : Fields) → field_text default_writer low ≡ low → field_text default_writer high ≡ high
+pub line_fields : (low high path line : List ℕ) (more : Fields) → field_text default_writer low ≡ low
+    → field_text default_writer high ≡ high
     → field_text default_writer line ≡ line
     → row_text default_writer (low ∷ high ∷ path ∷ line ∷ more)
     ≡ low ++ (44 ∷ high ++ (44 ∷ field_text default_writer path ++ (44 ∷ line ++ (fields_text default_writer more ++ 10 ∷ []))))
@@ -168,7 +169,7 @@ line_put version path span old b1 b2 b3 b4 b5 new low e2 high e4 e5 place =
 abbrev AreSome : List Fields → Type 0
 AreSome records = AllByRecursion (λ fields. 2 ≤ length fields) records
 
-same_back : (fields : Fields) → 2 ≤ length fields → fields ≡ read_back fields
+pub same_back : (fields : Fields) → 2 ≤ length fields → fields ≡ read_back fields
 same_back [] h = absurd (omega (arith, h))
 same_back (x ∷ fields) h = refl
 

@@ -2,6 +2,7 @@ pub mod Borders
 pub mod Joining
 pub mod Laws
 pub mod Merging
+pub mod Passing
 pub mod PathAnswers
 pub mod PathDifferences
 pub mod PathFaults

@@ -4,11 +4,13 @@ ghost use Rattle.std.specs.Bool.{MatchBool};
 ghost use Rattle.std.specs.Option.{option_map};
 ghost use Rattle.csv.specs.Records.{fields_of};
 ghost use Rattle.lnt_records.specs.Progress.{HasRead};
-ghost use Rattle.lnt_records.specs.Table.{Fields};
+ghost use Rattle.lnt_records.specs.Table.{BeginsWith, Fields};
 ghost use Rattle.lnt_spans.specs.declared.position.Position as position;
 ghost use Rattle.lnt_spans.specs.declared.span.Span as spec;
 ghost use Rattle.lnt_spans.specs.Spans.{AreInOrder};
+ghost use Rattle.lnt_paths.specs.declared.version.PathVersion.{PathVersion};
 ghost use Rattle.lnt_paths.specs.Merging.{AreKnownOf, IsLeft, IsMerged, JudgesByPath, answer_told, table_side};
+ghost use Rattle.lnt_paths.specs.Passing.{IsBehind};
 ghost use Rattle.lnt_paths.specs.PathAnswers.{path_answer, spans_by_path};
 ghost use Rattle.lnt_paths.specs.PathDifferences.{IsLeastPathDifference, IsPathComparison, told_path_answer};
 ghost use Rattle.lnt_paths.specs.PathFaults.{IsFaultyRecord};
@@ -30,15 +32,14 @@ use std::alloc::{AllocError, Global};
 
 /// Compares the table by path in some bytes with the spans of a section, which come from a source.
 ///
-/// The records are read one by one, as `csv` reads them, and none is kept. `Same`: the bytes are a table by path that answers
+/// As long as the table's lines have nothing in quotes they are read in one pass over their bytes, and the records after
+/// these one by one, as `csv` reads them; none is kept. `Same`: the bytes are a table by path that answers
 /// at every position as the spans do, told by path as the table's version tells: paths are compared byte for byte. `Fault`:
 /// they are no such table. The first faulty record is told, whatever was different before it. `Differs`: all records are
 /// well formed, and at no lower position do the answers differ; both are told in the table's version.
 ///
 /// No list of the spans is made, and a path is made again only where it was asked for long ago. The caller sees to it that the
 /// spans are in order and none is empty. The one error is that memory ran out.
-// Its reader of records is large, and the stack is short: a caller doesn't hold it beside its own.
-#[inline(never)]
 pub fn compare_by_path<S: SpanSource + Drop, P: Paths>(
     alloc: Global,
     table: &[u8],
@@ -48,34 +49,73 @@ pub fn compare_by_path<S: SpanSource + Drop, P: Paths>(
     ensures { IfOk result (λ compared. (list : List spec.Span) → S.to_come spans list → AreInOrder list
         → IsPathComparison table.now (λ version. spans_by_path version (P.bytes_of paths.now) list) compared) }
 {
+    let Some(version) = header_of(alloc, table)? else {
+        return Ok(ComparedByPath::Fault(TableFault::Header));
+    };
+    let Ok(mut comparison) = PathComparison::new(alloc, spans) else {
+        return Err(TableStop::Memory);
+    };
+    let Ok(at) = comparison.pass_lines(alloc, paths, version, table) else {
+        return Err(TableStop::Memory);
+    };
+    compare_behind(alloc, &table[at..], version, comparison, paths)
+}
+
+// The version whose columns record 0 names, if it is a header. The reader of records is large, and the stack is short: it has
+// a function of its own, so that no caller holds it beside its own values.
+#[inline(never)]
+fn header_of(alloc: Global, table: &[u8]) -> Result<Option<PathVersion>, TableStop>
+    ensures { IfOk result (λ found. MatchOption found ((v : PathVersion) → BeginsWith table.now (path_column_names v ∷ []) → ⊥)
+        (λ v. BeginsWith table.now (path_column_names v ∷ []))) }
+{
     let mut reader = reader_of(alloc, table);
     let mut row = ByteRecord::new(alloc);
     if !read_first(&mut reader, &mut row)? {
-        return Ok(ComparedByPath::Fault(TableFault::Header));
+        return Ok(None);
     }
-    let Some(version) = version_of(&row) else {
-        return Ok(ComparedByPath::Fault(TableFault::Header));
-    };
-    compare_records(alloc, &mut reader, &mut row, version, spans, paths)
+    Ok(version_of(&row))
 }
 
-// The same of the records that a reader has to give, which has read the names of the version's columns, into `row`.
+// Compares the records of a text behind its first one with what is left of a section, as `csv` reads them. It holds a reader
+// of records, as `header_of` does.
+#[inline(never)]
+fn compare_behind<S: SpanSource + Drop, P: Paths>(
+    alloc: Global,
+    text: &[u8],
+    version: PathVersion,
+    comparison: PathComparison<S>,
+    paths: &P,
+) -> Result<ComparedByPath, TableStop>
+    requires known { AreKnownOf (P.bytes_of paths.now) comparison.known.slots.items }
+    requires behind { (bytes : List ℕ) × (records : List Fields) × IsBehind bytes text.now records }
+    requires few { comparison.count + length text.now < 2 ^ 64 + 1 }
+    ensures { IfOk result (λ compared. (bytes : List ℕ) (records : List Fields) (list : List spec.Span) → IsBehind bytes text.now records
+        → JudgesByPath S.to_come (path_answer version (P.bytes_of paths.now)) version comparison list records
+        → IsPathComparison bytes (λ version. spans_by_path version (P.bytes_of paths.now) list) compared) }
+{
+    let mut reader = reader_of(alloc, text);
+    let mut row = ByteRecord::new(alloc);
+    read_next(&mut reader, &mut row)?;
+    compare_records(alloc, &mut reader, &mut row, version, comparison, paths)
+}
+
+// The same of the records that a reader has to give, which has read the first record of a text, into `row`.
 fn compare_records<S: SpanSource + Drop, P: Paths>(
     alloc: Global,
     reader: &mut Reader<&[u8]>,
     row: &mut ByteRecord,
     version: PathVersion,
-    spans: S,
+    mut comparison: PathComparison<S>,
     paths: &P,
 ) -> Result<ComparedByPath, TableStop>
-    requires { (bytes : List ℕ) × HasRead reader.old bytes (path_column_names version ∷ []) × (length bytes < 2 ^ 64) }
-    ensures { IfOk result (λ compared. (bytes : List ℕ) (list : List spec.Span) → HasRead reader.old bytes (path_column_names version ∷ [])
-        → S.to_come spans list → AreInOrder list
+    requires known { AreKnownOf (P.bytes_of paths.now) comparison.known.slots.items }
+    requires read { (text : List ℕ) × (first : Fields) × HasRead reader.old text (first ∷ [])
+        × (comparison.count + length text < 2 ^ 64 + 1) }
+    ensures { IfOk result (λ compared. (text bytes : List ℕ) (first : Fields) (records : List Fields) (list : List spec.Span)
+        → HasRead reader.old text (first ∷ []) → IsBehind bytes text records
+        → JudgesByPath S.to_come (path_answer version (P.bytes_of paths.now)) version comparison list records
         → IsPathComparison bytes (λ version. spans_by_path version (P.bytes_of paths.now) list) compared) }
 {
-    let Ok(mut comparison) = PathComparison::new(alloc, spans) else {
-        return Err(TableStop::Memory);
-    };
     while read_next(reader, row)? {
         let Ok(found) = comparison.take_record(alloc, paths, version, row) else {
             return Err(TableStop::Memory);
@@ -123,7 +163,7 @@ impl<S: SpanSource + Drop> PathComparison<S> {
     }
 
     // Compares one more record, which holds something and begins where the records end or after that.
-    fn push<P: Paths>(
+    pub(crate) fn push<P: Paths>(
         &mut self,
         alloc: Global,
         paths: &P,
@@ -161,7 +201,7 @@ impl<S: SpanSource + Drop> PathComparison<S> {
     }
 
     // Whether a record begins where the records end or after that, and holds something.
-    fn takes(&self, said: &PathRecord<'_>) -> bool
+    pub(crate) fn takes(&self, said: &PathRecord<'_>) -> bool
         ensures { MatchBool result ((self.now.at ≤ said.now.low) × (said.now.low < said.now.high))
             (self.now.at ≤ said.now.low → said.now.low < said.now.high → ⊥) }
     {

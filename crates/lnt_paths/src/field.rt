@@ -97,7 +97,7 @@ fn is_plain(field: &[u8]) -> bool
 // Whether a field with this byte is put in quotes.
 #[inline(always)]
 #[tactic(auto, using(crate::proofs::LineLemmas::plain_byte))]
-fn calls_for_quotes(byte: u8) -> bool
+pub(crate) fn calls_for_quotes(byte: u8) -> bool
     ensures { MatchBool result (Unit {0}) (IsPlainByte byte) }
 {
     byte == b',' || byte == b'"' || byte == b'\r' || byte == b'\n'

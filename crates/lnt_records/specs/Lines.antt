@@ -1,4 +1,5 @@
--- A table that is read line by line. The bodies of this crate use it among themselves.
+-- A table that is read line by line. The bodies of this crate use it among themselves, and those of the crate of tables by
+-- path what the bytes begin with.
 use Rattle.std.specs.Prelude.{◌≡◌, ℕ, Bool, List, [], ◌∷◌, ◌++◌, Option, Some, None}
 use Rattle.lnt_digits.specs.Digits.{IsAddress, IsDecimal, IsPlainAddress, IsPlainDecimal}
 use Rattle.lnt_spans.specs.declared.answer.Answer.{Answer}

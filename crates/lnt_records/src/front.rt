@@ -11,10 +11,10 @@ const DECIMAL_DIGITS: usize = 18;
 
 const HEXADECIMAL_DIGITS: usize = 16;
 
-// Parses 1 to 18 decimal digits from `at` on, and the byte `end` after them: gives their value, and the place after that byte.
-// None says nothing of the text: a number may be longer, and is left to `decimal`.
+/// Parses 1 to 18 decimal digits from `at` on, and the byte `end` after them: gives their value, and the place after that
+/// byte. `None` says nothing of the text: a number may be longer, and is left to `lnt_digits::decimal`.
 #[inline(always)]
-pub(crate) fn decimal_before(text: &[u8], at: usize, end: u8) -> Option<(u64, usize)>
+pub fn decimal_before(text: &[u8], at: usize, end: u8) -> Option<(u64, usize)>
     ensures { IfSome result (λ found. Begins IsDecimal (drop at text.now) found.0 end (drop found.1 text.now)) }
 {
     if let Some(found) = digit_before(text, at, end) {
@@ -55,9 +55,9 @@ fn digits_before(text: &[u8], at: usize, end: u8) -> Option<(u64, usize)>
     None
 }
 
-// The same of `0x` and 1 to 16 hexadecimal digits of either case.
+/// The same of `0x` and 1 to 16 hexadecimal digits of either case.
 #[inline(always)]
-pub(crate) fn address_before(text: &[u8], at: usize, end: u8) -> Option<(u64, usize)>
+pub fn address_before(text: &[u8], at: usize, end: u8) -> Option<(u64, usize)>
     ensures { IfSome result (λ found. Begins IsAddress (drop at text.now) found.0 end (drop found.1 text.now)) }
 {
     let at = behind(text, at, b'0')?;
@@ -66,9 +66,9 @@ pub(crate) fn address_before(text: &[u8], at: usize, end: u8) -> Option<(u64, us
     Some((number, next))
 }
 
-// The place after `at`, where this byte stands at `at`. None where another one does, or the text ends.
+/// The place after `at`, where this byte stands at `at`. `None` where another one does, or the text ends.
 #[inline(always)]
-pub(crate) fn behind(text: &[u8], at: usize, byte: u8) -> Option<usize>
+pub fn behind(text: &[u8], at: usize, byte: u8) -> Option<usize>
     ensures { IfSome result (λ next. drop at text.now ≡ byte ∷ drop next text.now) }
 {
     if at < text.len() && text[at] == byte {

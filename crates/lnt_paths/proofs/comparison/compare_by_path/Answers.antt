@@ -1,29 +1,19 @@
-use Rattle.std.proofs.Common.{◌∷◌, [], arith, subst, sym}
 use Rattle.std.proofs.lemmas.Result.{IfOk-weaker}
-use Rattle.lnt_records.specs.Progress.{HasRead}
-use Rattle.lnt_records.specs.Table.{Fields}
-use Rattle.lnt_paths.specs.PathTables.{path_column_names}
+use Rattle.lnt_paths.specs.PathAnswers.{path_answer}
+use Rattle.lnt_paths.proofs.ComparisonLemmas.{judges_none}
+use Rattle.lnt_paths.proofs.PassingLemmas.{behind_slice}
 use Rattle.lnt_paths.proofs.comparison.compare_by_path.Goals as goal
 
-pub returns-then-not-branch : goal.returns-then-not-branch
-returns-then-not-branch g c list come order version =
-    rw c.if-not-branch.true at c.in_ok-read_first.ensures c.args.table.now c.reader_of-reader.ensures (path_column_names version)
-
 pub returns-in_default : goal.returns-in_default
-returns-in_default g c list come order version x =
-    let first = rw c.if-not-branch.false at c.in_ok-read_first.ensures c.args.table.now c.reader_of-reader.ensures in
-    rw c.in_default.is at c.version_of.ensures version (sym (first.1 (path_column_names version) x))
-
-pub compare_records-requires : goal.compare_records-requires
-compare_records-requires g c =
-    let first = rw c.if-not-branch.false at c.in_ok-read_first.ensures c.args.table.now c.reader_of-reader.ensures in (
-      c.args.table.now,
-      subst (λ (fields : Fields). HasRead c.read_first.new.reader c.args.table.now (fields ∷ [])) c.in-Some.ensures first.0,
-      omega arith,
-    )
+returns-in_default g c list come order = rw c.in_default.is at c.in_ok-version.ensures
 
 pub returns : goal.returns
 returns g c =
-    let first = rw c.if-not-branch.false at c.in_ok-read_first.ensures c.args.table.now c.reader_of-reader.ensures in
-    let read = subst (λ (fields : Fields). HasRead c.read_first.new.reader c.args.table.now (fields ∷ [])) c.in-Some.ensures first.0 in
-    IfOk-weaker c.compare_records.result _ _ (λ compared is list. is c.args.table.now list read) c.compare_records.ensures
+    let passed = c.in-Ok-pass_lines.ensures.passed in
+    IfOk-weaker c.compare_behind.result _ _
+    (λ compared is list come order. is c.args.table.now passed.0 list
+    (behind_slice c.args.table.now c.in-Ok-pass_lines.at passed.0 passed.1)
+    (passed.2.judged list
+    (judges_none g.S.SpanSource.to_come (path_answer c.in-Some.version (g.P.Paths.bytes_of c.args.paths.now)) c.in-Some.version
+    c.in-Ok.comparison list (c.in-Ok.ensures.left list come) order c.in-Ok.ensures.none)))
+    c.compare_behind.ensures

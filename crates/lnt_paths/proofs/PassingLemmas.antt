@@ -1,0 +1,406 @@
+-- Lines of a table by path that are passed, and that `csv` reads them as these records.
+use Rattle.std.proofs.Common.{◌≡◌, ◌≢◌, ◌∙◌, ℕ, ◌+◌, ◌-◌, ◌<◌, ◌≤◌, Bool, true, false, List, [], ◌∷◌, ◌++◌, Option, Some}
+use Rattle.std.proofs.Common.{None, length, length-append, length-drop, get_or, drop, take, if◌then◌else◌}
+use Rattle.std.proofs.Common.{refl, sym, ap, subst, append_assoc, append-nil, arith}
+use Rattle.std.proofs.lemmas.List.{drop-drop, drop_more, take-append-drop, take_all}
+use Rattle.std.proofs.lemmas.List.Elements.{recursion_from_All}
+use Rattle.std.specs.Bool.{MatchBool}
+use Rattle.std.specs.Prelude.{MatchOption}
+use Rattle.std.specs.List.{All}
+use Rattle.csv.specs.Machine.{Read, next_record}
+use Rattle.csv.specs.Reading.{Reached, default_config, strip_bom}
+use Rattle.csv.specs.Writing.{default_writer, field_text, fields_text, is_blank, row_body, row_text}
+use Rattle.csv.specs.declared.parser.State.{State}
+use Rattle.csv.specs.declared.parser.State.TheVariants as st
+use Rattle.csv.proofs.RoundTrip.{read-write}
+use Rattle.lnt_digits.specs.Digits.{IsAddress, IsDecimal}
+use Rattle.lnt_digits.specs.Laws.Texts.{address_from_zero, decimal_from_zero}
+use Rattle.lnt_records.proofs.ReadingLemmas.{no_record}
+use Rattle.lnt_records.specs.Lines.{Begins}
+use Rattle.lnt_records.specs.Progress.{BytesReader, HasRead}
+use Rattle.lnt_records.specs.Table.{BeginsWith, Fields, RecordsOf}
+use Rattle.lnt_spans.specs.declared.answer.Answer.{Answer}
+use Rattle.lnt_spans.specs.declared.span.Span.{Span}
+use Rattle.lnt_paths.specs.declared.comparison.PathComparison.{PathComparison}
+use Rattle.lnt_paths.specs.declared.record.PathRecord.{PathRecord}
+use Rattle.lnt_paths.specs.declared.version.PathVersion.{PathVersion}
+use Rattle.lnt_paths.specs.declared.version.PathVersion.TheVariants.{Three, Four}
+use Rattle.lnt_paths.specs.Joining.{IsPlainByte}
+use Rattle.lnt_paths.specs.Merging.{IsLeft, IsMerged, JudgesByPath}
+use Rattle.lnt_paths.specs.Passing.{GoesOnAs, HasTaken, IsBehind, IsPathBefore, IsPathLine, IsPlace}
+use Rattle.lnt_paths.specs.PathAnswers.{PathAnswer}
+use Rattle.lnt_paths.specs.PathSpans.{PathSpan}
+use Rattle.lnt_paths.specs.PathTables.{SaysPath, path_column_names}
+use Rattle.lnt_paths.specs.Reading.{record_answer, record_span, whole}
+use Rattle.lnt_paths.proofs.ComparisonLemmas.{begins, record_taken}
+use Rattle.lnt_paths.proofs.LineLemmas.{line_fields, quiet_by_recursion, quiet_bytes, quiet_text, same_back}
+
+-- ---- parts of a line
+
+address_quiet : (text : List ℕ) (n : ℕ) → IsAddress text n → field_text default_writer text ≡ text
+address_quiet text n h = quiet_text text (quiet_bytes text (address_from_zero text n h))
+
+decimal_quiet : (text : List ℕ) (n : ℕ) → IsDecimal text n → field_text default_writer text ≡ text
+decimal_quiet text n h = quiet_text text (quiet_bytes text (decimal_from_zero text n h))
+
+path_quiet : (path : List ℕ) → All IsPlainByte path → field_text default_writer path ≡ path
+path_quiet path h = quiet_text path (quiet_by_recursion path (recursion_from_All IsPlainByte path h))
+
+-- what is after a place, as a slice
+pub rest_whole : (table : List ℕ) (at : ℕ) → take (length table - at) (drop at table) ≡ drop at table
+rest_whole table at = take_all (length table - at) (drop at table) (omega (arith, length-drop at table))
+
+-- the path of the line before, once more
+pub path_again : (table path rest : List ℕ) (at next : ℕ) → rest ≡ drop at table → rest ≡ path ++ drop (length path) rest
+    → drop (at + length path) table ≡ 44 ∷ drop next table → All IsPlainByte path → IsPathBefore path (drop at table) (drop next table)
+path_again table path rest at next e f g plain = record {
+  joined =
+      sym e ∙ f ∙ ap (λ (t : List ℕ). path ++ drop (length path) t) e ∙ ap (λ (t : List ℕ). path ++ t) (drop-drop (length path) at table)
+      ∙ ap (λ (t : List ℕ). path ++ t) g;
+  plain = plain;
+}
+
+-- a field of so many bytes, and a comma
+pub path_found : (text : List ℕ) (i : ℕ) → i < length text → All IsPlainByte (take i text) → get_or text i 0 ≡ 44
+    → IsPathBefore (take i text) text (drop (i + 1) text)
+path_found text i lt plain comma = record {
+  joined =
+      sym (take-append-drop i text) ∙ ap (λ (t : List ℕ). take i text ++ t) (drop_more text i 0 lt)
+      ∙ ap (λ (c : ℕ). take i text ++ c ∷ drop (i + 1) text) comma;
+  plain = plain;
+}
+
+-- the same from a place on
+pub path_at : (table path rest : List ℕ) (at more : ℕ) → rest ≡ drop at table → IsPathBefore path rest (drop more rest)
+    → IsPathBefore path (drop at table) (drop (at + more) table)
+path_at table path rest at more e b = record {
+  joined =
+      sym e ∙ b.joined ∙ ap (λ (t : List ℕ). path ++ 44 ∷ drop more t) e
+      ∙ ap (λ (t : List ℕ). path ++ 44 ∷ t) (drop-drop more at table);
+  plain = b.plain;
+}
+
+-- ---- a line
+
+-- a field before what ends alike
+field_before : (front b s0 s1 s4 : List ℕ) → s0 ≡ front ++ 44 ∷ s1 → s1 ≡ b ++ s4 → s0 ≡ (front ++ 44 ∷ b) ++ s4
+field_before front b s0 s1 s4 e f = e ∙ ap (λ (t : List ℕ). front ++ 44 ∷ t) f ∙ sym (append_assoc front (44 ∷ b) s4)
+
+-- the line in the file, what is after it, and the end
+last_before : (line more s3 s4 : List ℕ) → s3 ≡ line ++ (more ++ 10 ∷ s4) → s3 ≡ (line ++ (more ++ 10 ∷ [])) ++ s4
+last_before line more s3 s4 e =
+    e ∙ ap (λ (t : List ℕ). line ++ t) (sym (append_assoc more (10 ∷ []) s4)) ∙ sym (append_assoc line (more ++ 10 ∷ []) s4)
+
+-- its text
+line_start : (low high path line : List ℕ) (more : Fields) (s0 s1 s2 s3 s4 : List ℕ) → field_text default_writer low ≡ low
+    → field_text default_writer high ≡ high → field_text default_writer path ≡ path → field_text default_writer line ≡ line
+    → s0 ≡ low ++ 44 ∷ s1 → s1 ≡ high ++ 44 ∷ s2 → s2 ≡ path ++ 44 ∷ s3 → s3 ≡ line ++ (fields_text default_writer more ++ 10 ∷ s4)
+    → s0 ≡ row_text default_writer (low ∷ high ∷ path ∷ line ∷ more) ++ s4
+line_start low high path line more s0 s1 s2 s3 s4 a b p c e0 e1 e2 e3 =
+    let end : List ℕ = line ++ (fields_text default_writer more ++ 10 ∷ []) in
+    let from : s2 ≡ (path ++ 44 ∷ end) ++ s4 =
+    field_before path end s2 s3 s4 e2 (last_before line (fields_text default_writer more) s3 s4 e3) in
+    let next : s1 ≡ (high ++ 44 ∷ (path ++ 44 ∷ end)) ++ s4 = field_before high (path ++ 44 ∷ end) s1 s2 s4 e1 from in
+    let all : s0 ≡ (low ++ 44 ∷ (high ++ 44 ∷ (path ++ 44 ∷ end))) ++ s4 =
+    field_before low (high ++ 44 ∷ (path ++ 44 ∷ end)) s0 s1 s4 e0 next in
+    let text : row_text default_writer (low ∷ high ∷ path ∷ line ∷ more) ≡ low ++ 44 ∷ (high ++ 44 ∷ (path ++ 44 ∷ end)) =
+    line_fields low high path line more a b c ∙ ap (λ (t : List ℕ). low ++ 44 ∷ (high ++ 44 ∷ (t ++ 44 ∷ end))) p in
+    all ∙ ap (λ (t : List ℕ). t ++ s4) (sym text)
+
+-- the column and the end of the line
+column_end : (column : List ℕ) (rest : List ℕ) → field_text default_writer column ≡ column
+    → 44 ∷ (column ++ 10 ∷ rest) ≡ fields_text default_writer (column ∷ []) ++ 10 ∷ rest
+unfolding fields_text
+column_end column rest q = rw (q, append-nil column) refl
+
+no_column_end : (rest : List ℕ) → 10 ∷ rest ≡ fields_text default_writer [] ++ 10 ∷ rest
+unfolding fields_text
+no_column_end rest = refl
+
+pub line_taken : (version : PathVersion) (said : PathRecord) (s0 s1 s2 s3 s4 : List ℕ) → Begins IsAddress s0 said.low 44 s1
+    → Begins IsAddress s1 said.high 44 s2 → IsPathBefore said.path.now s2 s3 → IsPlace version said.line said.column s3 s4
+    → IsPathLine version said s0 s4
+line_taken version said s0 s1 s2 s3 s4 low high path place = by version said.column refl place
+  where
+    path_is : field_text default_writer said.path.now ≡ said.path.now
+    path_is = path_quiet said.path.now path.plain
+
+    low_is : field_text default_writer low.front ≡ low.front
+    low_is = address_quiet low.front said.low low.spells
+
+    high_is : field_text default_writer high.front ≡ high.front
+    high_is = address_quiet high.front said.high high.spells
+
+    by : (v : PathVersion) (column : Option ℕ) → said.column ≡ column → IsPlace v said.line column s3 s4 → IsPathLine v said s0 s4
+    by Three None e p = absurd p
+    by Three (Some column) e p =
+        let line = p.1 in
+        let last = p.2 in
+        record {
+          fields = low.front ∷ high.front ∷ said.path.now ∷ line.front ∷ last.front ∷ [];
+          joined = line_start low.front high.front said.path.now line.front (last.front ∷ []) s0 s1 s2 s3 s4 low_is high_is path_is
+              (decimal_quiet line.front said.line line.spells) low.joined high.joined path.joined
+              (line.joined ∙ ap (λ (t : List ℕ). line.front ++ 44 ∷ t) last.joined
+              ∙ ap (λ (t : List ℕ). line.front ++ t) (column_end last.front s4 (decimal_quiet last.front column last.spells)));
+          says = rw e (record
+              { count = refl; low_is = low.spells; high_is = high.spells; path = refl; line = line.spells; column = last.spells });
+        }
+    by Four column e p =
+        let line = p.1 in
+        record {
+          fields = low.front ∷ high.front ∷ said.path.now ∷ line.front ∷ [];
+          joined = line_start low.front high.front said.path.now line.front [] s0 s1 s2 s3 s4 low_is high_is path_is
+              (decimal_quiet line.front said.line line.spells) low.joined high.joined path.joined
+              (line.joined ∙ ap (λ (t : List ℕ). line.front ++ t) (no_column_end s4));
+          says = record
+              { count = refl; low_is = low.spells; high_is = high.spells; path = refl; line = line.spells; column = e ∙ p.0 };
+        }
+
+-- ---- `csv` reads it as its fields
+
+some_fields : (version : PathVersion) (fields : Fields) (low high : ℕ) (answer : PathAnswer)
+    → SaysPath IsAddress IsDecimal version fields low high answer → 2 ≤ length fields
+some_fields Three fields low high answer s = omega (arith, s.count)
+some_fields Four fields low high answer s = omega (arith, s.count)
+
+pub line_read : (version : PathVersion) (said : PathRecord) (bytes rest : List ℕ) → (l : IsPathLine version said bytes rest)
+    → next_record default_config st.StartRecord [] [] bytes ≡ Some (l.fields, st.StartRecord, rest)
+line_read version said bytes rest l =
+    ap (λ (t : List ℕ). next_record default_config st.StartRecord [] [] t) l.joined ∙ read-write l.fields rest
+    ∙ ap (λ (r : Fields). Some (r, st.StartRecord, rest))
+    (sym (same_back l.fields (some_fields version l.fields said.low said.high (record_answer said) l.says)))
+
+-- it begins with a zero, and with no byte order mark
+zero_mark : (rest : List ℕ) → strip_bom (48 ∷ rest) ≡ 48 ∷ rest
+unfolding strip_bom
+zero_mark [] = refl
+zero_mark (b ∷ []) = refl
+zero_mark (b ∷ c ∷ rest) = refl
+
+-- what a record ends in
+abbrev row_end : Fields → List ℕ
+row_end fields = (if is_blank default_writer fields then 34 ∷ 34 ∷ [] else []) ++ 10 ∷ []
+
+row_begins : (low : List ℕ) (fields : Fields) (digits : List ℕ) → low ≡ 48 ∷ 120 ∷ digits → field_text default_writer low ≡ low
+    → (more : List ℕ) × (row_text default_writer (low ∷ fields) ≡ 48 ∷ more)
+row_begins low fields digits e q = (
+  ((120 ∷ digits) ++ fields_text default_writer fields) ++ row_end (low ∷ fields),
+  ap (λ (t : List ℕ). (t ++ fields_text default_writer fields) ++ row_end (low ∷ fields)) (q ∙ e),
+)
+
+line_begins : (version : PathVersion) (said : PathRecord) (bytes rest : List ℕ) → IsPathLine version said bytes rest
+    → (more : List ℕ) × (bytes ≡ 48 ∷ more)
+line_begins version said bytes rest l = by l.fields l.joined l.says
+  where
+    by : (fields : Fields) → bytes ≡ row_text default_writer fields ++ rest
+        → SaysPath IsAddress IsDecimal version fields said.low said.high (record_answer said) → (more : List ℕ) × (bytes ≡ 48 ∷ more)
+    by [] e s = absurd (let some = some_fields version [] said.low said.high (record_answer said) s in omega (arith, some))
+    by (low ∷ fields) e s =
+        let begins = row_begins low fields s.low_is.digits s.low_is.written (address_quiet low said.low s.low_is) in
+        (begins.0 ++ rest, e ∙ ap (λ (t : List ℕ). t ++ rest) begins.1)
+
+pub line_unmarked : (version : PathVersion) (said : PathRecord) (bytes rest : List ℕ) → IsPathLine version said bytes rest
+    → strip_bom bytes ≡ bytes
+line_unmarked version said bytes rest l =
+    let begins = line_begins version said bytes rest l in
+    ap strip_bom begins.1 ∙ zero_mark begins.0 ∙ sym begins.1
+
+row_some : (fields : Fields) → 0 < length (row_text default_writer fields)
+row_some fields =
+    omega (
+      arith,
+      length-append (row_body default_writer fields) (row_end fields),
+      length-append {A = ℕ} (if is_blank default_writer fields then 34 ∷ 34 ∷ [] else []) (10 ∷ []),
+    )
+
+pub line_shorter : (version : PathVersion) (said : PathRecord) (bytes rest : List ℕ) → IsPathLine version said bytes rest
+    → length rest < length bytes
+line_shorter version said bytes rest l =
+    omega (arith, ap length l.joined, length-append (row_text default_writer l.fields) rest, row_some l.fields)
+
+-- ---- records that are reached one after another
+
+same_some : (p q : Read) → Some p ≡ Some q → p ≡ q
+same_some p q e = cc
+
+pub reached_both : (s mid after : State) (bytes rest left : List ℕ) (records more : List Fields)
+    → Reached default_config s bytes records mid rest → Reached default_config mid rest more after left
+    → Reached default_config s bytes (records ++ more) after left
+unfolding Reached
+reached_both s mid after bytes rest left [] more a b =
+    subst (λ (x : State). Reached default_config x bytes more after left) (sym a.0)
+    (subst (λ (t : List ℕ). Reached default_config mid t more after left) (sym a.1) b)
+reached_both s mid after bytes rest left (f ∷ records) more a b =
+    (a.0, a.1, a.2, reached_both a.0.1 mid after a.0.2 rest left records more a.3 b)
+
+-- what is reached after the first record
+behind_first : (s mid after : State) (text rest left : List ℕ) (last first : Fields) (more : List Fields)
+    → Reached default_config s text (last ∷ []) mid rest → Reached default_config s text (first ∷ more) after left
+    → Reached default_config mid rest more after left
+unfolding Reached
+behind_first s mid after text rest left last first more a b =
+    let same : a.0 ≡ b.0 = same_some a.0 b.0 (sym a.1 ∙ b.1) in
+    let from : Reached default_config a.0.1 a.0.2 more after left =
+    subst (λ (p : Read). Reached default_config p.1 p.2 more after left) (sym same) b.3 in
+    subst (λ (x : State). Reached default_config x rest more after left) a.3.0
+    (subst (λ (t : List ℕ). Reached default_config a.0.1 t more after left) a.3.1 from)
+
+-- what `csv` reads of the text behind its first record it reads of the bytes
+pub reached_on : (bytes text : List ℕ) (records more : List Fields) (first : Fields) (after : State) (left : List ℕ)
+    → IsBehind bytes text records → Reached default_config st.StartRecord (strip_bom text) (first ∷ more) after left
+    → Reached default_config st.StartRecord (strip_bom bytes) (records ++ more) after left
+reached_on bytes text records more first after left h r =
+    reached_both st.StartRecord h.after after (strip_bom bytes) h.rest left records more h.goes_on.reached
+    (behind_first st.StartRecord h.after after (strip_bom text) h.rest left h.goes_on.last first more h.goes_on.text_reached r)
+
+pub all_on : (bytes text : List ℕ) (records more : List Fields) (first : Fields) → IsBehind bytes text records
+    → RecordsOf text (first ∷ more) → RecordsOf bytes (records ++ more)
+all_on bytes text records more first h all = (all.0, all.1, reached_on bytes text records more first all.0 all.1 h all.2, all.3)
+
+pub begins_on : (bytes text : List ℕ) (records more : List Fields) (first : Fields) → IsBehind bytes text records
+    → BeginsWith text (first ∷ more) → BeginsWith bytes (records ++ more)
+begins_on bytes text records more first h b = (b.0, b.1, reached_on bytes text records more first b.0 b.1 h b.2)
+
+-- ---- the lines so far
+
+header_mark : (version : PathVersion) (rest : List ℕ) → strip_bom (row_text default_writer (path_column_names version) ++ rest)
+    ≡ row_text default_writer (path_column_names version) ++ rest
+unfolding strip_bom is_blank fields_text
+header_mark Three rest = refl
+header_mark Four rest = refl
+
+header_back : (version : PathVersion) → 2 ≤ length (path_column_names version)
+header_back Three = omega arith
+header_back Four = omega arith
+
+one_reached : (bytes rest : List ℕ) (fields : Fields)
+    → next_record default_config st.StartRecord [] [] bytes ≡ Some (fields, st.StartRecord, rest)
+    → Reached default_config st.StartRecord bytes (fields ∷ []) st.StartRecord rest
+unfolding Reached
+one_reached bytes rest fields e = ((fields, st.StartRecord, rest), e, refl, (refl, refl))
+
+-- the line with the names of the columns
+pub header_passed : (version : PathVersion) (bytes header rest : List ℕ) → header ≡ row_text default_writer (path_column_names version)
+    → bytes ≡ header ++ rest → GoesOnAs bytes bytes (path_column_names version ∷ []) st.StartRecord rest
+header_passed version bytes header rest e f =
+    let names : Fields = path_column_names version in
+    let whole : bytes ≡ row_text default_writer names ++ rest = f ∙ ap (λ (t : List ℕ). t ++ rest) e in
+    let plain : strip_bom bytes ≡ row_text default_writer names ++ rest = ap strip_bom whole ∙ header_mark version rest in
+    let read : next_record default_config st.StartRecord [] [] (strip_bom bytes) ≡ Some (names, st.StartRecord, rest) =
+    ap (λ (t : List ℕ). next_record default_config st.StartRecord [] [] t) plain ∙ read-write names rest
+    ∙ ap (λ (r : Fields). Some (r, st.StartRecord, rest)) (sym (same_back names (header_back version))) in
+    let reached = one_reached (strip_bom bytes) rest names read in
+    record { last = names; reached = reached; text_reached = reached }
+
+-- one more line
+pub line_passed : (version : PathVersion) (said : PathRecord) (bytes text next rest : List ℕ) (records : List Fields)
+    → GoesOnAs bytes text records st.StartRecord next
+    → (l : IsPathLine version said next rest) → GoesOnAs bytes next (records ++ l.fields ∷ []) st.StartRecord rest
+line_passed version said bytes text next rest records h l =
+    let one = one_reached next rest l.fields (line_read version said next rest l) in
+    record {
+      last = l.fields;
+      reached = reached_both st.StartRecord st.StartRecord st.StartRecord (strip_bom bytes) next rest records (l.fields ∷ []) h.reached one;
+      text_reached = rw (line_unmarked version said next rest l) one;
+    }
+
+-- ---- records that `csv` reads behind the text's first one
+
+pub judges_nil : {S : Type 0} (to_come : S → List Span → Type 0) (tell : Answer → PathAnswer) (version : PathVersion)
+    (comparison : PathComparison S) (list : List Span) (records : List Fields) → JudgesByPath to_come tell version comparison list records
+    → JudgesByPath to_come tell version comparison list (records ++ [])
+judges_nil to_come tell version comparison list records j =
+    subst (λ (r : List Fields). JudgesByPath to_come tell version comparison list r) (sym (append-nil records)) j
+
+pub judges_more : {S : Type 0} (to_come : S → List Span → Type 0) (tell : Answer → PathAnswer) (version : PathVersion)
+    (comparison : PathComparison S) (list : List Span) (records more : List Fields) (fields : Fields)
+    → JudgesByPath to_come tell version comparison list ((records ++ more) ++ fields ∷ [])
+    → JudgesByPath to_come tell version comparison list (records ++ (more ++ fields ∷ []))
+judges_more to_come tell version comparison list records more fields j =
+    subst (λ (r : List Fields). JudgesByPath to_come tell version comparison list r) (append_assoc records more (fields ∷ [])) j
+
+pub begins_more : (reader : BytesReader) (bytes text : List ℕ) (records more : List Fields) (first fields : Fields)
+    → IsBehind bytes text records → HasRead reader text (first ∷ (more ++ fields ∷ []))
+    → BeginsWith bytes ((records ++ more) ++ fields ∷ [])
+begins_more reader bytes text records more first fields behind read =
+    subst (λ (r : List Fields). BeginsWith bytes r) (sym (append_assoc records more (fields ∷ [])))
+    (begins_on bytes text records (more ++ fields ∷ []) first behind (begins reader text (first ∷ (more ++ fields ∷ [])) read))
+
+-- there is a first one
+pub first_there : (reader : BytesReader) (bytes text : List ℕ) (records : List Fields) (fields : Fields) (found : Bool)
+    → IsBehind bytes text records
+    → MatchBool found (HasRead reader text (fields ∷ [])) (RecordsOf text []) → HasRead reader text (fields ∷ [])
+first_there reader bytes text records fields true b h = h
+first_there reader bytes text records fields false b h =
+    absurd (no_record text b.goes_on.last h (b.after, b.rest, b.goes_on.text_reached))
+
+-- the text as a slice of the bytes
+pub behind_slice : (bytes : List ℕ) (at : ℕ) (records : List Fields) → IsBehind bytes (drop at bytes) records
+    → IsBehind bytes (take (length bytes - at) (drop at bytes)) records
+behind_slice bytes at records h = subst (λ (t : List ℕ). IsBehind bytes t records) (sym (rest_whole bytes at)) h
+
+-- ---- the loop over lines
+
+-- Lines were passed up to a place, and the last of them begins at another.
+pub record Stands {S : Type 0} (to_come : S → List Span → Type 0) (tell : Answer → PathAnswer) (version : PathVersion)
+    (old now : PathComparison S) (table : List ℕ) (before at : ℕ) (last : List ℕ) : Type 0 where
+  pub records : List Fields
+  pub goes_on : GoesOnAs table (drop before table) records st.StartRecord (drop at table)
+  pub taken : HasTaken to_come tell version old now table (drop before table) records
+  pub few : length records + length (drop at table) ≤ length table
+  pub within : before ≤ length table
+  pub plain : All IsPlainByte last
+
+pub stands_first : {S : Type 0} (to_come : S → List Span → Type 0) (tell : Answer → PathAnswer) (version : PathVersion)
+    (old : PathComparison S) (table header last : List ℕ) → old.count ≡ 1 → header ≡ row_text default_writer (path_column_names version)
+    → table ≡ header ++ drop (length header) table → All IsPlainByte last
+    → Stands to_come tell version old old table 0 (length header) last
+stands_first to_come tell version old table header last count e f plain = record {
+  records = path_column_names version ∷ [];
+  goes_on = header_passed version table header (drop (length header) table) e f;
+  taken = record { count = count; few = omega arith; judged = λ list j. j };
+  few = omega (arith, ap length e, row_some (path_column_names version), ap length f, length-append header (drop (length header) table));
+  within = omega arith;
+  plain = plain;
+}
+
+-- what a record that was taken does to the comparison
+abbrev pub TakesRecord : {S : Type 0} → (S → List Span → Type 0) → (Answer → PathAnswer) → PathComparison S → PathComparison S → PathRecord
+    → Type 0
+TakesRecord to_come tell old new said = (list : List Span) (table : List PathSpan)
+    → IsMerged tell (IsLeft to_come old.section.next old.section.spans) (whole old.at) old.first list table
+    → IsMerged tell (IsLeft to_come new.section.next new.section.spans) (whole new.at) new.first list (table ++ record_span said ∷ [])
+
+pub stands_more : {S : Type 0} (to_come : S → List Span → Type 0) (tell : Answer → PathAnswer) (version : PathVersion)
+    (old now new : PathComparison S) (table : List ℕ) (before at next : ℕ) (last : List ℕ) (said : PathRecord)
+    → Stands to_come tell version old now table before at last
+    → IsPathLine version said (drop at table) (drop next table) → All IsPlainByte said.path.now → now.at ≤ said.low → said.low < said.high
+    → new.count ≡ now.count + 1 → TakesRecord to_come tell now new said
+    → Stands to_come tell version old new table at next said.path.now
+stands_more to_come tell version old now new table before at next last said h line plain le lt count step =
+    let pushed : length (h.records ++ line.fields ∷ []) ≡ length h.records + 1 = length-append h.records (line.fields ∷ []) in
+    let shorter = line_shorter version said (drop at table) (drop next table) line in
+    record {
+      records = h.records ++ line.fields ∷ [];
+      goes_on = line_passed version said table (drop before table) (drop at table) (drop next table) h.records h.goes_on line;
+      taken = record {
+        count = omega (arith, count, h.taken.count, pushed);
+        few = omega (arith, pushed, h.few);
+        judged = λ list j. record_taken to_come tell version now new list h.records line.fields said (h.taken.judged list j) line.says le lt
+            count step;
+      };
+      few = omega (arith, pushed, h.few, shorter);
+      within = omega (arith, shorter, length-drop at table);
+      plain = plain;
+    }
+
+-- ---- the version whose columns record 0 names
+
+pub header_found : (found : Option PathVersion) (bytes : List ℕ) (fields : Fields) (reader : BytesReader)
+    → HasRead reader bytes (fields ∷ []) × ((other : Fields) → BeginsWith bytes (other ∷ []) → other ≡ fields)
+    → MatchOption found ((v : PathVersion) → fields ≢ path_column_names v) (λ v. fields ≡ path_column_names v)
+    → MatchOption found ((v : PathVersion) → BeginsWith bytes (path_column_names v ∷ []) → ⊥)
+    (λ v. BeginsWith bytes (path_column_names v ∷ []))
+header_found None bytes fields reader first other = λ v x. other v (sym (first.1 (path_column_names v) x))
+header_found (Some v) bytes fields reader first same =
+    subst (λ (names : Fields). BeginsWith bytes (names ∷ [])) same (begins reader bytes (fields ∷ []) first.0)

@@ -1,0 +1,56 @@
+//! The records of a table by path that are read line by line, before `csv` reads the others.
+ghost use Rattle.std.specs.Prelude.{◌≡◌, ◌≤◌, List, [], ◌∷◌, drop, length, IfOk, OnOk};
+ghost use Rattle.lnt_records.specs.Table.{BeginsWith, Fields};
+ghost use Rattle.lnt_paths.specs.Merging.{AreKnownOf};
+ghost use Rattle.lnt_paths.specs.Passing.{HasTaken, IsBehind};
+ghost use Rattle.lnt_paths.specs.PathAnswers.{path_answer};
+ghost use Rattle.lnt_paths.specs.PathTables.{path_column_names};
+
+use crate::comparison::PathComparison;
+use crate::line::header_line;
+use crate::paths::Paths;
+use crate::plain::line_at;
+use crate::version::PathVersion;
+use lnt_spans::SpanSource;
+use std::alloc::{AllocError, Global};
+
+impl<S: SpanSource + Drop> PathComparison<S> {
+    // Takes the records after the header of a table, up to the first that is no sound record on a line of its own with nothing
+    // in quotes and no number of more than 18 digits, or that begins too early or holds nothing. Gives the place where the last
+    // line that was passed begins: `csv` may read on there, with that line once more.
+    pub(crate) fn pass_lines<P: Paths>(
+        &mut self,
+        alloc: Global,
+        paths: &P,
+        version: PathVersion,
+        table: &[u8],
+    ) -> Result<usize, AllocError>
+        requires known { AreKnownOf (P.bytes_of paths.now) self.old.known.slots.items }
+        requires header { BeginsWith table.now (path_column_names version ∷ []) }
+        requires count { self.old.count ≡ 1 }
+        ensures known { OnOk result (AreKnownOf (P.bytes_of paths.now) self.new.known.slots.items) }
+        ensures within { IfOk result (λ at. at ≤ length table.now) }
+        ensures passed { IfOk result (λ at. (records : List Fields) × IsBehind table.now (drop at table.now) records
+            × HasTaken S.to_come (path_answer version (P.bytes_of paths.now)) version self.old self.new table.now
+            (drop at table.now) records) }
+    {
+        let header = header_line(version);
+        if !table.starts_with(header) {
+            return Ok(0);
+        }
+        let mut before = 0;
+        let mut at = header.len();
+        let mut last = b"".as_slice();
+        while let Some((said, next)) = line_at(table, at, version, last) {
+            if !self.takes(&said) {
+                return Ok(before);
+            }
+            self.push(alloc, paths, version, &said)?;
+            self.count += 1;
+            before = at;
+            at = next;
+            last = said.path;
+        }
+        Ok(before)
+    }
+}
