@@ -9,8 +9,9 @@ use Rattle.lnt_lines.specs.Nos.{IsTrueNo}
 use Rattle.lnt_table.specs.declared.by_path.Checked.{Checked}
 use Rattle.lnt_table.specs.AnyVersion.{IsTrueCheck}
 use Rattle.lnt_ffi.specs.declared.section.FlatSection.{FlatSection}
+use Rattle.lnt_ffi.specs.declared.verdict.FlatVerdict.{FlatVerdict}
 use Rattle.lnt_ffi.specs.Flat.{options_of}
-use Rattle.lnt_ffi.specs.Told.{HoldsAll, IsFound}
+use Rattle.lnt_ffi.specs.Told.{HoldsAll, IsFound, IsToldOfPaths, IsToldOfTable}
 
 pub no_of : (section : FlatSection) (line general : List ℕ) (options : Options) (bytes : List ℕ) (judged : JudgedIndex) (reason : No)
     → line ≡ section.line_str.now → general ≡ section.general.now → options ≡ options_of section → bytes ≡ section.line.now
@@ -39,3 +40,9 @@ pub put_of : (room : List ℕ) (count : ℕ) (bytes path : List ℕ) → count �
     → HoldsAll room (length path) path
 put_of room count bytes path long is h =
     subst (λ (list : List ℕ). HoldsAll room (length list) list) is (subst (λ (n : ℕ). HoldsAll room n bytes) long h)
+
+-- what is told with the paths, less these
+pub of_paths : (section : FlatSection) (text by_table by_section : List ℕ) (told : FlatVerdict)
+    → IsToldOfPaths section text by_table by_section told → IsToldOfTable section text told
+of_paths section text by_table by_section told (IsToldOfPaths.judged found is e first second) = IsToldOfTable.judged found is e
+of_paths section text by_table by_section told (IsToldOfPaths.stopped e) = IsToldOfTable.stopped e

@@ -1,7 +1,7 @@
 //! What is told of a table of any version, as C sees it.
 ghost use Rattle.std.specs.Prelude.{◌≡◌};
 ghost use Rattle.lnt_ffi.specs.ByPath.{flat_place, of_difference, of_fault, path_in, section_path, table_path, tells_column};
-ghost use Rattle.lnt_ffi.specs.ByPath.{verdict_of_check, verdict_of_compared};
+ghost use Rattle.lnt_ffi.specs.ByPath.{verdict_of_check};
 
 use crate::flat::{FlatAnswer, NOTHING};
 use crate::verdict::{FlatVerdict, YES, at, numbered, of_record, verdict_of_table};
@@ -15,18 +15,9 @@ pub(crate) fn verdict_of_check(found: &Checked) -> FlatVerdict
 {
     match found {
         Checked::Numbered(verdict) => verdict_of_table(*verdict),
-        Checked::ByPath(compared) => verdict_of_compared(compared),
-    }
-}
-
-// What a comparison of a table by path tells.
-fn verdict_of_compared(compared: &ComparedByPath) -> FlatVerdict
-    ensures { result ≡ verdict_of_compared compared.now }
-{
-    match compared {
-        ComparedByPath::Same => YES,
-        ComparedByPath::Fault(fault) => of_fault(*fault),
-        ComparedByPath::Differs(difference) => of_difference(difference),
+        Checked::ByPath(ComparedByPath::Same) => YES,
+        Checked::ByPath(ComparedByPath::Fault(fault)) => of_fault(*fault),
+        Checked::ByPath(ComparedByPath::Differs(difference)) => of_difference(difference),
     }
 }
 

@@ -1,6 +1,7 @@
 //! Sections checked against address tables.
-ghost use Rattle.std.specs.Prelude.{◌≡◌, IfErr, IfOk, length};
-ghost use Rattle.lnt_ffi.specs.Told.{IsFound, IsToldOfPaths, IsToldOfTable, memory};
+ghost use Rattle.std.specs.Prelude.{◌≡◌, length};
+ghost use Rattle.lnt_ffi.specs.ByPath.{section_path, table_path, verdict_of_check};
+ghost use Rattle.lnt_ffi.specs.Told.{HoldsAll, IsToldOfPaths, IsToldOfTable};
 
 use crate::by_path::{section_path, table_path, verdict_of_check};
 use crate::bytes::Bytes;
@@ -22,10 +23,7 @@ pub extern "C" fn linetab_check(
 )
     ensures { IsToldOfTable section.now table.now verdict.new }
 {
-    *verdict = match check_table(alloc, section, table) {
-        Ok(found) => verdict_of_check(&found),
-        Err(stopped) => stopped,
-    };
+    *verdict = check_into(alloc, section, table, &mut [], &mut []);
 }
 
 /// Checks as `linetab_check` does, with the same verdict. Where the two differ by path (40), the path that the table answers is put
@@ -46,24 +44,20 @@ pub extern "C" fn linetab_check_paths(
     ensures section_room { length by_section.new ≡ length by_section.old }
     ensures told { IsToldOfPaths section.now table.now by_table.new by_section.new verdict.new }
 {
-    match check_table(alloc, section, table) {
-        Ok(found) => {
-            *verdict = verdict_of_check(&found);
-            put_bytes(table_path(&found), by_table);
-            put_bytes(section_path(&found), by_section);
-        }
-        Err(stopped) => *verdict = stopped,
-    }
+    *verdict = check_into(alloc, section, table, by_table, by_section);
 }
 
-// What is found of a section and a table, or the verdict that memory ran out.
-fn check_table(
+// What is found of a section and a table, with the paths of a difference by path put into the two rooms.
+fn check_into(
     alloc: Global,
     section: &FlatSection<'_>,
     table: &[u8],
-) -> Result<Checked, FlatVerdict>
-    ensures found { IfOk result (IsFound section.now table.now) }
-    ensures stopped { IfErr result (λ told. told ≡ memory) }
+    by_table: &mut [u8],
+    by_section: &mut [u8],
+) -> FlatVerdict
+    ensures table_room { length by_table.new ≡ length by_table.old }
+    ensures section_room { length by_section.new ≡ length by_section.old }
+    ensures told { IsToldOfPaths section.now table.now by_table.new by_section.new result }
 {
     let mut line = Bytes::of(section.line);
     let mut text = Bytes::of(table);
@@ -74,7 +68,20 @@ fn check_table(
         &mut text,
         &section.options(),
     ) {
-        Ok(found) => Ok(found),
-        Err(stop) => Err(verdict_of_stop(stop)),
+        Ok(found) => put_found(&found, by_table, by_section),
+        Err(stop) => verdict_of_stop(stop),
     }
+}
+
+// The verdict of what is found, with its paths put into the two rooms.
+fn put_found(found: &Checked, by_table: &mut [u8], by_section: &mut [u8]) -> FlatVerdict
+    ensures verdict { result ≡ verdict_of_check found.now }
+    ensures table_room { length by_table.new ≡ length by_table.old }
+    ensures section_room { length by_section.new ≡ length by_section.old }
+    ensures by_table { HoldsAll by_table.new (length (table_path found.now)) (table_path found.now) }
+    ensures by_section { HoldsAll by_section.new (length (section_path found.now)) (section_path found.now) }
+{
+    put_bytes(table_path(found), by_table);
+    put_bytes(section_path(found), by_section);
+    verdict_of_check(found)
 }

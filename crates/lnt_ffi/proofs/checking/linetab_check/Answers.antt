@@ -1,5 +1,5 @@
-use Rattle.lnt_ffi.specs.Told.{IsToldOfTable}
+use Rattle.lnt_ffi.proofs.ToldLemmas.{of_paths}
 use Rattle.lnt_ffi.proofs.checking.linetab_check.Goals as goal
 
-pub returns-in-Ok : goal.returns-in-Ok
-returns-in-Ok c = IsToldOfTable.judged c.in-Ok.found c.in-Ok.ensures.found c.verdict_of_check.ensures
+pub returns : goal.returns
+returns c = of_paths c.args.section.now c.args.table.now _ _ c.check_into.result c.check_into.ensures.told
