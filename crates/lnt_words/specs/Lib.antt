@@ -1,1 +1,3 @@
 pub mod Asking
+pub mod Described
+pub mod Words

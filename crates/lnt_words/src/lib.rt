@@ -4,6 +4,7 @@
 #![tactic(auto)]
 
 mod command;
+mod description;
 mod request;
 mod stop;
 mod words;

@@ -1,0 +1,115 @@
+-- What clap's builders make of arguments and commands that are known.
+use Rattle.std.proofs.Common.{◌≡◌, ◌∙◌, ◌&&◌, ◌||◌, ◌++◌, ◌∷◌, ◌<◌, ◌≤◌, ◌+◌, [], ℕ, Bool, List, Option, Some, None}
+use Rattle.std.proofs.Common.{ap, ap₂, codes, false, fold, get_or, length, not, refl, rules, subst, sym, take, true}
+use Rattle.std.proofs.lemmas.List.{take_all}
+use Rattle.std.proofs.lemmas.List.Sums.{fold_more}
+use Rattle.std.specs.Prelude.{IsSomeAnd}
+use Rattle.std.specs.Borrow.{Bor}
+use Rattle.clap.specs.Lexer.{usize_max}
+use Rattle.clap.specs.Simple.{app_of_fields, new_shape}
+use Rattle.clap.specs.Walk.{is_empty, is_free_arg}
+use Rattle.clap.specs.Words.{AddsArg, AddsConflicts, AddsRequiredUnless, AddsSubcommand}
+use Rattle.clap.specs.Words.{App, Rule, app_of, new_app, rule_of, with_rule, with_subcommand}
+use Rattle.clap.specs.declared.builder.action.ArgAction.TheVariants.{Append}
+use Rattle.clap.specs.declared.builder.arg.Arg.{Arg}
+use Rattle.clap.specs.declared.builder.command.Command.{Command}
+use Rattle.clap.specs.declared.builder.command.Command.TheOpen.{Command-F}
+use Rattle.clap.specs.declared.builder.command.Command.TheViews.{out-Command as fields_of}
+use Rattle.clap.specs.declared.builder.range.ValueRange.{ValueRange}
+use Rattle.lnt_words.specs.Described.{IsArgument, IsCommand}
+use Rattle.lnt_words.specs.Words.{bound, several}
+
+not_empty : {X : Type 0} (xs : List X) (x : X) → is_empty (xs ++ x ∷ []) ≡ false
+not_empty [] x = refl
+not_empty (y ∷ ys) x = search rules
+
+false_behind : (a b : Bool) → (a && (false && b)) ≡ false
+false_behind true b = refl
+false_behind false b = refl
+
+-- An argument that excludes another is bound.
+pub excluding_binds : (rule : Rule) (old new : Arg) (other : Bor (List ℕ)) → IsArgument rule old → AddsConflicts old new (other ∷ [])
+    → IsArgument (bound rule) new
+excluding_binds rule old new other is adds =
+    let rest : Bool = is_empty old.needs.items && (is_empty old.r_ifs.items && (is_empty old.r_ifs_all.items
+    && (is_empty old.r_unless.items && is_empty old.r_unless_all.items))) in
+    let is_bound : is_free_arg (record old { conflicts = new.conflicts }) ≡ false =
+    ap (λ (xs : List (Bor (List ℕ))). not old.exclusive && (is_empty xs && rest)) adds.1
+    ∙ ap (λ (b : Bool). not old.exclusive && (b && rest)) (not_empty old.conflicts.items other) ∙ false_behind (not old.exclusive) rest in
+    record {
+      rule_is = ap rule_of adds.0 ∙ ap (λ (free : Bool). record (rule_of old) { is_free = free }) is_bound ∙ ap bound is.rule_is;
+      local = ap (λ (a : Arg). a.global) adds.0 ∙ is.local;
+    }
+
+several_range : (range : Option ValueRange) (wanted : ValueRange) → IsSomeAnd range (λ r. r ≡ wanted) → range ≡ Some wanted
+several_range None wanted is = absurd is
+several_range (Some r) wanted is = ap Some is
+
+-- An argument that takes one word or more.
+pub several_taken : (rule : Rule) (old ranged new : Arg) → IsArgument rule old → ranged ≡ record old { num_vals = ranged.num_vals }
+    → IsSomeAnd ranged.num_vals (λ r. r ≡ record { start_inclusive = 1; end_inclusive = usize_max })
+    → new ≡ record ranged { action = Some Append } → IsArgument (several rule) new
+several_taken rule old ranged new is range_alone range action =
+    let so : ranged ≡ record old { num_vals = Some (record { start_inclusive = 1; end_inclusive = usize_max }) } =
+    range_alone ∙ ap (λ (r : Option ValueRange). record old { num_vals = r }) (several_range ranged.num_vals _ range) in
+    record {
+      rule_is = ap rule_of action ∙ ap (λ (a : Arg). record (rule_of a) { action = Some Append }) so ∙ ap several is.rule_is;
+      local = ap (λ (a : Arg). a.global) action ∙ ap (λ (a : Arg). a.global) so ∙ is.local;
+    }
+
+-- A command with one more argument.
+pub argument_added : (app : App) (rule : Rule) (old new : Command) (argument : Arg) → IsCommand app old → IsArgument rule argument
+    → AddsArg old argument new → IsCommand (with_rule app rule) new
+argument_added app rule old new argument is of adds = record {
+  app_is = adds.shape of.local ∙ ap₂ with_rule is.app_is of.rule_is;
+  local = adds.globals ∙ ap₂ (λ (a b : Bool). a || b) is.local of.local;
+}
+
+-- A command with one more subcommand.
+pub subcommand_added : (app sub : App) (old new below : Command) → IsCommand app old → IsCommand sub below
+    → AddsSubcommand old below new → IsCommand (with_subcommand app sub.top) new
+subcommand_added app sub old new below is of adds = record {
+  app_is = adds.shape of.local ∙ ap₂ with_subcommand is.app_is (ap (λ (a : App). a.top) of.app_is);
+  local = adds.globals ∙ ap₂ (λ (a b : Bool). a || b) is.local of.local;
+}
+
+-- An argument that has to be there unless another is: its rule is as before, but that it may be bound.
+pub unless_kept : (rule : Rule) (old new : Arg) (others : List (Bor (List ℕ))) → IsArgument rule old → AddsRequiredUnless old new others
+    → IsArgument (record rule { is_free = is_free_arg new }) new
+unless_kept rule old new others is adds = record {
+  rule_is = ap (λ (a : Arg). record (rule_of a) { is_free = is_free_arg new }) adds.0
+      ∙ ap (λ (r : Rule). record r { is_free = is_free_arg new }) is.rule_is;
+  local = ap (λ (a : Arg). a.global) adds.0 ∙ is.local;
+}
+
+-- ---- loops
+
+module _ {X : Type 0} (f : App → X → App) (app : App) (xs : List X) where
+  pub one_more : (i : ℕ) (x : X) (made : Command) → i < length xs → IsCommand (f (fold f app (take i xs)) (get_or xs i x)) made
+      → IsCommand (fold f app (take (i + 1) xs)) made
+  one_more i x made lt is = subst (λ (whole : App). IsCommand whole made) (sym (fold_more f app xs i x lt)) is
+
+  pub all_done : (i : ℕ) (made : Command) → length xs ≤ i → IsCommand (fold f app (take i xs)) made → IsCommand (fold f app xs) made
+  all_done i made past is = subst (λ (ys : List X). IsCommand (fold f app ys) made) (take_all i xs past) is
+
+-- ---- the command without its subcommands
+
+abbrev pub alone : App
+alone = record {
+  top = record (new_shape (codes "linetab")) { has_version = true; subcommand_required = true };
+  subs = [];
+}
+
+pub alone_made : (named described versioned_is made : Command) (about version : Bor (List ℕ)) → app_of named ≡ new_app (codes "linetab")
+    → (fields_of named).has_globals ≡ false → fields_of described ≡ record (fields_of named) { about = Some about }
+    → fields_of versioned_is ≡ record (fields_of described) { version = Some version }
+    → fields_of made ≡ record (fields_of versioned_is) { subcommand_required = true } → IsCommand alone made
+alone_made named described with_version made about version app local first second third =
+    let fields : fields_of made ≡ record (fields_of named) { about = Some about; version = Some version; subcommand_required = true } =
+    third ∙ ap (λ (f : Command-F Command). record f { subcommand_required = true }) second
+    ∙ ap (λ (f : Command-F Command). record f { version = Some version; subcommand_required = true }) first in
+    record {
+      app_is = ap app_of_fields fields
+          ∙ ap (λ (a : App). record a { top = record a.top { has_version = true; subcommand_required = true } }) app;
+      local = ap (λ (f : Command-F Command). f.has_globals) fields ∙ local;
+    }

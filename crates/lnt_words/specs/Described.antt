@@ -1,0 +1,42 @@
+-- What descriptions of arguments and subcommands say, in clap's terms. No public contract speaks of this.
+use Rattle.std.specs.Prelude.{◌≡◌, false, fold}
+use Rattle.clap.specs.Words.{App, Rule, Text, app_of, new_app, new_rule, rule_of, with_rule, with_subcommand}
+use Rattle.clap.specs.declared.builder.arg.Arg.{Arg}
+use Rattle.clap.specs.declared.builder.command.Command.{Command}
+use Rattle.clap.specs.declared.builder.command.Command.TheViews.{out-Command as fields_of}
+use Rattle.lnt_words.specs.Words.{bound, flag, option, required, several, word}
+use Rattle.lnt_words.specs.declared.description.Argument.{Argument}
+use Rattle.lnt_words.specs.declared.description.Kind.{Kind}
+use Rattle.lnt_words.specs.declared.description.Kind.TheVariants.{Word, WordsUnless, Flag, FlagWithout, FlagWithoutBoth, Valued, Required}
+use Rattle.lnt_words.specs.declared.description.Subcommand.{Subcommand}
+
+-- The argument is of this rule, and no subcommand's too.
+pub record IsArgument (rule : Rule) (argument : Arg) : Type 0 where
+  pub rule_is : rule_of argument ≡ rule
+  pub local : argument.global ≡ false
+
+-- The command is so, and no argument of it is its subcommands' too.
+pub record IsCommand (app : App) (command : Command) : Type 0 where
+  pub app_is : app_of command ≡ app
+  pub local : (fields_of command).has_globals ≡ false
+
+abbrev pub rule_of_kind : Text → Kind → Rule
+rule_of_kind name Word = word name
+rule_of_kind name (WordsUnless other) = bound (several (new_rule name))
+rule_of_kind name Flag = flag name
+rule_of_kind name (FlagWithout other) = bound (flag name)
+rule_of_kind name (FlagWithoutBoth one other) = bound (flag name)
+rule_of_kind name (Valued value) = option name
+rule_of_kind name (Required value) = required (option name)
+
+abbrev pub rule_in : Argument → Rule
+rule_in argument = rule_of_kind argument.name.now argument.kind
+
+abbrev pub with_argument_in : App → Argument → App
+with_argument_in app argument = with_rule app (rule_in argument)
+
+abbrev pub app_in : Subcommand → App
+app_in subcommand = fold with_argument_in (fold with_argument_in (new_app subcommand.name.now) subcommand.own.now) subcommand.shared.now
+
+abbrev pub with_subcommand_in : App → Subcommand → App
+with_subcommand_in app subcommand = with_subcommand app (app_in subcommand).top

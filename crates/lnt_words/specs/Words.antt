@@ -1,0 +1,80 @@
+-- The words that the command takes, as README.md lists them: its subcommands, and the arguments of each, in clap's terms.
+-- What help says of them isn't part of it, nor which of them exclude one another.
+use Rattle.std.specs.Prelude.{List, [], ◌∷◌, ◌++◌, Some, true, false, codes}
+use Rattle.clap.specs.Lexer.{usize_max}
+use Rattle.clap.specs.Simple.{new_shape}
+use Rattle.clap.specs.Words.{App, Rule, Shape, Text, new_rule}
+use Rattle.clap.specs.declared.builder.action.ArgAction.TheVariants.{Set, Append, SetTrue}
+
+-- ---- what words an argument takes
+
+-- The argument has to be there.
+abbrev pub required : Rule → Rule
+required rule = record rule { required = true }
+
+-- It takes a word.
+abbrev pub taking : Rule → Rule
+taking rule = record rule { action = Some Set }
+
+-- a word that has to be there
+abbrev pub word : Text → Rule
+word name = required (taking (new_rule name))
+
+-- --name
+abbrev pub flagged : Rule → Text → Rule
+flagged rule name = record rule { long = Some name; action = Some SetTrue }
+
+abbrev pub flag : Text → Rule
+flag name = flagged (new_rule name) name
+
+-- --name VALUE
+abbrev pub valued : Rule → Text → Rule
+valued rule name = record rule { long = Some name; action = Some Set; value_names = 1 }
+
+abbrev pub option : Text → Rule
+option name = valued (new_rule name) name
+
+-- one word or more in each place
+abbrev pub several : Rule → Rule
+several rule = record rule { action = Some Append; range = Some (record { start_inclusive = 1; end_inclusive = usize_max }) }
+
+-- Whether the argument may be there, or has to be, follows from others.
+abbrev pub bound : Rule → Rule
+bound rule = record rule { is_free = false }
+
+-- ---- the subcommands
+
+abbrev pub section : Rule
+section = word (codes "SECTION")
+
+-- of one that reads a section
+abbrev pub reading : List Rule
+reading = flag (codes "big") ∷ flag (codes "quiet") ∷ []
+
+-- of one that judges a section
+abbrev pub judging : List Rule
+judging = reading ++ option (codes "line-str") ∷ option (codes "str") ∷ option (codes "dead") ∷ flag (codes "skip-copies") ∷ []
+
+abbrev pub subcommand : Text → List Rule → Shape
+subcommand name rules = record (new_shape name) { rules = section ∷ rules }
+
+abbrev pub subcommands : List Shape
+subcommands =
+    subcommand (codes "units") reading
+    ∷ subcommand (codes "dump") (flag (codes "ops") ∷ flag (codes "rows") ∷ reading)
+    ∷ subcommand (codes "check") (word (codes "TABLE") ∷ flag (codes "all") ∷ judging)
+    ∷ subcommand (codes "verify") judging
+    ∷ subcommand (codes "lookup") (bound (several (new_rule (codes "ADDRESS")))
+    ∷ option (codes "addresses") ∷ option (codes "op") ∷ judging)
+    ∷ subcommand (codes "files") judging
+    ∷ subcommand (codes "table") (bound (flag (codes "wide")) ∷ bound (flag (codes "paths")) ∷ flag (codes "lines") ∷ judging)
+    ∷ subcommand (codes "convert") (required (option (codes "format")) ∷ required (option (codes "order")) ∷ reading)
+    ∷ subcommand (codes "md5") judging
+    ∷ []
+
+-- the command: it wants a subcommand, and tells its version
+unfoldable pub linetab : App
+linetab = record {
+  top = record (new_shape (codes "linetab")) { is_leaf = false; has_version = true; subcommand_required = true };
+  subs = subcommands;
+}

@@ -1,0 +1,269 @@
+//! The words that the command takes: its subcommands, and the arguments of each, as data.
+
+/// A subcommand, as help tells of it.
+pub(crate) struct Subcommand {
+    /// The word that names it.
+    pub(crate) name: &'static str,
+    /// What it does.
+    pub(crate) about: &'static str,
+    /// What help says behind its arguments, if anything.
+    pub(crate) after: Option<&'static str>,
+    /// The arguments that it has beside the shared ones, before them.
+    pub(crate) own: &'static [Argument],
+    /// The arguments that others have too.
+    pub(crate) shared: &'static [Argument],
+}
+
+/// An argument of a subcommand. Its value is found by its name.
+pub(crate) struct Argument {
+    /// Its name; `--name` is an option's.
+    pub(crate) name: &'static str,
+    /// What words it takes.
+    pub(crate) kind: Kind,
+    /// What help says of it.
+    pub(crate) help: &'static str,
+}
+
+/// What words an argument takes.
+#[derive(Clone, Copy)]
+pub(crate) enum Kind {
+    /// A word that has to be there.
+    Word,
+    /// Words, of which one at least has to be there, unless this option is; both can't be.
+    WordsUnless(&'static str),
+    /// `--name`.
+    Flag,
+    /// `--name`, which can't be there with this argument.
+    FlagWithout(&'static str),
+    /// `--name`, which can't be there with these two.
+    FlagWithoutBoth(&'static str, &'static str),
+    /// `--name VALUE`, with what help calls the value.
+    Valued(&'static str),
+    /// The same, and it has to be there.
+    Required(&'static str),
+}
+
+// The version of the program, and the toolchain that it is proved with, as `rt version` prints it.
+pub(crate) const VERSION: &str = "0.9.0 (rattle-kit-13b logic dac8208d650f15bf)";
+
+/// The subcommands, in the order in which help lists them.
+pub(crate) const SUBCOMMANDS: &[Subcommand] = &[
+    UNITS, DUMP, CHECK, VERIFY, LOOKUP, FILES, TABLE, CONVERT, MD5,
+];
+
+const UNITS: Subcommand = Subcommand {
+    name: "units",
+    about: "Prints the offset, the format and the length of each unit of a section",
+    after: None,
+    own: &[SECTION],
+    shared: READING,
+};
+
+const DUMP: Subcommand = Subcommand {
+    name: "dump",
+    about: "Prints the header of each unit of a section, with its directories and files",
+    after: None,
+    own: &[SECTION, OPS, ROWS],
+    shared: READING,
+};
+
+const CHECK: Subcommand = Subcommand {
+    name: "check",
+    about: "Tells whether an address table answers as a section does, or where it doesn't",
+    after: Some(NUMBERS),
+    own: &[SECTION, TABLE_FILE, ALL],
+    shared: JUDGING,
+};
+
+const VERIFY: Subcommand = Subcommand {
+    name: "verify",
+    about: "Tells whether a section is good, or what is wrong with it",
+    after: None,
+    own: &[SECTION],
+    shared: JUDGING,
+};
+
+const LOOKUP: Subcommand = Subcommand {
+    name: "lookup",
+    about: "Prints what a section says of addresses, in a line for each",
+    after: None,
+    own: &[SECTION, ADDRESS, ADDRESSES, OP],
+    shared: JUDGING,
+};
+
+const FILES: Subcommand = Subcommand {
+    name: "files",
+    about: "Prints the path and the MD5 sum of each file of a section, as comma-separated values",
+    after: None,
+    own: &[SECTION],
+    shared: JUDGING,
+};
+
+const TABLE: Subcommand = Subcommand {
+    name: "table",
+    about: "Prints the address table of a section",
+    after: Some(WHOLE),
+    own: &[SECTION, WIDE, PATHS, LINES],
+    shared: JUDGING,
+};
+
+const CONVERT: Subcommand = Subcommand {
+    name: "convert",
+    about: "Prints a section in another format and byte order",
+    after: None,
+    own: &[SECTION, FORMAT, ORDER],
+    shared: READING,
+};
+
+const MD5: Subcommand = Subcommand {
+    name: "md5",
+    about: "Compares the files of a section with the MD5 sums that it lists",
+    after: Some(SUMS),
+    own: &[SECTION],
+    shared: JUDGING,
+};
+
+// The arguments of a subcommand that reads a section.
+const READING: &[Argument] = &[BIG, QUIET];
+
+// The arguments of a subcommand that judges a section.
+const JUDGING: &[Argument] = &[BIG, QUIET, LINE_STR, STR, DEAD, SKIP_COPIES];
+
+const SECTION: Argument = Argument {
+    name: "SECTION",
+    kind: Kind::Word,
+    help: "The file with the bytes of a .debug_line section, or - for standard input",
+};
+
+const TABLE_FILE: Argument = Argument {
+    name: "TABLE",
+    kind: Kind::Word,
+    help: "The file with the address table, or - for standard input",
+};
+
+const ALL: Argument = Argument {
+    name: "all",
+    kind: Kind::Flag,
+    help: "Tells every place where the two answer differently, and not the first alone",
+};
+
+const OPS: Argument = Argument {
+    name: "ops",
+    kind: Kind::Flag,
+    help: "Prints the operations of each unit too",
+};
+
+const ROWS: Argument = Argument {
+    name: "rows",
+    kind: Kind::Flag,
+    help: "Prints the rows of each unit too",
+};
+
+const ADDRESS: Argument = Argument {
+    name: "ADDRESS",
+    kind: Kind::WordsUnless("addresses"),
+    help: "An address: 0x and 1 to 16 hexadecimal digits",
+};
+
+const ADDRESSES: Argument = Argument {
+    name: "addresses",
+    kind: Kind::Valued("FILE"),
+    help: "A file with a line ADDRESS or ADDRESS,N for each lookup, or - for standard input",
+};
+
+const OP: Argument = Argument {
+    name: "op",
+    kind: Kind::Valued("N"),
+    help: "The operation of the instruction there, from 0 on; it is 0 by default",
+};
+
+const WIDE: Argument = Argument {
+    name: "wide",
+    kind: Kind::FlagWithoutBoth("paths", "lines"),
+    help: "Tells the instruction set and the discriminator too",
+};
+
+const PATHS: Argument = Argument {
+    name: "paths",
+    kind: Kind::FlagWithout("lines"),
+    help: "Tells the path of the file, the line and the column, and nothing else",
+};
+
+const LINES: Argument = Argument {
+    name: "lines",
+    kind: Kind::Flag,
+    help: "Tells the path of the file and the line, and nothing else",
+};
+
+const FORMAT: Argument = Argument {
+    name: "format",
+    kind: Kind::Required("32|64"),
+    help: "The format that is written",
+};
+
+const ORDER: Argument = Argument {
+    name: "order",
+    kind: Kind::Required("little|big"),
+    help: "The byte order that is written",
+};
+
+const BIG: Argument = Argument {
+    name: "big",
+    kind: Kind::Flag,
+    help: "The section is big-endian; otherwise it is little-endian",
+};
+
+const QUIET: Argument = Argument {
+    name: "quiet",
+    kind: Kind::Flag,
+    help: "Prints no notes on standard error",
+};
+
+const LINE_STR: Argument = Argument {
+    name: "line-str",
+    kind: Kind::Valued("FILE"),
+    help: "The file with the bytes of .debug_line_str",
+};
+
+const STR: Argument = Argument {
+    name: "str",
+    kind: Kind::Valued("FILE"),
+    help: "The file with the bytes of .debug_str",
+};
+
+const DEAD: Argument = Argument {
+    name: "dead",
+    kind: Kind::Valued("ADDRESS"),
+    help: "Where sequences of discarded code begin: they answer nothing",
+};
+
+const SKIP_COPIES: Argument = Argument {
+    name: "skip-copies",
+    kind: Kind::Flag,
+    help: "Leaves out sequences that begin and end at the same positions as one before them",
+};
+
+// What the numbers of the lines `no ..` mean that `check` prints.
+const NUMBERS: &str = "Lines that begin with no, and the document that says more:
+  25  no unit stands where one has to, for the fault that is named (docs/SPECIFICATION.md, HEADERS.md, PROGRAMS.md)
+  26  the program of a unit doesn't run (docs/PROGRAMS.md)
+  27  a table of directories or files has no path, or one in a form that it may not have (docs/LINES.md)
+  28  the path of a directory or file has no text; --line-str and --str name the sections of strings (docs/LINES.md)
+  29  the directory of a file isn't there (docs/LINES.md)
+  30  a row names a file that isn't there (docs/LINES.md)
+  31  a row's position is below that of the row before it, in one sequence (docs/LINES.md)
+  32  two sequences hold one position; --dead and --skip-copies leave out what a linker left (docs/LINES.md)
+  36  the table doesn't begin with the names of its columns (docs/TABLES.md)
+  37  a record of the table has too few or too many fields (docs/TABLES.md)
+  38  a field of the table is no number of its kind (docs/TABLES.md)
+  39  a span of the table is empty, or begins below the end of the one before it (docs/TABLES.md)
+  40  the table and the section answer differently at this position, the least one (docs/TABLES.md)";
+
+// What the line `no 43` means that `table` prints.
+const WHOLE: &str = "With --paths or --lines a table says whole instructions alone. \
+Where its spans can't be told so, the line 'no 43 operation index at 0xA,OP' says the first place where one begins or ends \
+within an instruction, and the status is 1 (docs/TABLES.md).";
+
+// What the words `same`, `differs` and `unreadable` mean that `md5` prints.
+const SUMS: &str = "A file is the same, differs, or is unreadable: it can't be opened or read. \
+Where one isn't the same, the status is 1.";
