@@ -1,5 +1,6 @@
 //! Lines of rows, written from their ends on, so that no digits have to be counted or moved.
-ghost use Rattle.std.specs.Prelude.{◌+◌, ◌<◌, ◌≤◌};
+ghost use Rattle.std.specs.Prelude.{◌≡◌, ◌+◌, ◌<◌, ◌≤◌, ◌∷◌, ◌++◌, [], drop};
+ghost use Rattle.lnt_dump.specs.Rows.{IsNumberBefore, IsRowLine, mark_text, marks_text};
 
 use lnt_digits::{address_before, decimal_before};
 use lnt_machine::Row;
@@ -10,7 +11,8 @@ pub(crate) const MOST: usize = 192;
 // Writes the line of a row, the `index`th of its unit, so that it ends where the room does, and says where it begins.
 #[inline(always)]
 pub(crate) fn row_line(room: &mut [u8; MOST], index: u64, row: &Row) -> usize
-    ensures { result < 192 }
+    ensures within { result < 192 }
+    ensures line { IsRowLine index row.now (drop result room.new) }
 {
     let at = number_before(room, MOST, row.discriminator, b'\n');
     let at = number_before(room, at, row.isa, b' ');
@@ -34,7 +36,8 @@ pub(crate) fn row_line(room: &mut [u8; MOST], index: u64, row: &Row) -> usize
 #[inline(always)]
 fn number_before(room: &mut [u8; MOST], end: usize, n: u64, after: u8) -> usize
     requires { (21 ≤ end) × (end ≤ 192) }
-    ensures { (result < end) × (end ≤ result + 21) }
+    ensures within { (result < end) × (end ≤ result + 21) }
+    ensures written { IsNumberBefore n after (drop end room.old) (drop result room.new) }
 {
     room[end - 1] = after;
     decimal_before(room, end - 1, n)
@@ -44,7 +47,8 @@ fn number_before(room: &mut [u8; MOST], end: usize, n: u64, after: u8) -> usize
 #[inline(always)]
 fn marks_before(room: &mut [u8; MOST], end: usize, row: &Row) -> usize
     requires { (5 ≤ end) × (end ≤ 192) }
-    ensures { (result ≤ end) × (end ≤ result + 5) }
+    ensures within { (result ≤ end) × (end ≤ result + 5) }
+    ensures written { drop result room.new ≡ marks_text row.now ++ (32 ∷ drop end room.old) }
 {
     let at = mark_before(room, end, true, b' ');
     let some = row.basic_block | row.end_sequence | row.prologue_end | row.epilogue_begin;
@@ -61,7 +65,8 @@ fn marks_before(room: &mut [u8; MOST], end: usize, row: &Row) -> usize
 #[inline(always)]
 fn mark_before(room: &mut [u8; MOST], end: usize, is_set: bool, byte: u8) -> usize
     requires { (1 ≤ end) × (end ≤ 192) }
-    ensures { (result ≤ end) × (end ≤ result + 1) }
+    ensures within { (result ≤ end) × (end ≤ result + 1) }
+    ensures written { drop result room.new ≡ mark_text is_set (byte ∷ []) ++ drop end room.old }
 {
     if !is_set {
         return end;
