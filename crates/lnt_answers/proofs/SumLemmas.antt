@@ -94,9 +94,8 @@ sum_listed tells index unit file a b listed path shown found status is path_is s
     }
 
 -- with one file more
-pub sums_more : (tells tells' : List ℕ → Option (List ℕ) → Type 0) (index : Indexed) (unit file : ℕ)
-    (a b c : Option (List ℕ)) (s t : Status)
-    → TellsNoMore tells tells' → AreSumsTold tells index (listed_below index unit file) a b s
+pub sums_more : (tells tells' : List ℕ → Option (List ℕ) → Type 0) (index : Indexed) (unit file : ℕ) (a b c : Option (List ℕ))
+    (s t : Status) → TellsNoMore tells tells' → AreSumsTold tells index (listed_below index unit file) a b s
     → AreSumsTold tells' index (listed_at index unit file) b c t
     → AreSumsTold tells index (listed_below index unit (file + 1)) a c (both s t)
 sums_more tells tells' index unit file a b c s t later so next =
@@ -114,20 +113,19 @@ units_more index units i d lt =
     ∙ ap (λ list. flat_map (listed_in index) (take i units) ++ list) (append-nil (listed_in index (get_or units i d)))
 
 -- with one unit more
-pub sums_of_more : (tells tells' : List ℕ → Option (List ℕ) → Type 0) (index : Indexed) (units : List ℕ) (i d : ℕ)
-    (a b c : Option (List ℕ)) (s t : Status) → i < length units → TellsNoMore tells tells'
+pub sums_of_more : (tells tells' : List ℕ → Option (List ℕ) → Type 0) (index : Indexed) (units : List ℕ) (i d : ℕ) (a b c : Option (List ℕ))
+    (s t : Status) → i < length units → TellsNoMore tells tells'
     → AreSumsTold tells index (flat_map (listed_in index) (take i units)) a b s
     → AreSumsTold tells' index (listed_in index (get_or units i d)) b c t
     → AreSumsTold tells index (flat_map (listed_in index) (take (i + 1) units)) a c (both s t)
 sums_of_more tells tells' index units i d a b c s t lt later so next =
     subst (λ (files : List (ℕ × ℕ)). AreSumsTold tells index files a c (both s t)) (sym (units_more index units i d lt))
-    (sums_joined tells tells' index (flat_map (listed_in index) (take i units)) (listed_in index (get_or units i d)) a b c s t
-    later so next)
+    (sums_joined tells tells' index (flat_map (listed_in index) (take i units)) (listed_in index (get_or units i d)) a b c s t later so
+    next)
 
 -- with all of them
-pub sums_of_all : (tells : List ℕ → Option (List ℕ) → Type 0) (index : Indexed) (units : List ℕ) (i : ℕ)
-    (a b : Option (List ℕ)) (s : Status)
-    → length units ≤ i → AreSumsTold tells index (flat_map (listed_in index) (take i units)) a b s
+pub sums_of_all : (tells : List ℕ → Option (List ℕ) → Type 0) (index : Indexed) (units : List ℕ) (i : ℕ) (a b : Option (List ℕ))
+    (s : Status) → length units ≤ i → AreSumsTold tells index (flat_map (listed_in index) (take i units)) a b s
     → AreSumsTold tells index (flat_map (listed_in index) units) a b s
 sums_of_all tells index units i a b s le so =
     subst (λ (list : List ℕ). AreSumsTold tells index (flat_map (listed_in index) list) a b s) (take_all i units le) so

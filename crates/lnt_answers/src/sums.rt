@@ -4,8 +4,8 @@ ghost use Rattle.std.specs.Io.KnownBytes.{Appends};
 ghost use Rattle.lnt_sources.specs.Files.{TellsNoMore};
 ghost use Rattle.lnt_sources.specs.Halts.{IsPrinting};
 ghost use Rattle.lnt_text.specs.Quotes.{quoted_text};
-ghost use Rattle.lnt_answers.specs.SumLines.{AreSumsTold, IsFound, both, found_status, found_text};
-ghost use Rattle.lnt_answers.specs.SumLines.{head_text, listed_at, listed_files, listed_in};
+ghost use Rattle.lnt_answers.specs.SumLines.{AreSumsTold, IsFound, both, found_status, found_text, head_text};
+ghost use Rattle.lnt_answers.specs.SumLines.{listed_at, listed_files, listed_in};
 
 use crate::files::path_of;
 use lnt_lines::Index;

@@ -1,7 +1,6 @@
 -- Texts that are written from their ends on.
 use Rattle.std.proofs.Common.{◌≡◌, ◌∙◌, ℕ, ◌+◌, ◌-◌, ◌≤◌, Bool, true, false, codes, if◌then◌else◌}
-use Rattle.std.proofs.Common.{List, [], ◌∷◌, ◌++◌, append_assoc, drop, take, length}
-use Rattle.std.proofs.Common.{ap, arith, slice_set, sym}
+use Rattle.std.proofs.Common.{List, [], ◌∷◌, ◌++◌, append_assoc, drop, take, length, ap, arith, slice_set, sym}
 use Rattle.std.specs.Int.{from_bool}
 use Rattle.std.proofs.lemmas.List.{drop-set, drop-take}
 use Rattle.std.proofs.lemmas.List.Folds.{drop_split}

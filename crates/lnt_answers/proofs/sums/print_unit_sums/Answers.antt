@@ -3,10 +3,11 @@ use Rattle.lnt_answers.proofs.sums.print_unit_sums.Goals as goal
 
 pub loop-file-preserved : goal.loop-file-preserved
 loop-file-preserved g c =
-    let before = c.loop-file.invariant in (
+    let before = c.loop-file.invariant in
+    let told = sums_more (g.O.Opener.tells c.args.opener.now) (g.O.Opener.tells c.loop-file.opener) c.args.index.now c.args.unit
+    c.loop-file.file (g.W.Write.contents c.args.out.now) (g.W.Write.contents c.loop-file.out)
+    (g.W.Write.contents c.print_sum.new.out) c.loop-file.status c.in_ok-of_file.of_file before.0 before.1
+    c.in_ok-of_file.ensures.sum in (
       λ name told so. before.0 name told (c.in_ok-of_file.ensures.later name told so),
-      rw c.together-status.ensures (sums_more (g.O.Opener.tells c.args.opener.now) (g.O.Opener.tells c.loop-file.opener)
-          c.args.index.now c.args.unit c.loop-file.file
-          (g.W.Write.contents c.args.out.now) (g.W.Write.contents c.loop-file.out) (g.W.Write.contents c.print_sum.new.out)
-          c.loop-file.status c.in_ok-of_file.of_file before.0 before.1 c.in_ok-of_file.ensures.sum),
+      rw c.together-status.ensures told,
     )

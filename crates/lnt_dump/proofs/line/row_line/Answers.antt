@@ -13,6 +13,5 @@ returns-clause-line c =
     c.number_before-at-3.ensures.written c.number_before-at-4.ensures.written c.number_before-at-5.ensures.written
     c.number_before-at-6.ensures.written c.mark_before-at-3.ensures.written c.address_before-at.ensures.written
     (text_before c.mark_before-at-3.new.room c.address_before-at.new.text c.address_before-at.result c.mark_before-at-3.result
-    (search rules)
-    c.address_before-at.ensures.after) c.number_before-at-7.ensures.written c.mark_before-at-4.ensures.written
+    (search rules) c.address_before-at.ensures.after) c.number_before-at-7.ensures.written c.mark_before-at-4.ensures.written
     c.mark_before-at-5.ensures.written c.mark_before-at-6.ensures.written c.mark_before.ensures.written
