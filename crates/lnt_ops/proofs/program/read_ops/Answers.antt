@@ -6,7 +6,7 @@ use Rattle.lnt_wire.specs.declared.fault.Fault.{Fault}
 use Rattle.lnt_header.specs.declared.op.OpView.{OpView}
 use Rattle.lnt_ops.specs.Programs.{BrokenProgram}
 use Rattle.lnt_ops.specs.Walks.{Fails, Steps, WalkStep}
-use Rattle.lnt_ops.specs.Laws.Programs.{walk_broken, walk_more}
+use Rattle.lnt_ops.specs.Laws.Programs.{ops_admitted, walk_broken, walk_done, walk_more}
 use Rattle.lnt_ops.proofs.program.read_ops.Goals as goal
 
 pub returns-in_err-view-clause-err : goal.returns-in_err-view-clause-err
@@ -30,3 +30,13 @@ loop-view-preserved c =
     c.in-Some.ensures.steps in
     rw items (walk_more c.args.header.now c.args.place c.args.program.now c.loop-view.ops.items op c.in_ok-view.field-0
     c.loop-view.view-iterator c.next.new.self c.loop-view.invariant.0 c.loop-view.invariant.2 step c.in-Ok.ensures)
+
+pub returns-clause-ok : goal.returns-clause-ok
+returns-clause-ok c =
+    rw c.new.ensures (walk_done c.args.header.now c.args.place c.args.program.now c.loop-view.ops.items c.loop-view.view-iterator
+    c.next.new.self c.loop-view.invariant.1 c.loop-view.invariant.2 c.in-None.ensures.steps)
+
+pub returns-clause-admitted : goal.returns-clause-admitted
+returns-clause-admitted c =
+    rw c.new.ensures (ops_admitted c.args.header.now c.args.place c.args.program.now c.loop-view.ops.items c.loop-view.view-iterator.at
+    c.loop-view.invariant.2)
