@@ -12,7 +12,7 @@ use lnt_wire::{Fault, Reason, Stop};
 use std::alloc::AllocError;
 
 /// Why there are no lines of a section: it isn't good, or it was not judged.
-#[derive(Clone, Copy, Debug, PartialEq, Eq)]
+#[derive(Clone, Copy)]
 pub(crate) enum Refusal {
     No(No),
     Stop(Stop),

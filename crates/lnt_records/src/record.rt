@@ -12,7 +12,7 @@ use csv::ByteRecord;
 use lnt_spans::{Answer, More, Position, Span, Version};
 
 /// Why a record says no span.
-#[derive(Clone, Copy, Debug, PartialEq, Eq)]
+#[derive(Clone, Copy)]
 pub(crate) enum RecordFault {
     /// It hasn't as many fields as the table has columns.
     Fields,

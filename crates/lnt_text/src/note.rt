@@ -1,5 +1,5 @@
 //! Notes: what helps a person, after an answer that stays as it is.
-ghost use Rattle.std.specs.Prelude.{Some};
+ghost use Rattle.std.specs.Prelude.{◌≡◌, Some};
 ghost use Rattle.lnt_text.specs.Notes.{advice_text, argument_text, column_kind, column_name, count_text, line_text};
 ghost use Rattle.lnt_text.specs.Notes.{look_text, note_text, numbered_headers, rule_text, strings_text};
 
@@ -202,13 +202,19 @@ impl fmt::Display for ArgumentText {
     ghost output = { λ text. Some (argument_text text.0) };
 
     fn fmt<W: fmt::Write>(&self, f: &mut fmt::Formatter<W>) -> fmt::Result {
-        match self.0 {
-            Argument::Address => write!(f, "ADDRESS is 0x and 1 to 16 hexadecimal digits"),
-            Argument::Op => write!(f, "N of --op is 1 to 20 decimal digits, and below 2^64"),
-            Argument::Dead => write!(f, "ADDRESS of --dead is 0x and 1 to 16 hexadecimal digits"),
-            Argument::Format => write!(f, "--format is 32 or 64"),
-            Argument::Order => write!(f, "--order is little or big"),
-        }
+        f.write_str(rule_of_argument(self.0))
+    }
+}
+
+fn rule_of_argument(argument: Argument) -> &'static str
+    ensures { result.now ≡ argument_text argument }
+{
+    match argument {
+        Argument::Address => "ADDRESS is 0x and 1 to 16 hexadecimal digits",
+        Argument::Op => "N of --op is 1 to 20 decimal digits, and below 2^64",
+        Argument::Dead => "ADDRESS of --dead is 0x and 1 to 16 hexadecimal digits",
+        Argument::Format => "--format is 32 or 64",
+        Argument::Order => "--order is little or big",
     }
 }
 
@@ -220,45 +226,34 @@ impl fmt::Display for LookText {
     ghost output = { λ text. Some (look_text text.0) };
 
     fn fmt<W: fmt::Write>(&self, f: &mut fmt::Formatter<W>) -> fmt::Result {
-        match self.0 {
-            Look::Elf => write!(
-                f,
-                "this looks like an ELF file; linetab-object takes its sections out, and does the word"
-            ),
-            Look::Pe => write!(
-                f,
-                "this looks like a PE file; linetab-object takes its sections out, and does the word"
-            ),
-            Look::MachO => write!(
-                f,
-                "this looks like a Mach-O file; linetab-object takes its sections out, and does the word"
-            ),
-            Look::Gzip => write!(
-                f,
-                "this looks like a file that gzip compressed; decompress it first"
-            ),
-            Look::Zstd => write!(
-                f,
-                "this looks like a file that zstd compressed; decompress it first"
-            ),
-            Look::CompressedSection => write!(
-                f,
-                "this looks like a compressed section; objcopy --decompress-debug-sections, with --dump-section, decompresses it"
-            ),
-            Look::Text => write!(
-                f,
-                "this looks like text; a section is the raw bytes of .debug_line"
-            ),
-            Look::InOrder(Order::Big) => write!(
-                f,
-                "its length fits where the section is big-endian; try --big"
-            ),
-            Look::InOrder(Order::Little) => {
-                write!(
-                    f,
-                    "its length fits where the section is little-endian; leave out --big"
-                )
-            }
+        f.write_str(advice_to_look(self.0))
+    }
+}
+
+fn advice_to_look(look: Look) -> &'static str
+    ensures { result.now ≡ look_text look }
+{
+    match look {
+        Look::Elf => {
+            "this looks like an ELF file; linetab-object takes its sections out, and does the word"
+        }
+        Look::Pe => {
+            "this looks like a PE file; linetab-object takes its sections out, and does the word"
+        }
+        Look::MachO => {
+            "this looks like a Mach-O file; linetab-object takes its sections out, and does the word"
+        }
+        Look::Gzip => "this looks like a file that gzip compressed; decompress it first",
+        Look::Zstd => "this looks like a file that zstd compressed; decompress it first",
+        Look::CompressedSection => {
+            "this looks like a compressed section; objcopy --decompress-debug-sections, with --dump-section, decompresses it"
+        }
+        Look::Text => "this looks like text; a section is the raw bytes of .debug_line",
+        Look::InOrder(Order::Big) => {
+            "its length fits where the section is big-endian; try --big"
+        }
+        Look::InOrder(Order::Little) => {
+            "its length fits where the section is little-endian; leave out --big"
         }
     }
 }
@@ -335,19 +330,25 @@ impl fmt::Display for ColumnName {
     ghost output = { λ text. Some (column_name text.0) };
 
     fn fmt<W: fmt::Write>(&self, f: &mut fmt::Formatter<W>) -> fmt::Result {
-        match self.0 {
-            Column::Low => write!(f, "low"),
-            Column::LowOp => write!(f, "low_op"),
-            Column::High => write!(f, "high"),
-            Column::HighOp => write!(f, "high_op"),
-            Column::Unit => write!(f, "unit"),
-            Column::File => write!(f, "file"),
-            Column::Line => write!(f, "line"),
-            Column::Column => write!(f, "column"),
-            Column::IsStmt => write!(f, "is_stmt"),
-            Column::Isa => write!(f, "isa"),
-            Column::Discriminator => write!(f, "discriminator"),
-        }
+        f.write_str(name_of_column(self.0))
+    }
+}
+
+fn name_of_column(column: Column) -> &'static str
+    ensures { result.now ≡ column_name column }
+{
+    match column {
+        Column::Low => "low",
+        Column::LowOp => "low_op",
+        Column::High => "high",
+        Column::HighOp => "high_op",
+        Column::Unit => "unit",
+        Column::File => "file",
+        Column::Line => "line",
+        Column::Column => "column",
+        Column::IsStmt => "is_stmt",
+        Column::Isa => "isa",
+        Column::Discriminator => "discriminator",
     }
 }
 
@@ -359,10 +360,16 @@ impl fmt::Display for ColumnKind {
     ghost output = { λ text. Some (column_kind text.0) };
 
     fn fmt<W: fmt::Write>(&self, f: &mut fmt::Formatter<W>) -> fmt::Result {
-        match self.0 {
-            Column::Low | Column::High => write!(f, "0x and 1 to 16 hexadecimal digits"),
-            Column::IsStmt => write!(f, "0 or 1"),
-            _ => write!(f, "1 to 20 decimal digits, and below 2^64"),
-        }
+        f.write_str(kind_of_column(self.0))
+    }
+}
+
+fn kind_of_column(column: Column) -> &'static str
+    ensures { result.now ≡ column_kind column }
+{
+    match column {
+        Column::Low | Column::High => "0x and 1 to 16 hexadecimal digits",
+        Column::IsStmt => "0 or 1",
+        _ => "1 to 20 decimal digits, and below 2^64",
     }
 }
