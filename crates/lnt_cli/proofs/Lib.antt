@@ -1,4 +1,3 @@
-pub mod CheckLemmas
 pub mod QuestionLemmas
 pub mod ReadingLemmas
 pub mod StretchLemmas

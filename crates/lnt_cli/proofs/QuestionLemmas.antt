@@ -1,11 +1,10 @@
 -- Questions that were answered.
-use Rattle.std.proofs.Common.{◌≡◌, ℕ, List, Option, Result, Ok, IfOk, IfSome, true, false, subst}
+use Rattle.std.proofs.Common.{ℕ, List, Option, Result, Ok, Err, IfOk, IfSome, true, false}
 use Rattle.lnt_sources.specs.Files.{TellsNoMore}
-use Rattle.lnt_sources.specs.declared.halt.Halt.{Halt}
 use Rattle.lnt_sources.specs.declared.status.Status.{Status}
 use Rattle.lnt_lines.specs.declared.options.Options.{Options}
 use Rattle.lnt_lines.specs.declared.section.JudgedIndex.{JudgedIndex}
-use Rattle.lnt_lines.specs.declared.section.JudgedIndex.TheVariants.{Good}
+use Rattle.lnt_lines.specs.declared.section.JudgedIndex.TheVariants.{Good, Bad}
 use Rattle.lnt_lines.specs.Drafts.{IsJudgedIndex}
 use Rattle.lnt_lines.specs.Indexed.{Indexed}
 use Rattle.lnt_words.specs.declared.request.Judging.{Judging}
@@ -14,7 +13,7 @@ use Rattle.lnt_words.specs.declared.request.Question.TheVariants.{Verify, Lookup
 use Rattle.lnt_answers.specs.SumLines.{listed_files}
 use Rattle.lnt_answers.proofs.SumLaws.{sums_later}
 use Rattle.lnt_cli.specs.Answered.{AnswersQuestion, AreTextsOf, options_in}
-use Rattle.lnt_cli.specs.Questions.{AnswersGood}
+use Rattle.lnt_cli.specs.Questions.{AnswersGood, AnswersJudged}
 
 -- what was answered by less that may be told of files is so by more
 good_later : (tells tells' : List ℕ → Option (List ℕ) → Type 0) (options : Options) (question : Question) (index : Indexed)
@@ -29,26 +28,30 @@ good_later tells tells' options (TableByPath false) index old new status later s
 good_later tells tells' options Md5 index old new status later so =
     sums_later tells tells' index (listed_files index) old new status later so
 
--- The answer of a good section, of which nothing was printed before, was printed as less might be told of files.
-pub question_of : (tells tells' : List ℕ → Option (List ℕ) → Type 0) (from : Judging) (question : Question)
-    (old middle new : Option (List ℕ)) (status : Status) (line general : List ℕ) (section : Option (List ℕ)) (judged : JudgedIndex)
-    (index : Indexed) (printed : Result Status Halt) → AreTextsOf tells from line general → tells from.section.now section
-    → judged ≡ Good index → IfSome section (λ bytes. IsJudgedIndex line general (options_in from) bytes judged) → middle ≡ old
-    → TellsNoMore tells tells' → printed ≡ Ok status
-    → IfOk printed (λ given. (options : Options) → AnswersGood tells' options question index middle new given)
-    → AnswersQuestion tells from question old new status
-question_of tells tells' from question old middle new status line general section judged index printed texts of_section judged_is is_true
-    same later printed_is so = record {
+judged_later : (tells tells' : List ℕ → Option (List ℕ) → Type 0) (options : Options) (question : Question) (judged : JudgedIndex)
+    (old new : Option (List ℕ)) (status : Status) → TellsNoMore tells tells'
+    → AnswersJudged tells' options question judged old new status → AnswersJudged tells options question judged old new status
+judged_later tells tells' options question (Good index) old new status later so =
+    good_later tells tells' options question index old new status later so
+judged_later tells tells' options question (Bad reason) old new status later so = so
+
+-- What was answered of a section that was judged, as less might be told of files, is the answer to the question.
+pub question_of : {T E : Type 0} (tells tells' : List ℕ → Option (List ℕ) → Type 0) (from : Judging) (question : Question)
+    (old new : Option (List ℕ)) (line general : List ℕ) (section : Option (List ℕ)) (ended : Result T E) (status_of : T → Status)
+    → AreTextsOf tells from line general → tells from.section.now section → TellsNoMore tells tells'
+    → IfOk ended (λ answered. (judged : JudgedIndex)
+    × IfSome section (λ bytes. IsJudgedIndex line general (options_in from) bytes judged)
+    × AnswersJudged tells' (options_in from) question judged old new (status_of answered))
+    → IfOk ended (λ answered. AnswersQuestion tells from question old new (status_of answered))
+question_of tells tells' from question old new line general section (Ok answered) status_of texts of_section later so =
+    record {
       line = line;
       general = general;
       texts = texts;
       section_bytes = section;
       of_section = of_section;
-      judged = Good index;
-      is_true = subst (λ (found : JudgedIndex). IfSome section (λ bytes. IsJudgedIndex line general (options_in from) bytes found))
-          judged_is is_true;
-      answered = good_later tells tells' (options_in from) question index old new status later
-          (subst (λ (held : Option (List ℕ)). AnswersGood tells' (options_in from) question index held new status) same
-          (subst (λ (ended : Result Status Halt). IfOk ended (λ given. (options : Options)
-          → AnswersGood tells' options question index middle new given)) printed_is so (options_in from)));
+      judged = so.0;
+      is_true = so.1;
+      answered = judged_later tells tells' (options_in from) question so.0 old new (status_of answered) later so.2;
     }
+question_of tells tells' from question old new line general section (Err stop) status_of texts of_section later so = so

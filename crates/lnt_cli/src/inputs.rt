@@ -114,6 +114,43 @@ pub(crate) fn open<O: Opener>(
     }
 }
 
+// The files of a section that is to be judged, and another one, open.
+#[derive(Drop)]
+pub(crate) struct OpenedBoth<'c, R> {
+    pub(crate) texts: Texts,
+    pub(crate) section: Section<'c, R>,
+    pub(crate) file: Counted<BufReader<R>>,
+}
+
+// Opens the files of a section that is to be judged and the file of this name, in this order, before anything is read of the
+// section and of that file.
+pub(crate) fn open_both<'c, O: Opener>(
+    alloc: Global,
+    opener: &mut O,
+    from: &Judging<'_>,
+    name: &str,
+    seen: &'c Cell<Seen>,
+) -> Result<OpenedBoth<'c, O::Reader>, CliStop>
+    ensures usage { IfErr result (λ stop. IsUsage stop → ⊥) }
+    ensures texts { IfOk result (λ opened.
+        AreTextsOf (O.tells opener.old) from.now opened.texts.line.items opened.texts.general.items) }
+    ensures section_fails { IfOk result (λ opened.
+        ⟦<Counted<BufReader<Watched<'c, O::Reader>>> as Source>⟧.failures opened.section ≡ 0) }
+    ensures section_told { IfOk result (λ opened. O.tells opener.old from.now.section.now
+        (⟦<Counted<BufReader<Watched<'c, O::Reader>>> as Source>⟧.remaining opened.section)) }
+    ensures file_fails { IfOk result (λ opened. ⟦<Counted<BufReader<O::Reader>> as Source>⟧.failures opened.file ≡ 0) }
+    ensures file_told { IfOk result (λ opened.
+        O.tells opener.old name.now (⟦<Counted<BufReader<O::Reader>> as Source>⟧.remaining opened.file)) }
+{
+    let judged = open_judged(alloc, opener, from, seen)?;
+    let file = open(alloc, opener, name)?;
+    Ok(OpenedBoth {
+        texts: judged.texts,
+        section: judged.section,
+        file,
+    })
+}
+
 // Both string sections; none of a file that isn't named.
 pub(crate) fn read_texts<O: Opener>(
     alloc: Global,

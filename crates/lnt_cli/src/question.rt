@@ -9,7 +9,7 @@ ghost use Rattle.lnt_lines.specs.Drafts.{IsJudgedIndex};
 ghost use Rattle.lnt_lines.specs.declared.options.Options.{Options as OptionsSpec};
 ghost use Rattle.lnt_lines.specs.declared.section.JudgedIndex.{JudgedIndex};
 
-use crate::inputs::{Texts, of_file, open, open_judged};
+use crate::inputs::{Texts, of_file, open_both, open_judged};
 use crate::judge::options_of;
 use crate::path_table::print_path_table;
 use crate::session::Session;
@@ -122,7 +122,8 @@ fn answer_opened<R: Source, O: Opener, W: Write>(
     ensures answer { IfOk result (λ answered. (judged : JudgedIndex)
         × IfSome (R.remaining section.old) (λ bytes.
         IsJudgedIndex texts.now.line.items texts.now.general.items (options_in from.now) bytes judged)
-        × AnswersJudged (options_in from.now) question.now judged (W.contents out.old) (W.contents out.new) answered.status) }
+        × AnswersJudged (O.tells opener.old) (options_in from.now) question.now judged (W.contents out.old) (W.contents out.new)
+        answered.status) }
 {
     match judge(alloc, section, texts, from, out)? {
         JudgedIndex::Good(index) => answer_good(alloc, from.section, &index, question, opener, out),
@@ -141,7 +142,7 @@ fn answer_good<O: Opener, W: Write>(
 ) -> Result<Answered, CliStop>
     ensures usage { IfErr result (λ stop. IsUsage stop → ⊥) }
     ensures answer { IfOk result (λ answered. (options : OptionsSpec)
-        → AnswersGood options question.now index.now (W.contents out.old) (W.contents out.new) answered.status) }
+        → AnswersGood (O.tells opener.old) options question.now index.now (W.contents out.old) (W.contents out.new) answered.status) }
 {
     let printed = print_answer(alloc, index, question, opener, out);
     let status = of_file(alloc, section, printed)?;
@@ -163,11 +164,9 @@ fn answer_lines<O: Opener, W: Write>(
     ensures answer { IfOk result (λ answered. AnswersAddresses (O.tells opener.old) from.now file.now op
         (W.contents out.old) (W.contents out.new) answered.status) }
 {
-    let mut opened = open_judged(alloc, opener, from, seen)?;
-    let mut lines = open(alloc, opener, file)?;
-    let files = &mut opened;
-    let (texts, section) = (&files.texts, &mut files.section);
-    answer_lines_of(alloc, from, file, op, texts, section, &mut lines, out)
+    let opened = open_both(alloc, opener, from, file, seen)?;
+    let (texts, mut section, mut lines) = (opened.texts, opened.section, opened.file);
+    answer_lines_of(alloc, from, file, op, &texts, &mut section, &mut lines, out)
 }
 
 // Answers the lines of a file of this name, where they and the section's files are open.
@@ -216,7 +215,7 @@ fn print_lines<T: Source, W: Write>(
 }
 
 // Judges the section, and prints the line of one that isn't good.
-fn judge<'t, R: Source, W: Write>(
+pub(crate) fn judge<'t, R: Source, W: Write>(
     alloc: Global,
     section: &mut R,
     texts: &'t Texts,
