@@ -1,9 +1,13 @@
--- What descriptions of arguments and subcommands say, in clap's terms. No public contract speaks of this.
-use Rattle.std.specs.Prelude.{◌≡◌, false, fold}
+-- What descriptions of arguments and subcommands say, in clap's terms, and what is asked by matches. No public contract speaks of this.
+use Rattle.std.specs.Prelude.{◌≡◌, Some, codes, false, fold, option_map}
 use Rattle.clap.specs.Words.{App, Rule, Text, app_of, new_app, new_rule, rule_of, with_rule, with_subcommand}
+use Rattle.clap.specs.Words.{subcommand_name_of, subcommand_rows_of}
 use Rattle.clap.specs.declared.builder.arg.Arg.{Arg}
 use Rattle.clap.specs.declared.builder.command.Command.{Command}
 use Rattle.clap.specs.declared.builder.command.Command.TheViews.{out-Command as fields_of}
+use Rattle.clap.specs.declared.parser.matches.ArgMatches.{ArgMatches}
+use Rattle.lnt_words.specs.Asking.{IsAskedIn, IsFlag, rows_in}
+use Rattle.lnt_words.specs.declared.request.Asked.{Asked}
 use Rattle.lnt_words.specs.Words.{bound, flag, option, required, several, word}
 use Rattle.lnt_words.specs.declared.description.Argument.{Argument}
 use Rattle.lnt_words.specs.declared.description.Kind.{Kind}
@@ -40,3 +44,12 @@ app_in subcommand = fold with_argument_in (fold with_argument_in (new_app subcom
 
 abbrev pub with_subcommand_in : App → Subcommand → App
 with_subcommand_in app subcommand = with_subcommand app (app_in subcommand).top
+
+-- The subcommand that clap found, and its words, ask for this.
+pub record IsAskedOfMatches (matches : ArgMatches) (asked : Asked) : Type 0 where
+  pub name : Text
+  pub words : ArgMatches
+  pub name_is : Some name ≡ subcommand_name_of matches
+  pub words_are : Some (rows_in words) ≡ option_map (λ named. named.1) (subcommand_rows_of matches)
+  pub request : IsAskedIn name (rows_in words) asked.request
+  pub quiet : IsFlag (rows_in words) (codes "quiet") asked.quiet

@@ -1,14 +1,16 @@
 //! What the words of the command ask for.
-ghost use Rattle.std.specs.Prelude.{ℕ, List, codes, IfOk};
-ghost use Rattle.clap.specs.Words.{found_of};
+ghost use Rattle.std.specs.Prelude.{◌≡◌, ℕ, List, codes, map, option_map, string_bytes, IfOk};
+ghost use Rattle.clap.specs.Words.{first_of};
+ghost use Rattle.lnt_words.specs.Described.{IsAskedOfMatches};
 ghost use Rattle.lnt_digits.specs.Digits.{IsAddress};
-ghost use Rattle.lnt_words.specs.Asking.{IsAskedIn, IsAskedOf, IsJudging, IsOrder, IsQuestion, IsReading, IsWord};
+ghost use Rattle.lnt_words.specs.Asking.{IsAskedBy, IsAskedIn, IsFlag, IsHelp, IsJudging, IsOrder, IsQuestion};
+ghost use Rattle.lnt_words.specs.Asking.{IsReading, IsWord, rows_in};
 
 use crate::command::command_of;
 use crate::request::{Asked, Judging, Question, Reading, Request};
 use crate::stop::WordsStop;
-use clap::ArgMatches;
 use clap::error::ErrorKind;
+use clap::{ArgMatches, Error};
 use lnt_digits::{address, decimal};
 use lnt_spans::{Position, Version};
 use lnt_text::{Argument, Shown};
@@ -19,11 +21,22 @@ use std::alloc::{AllocError, Global};
 ///
 /// It stops by `Usage` where they ask for nothing that the command does, and then tells how it is used; by `BadWord`
 /// where one of them isn't what it has to be; and by `Memory`. What it gives names files by the words themselves.
-pub fn request_of<'a>(alloc: Global, words: &'a [String]) -> Result<Asked<'a>, WordsStop> {
-    let error = match command_of(alloc)?.try_get_matches_from(words) {
-        Ok(matches) => return asked_in(alloc, &matches),
-        Err(error) => error,
-    };
+///
+/// Where it gives no text of help, what it gives is what the words ask for (`IsAskedBy`): which subcommand they name, and
+/// what each of its arguments was given, follows from the words and from the command that `linetab` tells.
+pub fn request_of<'a>(alloc: Global, words: &'a [String]) -> Result<Asked<'a>, WordsStop>
+    ensures { IfOk result (IsAskedBy (map string_bytes words.entry.now)) }
+{
+    match command_of(alloc)?.try_get_matches_from(words) {
+        Ok(matches) => asked_in(alloc, &matches),
+        Err(error) => help_in(alloc, &error),
+    }
+}
+
+// What clap says where it finds no matches: help, the version, or how the command is used.
+fn help_in<'a>(alloc: Global, error: &Error) -> Result<Asked<'a>, WordsStop>
+    ensures { IfOk result (λ asked. IsHelp asked.request) }
+{
     if error.kind() == ErrorKind::OutOfMemory {
         return Err(WordsStop::Memory);
     }
@@ -60,14 +73,14 @@ fn is_obeyed(character: char) -> bool {
 
 // What the words of a subcommand ask for.
 fn asked_in<'a>(alloc: Global, matches: &ArgMatches<'a>) -> Result<Asked<'a>, WordsStop>
-    ensures { IfOk result (λ asked. IsAskedOf matches.now asked.request) }
+    ensures { IfOk result (IsAskedOfMatches matches.now) }
 {
     let Some((name, words)) = matches.subcommand() else {
         return Err(WordsStop::Memory);
     };
     Ok(Asked {
         request: request_in(alloc, name, words)?,
-        quiet: words.get_flag("quiet"),
+        quiet: flag_in(words, "quiet"),
     })
 }
 
@@ -76,14 +89,14 @@ fn request_in<'a>(
     name: &str,
     words: &ArgMatches<'a>,
 ) -> Result<Request<'a>, WordsStop>
-    ensures { IfOk result (λ request. IsAskedIn name.now (found_of words.now) request) }
+    ensures { IfOk result (λ request. IsAskedIn name.now (rows_in words.now) request) }
 {
     match name {
         "units" => read_in(words, Reading::Units),
         "dump" => {
             let reading = Reading::Dump {
-                ops: words.get_flag("ops"),
-                rows: words.get_flag("rows"),
+                ops: flag_in(words, "ops"),
+                rows: flag_in(words, "rows"),
             };
             read_in(words, reading)
         }
@@ -91,7 +104,7 @@ fn request_in<'a>(
         "check" => Ok(Request::Check {
             from: judging_in(alloc, words)?,
             table: word_in(words, "TABLE")?,
-            all: words.get_flag("all"),
+            all: flag_in(words, "all"),
         }),
         "lookup" => lookup_in(alloc, words),
         "files" => judge_in(alloc, words, Question::Files),
@@ -103,8 +116,8 @@ fn request_in<'a>(
 }
 
 fn read_in<'a>(words: &ArgMatches<'a>, reading: Reading) -> Result<Request<'a>, WordsStop>
-    ensures { IfOk result (λ request. (name : List ℕ) → IsReading name (found_of words.now) reading
-        → IsAskedIn name (found_of words.now) request) }
+    ensures { IfOk result (λ request. (name : List ℕ) → IsReading name (rows_in words.now) reading
+        → IsAskedIn name (rows_in words.now) request) }
 {
     Ok(Request::Read {
         section: word_in(words, "SECTION")?,
@@ -118,8 +131,8 @@ fn judge_in<'a>(
     words: &ArgMatches<'a>,
     question: Question,
 ) -> Result<Request<'a>, WordsStop>
-    ensures { IfOk result (λ request. (name : List ℕ) → IsQuestion name (found_of words.now) question
-        → IsAskedIn name (found_of words.now) request) }
+    ensures { IfOk result (λ request. (name : List ℕ) → IsQuestion name (rows_in words.now) question
+        → IsAskedIn name (rows_in words.now) request) }
 {
     Ok(Request::Judge {
         from: judging_in(alloc, words)?,
@@ -129,7 +142,7 @@ fn judge_in<'a>(
 
 // The addresses are judged before the operation index, and in their order.
 fn lookup_in<'a>(alloc: Global, words: &ArgMatches<'a>) -> Result<Request<'a>, WordsStop>
-    ensures { IfOk result (λ request. IsAskedIn (codes "lookup") (found_of words.now) request) }
+    ensures { IfOk result (λ request. IsAskedIn (codes "lookup") (rows_in words.now) request) }
 {
     let mut positions = Vec::new(alloc);
     if let Some(addresses) = words.get_strs("ADDRESS") {
@@ -140,11 +153,11 @@ fn lookup_in<'a>(alloc: Global, words: &ArgMatches<'a>) -> Result<Request<'a>, W
             }
         }
     }
-    let op = match words.get_str("op") {
+    let op = match str_in(words, "op") {
         Some(word) => number_of(alloc, words, word)?,
         None => 0,
     };
-    if let Some(file) = words.get_str("addresses") {
+    if let Some(file) = str_in(words, "addresses") {
         let from = judging_in(alloc, words)?;
         return Ok(Request::Addresses { from, file, op });
     }
@@ -156,22 +169,22 @@ fn lookup_in<'a>(alloc: Global, words: &ArgMatches<'a>) -> Result<Request<'a>, W
 
 // Which table is asked for: at most one of the three flags is given.
 fn table_in(words: &ArgMatches<'_>) -> Question
-    ensures { IsQuestion (codes "table") (found_of words.now) result }
+    ensures { IsQuestion (codes "table") (rows_in words.now) result }
 {
-    if words.get_flag("paths") {
+    if flag_in(words, "paths") {
         return Question::TableByPath { columns: true };
     }
-    if words.get_flag("lines") {
+    if flag_in(words, "lines") {
         return Question::TableByPath { columns: false };
     }
-    if words.get_flag("wide") {
+    if flag_in(words, "wide") {
         return Question::Table(Version::Two);
     }
     Question::Table(Version::One)
 }
 
 fn convert_in<'a>(alloc: Global, words: &ArgMatches<'a>) -> Result<Request<'a>, WordsStop>
-    ensures { IfOk result (λ request. IsAskedIn (codes "convert") (found_of words.now) request) }
+    ensures { IfOk result (λ request. IsAskedIn (codes "convert") (rows_in words.now) request) }
 {
     let format = match word_in(words, "format")? {
         "32" => Format::D32,
@@ -188,33 +201,46 @@ fn convert_in<'a>(alloc: Global, words: &ArgMatches<'a>) -> Result<Request<'a>, 
 
 // A section that is judged, with its strings, the marker of dead code, and what becomes of copies.
 fn judging_in<'a>(alloc: Global, words: &ArgMatches<'a>) -> Result<Judging<'a>, WordsStop>
-    ensures { IfOk result (λ from. IsJudging (found_of words.now) from) }
+    ensures { IfOk result (λ from. IsJudging (rows_in words.now) from) }
 {
-    let dead = match words.get_str("dead") {
+    let dead = match str_in(words, "dead") {
         Some(word) => Some(address_of(alloc, words, word, Argument::Dead)?),
         None => None,
     };
     Ok(Judging {
         section: word_in(words, "SECTION")?,
-        line_strings: words.get_str("line-str"),
-        strings: words.get_str("str"),
+        line_strings: str_in(words, "line-str"),
+        strings: str_in(words, "str"),
         order: order_in(words),
         dead,
-        skip_copies: words.get_flag("skip-copies"),
+        skip_copies: flag_in(words, "skip-copies"),
     })
 }
 
 // A word that is required.
 fn word_in<'a>(words: &ArgMatches<'a>, name: &str) -> Result<&'a str, WordsStop>
-    ensures { IfOk result (λ word. IsWord (found_of words.now) name.now word.now) }
+    ensures { IfOk result (λ word. IsWord (rows_in words.now) name.now word.now) }
 {
-    words.get_str(name).ok_or(WordsStop::Memory)
+    str_in(words, name).ok_or(WordsStop::Memory)
+}
+
+// The word that was given for an argument, if one was.
+fn str_in<'a>(words: &ArgMatches<'a>, name: &str) -> Option<&'a str>
+    ensures { option_map (λ word. word.now) result ≡ first_of name.now (rows_in words.now) }
+{
+    words.get_str(name)
+}
+
+fn flag_in(words: &ArgMatches<'_>, name: &str) -> bool
+    ensures { IsFlag (rows_in words.now) name.now result }
+{
+    words.get_flag(name)
 }
 
 fn order_in(words: &ArgMatches<'_>) -> Order
-    ensures { IsOrder (found_of words.now) result }
+    ensures { IsOrder (rows_in words.now) result }
 {
-    if words.get_flag("big") {
+    if flag_in(words, "big") {
         Order::Big
     } else {
         Order::Little
@@ -248,7 +274,7 @@ fn bad_word(alloc: Global, words: &ArgMatches<'_>, word: &str, argument: Argumen
         Ok(text) => WordsStop::BadWord {
             text,
             argument,
-            quiet: words.get_flag("quiet"),
+            quiet: flag_in(words, "quiet"),
         },
         Err(_) => WordsStop::Memory,
     }
