@@ -17,18 +17,20 @@ use Rattle.lnt_paths.specs.declared.answer.ComparedByPath.TheVariants.{Same, Fau
 use Rattle.lnt_paths.specs.declared.version.PathVersion.{PathVersion}
 use Rattle.lnt_paths.specs.PathAnswers.{PathAnswer, path_answer, spans_by_path}
 use Rattle.lnt_paths.specs.PathDifferences.{IsPathComparison}
+use Rattle.lnt_lines.specs.declared.no.No.{No as SectionNo}
 use Rattle.lnt_lines.specs.declared.options.Options.{Options}
 use Rattle.lnt_lines.specs.Drafts.{IsIndexOfSection}
 use Rattle.lnt_lines.specs.Indexed.{Indexed, IsIndexOf}
 use Rattle.lnt_table.specs.declared.by_path.Checked.{Checked}
 use Rattle.lnt_table.specs.declared.by_path.Checked.TheVariants.{Numbered, ByPath}
 use Rattle.lnt_table.specs.declared.verdict.TableNo.TheVariants as no
+use Rattle.lnt_table.specs.declared.verdict.Verdict.{Verdict}
 use Rattle.lnt_table.specs.declared.verdict.Verdict.TheVariants.{No}
-use Rattle.lnt_table.specs.AnyVersion.{IsCheckedWith, IsComparedByPath, IsTrueCheck}
+use Rattle.lnt_table.specs.AnyVersion.{IsCheckedWith, IsComparedByPath, IsOfGood, IsTrueCheck, IsTrueCheckOfSection}
 use Rattle.lnt_table.specs.ByPath.{path_at, told_path}
-use Rattle.lnt_table.specs.Headline.{IsTrueVerdict}
+use Rattle.lnt_table.specs.Headline.{IsTrueOfSection, IsTrueVerdict}
 use Rattle.lnt_table.specs.Verdicts.{IsComparedWith, verdict_of}
-use Rattle.lnt_table.proofs.CheckLemmas.{compared_told}
+use Rattle.lnt_table.proofs.CheckLemmas.{compared_told, good_told}
 
 -- a comparison with what is answered alike
 pub compared_so : (bytes : List ℕ) (f g : PathVersion → Position → Option PathAnswer) (compared : ComparedByPath)
@@ -107,3 +109,29 @@ any_told line general options (Some section) table index checked i h =
         → IfSome text (λ bytes. IsTrueCheck line general options section bytes checked)
     of_table None k = tt
     of_table (Some bytes) k = check_told line general options section bytes index checked i k
+
+-- ---- what is told of the section
+
+pub section_so : (line general : List ℕ) (options : Options) (section : Option (List ℕ)) (index : Indexed) (checked : Checked)
+    → IfSome section (λ bytes. IsIndexOfSection line general options bytes index) → IsOfGood checked
+    → IfSome section (λ bytes. IsTrueCheckOfSection line general options bytes checked)
+section_so line general options section index (Numbered verdict) i h =
+    subst (λ (v : Verdict). IfSome section (λ bytes. IsTrueOfSection line general options bytes v)) (sym h.1)
+    (good_told line general options section index h.0 i)
+section_so line general options None index (ByPath compared) i h = tt
+section_so line general options (Some bytes) index (ByPath compared) i h = (i.units, i.good)
+
+-- a verdict of a good section is none of the section
+none_of_section : (compared : Compared) (reason : SectionNo) → verdict_of compared ≡ No (no.Section reason) → ⊥
+none_of_section kind.Same reason e = cc
+none_of_section (kind.Fault fault.Header) reason e = cc
+none_of_section (kind.Fault (fault.Fields k)) reason e = cc
+none_of_section (kind.Fault (fault.Number k i)) reason e = cc
+none_of_section (kind.Fault (fault.Order k)) reason e = cc
+none_of_section (kind.Differs difference) reason e = cc
+
+pub not_of_section : (checked : Checked) (reason : SectionNo) → IsOfGood checked → checked ≡ Numbered (No (no.Section reason)) → ⊥
+not_of_section (Numbered verdict) reason h e =
+    let same : verdict ≡ No (no.Section reason) = cc in
+    none_of_section h.0 reason (sym h.1 ∙ same)
+not_of_section (ByPath compared) reason h e = cc

@@ -16,7 +16,7 @@ use Rattle.lnt_table.specs.declared.by_path.Checked.TheVariants.{Numbered, ByPat
 use Rattle.lnt_table.specs.declared.verdict.TableNo.TheVariants as no
 use Rattle.lnt_table.specs.declared.verdict.Verdict.TheVariants.{No}
 use Rattle.lnt_table.specs.ByPath.{told_path}
-use Rattle.lnt_table.specs.Headline.{IsTrueVerdict}
+use Rattle.lnt_table.specs.Headline.{IsGoodSection, IsTrueOfSection, IsTrueVerdict}
 use Rattle.lnt_table.specs.Verdicts.{IsComparedWith, verdict_of}
 
 -- The bytes don't begin with the header of version 1 or 2. This is what their comparison with what the rows of the units
@@ -40,9 +40,19 @@ IsTrueCheck line general options section table (Numbered verdict) =
     IsTrueVerdict line general options section table verdict × (verdict ≢ No no.Header)
 IsTrueCheck line general options section table (ByPath compared) = IsTrueByPath line general options section table compared
 
+-- What is told of the section, whatever the table is: it is good, or it isn't, and that is why.
+abbrev pub IsTrueCheckOfSection : List ℕ → List ℕ → Options → List ℕ → Checked → Type 0
+IsTrueCheckOfSection line general options section (Numbered verdict) = IsTrueOfSection line general options section verdict
+IsTrueCheckOfSection line general options section (ByPath compared) = IsGoodSection line general options section
+
 -- ---- what a comparison with a good section makes of the two. The bodies of this crate use it among themselves.
 
 abbrev pub IsCheckedWith : Indexed → Option ℕ → Bool → List (ℕ × Parts) → List ℕ → Checked → Type 0
 IsCheckedWith index dead skip units table (Numbered verdict) =
     (compared : Compared) × IsComparedWith dead skip units table compared × (verdict ≡ verdict_of compared) × (verdict ≢ No no.Header)
 IsCheckedWith index dead skip units table (ByPath compared) = IsComparedByPath index dead skip units table compared
+
+-- A verdict is what a comparison makes of it, and none of the section.
+abbrev pub IsOfGood : Checked → Type 0
+IsOfGood (Numbered verdict) = (compared : Compared) × (verdict ≡ verdict_of compared)
+IsOfGood (ByPath compared) = Unit {0}

@@ -1,9 +1,10 @@
 //! A section checked against an address table of any version.
 ghost use Rattle.std.specs.Prelude.{◌≡◌, ◌≢◌, ◌+◌, ◌-◌, ◌^◌, ◌<◌, ◌⊎◌, Bool, ℕ, List, Option, IfOk, IfSome, IsErrOf};
+ghost use Rattle.lnt_lines.specs.declared.no.No.{No as SectionNo};
 ghost use Rattle.lnt_wire.specs.declared.stop.Stop.TheVariants.{Read, TooLong};
 ghost use Rattle.lnt_unit.specs.declared.unit.Parts.{Parts};
 ghost use Rattle.lnt_lines.specs.Indexed.{IsIndexOf};
-ghost use Rattle.lnt_table.specs.AnyVersion.{IsCheckedWith, IsTrueCheck};
+ghost use Rattle.lnt_table.specs.AnyVersion.{IsCheckedWith, IsOfGood, IsTrueCheck, IsTrueCheckOfSection};
 ghost use Rattle.lnt_table.specs.Headline.{IsTooLong};
 
 use crate::paths::IndexPaths;
@@ -42,6 +43,11 @@ pub fn check_any<R: Source, T: Source>(
     requires table_fails { T.failures table.old < 2 ^ 64 - 1 }
     ensures checked { IfOk result (λ checked. IfSome (R.remaining section.old) (λ bytes. IfSome (T.remaining table.old) (λ text.
         IsTrueCheck strings.now.line.now strings.now.general.now options.now bytes text checked))) }
+
+    // Of the section it tells the truth whatever the table is, and a section that isn't good keeps the table unread.
+    ensures of_section { IfOk result (λ checked. IfSome (R.remaining section.old) (λ bytes.
+        IsTrueCheckOfSection strings.now.line.now strings.now.general.now options.now bytes checked)) }
+    ensures unread { (no : SectionNo) → result ≡ Ok (Checked.Numbered (Verdict.No (TableNo.Section no))) → table.new ≡ table.old }
     ensures read { IsErrOf result Stop.Read → R.failures section.new + T.failures table.new ≡ R.failures section.old + T.failures table.old
         + 1 }
     ensures section_fine { result ≢ Err Stop.Read → R.failures section.new ≡ R.failures section.old }
@@ -62,6 +68,7 @@ fn check_index<T: Source>(alloc: Global, table: &mut T, index: &Index<'_>) -> Re
     requires { T.failures table.old < 2 ^ 64 - 1 }
     ensures ok { IfOk result (λ checked. (dead : Option ℕ) (skip : Bool) (units : List (ℕ × Parts)) → IsIndexOf dead skip units index.now
         → IfSome (T.remaining table.old) (λ text. IsCheckedWith index.now dead skip units text checked)) }
+    ensures good { IfOk result (λ checked. IsOfGood checked) }
     ensures read { IsErrOf result Stop.Read → T.failures table.new ≡ T.failures table.old + 1 }
     ensures no_failure { result ≢ Err Stop.Read → T.failures table.new ≡ T.failures table.old }
     ensures too_long { IsErrOf result Stop.TooLong → IsTooLong (T.too_long table.new) (T.remaining table.old) (T.left table.old) }
