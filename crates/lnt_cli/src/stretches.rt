@@ -33,7 +33,9 @@ pub(crate) enum Places {
 }
 
 // Prints the No line of each stretch at which the table answers otherwise than a good section, in rising order, or `yes`
-// where there is none; or the line of what is wrong with the table.
+// where there is none; or the line of what is wrong with the table. It holds much, and the stack is short: no other word's
+// frame holds it too.
+#[inline(never)]
 pub(crate) fn print_stretches<T: Source, W: Write>(
     alloc: Global,
     table: &mut T,
