@@ -243,7 +243,9 @@ fn refused(no: No) -> Answered
     }
 }
 
-// Prints the answer of a good section.
+// Prints the answer of a good section. Some answers read files by large blocks, and the stack is short: no other word's frame
+// holds these too.
+#[inline(never)]
 fn print_answer<O: Opener, W: Write>(
     alloc: Global,
     index: &Index<'_>,
