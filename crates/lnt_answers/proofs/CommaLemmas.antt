@@ -45,10 +45,10 @@ pub none_before : (op : ℕ) (line : List ℕ) (comma : Option ℕ) (place : Pos
 none_before op line comma place k e other tells = other place.address (subst (λ (o : Option ℕ). TellsPositionAt op line o place) e tells).0
 
 -- nor where no number stands after it
-pub none_behind : (op : ℕ) (line : List ℕ) (comma : Option ℕ) (place : Position) (k : ℕ) → comma ≡ Some k
+pub none_past : (op : ℕ) (line : List ℕ) (comma : Option ℕ) (place : Position) (k : ℕ) → comma ≡ Some k
     → ((n : ℕ) → IsDecimal (drop (k + 1) line) n → ⊥) → TellsPositionAt op line comma place → ⊥
-none_behind op line comma place k e other tells = other place.op (subst (λ (o : Option ℕ). TellsPositionAt op line o place) e tells).1
+none_past op line comma place k e other tells = other place.op (subst (λ (o : Option ℕ). TellsPositionAt op line o place) e tells).1
 
 -- what stands after a place
-pub rest_behind : (line : List ℕ) (k : ℕ) → take (length line - k) (drop k line) ≡ drop k line
-rest_behind line k = take_all (length line - k) (drop k line) (let e = length-drop k line in omega (arith, e))
+pub rest_after : (line : List ℕ) (k : ℕ) → take (length line - k) (drop k line) ≡ drop k line
+rest_after line k = take_all (length line - k) (drop k line) (let e = length-drop k line in omega (arith, e))

@@ -10,7 +10,7 @@ use Rattle.lnt_wire.specs.declared.format.Order.{Order}
 use Rattle.lnt_header.specs.declared.header.Pair.{Pair}
 use Rattle.lnt_header_bytes.specs.Borrowed.{BorrowedTable, AreEntryBytes, Passes}
 use Rattle.lnt_header_bytes.specs.Layouts.{entry_of}
-use Rattle.lnt_header_bytes.specs.Laws.Passed.{one_behind, one_there}
+use Rattle.lnt_header_bytes.specs.Laws.Passed.{one_after, one_there}
 use Rattle.lnt_header_bytes.specs.Laws.Tables.{entry_code}
 use Rattle.lnt_header_bytes.specs.Laws.Values as laws
 use Rattle.lnt_header_bytes.specs.Marks.{from_entry}
@@ -63,7 +63,7 @@ at_next table format pairs number at new format_is pairs_are lt is p =
     (subst (λ (ps : List Pair). EntryBytes format at.order ps p.value p.read.spelling) pairs_are p.read.spelled)) in
     record {
       order_is = p.read.order ∙ is.order_is;
-      lies = one_behind (EntryBytes table.format table.order table.pairs) (entry_code table.format table.order table.pairs) table.entries
+      lies = one_after (EntryBytes table.format table.order table.pairs) (entry_code table.format table.order table.pairs) table.entries
           number p.value p.read.spelling new.rest at.rest lt read is.lies p.read.whole;
     }
 

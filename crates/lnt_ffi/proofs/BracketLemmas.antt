@@ -93,10 +93,10 @@ in_front : (spans : List FlatSpan) (shift number k : ℕ) → k < spans_below sp
 in_front spans shift number k lt =
     ltb-true (bucket_at spans shift k) number (prefix_len_passes (begins_below (first_low spans) shift number) spans k unseen lt)
 
-behind : (spans : List FlatSpan) (shift number k : ℕ) → AreInOrder (map span_of spans) → spans_below spans shift number ≤ k
+past : (spans : List FlatSpan) (shift number k : ℕ) → AreInOrder (map span_of spans) → spans_below spans shift number ≤ k
     → k < length spans
     → number ≤ bucket_at spans shift k
-behind spans shift number k o le l =
+past spans shift number k o le l =
     let first = spans_below spans shift number in
     let stops = ltb-false (bucket_at spans shift first) number
     (prefix_len_stops (begins_below (first_low spans) shift number) spans unseen (omega (arith, le, l))) in
@@ -126,9 +126,9 @@ bracketed spans shift number low high p o upto within below at_most above no_mor
           let ends = ends_by_next spans k (k + 1) o (omega arith) (omega (arith, lt, below, all)) in
           subst (λ (s : Span). IsAtMost s.high p) (at spans k unseen d (omega (arith, lt, upto, within)))
           (record { address = omega (arith, less, ends); op = λ e. absurd (omega (arith, less, ends, e)) });
-      behind = λ k d le l.
+      past = λ k d le l.
           let lk : k < length spans = omega (arith, count, l) in
-          let later = behind spans shift (number + 1) k o (omega (arith, le, above)) lk in
+          let later = past spans shift (number + 1) k o (omega (arith, le, above)) lk in
           let less : p.address < low_of spans k = ⊎_elim
           (λ (lt : number < bucket (first_low spans) shift p.address).
           let rise = buckets_rise spans shift k (length spans - 1) o (omega (arith, lk)) (omega (arith, lk)) in

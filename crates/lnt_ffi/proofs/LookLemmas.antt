@@ -52,7 +52,7 @@ around_all spans p = let count : length (map span_of spans) ≡ length spans = l
   upto = omega arith;
   within = omega (arith, count);
   before = λ k d lt. absurd (omega (arith, lt));
-  behind = λ k d le l. absurd (omega (arith, count, le, l));
+  past = λ k d le l. absurd (omega (arith, count, le, l));
 }
 
 -- those before the place end by p, if the last of them does

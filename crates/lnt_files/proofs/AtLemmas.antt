@@ -20,14 +20,14 @@ use Rattle.lnt_files.proofs.PathLemmas.{path_there, within}
 use Rattle.lnt_files.proofs.JudgedLemmas.{seen_more, says_in, some_left}
 
 -- a walk stands after so many entries
-pub record IsBehind (table walk : BorrowedTable) (count : ℕ) : Type 0 where
+pub record IsAfter (table walk : BorrowedTable) (count : ℕ) : Type 0 where
   pub seen : List Entry
   pub has_seen : HasSeen seen table walk count
 
-pub behind_first : (table walk : BorrowedTable) (first : ℕ) → first ≤ length table.entries → walk ≡ from_entry first table
-    → IsBehind table walk first
-behind_first table walk first le e =
-    subst (λ (w : BorrowedTable). IsBehind table w first) (sym e)
+pub after_first : (table walk : BorrowedTable) (first : ℕ) → first ≤ length table.entries → walk ≡ from_entry first table
+    → IsAfter table walk first
+after_first table walk first le e =
+    subst (λ (w : BorrowedTable). IsAfter table w first) (sym e)
     (record {
       seen = take first table.entries;
       has_seen = record {
@@ -37,13 +37,13 @@ behind_first table walk first le e =
       };
     })
 
-pub behind_more : (table old new : BorrowedTable) (count : ℕ) (step : Option EntryView) → IsBehind table old count
-    → count < length table.entries → EntryStep old step new → IsBehind table new (count + 1)
-behind_more table old new count (Some view) b lt g =
+pub after_more : (table old new : BorrowedTable) (count : ℕ) (step : Option EntryView) → IsAfter table old count
+    → count < length table.entries → EntryStep old step new → IsAfter table new (count + 1)
+after_more table old new count (Some view) b lt g =
     record { seen = b.seen ++ g.entry ∷ []; has_seen = seen_more b.seen table old new count view b.has_seen g }
-behind_more table old new count None b lt ends = absurd (some_left b.seen table old new count b.has_seen lt ends)
+after_more table old new count None b lt ends = absurd (some_left b.seen table old new count b.has_seen lt ends)
 
-pub there : (table old new : BorrowedTable) (count : ℕ) (step : Option EntryView) → IsBehind table old count → count < length table.entries
+pub there : (table old new : BorrowedTable) (count : ℕ) (step : Option EntryView) → IsAfter table old count → count < length table.entries
     → EntryStep old step new → step ≡ None → ⊥
 there table old new count step b lt ends e =
     some_left b.seen table old new count b.has_seen lt (subst (λ (s : Option EntryView). EntryStep old s new) e ends)
@@ -52,19 +52,19 @@ there table old new count step b lt ends e =
 pub not_there : (table : BorrowedTable) (number : ℕ) → length table.entries ≤ number → EntryAt table number None
 not_there table number le = slice_get_past table.entries number le
 
-get_behind : (xs ys : List Entry) (y : Entry) (n : ℕ) → length xs ≡ n → slice_get (xs ++ y ∷ ys) n ≡ Some y
-get_behind [] ys y zero e = refl
-get_behind [] ys y (suc n) e = absurd (omega arith)
-get_behind (x ∷ xs) ys y zero e = absurd (omega arith)
-get_behind (x ∷ xs) ys y (suc n) e = get_behind xs ys y n (omega arith)
+get_after : (xs ys : List Entry) (y : Entry) (n : ℕ) → length xs ≡ n → slice_get (xs ++ y ∷ ys) n ≡ Some y
+get_after [] ys y zero e = refl
+get_after [] ys y (suc n) e = absurd (omega arith)
+get_after (x ∷ xs) ys y zero e = absurd (omega arith)
+get_after (x ∷ xs) ys y (suc n) e = get_after xs ys y n (omega arith)
 
-pub entry_is : (table old new : BorrowedTable) (number : ℕ) (step : Option EntryView) → IsBehind table old number
+pub entry_is : (table old new : BorrowedTable) (number : ℕ) (step : Option EntryView) → IsAfter table old number
     → number < length table.entries → EntryStep old step new → EntryAt table number step
 entry_is table old new number None b lt ends = absurd (some_left b.seen table old new number b.has_seen lt ends)
 entry_is table old new number (Some view) b lt g = (
   g.entry,
   ap (λ (es : List Entry). slice_get es number) (b.has_seen.joined ∙ ap (λ (es : List Entry). b.seen ++ es) g.entries_are)
-      ∙ get_behind b.seen new.entries g.entry number b.has_seen.count_is,
+      ∙ get_after b.seen new.entries g.entry number b.has_seen.count_is,
   says_in b.seen table old new number view b.has_seen g,
 )
 

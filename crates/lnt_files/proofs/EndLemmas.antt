@@ -25,12 +25,12 @@ zero_ends (suc b ∷ bytes) zero lt e = absurd (omega arith)
 zero_ends (suc b ∷ bytes) (suc i) lt e = some_mapped (λ text. suc b ∷ text) (up_to_zero bytes) (zero_ends bytes i (omega arith) e)
 
 -- the same after an offset
-zero_ends_behind : (section : List ℕ) (offset i : ℕ) → offset ≤ i → i < length section → get_or section i 0 ≡ 0
+zero_ends_after : (section : List ℕ) (offset i : ℕ) → offset ≤ i → i < length section → get_or section i 0 ≡ 0
     → IsSome (up_to_zero (drop offset section))
-zero_ends_behind section zero i le lt e = zero_ends section i lt e
-zero_ends_behind [] (suc offset) i le lt e = absurd (omega arith)
-zero_ends_behind (b ∷ section) (suc offset) zero le lt e = absurd (omega arith)
-zero_ends_behind (b ∷ section) (suc offset) (suc i) le lt e = zero_ends_behind section offset i (omega arith) (omega arith) e
+zero_ends_after section zero i le lt e = zero_ends section i lt e
+zero_ends_after [] (suc offset) i le lt e = absurd (omega arith)
+zero_ends_after (b ∷ section) (suc offset) zero le lt e = absurd (omega arith)
+zero_ends_after (b ∷ section) (suc offset) (suc i) le lt e = zero_ends_after section offset i (omega arith) (omega arith) e
 
 -- no zero byte stands from the place on
 pub record NoneFrom (place : ℕ) (section : List ℕ) : Type 0 where
@@ -46,9 +46,9 @@ no_zero_later (b ∷ section) zero (suc offset) le h = no_zero_later section zer
 no_zero_later (b ∷ section) (suc place) zero le h = absurd (omega arith)
 no_zero_later (b ∷ section) (suc place) (suc offset) le h = no_zero_later section place offset (omega arith) h
 
-pub none_behind : (section : List ℕ) → NoneFrom (length section) section
-none_behind [] = record { none = tt }
-none_behind (b ∷ section) = record { none = (none_behind section).none }
+pub none_past : (section : List ℕ) → NoneFrom (length section) section
+none_past [] = record { none = tt }
+none_past (b ∷ section) = record { none = (none_past section).none }
 
 before : (section : List ℕ) (i : ℕ) → i < length section → 0 < get_or section i 0 → HasNoZero (drop (suc i) section)
     → HasNoZero (drop i section)
@@ -89,7 +89,7 @@ below section end offset h some =
 pub last_zero : (section : List ℕ) (end : ℕ) → 0 < end → end ≤ length section → NoneFrom end section → get_or section (end - 1) 0 ≡ 0
     → TextsEndAt end section
 last_zero section end some le h e =
-    record { texts = λ offset. (below section end offset h, λ lt. zero_ends_behind section offset (end - 1) (omega arith) (omega arith) e) }
+    record { texts = λ offset. (below section end offset h, λ lt. zero_ends_after section offset (end - 1) (omega arith) (omega arith) e) }
 
 -- no byte is zero
 pub no_zero : (section : List ℕ) → NoneFrom 0 section → TextsEndAt 0 section

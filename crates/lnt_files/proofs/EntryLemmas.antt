@@ -119,9 +119,9 @@ second_to : (format : Format) (more : List Pair) (u v : FormValue) (old middle n
     → Reads (ValueBytes format old.order LineStrp) u old middle → Reads (ValueBytes format middle.order Udata) v middle new
     → AreReadTo format (pair_of content_path LineStrp ∷ pair_of content_directory_index Udata ∷ more) 2 (u ∷ v ∷ []) old new
 second_to format more u v old middle new r s =
-    let behind = pair_of content_directory_index Udata ∷ more in
-    read_more format (pair_of content_path LineStrp ∷ behind) 1 (pair_of content_path LineStrp) (u ∷ []) v old middle new (omega arith)
-    (first_to format content_path LineStrp behind u old middle r) s
+    let past = pair_of content_directory_index Udata ∷ more in
+    read_more format (pair_of content_path LineStrp ∷ past) 1 (pair_of content_path LineStrp) (u ∷ []) v old middle new (omega arith)
+    (first_to format content_path LineStrp past u old middle r) s
 
 indexed_said : (format : Format) (u v : ValueView) (old middle new : At)
     → Reads (ValueBytes format old.order LineStrp) (value_of u) old middle
@@ -150,9 +150,9 @@ none_second : (format : Format) (more : List Pair) (u : FormValue) (old middle :
     → Reads (ValueBytes format old.order LineStrp) u old middle → NoneSpelled (ValueBytes format middle.order Udata) middle.rest
     → NoneSpelled (EntryBytes format old.order (pair_of content_path LineStrp ∷ pair_of content_directory_index Udata ∷ more)) old.rest
 none_second format more u old middle r none =
-    let behind = pair_of content_directory_index Udata ∷ more in
-    no_entry format (pair_of content_path LineStrp ∷ behind) 1 (pair_of content_path LineStrp) (u ∷ []) old middle (omega arith)
-    (first_to format content_path LineStrp behind u old middle r) none
+    let past = pair_of content_directory_index Udata ∷ more in
+    no_entry format (pair_of content_path LineStrp ∷ past) 1 (pair_of content_path LineStrp) (u ∷ []) old middle (omega arith)
+    (first_to format content_path LineStrp past u old middle r) none
 
 pub no_index : (format : Format) (pairs : List Pair) (u : FormValue) (old middle : At) → IsUsual IndexedPath pairs
     → Reads (ValueBytes format old.order LineStrp) u old middle

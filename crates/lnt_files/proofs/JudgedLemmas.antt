@@ -98,7 +98,7 @@ pub all_but : (line general : List ℕ) (table old new : BorrowedTable) (count :
 all_but line general table old new count view told a g tells other = record {
   before = a.seen;
   value = g.entry;
-  behind = new.entries;
+  past = new.entries;
   joined = a.has_seen.joined ∙ ap (λ (es : List Entry). a.seen ++ es) g.entries_are;
   index_is = sym a.has_seen.count_is;
   all_before = a.all;
@@ -120,8 +120,8 @@ longer : {X : Type 0} (P : X → Type 0) (xs more : List X) (k : ℕ) → IsFirs
 longer P xs more k f = record {
   before = f.before;
   value = f.value;
-  behind = f.behind ++ more;
-  joined = ap (λ (z : List _). z ++ more) f.joined ∙ append_assoc f.before (f.value ∷ f.behind) more;
+  past = f.past ++ more;
+  joined = ap (λ (z : List _). z ++ more) f.joined ∙ append_assoc f.before (f.value ∷ f.past) more;
   index_is = f.index_is;
   all_before = f.all_before;
   not_so = f.not_so;
@@ -130,7 +130,7 @@ longer P xs more k f = record {
 here : {X : Type 0} (P : X → Type 0) (xs : List X) (x : X) (k : ℕ) → length xs ≡ k → AllByRecursion P xs → (P x → ⊥)
     → IsFirstNot P (xs ++ x ∷ []) k
 here P xs x k count all other =
-    record { before = xs; value = x; behind = []; joined = refl; index_is = sym count; all_before = all; not_so = other }
+    record { before = xs; value = x; past = []; joined = refl; index_is = sym count; all_before = all; not_so = other }
 
 -- the first that is missing
 abbrev Missing : {X : Type 0} → (X → Type 0) → List X → Option ℕ → Type 0

@@ -34,17 +34,17 @@ kept_path_is paths start [] n = refl
 kept_path_is paths start (file ∷ files) zero = refl
 kept_path_is paths start (file ∷ files) (suc n) = kept_path_is paths file.end files n
 
-start_behind : (start : ℕ) (files : List Kept) (n : ℕ) (d : Kept) → n < length files → start_of start files (suc n) ≡ (get_or files n d).end
-start_behind start [] n d lt = absurd (omega arith)
-start_behind start (file ∷ files) zero d lt = refl
-start_behind start (file ∷ files) (suc n) d lt = start_behind file.end files n d (omega arith)
+start_after : (start : ℕ) (files : List Kept) (n : ℕ) (d : Kept) → n < length files → start_of start files (suc n) ≡ (get_or files n d).end
+start_after start [] n d lt = absurd (omega arith)
+start_after start (file ∷ files) zero d lt = refl
+start_after start (file ∷ files) (suc n) d lt = start_after file.end files n d (omega arith)
 
 pub start_is_end : (start : ℕ) (files : List Kept) (n : ℕ) (d : Kept) → 0 < n → n < length files
     → start_of start files n ≡ (get_or files (n - 1) d).end
 start_is_end start files zero d some lt = absurd (omega arith)
 start_is_end start files (suc n) d some lt =
     let same : suc n - 1 ≡ n = omega arith in
-    rw same (start_behind start files n d (omega arith))
+    rw same (start_after start files n d (omega arith))
 
 -- ---- the ends
 
@@ -54,16 +54,16 @@ ends_below last start (file ∷ files) h = let more : file.end ≤ last = ends_b
 
 -- where a path ends
 pub record IsEnd (start end last : ℕ) : Type 0 where
-  pub behind : start ≤ end
+  pub past : start ≤ end
   pub within : end ≤ last
 
-pub end_is_behind : (last start : ℕ) (files : List Kept) (n : ℕ) (file : Kept) → EndAt last start files → slice_get files n ≡ Some file
+pub end_is_after : (last start : ℕ) (files : List Kept) (n : ℕ) (file : Kept) → EndAt last start files → slice_get files n ≡ Some file
     → IsEnd (start_of start files n) file.end last
-end_is_behind last start [] n file h e = absurd cc
-end_is_behind last start (first ∷ files) zero file h e =
+end_is_after last start [] n file h e = absurd cc
+end_is_after last start (first ∷ files) zero file h e =
     let same : first ≡ file = cc in
-    subst (λ (f : Kept). IsEnd start f.end last) same (record { behind = h.0; within = ends_below last first.end files h.1 })
-end_is_behind last start (first ∷ files) (suc n) file h e = end_is_behind last first.end files n file h.1 e
+    subst (λ (f : Kept). IsEnd start f.end last) same (record { past = h.0; within = ends_below last first.end files h.1 })
+end_is_after last start (first ∷ files) (suc n) file h e = end_is_after last first.end files n file h.1 e
 
 pub within : (kept : List Kept) (n : ℕ) (file : Kept) → Some file ≡ slice_get kept n → n < length kept
 within kept n file e = slice_get_within kept n file (sym e)

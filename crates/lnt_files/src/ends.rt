@@ -62,7 +62,7 @@ impl<'a> StringEnds<'a> {
 }
 
 // How many bytes of the section stand up to its last zero byte.
-#[tactic(auto, using(crate::proofs::EndLemmas::none_behind, crate::proofs::EndLemmas::none_before, crate::proofs::EndLemmas::last_zero, crate::proofs::EndLemmas::no_zero))]
+#[tactic(auto, using(crate::proofs::EndLemmas::none_past, crate::proofs::EndLemmas::none_before, crate::proofs::EndLemmas::last_zero, crate::proofs::EndLemmas::no_zero))]
 fn texts_end(section: &[u8]) -> usize
     ensures { TextsEndAt result section.now }
 {

@@ -61,29 +61,29 @@ module _ {X : Type 0} (P : X → List ℕ → Type 0) (OfFirst : Reason → List
   -- a fault of the first where the first is there, and the second has a fault
   abbrev pub AreApart : Type 0
   AreApart =
-      (reason other : Reason) (x : X) (before left front behind left' : List ℕ) → OfFirst reason before left → P x front
-      → OfSecond x other behind left'
-      → before ++ left ≡ front ++ (behind ++ left') → ⊥
+      (reason other : Reason) (x : X) (before left front past left' : List ℕ) → OfFirst reason before left → P x front
+      → OfSecond x other past left'
+      → before ++ left ≡ front ++ (past ++ left') → ⊥
 
-  behind_first : (before front behind left : List ℕ) → before ≡ front ++ behind → before ++ left ≡ front ++ (behind ++ left)
-  behind_first before front behind left e = ap (λ (z : List ℕ). z ++ left) e ∙ append_assoc front behind left
+  after_first : (before front past left : List ℕ) → before ≡ front ++ past → before ++ left ≡ front ++ (past ++ left)
+  after_first before front past left e = ap (λ (z : List ℕ). z ++ left) e ∙ append_assoc front past left
 
   -- the first fault is one
   pub first_one : AreOne OfFirst → AreApart → ((x : X) → AreOne (OfSecond x)) → AreOne (FirstOf P OfFirst OfSecond)
   first_one firsts apart seconds reason other before before' left left' (first h) (first k) e =
       firsts reason other before before' left left' h k e
-  first_one firsts apart seconds reason other before before' left left' (first h) (second x front behind p joined k) e =
-      absurd (apart reason other x before left front behind left' h p k (e ∙ behind_first before' front behind left' joined))
-  first_one firsts apart seconds reason other before before' left left' (second x front behind p joined h) (first k) e =
-      absurd (apart other reason x before' left' front behind left k p h (sym e ∙ behind_first before front behind left joined))
-  first_one firsts apart seconds reason other before before' left left' (second x front behind p joined h)
-      (second y front' behind' q joined' k) e =
-      let all : front ++ (behind ++ left) ≡ front' ++ (behind' ++ left') =
-      sym (behind_first before front behind left joined) ∙ e ∙ behind_first before' front' behind' left' joined' in
-      let found = code.one x y front front' (behind ++ left) (behind' ++ left') p q all in
-      let rest = same_rest front front' (behind ++ left) (behind' ++ left') found.1 all in
-      let same = seconds y reason other behind behind' left left' (subst (λ (z : X). OfSecond z reason behind left) found.0 h) k rest in
-      (same.0, joined ∙ ap (λ (z : List ℕ). z ++ behind) found.1 ∙ ap (λ (z : List ℕ). front' ++ z) same.1 ∙ sym joined')
+  first_one firsts apart seconds reason other before before' left left' (first h) (second x front past p joined k) e =
+      absurd (apart reason other x before left front past left' h p k (e ∙ after_first before' front past left' joined))
+  first_one firsts apart seconds reason other before before' left left' (second x front past p joined h) (first k) e =
+      absurd (apart other reason x before' left' front past left k p h (sym e ∙ after_first before front past left joined))
+  first_one firsts apart seconds reason other before before' left left' (second x front past p joined h)
+      (second y front' past' q joined' k) e =
+      let all : front ++ (past ++ left) ≡ front' ++ (past' ++ left') =
+      sym (after_first before front past left joined) ∙ e ∙ after_first before' front' past' left' joined' in
+      let found = code.one x y front front' (past ++ left) (past' ++ left') p q all in
+      let rest = same_rest front front' (past ++ left) (past' ++ left') found.1 all in
+      let same = seconds y reason other past past' left left' (subst (λ (z : X). OfSecond z reason past left) found.0 h) k rest in
+      (same.0, joined ∙ ap (λ (z : List ℕ). z ++ past) found.1 ∙ ap (λ (z : List ℕ). front' ++ z) same.1 ∙ sym joined')
 
   -- where the first part's faults leave none of it spelled
   pub first_of : {Y : Type 0} (Q : X → Y → List ℕ → Type 0) → IsOneFault P OfFirst → ((x : X) → IsOneFault (Q x) (OfSecond x))
@@ -91,12 +91,12 @@ module _ {X : Type 0} (P : X → List ℕ → Type 0) (OfFirst : Reason → List
   first_of Q one_first one_second = record {
     none = λ reason before left h. elim h [
       | first k ↦ none_first P Q (before ++ left) (one_first.none reason before left k)
-      | second x front behind p joined k ↦
-          none_second P Q code x front (before ++ left) (behind ++ left) p (behind_first before front behind left joined)
-          ((one_second x).none reason behind left k)
+      | second x front past p joined k ↦
+          none_second P Q code x front (before ++ left) (past ++ left) p (after_first before front past left joined)
+          ((one_second x).none reason past left k)
     ];
     one = first_one one_first.one
-        (λ reason other x before left front behind left' h p k e. one_first.none reason before left h x front (behind ++ left') p (sym e))
+        (λ reason other x before left front past left' h p k e. one_first.none reason before left h x front (past ++ left') p (sym e))
         (λ x. (one_second x).one);
   }
 
@@ -111,42 +111,42 @@ module _ {X : Type 0} (P : X → List ℕ → Type 0) (IsSo : Reason → List �
       (sym (append_assoc q.front q.back rest) ∙ ap (λ (z : List ℕ). z ++ rest) (sym q.joined) ∙ sym e)
 
   -- after values that are there the fault of the next is one
-  pub each_one : (xs ys : List X) (reason other : Reason) (front front' behind behind' left left' : List ℕ) → Each P xs front
-      → Each P ys front' → IsSo reason behind left → IsSo other behind' left'
-      → front ++ (behind ++ left) ≡ front' ++ (behind' ++ left') → (reason ≡ other) × (front ++ behind ≡ front' ++ behind')
-  each_one [] [] reason other front front' behind behind' left left' p q h k e =
+  pub each_one : (xs ys : List X) (reason other : Reason) (front front' past past' left left' : List ℕ) → Each P xs front
+      → Each P ys front' → IsSo reason past left → IsSo other past' left'
+      → front ++ (past ++ left) ≡ front' ++ (past' ++ left') → (reason ≡ other) × (front ++ past ≡ front' ++ past')
+  each_one [] [] reason other front front' past past' left left' p q h k e =
       let found =
-      one.one reason other behind behind' left left' h k
-      (ap (λ (z : List ℕ). z ++ (behind ++ left)) (sym p) ∙ e ∙ ap (λ (z : List ℕ). z ++ (behind' ++ left')) q) in
-      (found.0, ap (λ (z : List ℕ). z ++ behind) p ∙ found.1 ∙ ap (λ (z : List ℕ). z ++ behind') (sym q))
-  each_one [] (y ∷ ys) reason other front front' behind behind' left left' p q h k e =
-      absurd (none_here y ys front' (behind' ++ left') behind left reason h q (ap (λ (z : List ℕ). z ++ (behind ++ left)) (sym p) ∙ e))
-  each_one (x ∷ xs) [] reason other front front' behind behind' left left' p q h k e =
-      absurd (none_here x xs front (behind ++ left) behind' left' other k p (ap (λ (z : List ℕ). z ++ (behind' ++ left')) (sym q) ∙ sym e))
-  each_one (x ∷ xs) (y ∷ ys) reason other front front' behind behind' left left' p q h k e =
-      let head = peel code x y front front' (behind ++ left) (behind' ++ left') p q e in
-      let rest = each_one xs ys reason other p.back q.back behind behind' left left' p.second q.second h k head.behind in
-      let before : front ++ behind ≡ p.front ++ (p.back ++ behind) =
-      ap (λ (z : List ℕ). z ++ behind) p.joined ∙ append_assoc p.front p.back behind in
-      let before' : front' ++ behind' ≡ q.front ++ (q.back ++ behind') =
-      ap (λ (z : List ℕ). z ++ behind') q.joined ∙ append_assoc q.front q.back behind' in
-      (rest.0, before ∙ ap (λ (z : List ℕ). z ++ (p.back ++ behind)) head.bytes ∙ ap (λ (z : List ℕ). q.front ++ z) rest.1 ∙ sym before')
+      one.one reason other past past' left left' h k
+      (ap (λ (z : List ℕ). z ++ (past ++ left)) (sym p) ∙ e ∙ ap (λ (z : List ℕ). z ++ (past' ++ left')) q) in
+      (found.0, ap (λ (z : List ℕ). z ++ past) p ∙ found.1 ∙ ap (λ (z : List ℕ). z ++ past') (sym q))
+  each_one [] (y ∷ ys) reason other front front' past past' left left' p q h k e =
+      absurd (none_here y ys front' (past' ++ left') past left reason h q (ap (λ (z : List ℕ). z ++ (past ++ left)) (sym p) ∙ e))
+  each_one (x ∷ xs) [] reason other front front' past past' left left' p q h k e =
+      absurd (none_here x xs front (past ++ left) past' left' other k p (ap (λ (z : List ℕ). z ++ (past' ++ left')) (sym q) ∙ sym e))
+  each_one (x ∷ xs) (y ∷ ys) reason other front front' past past' left left' p q h k e =
+      let head = peel code x y front front' (past ++ left) (past' ++ left') p q e in
+      let rest = each_one xs ys reason other p.back q.back past past' left left' p.second q.second h k head.past in
+      let before : front ++ past ≡ p.front ++ (p.back ++ past) =
+      ap (λ (z : List ℕ). z ++ past) p.joined ∙ append_assoc p.front p.back past in
+      let before' : front' ++ past' ≡ q.front ++ (q.back ++ past') =
+      ap (λ (z : List ℕ). z ++ past') q.joined ∙ append_assoc q.front q.back past' in
+      (rest.0, before ∙ ap (λ (z : List ℕ). z ++ (p.back ++ past)) head.bytes ∙ ap (λ (z : List ℕ). q.front ++ z) rest.1 ∙ sym before')
 
   -- the same of as many values as a count says
   several_one : (n : ℕ) → AreOne (FirstOfSeveral n P IsSo)
-  several_one n reason other before before' left left' (next xs front behind lt each joined h) (next ys front' behind' lt' each' joined' k)
+  several_one n reason other before before' left left' (next xs front past lt each joined h) (next ys front' past' lt' each' joined' k)
       e =
-      let found = each_one xs ys reason other front front' behind behind' left left' each each' h k
-      (sym (ap (λ (z : List ℕ). z ++ left) joined ∙ append_assoc front behind left) ∙ e ∙ ap (λ (z : List ℕ). z ++ left') joined'
-      ∙ append_assoc front' behind' left') in
+      let found = each_one xs ys reason other front front' past past' left left' each each' h k
+      (sym (ap (λ (z : List ℕ). z ++ left) joined ∙ append_assoc front past left) ∙ e ∙ ap (λ (z : List ℕ). z ++ left') joined'
+      ∙ append_assoc front' past' left') in
       (found.0, joined ∙ found.1 ∙ sym joined')
 
   pub several_of : (n : ℕ) → IsOneFault (Several n P) (FirstOfSeveral n P IsSo)
   several_of n = record {
     none = λ reason before left h. elim h [
-      | next xs front behind lt each joined k ↦
-          none_several P n xs front (behind ++ left) (before ++ left) code each lt
-          (ap (λ (z : List ℕ). z ++ left) joined ∙ append_assoc front behind left) (one.none reason behind left k)
+      | next xs front past lt each joined k ↦
+          none_several P n xs front (past ++ left) (before ++ left) code each lt
+          (ap (λ (z : List ℕ). z ++ left) joined ∙ append_assoc front past left) (one.none reason past left k)
     ];
     one = several_one n;
   }

@@ -137,7 +137,7 @@ are_values (pair ∷ pairs) [] h z = absurd h
 are_values (pair ∷ pairs) (v ∷ values) h z =
     let rest = are_values pairs values h.1 z.1 in
     let first : form_of v ≡ pair.form = h.0.0 in
-    let behind = rest.forms in
+    let past = rest.forms in
     record { forms = cc; spelled = (both_tests v h.0.1 z.0, rest.spelled) }
 
 are_entries : (pairs : List Pair) (entries : List Entry) → AllByRecursion (IsOfFormat pairs) entries → AllByRecursion HasSoundTexts entries
@@ -195,8 +195,8 @@ of_format [] (v ∷ values) e h = absurd cc
 of_format (pair ∷ pairs) [] e h = absurd cc
 of_format (pair ∷ pairs) (v ∷ values) e h =
     let first : form_of v ≡ pair.form = cc in
-    let behind : map form_of values ≡ map (λ pair. pair.form) pairs = cc in
-    ((first, own_form v h.0), of_format pairs values behind h.1)
+    let past : map form_of values ≡ map (λ pair. pair.form) pairs = cc in
+    ((first, own_form v h.0), of_format pairs values past h.1)
 
 sound_texts : (values : List FormValue) → AllByRecursion HasSpelling values → AllByRecursion HoldsNoZero values
 sound_texts [] h = tt

@@ -16,8 +16,8 @@ use Rattle.lnt_header.specs.HeaderRules.{HasHeaderNumbers}
 pub record IsFirstNot {X : Type 0} (IsSo : X → Type 0) (values : List X) (index : ℕ) : Type 0 where
   pub before : List X
   pub value : X
-  pub behind : List X
-  pub joined : values ≡ before ++ value ∷ behind
+  pub past : List X
+  pub joined : values ≡ before ++ value ∷ past
   pub index_is : index ≡ length before
   pub all_before : AllByRecursion IsSo before
   pub not_so : IsSo value → ⊥

@@ -121,13 +121,13 @@ values_as format order [] (v ∷ values) x e p = absurd cc
 values_as format order (pair ∷ pairs) [] x e p = absurd cc
 values_as format order (pair ∷ pairs) (v ∷ values) x e p =
     let first : form_of v ≡ pair.form = cc in
-    let behind : map form_of values ≡ map (λ pair. pair.form) pairs = cc in (
+    let past : map form_of values ≡ map (λ pair. pair.form) pairs = cc in (
       first,
       record {
         front = p.front;
         back = p.back;
         first = p.first;
-        second = values_as format order pairs values p.back behind p.second;
+        second = values_as format order pairs values p.back past p.second;
         joined = p.joined;
       },
     )
@@ -187,12 +187,12 @@ table_put format order pairs entries old m1 m2 m3 new is pushed p q r =
     let count : Appends (λ (k : ℕ). Exactly (k ∷ [])) (length pairs) old m1 =
     subst (λ (z : List ℕ). Appends (λ (k : ℕ). Exactly (k ∷ [])) (length pairs) old z) (sym pushed) (byte_put (length pairs) old) in
     let back = join_put UnsignedLeb (Each (EntryParts format order)) (length entries) entries m2 m3 new q r in
-    let behind = join_put (Each PairBytes) (λ (w : ℕ × List Entry). Then (UnsignedLeb w.0) (Each (EntryParts format order) w.1)) pairs
+    let past = join_put (Each PairBytes) (λ (w : ℕ × List Entry). Then (UnsignedLeb w.0) (Each (EntryParts format order) w.1)) pairs
     (length entries, entries) m1 m2 new p back in
     let all = join_put (λ (k : ℕ). Exactly (k ∷ []))
     (λ (w : List Pair × (ℕ × List Entry)). Then (Each PairBytes w.0)
     (Then (UnsignedLeb w.1.0) (Each (EntryParts format order) w.1.1))) (length pairs) (pairs, (length entries, entries)) old m1 new
-    count behind in
+    count past in
     put_as (TableParts format order) (TableOf format order) (length pairs, (pairs, (length entries, entries))) (pairs, entries) old new
     (λ x t. record {
       few_pairs = is.few_pairs;

@@ -8,7 +8,7 @@ use Rattle.lnt_wire.specs.declared.fault.Reason.TheVariants.{LineRangeZero, MaxO
 use Rattle.lnt_wire.specs.declared.format.Format.{Format}
 use Rattle.lnt_wire.specs.declared.format.Order.{Order}
 use Rattle.lnt_wire.proofs.LengthLaws.{same_front, same_rest}
-use Rattle.lnt_header_bytes.specs.FieldsBytes.{BehindLengths, BehindSingles, BehindSinglesFault, FieldsBytes, IsHeaderFault, TwoTables}
+use Rattle.lnt_header_bytes.specs.FieldsBytes.{AfterLengths, AfterSingles, AfterSinglesFault, FieldsBytes, IsHeaderFault, TwoTables}
 use Rattle.lnt_header_bytes.specs.FieldsBytes.{TwoTablesFault}
 use Rattle.lnt_header_bytes.specs.HeaderFaults.{AreCutSingles, IsLengthsFault, IsSinglesFault, LengthsBytes, SinglesBytes}
 use Rattle.lnt_header.specs.HeaderRules.{AreStandardLengths}
@@ -148,19 +148,19 @@ get_front [] y i lt = absurd (omega arith)
 get_front (a ∷ x) y zero lt = refl
 get_front (a ∷ x) y (suc i) lt = get_front x y i (omega arith)
 
-get_behind : (x y : List ℕ) (b : ℕ) → get_or (x ++ b ∷ y) (length x) 0 ≡ b
-get_behind [] y b = refl
-get_behind (a ∷ x) y b = get_behind x y b
+get_after : (x y : List ℕ) (b : ℕ) → get_or (x ++ b ∷ y) (length x) 0 ≡ b
+get_after [] y b = refl
+get_after (a ∷ x) y b = get_after x y b
 
 -- where lengths are standard ones, none of them is another
-standard_none : (lengths more before behind : List ℕ) (given : ℕ) → AreStandardLengths lengths → length before < length lengths
+standard_none : (lengths more before past : List ℕ) (given : ℕ) → AreStandardLengths lengths → length before < length lengths
     → length before < 12
-    → given ≢ get_or known_lengths (length before) 0 → lengths ++ more ≡ before ++ given ∷ behind → ⊥
-standard_none lengths more before behind given standard lt few other e =
+    → given ≢ get_or known_lengths (length before) 0 → lengths ++ more ≡ before ++ given ∷ past → ⊥
+standard_none lengths more before past given standard lt few other e =
     let i = length before in
     let known : get_or lengths i 0 ≡ get_or known_lengths i 0 =
     sym (get_or-take 12 lengths i 0 few) ∙ ap (λ (z : List ℕ). get_or z i 0) standard ∙ get_or-take (length lengths) known_lengths i 0 lt in
-    other (sym (get_behind before behind given) ∙ ap (λ (z : List ℕ). get_or z i 0) (sym e) ∙ get_front lengths more i lt ∙ known)
+    other (sym (get_after before past given) ∙ ap (λ (z : List ℕ). get_or z i 0) (sym e) ∙ get_front lengths more i lt ∙ known)
 
 lengths_none : (opcode_base : ℕ) (reason : Reason) (before left : List ℕ) → IsLengthsFault opcode_base reason before left
     → NoneSpelled (LengthsBytes opcode_base) (before ++ left)
@@ -214,14 +214,14 @@ tables_fault format order =
     first_of (TableOf format order) (IsTableFault format order) (λ _. IsTableFault format order) (table_code format order)
     (λ _. TableOf format order) (table_fault format order) (λ _. table_fault format order)
 
-behind_singles_fault : (format : Format) (order : Order) (s : Singles)
-    → IsOneFault (BehindSingles format order s) (BehindSinglesFault format order s)
-behind_singles_fault format order s =
+after_singles_fault : (format : Format) (order : Order) (s : Singles)
+    → IsOneFault (AfterSingles format order s) (AfterSinglesFault format order s)
+after_singles_fault format order s =
     first_of (LengthsBytes s.opcode_base) (IsLengthsFault s.opcode_base) (λ _. TwoTablesFault format order) (lengths_code s.opcode_base)
-    (BehindLengths format order) (lengths_fault s.opcode_base)
+    (AfterLengths format order) (lengths_fault s.opcode_base)
     (λ _. tables_fault format order)
 
 pub fields_fault : (format : Format) (order : Order) → IsOneFault (FieldsBytes format order) (IsHeaderFault format order)
 fields_fault format order =
-    first_of SinglesBytes IsSinglesFault (BehindSinglesFault format order) singles_code (BehindSingles format order) singles_fault
-    (behind_singles_fault format order)
+    first_of SinglesBytes IsSinglesFault (AfterSinglesFault format order) singles_code (AfterSingles format order) singles_fault
+    (after_singles_fault format order)

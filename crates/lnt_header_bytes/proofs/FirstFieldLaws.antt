@@ -27,68 +27,68 @@ use Rattle.lnt_header_bytes.proofs.StartFaultLaws.{start_fault}
 
 -- the fields after the version, up to a place among those that header_length counts
 abbrev up_to : Format → Order → ℕ → ℕ → List ℕ → List ℕ
-up_to format order size count behind = size ∷ 0 ∷ (number_bytes order (offset_size format) count ++ behind)
+up_to format order size count past = size ∷ 0 ∷ (number_bytes order (offset_size format) count ++ past)
 
 -- What is wrong with a body: its version, a field up to header_length, or one of those that this counts.
 data IsBodyFault (order : Order) (format : Format) (reason : Reason) (fields left : List ℕ) : Type 0 where
   of_version : fields ≡ [] → IsVersionFault order reason left → IsBodyFault order format reason fields left
-  of_start : (behind : List ℕ) → fields ≡ version_five order ++ behind → IsStartFault format order reason behind left
+  of_start : (past : List ℕ) → fields ≡ version_five order ++ past → IsStartFault format order reason past left
       → IsBodyFault order format reason fields left
-  of_counted : (size : ℕ) (behind later program : List ℕ) → IsAddressSize size → length (behind ++ later) < 256 ^ offset_size format
-      → fields ≡ version_five order ++ up_to format order size (length (behind ++ later)) behind → left ≡ later ++ program
-      → IsHeaderFault format order reason behind later
+  of_counted : (size : ℕ) (past later program : List ℕ) → IsAddressSize size → length (past ++ later) < 256 ^ offset_size format
+      → fields ≡ version_five order ++ up_to format order size (length (past ++ later)) past → left ≡ later ++ program
+      → IsHeaderFault format order reason past later
       → IsBodyFault order format reason fields left
 
 -- what stands after the version
-behind_version : (order : Order) (fields behind left : List ℕ) → fields ≡ version_five order ++ behind
-    → fields ++ left ≡ version_five order ++ (behind ++ left)
-behind_version order fields behind left e = ap (λ (z : List ℕ). z ++ left) e ∙ append_assoc (version_five order) behind left
+after_version : (order : Order) (fields past left : List ℕ) → fields ≡ version_five order ++ past
+    → fields ++ left ≡ version_five order ++ (past ++ left)
+after_version order fields past left e = ap (λ (z : List ℕ). z ++ left) e ∙ append_assoc (version_five order) past left
 
-same_behind : (order : Order) (fields fields' behind behind' left left' : List ℕ) → fields ≡ version_five order ++ behind
-    → fields' ≡ version_five order ++ behind' → fields ++ left ≡ fields' ++ left'
-    → behind ++ left ≡ behind' ++ left'
-same_behind order fields fields' behind behind' left left' p q e =
-    append_cancel_left (version_five order) (behind ++ left) (behind' ++ left')
-    (sym (behind_version order fields behind left p) ∙ e ∙ behind_version order fields' behind' left' q)
+same_after : (order : Order) (fields fields' past past' left left' : List ℕ) → fields ≡ version_five order ++ past
+    → fields' ≡ version_five order ++ past' → fields ++ left ≡ fields' ++ left'
+    → past ++ left ≡ past' ++ left'
+same_after order fields fields' past past' left left' p q e =
+    append_cancel_left (version_five order) (past ++ left) (past' ++ left')
+    (sym (after_version order fields past left p) ∙ e ∙ after_version order fields' past' left' q)
 
-version_apart : (order : Order) (reason : Reason) (fields left fields' behind left' : List ℕ) → fields ≡ []
-    → IsVersionFault order reason left → fields' ≡ version_five order ++ behind
+version_apart : (order : Order) (reason : Reason) (fields left fields' past left' : List ℕ) → fields ≡ []
+    → IsVersionFault order reason left → fields' ≡ version_five order ++ past
     → fields ++ left ≡ fields' ++ left' → ⊥
-version_apart order reason fields left fields' behind left' nothing h joined e =
-    version_none order reason left (behind ++ left') h
-    (ap (λ (z : List ℕ). z ++ left) (sym nothing) ∙ e ∙ behind_version order fields' behind left' joined)
+version_apart order reason fields left fields' past left' nothing h joined e =
+    version_none order reason left (past ++ left') h
+    (ap (λ (z : List ℕ). z ++ left) (sym nothing) ∙ e ∙ after_version order fields' past left' joined)
 
 -- header_length, and what it counts
-counted_on : (format : Format) (order : Order) (size count : ℕ) (behind left later program : List ℕ) → left ≡ later ++ program
-    → up_to format order size count behind ++ left ≡ size ∷ 0 ∷
-    (number_bytes order (offset_size format) count ++ ((behind ++ later) ++ program))
-counted_on format order size count behind left later program e =
+counted_on : (format : Format) (order : Order) (size count : ℕ) (past left later program : List ℕ) → left ≡ later ++ program
+    → up_to format order size count past ++ left ≡ size ∷ 0 ∷
+    (number_bytes order (offset_size format) count ++ ((past ++ later) ++ program))
+counted_on format order size count past left later program e =
     let number = number_bytes order (offset_size format) count in
-    let tail : (number ++ behind) ++ left ≡ number ++ ((behind ++ later) ++ program) =
-    append_assoc number behind left ∙ ap (λ (z : List ℕ). number ++ (behind ++ z)) e
-    ∙ ap (λ (z : List ℕ). number ++ z) (sym (append_assoc behind later program)) in
+    let tail : (number ++ past) ++ left ≡ number ++ ((past ++ later) ++ program) =
+    append_assoc number past left ∙ ap (λ (z : List ℕ). number ++ (past ++ z)) e
+    ∙ ap (λ (z : List ℕ). number ++ z) (sym (append_assoc past later program)) in
     ap (λ (z : List ℕ). size ∷ 0 ∷ z) tail
 
 -- a field up to header_length isn't at fault where all of them are there
-start_apart : (format : Format) (order : Order) (reason : Reason) (size : ℕ) (fields left behind later program : List ℕ)
+start_apart : (format : Format) (order : Order) (reason : Reason) (size : ℕ) (fields left past later program : List ℕ)
     → IsStartFault format order reason fields left → IsAddressSize size
-    → length (behind ++ later) < 256 ^ offset_size format
-    → fields ++ left ≡ size ∷ 0 ∷ (number_bytes order (offset_size format) (length (behind ++ later)) ++ ((behind ++ later) ++ program)) → ⊥
-start_apart format order reason size fields left behind later program h is fits e =
-    let number = number_bytes order (offset_size format) (length (behind ++ later)) in
-    let all : (size ∷ 0 ∷ (number ++ (behind ++ later))) ++ program ≡ fields ++ left =
-    ap (λ (z : List ℕ). size ∷ 0 ∷ z) (append_assoc number (behind ++ later) program) ∙ sym e in
-    (start_fault format order).none reason fields left h (size, (0, behind ++ later)) (size ∷ 0 ∷ (number ++ (behind ++ later))) program
+    → length (past ++ later) < 256 ^ offset_size format
+    → fields ++ left ≡ size ∷ 0 ∷ (number_bytes order (offset_size format) (length (past ++ later)) ++ ((past ++ later) ++ program)) → ⊥
+start_apart format order reason size fields left past later program h is fits e =
+    let number = number_bytes order (offset_size format) (length (past ++ later)) in
+    let all : (size ∷ 0 ∷ (number ++ (past ++ later))) ++ program ≡ fields ++ left =
+    ap (λ (z : List ℕ). size ∷ 0 ∷ z) (append_assoc number (past ++ later) program) ∙ sym e in
+    (start_fault format order).none reason fields left h (size, (0, past ++ later)) (size ∷ 0 ∷ (number ++ (past ++ later))) program
     (record {
       front = size ∷ [];
-      back = 0 ∷ (number ++ (behind ++ later));
+      back = 0 ∷ (number ++ (past ++ later));
       first = (is, refl);
       second = record {
         front = 0 ∷ [];
-        back = number ++ (behind ++ later);
+        back = number ++ (past ++ later);
         first = (refl, refl);
         second = record
-            { front = number; back = behind ++ later; first = record { fits = fits; spelled = refl }; second = refl; joined = refl };
+            { front = number; back = past ++ later; first = record { fits = fits; spelled = refl }; second = refl; joined = refl };
         joined = refl;
       };
       joined = refl;
@@ -96,27 +96,27 @@ start_apart format order reason size fields left behind later program h is fits 
     all
 
 counted_one_body : (format : Format) (order : Order) (reason other : Reason) (size size' : ℕ)
-    (behind behind' later later' program program' : List ℕ) → length (behind ++ later) < 256 ^ offset_size format
-    → length (behind' ++ later') < 256 ^ offset_size format → IsHeaderFault format order reason behind later
-    → IsHeaderFault format order other behind' later'
-    → size ∷ 0 ∷ (number_bytes order (offset_size format) (length (behind ++ later)) ++ ((behind ++ later) ++ program))
-    ≡ size' ∷ 0 ∷ (number_bytes order (offset_size format) (length (behind' ++ later')) ++ ((behind' ++ later') ++ program'))
+    (past past' later later' program program' : List ℕ) → length (past ++ later) < 256 ^ offset_size format
+    → length (past' ++ later') < 256 ^ offset_size format → IsHeaderFault format order reason past later
+    → IsHeaderFault format order other past' later'
+    → size ∷ 0 ∷ (number_bytes order (offset_size format) (length (past ++ later)) ++ ((past ++ later) ++ program))
+    ≡ size' ∷ 0 ∷ (number_bytes order (offset_size format) (length (past' ++ later')) ++ ((past' ++ later') ++ program'))
     → (reason ≡ other) ×
-    (up_to format order size (length (behind ++ later)) behind ≡ up_to format order size' (length (behind' ++ later')) behind')
-counted_one_body format order reason other size size' behind behind' later later' program program' fits fits' h k e =
-    let n = length (behind ++ later) in
-    let m = length (behind' ++ later') in
+    (up_to format order size (length (past ++ later)) past ≡ up_to format order size' (length (past' ++ later')) past')
+counted_one_body format order reason other size size' past past' later later' program program' fits fits' h k e =
+    let n = length (past ++ later) in
+    let m = length (past' ++ later') in
     let sizes : size ≡ size' = cc in
-    let tails : number_bytes order (offset_size format) n ++ ((behind ++ later) ++ program) ≡ number_bytes order (offset_size format) m ++
-    ((behind' ++ later') ++ program') = cc in
+    let tails : number_bytes order (offset_size format) n ++ ((past ++ later) ++ program) ≡ number_bytes order (offset_size format) m ++
+    ((past' ++ later') ++ program') = cc in
     let numbers =
-    same_number_front order (offset_size format) (offset_width format) n m ((behind ++ later) ++ program) ((behind' ++ later') ++ program')
+    same_number_front order (offset_size format) (offset_width format) n m ((past ++ later) ++ program) ((past' ++ later') ++ program')
     fits fits' tails in
-    let bytes : behind ++ later ≡ behind' ++ later' =
-    same_front (behind ++ later) (behind' ++ later') program program' numbers.0 numbers.1 in
-    let found = (fields_fault format order).one reason other behind behind' later later' h k bytes in (
+    let bytes : past ++ later ≡ past' ++ later' =
+    same_front (past ++ later) (past' ++ later') program program' numbers.0 numbers.1 in
+    let found = (fields_fault format order).one reason other past past' later later' h k bytes in (
       found.0,
-      ap (λ (s : ℕ). up_to format order s n behind) sizes ∙ ap (λ (c : ℕ). up_to format order size' c behind) numbers.0
+      ap (λ (s : ℕ). up_to format order s n past) sizes ∙ ap (λ (c : ℕ). up_to format order size' c past) numbers.0
           ∙ ap (up_to format order size' m) found.1,
     )
 
@@ -124,40 +124,40 @@ body_one : (order : Order) (format : Format) → AreOne (IsBodyFault order forma
 body_one order format reason other fields fields' left left' (of_version nothing h) (of_version nothing' k) e =
     let same : left ≡ left' = ap (λ (z : List ℕ). z ++ left) (sym nothing) ∙ e ∙ ap (λ (z : List ℕ). z ++ left') nothing' in
     (version_one order reason other left h (subst (IsVersionFault order other) (sym same) k), nothing ∙ sym nothing')
-body_one order format reason other fields fields' left left' (of_version nothing h) (of_start behind joined k) e =
-    absurd (version_apart order reason fields left fields' behind left' nothing h joined e)
+body_one order format reason other fields fields' left left' (of_version nothing h) (of_start past joined k) e =
+    absurd (version_apart order reason fields left fields' past left' nothing h joined e)
 body_one order format reason other fields fields' left left' (of_version nothing h)
-    (of_counted size behind later program is fits joined rest k) e =
-    absurd (version_apart order reason fields left fields' (up_to format order size (length (behind ++ later)) behind) left' nothing h
+    (of_counted size past later program is fits joined rest k) e =
+    absurd (version_apart order reason fields left fields' (up_to format order size (length (past ++ later)) past) left' nothing h
     joined e)
-body_one order format reason other fields fields' left left' (of_start behind joined h) (of_version nothing k) e =
-    absurd (version_apart order other fields' left' fields behind left nothing k joined (sym e))
-body_one order format reason other fields fields' left left' (of_start behind joined h) (of_start behind' joined' k) e =
+body_one order format reason other fields fields' left left' (of_start past joined h) (of_version nothing k) e =
+    absurd (version_apart order other fields' left' fields past left nothing k joined (sym e))
+body_one order format reason other fields fields' left left' (of_start past joined h) (of_start past' joined' k) e =
     let found =
-    (start_fault format order).one reason other behind behind' left left' h k
-    (same_behind order fields fields' behind behind' left left' joined joined' e) in
+    (start_fault format order).one reason other past past' left left' h k
+    (same_after order fields fields' past past' left left' joined joined' e) in
     (found.0, joined ∙ ap (λ (z : List ℕ). version_five order ++ z) found.1 ∙ sym joined')
 body_one order format reason other fields fields' left left' (of_start before joined h)
-    (of_counted size behind later program is fits joined' rest k) e =
-    absurd (start_apart format order reason size before left behind later program h is fits
-    (same_behind order fields fields' before (up_to format order size (length (behind ++ later)) behind) left left' joined joined' e
-    ∙ counted_on format order size (length (behind ++ later)) behind left' later program rest))
-body_one order format reason other fields fields' left left' (of_counted size behind later program is fits joined rest h)
+    (of_counted size past later program is fits joined' rest k) e =
+    absurd (start_apart format order reason size before left past later program h is fits
+    (same_after order fields fields' before (up_to format order size (length (past ++ later)) past) left left' joined joined' e
+    ∙ counted_on format order size (length (past ++ later)) past left' later program rest))
+body_one order format reason other fields fields' left left' (of_counted size past later program is fits joined rest h)
     (of_version nothing k) e =
-    absurd (version_apart order other fields' left' fields (up_to format order size (length (behind ++ later)) behind) left nothing k joined
+    absurd (version_apart order other fields' left' fields (up_to format order size (length (past ++ later)) past) left nothing k joined
     (sym e))
-body_one order format reason other fields fields' left left' (of_counted size behind later program is fits joined rest h)
+body_one order format reason other fields fields' left left' (of_counted size past later program is fits joined rest h)
     (of_start before joined' k) e =
-    absurd (start_apart format order other size before left' behind later program k is fits
-    (same_behind order fields' fields before (up_to format order size (length (behind ++ later)) behind) left' left joined' joined (sym e)
-    ∙ counted_on format order size (length (behind ++ later)) behind left later program rest))
-body_one order format reason other fields fields' left left' (of_counted size behind later program is fits joined rest h)
-    (of_counted size' behind' later' program' is' fits' joined' rest' k) e =
-    let all = sym (counted_on format order size (length (behind ++ later)) behind left later program rest)
-    ∙ same_behind order fields fields' (up_to format order size (length (behind ++ later)) behind)
-    (up_to format order size' (length (behind' ++ later')) behind') left left' joined joined' e
-    ∙ counted_on format order size' (length (behind' ++ later')) behind' left' later' program' rest' in
-    let found = counted_one_body format order reason other size size' behind behind' later later' program program' fits fits' h k all in
+    absurd (start_apart format order other size before left' past later program k is fits
+    (same_after order fields' fields before (up_to format order size (length (past ++ later)) past) left' left joined' joined (sym e)
+    ∙ counted_on format order size (length (past ++ later)) past left later program rest))
+body_one order format reason other fields fields' left left' (of_counted size past later program is fits joined rest h)
+    (of_counted size' past' later' program' is' fits' joined' rest' k) e =
+    let all = sym (counted_on format order size (length (past ++ later)) past left later program rest)
+    ∙ same_after order fields fields' (up_to format order size (length (past ++ later)) past)
+    (up_to format order size' (length (past' ++ later')) past') left left' joined joined' e
+    ∙ counted_on format order size' (length (past' ++ later')) past' left' later' program' rest' in
+    let found = counted_one_body format order reason other size size' past past' later later' program program' fits fits' h k all in
     (found.0, joined ∙ ap (λ (z : List ℕ). version_five order ++ z) found.1 ∙ sym joined')
 
 -- ---- the first field

@@ -20,7 +20,7 @@ use Rattle.lnt_header_bytes.specs.Broken.{InHeader, sound_start, IsFirstField, B
 use Rattle.lnt_header_bytes.specs.Broken.IsFirstField.{start}
 use Rattle.lnt_header_bytes.specs.FieldsBytes.{FieldsBytes, IsHeaderFault}
 use Rattle.lnt_header_bytes.specs.HeaderBytes.{HeaderFieldsBytes, unit_body, HeaderBytesIn}
-use Rattle.lnt_header_bytes.specs.HeaderReading.{standing, IsBehindVersion, HasFields}
+use Rattle.lnt_header_bytes.specs.HeaderReading.{standing, IsAfterVersion, HasFields}
 use Rattle.lnt_header.specs.HeaderRules.{IsAddressSize}
 use Rattle.lnt_header_bytes.specs.Laws.Headers.{laid, regroup, same_laid, below, length-laid}
 use Rattle.lnt_header_bytes.specs.StartBytes.{StartBytes, IsStartFault}
@@ -48,7 +48,7 @@ candidate order format body fits unit x more p e =
     ap (λ (o : Order). initial_length h.format o (length whole) ++ (whole ++ more)) (sym p.order_is)
     ∙ sym (append_assoc (initial_length h.format h.order (length whole)) whole more) ∙ ap (λ (z : List ℕ). z ++ more) (sym s.joined) ∙ e in
     let lengths = same_length order h.format format (length whole) (length body) (whole ++ more) body s.fits fits spread in
-    let wholes : whole ≡ body = same_front whole body more [] lengths.number (lengths.behind ∙ sym (append-nil body)) in
+    let wholes : whole ≡ body = same_front whole body more [] lengths.number (lengths.past ∙ sym (append-nil body)) in
     let over : whole ≡ laid order (offset_size format) h.address_size s.fields unit.1 =
     ap (λ (o : Order). laid o (offset_size h.format) h.address_size s.fields unit.1) p.order_is
     ∙ ap (λ (f : Format). laid order (offset_size f) h.address_size s.fields unit.1) lengths.format in
@@ -64,9 +64,9 @@ candidate order format body fits unit x more p e =
     }
 
 -- what stands after the version
-behind_laid : (order : Order) (size a : ℕ) (fields program rest : List ℕ) → version_five order ++ rest ≡ laid order size a fields program
+after_laid : (order : Order) (size a : ℕ) (fields program rest : List ℕ) → version_five order ++ rest ≡ laid order size a fields program
     → rest ≡ (a ∷ 0 ∷ []) ++ (number_bytes order size (length fields) ++ (fields ++ program))
-behind_laid order size a fields program rest e =
+after_laid order size a fields program rest e =
     append_cancel_left (version_five order) rest ((a ∷ 0 ∷ []) ++ (number_bytes order size (length fields) ++ (fields ++ program)))
     (e ∙ regroup (version_five order) (a ∷ 0 ∷ []) (number_bytes order size (length fields)) fields program)
 
@@ -77,7 +77,7 @@ no_start : (order : Order) (format : Format) (body rest : List ℕ) (unit : Head
 no_start order format body rest unit joined none c =
     let a = unit.0.address_size in
     let number = number_bytes order (offset_size format) (length c.fields) in
-    let behind = behind_laid order (offset_size format) a c.fields unit.1 rest (sym joined ∙ c.body_is) in
+    let past = after_laid order (offset_size format) a c.fields unit.1 rest (sym joined ∙ c.body_is) in
     none (a, (0, c.fields)) (a ∷ 0 ∷ (number ++ c.fields)) unit.1
     (record {
       front = a ∷ [];
@@ -93,7 +93,7 @@ no_start order format body rest unit joined none c =
       };
       joined = refl;
     })
-    (ap (λ (z : List ℕ). a ∷ 0 ∷ z) (append_assoc number c.fields unit.1) ∙ sym behind)
+    (ap (λ (z : List ℕ). a ∷ 0 ∷ z) (append_assoc number c.fields unit.1) ∙ sym past)
 
 -- the bytes of a frame up to the end of its version
 head_of : Order → Format → List ℕ → List ℕ
@@ -106,7 +106,7 @@ length-head order format body = length-append (initial_length format order (leng
     ∙ ap (λ (n : ℕ). length (initial_length format order (length body)) + n) (length-number_bytes order 2 5)
 
 pub refuses_start : (order : Order) (format : Format) (offset : ℕ) (body : List ℕ) (old : At) (fault : Fault)
-    → LengthFits format (length body) → IsBehindVersion order format offset body old
+    → LengthFits format (length body) → IsAfterVersion order format offset body old
     → Refuses (IsStartFault format old.order) (StartBytes format old.order) old fault
     → BrokenHeader order fault offset (frame_bytes order format body)
 unfolding head_of
@@ -151,7 +151,7 @@ record Counted (order : Order) (format : Format) (offset : ℕ) (body : List ℕ
   place_is : place ≡ offset + length (initial_length format order (length body)) + 4 + offset_size format
 
 counted_by : (order : Order) (format : Format) (offset : ℕ) (body : List ℕ) (size zero_size place : ℕ) (counted : List ℕ) (old new : At)
-    → IsBehindVersion order format offset body old
+    → IsAfterVersion order format offset body old
     → Reads (StartBytes format old.order) (size, (zero_size, counted)) old new → place + length counted ≡ new.place
     → Counted order format offset body size counted new.rest place
 counted_by order format offset body size zero_size place counted old new b there placed =
@@ -251,7 +251,7 @@ no_fields order format body size counted program offset place unit at none c =
 
 pub refuses_fields : (order : Order) (format : Format) (offset : ℕ) (body : List ℕ) (size zero_size place : ℕ) (counted : List ℕ)
     (old new : At) (fault : Fault) → LengthFits format (length body)
-    → IsBehindVersion order format offset body old → Reads (StartBytes format old.order) (size, (zero_size, counted)) old new
+    → IsAfterVersion order format offset body old → Reads (StartBytes format old.order) (size, (zero_size, counted)) old new
     → place + length counted ≡ new.place
     → Refuses (IsHeaderFault format order) (FieldsBytes format order) (standing place counted order) fault
     → BrokenHeader order fault offset (frame_bytes order format body)
@@ -306,7 +306,7 @@ refuses_fields order format offset body size zero_size place counted old new fau
 
 pub header_found : (order : Order) (format : Format) (offset : ℕ) (body : List ℕ) (size zero_size place : ℕ) (counted program : List ℕ)
     (old new : At) (h : HeaderParts) → LengthFits format (length body)
-    → IsBehindVersion order format offset body old → Reads (StartBytes format old.order) (size, (zero_size, counted)) old new
+    → IsAfterVersion order format offset body old → Reads (StartBytes format old.order) (size, (zero_size, counted)) old new
     → place + length counted ≡ new.place → program ≡ new.rest
     → HasFields format order size counted h → HeaderBytesIn order (h, program) (frame_bytes order format body)
 header_found order format offset body size zero_size place counted program old new h fits b there placed program_is has =

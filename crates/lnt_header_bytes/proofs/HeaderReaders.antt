@@ -16,7 +16,7 @@ use Rattle.lnt_header.specs.declared.header.Entry.{Entry}
 use Rattle.lnt_header.specs.declared.header.Pair.{Pair}
 use Rattle.lnt_header_bytes.specs.TableBytes.{TableOf}
 use Rattle.lnt_header_bytes.specs.TableFaults.{IsTableFault}
-use Rattle.lnt_header_bytes.specs.FieldsBytes.{FieldsBytes, BehindSingles, BehindLengths, TwoTables, TwoTablesFault, BehindSinglesFault}
+use Rattle.lnt_header_bytes.specs.FieldsBytes.{FieldsBytes, AfterSingles, AfterLengths, TwoTables, TwoTablesFault, AfterSinglesFault}
 use Rattle.lnt_header_bytes.specs.FieldsBytes.{IsHeaderFault}
 use Rattle.lnt_header_bytes.specs.Laws.Tables.{same_table}
 use Rattle.lnt_header_bytes.specs.declared.numbers.Singles.{Singles}
@@ -25,11 +25,11 @@ use Rattle.lnt_header.specs.OpRules.{known_lengths}
 use Rattle.lnt_header_bytes.specs.HeaderFaults.{SinglesBytes, AreCutSingles, IsSinglesFault, LengthsBytes, AreCutLengths, IsLengthsFault}
 
 -- a fault after so many bytes
-behind : {X : Type 0} {IsSo : Reason → List ℕ → List ℕ → Type 0} (Spells : X → List ℕ → Type 0) (old : At) (fault : Fault) (reason : Reason)
+past : {X : Type 0} {IsSo : Reason → List ℕ → List ℕ → Type 0} (Spells : X → List ℕ → Type 0) (old : At) (fault : Fault) (reason : Reason)
     (i : ℕ)
     → i ≤ length old.rest → fault.place ≡ old.place + i → fault.reason ≡ reason → IsSo reason (take i old.rest) (drop i old.rest)
     → NoneSpelled Spells old.rest → Refuses IsSo Spells old fault
-behind {X} {IsSo} Spells old fault reason i le place same so none = record {
+past {X} {IsSo} Spells old fault reason i le place same so none = record {
   before = take i old.rest;
   left = drop i old.rest;
   split = sym (take-append-drop i old.rest);
@@ -72,18 +72,18 @@ so_opcode_base bytes lt n m e = absurd (omega arith)
 pub max_ops_zero : (old : At) (fault : Fault) → 1 < length old.rest → get_or old.rest 1 0 ≡ 0 → fault.place ≡ old.place + 1
     → fault.reason ≡ MaxOpsZero → Refuses IsSinglesFault SinglesBytes old fault
 max_ops_zero old fault lt e place reason =
-    behind SinglesBytes old fault MaxOpsZero 1 (omega arith) place reason (so_max_ops old.rest lt e) (none_max_ops old.rest e)
+    past SinglesBytes old fault MaxOpsZero 1 (omega arith) place reason (so_max_ops old.rest lt e) (none_max_ops old.rest e)
 
 pub line_range_zero : (old : At) (fault : Fault) → 4 < length old.rest → get_or old.rest 1 0 ≢ 0 → get_or old.rest 4 0 ≡ 0
     → fault.place ≡ old.place + 4 → fault.reason ≡ LineRangeZero
     → Refuses IsSinglesFault SinglesBytes old fault
 line_range_zero old fault lt n e place reason =
-    behind SinglesBytes old fault LineRangeZero 4 (omega arith) place reason (so_line_range old.rest lt n e) (none_line_range old.rest e)
+    past SinglesBytes old fault LineRangeZero 4 (omega arith) place reason (so_line_range old.rest lt n e) (none_line_range old.rest e)
 
 pub opcode_base_zero : (old : At) (fault : Fault) → 5 < length old.rest → get_or old.rest 1 0 ≢ 0 → get_or old.rest 4 0 ≢ 0
     → get_or old.rest 5 0 ≡ 0 → fault.place ≡ old.place + 5 → fault.reason ≡ OpcodeBaseZero
     → Refuses IsSinglesFault SinglesBytes old fault
-opcode_base_zero old fault lt n m e place reason = behind SinglesBytes old fault OpcodeBaseZero 5 (omega arith) place reason
+opcode_base_zero old fault lt n m e place reason = past SinglesBytes old fault OpcodeBaseZero 5 (omega arith) place reason
     (so_opcode_base old.rest lt n m e) (none_opcode_base old.rest e)
 
 -- bytes that end where more should stand
@@ -211,7 +211,7 @@ refuses_length opcode_base i opcode given old fault h lt small long given_is oth
     (λ lt. omega (arith, size)) in
     let not_known : given ≢ get_or known_lengths (length (take i old.rest)) 0 =
     λ e. other (e ∙ ap (λ (k : ℕ). get_or known_lengths k 0) size) in
-    behind (LengthsBytes opcode_base) old fault (StandardLength opcode given) i (omega arith) place reason (
+    past (LengthsBytes opcode_base) old fault (StandardLength opcode given) i (omega arith) place reason (
       drop (i + 1) old.rest,
       standard,
       omega (arith, size, opcode_is),
@@ -292,41 +292,41 @@ table_code format order = record {
 
 pub refuses_singles : (format : Format) (old : At) (fault : Fault) → Refuses IsSinglesFault SinglesBytes old fault
     → Refuses (IsHeaderFault format old.order) (FieldsBytes format old.order) old fault
-refuses_singles format old fault r = first_refused SinglesBytes (BehindSingles format old.order) old fault r
+refuses_singles format old fault r = first_refused SinglesBytes (AfterSingles format old.order) old fault r
 
-behind_singles : (format : Format) (s : Singles) (old m1 : At) (fault : Fault) → Reads SinglesBytes s old m1
-    → Refuses (BehindSinglesFault format m1.order s) (BehindSingles format m1.order s) m1 fault
+after_singles : (format : Format) (s : Singles) (old m1 : At) (fault : Fault) → Reads SinglesBytes s old m1
+    → Refuses (AfterSinglesFault format m1.order s) (AfterSingles format m1.order s) m1 fault
     → Refuses (IsHeaderFault format old.order) (FieldsBytes format old.order) old fault
-behind_singles format s old m1 fault r t =
-    second_refused (BehindSinglesFault format) SinglesBytes (BehindSingles format) s old m1 fault singles_code r t
+after_singles format s old m1 fault r t =
+    second_refused (AfterSinglesFault format) SinglesBytes (AfterSingles format) s old m1 fault singles_code r t
 
 pub refuses_lengths : (format : Format) (s : Singles) (old m1 : At) (fault : Fault) → Reads SinglesBytes s old m1
     → Refuses (IsLengthsFault s.opcode_base) (LengthsBytes s.opcode_base) m1 fault
     → Refuses (IsHeaderFault format old.order) (FieldsBytes format old.order) old fault
 refuses_lengths format s old m1 fault r t =
-    behind_singles format s old m1 fault r (first_refused (LengthsBytes s.opcode_base) (BehindLengths format m1.order) m1 fault t)
+    after_singles format s old m1 fault r (first_refused (LengthsBytes s.opcode_base) (AfterLengths format m1.order) m1 fault t)
 
-behind_lengths : (format : Format) (s : Singles) (ls : List ℕ) (old m1 m2 : At) (fault : Fault) → Reads SinglesBytes s old m1
+after_lengths : (format : Format) (s : Singles) (ls : List ℕ) (old m1 m2 : At) (fault : Fault) → Reads SinglesBytes s old m1
     → Reads (LengthsBytes s.opcode_base) ls m1 m2
     → Refuses (TwoTablesFault format m2.order) (TwoTables format m2.order) m2 fault
     → Refuses (IsHeaderFault format old.order) (FieldsBytes format old.order) old fault
-behind_lengths format s ls old m1 m2 fault r t u =
-    behind_singles format s old m1 fault r (second_refused (λ order _. TwoTablesFault format order) (LengthsBytes s.opcode_base)
-    (BehindLengths format) ls m1 m2 fault (lengths_code s.opcode_base) t u)
+after_lengths format s ls old m1 m2 fault r t u =
+    after_singles format s old m1 fault r (second_refused (λ order _. TwoTablesFault format order) (LengthsBytes s.opcode_base)
+    (AfterLengths format) ls m1 m2 fault (lengths_code s.opcode_base) t u)
 
 pub refuses_directories : (format : Format) (s : Singles) (ls : List ℕ) (old m1 m2 : At) (fault : Fault) → Reads SinglesBytes s old m1
     → Reads (LengthsBytes s.opcode_base) ls m1 m2
     → Refuses (IsTableFault format m2.order) (TableOf format m2.order) m2 fault
     → Refuses (IsHeaderFault format old.order) (FieldsBytes format old.order) old fault
 refuses_directories format s ls old m1 m2 fault r t u =
-    behind_lengths format s ls old m1 m2 fault r t (first_refused (TableOf format m2.order) (λ _. TableOf format m2.order) m2 fault u)
+    after_lengths format s ls old m1 m2 fault r t (first_refused (TableOf format m2.order) (λ _. TableOf format m2.order) m2 fault u)
 
 pub refuses_files : (format : Format) (s : Singles) (ls : List ℕ) (directories : List Pair × List Entry) (old m1 m2 m3 : At) (fault : Fault)
     → Reads SinglesBytes s old m1 → Reads (LengthsBytes s.opcode_base) ls m1 m2
     → Reads (TableOf format m2.order) directories m2 m3 → Refuses (IsTableFault format m3.order) (TableOf format m3.order) m3 fault
     → Refuses (IsHeaderFault format old.order) (FieldsBytes format old.order) old fault
 refuses_files format s ls directories old m1 m2 m3 fault r t u v =
-    behind_lengths format s ls old m1 m2 fault r t
+    after_lengths format s ls old m1 m2 fault r t
     (second_refused (λ order _. IsTableFault format order) (TableOf format m2.order) (λ order _. TableOf format order) directories m2 m3
     fault (table_code format m2.order) u v)
 
@@ -336,5 +336,5 @@ pub reads_fields : (format : Format) (s : Singles) (ls : List ℕ) (directories 
     → Reads (FieldsBytes format old.order) (s, (ls, (directories, files))) old new
 reads_fields format s ls directories files old m1 m2 m3 new r t u v =
     let tables = reads_both (TableOf format m2.order) (λ order _. TableOf format order) directories files m2 m3 new u v in
-    let behind = reads_both (LengthsBytes s.opcode_base) (BehindLengths format) ls (directories, files) m1 m2 new t tables in
-    reads_both SinglesBytes (BehindSingles format) s (ls, (directories, files)) old m1 new r behind
+    let past = reads_both (LengthsBytes s.opcode_base) (AfterLengths format) ls (directories, files) m1 m2 new t tables in
+    reads_both SinglesBytes (AfterSingles format) s (ls, (directories, files)) old m1 new r past

@@ -10,7 +10,7 @@ use Rattle.lnt_wire.specs.declared.format.Order.{Order}
 use Rattle.lnt_header.specs.declared.header.Entry.{Entry}
 use Rattle.lnt_header.specs.Joins.{Each, Several}
 use Rattle.lnt_header_bytes.specs.Borrowed.{BorrowedTable, AreEntryBytes, PassesAll}
-use Rattle.lnt_header_bytes.specs.Laws.Passed.{others_behind, several_there}
+use Rattle.lnt_header_bytes.specs.Laws.Passed.{others_after, several_there}
 use Rattle.lnt_header_bytes.specs.Laws.Tables.{entry_code}
 use Rattle.lnt_header_bytes.specs.Marks.{from_entry, BeginsAt, AreMarksFrom, AreMarks}
 use Rattle.lnt_header_bytes.specs.TableBytes.{EntryBytes}
@@ -60,17 +60,17 @@ pub made_more : (table : BorrowedTable) (bytes places : List ℕ) (count place :
     → PassesAll 64 (EntryBytes table.format at.order table.pairs) passed at new → place ≡ length bytes - length new.rest
     → AreMade table bytes (places ++ place ∷ []) (count + 1) new
 made_more table bytes places count place at new passed m le p place_is =
-    let behind = m.front ++ p.read.spelling in
-    let whole : bytes ≡ behind ++ new.rest =
+    let past = m.front ++ p.read.spelling in
+    let whole : bytes ≡ past ++ new.rest =
     m.joined ∙ ap (λ (z : List ℕ). m.front ++ z) p.read.whole ∙ sym (append_assoc m.front p.read.spelling new.rest) in
-    let at_place : place ≡ length behind = omega (arith, place_is, ap length whole, length-append behind new.rest) in
+    let at_place : place ≡ length past = omega (arith, place_is, ap length whole, length-append past new.rest) in
     let spelled : Each (EntryBytes table.format table.order table.pairs) p.values p.read.spelling =
     subst (λ (o : Order). Each (EntryBytes table.format o table.pairs) p.values p.read.spelling) m.order_is p.read.spelled in
     let left : length p.values ≤ length (drop (64 * count) table.entries) =
     omega (arith, p.count_is, length-drop (64 * count) table.entries, le) in
     let others : Each (EntryBytes table.format table.order table.pairs) (drop (length p.values) (drop (64 * count) table.entries))
     new.rest =
-    others_behind (EntryBytes table.format table.order table.pairs) (entry_code table.format table.order table.pairs) p.values
+    others_after (EntryBytes table.format table.order table.pairs) (entry_code table.format table.order table.pairs) p.values
     (drop (64 * count) table.entries) p.read.spelling new.rest at.rest left spelled m.lies p.read.whole in
     let number : 64 * count + length p.values ≡ 64 * (count + 1) = omega (arith, p.count_is) in
     let entries : drop (length p.values) (drop (64 * count) table.entries) ≡ drop (64 * (count + 1)) table.entries =
@@ -78,11 +78,11 @@ made_more table bytes places count place at new passed m le p place_is =
     let lies : AreEntryBytes (from_entry (64 * (count + 1)) table) new.rest =
     subst (λ (es : List Entry). Each (EntryBytes table.format table.order table.pairs) es new.rest) entries others in
     let rest : new.rest ≡ drop place bytes =
-    sym (ap (λ (k : ℕ). drop k bytes) at_place ∙ ap (drop (length behind)) whole ∙ drop-append_seam behind new.rest) in
+    sym (ap (λ (k : ℕ). drop k bytes) at_place ∙ ap (drop (length past)) whole ∙ drop-append_seam past new.rest) in
     let begins : BeginsAt table bytes (64 * (count + 1)) place =
     record {
       there = le;
-      within = omega (arith, at_place, ap length whole, length-append behind new.rest);
+      within = omega (arith, at_place, ap length whole, length-append past new.rest);
       lies = subst (AreEntryBytes (from_entry (64 * (count + 1)) table)) rest lies;
     } in
     let same : 64 * (count + 1) ≡ 64 + 64 * length places = omega (arith, m.count_is) in
@@ -90,7 +90,7 @@ made_more table bytes places count place at new passed m le p place_is =
       marks = marks_more 64 table bytes places place m.marks (subst (λ (k : ℕ). BeginsAt table bytes k place) same begins);
       count_is = omega (arith, m.count_is, length-append places (place ∷ []));
       order_is = p.read.order ∙ m.order_is;
-      front = behind;
+      front = past;
       joined = whole;
       lies = lies;
     }

@@ -18,7 +18,7 @@ use Rattle.lnt_header_bytes.specs.FieldsBytes.{TwoTablesFault, IsHeaderFault}
 use Rattle.lnt_header.specs.FirstFaults.FirstOf.{first, second}
 use Rattle.lnt_header_bytes.specs.HeaderFaults.{SinglesBytes, IsSinglesFault, IsLengthsFault}
 use Rattle.lnt_header_bytes.specs.declared.numbers.Singles.{Singles}
-use Rattle.lnt_header_bytes.proofs.WrongTables.{small_offset, IsWrongTable, wrong_behind, wrong_table}
+use Rattle.lnt_header_bytes.proofs.WrongTables.{small_offset, IsWrongTable, wrong_after, wrong_table}
 use Rattle.lnt_header.specs.Laws.Readers.{cut_later}
 
 cut_at : (order : Order) (before left from : List ℕ) → 0 < length before → UpToLimit order left before from → IsCutField before left
@@ -42,19 +42,19 @@ at_singles order OpcodeBaseZero head b l from w some h =
     (h.0, h.1, h.2, h.3, h.4, h.5, h.6, h.7, place order b (h.0 ∷ h.1 ∷ h.2 ∷ h.3 ∷ h.4 ∷ []) l (0 ∷ h.5) (head ++ b) from w h.8 h.9)
 at_singles order reason head b l from w some h = absurd h
 
-at_lengths : (order : Order) (reason : Reason) (s : Singles) (six behind head b l from : List ℕ) → SinglesBytes s six → b ≡ six ++ behind
+at_lengths : (order : Order) (reason : Reason) (s : Singles) (six past head b l from : List ℕ) → SinglesBytes s six → b ≡ six ++ past
     → InHeader order b l (head ++ b) from → 0 < length (head ++ b)
-    → IsLengthsFault s.opcode_base reason behind l → IsAt order reason (head ++ b) from
-at_lengths order Truncated s six behind head b l from p e w some h =
+    → IsLengthsFault s.opcode_base reason past l → IsAt order reason (head ++ b) from
+at_lengths order Truncated s six past head b l from p e w some h =
     cut_at order (head ++ b) l from some (inr (b, w)) (number 1 (omega arith) (omega (arith, ap length h.ends)))
-at_lengths order (StandardLength opcode given) s six behind head b l from p e w some h = (
+at_lengths order (StandardLength opcode given) s six past head b l from p e w some h = (
   s.minimum_instruction_length,
   s.max_ops,
   s.default_is_stmt,
   s.line_base,
   s.line_range,
   s.opcode_base,
-  behind,
+  past,
   h.0,
   p.max_ops,
   p.line_range,
@@ -63,11 +63,11 @@ at_lengths order (StandardLength opcode given) s six behind head b l from p e w 
   h.3,
   h.4,
   h.5,
-  place order b (s.minimum_instruction_length ∷ s.max_ops ∷ s.default_is_stmt ∷ s.line_base ∷ s.line_range ∷ s.opcode_base ∷ behind) l
+  place order b (s.minimum_instruction_length ∷ s.max_ops ∷ s.default_is_stmt ∷ s.line_base ∷ s.line_range ∷ s.opcode_base ∷ past) l
       (given ∷ h.0) (head ++ b) from w
-      (e ∙ ap (λ (z : List ℕ). z ++ behind) p.spelled) h.6,
+      (e ∙ ap (λ (z : List ℕ). z ++ past) p.spelled) h.6,
 )
-at_lengths order reason s six behind head b l from p e w some h = absurd h
+at_lengths order reason s six past head b l from p e w some h = absurd h
 
 at_table : (order : Order) (reason : Reason) (head b l from : List ℕ) → InHeader order b l (head ++ b) from → 0 < length (head ++ b)
     → IsWrongTable reason b l → IsAt order reason (head ++ b) from
@@ -81,17 +81,17 @@ at_table order reason head b l from w some h = absurd h
 wrong_tables : (format : Format) (order : Order) (reason : Reason) (before left : List ℕ) → TwoTablesFault format order reason before left
     → IsWrongTable reason before left
 wrong_tables format order reason before left (first h) = wrong_table format order reason before left h
-wrong_tables format order reason before left (second directories front behind p e h) =
-    wrong_behind reason front behind before left e (wrong_table format order reason behind left h)
+wrong_tables format order reason before left (second directories front past p e h) =
+    wrong_after reason front past before left e (wrong_table format order reason past left h)
 
 pub at_header : (order : Order) (format : Format) (reason : Reason) (head b l from : List ℕ) → InHeader order b l (head ++ b) from
     → 0 < length (head ++ b) → IsHeaderFault format order reason b l → IsAt order reason (head ++ b) from
 at_header order format reason head b l from w some (first h) = at_singles order reason head b l from w some h
-at_header order format reason head b l from w some (second s six behind p e (first h)) =
-    at_lengths order reason s six behind head b l from p e w some h
-at_header order format reason head b l from w some (second s six behind p e (second ls lengths more q e2 h)) =
+at_header order format reason head b l from w some (second s six past p e (first h)) =
+    at_lengths order reason s six past head b l from p e w some h
+at_header order format reason head b l from w some (second s six past p e (second ls lengths more q e2 h)) =
     at_table order reason head b l from w some
-    (wrong_behind reason six behind b l e (wrong_behind reason lengths more behind l e2 (wrong_tables format order reason more l h)))
+    (wrong_after reason six past b l e (wrong_after reason lengths more past l e2 (wrong_tables format order reason more l h)))
 
 in_frame_as : (order : Order) (format : Format) (b c l m before from : List ℕ) → InFrame order format b l before from → b ≡ c → l ≡ m
     → InFrame order format c m before from

@@ -109,13 +109,13 @@ pub entry_refused : (format : Format) (pairs : List Pair) (old : At) (fault : Fa
 entry_refused format pairs old fault r =
     refuses_map (ValuesBytes format old.order pairs) (EntryBytes format old.order pairs) (λ entry. entry.values) old fault (λ y x q. q) r
 
-next_refused : (format : Format) (pairs behind : List Pair) (a : Pair) (f : Form) (us : List FormValue) (old middle : At) (fault : Fault)
+next_refused : (format : Format) (pairs past : List Pair) (a : Pair) (f : Form) (us : List FormValue) (old middle : At) (fault : Fault)
     → a.form ≡ f → Reads (ValuesBytes format old.order pairs) us old middle
     → RefusesField (IsValueFault format middle.order f) (ValueBytes format middle.order f) middle fault
-    → Refuses (IsEntryFault format old.order (pairs ++ a ∷ behind)) (EntryBytes format old.order (pairs ++ a ∷ behind)) old fault
-next_refused format pairs behind a f us old middle fault e r s =
-    entry_refused format (pairs ++ a ∷ behind) old fault
-    (refuses_values format pairs a behind us old middle fault r
+    → Refuses (IsEntryFault format old.order (pairs ++ a ∷ past)) (EntryBytes format old.order (pairs ++ a ∷ past)) old fault
+next_refused format pairs past a f us old middle fault e r s =
+    entry_refused format (pairs ++ a ∷ past) old fault
+    (refuses_values format pairs a past us old middle fault r
     (subst (λ (x : Form). RefusesField (IsValueFault format middle.order x) (ValueBytes format middle.order x) middle fault) (sym e) s))
 
 pub first_refused : (format : Format) (pairs : List Pair) (f : Form) (fs : List Form) (old : At) (fault : Fault) → forms_of pairs ≡ f ∷ fs

@@ -32,9 +32,9 @@ use Rattle.lnt_header_bytes.proofs.EncodeLemmas.{fields_put, pair_put, table_put
 
 -- ---- what is spelled is put
 
-put_behind : {X : Type 0} (Spells : X → List ℕ → Type 0) (x : X) (old : List ℕ) → (s : HasShortest Spells x)
+put_after : {X : Type 0} (Spells : X → List ℕ → Type 0) (x : X) (old : List ℕ) → (s : HasShortest Spells x)
     → Appends Spells x old (old ++ s.0)
-put_behind Spells x old s = record { spelling = s.0; spelled = s.1; joined = refl }
+put_after Spells x old s = record { spelling = s.0; spelled = s.1; joined = refl }
 
 was_put : {X : Type 0} (Spells : X → List ℕ → Type 0) (x : X) (old new : List ℕ) → Appends Spells x old new → HasShortest Spells x
 was_put Spells x old new p = (p.spelling, p.spelled)
@@ -64,7 +64,7 @@ pairs_spelled law (pair ∷ pairs) fits =
     let code = law.unsigned (form_code pair.form) (small_code pair.form) in (
       was_put PairBytes pair [] (([] ++ content.0) ++ code.0)
           (pair_put pair (form_code pair.form) [] ([] ++ content.0) (([] ++ content.0) ++ code.0)
-          (put_behind UnsignedLeb pair.content [] content) refl (put_behind UnsignedLeb (form_code pair.form) ([] ++ content.0) code)),
+          (put_after UnsignedLeb pair.content [] content) refl (put_after UnsignedLeb (form_code pair.form) ([] ++ content.0) code)),
       pairs_spelled law pairs fits.1,
     )
 
@@ -101,8 +101,8 @@ table_spelled law format order pairs entries is fits small =
     let m2 : List ℕ = m1 ++ p.0 in
     let m3 : List ℕ = m2 ++ n.0 in
     was_put (TableOf format order) (pairs, entries) [] (m3 ++ e.0)
-    (table_put format order pairs entries [] m1 m2 m3 (m3 ++ e.0) is refl (put_behind (Each PairBytes) pairs m1 p)
-    (put_behind UnsignedLeb (length entries) m2 n) (put_behind (Each (EntryParts format order)) entries m3 e))
+    (table_put format order pairs entries [] m1 m2 m3 (m3 ++ e.0) is refl (put_after (Each PairBytes) pairs m1 p)
+    (put_after UnsignedLeb (length entries) m2 n) (put_after (Each (EntryParts format order)) entries m3 e))
 
 -- ---- headers
 
@@ -117,8 +117,8 @@ fields_spelled law h is fits small =
       o4 ++ h.extra,
       fields_put h [] o1 o2 o3 o4 (o4 ++ h.extra) h.standard_lengths h.extra h.directory_format h.file_format h.directories h.files is refl
           refl refl refl refl refl
-          (put_behind (TableOf h.format h.order) (h.directory_format, h.directories) o2 d) refl refl
-          (put_behind (TableOf h.format h.order) (h.file_format, h.files) o3 f) refl refl,
+          (put_after (TableOf h.format h.order) (h.directory_format, h.directories) o2 d) refl refl
+          (put_after (TableOf h.format h.order) (h.file_format, h.files) o3 f) refl refl,
     )
 
 unit_spelled : wire.SpelledValues → (h : HeaderParts) (program : List ℕ) → IsHeader h → FitsFields h → HasSmallOffsets h
@@ -158,9 +158,9 @@ entries_fit law format order pairs (entry ∷ entries) x p =
 table_fits : wire.SpelledValues → (format : Format) (order : Order) (pairs : List Pair) (entries : List Entry) (x : List ℕ)
     → TableBytes format order pairs entries x → FitsTable pairs entries × OffsetsFit format entries
 table_fits law format order pairs entries x p =
-    let behind = p.spelled.second.second in
-    let all = entries_fit law format order pairs entries behind.back behind.second in
-    (record { contents = pairs_fit pairs p.spelled.second.front p.spelled.second.first; count = behind.first.fits; values = all.0 }, all.1)
+    let past = p.spelled.second.second in
+    let all = entries_fit law format order pairs entries past.back past.second in
+    (record { contents = pairs_fit pairs p.spelled.second.front p.spelled.second.first; count = past.first.fits; values = all.0 }, all.1)
 
 allowed : wire.SpelledValues → (h : HeaderParts) (program bytes : List ℕ) → HeaderBytes h program bytes
     → IsHeader h × FitsFields h × HasSmallOffsets h × LengthsFit h program

@@ -12,7 +12,7 @@ use Rattle.lnt_wire.proofs.LengthLaws.{length-number_bytes, same_number_front}
 use Rattle.lnt_wire.proofs.ValueLaws.{offset_width}
 use Rattle.lnt_header.specs.HeaderRules.{IsAddressSize}
 use Rattle.lnt_header.specs.Laws.Bytes.{byte_code}
-use Rattle.lnt_header_bytes.specs.StartBytes.{AddressSizeBytes, BehindSize, CountedBytes, IsCountedFault, IsSelectorFault, IsSizeFault}
+use Rattle.lnt_header_bytes.specs.StartBytes.{AddressSizeBytes, AfterSize, CountedBytes, IsCountedFault, IsSelectorFault, IsSizeFault}
 use Rattle.lnt_header_bytes.specs.StartBytes.{IsStartFault, SelectorBytes, StartBytes}
 use Rattle.lnt_header_bytes.specs.StartBytes.IsStartFault.{address_size, selector, header_length}
 use Rattle.lnt_header.specs.FirstFaults.{FirstOf}
@@ -136,7 +136,7 @@ selector_code : IsCode SelectorBytes
 selector_code = record { one = λ m n x y r s p q e. (p.0 ∙ sym q.0, p.1 ∙ sym q.1) }
 
 selector_on : (format : Format) (order : Order) (size : ℕ)
-    → IsOneFault (BehindSize format order size) (FirstOf SelectorBytes (IsHere IsSelectorFault) (λ _. IsHere (IsCountedFault format order)))
+    → IsOneFault (AfterSize format order size) (FirstOf SelectorBytes (IsHere IsSelectorFault) (λ _. IsHere (IsCountedFault format order)))
 selector_on format order size =
     first_of SelectorBytes (IsHere IsSelectorFault) (λ _. IsHere (IsCountedFault format order)) selector_code
     (λ _. CountedBytes format order) (field_fault SelectorBytes IsSelectorFault selector_fault)
@@ -146,5 +146,5 @@ pub start_fault : (format : Format) (order : Order) → IsOneFault (StartBytes f
 start_fault format order =
     fault_as (StartBytes format order) (FirstOfStart format order) (IsStartFault format order) (first_of_start format order)
     (first_of AddressSizeBytes (IsHere IsSizeFault)
-    (λ _. FirstOf SelectorBytes (IsHere IsSelectorFault) (λ _. IsHere (IsCountedFault format order))) size_code (BehindSize format order)
+    (λ _. FirstOf SelectorBytes (IsHere IsSelectorFault) (λ _. IsHere (IsCountedFault format order))) size_code (AfterSize format order)
     (field_fault AddressSizeBytes IsSizeFault size_fault) (selector_on format order))

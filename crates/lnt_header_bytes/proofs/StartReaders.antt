@@ -16,7 +16,7 @@ use Rattle.lnt_wire.proofs.ValueLaws.{offset_width}
 use Rattle.lnt_header.specs.HeaderRules.{IsAddressSize}
 use Rattle.lnt_header.specs.Laws.Bytes.{byte_code, one_digit}
 use Rattle.lnt_header_bytes.specs.StartBytes.{AddressSizeBytes, IsSizeFault, SelectorBytes, IsSelectorFault, CountedBytes, IsCountedFault}
-use Rattle.lnt_header_bytes.specs.StartBytes.{BehindSize, StartBytes, IsStartFault}
+use Rattle.lnt_header_bytes.specs.StartBytes.{AfterSize, StartBytes, IsStartFault}
 use Rattle.lnt_header_bytes.specs.StartBytes.IsStartFault.{address_size, selector, header_length}
 use Rattle.lnt_header.specs.Joins.{Both}
 use Rattle.lnt_header.specs.Laws.Readers.{any_local, nothing_asked, moved_field, refuses_field, reads_map, reads_both, refuses_first}
@@ -125,8 +125,8 @@ refuses_counted format n old middle short fault r s place reason = record {
       sym (append_assoc p.front p.back more) ∙ ap (λ (z : List ℕ). z ++ more) (sym p.joined) ∙ e ∙ r.whole in
       let found = (number_code old.order (offset_size format) (offset_width format)).one (length counted) n p.front r.spelling
       (p.back ++ more) middle.rest p.first r.spelled all in
-      let behind : p.back ++ more ≡ middle.rest = same_rest p.front r.spelling (p.back ++ more) middle.rest found.1 all in
-      omega (arith, found.0, s.reason.short, ap length behind, length-append p.back more, ap length p.second);
+      let past : p.back ++ more ≡ middle.rest = same_rest p.front r.spelling (p.back ++ more) middle.rest found.1 all in
+      omega (arith, found.0, s.reason.short, ap length past, length-append p.back more, ap length p.second);
 }
 
 -- ---- the three
@@ -141,14 +141,14 @@ pub size_refused : (format : Format) (old : At) (fault : Fault) → RefusesField
     → Refuses (IsStartFault format old.order) (StartBytes format old.order) old fault
 size_refused format old fault t =
     let at : Refuses (IsStartFault format old.order) AddressSizeBytes old fault = refuses_field old fault (λ so. address_size refl so) t in
-    refuses_first AddressSizeBytes (BehindSize format old.order) old fault at
+    refuses_first AddressSizeBytes (AfterSize format old.order) old fault at
 
 pub selector_refused : (format : Format) (size : ℕ) (old m1 : At) (fault : Fault) → Reads AddressSizeBytes size old m1
     → RefusesField IsSelectorFault SelectorBytes m1 fault
     → Refuses (IsStartFault format old.order) (StartBytes format old.order) old fault
 selector_refused format size old m1 fault r t =
     let at = nothing_asked SelectorBytes m1 fault t.place t.none in
-    let all = refuses_second AddressSizeBytes (BehindSize format) size old m1 fault any_local size_code r
+    let all = refuses_second AddressSizeBytes (AfterSize format) size old m1 fault any_local size_code r
     (refuses_first SelectorBytes (λ _. CountedBytes format m1.order) m1 fault at) in
     moved_field (StartBytes format old.order) size old m1 fault r t.place (selector size r.spelled.0 r.spelled.1 t.reason) all.none
 
@@ -161,7 +161,7 @@ pub counted_refused : (format : Format) (size zero_size : ℕ) (old m1 m2 : At) 
     → Refuses (IsStartFault format old.order) (StartBytes format old.order) old fault
 counted_refused format size zero_size old m1 m2 fault r s t =
     let at = nothing_asked (CountedBytes format m2.order) m2 fault t.place t.none in
-    let all = refuses_second AddressSizeBytes (BehindSize format) size old m1 fault any_local size_code r
+    let all = refuses_second AddressSizeBytes (AfterSize format) size old m1 fault any_local size_code r
     (refuses_second SelectorBytes (λ order _. CountedBytes format order) zero_size m1 m2 fault any_local selector_code s at) in
     let both = reads_both AddressSizeBytes (λ _ _. SelectorBytes) size zero_size old m1 m2 r s in
     let so : IsCountedFault format old.order fault.reason m2.rest =
@@ -173,5 +173,5 @@ pub start_read : (format : Format) (size zero_size : ℕ) (counted : List ℕ) (
     → Reads SelectorBytes zero_size m1 m2
     → Reads (CountedBytes format m2.order) counted m2 new → Reads (StartBytes format old.order) (size, (zero_size, counted)) old new
 start_read format size zero_size counted old m1 m2 new r s t =
-    reads_both AddressSizeBytes (BehindSize format) size (zero_size, counted) old m1 new r
+    reads_both AddressSizeBytes (AfterSize format) size (zero_size, counted) old m1 new r
     (reads_both SelectorBytes (λ order _. CountedBytes format order) zero_size counted m1 m2 new s t)

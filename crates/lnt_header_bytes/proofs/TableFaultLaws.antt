@@ -28,7 +28,7 @@ use Rattle.lnt_header.specs.Laws.Readers.{none_first, none_second}
 use Rattle.lnt_header_bytes.specs.Laws.Tables.{entry_code, pair_code}
 use Rattle.lnt_header_bytes.specs.Laws.Values.{none_values}
 use Rattle.lnt_header_bytes.specs.TableBytes.{EntryBytes, PairBytes, TableOf, ValuesBytes}
-use Rattle.lnt_header_bytes.specs.TableFaults.{BehindCountFault, BehindPairsFault, IsCodeFault, IsCountFault, IsEntriesFault, IsEntryFault}
+use Rattle.lnt_header_bytes.specs.TableFaults.{AfterCountFault, AfterPairsFault, IsCodeFault, IsCountFault, IsEntriesFault, IsEntryFault}
 use Rattle.lnt_header_bytes.specs.TableFaults.{IsNumberFault, IsPairFault, IsPairsFault, IsSizeFault, IsTableFault}
 use Rattle.lnt_header_bytes.specs.TableFaults.IsCodeFault.{no_code, unknown}
 use Rattle.lnt_header_bytes.specs.TableFaults.IsEntryFault.{no_value}
@@ -77,62 +77,62 @@ pairs_fault count = several_of PairBytes IsPairFault pair_code pair_fault count
 entry_none : (format : Format) (order : Order) (pairs : List Pair) (reason : Reason) (before left : List ℕ)
     → IsEntryFault format order pairs reason before left
     → NoneSpelled (EntryBytes format order pairs) (before ++ left)
-entry_none format order pairs reason before left (no_value done pair behind values is p h) entry x more q e =
-    none_values format order done pair behind values before left (before ++ left) p refl
+entry_none format order pairs reason before left (no_value done pair past values is p h) entry x more q e =
+    none_values format order done pair past values before left (before ++ left) p refl
     ((value_fault format order pair.form).none reason left h) entry.values x more
     (subst (λ (ps : List Pair). ValuesBytes format order ps entry.values x) is q) e
 
 -- after values that are there the fault of the next is one
-values_one : (format : Format) (order : Order) (done done' : List Pair) (pair pair' : Pair) (behind behind' : List Pair)
+values_one : (format : Format) (order : Order) (done done' : List Pair) (pair pair' : Pair) (past past' : List Pair)
     (values values' : List FormValue) (reason other : Reason)
-    (before before' left left' : List ℕ) → done ++ pair ∷ behind ≡ done' ++ pair' ∷ behind' → ValuesBytes format order done values before
+    (before before' left left' : List ℕ) → done ++ pair ∷ past ≡ done' ++ pair' ∷ past' → ValuesBytes format order done values before
     → ValuesBytes format order done' values' before'
     → IsValueFault format order pair.form reason left → IsValueFault format order pair'.form other left' → before ++ left ≡ before' ++ left'
     → (reason ≡ other) × (before ≡ before')
-values_one format order [] [] pair pair' behind behind' [] [] reason other before before' left left' same p q h k e =
+values_one format order [] [] pair pair' past past' [] [] reason other before before' left left' same p q h k e =
     let one : pair ≡ pair' = cc in
     let rest : left ≡ left' = ap (λ (z : List ℕ). z ++ left) (sym p) ∙ e ∙ ap (λ (z : List ℕ). z ++ left') q in
     let here : IsValueFault format order pair'.form reason left' =
     subst (λ (z : List ℕ). IsValueFault format order pair'.form reason z) rest
     (subst (λ (r : Pair). IsValueFault format order r.form reason left) one h) in
     ((value_fault format order pair'.form).one reason other left' here k, p ∙ sym q)
-values_one format order [] (d' ∷ done') pair pair' behind behind' [] (v' ∷ values') reason other before before' left left' same p q h k e =
+values_one format order [] (d' ∷ done') pair pair' past past' [] (v' ∷ values') reason other before before' left left' same p q h k e =
     let one : pair ≡ d' = cc in
     let all : q.1.front ++ (q.1.back ++ left') ≡ left =
     sym (append_assoc q.1.front q.1.back left') ∙ ap (λ (z : List ℕ). z ++ left') (sym q.1.joined) ∙ sym e
     ∙ ap (λ (z : List ℕ). z ++ left) p in
     absurd ((value_fault format order pair.form).none reason left h v' q.1.front (q.1.back ++ left')
     (record { form_is = q.0 ∙ ap (λ (r : Pair). r.form) (sym one); spelled = q.1.first }) all)
-values_one format order (d ∷ done) [] pair pair' behind behind' (v ∷ values) [] reason other before before' left left' same p q h k e =
+values_one format order (d ∷ done) [] pair pair' past past' (v ∷ values) [] reason other before before' left left' same p q h k e =
     let one : pair' ≡ d = cc in
     let all : p.1.front ++ (p.1.back ++ left) ≡ left' =
     sym (append_assoc p.1.front p.1.back left) ∙ ap (λ (z : List ℕ). z ++ left) (sym p.1.joined) ∙ e ∙ ap (λ (z : List ℕ). z ++ left') q in
     absurd ((value_fault format order pair'.form).none other left' k v p.1.front (p.1.back ++ left)
     (record { form_is = p.0 ∙ ap (λ (r : Pair). r.form) (sym one); spelled = p.1.first }) all)
-values_one format order (d ∷ done) (d' ∷ done') pair pair' behind behind' (v ∷ values) (v' ∷ values') reason other before before' left left'
+values_one format order (d ∷ done) (d' ∷ done') pair pair' past past' (v ∷ values) (v' ∷ values') reason other before before' left left'
     same p q h k e =
     let heads : d ≡ d' = cc in
-    let tails : done ++ pair ∷ behind ≡ done' ++ pair' ∷ behind' = cc in
+    let tails : done ++ pair ∷ past ≡ done' ++ pair' ∷ past' = cc in
     let one =
     peel_by v v' before before' left left'
     (λ a b c f. same_value format order v v' a b c f (p.0 ∙ ap (λ (r : Pair). r.form) heads ∙ sym q.0)) p.1 q.1 e in
     let rest =
-    values_one format order done done' pair pair' behind behind' values values' reason other p.1.back q.1.back left left' tails p.1.second
-    q.1.second h k one.behind in
+    values_one format order done done' pair pair' past past' values values' reason other p.1.back q.1.back left left' tails p.1.second
+    q.1.second h k one.past in
     (rest.0, p.1.joined ∙ ap (λ (z : List ℕ). z ++ p.1.back) one.bytes ∙ ap (λ (z : List ℕ). q.1.front ++ z) rest.1 ∙ sym q.1.joined)
-values_one format order [] done' pair pair' behind behind' (v ∷ values) values' reason other before before' left left' same p q h k e =
+values_one format order [] done' pair pair' past past' (v ∷ values) values' reason other before before' left left' same p q h k e =
     absurd p
-values_one format order (d ∷ done) done' pair pair' behind behind' [] values' reason other before before' left left' same p q h k e =
+values_one format order (d ∷ done) done' pair pair' past past' [] values' reason other before before' left left' same p q h k e =
     absurd p
-values_one format order done [] pair pair' behind behind' values (v' ∷ values') reason other before before' left left' same p q h k e =
+values_one format order done [] pair pair' past past' values (v' ∷ values') reason other before before' left left' same p q h k e =
     absurd q
-values_one format order done (d' ∷ done') pair pair' behind behind' values [] reason other before before' left left' same p q h k e =
+values_one format order done (d' ∷ done') pair pair' past past' values [] reason other before before' left left' same p q h k e =
     absurd q
 
 entry_one : (format : Format) (order : Order) (pairs : List Pair) → AreOne (IsEntryFault format order pairs)
-entry_one format order pairs reason other before before' left left' (no_value done pair behind values is p h)
-    (no_value done' pair' behind' values' is' q k) e =
-    values_one format order done done' pair pair' behind behind' values values' reason other before before' left left' (sym is ∙ is') p q h
+entry_one format order pairs reason other before before' left left' (no_value done pair past values is p h)
+    (no_value done' pair' past' values' is' q k) e =
+    values_one format order done done' pair pair' past past' values values' reason other before before' left left' (sym is ∙ is') p q h
     k e
 
 entry_fault : (format : Format) (order : Order) (pairs : List Pair)
@@ -166,21 +166,21 @@ size_one pairs reason other before before' left left' (empty n y rest is nothing
 -- without pairs no entry has a fault
 some_pairs : (format : Format) (order : Order) (pairs : List Pair) (n : ℕ) (reason : Reason) (before left : List ℕ)
     → IsEntriesFault format order pairs n reason before left → pairs ≡ [] → ⊥
-some_pairs format order pairs n reason before left (next entries front behind lt each joined (no_value done pair later values is p h)) none
+some_pairs format order pairs n reason before left (next entries front past lt each joined (no_value done pair later values is p h)) none
     =
     omega (arith, ap length is, ap length none, length-append done (pair ∷ later))
 
-sized_one : (format : Format) (order : Order) (pairs : List Pair) → AreOne (BehindPairsFault format order pairs)
+sized_one : (format : Format) (order : Order) (pairs : List Pair) → AreOne (AfterPairsFault format order pairs)
 sized_one format order pairs =
     first_one UnsignedLeb (IsSizeFault pairs) (IsEntriesFault format order pairs) unsigned_code (size_one pairs)
-    (λ reason other n before left front behind left' h p k e. elim h [
-      | no_size missing ↦ number_at.none reason before left missing n front (behind ++ left') p (sym e)
-      | empty m y rest is nothing none q joined some ↦ some_pairs format order pairs n other behind left' k none
+    (λ reason other n before left front past left' h p k e. elim h [
+      | no_size missing ↦ number_at.none reason before left missing n front (past ++ left') p (sym e)
+      | empty m y rest is nothing none q joined some ↦ some_pairs format order pairs n other past left' k none
     ])
     (λ n. (entries_fault format order pairs n).one)
 
 sized_none : (format : Format) (order : Order) (pairs : List Pair) (reason : Reason) (before left : List ℕ)
-    → BehindPairsFault format order pairs reason before left
+    → AfterPairsFault format order pairs reason before left
     → NoneSpelled (SizeOn format order pairs) (before ++ left)
 sized_none format order pairs reason before left (first (no_size h)) =
     none_first UnsignedLeb (EntriesOf format order pairs) (before ++ left) (number_at.none reason before left h)
@@ -188,13 +188,13 @@ sized_none format order pairs reason before left (first (empty n y rest is nothi
     none_second UnsignedLeb (EntriesOf format order pairs) unsigned_code n y (before ++ left) rest q
     (ap (λ (z : List ℕ). z ++ left) nothing ∙ joined)
     (λ entries x more p e. omega (arith, some, p.0 none))
-sized_none format order pairs reason before left (second n front behind p joined h) =
-    none_second UnsignedLeb (EntriesOf format order pairs) unsigned_code n front (before ++ left) (behind ++ left) p
-    (ap (λ (z : List ℕ). z ++ left) joined ∙ append_assoc front behind left)
-    (λ entries x more q e. (entries_fault format order pairs n).none reason behind left h entries x more q.1 e)
+sized_none format order pairs reason before left (second n front past p joined h) =
+    none_second UnsignedLeb (EntriesOf format order pairs) unsigned_code n front (before ++ left) (past ++ left) p
+    (ap (λ (z : List ℕ). z ++ left) joined ∙ append_assoc front past left)
+    (λ entries x more q e. (entries_fault format order pairs n).none reason past left h entries x more q.1 e)
 
 sized_fault : (format : Format) (order : Order) (pairs : List Pair)
-    → IsOneFault (SizeOn format order pairs) (BehindPairsFault format order pairs)
+    → IsOneFault (SizeOn format order pairs) (AfterPairsFault format order pairs)
 sized_fault format order pairs = record { none = sized_none format order pairs; one = sized_one format order pairs }
 
 -- ---- tables
@@ -205,9 +205,9 @@ KindsOn format order n v bytes = Both (Several n PairBytes) (SizeOn format order
 abbrev CountOn : Format → Order → ℕ × (List Pair × (ℕ × List Entry)) → List ℕ → Type 0
 CountOn format order v bytes = Both (NumberBytes order 1) (KindsOn format order) v bytes
 
-kinds_fault : (format : Format) (order : Order) (n : ℕ) → IsOneFault (KindsOn format order n) (BehindCountFault format order n)
+kinds_fault : (format : Format) (order : Order) (n : ℕ) → IsOneFault (KindsOn format order n) (AfterCountFault format order n)
 kinds_fault format order n =
-    first_of (Several n PairBytes) (IsPairsFault n) (BehindPairsFault format order) (several_code PairBytes n pair_code)
+    first_of (Several n PairBytes) (IsPairsFault n) (AfterPairsFault format order) (several_code PairBytes n pair_code)
     (SizeOn format order) (pairs_fault n) (sized_fault format order)
 
 table_part : List Pair × List Entry → ℕ × (List Pair × (ℕ × List Entry))
@@ -247,5 +247,5 @@ count_at order = field_fault (NumberBytes order 1) (IsCutShort 1) (number_fault 
 pub table_fault : (format : Format) (order : Order) → IsOneFault (TableOf format order) (IsTableFault format order)
 table_fault format order =
     fault_of_part (CountOn format order) (TableOf format order) (IsTableFault format order) table_part (of_table format order)
-    (first_of (NumberBytes order 1) IsCountFault (BehindCountFault format order) (number_code order 1 width_1) (KindsOn format order)
+    (first_of (NumberBytes order 1) IsCountFault (AfterCountFault format order) (number_code order 1 width_1) (KindsOn format order)
     (count_at order) (kinds_fault format order))

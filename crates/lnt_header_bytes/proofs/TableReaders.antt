@@ -26,7 +26,7 @@ use Rattle.lnt_header.specs.declared.header.Pair.{Pair}
 use Rattle.lnt_header_bytes.specs.TableBytes.{PairBytes, ValuesBytes, EntryBytes, TableOf}
 use Rattle.lnt_header.specs.FirstFaults.FirstOf.{first}
 use Rattle.lnt_header_bytes.specs.TableFaults.{IsNumberFault, IsCodeFault, IsPairFault, IsPairsFault, IsEntryFault, IsEntriesFault}
-use Rattle.lnt_header_bytes.specs.TableFaults.{IsSizeFault, BehindPairsFault, BehindCountFault, IsTableFault}
+use Rattle.lnt_header_bytes.specs.TableFaults.{IsSizeFault, AfterPairsFault, AfterCountFault, IsTableFault}
 use Rattle.lnt_header_bytes.specs.TableFaults.IsCodeFault.{no_code}
 use Rattle.lnt_header_bytes.specs.TableFaults.IsEntryFault.{no_value}
 use Rattle.lnt_header_bytes.specs.TableFaults.IsSizeFault.{no_size}
@@ -124,18 +124,18 @@ refuses_entries format pairs n entries old middle fault r lt s = several_refused
 
 -- ---- values
 
-pub refuses_values : (format : Format) (pairs : List Pair) (pair : Pair) (behind : List Pair) (values : List FormValue) (old middle : At)
+pub refuses_values : (format : Format) (pairs : List Pair) (pair : Pair) (past : List Pair) (values : List FormValue) (old middle : At)
     (fault : Fault) → Reads (ValuesBytes format old.order pairs) values old middle
     → RefusesField (IsValueFault format middle.order pair.form) (ValueBytes format middle.order pair.form) middle fault
-    → Refuses (IsEntryFault format old.order (pairs ++ pair ∷ behind)) (ValuesBytes format old.order (pairs ++ pair ∷ behind)) old fault
-refuses_values format pairs pair behind values old middle fault r s =
+    → Refuses (IsEntryFault format old.order (pairs ++ pair ∷ past)) (ValuesBytes format old.order (pairs ++ pair ∷ past)) old fault
+refuses_values format pairs pair past values old middle fault r s =
     let none : NoneSpelled (ValueBytes format old.order pair.form) middle.rest =
     subst (λ (o : Order). NoneSpelled (ValueBytes format o pair.form) middle.rest) r.order s.none in
     let so : IsValueFault format old.order pair.form fault.reason middle.rest =
     subst (λ (o : Order). IsValueFault format o pair.form fault.reason middle.rest) r.order s.reason in
-    moved_field (ValuesBytes format old.order (pairs ++ pair ∷ behind)) values old middle fault r s.place
-    (no_value pairs pair behind values refl r.spelled so)
-    (none_values format old.order pairs pair behind values r.spelling middle.rest old.rest r.spelled r.whole none)
+    moved_field (ValuesBytes format old.order (pairs ++ pair ∷ past)) values old middle fault r s.place
+    (no_value pairs pair past values refl r.spelled so)
+    (none_values format old.order pairs pair past values r.spelling middle.rest old.rest r.spelled r.whole none)
 
 pub refuses_values_at : (format : Format) (pairs : List Pair) (i : ℕ) (d : Pair) (values : List FormValue) (old middle : At) (fault : Fault)
     → i < length pairs
@@ -251,31 +251,31 @@ refuses_count format old fault r =
     refused format old fault (first_refused (NumberBytes old.order 1) (KindsOn format old.order) old fault
     (refuses_field old fault (λ so. (refl, so)) r))
 
-behind_count : (format : Format) (n : ℕ) (old m1 : At) (fault : Fault) → Reads (NumberBytes old.order 1) n old m1
-    → Refuses (BehindCountFault format m1.order n) (KindsOn format m1.order n) m1 fault
+after_count : (format : Format) (n : ℕ) (old m1 : At) (fault : Fault) → Reads (NumberBytes old.order 1) n old m1
+    → Refuses (AfterCountFault format m1.order n) (KindsOn format m1.order n) m1 fault
     → Refuses (IsTableFault format old.order) (TableOf format old.order) old fault
-behind_count format n old m1 fault r s = refused format old fault
-    (second_refused (BehindCountFault format) (NumberBytes old.order 1) (KindsOn format) n old m1 fault (byte_code old.order) r s)
+after_count format n old m1 fault r s = refused format old fault
+    (second_refused (AfterCountFault format) (NumberBytes old.order 1) (KindsOn format) n old m1 fault (byte_code old.order) r s)
 
 pub refuses_kinds : (format : Format) (n : ℕ) (old m1 : At) (fault : Fault) → Reads (NumberBytes old.order 1) n old m1
     → Refuses (IsPairsFault n) (Several n PairBytes) m1 fault
     → Refuses (IsTableFault format old.order) (TableOf format old.order) old fault
 refuses_kinds format n old m1 fault r s =
-    behind_count format n old m1 fault r (first_refused (Several n PairBytes) (SizeOn format m1.order) m1 fault s)
+    after_count format n old m1 fault r (first_refused (Several n PairBytes) (SizeOn format m1.order) m1 fault s)
 
-behind_kinds : (format : Format) (n : ℕ) (pairs : List Pair) (old m1 m2 : At) (fault : Fault) → Reads (NumberBytes old.order 1) n old m1
+after_kinds : (format : Format) (n : ℕ) (pairs : List Pair) (old m1 m2 : At) (fault : Fault) → Reads (NumberBytes old.order 1) n old m1
     → Reads (Several n PairBytes) pairs m1 m2
-    → Refuses (BehindPairsFault format m2.order pairs) (SizeOn format m2.order pairs) m2 fault
+    → Refuses (AfterPairsFault format m2.order pairs) (SizeOn format m2.order pairs) m2 fault
     → Refuses (IsTableFault format old.order) (TableOf format old.order) old fault
-behind_kinds format n pairs old m1 m2 fault r s t = behind_count format n old m1 fault r
-    (second_refused (BehindPairsFault format) (Several n PairBytes) (SizeOn format) pairs m1 m2 fault (kinds_code n) s t)
+after_kinds format n pairs old m1 m2 fault r s t = after_count format n old m1 fault r
+    (second_refused (AfterPairsFault format) (Several n PairBytes) (SizeOn format) pairs m1 m2 fault (kinds_code n) s t)
 
 pub refuses_size : (format : Format) (n : ℕ) (pairs : List Pair) (old m1 m2 : At) (fault : Fault) → Reads (NumberBytes old.order 1) n old m1
     → Reads (Several n PairBytes) pairs m1 m2
     → RefusesField (IsLebFault IsLargeUnsigned) UnsignedLeb m2 fault
     → Refuses (IsTableFault format old.order) (TableOf format old.order) old fault
 refuses_size format n pairs old m1 m2 fault r s t =
-    behind_kinds format n pairs old m1 m2 fault r s
+    after_kinds format n pairs old m1 m2 fault r s
     (first_refused UnsignedLeb (EntriesOf format m2.order pairs) m2 fault (refuses_field m2 fault (λ so. no_size (refl, so)) t))
 
 pub refuses_rest : (format : Format) (n size : ℕ) (pairs : List Pair) (old m1 m2 m3 : At) (fault : Fault)
@@ -283,7 +283,7 @@ pub refuses_rest : (format : Format) (n size : ℕ) (pairs : List Pair) (old m1 
     → Reads UnsignedLeb size m2 m3 → Refuses (IsEntriesFault format m3.order pairs size) (Several size (EntryBytes format m3.order pairs))
     m3 fault → Refuses (IsTableFault format old.order) (TableOf format old.order) old fault
 refuses_rest format n size pairs old m1 m2 m3 fault r s t u =
-    behind_kinds format n pairs old m1 m2 fault r s
+    after_kinds format n pairs old m1 m2 fault r s
     (second_refused (λ order. IsEntriesFault format order pairs) UnsignedLeb (λ order. EntriesOf format order pairs) size m2 m3 fault
     unsigned_code t
     (refuses_map (Several size (EntryBytes format m3.order pairs)) (EntriesOf format m3.order pairs size) (λ es. es) m3 fault (λ y x p. p.1)
@@ -300,10 +300,10 @@ refuses_empty format n size pairs old m1 m2 m3 fault r s t zero_pairs some place
     sym (append_assoc p.front p.back more) ∙ ap (λ (z : List ℕ). z ++ more) (sym p.joined) ∙ e ∙ t.whole in
     let found = unsigned_code.one v.0 size p.front t.spelling (p.back ++ more) m3.rest p.first t.spelled all in
     omega (arith, found.0, p.second.0 empty, some) in
-    let at_size : Refuses (BehindPairsFault format m2.order pairs) (SizeOn format m2.order pairs) m2 fault =
+    let at_size : Refuses (AfterPairsFault format m2.order pairs) (SizeOn format m2.order pairs) m2 fault =
     refuses_here m2 fault EmptyFormat place reason (first
     (IsSizeFault.empty size t.spelling m3.rest refl refl empty t.spelled t.whole some)) no_size in
-    behind_kinds format n pairs old m1 m2 fault r s at_size
+    after_kinds format n pairs old m1 m2 fault r s at_size
 
 pub reads_table : (format : Format) (n size : ℕ) (pairs : List Pair) (entries : List Entry) (old m1 m2 m3 new : At)
     → Reads (NumberBytes old.order 1) n old m1 → Reads (Several n PairBytes) pairs m1 m2

@@ -78,7 +78,7 @@ values_begin format order (suc n) (pair ∷ pairs) [] vs x y r s p q e = absurd 
 values_begin format order (suc n) (pair ∷ pairs) (u ∷ us) [] x y r s p q e = absurd q
 values_begin format order (suc n) (pair ∷ pairs) (u ∷ us) (v ∷ vs) x y r s p q e =
     let one = peel_by v u x y r s (λ a b c d. same_value format order v u a b c d (q.0 ∙ sym p.0)) q.1 p.1 e in
-    let rest = values_begin format order n pairs us vs q.1.back p.1.back r s p.1.second q.1.second one.behind in
+    let rest = values_begin format order n pairs us vs q.1.back p.1.back r s p.1.second q.1.second one.past in
     let heads : v ≡ u = one.value in
     let tails : vs ≡ us ++ rest.0 = rest.1 in
     (rest.0, cc)
@@ -187,10 +187,10 @@ entries_done table format order count n at old new n_is le p =
     subst (λ (l : List Entry). Appends (Each (EntryParts format order)) l old new) same p.put
 
 -- an entry that has no spelling
-each_behind : {X : Type 0} (P : X → List ℕ → Type 0) (us : List X) (vs : List X) (bytes : List ℕ) → Each P (us ++ vs) bytes
+each_past : {X : Type 0} (P : X → List ℕ → Type 0) (us : List X) (vs : List X) (bytes : List ℕ) → Each P (us ++ vs) bytes
     → (x : List ℕ) × Each P vs x
-each_behind P [] vs bytes p = (bytes, p)
-each_behind P (u ∷ us) vs bytes p = each_behind P us vs p.back p.second
+each_past P [] vs bytes p = (bytes, p)
+each_past P (u ∷ us) vs bytes p = each_past P us vs p.back p.second
 
 left_refused : (table : BorrowedTable) (format : Format) (order : Order) (count : ℕ) (done left : List Entry) (at : At)
     (fault : EncodeFault) → table.entries ≡ done ++ left → length done ≡ count → count < length table.entries
@@ -208,9 +208,9 @@ pub entries_refused : (table : BorrowedTable) (format : Format) (order : Order) 
     → RefusesEntry table.format table.pairs format order at fault → RefusedPut (Each (EntryParts format order)) table.entries fault
 entries_refused table format order count at old middle fault lt p refused = record {
   none = λ large bytes t.
-      let behind = each_behind (EntryParts format order) p.done p.left bytes
+      let past = each_past (EntryParts format order) p.done p.left bytes
       (subst (λ (l : List Entry). Each (EntryParts format order) l bytes) p.all t) in
-      left_refused table format order count p.done p.left at fault p.all p.count_is lt p.order_is p.rest refused large behind.0 behind.1;
+      left_refused table format order count p.done p.left at fault p.all p.count_is lt p.order_is p.rest refused large past.0 past.1;
 }
 
 -- ---- the whole unit

@@ -22,7 +22,7 @@ use Rattle.lnt_header.specs.Joins.{Each, Several}
 use Rattle.lnt_header.specs.Laws.Readers.{cut_later}
 use Rattle.lnt_header.specs.Laws.Bytes.{one_digit}
 use Rattle.lnt_header_bytes.specs.TableBytes.{PairBytes}
-use Rattle.lnt_header_bytes.specs.TableFaults.{IsNumberFault, IsCodeFault, IsPairFault, IsEntryFault, BehindPairsFault, IsTableFault}
+use Rattle.lnt_header_bytes.specs.TableFaults.{IsNumberFault, IsCodeFault, IsPairFault, IsEntryFault, AfterPairsFault, IsTableFault}
 use Rattle.lnt_header_bytes.specs.TableFaults.IsCodeFault.{no_code, unknown}
 use Rattle.lnt_header_bytes.specs.TableFaults.IsEntryFault.{no_value}
 use Rattle.lnt_header_bytes.specs.TableFaults.IsSizeFault.{no_size, empty}
@@ -98,10 +98,10 @@ value_so format order forms.Block2 reason bytes h = sized_so order 2 reason byte
 value_so format order forms.Block4 reason bytes h = sized_so order 4 reason bytes (omega arith) h
 
 -- after bytes of which nothing is asked
-pub wrong_behind : (reason : Reason) (front behind before left : List ℕ) → before ≡ front ++ behind → IsWrongTable reason behind left
+pub wrong_after : (reason : Reason) (front past before left : List ℕ) → before ≡ front ++ past → IsWrongTable reason past left
     → IsWrongTable reason before left
-wrong_behind reason front behind before left e h =
-    subst (λ (z : List ℕ). IsWrongTable reason z left) (sym e) (later reason front behind left h)
+wrong_after reason front past before left e h =
+    subst (λ (z : List ℕ). IsWrongTable reason z left) (sym e) (later reason front past left h)
 
 wrong_here : (reason : Reason) (before left : List ℕ) → before ≡ [] → IsWrongTable reason [] left → IsWrongTable reason before left
 wrong_here reason before left e h = subst (λ (z : List ℕ). IsWrongTable reason z left) (sym e) h
@@ -116,41 +116,41 @@ wrong_code reason before left (unknown code spelling rest e nothing p joined u) 
 
 wrong_pair : (reason : Reason) (before left : List ℕ) → IsPairFault reason before left → IsWrongTable reason before left
 wrong_pair reason before left (first h) = wrong_number reason before left h
-wrong_pair reason before left (second content front behind p e h) =
-    wrong_behind reason front behind before left e (wrong_code reason behind left h)
+wrong_pair reason before left (second content front past p e h) =
+    wrong_after reason front past before left e (wrong_code reason past left h)
 
 wrong_entry : (format : Format) (order : Order) (pairs : List Pair) (reason : Reason) (before left : List ℕ)
     → IsEntryFault format order pairs reason before left → IsWrongTable reason before left
-wrong_entry format order pairs reason before left (no_value done pair behind values e p h) =
-    wrong_behind reason before [] before left (sym (append-nil before)) (value_so format order pair.form reason left h)
+wrong_entry format order pairs reason before left (no_value done pair past values e p h) =
+    wrong_after reason before [] before left (sym (append-nil before)) (value_so format order pair.form reason left h)
 
 no_pairs : (pairs : List Pair) (x : List ℕ) → Each PairBytes pairs x → pairs ≡ [] → x ≡ []
 no_pairs [] x p e = p
 no_pairs (pair ∷ pairs) x p e = absurd cc
 
 -- after the pairs of a format, where the byte that counts them stands before them
-wrong_behind_pairs : (format : Format) (order : Order) (n : ℕ) (pairs : List Pair) (count kinds behind left : List ℕ) (reason : Reason)
+wrong_after_pairs : (format : Format) (order : Order) (n : ℕ) (pairs : List Pair) (count kinds past left : List ℕ) (reason : Reason)
     → NumberBytes order 1 n count → Several n PairBytes pairs kinds
-    → BehindPairsFault format order pairs reason behind left → IsWrongTable reason (count ++ (kinds ++ behind)) left
-wrong_behind_pairs format order n pairs count kinds behind left reason p q (first (no_size h)) =
-    later reason count (kinds ++ behind) left (later reason kinds behind left (wrong_number reason behind left h))
-wrong_behind_pairs format order n pairs count kinds behind left reason p q (first (empty m spelling rest e nothing none u joined some)) =
+    → AfterPairsFault format order pairs reason past left → IsWrongTable reason (count ++ (kinds ++ past)) left
+wrong_after_pairs format order n pairs count kinds past left reason p q (first (no_size h)) =
+    later reason count (kinds ++ past) left (later reason kinds past left (wrong_number reason past left h))
+wrong_after_pairs format order n pairs count kinds past left reason p q (first (empty m spelling rest e nothing none u joined some)) =
     let zero_pairs : n ≡ 0 = sym q.0 ∙ ap length none in
     let digit : count ≡ 0 ∷ [] = p.spelled ∙ one_digit order n p.fits ∙ ap (λ (k : ℕ). k ∷ []) zero_pairs in
     let no_kinds : kinds ≡ [] = no_pairs pairs kinds q.1 none in
-    let before : count ++ (kinds ++ behind) ≡ 0 ∷ [] = cc (digit, no_kinds, nothing) in
-    subst (λ (c : Reason). IsWrongTable c (count ++ (kinds ++ behind)) left) (sym e) (m, spelling, rest, [], joined, u, some, before)
-wrong_behind_pairs format order n pairs count kinds behind left reason p q
+    let before : count ++ (kinds ++ past) ≡ 0 ∷ [] = cc (digit, no_kinds, nothing) in
+    subst (λ (c : Reason). IsWrongTable c (count ++ (kinds ++ past)) left) (sym e) (m, spelling, rest, [], joined, u, some, before)
+wrong_after_pairs format order n pairs count kinds past left reason p q
     (second size spelling more u e (next entries done here lt each e2 h)) =
-    let at_entry = wrong_behind reason done here more left e2 (wrong_entry format order pairs reason here left h) in
-    later reason count (kinds ++ behind) left (later reason kinds behind left (wrong_behind reason spelling more behind left e at_entry))
+    let at_entry = wrong_after reason done here more left e2 (wrong_entry format order pairs reason here left h) in
+    later reason count (kinds ++ past) left (later reason kinds past left (wrong_after reason spelling more past left e at_entry))
 
 pub wrong_table : (format : Format) (order : Order) (reason : Reason) (before left : List ℕ) → IsTableFault format order reason before left
     → IsWrongTable reason before left
 wrong_table format order reason before left (first h) = wrong_here reason before left h.0 (short_so 1 reason left (omega arith) h.1)
-wrong_table format order reason before left (second n front behind p e (first (next pairs done more lt each e2 h))) =
-    wrong_behind reason front behind before left e (wrong_behind reason done more behind left e2 (wrong_pair reason more left h))
-wrong_table format order reason before left (second n front behind p e (second pairs kinds more q e2 h)) =
+wrong_table format order reason before left (second n front past p e (first (next pairs done more lt each e2 h))) =
+    wrong_after reason front past before left e (wrong_after reason done more past left e2 (wrong_pair reason more left h))
+wrong_table format order reason before left (second n front past p e (second pairs kinds more q e2 h)) =
     let all : before ≡ front ++ (kinds ++ more) = e ∙ ap (λ (z : List ℕ). front ++ z) e2 in
     subst (λ (z : List ℕ). IsWrongTable reason z left) (sym all)
-    (wrong_behind_pairs format order n pairs front kinds more left reason p q h)
+    (wrong_after_pairs format order n pairs front kinds more left reason p q h)

@@ -18,23 +18,23 @@ Table = List Pair × List Entry
 abbrev pub TwoTables : Format → Order → Table × Table → List ℕ → Type 0
 TwoTables format order v bytes = Both (TableOf format order) (λ _. TableOf format order) v bytes
 
-abbrev pub BehindLengths : Format → Order → List ℕ → Table × Table → List ℕ → Type 0
-BehindLengths format order lengths v bytes = TwoTables format order v bytes
+abbrev pub AfterLengths : Format → Order → List ℕ → Table × Table → List ℕ → Type 0
+AfterLengths format order lengths v bytes = TwoTables format order v bytes
 
-abbrev pub BehindSingles : Format → Order → Singles → List ℕ × (Table × Table) → List ℕ → Type 0
-BehindSingles format order s v bytes = Both (LengthsBytes s.opcode_base) (BehindLengths format order) v bytes
+abbrev pub AfterSingles : Format → Order → Singles → List ℕ × (Table × Table) → List ℕ → Type 0
+AfterSingles format order s v bytes = Both (LengthsBytes s.opcode_base) (AfterLengths format order) v bytes
 
 -- six fields of one byte, the standard opcode lengths, the directories and the files
 abbrev pub FieldsBytes : Format → Order → Singles × (List ℕ × (Table × Table)) → List ℕ → Type 0
-FieldsBytes format order v bytes = Both SinglesBytes (BehindSingles format order) v bytes
+FieldsBytes format order v bytes = Both SinglesBytes (AfterSingles format order) v bytes
 
 -- ---- what is wrong: the first part that isn't there
 
 abbrev pub TwoTablesFault : Format → Order → Reason → List ℕ → List ℕ → Type 0
 TwoTablesFault format order = FirstOf (TableOf format order) (IsTableFault format order) (λ _. IsTableFault format order)
 
-abbrev pub BehindSinglesFault : Format → Order → Singles → Reason → List ℕ → List ℕ → Type 0
-BehindSinglesFault format order s = FirstOf (LengthsBytes s.opcode_base) (IsLengthsFault s.opcode_base) (λ _. TwoTablesFault format order)
+abbrev pub AfterSinglesFault : Format → Order → Singles → Reason → List ℕ → List ℕ → Type 0
+AfterSinglesFault format order s = FirstOf (LengthsBytes s.opcode_base) (IsLengthsFault s.opcode_base) (λ _. TwoTablesFault format order)
 
 abbrev pub IsHeaderFault : Format → Order → Reason → List ℕ → List ℕ → Type 0
-IsHeaderFault format order = FirstOf SinglesBytes IsSinglesFault (BehindSinglesFault format order)
+IsHeaderFault format order = FirstOf SinglesBytes IsSinglesFault (AfterSinglesFault format order)

@@ -16,7 +16,7 @@ abbrev pub standing : ℕ → List ℕ → Order → At
 standing place rest order = record { place = place; rest = rest; order = order }
 
 -- A cursor stands after the version of a frame, whose body it goes to the end of.
-pub record IsBehindVersion (order : Order) (format : Format) (offset : ℕ) (body : List ℕ) (at : At) : Type 0 where
+pub record IsAfterVersion (order : Order) (format : Format) (offset : ℕ) (body : List ℕ) (at : At) : Type 0 where
   pub order_is : at.order ≡ order
   pub place_is : at.place ≡ offset + length (initial_length format order (length body)) + 2
   pub joined : body ≡ version_five order ++ at.rest

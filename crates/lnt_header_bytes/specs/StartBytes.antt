@@ -19,12 +19,12 @@ SelectorBytes size bytes = (size ≡ 0) × (bytes ≡ 0 ∷ [])
 abbrev pub CountedBytes : Format → Order → List ℕ → List ℕ → Type 0
 CountedBytes format order counted bytes = BlockBytes (OffsetBytes format order) counted bytes
 
-abbrev pub BehindSize : Format → Order → ℕ → ℕ × List ℕ → List ℕ → Type 0
-BehindSize format order size v bytes = Both SelectorBytes (λ _. CountedBytes format order) v bytes
+abbrev pub AfterSize : Format → Order → ℕ → ℕ × List ℕ → List ℕ → Type 0
+AfterSize format order size v bytes = Both SelectorBytes (λ _. CountedBytes format order) v bytes
 
 -- the address size, the segment selector size 0, and the bytes that header_length counts
 abbrev pub StartBytes : Format → Order → ℕ × (ℕ × List ℕ) → List ℕ → Type 0
-StartBytes format order v bytes = Both AddressSizeBytes (BehindSize format order) v bytes
+StartBytes format order v bytes = Both AddressSizeBytes (AfterSize format order) v bytes
 
 -- ---- what is wrong
 

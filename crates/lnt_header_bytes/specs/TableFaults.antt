@@ -40,7 +40,7 @@ IsPairsFault count = FirstOfSeveral count PairBytes IsPairFault
 
 -- the value of a pair, after those of the pairs before it
 pub data IsEntryFault (format : Format) (order : Order) (pairs : List Pair) (reason : Reason) (before left : List ℕ) : Type 0 where
-  no_value : (done : List Pair) (pair : Pair) (behind : List Pair) (values : List FormValue) → pairs ≡ done ++ pair ∷ behind
+  no_value : (done : List Pair) (pair : Pair) (past : List Pair) (values : List FormValue) → pairs ≡ done ++ pair ∷ past
       → ValuesBytes format order done values before
       → IsValueFault format order pair.form reason left → IsEntryFault format order pairs reason before left
 
@@ -60,13 +60,13 @@ abbrev pub IsCountFault : Reason → List ℕ → List ℕ → Type 0
 IsCountFault reason before left = (before ≡ []) × IsCutShort 1 reason left
 
 -- after the pairs
-abbrev pub BehindPairsFault : Format → Order → List Pair → Reason → List ℕ → List ℕ → Type 0
-BehindPairsFault format order pairs = FirstOf UnsignedLeb (IsSizeFault pairs) (IsEntriesFault format order pairs)
+abbrev pub AfterPairsFault : Format → Order → List Pair → Reason → List ℕ → List ℕ → Type 0
+AfterPairsFault format order pairs = FirstOf UnsignedLeb (IsSizeFault pairs) (IsEntriesFault format order pairs)
 
 -- after their count
-abbrev pub BehindCountFault : Format → Order → ℕ → Reason → List ℕ → List ℕ → Type 0
-BehindCountFault format order count = FirstOf (Several count PairBytes) (IsPairsFault count) (BehindPairsFault format order)
+abbrev pub AfterCountFault : Format → Order → ℕ → Reason → List ℕ → List ℕ → Type 0
+AfterCountFault format order count = FirstOf (Several count PairBytes) (IsPairsFault count) (AfterPairsFault format order)
 
 -- the count of the pairs, the pairs, the number of entries, the entries
 abbrev pub IsTableFault : Format → Order → Reason → List ℕ → List ℕ → Type 0
-IsTableFault format order = FirstOf (NumberBytes order 1) IsCountFault (BehindCountFault format order)
+IsTableFault format order = FirstOf (NumberBytes order 1) IsCountFault (AfterCountFault format order)

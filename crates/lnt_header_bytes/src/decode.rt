@@ -3,7 +3,7 @@ ghost use Rattle.std.specs.Prelude.{◌≡◌, ◌≢◌, Ok, IfOk, IfErr};
 ghost use Rattle.lnt_wire.specs.FrameBytes.{frame_bytes, IsPlacedFrame};
 ghost use Rattle.lnt_header_bytes.specs.Broken.{BrokenHeader};
 ghost use Rattle.lnt_header_bytes.specs.HeaderBytes.{HeaderBytesIn};
-ghost use Rattle.lnt_header_bytes.specs.HeaderReading.{IsBehindVersion};
+ghost use Rattle.lnt_header_bytes.specs.HeaderReading.{IsAfterVersion};
 
 use crate::in_place::view_header;
 use lnt_header::Header;
@@ -48,14 +48,14 @@ fn with_program<'a>(
 }
 
 /// A cursor after the version of the frame, which goes to the end of its body.
-pub(crate) fn behind_version<'a>(frame: &Frame<'a>, order: Order) -> Cursor<'a>
+pub(crate) fn after_version<'a>(frame: &Frame<'a>, order: Order) -> Cursor<'a>
     requires { IsPlacedFrame order frame.now }
-    ensures { IsBehindVersion order frame.now.format frame.now.offset frame.now.body.now result }
+    ensures { IsAfterVersion order frame.now.format frame.now.offset frame.now.body.now result }
 {
     let initial_size = match frame.format {
         Format::D32 => 4,
         Format::D64 => 12,
     };
-    let (_, behind) = frame.body.split_at(2);
-    Cursor::new(behind, frame.offset + initial_size + 2, order)
+    let (_, past) = frame.body.split_at(2);
+    Cursor::new(past, frame.offset + initial_size + 2, order)
 }

@@ -9,7 +9,7 @@ ghost use Rattle.lnt_header_bytes.specs.HeaderBytes.{HeaderBytesIn};
 ghost use Rattle.lnt_header_bytes.specs.HeaderReading.{HasFields, standing};
 ghost use Rattle.lnt_header.specs.HeaderRules.{IsAddressSize, IsHeader};
 
-use crate::decode::behind_version;
+use crate::decode::after_version;
 use crate::header_view::HeaderView;
 use crate::marks::Marks;
 use crate::numbers::{Singles, read_lengths, read_singles};
@@ -86,7 +86,7 @@ pub fn view_header<'a>(
     ensures err { IfErr result (λ fault. fault.reason ≢ Reason.Memory
         → BrokenHeader order fault frame.now.offset (frame_bytes order frame.now.format frame.now.body.now)) }
 {
-    let mut cursor = behind_version(frame, order);
+    let mut cursor = after_version(frame, order);
     let start = read_start(&mut cursor, frame.format)?;
     let place = cursor.place() - start.header.len() as u64;
     let header = view_parts(

@@ -80,10 +80,10 @@ units_begin order offset (u ∷ us) (v ∷ vs) front rest whole p q e =
     let all : p.0 ++ (p.1 ++ rest) ≡ q.0 ++ q.1 =
     sym (append_assoc p.0 p.1 rest) ∙ ap (λ (z : List ℕ). z ++ rest) (sym p.4) ∙ sym e ∙ q.4 in
     let one = (one_spelling order).one u.1 v.1 p.0 q.0 (p.1 ++ rest) q.1 p.3 q.3 all in
-    let behind : p.1 ++ rest ≡ q.1 = same_rest p.0 q.0 (p.1 ++ rest) q.1 one.1 all in
+    let past : p.1 ++ rest ≡ q.1 = same_rest p.0 q.0 (p.1 ++ rest) q.1 one.1 all in
     let later : UnitsFrom order (offset + length p.0) vs q.1 =
     subst (λ (z : List ℕ). UnitsFrom order (offset + length z) vs q.1) (sym one.1) q.5 in
-    let more = units_begin order (offset + length p.0) us vs p.1 rest q.1 p.5 later (sym behind) in
+    let more = units_begin order (offset + length p.0) us vs p.1 rest q.1 p.5 later (sym past) in
     let heads : u ≡ v = same_pair u v (p.2 ∙ sym q.2) one.0 in
     (more.0, cc (heads, more.1))
 

@@ -11,12 +11,12 @@ use Rattle.lnt_header.specs.declared.op.Op.TheVariants.{Special, Copy, EndSequen
 use Rattle.lnt_unit.specs.declared.unit.Parts.{Parts}
 use Rattle.lnt_machine.specs.declared.row.Row.{Row}
 use Rattle.lnt_machine.specs.declared.row.Sequence.{Sequence}
-use Rattle.lnt_machine.specs.Matrix.{onto_first, row_made, rows, rows_behind, sequences, sequences_of}
+use Rattle.lnt_machine.specs.Matrix.{onto_first, row_made, rows, rows_after, sequences, sequences_of}
 use Rattle.lnt_machine.specs.Registers.{advances, op_index}
 use Rattle.lnt_machine.specs.Walking.{Keeps, Kept}
 use Rattle.lnt_spans.specs.declared.span.Span.{Span}
 use Rattle.lnt_spans.specs.Positions.{is_below}
-use Rattle.lnt_sequences.specs.RowSpans.{row_spans, span_between, spans_behind, spans_of}
+use Rattle.lnt_sequences.specs.RowSpans.{row_spans, span_between, spans_after, spans_of}
 use Rattle.lnt_sequences.specs.Sequences.{answer_of, is_copy, is_live, kept_of, kept_sequences, live_in, live_sequences, Placed}
 use Rattle.lnt_sequences.specs.Sequences.{placed_in, position_of}
 use Rattle.lnt_lines.specs.Indexed.{Indexed, IsIndexOf}
@@ -54,9 +54,9 @@ one_made h back (Special c) later one rest = (index_zero h (Special c ∷ back) 
 one_made h back EndSequence later one rest = (index_zero h back one, rest)
 one_made h back op later one rest = rest
 
-all_made : (h : HeaderParts) (back ops : List Op) → h.max_ops ≡ 1 → AreFirst (rows_behind h back ops)
+all_made : (h : HeaderParts) (back ops : List Op) → h.max_ops ≡ 1 → AreFirst (rows_after h back ops)
 all_made h back [] one = tt
-all_made h back (op ∷ ops) one = one_made h back op (rows_behind h (op ∷ back) ops) one (all_made h (op ∷ back) ops one)
+all_made h back (op ∷ ops) one = one_made h back op (rows_after h (op ∷ back) ops) one (all_made h (op ∷ back) ops one)
 
 -- ---- sequences
 
@@ -116,15 +116,15 @@ between unit row next later one two rest = by (is_below (position_of row) (posit
     by true = ((one, two), rest)
     by false = rest
 
-behind : (unit : ℕ) (row : Row) (later : List Row) → IsFirst row → AreFirst later
-    → AllByRecursion IsOfInstructions (spans_behind unit row later)
-behind unit row [] one rest = tt
-behind unit row (next ∷ later) one rest =
-    between unit row next (spans_behind unit next later) one rest.0 (behind unit next later rest.0 rest.1)
+past : (unit : ℕ) (row : Row) (later : List Row) → IsFirst row → AreFirst later
+    → AllByRecursion IsOfInstructions (spans_after unit row later)
+past unit row [] one rest = tt
+past unit row (next ∷ later) one rest =
+    between unit row next (spans_after unit next later) one rest.0 (past unit next later rest.0 rest.1)
 
 in_rows : (unit : ℕ) (all : List Row) → AreFirst all → AllByRecursion IsOfInstructions (row_spans unit all)
 in_rows unit [] h = tt
-in_rows unit (row ∷ all) h = behind unit row all h.0 h.1
+in_rows unit (row ∷ all) h = past unit row all h.0 h.1
 
 in_sequences : (ss : List Placed) → AllByRecursion PlacedFirst ss → AllByRecursion IsOfInstructions (spans_of ss)
 in_sequences [] h = tt

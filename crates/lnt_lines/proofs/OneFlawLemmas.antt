@@ -37,30 +37,30 @@ same_least i j below above =
     (cases_lt j i)) (cases_lt i j)
 
 -- an element that stands before another is among those before it
-earlier_is : {X : Type 0} (P : X → Type 0) (before behind before' behind' : List X) (x y : X)
-    → before ++ x ∷ behind ≡ before' ++ y ∷ behind' → length before < length before' → AllByRecursion P before' → P x
-earlier_is P before behind [] behind' x y e lt all = absurd (omega arith)
-earlier_is {X} P [] behind (z ∷ before') behind' x y e lt all = let heads : z ≡ x = cc in subst P heads all.0
-earlier_is {X} P (w ∷ before) behind (z ∷ before') behind' x y e lt all =
-    let tails : before ++ x ∷ behind ≡ before' ++ y ∷ behind' = cc in
-    earlier_is P before behind before' behind' x y tails (omega arith) all.1
+earlier_is : {X : Type 0} (P : X → Type 0) (before past before' past' : List X) (x y : X)
+    → before ++ x ∷ past ≡ before' ++ y ∷ past' → length before < length before' → AllByRecursion P before' → P x
+earlier_is P before past [] past' x y e lt all = absurd (omega arith)
+earlier_is {X} P [] past (z ∷ before') past' x y e lt all = let heads : z ≡ x = cc in subst P heads all.0
+earlier_is {X} P (w ∷ before) past (z ∷ before') past' x y e lt all =
+    let tails : before ++ x ∷ past ≡ before' ++ y ∷ past' = cc in
+    earlier_is P before past before' past' x y tails (omega arith) all.1
 
 -- elements at one place are one
-same_at : {X : Type 0} (before behind before' behind' : List X) (x y : X) → before ++ x ∷ behind ≡ before' ++ y ∷ behind'
+same_at : {X : Type 0} (before past before' past' : List X) (x y : X) → before ++ x ∷ past ≡ before' ++ y ∷ past'
     → length before ≡ length before' → x ≡ y
-same_at [] behind [] behind' x y e same = cc
-same_at [] behind (z ∷ before') behind' x y e same = absurd (omega arith)
-same_at (w ∷ before) behind [] behind' x y e same = absurd (omega arith)
-same_at {X} (w ∷ before) behind (z ∷ before') behind' x y e same =
-    let tails : before ++ x ∷ behind ≡ before' ++ y ∷ behind' = cc in
-    same_at before behind before' behind' x y tails (omega arith)
+same_at [] past [] past' x y e same = cc
+same_at [] past (z ∷ before') past' x y e same = absurd (omega arith)
+same_at (w ∷ before) past [] past' x y e same = absurd (omega arith)
+same_at {X} (w ∷ before) past (z ∷ before') past' x y e same =
+    let tails : before ++ x ∷ past ≡ before' ++ y ∷ past' = cc in
+    same_at before past before' past' x y tails (omega arith)
 
 one_first : {X : Type 0} (P : X → Type 0) (xs : List X) (i j : ℕ) → IsFirstNot P xs i → IsFirstNot P xs j → i ≡ j
 one_first P xs i j a b =
     same_least i j
-    (λ lt. a.not_so (earlier_is P a.before a.behind b.before b.behind a.value b.value (sym a.joined ∙ b.joined)
+    (λ lt. a.not_so (earlier_is P a.before a.past b.before b.past a.value b.value (sym a.joined ∙ b.joined)
     (omega (arith, lt, a.index_is, b.index_is)) b.all_before))
-    (λ lt. b.not_so (earlier_is P b.before b.behind a.before a.behind b.value a.value (sym b.joined ∙ a.joined)
+    (λ lt. b.not_so (earlier_is P b.before b.past a.before a.past b.value a.value (sym b.joined ∙ a.joined)
     (omega (arith, lt, a.index_is, b.index_is)) a.all_before))
 
 -- ---- runs

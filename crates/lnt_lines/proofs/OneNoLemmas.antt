@@ -31,7 +31,7 @@ use Rattle.lnt_lines.proofs.OneOverlapLemmas.{one_overlap}
 record SameHead (u v : ℕ × Parts) (x y r s : List ℕ) : Type 0 where
   unit : u ≡ v
   bytes : x ≡ y
-  behind : r ≡ s
+  past : r ≡ s
 
 -- the rests are compared with what follows them
 same_head : (order : Order) (offset : ℕ) (u v : ℕ × Parts) (x y x' y' r s : List ℕ) → u.0 ≡ offset → v.0 ≡ offset → UnitBytesIn order u.1 x
@@ -40,7 +40,7 @@ same_head : (order : Order) (offset : ℕ) (u v : ℕ × Parts) (x y x' y' r s :
 same_head order offset u v x y x' y' r s at at' p q e =
     let all : x ++ (x' ++ r) ≡ y ++ (y' ++ s) = sym (append_assoc x x' r) ∙ e ∙ append_assoc y y' s in
     let one = (one_spelling order).one u.1 v.1 x y (x' ++ r) (y' ++ s) p q all in
-    record { unit = same_pair u v (at ∙ sym at') one.0; bytes = one.1; behind = same_rest x y (x' ++ r) (y' ++ s) one.1 all }
+    record { unit = same_pair u v (at ∙ sym at') one.0; bytes = one.1; past = same_rest x y (x' ++ r) (y' ++ s) one.1 all }
 
 -- ---- the first flaw
 
@@ -66,7 +66,7 @@ module _ (falls : FallIsNotOrdered) (missing : MissingFileIsNotThere) (text gene
       (ap (λ (z : List ℕ). z ++ r) (sym p.4) ∙ e ∙ ap (λ (z : List ℕ). z ++ s) q.4) in
       let later : UnitsFrom order (offset + length p.0) (vs ++ v ∷ []) q.1 =
       subst (λ (z : List ℕ). UnitsFrom order (offset + length z) (vs ++ v ∷ []) q.1) (sym h.bytes) q.5 in
-      same_flawed (offset + length p.0) us vs u v p.1 q.1 r s one two p.5 later h.behind sound.1 sound'.1 f g
+      same_flawed (offset + length p.0) us vs u v p.1 q.1 r s one two p.5 later h.past sound.1 sound'.1 f g
 
   -- where no unit stands after sound ones, none has a flaw
   none_flawed : (offset : ℕ) (us vs : List (ℕ × Parts)) (v : ℕ × Parts) (x y r s : List ℕ) (two : No) → UnitsFrom order offset us x
@@ -88,7 +88,7 @@ module _ (falls : FallIsNotOrdered) (missing : MissingFileIsNotThere) (text gene
       (ap (λ (z : List ℕ). z ++ r) (sym p.4) ∙ e ∙ ap (λ (z : List ℕ). z ++ s) q.4) in
       let later : UnitsFrom order (offset + length p.0) (vs ++ v ∷ []) q.1 =
       subst (λ (z : List ℕ). UnitsFrom order (offset + length z) (vs ++ v ∷ []) q.1) (sym h.bytes) q.5 in
-      none_flawed (offset + length p.0) us vs v p.1 q.1 r s two p.5 later h.behind none sound.1 g
+      none_flawed (offset + length p.0) us vs v p.1 q.1 r s two p.5 later h.past none sound.1 g
 
 -- ---- reasons, by their kinds
 

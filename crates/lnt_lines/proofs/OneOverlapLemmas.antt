@@ -126,9 +126,9 @@ itself one two h = record {
 }
 
 -- it is the first, or the second doesn't begin later
-first_or_behind : (ss : List Placed) (o : Overlap) → AreDistinct ss → (f : IsFirstOverlap ss o) → (s : Placed) → Contains ss s
+first_or_after : (ss : List Placed) (o : Overlap) → AreDistinct ss → (f : IsFirstOverlap ss o) → (s : Placed) → Contains ss s
     → Holds s.rows o.position → (s.id ≡ o.first) ⊎ BeginsNoLater f.other s
-first_or_behind ss o apart f s c h = elim (first_or_later ss o f s c h) [
+first_or_after ss o apart f s c h = elim (first_or_later ss o f s c h) [
   | inl first ↦ inl first
   | inr (inl second) ↦ inr (subst (BeginsNoLater f.other) (same_placed ss f.other s apart f.other_in c (sym f.second_is ∙ sym second))
       (itself f.one f.other f.in_turn))
@@ -141,9 +141,9 @@ held_at s p q same h = subst (Holds s.rows) same h
 same_first : (ss : List Placed) (a b : Overlap) → AreDistinct ss → (f : IsFirstOverlap ss a) → (q : IsFirstOverlap ss b)
     → a.position ≡ b.position → a.first ≡ b.first
 same_first ss a b apart f q same =
-    elim (first_or_behind ss a apart f q.one q.one_in (held_at q.one b.position a.position (sym same) q.one_holds)) [
+    elim (first_or_after ss a apart f q.one q.one_in (held_at q.one b.position a.position (sym same) q.one_holds)) [
       | inl first ↦ sym first ∙ sym q.first_is
-      | inr later ↦ elim (first_or_behind ss b apart q f.one f.one_in (held_at f.one a.position b.position same f.one_holds)) [
+      | inr later ↦ elim (first_or_after ss b apart q f.one f.one_in (held_at f.one a.position b.position same f.one_holds)) [
         | inl first ↦ f.first_is ∙ first
         | inr before ↦
             let round = no_later f.other q.other f.one (no_later f.other q.one q.other later q.in_turn) before in
@@ -152,10 +152,10 @@ same_first ss a b apart f q same =
     ]
 
 -- with one first, the other's second doesn't begin earlier
-second_behind : (ss : List Placed) (a b : Overlap) → AreDistinct ss → (f : IsFirstOverlap ss a) → (q : IsFirstOverlap ss b)
+second_after : (ss : List Placed) (a b : Overlap) → AreDistinct ss → (f : IsFirstOverlap ss a) → (q : IsFirstOverlap ss b)
     → a.position ≡ b.position → a.first ≡ b.first → BeginsNoLater f.other q.other
-second_behind ss a b apart f q same first =
-    elim (first_or_behind ss a apart f q.other q.other_in (held_at q.other b.position a.position (sym same) q.other_holds)) [
+second_after ss a b apart f q same first =
+    elim (first_or_after ss a apart f q.other q.other_in (held_at q.other b.position a.position (sym same) q.other_holds)) [
       | inl is ↦ absurd (q.different (sym first ∙ sym is ∙ sym q.second_is))
       | inr later ↦ later
     ]
@@ -169,7 +169,7 @@ one_overlap ss a b apart f q =
     let same = one_position ss a b f q in
     let first = same_first ss a b apart f q same in
     let second : a.second ≡ b.second =
-    f.second_is ∙ both_ways f.other q.other (second_behind ss a b apart f q same first)
-    (second_behind ss b a apart q f (sym same) (sym first)) ∙ sym q.second_is in
+    f.second_is ∙ both_ways f.other q.other (second_after ss a b apart f q same first)
+    (second_after ss b a apart q f (sym same) (sym first)) ∙ sym q.second_is in
     ap (λ (id : SeqId). overlap_of id a.second a.position) first ∙ ap (λ (id : SeqId). overlap_of b.first id a.position) second
     ∙ ap (overlap_of b.first b.second) same

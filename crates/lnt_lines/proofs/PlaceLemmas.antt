@@ -12,7 +12,7 @@ pub record IsBetween (units : List ℕ) (unit low high : ℕ) : Type 0 where
   pub within : low ≤ high
   pub inside : high ≤ length units
   pub before : (k : ℕ) → k < low → get_or units k 0 < unit
-  pub behind : (k : ℕ) → high ≤ k → k < length units → unit < get_or units k 0
+  pub past : (k : ℕ) → high ≤ k → k < length units → unit < get_or units k 0
 
 less_is_other : (m n : ℕ) → m < n → (m == n) ≡ false
 less_is_other m n lt = grind (arith, nat_tests)
@@ -34,7 +34,7 @@ outside_is m n le = grind (arith, nat_tests)
 
 pub between_all : (units : List ℕ) (unit : ℕ) → IsBetween units unit 0 (length units)
 between_all units unit =
-    record { within = omega arith; inside = omega arith; before = λ k lt. absurd (omega arith); behind = λ k le lt. absurd (omega arith) }
+    record { within = omega arith; inside = omega arith; before = λ k lt. absurd (omega arith); past = λ k le lt. absurd (omega arith) }
 
 -- the one in the middle is less
 pub between_above : (units : List ℕ) (unit low high middle : ℕ) → AreRising units → IsBetween units unit low high → middle < high
@@ -45,18 +45,18 @@ between_above units unit low high middle rising b lt less =
       | inl earlier ↦ omega (arith, rising k middle 0 earlier (omega arith), less)
       | inr later ↦ let here : k ≡ middle = omega arith in rw here less
     ] in
-    record { within = omega arith; inside = inside; before = before; behind = b.behind }
+    record { within = omega arith; inside = inside; before = before; past = b.past }
 
 -- it is greater
 pub between_below : (units : List ℕ) (unit low high middle : ℕ) → AreRising units → IsBetween units unit low high → low ≤ middle
     → middle < high → unit < get_or units middle 0 → IsBetween units unit low middle
 between_below units unit low high middle rising b from lt more =
     let inside = b.inside in
-    let behind : (k : ℕ) → middle ≤ k → k < length units → unit < get_or units k 0 = λ k le few. elim (cases_lt middle k) [
+    let past : (k : ℕ) → middle ≤ k → k < length units → unit < get_or units k 0 = λ k le few. elim (cases_lt middle k) [
       | inl later ↦ omega (arith, rising middle k 0 later few, more)
       | inr earlier ↦ let here : k ≡ middle = omega arith in rw here more
     ] in
-    record { within = from; inside = omega arith; before = b.before; behind = behind }
+    record { within = from; inside = omega arith; before = b.before; past = past }
 
 -- it is the one
 pub place_found : (units : List ℕ) (unit k : ℕ) → AreRising units → k < length units → get_or units k 0 ≡ unit
@@ -75,7 +75,7 @@ place_missing units unit low high b empty =
     let within = b.within in
     let other : (j : ℕ) → j < length units → (get_or units j 0 == unit) ≡ false = λ j few. elim (cases_lt j low) [
       | inl earlier ↦ less_is_other (get_or units j 0) unit (b.before j earlier)
-      | inr later ↦ more_is_other (get_or units j 0) unit (b.behind j (omega arith) few)
+      | inr later ↦ more_is_other (get_or units j 0) unit (b.past j (omega arith) few)
     ] in
     let at : position_or_len (λ offset. offset == unit) units ≡ length units =
     position_or_len_is (λ offset. offset == unit) units (length units) 0 (omega arith) other (λ lt. absurd (omega arith)) in

@@ -12,9 +12,9 @@ use Rattle.lnt_machine.specs.declared.fault.RunFault.{RunFault}
 use Rattle.lnt_machine.specs.declared.fault.RunFault.TheVariants.{LineOutOfRange, OpenSequence}
 use Rattle.lnt_machine.specs.declared.row.Row.{Row}
 use Rattle.lnt_machine.specs.declared.row.Sequence.{Sequence}
-use Rattle.lnt_machine.specs.Laws.Rows.{done-more, lines_more, rows_behind-append}
+use Rattle.lnt_machine.specs.Laws.Rows.{done-more, lines_more, rows_after-append}
 use Rattle.lnt_machine.specs.Laws.Sequences.{cut_closed, cut_is, cut_open, IsCut}
-use Rattle.lnt_machine.specs.Matrix.{done, IsRunFault, LinesFit, row_made, rows, rows_behind, Runs, sequences}
+use Rattle.lnt_machine.specs.Matrix.{done, IsRunFault, LinesFit, row_made, rows, rows_after, Runs, sequences}
 use Rattle.lnt_machine.specs.Registers.{IsLine, line}
 use Rattle.lnt_machine.specs.State.{StandsAfter, State}
 use Rattle.lnt_machine.specs.Steps.{LeavesRange, Steps}
@@ -25,16 +25,16 @@ pub record RanSoFar (unit : Parts) (k : ℕ) (machine : State) (sequences : List
   pub stands : StandsAfter machine (done unit.ops k)
   pub count : machine.count ≡ k
   pub lines : LinesFit unit k
-  pub cut : IsCut (rows_behind unit.header [] (take k unit.ops)) sequences rows
+  pub cut : IsCut (rows_after unit.header [] (take k unit.ops)) sequences rows
 
 -- the rows of the next operation
 next_rows : (unit : Parts) (k : ℕ) (op : Op) → k < length unit.ops
-    → rows_behind unit.header [] (take (k + 1) unit.ops) ≡ rows_behind unit.header [] (take k unit.ops) ++ cons_option
+    → rows_after unit.header [] (take (k + 1) unit.ops) ≡ rows_after unit.header [] (take k unit.ops) ++ cons_option
     (row_made unit.header (done unit.ops k) (get_or unit.ops k op)) []
 next_rows unit k op more =
-    ap (rows_behind unit.header []) (take_more unit.ops k op more)
-    ∙ rows_behind-append unit.header [] (take k unit.ops) (get_or unit.ops k op)
-    ∙ ap (λ (back : List Op). rows_behind unit.header [] (take k unit.ops) ++ cons_option (row_made unit.header back (get_or unit.ops k op))
+    ap (rows_after unit.header []) (take_more unit.ops k op more)
+    ∙ rows_after-append unit.header [] (take k unit.ops) (get_or unit.ops k op)
+    ∙ ap (λ (back : List Op). rows_after unit.header [] (take k unit.ops) ++ cons_option (row_made unit.header back (get_or unit.ops k op))
     []) (append-nil (done unit.ops k))
 
 ran_more : (unit : Parts) (k : ℕ) (old new : State) (ended ended' : List Sequence) (left left' : List Row) (view : OpView) (op : Op)
@@ -50,8 +50,8 @@ ran_more unit k old new ended ended' left left' view op row ran more few at v st
     let header : new.header ≡ unit.header = steps.header ∙ ran.header in
     let row_is : row ≡ row_made unit.header back (get_or unit.ops k op) =
     steps.row_is back op ran.stands v ∙ ap (λ (h : HeaderParts). row_made h back op) ran.header ∙ ap (row_made unit.header back) at in
-    let so_far = rows_behind unit.header [] (take k unit.ops) in
-    let all : so_far ++ cons_option row [] ≡ rows_behind unit.header [] (take (k + 1) unit.ops) =
+    let so_far = rows_after unit.header [] (take k unit.ops) in
+    let all : so_far ++ cons_option row [] ≡ rows_after unit.header [] (take (k + 1) unit.ops) =
     ap (λ (r : Option Row). so_far ++ cons_option r []) row_is ∙ sym (next_rows unit k op more) in
     record {
       header = header;
@@ -110,7 +110,7 @@ module _ (unit : Parts) (k : ℕ) (machine : State) (ended : List Sequence) (lef
   whole_lines j le = ran.lines j (omega arith)
 
   whole_cut : IsCut (rows unit) ended left
-  whole_cut = subst (λ (ops : List Op). IsCut (rows_behind unit.header [] ops) ended left) (take_all k unit.ops all) ran.cut
+  whole_cut = subst (λ (ops : List Op). IsCut (rows_after unit.header [] ops) ended left) (take_all k unit.ops all) ran.cut
 
 pub ran_sequences : (unit : Parts) (k : ℕ) (machine : State) (ended : List Sequence) (left : List Row) → RanSoFar unit k machine ended left
     → length unit.ops ≤ k → ended ≡ sequences unit

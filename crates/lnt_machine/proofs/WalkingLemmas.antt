@@ -14,7 +14,7 @@ use Rattle.lnt_ops.specs.Walks as walks
 use Rattle.lnt_ops.specs.Walks.{Walk, Ends, Fails}
 use Rattle.lnt_machine.specs.declared.row.Row.{Row}
 use Rattle.lnt_machine.specs.Laws.InParts.{stands_at_start}
-use Rattle.lnt_machine.specs.Matrix.{row_made, rows_behind}
+use Rattle.lnt_machine.specs.Matrix.{row_made, rows_after}
 use Rattle.lnt_machine.specs.Parts.{first_sequence}
 use Rattle.lnt_machine.specs.Registers.{IsLine, line}
 use Rattle.lnt_machine.specs.State.{StandsAfter, State}
@@ -42,9 +42,9 @@ done_one h rows view old new machine machine' made has step steps =
     let made_is : made ≡ row_made h has.back next.op =
     steps.row_is has.back next.op has.stands next.stands ∙ ap (λ (g : HeaderParts). row_made g has.back next.op) has.header_is in
     record {
-      others = rows_behind h (next.op ∷ has.back) next.others;
-      rows_are = has.rows_are ∙ ap (rows_behind h has.back) next.later_is
-          ∙ ap (λ (m : Option Row). cons_option m (rows_behind h (next.op ∷ has.back) next.others)) (sym made_is);
+      others = rows_after h (next.op ∷ has.back) next.others;
+      rows_are = has.rows_are ∙ ap (rows_after h has.back) next.later_is
+          ∙ ap (λ (m : Option Row). cons_option m (rows_after h (next.op ∷ has.back) next.others)) (sym made_is);
       has = record {
         back = next.op ∷ has.back;
         later = next.others;
@@ -80,7 +80,7 @@ next_row h rows view old new machine machine' made row has step steps is =
 pub next_ends : (h : HeaderParts) (rows : List Row) (old new : Walk) (machine : State) → HasRows h rows machine old → Ends old new
     → GivesNext h rows None machine new
 next_ends h rows old new machine has ends =
-    let empty : rows ≡ [] = has.rows_are ∙ ap (rows_behind h has.back) (left_ends h has.later old new has.left ends) in
+    let empty : rows ≡ [] = has.rows_are ∙ ap (rows_after h has.back) (left_ends h has.later old new has.left ends) in
     subst (λ (list : List Row). GivesNext h list None machine new) (sym empty) tt
 
 -- no operation is refused
@@ -127,7 +127,7 @@ gives_some old new result going gives ended rows (some h all e has are) = gives_
 pub has_begun : (h : HeaderParts) (program : List ℕ) (earlier later : List Op) (place : ℕ) (machine : State) (walk : Walk) → IsHeader h
     → IsSequencePlace h program earlier later place
     → machine.header ≡ h → StandsAfter machine [] → walk.header ≡ h → walk.failed ≡ false → walk.at.rest ≡ drop place program
-    → HasRows h (rows_behind h (reverse earlier) later) machine walk
+    → HasRows h (rows_after h (reverse earlier) later) machine walk
 has_begun h program earlier later place machine walk valid is header stands same going rest = record {
   back = reverse earlier;
   later = later;
@@ -144,7 +144,7 @@ pub will_give : (h : HeaderParts) (program : List ℕ) (earlier later : List Op)
     → IsSequencePlace h program earlier later place
     → walk.machine.header ≡ h → StandsAfter walk.machine [] → walk.walk.header ≡ h → walk.walk.failed ≡ false
     → walk.walk.at.rest ≡ drop place program → walk.ended ≡ false
-    → WillGive (first_sequence (rows_behind h (reverse earlier) later)) walk
+    → WillGive (first_sequence (rows_after h (reverse earlier) later)) walk
 will_give h program earlier later place walk valid is header stands same going rest ended =
-    some h (rows_behind h (reverse earlier) later) ended
+    some h (rows_after h (reverse earlier) later) ended
     (has_begun h program earlier later place walk.machine walk.walk valid is header stands same going rest) refl

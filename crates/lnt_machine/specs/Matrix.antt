@@ -32,13 +32,13 @@ row_made h back EndSequence = Some (end_row_of h back)
 row_made h back _ = None
 
 -- the rows of operations that come after `back`
-abbrev pub rows_behind : HeaderParts → List Op → List Op → List Row
-rows_behind h back [] = []
-rows_behind h back (op ∷ ops) = cons_option (row_made h back op) (rows_behind h (op ∷ back) ops)
+abbrev pub rows_after : HeaderParts → List Op → List Op → List Row
+rows_after h back [] = []
+rows_after h back (op ∷ ops) = cons_option (row_made h back op) (rows_after h (op ∷ back) ops)
 
 -- the rows of a program
 abbrev pub rows : Parts → List Row
-rows unit = rows_behind unit.header [] unit.ops
+rows unit = rows_after unit.header [] unit.ops
 
 -- a row put before the first of some sequences; where there is none, it belongs to none
 abbrev pub onto_first : Row → List Sequence → List Sequence

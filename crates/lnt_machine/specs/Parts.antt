@@ -5,7 +5,7 @@ use Rattle.lnt_header.specs.declared.header.HeaderParts.{HeaderParts}
 use Rattle.lnt_header.specs.declared.op.Op.{Op}
 use Rattle.lnt_header.specs.declared.op.Op.TheVariants.{EndSequence}
 use Rattle.lnt_machine.specs.declared.row.Row.{Row}
-use Rattle.lnt_machine.specs.Matrix.{rows_behind, sequences_of}
+use Rattle.lnt_machine.specs.Matrix.{rows_after, sequences_of}
 
 -- After the operations of `back`, the newest first, a sequence begins: there are none, or the newest is an EndSequence.
 abbrev pub AtStart : List Op → Type 0
@@ -19,7 +19,7 @@ AreWhole ops = AtStart (reverse ops)
 
 -- the rows of operations, by this header
 abbrev pub rows_of_ops : HeaderParts → List Op → List Row
-rows_of_ops h ops = rows_behind h [] ops
+rows_of_ops h ops = rows_after h [] ops
 
 -- the rows of the first sequence of some rows: up to the first end row, and with it
 abbrev pub first_sequence : List Row → List Row

@@ -38,8 +38,8 @@ abbrev pub part : List Op → List Op
 part back = since is_end back
 
 -- what was done in it after the last Copy or Special
-abbrev pub behind_row : List Op → List Op
-behind_row back = since is_copy_or_special (part back)
+abbrev pub after_row : List Op → List Op
+after_row back = since is_copy_or_special (part back)
 
 -- ---- the place
 
@@ -129,7 +129,7 @@ abbrev pub isa : List Op → ℕ
 isa back = newest isa_set 0 (part back)
 
 abbrev pub discriminator : List Op → ℕ
-discriminator back = newest discriminator_set 0 (behind_row back)
+discriminator back = newest discriminator_set 0 (after_row back)
 
 -- ---- marks
 
@@ -155,13 +155,13 @@ is_set_epilogue_begin SetEpilogueBegin = true
 is_set_epilogue_begin _ = false
 
 abbrev pub basic_block : List Op → Bool
-basic_block back = list_any is_set_basic_block (behind_row back)
+basic_block back = list_any is_set_basic_block (after_row back)
 
 abbrev pub prologue_end : List Op → Bool
-prologue_end back = list_any is_set_prologue_end (behind_row back)
+prologue_end back = list_any is_set_prologue_end (after_row back)
 
 abbrev pub epilogue_begin : List Op → Bool
-epilogue_begin back = list_any is_set_epilogue_begin (behind_row back)
+epilogue_begin back = list_any is_set_epilogue_begin (after_row back)
 
 -- ---- all of them
 

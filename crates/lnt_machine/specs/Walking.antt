@@ -9,7 +9,7 @@ use Rattle.lnt_ops.specs.OpBytes.{OpBytes}
 use Rattle.lnt_ops.specs.Walks.{Walk}
 use Rattle.lnt_unit.specs.declared.unit.Parts.{Parts}
 use Rattle.lnt_machine.specs.declared.row.Row.{Row}
-use Rattle.lnt_machine.specs.Matrix.{rows_behind, sequences, sequences_of}
+use Rattle.lnt_machine.specs.Matrix.{rows_after, sequences, sequences_of}
 use Rattle.lnt_machine.specs.Parts.{AtStart, first_sequence, rows_of_ops}
 use Rattle.lnt_machine.specs.Registers.{IsLine, line}
 use Rattle.lnt_machine.specs.State.{StandsAfter, State}
@@ -28,7 +28,7 @@ pub record HasRows (h : HeaderParts) (rows : List Row) (machine : State) (walk :
   pub stands : StandsAfter machine back
   pub left : IsLeft h later walk
   pub lines : LinesAfter h back later
-  pub rows_are : rows ≡ rows_behind h back later
+  pub rows_are : rows ≡ rows_after h back later
 
 -- The first of the rows was made, and the others are to come; or there is none.
 abbrev pub GivesNext : HeaderParts → List Row → Option Row → State → Walk → Type 0

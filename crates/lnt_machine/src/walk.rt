@@ -3,7 +3,7 @@ ghost use Rattle.std.specs.Prelude.{◌≡◌, ◌<◌, ◌≤◌, ℕ, List, le
 ghost use Rattle.std.specs.Iterator.{at_most};
 ghost use Rattle.lnt_header.specs.declared.header.HeaderParts.{HeaderParts};
 ghost use Rattle.lnt_header.specs.declared.op.Op.{Op};
-ghost use Rattle.lnt_machine.specs.Matrix.{rows_behind};
+ghost use Rattle.lnt_machine.specs.Matrix.{rows_after};
 ghost use Rattle.lnt_machine.specs.Parts.{first_sequence};
 ghost use Rattle.lnt_machine.specs.Walking.{ComesNext, GivesNext, GivesRow, HasRows, IsSequencePlace, WillGive};
 ghost use Rattle.lnt_machine.specs.declared.row.Row as spec;
@@ -41,7 +41,7 @@ impl<'a> SequenceRows<'a> {
         requires within { place ≤ length program.now }
         ensures left { length result.walk.at.rest ≤ length program.entry.now }
         ensures rows { (earlier later : List Op) → IsSequencePlace header.entry.now program.entry.now earlier later place
-            → WillGive (first_sequence (rows_behind header.entry.now (reverse earlier) later)) result }
+            → WillGive (first_sequence (rows_after header.entry.now (reverse earlier) later)) result }
     {
         SequenceRows {
             machine: Machine::new(header),

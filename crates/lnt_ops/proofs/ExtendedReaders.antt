@@ -349,8 +349,8 @@ same_count h n op y more old middle r q e =
     let all : q.spelled.front ++ (q.spelled.back ++ more) ≡ r.spelling ++ middle.rest = front_of y more old.rest q.spelled e ∙ r.whole in
     let found = unsigned_code.one (length q.counted) n q.spelled.front r.spelling (q.spelled.back ++ more) middle.rest q.spelled.first
     r.spelled all in
-    let behind = same_rest q.spelled.front r.spelling (q.spelled.back ++ more) middle.rest found.1 all in
-    (found.0, ap (λ (z : List ℕ). z ++ more) (sym q.spelled.second) ∙ behind)
+    let past = same_rest q.spelled.front r.spelling (q.spelled.back ++ more) middle.rest found.1 all in
+    (found.0, ap (λ (z : List ℕ). z ++ more) (sym q.spelled.second) ∙ past)
 
 pub refuses_cut : (h : HeaderParts) (n : ℕ) (old middle : At) (fault : Fault) → 0 < h.opcode_base → Reads UnsignedLeb n old middle
     → RefusesField (IsCutShort n) (TakenBytes n) middle fault

@@ -34,39 +34,39 @@ use Rattle.lnt_ops.specs.Programs.{BrokenProgram, IsFirstIn}
 -- ---- after a zero byte
 
 -- The length isn't there; or it is, and what it counts is cut, or is no operation.
-data IsExtendedFault (address_size : ℕ) (reason : Reason) (behind left : List ℕ) : Type 0 where
-  missing : behind ≡ [] → IsLebFault IsLargeUnsigned reason left → IsExtendedFault address_size reason behind left
-  short : (n : ℕ) (spelling : List ℕ) → reason ≡ Truncated → UnsignedLeb n spelling → behind ≡ spelling → length left < n
-      → IsExtendedFault address_size reason behind left
-  wrong : (spelling operation rest : List ℕ) → reason ≡ ExtendedLength → behind ≡ [] → UnsignedLeb (length operation) spelling
+data IsExtendedFault (address_size : ℕ) (reason : Reason) (past left : List ℕ) : Type 0 where
+  missing : past ≡ [] → IsLebFault IsLargeUnsigned reason left → IsExtendedFault address_size reason past left
+  short : (n : ℕ) (spelling : List ℕ) → reason ≡ Truncated → UnsignedLeb n spelling → past ≡ spelling → length left < n
+      → IsExtendedFault address_size reason past left
+  wrong : (spelling operation rest : List ℕ) → reason ≡ ExtendedLength → past ≡ [] → UnsignedLeb (length operation) spelling
       → left ≡ spelling ++ (operation ++ rest)
-      → IsWrongOperand address_size operation → IsExtendedFault address_size reason behind left
-  large : (spelling operand rest : List ℕ) → reason ≡ LebTooLarge → UnsignedLeb (length operand + 1) spelling → behind ≡ spelling ++ 4 ∷ []
+      → IsWrongOperand address_size operation → IsExtendedFault address_size reason past left
+  large : (spelling operand rest : List ℕ) → reason ≡ LebTooLarge → UnsignedLeb (length operand + 1) spelling → past ≡ spelling ++ 4 ∷ []
       → left ≡ operand ++ rest → IsLeb operand
-      → IsLargeUnsigned operand → IsExtendedFault address_size reason behind left
+      → IsLargeUnsigned operand → IsExtendedFault address_size reason past left
 
 -- what stands from the length on
-short_joined : (spelling behind left : List ℕ) → behind ≡ spelling → behind ++ left ≡ spelling ++ left
-short_joined spelling behind left e = ap (λ (z : List ℕ). z ++ left) e
+short_joined : (spelling past left : List ℕ) → past ≡ spelling → past ++ left ≡ spelling ++ left
+short_joined spelling past left e = ap (λ (z : List ℕ). z ++ left) e
 
-wrong_joined : (spelling operation rest behind left : List ℕ) → behind ≡ [] → left ≡ spelling ++ (operation ++ rest)
-    → behind ++ left ≡ spelling ++ (operation ++ rest)
-wrong_joined spelling operation rest behind left nothing e = ap (λ (z : List ℕ). z ++ left) nothing ∙ e
+wrong_joined : (spelling operation rest past left : List ℕ) → past ≡ [] → left ≡ spelling ++ (operation ++ rest)
+    → past ++ left ≡ spelling ++ (operation ++ rest)
+wrong_joined spelling operation rest past left nothing e = ap (λ (z : List ℕ). z ++ left) nothing ∙ e
 
-large_joined : (spelling operand rest behind left : List ℕ) → behind ≡ spelling ++ 4 ∷ [] → left ≡ operand ++ rest
-    → behind ++ left ≡ spelling ++ ((4 ∷ operand) ++ rest)
-large_joined spelling operand rest behind left e f =
+large_joined : (spelling operand rest past left : List ℕ) → past ≡ spelling ++ 4 ∷ [] → left ≡ operand ++ rest
+    → past ++ left ≡ spelling ++ ((4 ∷ operand) ++ rest)
+large_joined spelling operand rest past left e f =
     ap (λ (z : List ℕ). z ++ left) e ∙ append_assoc spelling (4 ∷ []) left ∙ ap (λ (z : List ℕ). spelling ++ 4 ∷ z) f
 
 -- the same length in front, and what follows it
 record SameCount (m n : ℕ) (x y r s : List ℕ) : Type 0 where
   count : m ≡ n
   bytes : x ≡ y
-  behind : r ≡ s
+  past : r ≡ s
 
 same_count : (m n : ℕ) (x y r s : List ℕ) → UnsignedLeb m x → UnsignedLeb n y → x ++ r ≡ y ++ s → SameCount m n x y r s
 same_count m n x y r s p q e =
-    let found = unsigned_code.one m n x y r s p q e in record { count = found.0; bytes = found.1; behind = same_rest x y r s found.1 e }
+    let found = unsigned_code.one m n x y r s p q e in record { count = found.0; bytes = found.1; past = same_rest x y r s found.1 e }
 
 -- a number that is too large fills no operation wrongly
 not_wrong : (address_size : ℕ) (operation operand : List ℕ) → operation ≡ 4 ∷ operand → IsLeb operand
@@ -78,102 +78,102 @@ not_wrong address_size operation operand e shape w = elim (subst (IsWrongOperand
 ]
 
 extended_one : (address_size : ℕ) → AreOne (IsExtendedFault address_size)
-extended_one size reason other behind behind' left left' (missing nothing h) (missing nothing' k) e =
-    (field_fault UnsignedLeb (IsLebFault IsLargeUnsigned) unsigned_fault).one reason other behind behind' left left' (nothing, h)
+extended_one size reason other past past' left left' (missing nothing h) (missing nothing' k) e =
+    (field_fault UnsignedLeb (IsLebFault IsLargeUnsigned) unsigned_fault).one reason other past past' left left' (nothing, h)
     (nothing', k) e
-extended_one size reason other behind behind' left left' (missing nothing h) (short n x is p joined lt) e =
+extended_one size reason other past past' left left' (missing nothing h) (short n x is p joined lt) e =
     absurd (unsigned_fault.none reason left h n x left' p
-    (sym (ap (λ (z : List ℕ). z ++ left) (sym nothing) ∙ e ∙ short_joined x behind' left' joined)))
-extended_one size reason other behind behind' left left' (missing nothing h) (wrong x op rest is nothing' p joined w) e =
+    (sym (ap (λ (z : List ℕ). z ++ left) (sym nothing) ∙ e ∙ short_joined x past' left' joined)))
+extended_one size reason other past past' left left' (missing nothing h) (wrong x op rest is nothing' p joined w) e =
     absurd (unsigned_fault.none reason left h (length op) x (op ++ rest) p
-    (sym (ap (λ (z : List ℕ). z ++ left) (sym nothing) ∙ e ∙ wrong_joined x op rest behind' left' nothing' joined)))
-extended_one size reason other behind behind' left left' (missing nothing h) (large x o rest is p joined joined' shape much) e =
+    (sym (ap (λ (z : List ℕ). z ++ left) (sym nothing) ∙ e ∙ wrong_joined x op rest past' left' nothing' joined)))
+extended_one size reason other past past' left left' (missing nothing h) (large x o rest is p joined joined' shape much) e =
     absurd (unsigned_fault.none reason left h (length o + 1) x ((4 ∷ o) ++ rest) p
-    (sym (ap (λ (z : List ℕ). z ++ left) (sym nothing) ∙ e ∙ large_joined x o rest behind' left' joined joined')))
-extended_one size reason other behind behind' left left' (short n x is p joined lt) (missing nothing k) e =
+    (sym (ap (λ (z : List ℕ). z ++ left) (sym nothing) ∙ e ∙ large_joined x o rest past' left' joined joined')))
+extended_one size reason other past past' left left' (short n x is p joined lt) (missing nothing k) e =
     absurd (unsigned_fault.none other left' k n x left p
-    (sym (ap (λ (z : List ℕ). z ++ left') (sym nothing) ∙ sym e ∙ short_joined x behind left joined)))
-extended_one size reason other behind behind' left left' (short n x is p joined lt) (short n' x' is' p' joined' lt') e =
+    (sym (ap (λ (z : List ℕ). z ++ left') (sym nothing) ∙ sym e ∙ short_joined x past left joined)))
+extended_one size reason other past past' left left' (short n x is p joined lt) (short n' x' is' p' joined' lt') e =
     let found =
-    same_count n n' x x' left left' p p' (sym (short_joined x behind left joined) ∙ e ∙ short_joined x' behind' left' joined') in
+    same_count n n' x x' left left' p p' (sym (short_joined x past left joined) ∙ e ∙ short_joined x' past' left' joined') in
     (is ∙ sym is', joined ∙ found.bytes ∙ sym joined')
-extended_one size reason other behind behind' left left' (short n x is p joined lt) (wrong x' op rest is' nothing p' joined' w) e =
+extended_one size reason other past past' left left' (short n x is p joined lt) (wrong x' op rest is' nothing p' joined' w) e =
     let found =
     same_count n (length op) x x' left (op ++ rest) p p'
-    (sym (short_joined x behind left joined) ∙ e ∙ wrong_joined x' op rest behind' left' nothing joined') in
-    absurd (omega (arith, lt, found.count, ap length found.behind, length-append op rest))
-extended_one size reason other behind behind' left left' (short n x is p joined lt) (large x' o rest is' p' joined' f shape much) e =
+    (sym (short_joined x past left joined) ∙ e ∙ wrong_joined x' op rest past' left' nothing joined') in
+    absurd (omega (arith, lt, found.count, ap length found.past, length-append op rest))
+extended_one size reason other past past' left left' (short n x is p joined lt) (large x' o rest is' p' joined' f shape much) e =
     let found =
     same_count n (length o + 1) x x' left ((4 ∷ o) ++ rest) p p'
-    (sym (short_joined x behind left joined) ∙ e ∙ large_joined x' o rest behind' left' joined' f) in
-    absurd (omega (arith, lt, found.count, ap length found.behind, length-append o rest))
-extended_one size reason other behind behind' left left' (wrong x op rest is nothing p joined w) (missing nothing' k) e =
+    (sym (short_joined x past left joined) ∙ e ∙ large_joined x' o rest past' left' joined' f) in
+    absurd (omega (arith, lt, found.count, ap length found.past, length-append o rest))
+extended_one size reason other past past' left left' (wrong x op rest is nothing p joined w) (missing nothing' k) e =
     absurd (unsigned_fault.none other left' k (length op) x (op ++ rest) p
-    (sym (ap (λ (z : List ℕ). z ++ left') (sym nothing') ∙ sym e ∙ wrong_joined x op rest behind left nothing joined)))
-extended_one size reason other behind behind' left left' (wrong x op rest is nothing p joined w) (short n x' is' p' joined' lt) e =
+    (sym (ap (λ (z : List ℕ). z ++ left') (sym nothing') ∙ sym e ∙ wrong_joined x op rest past left nothing joined)))
+extended_one size reason other past past' left left' (wrong x op rest is nothing p joined w) (short n x' is' p' joined' lt) e =
     let found =
     same_count (length op) n x x' (op ++ rest) left' p p'
-    (sym (wrong_joined x op rest behind left nothing joined) ∙ e ∙ short_joined x' behind' left' joined') in
-    absurd (omega (arith, lt, found.count, ap length found.behind, length-append op rest))
-extended_one size reason other behind behind' left left' (wrong x op rest is nothing p joined w)
+    (sym (wrong_joined x op rest past left nothing joined) ∙ e ∙ short_joined x' past' left' joined') in
+    absurd (omega (arith, lt, found.count, ap length found.past, length-append op rest))
+extended_one size reason other past past' left left' (wrong x op rest is nothing p joined w)
     (wrong x' op' rest' is' nothing' p' joined' w') e = (is ∙ sym is', nothing ∙ sym nothing')
-extended_one size reason other behind behind' left left' (wrong x op rest is nothing p joined w)
+extended_one size reason other past past' left left' (wrong x op rest is nothing p joined w)
     (large x' o rest' is' p' joined' f shape much) e =
     let found =
     same_count (length op) (length o + 1) x x' (op ++ rest) ((4 ∷ o) ++ rest') p p'
-    (sym (wrong_joined x op rest behind left nothing joined) ∙ e ∙ large_joined x' o rest' behind' left' joined' f) in
-    let same : op ≡ 4 ∷ o = same_front op (4 ∷ o) rest rest' (omega (arith, found.count)) found.behind in
+    (sym (wrong_joined x op rest past left nothing joined) ∙ e ∙ large_joined x' o rest' past' left' joined' f) in
+    let same : op ≡ 4 ∷ o = same_front op (4 ∷ o) rest rest' (omega (arith, found.count)) found.past in
     absurd (not_wrong size op o same shape w)
-extended_one size reason other behind behind' left left' (large x o rest is p joined f shape much) (missing nothing k) e =
+extended_one size reason other past past' left left' (large x o rest is p joined f shape much) (missing nothing k) e =
     absurd (unsigned_fault.none other left' k (length o + 1) x ((4 ∷ o) ++ rest) p
-    (sym (ap (λ (z : List ℕ). z ++ left') (sym nothing) ∙ sym e ∙ large_joined x o rest behind left joined f)))
-extended_one size reason other behind behind' left left' (large x o rest is p joined f shape much) (short n x' is' p' joined' lt) e =
+    (sym (ap (λ (z : List ℕ). z ++ left') (sym nothing) ∙ sym e ∙ large_joined x o rest past left joined f)))
+extended_one size reason other past past' left left' (large x o rest is p joined f shape much) (short n x' is' p' joined' lt) e =
     let found =
     same_count (length o + 1) n x x' ((4 ∷ o) ++ rest) left' p p'
-    (sym (large_joined x o rest behind left joined f) ∙ e ∙ short_joined x' behind' left' joined') in
-    absurd (omega (arith, lt, found.count, ap length found.behind, length-append o rest))
-extended_one size reason other behind behind' left left' (large x o rest is p joined f shape much)
+    (sym (large_joined x o rest past left joined f) ∙ e ∙ short_joined x' past' left' joined') in
+    absurd (omega (arith, lt, found.count, ap length found.past, length-append o rest))
+extended_one size reason other past past' left left' (large x o rest is p joined f shape much)
     (wrong x' op rest' is' nothing p' joined' w) e =
     let found =
     same_count (length o + 1) (length op) x x' ((4 ∷ o) ++ rest) (op ++ rest') p p'
-    (sym (large_joined x o rest behind left joined f) ∙ e ∙ wrong_joined x' op rest' behind' left' nothing joined') in
-    let same : op ≡ 4 ∷ o = same_front op (4 ∷ o) rest' rest (omega (arith, found.count)) (sym found.behind) in
+    (sym (large_joined x o rest past left joined f) ∙ e ∙ wrong_joined x' op rest' past' left' nothing joined') in
+    let same : op ≡ 4 ∷ o = same_front op (4 ∷ o) rest' rest (omega (arith, found.count)) (sym found.past) in
     absurd (not_wrong size op o same shape w)
-extended_one size reason other behind behind' left left' (large x o rest is p joined f shape much)
+extended_one size reason other past past' left left' (large x o rest is p joined f shape much)
     (large x' o' rest' is' p' joined' f' shape' much') e =
     let found =
     same_count (length o + 1) (length o' + 1) x x' ((4 ∷ o) ++ rest) ((4 ∷ o') ++ rest') p p'
-    (sym (large_joined x o rest behind left joined f) ∙ e ∙ large_joined x' o' rest' behind' left' joined' f') in
+    (sym (large_joined x o rest past left joined f) ∙ e ∙ large_joined x' o' rest' past' left' joined' f') in
     (is ∙ sym is', joined ∙ ap (λ (z : List ℕ). z ++ 4 ∷ []) found.bytes ∙ sym joined')
 
 -- no right operation has such a fault: one whose operand fits its code, and whose discriminator is in range
-extended_none : (address_size : ℕ) (reason : Reason) (behind left : List ℕ) (code : ℕ) (operand spelling more : List ℕ)
-    → IsExtendedFault address_size reason behind left
+extended_none : (address_size : ℕ) (reason : Reason) (past left : List ℕ) (code : ℕ) (operand spelling more : List ℕ)
+    → IsExtendedFault address_size reason past left
     → UnsignedLeb (length (code ∷ operand)) spelling → IsRightOperand address_size (code ∷ operand)
     → (code ≡ 4 → IsLargeUnsigned operand → ⊥)
-    → spelling ++ ((code ∷ operand) ++ more) ≡ behind ++ left → ⊥
-extended_none size reason behind left code operand spelling more (missing nothing h) p right small e =
+    → spelling ++ ((code ∷ operand) ++ more) ≡ past ++ left → ⊥
+extended_none size reason past left code operand spelling more (missing nothing h) p right small e =
     unsigned_fault.none reason left h (length (code ∷ operand)) spelling ((code ∷ operand) ++ more) p
     (e ∙ ap (λ (z : List ℕ). z ++ left) nothing)
-extended_none size reason behind left code operand spelling more (short n x is q joined lt) p right small e =
+extended_none size reason past left code operand spelling more (short n x is q joined lt) p right small e =
     let found =
-    same_count (length (code ∷ operand)) n spelling x ((code ∷ operand) ++ more) left p q (e ∙ short_joined x behind left joined) in
-    omega (arith, lt, found.count, ap length found.behind, length-append operand more)
-extended_none size reason behind left code operand spelling more (wrong x op rest is nothing q joined w) p right small e =
+    same_count (length (code ∷ operand)) n spelling x ((code ∷ operand) ++ more) left p q (e ∙ short_joined x past left joined) in
+    omega (arith, lt, found.count, ap length found.past, length-append operand more)
+extended_none size reason past left code operand spelling more (wrong x op rest is nothing q joined w) p right small e =
     let found =
     same_count (length (code ∷ operand)) (length op) spelling x ((code ∷ operand) ++ more) (op ++ rest) p q
-    (e ∙ wrong_joined x op rest behind left nothing joined) in
-    let same : op ≡ code ∷ operand = same_front op (code ∷ operand) rest more (sym found.count) (sym found.behind) in
+    (e ∙ wrong_joined x op rest past left nothing joined) in
+    let same : op ≡ code ∷ operand = same_front op (code ∷ operand) rest more (sym found.count) (sym found.past) in
     elim (subst (IsWrongOperand size) same w) [
       | inl h ↦ h.1 (right.0 h.0)
       | inr (inl h) ↦ h.1 (right.1 h.0)
       | inr (inr h) ↦ h.1 (right.2 h.0)
     ]
-extended_none size reason behind left code operand spelling more (large x o rest is q joined f shape much) p right small e =
+extended_none size reason past left code operand spelling more (large x o rest is q joined f shape much) p right small e =
     let found =
     same_count (length (code ∷ operand)) (length o + 1) spelling x ((code ∷ operand) ++ more) ((4 ∷ o) ++ rest) p q
-    (e ∙ large_joined x o rest behind left joined f) in
-    let same : code ∷ operand ≡ 4 ∷ o = same_front (code ∷ operand) (4 ∷ o) more rest (omega (arith, found.count)) found.behind in
+    (e ∙ large_joined x o rest past left joined f) in
+    let same : code ∷ operand ≡ 4 ∷ o = same_front (code ∷ operand) (4 ∷ o) more rest (omega (arith, found.count)) found.past in
     let codes : code ≡ 4 = cc in
     let operands : o ≡ operand = cc in
     small codes (subst IsLargeUnsigned operands much)
@@ -181,13 +181,13 @@ extended_none size reason behind left code operand spelling more (large x o rest
 -- ---- operands, by their opcodes
 
 abbrev OfOperand : HeaderParts → ℕ → Following → Reason → List ℕ → List ℕ → Type 0
-OfOperand h code counted reason behind left = IsExtendedFault h.address_size reason behind left
-OfOperand h code unsigned reason behind left = IsHere (IsLebFault IsLargeUnsigned) reason behind left
-OfOperand h code signed reason behind left = IsHere (IsLebFault IsLargeSigned) reason behind left
-OfOperand h code fixed reason behind left = IsHere (IsCutShort 2) reason behind left
-OfOperand h code bare reason behind left = ⊥
-OfOperand h code listed reason behind left =
-    FirstOfSeveral (standard_length h code) UnsignedLeb (IsHere (IsLebFault IsLargeUnsigned)) reason behind left
+OfOperand h code counted reason past left = IsExtendedFault h.address_size reason past left
+OfOperand h code unsigned reason past left = IsHere (IsLebFault IsLargeUnsigned) reason past left
+OfOperand h code signed reason past left = IsHere (IsLebFault IsLargeSigned) reason past left
+OfOperand h code fixed reason past left = IsHere (IsCutShort 2) reason past left
+OfOperand h code bare reason past left = ⊥
+OfOperand h code listed reason past left =
+    FirstOfSeveral (standard_length h code) UnsignedLeb (IsHere (IsLebFault IsLargeUnsigned)) reason past left
 
 unsigned_here : IsOneFault UnsignedLeb (IsHere (IsLebFault IsLargeUnsigned))
 unsigned_here = field_fault UnsignedLeb (IsLebFault IsLargeUnsigned) unsigned_fault
@@ -214,10 +214,10 @@ operand_one h code listed reason other before before' left left' p q e =
 -- the fault of an operand stands after an opcode that isn't special
 record IsOperandFault (h : HeaderParts) (reason : Reason) (before left : List ℕ) : Type 0 where
   code : ℕ
-  behind : List ℕ
+  past : List ℕ
   within : code < h.opcode_base
-  joined : before ≡ code ∷ behind
-  fault : OfOperand h code (following code) reason behind left
+  joined : before ≡ code ∷ past
+  fault : OfOperand h code (following code) reason past left
 
 data IsOpcodeFault (h : HeaderParts) (reason : Reason) (before left : List ℕ) : Type 0 where
   nothing : reason ≡ Truncated → before ≡ [] → left ≡ [] → IsOpcodeFault h reason before left
@@ -234,35 +234,35 @@ opcode_fault h reason before left some (no_opcode e b l) = nothing e b l
 opcode_fault h reason before left some (unsigned_operand k takes lt b p) =
     operand (record {
       code = k;
-      behind = [];
+      past = [];
       within = lt;
       joined = b;
       fault = subst (λ (kind : Following). OfOperand h k kind reason [] left)
           (sym takes) (refl, p);
     })
 opcode_fault h reason before left some (signed_operand lt b p) =
-    operand (record { code = 3; behind = []; within = lt; joined = b; fault = (refl, p) })
+    operand (record { code = 3; past = []; within = lt; joined = b; fault = (refl, p) })
 opcode_fault h reason before left some (fixed_operand e lt b cut) =
-    operand (record { code = 9; behind = []; within = lt; joined = b; fault = (refl, record { reason_is = e; short = cut }) })
+    operand (record { code = 9; past = []; within = lt; joined = b; fault = (refl, record { reason_is = e; short = cut }) })
 opcode_fault h reason before left some (unknown_operand k numbers spelling le lt each fewer b p) =
     operand (record {
       code = k;
-      behind = spelling;
+      past = spelling;
       within = lt;
       joined = b;
       fault = subst (λ (kind : Following). OfOperand h k kind reason spelling left) (sym (takes_listed k le))
           (next numbers spelling [] fewer each (sym (append-nil spelling)) (refl, p));
     })
 opcode_fault h reason before left some (no_length b p) =
-    operand (record { code = 0; behind = []; within = some; joined = b; fault = missing refl p })
+    operand (record { code = 0; past = []; within = some; joined = b; fault = missing refl p })
 opcode_fault h reason before left some (cut_counted n spelling e p b cut) =
-    operand (record { code = 0; behind = spelling; within = some; joined = b; fault = short n spelling e p refl cut })
+    operand (record { code = 0; past = spelling; within = some; joined = b; fault = short n spelling e p refl cut })
 opcode_fault h reason before left some (wrong_counted e b w) =
     operand (record
-    { code = 0; behind = []; within = some; joined = b; fault = wrong w.0 w.1 w.2 e refl w.3 (w.4 ∙ append_assoc w.0 w.1 w.2) w.5 })
+    { code = 0; past = []; within = some; joined = b; fault = wrong w.0 w.1 w.2 e refl w.3 (w.4 ∙ append_assoc w.0 w.1 w.2) w.5 })
 opcode_fault h reason before left some (large_counted spelling o rest e p b l shape much) =
     operand (record
-    { code = 0; behind = spelling ++ 4 ∷ []; within = some; joined = b; fault = large spelling o rest e p refl l shape much })
+    { code = 0; past = spelling ++ 4 ∷ []; within = some; joined = b; fault = large spelling o rest e p refl l shape much })
 
 opcode_one : (h : HeaderParts) → AreOne (IsOpcodeFault h)
 opcode_one h reason other before before' left left' (nothing is b l) (nothing is' b' l') e = (is ∙ sym is', b ∙ sym b')
@@ -273,39 +273,39 @@ opcode_one h reason other before before' left left' (operand f) (nothing is b l)
     absurd (omega
     (arith, ap length e, length-append before left, length-append before' left', ap length b, ap length l, ap length f.joined))
 opcode_one h reason other before before' left left' (operand f) (operand g) e =
-    let all : f.code ∷ (f.behind ++ left) ≡ g.code ∷ (g.behind ++ left') =
+    let all : f.code ∷ (f.past ++ left) ≡ g.code ∷ (g.past ++ left') =
     ap (λ (z : List ℕ). z ++ left) (sym f.joined) ∙ e ∙ ap (λ (z : List ℕ). z ++ left') g.joined in
     let codes : f.code ≡ g.code = cc in
-    let tails : f.behind ++ left ≡ g.behind ++ left' = cc in
-    let here : OfOperand h g.code (following g.code) reason f.behind left =
-    subst (λ (c : ℕ). OfOperand h c (following c) reason f.behind left) codes f.fault in
-    let found = operand_one h g.code (following g.code) reason other f.behind g.behind left left' here g.fault tails in
-    (found.0, f.joined ∙ ap (λ (c : ℕ). c ∷ f.behind) codes ∙ ap (λ (z : List ℕ). g.code ∷ z) found.1 ∙ sym g.joined)
+    let tails : f.past ++ left ≡ g.past ++ left' = cc in
+    let here : OfOperand h g.code (following g.code) reason f.past left =
+    subst (λ (c : ℕ). OfOperand h c (following c) reason f.past left) codes f.fault in
+    let found = operand_one h g.code (following g.code) reason other f.past g.past left left' here g.fault tails in
+    (found.0, f.joined ∙ ap (λ (c : ℕ). c ∷ f.past) codes ∙ ap (λ (z : List ℕ). g.code ∷ z) found.1 ∙ sym g.joined)
 
 -- ---- operations that are there
 
 -- the operand of a standard operation, and the fault that would be its own
-record StandardAt (h : HeaderParts) (k : ℕ) (OfOpcode : List ℕ → Type 0) (reason : Reason) (more behind left : List ℕ) : Type 0 where
+record StandardAt (h : HeaderParts) (k : ℕ) (OfOpcode : List ℕ → Type 0) (reason : Reason) (more past left : List ℕ) : Type 0 where
   bytes : List ℕ
   spelled : OfOpcode bytes
-  joined : bytes ++ more ≡ behind ++ left
-  fault : OfOperand h k (following k) reason behind left
+  joined : bytes ++ more ≡ past ++ left
+  fault : OfOperand h k (following k) reason past left
 
 standard_at : (h : HeaderParts) (k : ℕ) (OfOpcode : List ℕ → Type 0) (reason : Reason) (before left x more : List ℕ)
     → (f : IsOperandFault h reason before left) → Standard h k OfOpcode x
-    → x ++ more ≡ before ++ left → StandardAt h k OfOpcode reason more f.behind left
+    → x ++ more ≡ before ++ left → StandardAt h k OfOpcode reason more f.past left
 standard_at h k OfOpcode reason before left x more f p e =
     let whole : x ≡ k ∷ p.1.back = p.1.joined ∙ ap (λ (z : List ℕ). z ++ p.1.back) p.1.first in
-    let all : k ∷ (p.1.back ++ more) ≡ f.code ∷ (f.behind ++ left) =
+    let all : k ∷ (p.1.back ++ more) ≡ f.code ∷ (f.past ++ left) =
     ap (λ (z : List ℕ). z ++ more) (sym whole) ∙ e ∙ ap (λ (z : List ℕ). z ++ left) f.joined in
     let codes : f.code ≡ k = cc in
-    let tails : p.1.back ++ more ≡ f.behind ++ left = cc in
+    let tails : p.1.back ++ more ≡ f.past ++ left = cc in
     record {
       bytes = p.1.back;
       spelled = p.1.second;
       joined = tails;
       fault = subst
-          (λ (c : ℕ). OfOperand h c (following c) reason f.behind left) codes f.fault;
+          (λ (c : ℕ). OfOperand h c (following c) reason f.past left) codes f.fault;
     }
 
 extended_at : (h : HeaderParts) (code : ℕ) (OfCode : List ℕ → Type 0) (reason : Reason) (before left x more : List ℕ)
@@ -319,16 +319,16 @@ extended_at h code OfCode reason before left x more f p e right =
     let back : p.2.back ≡ inner.front ++ (code ∷ bytes) = inner.joined ∙ ap (λ (z : List ℕ). inner.front ++ z) (inner.second ∙ rest) in
     let whole : x ≡ 0 ∷ (inner.front ++ (code ∷ bytes)) =
     p.2.joined ∙ ap (λ (z : List ℕ). z ++ p.2.back) p.2.first ∙ ap (λ (z : List ℕ). 0 ∷ z) back in
-    let all : 0 ∷ ((inner.front ++ (code ∷ bytes)) ++ more) ≡ f.code ∷ (f.behind ++ left) =
+    let all : 0 ∷ ((inner.front ++ (code ∷ bytes)) ++ more) ≡ f.code ∷ (f.past ++ left) =
     ap (λ (z : List ℕ). z ++ more) (sym whole) ∙ e ∙ ap (λ (z : List ℕ). z ++ left) f.joined in
     let codes : f.code ≡ 0 = cc in
-    let tails : (inner.front ++ (code ∷ bytes)) ++ more ≡ f.behind ++ left = cc in
-    let fault : IsExtendedFault h.address_size reason f.behind left =
-    subst (λ (c : ℕ). OfOperand h c (following c) reason f.behind left) codes f.fault in
+    let tails : (inner.front ++ (code ∷ bytes)) ++ more ≡ f.past ++ left = cc in
+    let fault : IsExtendedFault h.address_size reason f.past left =
+    subst (λ (c : ℕ). OfOperand h c (following c) reason f.past left) codes f.fault in
     let spelled : UnsignedLeb (length (code ∷ bytes)) inner.front =
     subst (λ (z : List ℕ). UnsignedLeb (length z) inner.front) rest inner.first in
     let is = right bytes p.1.second in
-    extended_none h.address_size reason f.behind left code bytes inner.front more fault spelled is.0 is.1
+    extended_none h.address_size reason f.past left code bytes inner.front more fault spelled is.0 is.1
     (sym (append_assoc inner.front (code ∷ bytes) more) ∙ tails)
 
 -- the operand that a standard opcode is coded with
@@ -350,33 +350,33 @@ takes_its : (op : Op) → TakesIts (coding op)
 takes_its (Special c) = refl
 takes_its op = refl
 
-fault_none : (h : HeaderParts) (k : ℕ) (taken : Operand) (reason : Reason) (more behind left : List ℕ)
-    → (s : StandardAt h k (OperandBytes h taken) reason more behind left) → OfOperand h k (coded taken) reason behind left → ⊥
-fault_none h k Operand.bare reason more behind left s fault = fault
-fault_none h k (Operand.unsigned n) reason more behind left s fault =
-    unsigned_here.none reason behind left fault n s.bytes more s.spelled s.joined
-fault_none h k (Operand.signed z) reason more behind left s fault =
-    signed_here.none reason behind left fault z s.bytes more s.spelled s.joined
-fault_none h k (Operand.half n) reason more behind left s fault =
-    (fixed_here h).none reason behind left fault n s.bytes more s.spelled s.joined
+fault_none : (h : HeaderParts) (k : ℕ) (taken : Operand) (reason : Reason) (more past left : List ℕ)
+    → (s : StandardAt h k (OperandBytes h taken) reason more past left) → OfOperand h k (coded taken) reason past left → ⊥
+fault_none h k Operand.bare reason more past left s fault = fault
+fault_none h k (Operand.unsigned n) reason more past left s fault =
+    unsigned_here.none reason past left fault n s.bytes more s.spelled s.joined
+fault_none h k (Operand.signed z) reason more past left s fault =
+    signed_here.none reason past left fault z s.bytes more s.spelled s.joined
+fault_none h k (Operand.half n) reason more past left s fault =
+    (fixed_here h).none reason past left fault n s.bytes more s.spelled s.joined
 
 -- no operation stands where an operand has a fault
 coding_none : (h : HeaderParts) (reason : Reason) (before left : List ℕ) (c : Coding) (x more : List ℕ) → TakesIts c
     → IsOperandFault h reason before left → CodingBytes h c x → x ++ more ≡ before ++ left → ⊥
 coding_none h reason before left (Coding.special c) x more takes f p e =
-    let all : c ∷ more ≡ f.code ∷ (f.behind ++ left) =
+    let all : c ∷ more ≡ f.code ∷ (f.past ++ left) =
     ap (λ (z : List ℕ). z ++ more) (sym p.2) ∙ e ∙ ap (λ (z : List ℕ). z ++ left) f.joined in
     let codes : c ≡ f.code = cc in
     omega (arith, codes, p.0, f.within)
 coding_none h reason before left (Coding.standard k taken) x more takes f p e =
     let s = standard_at h k (OperandBytes h taken) reason before left x more f p e in
-    fault_none h k taken reason more f.behind left s
-    (subst (λ (kind : Following). OfOperand h k kind reason f.behind left) takes s.fault)
+    fault_none h k taken reason more f.past left s
+    (subst (λ (kind : Following). OfOperand h k kind reason f.past left) takes s.fault)
 coding_none h reason before left (Coding.unknown_standard k numbers) x more takes f p e =
     let s = standard_at h k (Each UnsignedLeb numbers) reason before left x more f p.2 e in
-    let fault : OfOperand h k listed reason f.behind left =
-    subst (λ (kind : Following). OfOperand h k kind reason f.behind left) (takes_listed k p.0) s.fault in
-    (listed_here (standard_length h k)).none reason f.behind left fault numbers s.bytes more (p.1, s.spelled) s.joined
+    let fault : OfOperand h k listed reason f.past left =
+    subst (λ (kind : Following). OfOperand h k kind reason f.past left) (takes_listed k p.0) s.fault in
+    (listed_here (standard_length h k)).none reason f.past left fault numbers s.bytes more (p.1, s.spelled) s.joined
 coding_none h reason before left (Coding.extended code) x more takes f p e =
     extended_at h code (Exactly []) reason before left x more f p e (λ bytes q. (
       (λ _. q, λ two. absurd (omega (arith, takes, two)), λ four. absurd (omega (arith, takes, four))),

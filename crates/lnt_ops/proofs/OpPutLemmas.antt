@@ -120,11 +120,11 @@ shortest_extended Operand code x number operand p q = record {
       let rest = t.spelled.0 in
       let body = t.spelled.1 in
       let whole = t.spelled.2 in
-      let behind = whole.second in
+      let past = whole.second in
       let least = q.shortest body.back body.second in
       let size : length rest ≡ suc (length body.back) = ap length body.joined ∙ length-append body.front body.back
       ∙ ap (λ (z : List ℕ). length z + length body.back) body.first ∙ omega arith in
-      let count = shortest_of_less (suc (length operand)) (length rest) number behind.front (omega (arith, size, least)) p behind.first in
+      let count = shortest_of_less (suc (length operand)) (length rest) number past.front (omega (arith, size, least)) p past.first in
       omega (
         arith,
         least,
@@ -134,9 +134,9 @@ shortest_extended Operand code x number operand p q = record {
         ap length whole.joined,
         length-append whole.front whole.back,
         ap length whole.first,
-        ap length behind.joined,
-        length-append behind.front behind.back,
-        ap length behind.second,
+        ap length past.joined,
+        length-append past.front past.back,
+        ap length past.second,
       );
 }
 
@@ -192,11 +192,11 @@ address_put order size address count old middle new s is p =
 -- ---- a discriminator, whose length is written last
 
 -- what stands after some bytes, after its first but one was changed
-second_set : (old : List ℕ) (a b v : ℕ) (behind : List ℕ) → slice_set (old ++ a ∷ b ∷ behind) (length old + 1) v ≡ old ++ a ∷ v ∷ behind
-second_set [] a b v behind = refl
-second_set (x ∷ old) a b v behind =
+second_set : (old : List ℕ) (a b v : ℕ) (past : List ℕ) → slice_set (old ++ a ∷ b ∷ past) (length old + 1) v ≡ old ++ a ∷ v ∷ past
+second_set [] a b v past = refl
+second_set (x ∷ old) a b v past =
     let at : length (x ∷ old) + 1 ≡ suc (length old + 1) = omega arith in
-    rw at (ap (λ (z : List ℕ). x ∷ z) (second_set old a b v behind))
+    rw at (ap (λ (z : List ℕ). x ∷ z) (second_set old a b v past))
 
 -- a byte is enough for the length
 pub discriminator_room : (n : ℕ) (old middle new : List ℕ) → middle ≡ old ++ 0 ∷ 0 ∷ 4 ∷ [] → Appends UnsignedLeb n middle new

@@ -103,8 +103,8 @@ none_after h k rest bytes whole none op [] more p e = omega (arith, op_is_some h
 none_after h k rest bytes whole none op (b ∷ x) more p e =
     let all : b ∷ (x ++ more) ≡ k ∷ rest = e ∙ whole in
     let first : b ≡ k = cc in
-    let behind : x ++ more ≡ rest = cc in
-    none op x more (record { whole = subst (λ (a : ℕ). OpBytes h op (a ∷ x)) first p }) behind
+    let past : x ++ more ≡ rest = cc in
+    none op x more (record { whole = subst (λ (a : ℕ). OpBytes h op (a ∷ x)) first p }) past
 
 pub first_after : (h : HeaderParts) (k : ℕ) (old ahead middle : At) (fault : Fault) → ahead.place ≡ old.place → ahead.rest ≡ old.rest
     → Reads (NumberBytes ahead.order 1) k ahead middle

@@ -222,12 +222,12 @@ gives_front h view size old new f rest place order = record {
 abbrev pub walk_at : HeaderParts → ℕ → List ℕ → Walk
 walk_at h end rest = record { header = h; at = record { place = end - length rest; rest = rest; order = h.order }; failed = false }
 
-pub steps_short : (h : HeaderParts) (end : ℕ) (view : OpView) (size : ℕ) (rest behind : List ℕ) → length rest ≤ end
-    → IsFront h view size rest → behind ≡ drop size rest → length behind + size ≡ length rest
-    → Steps view (walk_at h end rest) (walk_at h end behind)
-steps_short h end view size rest behind le f is count =
-    steps_on view (walk_at h end rest) (walk_at h end behind) refl refl refl
-    (gives_front h view size (walk_at h end rest).at (walk_at h end behind).at f is (omega (arith, le, count)) refl)
+pub steps_short : (h : HeaderParts) (end : ℕ) (view : OpView) (size : ℕ) (rest past : List ℕ) → length rest ≤ end
+    → IsFront h view size rest → past ≡ drop size rest → length past + size ≡ length rest
+    → Steps view (walk_at h end rest) (walk_at h end past)
+steps_short h end view size rest past le f is count =
+    steps_on view (walk_at h end rest) (walk_at h end past) refl refl refl
+    (gives_front h view size (walk_at h end rest).at (walk_at h end past).at f is (omega (arith, le, count)) refl)
 
 -- ---- where no such operation begins
 

@@ -78,12 +78,12 @@ least_extended law code Operand o fits =
           let rest = t.0 in
           let body = t.1 in
           let whole = t.2 in
-          let behind = whole.second in
+          let past = whole.second in
           let least = o.least body.back body.second in
           let size : length rest ≡ suc (length body.back) = ap length body.joined ∙ length-append body.front body.back
           ∙ ap (λ (z : List ℕ). length z + length body.back) body.first ∙ omega arith in
-          let count = shortest_of_less (suc (length o.bytes)) (length rest) number.0 behind.front (omega (arith, size, least)) number.1
-          behind.first in
+          let count = shortest_of_less (suc (length o.bytes)) (length rest) number.0 past.front (omega (arith, size, least)) number.1
+          past.first in
           omega (
             arith,
             least,
@@ -93,9 +93,9 @@ least_extended law code Operand o fits =
             ap length whole.joined,
             length-append whole.front whole.back,
             ap length whole.first,
-            ap length behind.joined,
-            length-append behind.front behind.back,
-            ap length behind.second,
+            ap length past.joined,
+            length-append past.front past.back,
+            ap length past.second,
           );
     }
 

@@ -115,8 +115,8 @@ impl<'a> Ops<'a> {
         }
         let rest = self.rest;
         let (view, size) = short_op(rest, self.header)?;
-        let (_, behind) = rest.split_at(size);
-        self.rest = behind;
+        let (_, past) = rest.split_at(size);
+        self.rest = past;
         Some(view)
     }
 }

@@ -16,10 +16,10 @@ use Rattle.lnt_paths.proofs.PathSpanLemmas.{first_holds, rest_in_order}
 
 -- ---- found in turn
 
-behind : (done rest : List Span) (p : Position) → AllByRecursion HasNoOperation done → IsFirstOperation p rest
+past : (done rest : List Span) (p : Position) → AllByRecursion HasNoOperation done → IsFirstOperation p rest
     → IsFirstOperation p (done ++ rest)
-behind [] rest p h f = f
-behind (s ∷ done) rest p h f = inr (inr (h.0, behind done rest p h.1 f))
+past [] rest p h f = f
+past (s ∷ done) rest p h f = inr (inr (h.0, past done rest p h.1 f))
 
 pub found : (joined given : List Span) (span : Span) (p : Position) (Left New : List Span → Type 0) → HasGiven joined given Left
     → ((spans : List Span) → Left spans → GivesFirst New spans (Some span))
@@ -29,7 +29,7 @@ found joined given span p Left New h gives none first = by h.rest h.list_is (giv
     by : (rest : List Span) → joined ≡ given ++ rest → GivesFirst New rest (Some span) → IsFirstOperation p joined
     by [] e g = absurd g
     by (s ∷ more) e g = subst (IsFirstOperation p) (sym e)
-        (behind given (s ∷ more) p none (subst (λ (t : Span). IsFirstOperation p (t ∷ more)) g.0 (first more)))
+        (past given (s ∷ more) p none (subst (λ (t : Span). IsFirstOperation p (t ∷ more)) g.0 (first more)))
 
 pub none_more : (given : List Span) (span : Span) → AllByRecursion HasNoOperation given → HasNoOperation span
     → AllByRecursion HasNoOperation (given ++ span ∷ [])
@@ -38,23 +38,23 @@ none_more (s ∷ given) span h one = (h.0, none_more given span h.1 one)
 
 -- ---- the least one
 
-abbrev IsBehind : Position → Position → Type 0
-IsBehind p q = q.op ≢ 0 → IsAtMost p q
+abbrev IsAfter : Position → Position → Type 0
+IsAfter p q = q.op ≢ 0 → IsAtMost p q
 
-abbrev FirstIsBehind : Position → List PathSpan → Type 0
-FirstIsBehind p [] = Unit {0}
-FirstIsBehind p (s ∷ rest) = IsAtMost p s.low
+abbrev FirstIsAfter : Position → List PathSpan → Type 0
+FirstIsAfter p [] = Unit {0}
+FirstIsAfter p (s ∷ rest) = IsAtMost p s.low
 
-next_behind : (p : Position) (s : PathSpan) (rest : List PathSpan) → StandInOrder (s ∷ rest) → IsAtMost p s.high → FirstIsBehind p rest
-next_behind p s [] o h = tt
-next_behind p s (t ∷ rest) o h = at_most_trans h o.1
+next_after : (p : Position) (s : PathSpan) (rest : List PathSpan) → StandInOrder (s ∷ rest) → IsAtMost p s.high → FirstIsAfter p rest
+next_after p s [] o h = tt
+next_after p s (t ∷ rest) o h = at_most_trans h o.1
 
-all_behind : (p : Position) (list : List PathSpan) → StandInOrder list → FirstIsBehind p list
-    → AllByRecursion (IsBehind p) (path_borders list)
-all_behind p [] o h = tt
-all_behind p (s ∷ rest) o h =
+all_after : (p : Position) (list : List PathSpan) → StandInOrder list → FirstIsAfter p list
+    → AllByRecursion (IsAfter p) (path_borders list)
+all_after p [] o h = tt
+all_after p (s ∷ rest) o h =
     let end = at_most_trans h (below_is_at_most (first_holds s rest o)) in
-    (λ op. h, (λ op. end, all_behind p rest (rest_in_order s rest o) (next_behind p s rest o end)))
+    (λ op. h, (λ op. end, all_after p rest (rest_in_order s rest o) (next_after p s rest o end)))
 
 further : (xs : List Position) (x y p : Position) → Contains xs p → Contains (x ∷ y ∷ xs) p
 further xs x y p (k, lt, same) = (suc (suc k), omega (arith, lt), same)
@@ -65,13 +65,13 @@ first_least tell [] p o f = absurd f
 first_least tell (s ∷ rest) p o (inl f) = record {
   border = (0, omega arith, sym f.1);
   op = subst (λ (q : Position). q.op ≢ 0) (sym f.1) f.0;
-  least = subst (λ (q : Position). AllByRecursion (IsBehind q) (path_borders (map (tell_span tell) (s ∷ rest)))) (sym f.1)
-      (all_behind s.low (map (tell_span tell) (s ∷ rest)) o (at_most_itself s.low));
+  least = subst (λ (q : Position). AllByRecursion (IsAfter q) (path_borders (map (tell_span tell) (s ∷ rest)))) (sym f.1)
+      (all_after s.low (map (tell_span tell) (s ∷ rest)) o (at_most_itself s.low));
 }
 first_least tell (s ∷ rest) p o (inr (inl f)) =
     let list : List PathSpan = map (tell_span tell) rest in
-    let back = all_behind s.high list (rest_in_order (tell_span tell s) list o)
-    (next_behind s.high (tell_span tell s) list o (at_most_itself s.high)) in
+    let back = all_after s.high list (rest_in_order (tell_span tell s) list o)
+    (next_after s.high (tell_span tell s) list o (at_most_itself s.high)) in
     record {
       border = (1, omega arith, sym f.2);
       op = subst (λ (q : Position). q.op ≢ 0) (sym f.2) f.1;
@@ -79,7 +79,7 @@ first_least tell (s ∷ rest) p o (inr (inl f)) =
         λ op. absurd (op f.0),
         (
           λ op. subst (λ (q : Position). IsAtMost q s.high) (sym f.2) (at_most_itself s.high),
-          subst (λ (q : Position). AllByRecursion (IsBehind q) (path_borders list)) (sym f.2) back,
+          subst (λ (q : Position). AllByRecursion (IsAfter q) (path_borders list)) (sym f.2) back,
         ),
       );
     }

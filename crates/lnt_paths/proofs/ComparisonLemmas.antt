@@ -86,11 +86,11 @@ pub record_taken : {S : Type 0} (to_come : S → List Span → Type 0) (tell : A
     → IsMerged tell (IsLeft to_come new.section.next new.section.spans) (whole new.at) new.first list (table ++ record_span said ∷ []))
     → JudgesByPath to_come tell version new section (records ++ fields ∷ [])
 record_taken to_come tell version old new section records fields said j says le lt count step =
-    let behind : IsAtMost (whole old.at) (whole said.low) = record { address = le; op = λ e. omega arith } in
+    let past : IsAtMost (whole old.at) (whole said.low) = record { address = le; op = λ e. omega arith } in
     record {
       table = j.table ++ record_span said ∷ [];
       is_table = table_push version records j.table fields (record_span said) j.is_table (says_span version fields said says)
-          (subst (λ (p : Position). IsAtMost p (whole said.low)) j.merged.at_is behind) (low_high said lt);
+          (subst (λ (p : Position). IsAtMost p (whole said.low)) j.merged.at_is past) (low_high said lt);
       count = omega (arith, j.count, count, length-append records (fields ∷ []));
       merged = step section j.table j.merged;
     }
@@ -108,9 +108,9 @@ order_fault to_come tell version old section records fields said j says not = (
   says_span version fields said says,
   λ o.
       let both = order_pushed j.table (record_span said) o in
-      let behind : IsAtMost (whole old.at) (whole said.low) =
+      let past : IsAtMost (whole old.at) (whole said.low) =
       subst (λ (p : Position). IsAtMost p (whole said.low)) (sym j.merged.at_is) both.0 in
-      not behind.address (holds_some said.low said.high both.1),
+      not past.address (holds_some said.low said.high both.1),
 )
 
 -- ---- what is told

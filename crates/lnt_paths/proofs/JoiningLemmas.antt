@@ -9,7 +9,7 @@ use Rattle.lnt_spans.specs.declared.position.Position.{Position}
 use Rattle.lnt_spans.specs.declared.span.Span.{Span}
 use Rattle.lnt_spans.specs.Positions.{IsBelow, IsAtMost}
 use Rattle.lnt_spans.specs.Spans.{AreInOrder, is_in_span, span_answer}
-use Rattle.lnt_spans.specs.Laws.Answering.{answer_before, answer_behind, answer_in, first_holds}
+use Rattle.lnt_spans.specs.Laws.Answering.{answer_before, answer_after, answer_in, first_holds}
 use Rattle.lnt_spans.specs.Laws.Positions.{at_most_itself, below_at_most, below_is_at_most, not_both, order_cases, order_three}
 use Rattle.lnt_paths.specs.Joining.{AllJoinTo, GoesOn, JoinsTo, grown, tell_span}
 use Rattle.lnt_paths.specs.PathAnswers.{PathAnswer}
@@ -122,9 +122,9 @@ grown_order last next (r ∷ rest) touch h = (grown_holds last next touch h.0 h.
 
 put_before : (last next : Span) (joined : List Span) → IsBelow last.low last.high → IsAtMost last.high next.low → BeginsLike next joined
     → AreInOrder joined → AreInOrder (last ∷ joined)
-put_before last next joined holds behind like order =
+put_before last next joined holds past like order =
     subst (λ (list : List Span). AreInOrder (last ∷ list)) (sym like.list_is)
-    (holds, subst (λ (p : Position). IsAtMost last.high p) (sym like.low) behind, subst AreInOrder like.list_is order)
+    (holds, subst (λ (p : Position). IsAtMost last.high p) (sym like.low) past, subst AreInOrder like.list_is order)
 
 joined_order : (tell : Answer → PathAnswer) (last : Span) (rest joined : List Span) → AreInOrder (last ∷ rest)
     → JoinsTo tell last rest joined → AreInOrder joined
@@ -161,23 +161,23 @@ grown_answer tell last next rest p goes o =
             let late : IsAtMost next.low p = subst (λ (q : Position). IsAtMost q p) goes.0 over in
             elim (order_cases p next.high) [
               | inl under ↦ ap told (answer_in whole rest p from under) ∙ ap Some goes.1
-                  ∙ sym (ap told (answer_behind last (next ∷ rest) p over ∙ answer_in next rest p late under))
-              | inr behind ↦ ap told (answer_behind whole rest p behind)
-                  ∙ sym (ap told (answer_behind last (next ∷ rest) p over ∙ answer_behind next rest p behind))
+                  ∙ sym (ap told (answer_after last (next ∷ rest) p over ∙ answer_in next rest p late under))
+              | inr past ↦ ap told (answer_after whole rest p past)
+                  ∙ sym (ap told (answer_after last (next ∷ rest) p over ∙ answer_after next rest p past))
             ]
       ]
     ]
 
 -- one more in front of lists that agree
-same_behind : (tell : Answer → PathAnswer) (last : Span) (xs ys : List Span) (p : Position) → by_path tell xs p ≡ by_path tell ys p
+same_after : (tell : Answer → PathAnswer) (last : Span) (xs ys : List Span) (p : Position) → by_path tell xs p ≡ by_path tell ys p
     → by_path tell (last ∷ xs) p ≡ by_path tell (last ∷ ys) p
-same_behind tell last xs ys p e =
+same_after tell last xs ys p e =
     let told : Option Answer → Option PathAnswer = option_map tell in
     elim (order_cases p last.low) [
       | inl h ↦ ap told (answer_before last xs p h) ∙ e ∙ sym (ap told (answer_before last ys p h))
       | inr h ↦ elim (order_cases p last.high) [
         | inl k ↦ ap told (answer_in last xs p h k) ∙ sym (ap told (answer_in last ys p h k))
-        | inr k ↦ ap told (answer_behind last xs p k) ∙ e ∙ sym (ap told (answer_behind last ys p k))
+        | inr k ↦ ap told (answer_after last xs p k) ∙ e ∙ sym (ap told (answer_after last ys p k))
       ]
     ]
 
@@ -190,7 +190,7 @@ joined_same tell last (next ∷ rest) joined p h (inl j) =
     ∙ grown_answer tell last next rest p j.0 h
 joined_same tell last (next ∷ rest) joined p h (inr j) =
     ap (λ (list : List Span). by_path tell list p) j.2
-    ∙ same_behind tell last j.1 (next ∷ rest) p (joined_same tell next rest j.1 p h.2 j.3)
+    ∙ same_after tell last j.1 (next ∷ rest) p (joined_same tell next rest j.1 p h.2 j.3)
 
 -- ---- none goes on with the one before it
 

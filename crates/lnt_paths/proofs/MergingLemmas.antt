@@ -23,7 +23,7 @@ use Rattle.lnt_paths.specs.PathAnswers.{PathAnswer}
 use Rattle.lnt_paths.specs.PathDifferences.{DifferFirst, IsLeastPathDifference, told_path_answer}
 use Rattle.lnt_paths.specs.PathSpans.{PathSpan, path_span_answer}
 use Rattle.lnt_paths.specs.Reading.{record_answer, record_span, whole}
-use Rattle.lnt_paths.proofs.PathSpanLemmas.{answer_before, answer_behind, answer_in}
+use Rattle.lnt_paths.proofs.PathSpanLemmas.{answer_before, answer_after, answer_in}
 
 -- ---- the spans that are left
 
@@ -44,9 +44,9 @@ none_from : (rest : List Span) (p at : Position) → AreInOrder rest → BeginFr
 none_from [] p at o f h = refl
 none_from (span ∷ more) p at o f h = answering.none_before span more p o (below_at_most h f)
 
-behind_first : (span : Span) (more : List Span) → AreInOrder (span ∷ more) → BeginFrom span.high more
-behind_first span [] o = tt
-behind_first span (next ∷ more) o = o.1
+after_first : (span : Span) (more : List Span) → AreInOrder (span ∷ more) → BeginFrom span.high more
+after_first span [] o = tt
+after_first span (next ∷ more) o = o.1
 
 -- ---- one stretch after another
 
@@ -102,10 +102,10 @@ passed_span tell list by_table at AreLeft AreLeft' span more passed e le h left 
       rest = more;
       left = left;
       order = answering.rest_in_order span more order;
-      from = behind_first span more order;
+      from = after_first span more order;
       agree = agree_more tell list by_table at span.high AreLeft span more passed e h;
       same =
-          λ p k. passed.same p (at_most_trans le k) ∙ ap (λ (xs : List Span). span_answer xs p) e ∙ answering.answer_behind span more p k;
+          λ p k. passed.same p (at_most_trans le k) ∙ ap (λ (xs : List Span). span_answer xs p) e ∙ answering.answer_after span more p k;
     }
 
 -- the next span up to a position in it
@@ -133,7 +133,7 @@ passed_part tell list by_table at end AreLeft AreLeft' span more passed e le lt 
     same p k = elim (order_cases p span.high) [
       | inl under ↦ answering.answer_in span more p (at_most_trans h.from (at_most_trans le k)) under
           ∙ sym (answering.answer_in (record span { low = end }) more p k under)
-      | inr over ↦ answering.answer_behind span more p over ∙ sym (answering.answer_behind (record span { low = end }) more p over)
+      | inr over ↦ answering.answer_after span more p over ∙ sym (answering.answer_after (record span { low = end }) more p over)
     ]
 
 -- ---- one record
@@ -173,8 +173,8 @@ pub begun : {S : Type 0} (to_come : S → List Span → Type 0) (tell : Answer �
     (next : Option Span) (spans : S) → IfSome next (λ span. IsAtMost (whole said.low) span.low) → IsLeft to_come next spans list
     → AreInOrder list
     → ArePassed tell list (alone said) (whole said.low) (IsLeft to_come next spans)
-begun to_come tell list said next spans behind left order =
-    passed_none tell list (record_span said) (whole said.low) (IsLeft to_come next spans) left order (from list next behind left)
+begun to_come tell list said next spans past left order =
+    passed_none tell list (record_span said) (whole said.low) (IsLeft to_come next spans) left order (from list next past left)
     (at_most_itself (whole said.low))
   where
     from : (xs : List Span) (first : Option Span) → IfSome first (λ span. IsAtMost (whole said.low) span.low)
@@ -264,10 +264,10 @@ passed_whole to_come tell list said at next given spans spans' span is from same
     (given_left to_come given spans' first.0 (gives first.0 first.2))
 
 -- and the record begins before that
-pub low_behind : {S : Type 0} (to_come : S → List Span → Type 0) (tell : Answer → PathAnswer) (list : List Span) (said : PathRecord)
+pub low_after : {S : Type 0} (to_come : S → List Span → Type 0) (tell : Answer → PathAnswer) (list : List Span) (said : PathRecord)
     (at : Position) (next : Option Span) (spans : S) (span : Span) → next ≡ Some span → IsAtMost (whole said.low) at
     → ArePassed tell list (alone said) at (IsLeft to_come next spans) → IsAtMost (whole said.low) span.high
-low_behind to_come tell list said at next spans span is le passed =
+low_after to_come tell list said at next spans span is le passed =
     let first = left_first to_come next spans passed.rest span is passed.left in
     let order : AreInOrder (span ∷ first.0) = subst AreInOrder first.1 passed.order in
     let begins : IsAtMost at span.low = subst (BeginFrom at) first.1 passed.from in
@@ -306,7 +306,7 @@ answer_push_none (r ∷ table) more p e = elim (order_cases p r.low) [
   | inl before ↦ answer_before r (table ++ more) p before ∙ answer_push_none table more p (sym (answer_before r table p before) ∙ e)
   | inr from ↦ elim (order_cases p r.high) [
     | inl under ↦ let here = answer_in r table p from under in absurd (cc (here, e))
-    | inr over ↦ answer_behind r (table ++ more) p over ∙ answer_push_none table more p (sym (answer_behind r table p over) ∙ e)
+    | inr over ↦ answer_after r (table ++ more) p over ∙ answer_push_none table more p (sym (answer_after r table p over) ∙ e)
   ]
 ]
 
@@ -318,7 +318,7 @@ answer_push_before (r ∷ table) span p h = elim (order_cases p r.low) [
   | inl before ↦ answer_before r (table ++ span ∷ []) p before ∙ answer_push_before table span p h ∙ sym (answer_before r table p before)
   | inr from ↦ elim (order_cases p r.high) [
     | inl under ↦ answer_in r (table ++ span ∷ []) p from under ∙ sym (answer_in r table p from under)
-    | inr over ↦ answer_behind r (table ++ span ∷ []) p over ∙ answer_push_before table span p h ∙ sym (answer_behind r table p over)
+    | inr over ↦ answer_after r (table ++ span ∷ []) p over ∙ answer_push_before table span p h ∙ sym (answer_after r table p over)
   ]
 ]
 
@@ -329,18 +329,18 @@ end_pushed (r ∷ next ∷ table) span = end_pushed (next ∷ table) span
 
 -- a record after the end of those that were compared
 pub record Follows (at : Position) (said : PathRecord) : Type 0 where
-  pub behind : IsAtMost at (whole said.low)
+  pub past : IsAtMost at (whole said.low)
   pub holds : IsBelow (whole said.low) (whole said.high)
 
 pub follows : (at : ℕ) (said : PathRecord) → at ≤ said.low → said.low < said.high → Follows (whole at) said
-follows at said le lt = record { behind = record { address = le; op = λ e. omega arith }; holds = low_high said lt }
+follows at said le lt = record { past = record { address = le; op = λ e. omega arith }; holds = low_high said lt }
 
 ended_on : (at : Position) (table : List PathSpan) (said : PathRecord) → Follows at said
     → ((p : Position) → IsAtMost at p → path_span_answer table p ≡ None)
     → (p : Position) → IsAtMost (whole said.high) p → path_span_answer (table ++ record_span said ∷ []) p ≡ None
 ended_on at table said f ended p h =
-    answer_push_none table (record_span said ∷ []) p (ended p (at_most_trans f.behind (at_most_trans (below_is_at_most f.holds) h)))
-    ∙ answer_behind (record_span said) [] p h
+    answer_push_none table (record_span said ∷ []) p (ended p (at_most_trans f.past (at_most_trans (below_is_at_most f.holds) h)))
+    ∙ answer_after (record_span said) [] p h
 
 -- what both answer up to p, where the section is as the records so far and what is left of it as the record
 agree_on : (tell : Answer → PathAnswer) (section : List Span) (table : List PathSpan) (said : PathRecord) (at : Position)
@@ -350,7 +350,7 @@ agree_on : (tell : Answer → PathAnswer) (section : List Span) (table : List Pa
     → (p : Position) → (answer_told tell m.rest p ≡ alone said p)
     → answer_told tell section p ≡ path_span_answer (table ++ record_span said ∷ []) p
 agree_on tell section table said at AreLeft m f ended p e = elim (order_cases p at) [
-  | inl early ↦ m.agree p early ∙ sym (answer_push_before table (record_span said) p (below_at_most early f.behind))
+  | inl early ↦ m.agree p early ∙ sym (answer_push_before table (record_span said) p (below_at_most early f.past))
   | inr late ↦ ap (option_map tell) (m.same p late) ∙ e ∙ sym (answer_push_none table (record_span said ∷ []) p (ended p late))
 ]
 
@@ -371,7 +371,7 @@ merged_on tell section table said at None AreLeft AreLeft' f e step c =
         order = n.order;
         from = n.from;
         agree = λ p h. agree_on tell section table said at AreLeft m f c.ended p (n.agree p h);
-        same = λ p h. m.same p (at_most_trans f.behind (at_most_trans (below_is_at_most f.holds) h)) ∙ n.same p h;
+        same = λ p h. m.same p (at_most_trans f.past (at_most_trans (below_is_at_most f.holds) h)) ∙ n.same p h;
       };
     }
 merged_on tell section table said at (Some difference) AreLeft AreLeft' f e step c = absurd (cc e)
@@ -385,7 +385,7 @@ differ_on : (tell : Answer → PathAnswer) (section : List Span) (table : List P
     → DifferFirst (answer_told tell section) (path_span_answer (table ++ record_span said ∷ [])) position one other
 differ_on tell section table said at position one other AreLeft m f ended d =
     let late : IsAtMost at position = elim (order_cases position at) [
-      | inl early ↦ absurd (d.differ (d.table_is ∙ answer_before (record_span said) [] position (below_at_most early f.behind)
+      | inl early ↦ absurd (d.differ (d.table_is ∙ answer_before (record_span said) [] position (below_at_most early f.past)
           ∙ sym (d.section_is ∙ ap (option_map tell) (none_from m.rest position at m.order m.from early))))
       | inr late ↦ late
     ] in
@@ -435,12 +435,12 @@ merged_still tell section table said at (Some d) AreLeft AreLeft' f e c =
       merged = (
         record {
           section_is = least.section_is;
-          table_is = least.table_is ∙ sym (answer_push_before table (record_span said) d.position (below_at_most below f.behind));
+          table_is = least.table_is ∙ sym (answer_push_before table (record_span said) d.position (below_at_most below f.past));
           differ = least.differ;
           before = λ p h. least.before p h
-              ∙ sym (answer_push_before table (record_span said) p (below_at_most h (below_is_at_most (below_at_most below f.behind))));
+              ∙ sym (answer_push_before table (record_span said) p (below_at_most h (below_is_at_most (below_at_most below f.past))));
         },
-        below_at_most below (at_most_trans f.behind (below_is_at_most f.holds)),
+        below_at_most below (at_most_trans f.past (below_is_at_most f.holds)),
       );
     }
 

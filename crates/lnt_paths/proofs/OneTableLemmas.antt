@@ -116,22 +116,22 @@ front_in_order (x ∷ next ∷ xs) ys h = (h.0, h.1, front_in_order (next ∷ xs
 record Parted (version : PathVersion) (records : List Fields) (fields : Fields) (spans : List PathSpan) : Type 0 where
   front : List PathSpan
   span : PathSpan
-  behind : List PathSpan
-  joined : spans ≡ (front ++ span ∷ []) ++ behind
+  past : List PathSpan
+  joined : spans ≡ (front ++ span ∷ []) ++ past
   each : AllZip (IsPathRecord version) records front
   says : IsPathRecord version fields span
 
-part : (version : PathVersion) (records : List Fields) (fields : Fields) (behind : List Fields) (spans : List PathSpan)
-    → AllZip (IsPathRecord version) ((records ++ fields ∷ []) ++ behind) spans → Parted version records fields spans
-part version [] fields behind [] z = absurd z
-part version [] fields behind (s ∷ spans) z = record { front = []; span = s; behind = spans; joined = refl; each = tt; says = z.0 }
-part version (r ∷ records) fields behind [] z = absurd z
-part version (r ∷ records) fields behind (s ∷ spans) z =
-    let p = part version records fields behind spans z.1 in
+part : (version : PathVersion) (records : List Fields) (fields : Fields) (past : List Fields) (spans : List PathSpan)
+    → AllZip (IsPathRecord version) ((records ++ fields ∷ []) ++ past) spans → Parted version records fields spans
+part version [] fields past [] z = absurd z
+part version [] fields past (s ∷ spans) z = record { front = []; span = s; past = spans; joined = refl; each = tt; says = z.0 }
+part version (r ∷ records) fields past [] z = absurd z
+part version (r ∷ records) fields past (s ∷ spans) z =
+    let p = part version records fields past spans z.1 in
     record {
       front = s ∷ p.front;
       span = p.span;
-      behind = p.behind;
+      past = p.past;
       joined = ap (λ (l : List PathSpan). s ∷ l) p.joined;
       each = (z.0, p.each);
       says = p.says;
@@ -145,18 +145,18 @@ not_faulty version records fields spans number (fault.Number k i) p o f =
     f.2.faulty (sound_field version fields p.span p.says i (rw f.1 at f.2.there))
 not_faulty version records fields spans number (fault.Order k) p o f =
     let same : f.1 ≡ p.span = one_span version fields f.1 p.span f.2 p.says in
-    let front = front_in_order (p.front ++ p.span ∷ []) p.behind (rw p.joined at o) in
+    let front = front_in_order (p.front ++ p.span ∷ []) p.past (rw p.joined at o) in
     f.3 (subst (λ (s : PathSpan). StandInOrder (p.front ++ s ∷ [])) (sym same) front)
 
 -- a faulty record among those of a table
-pub faulty_none : (v version : PathVersion) (records behind : List Fields) (fields : Fields) (before spans : List PathSpan)
+pub faulty_none : (v version : PathVersion) (records past : List Fields) (fields : Fields) (before spans : List PathSpan)
     (told : TableFault)
     → IsPathTable v records before → IsFaultyRecord v before (length records) fields told
-    → IsPathTable version ((records ++ fields ∷ []) ++ behind) spans → ⊥
-faulty_none v version [] behind fields before spans told t f all = absurd t
-faulty_none v version (first ∷ records) behind fields before spans told t f all =
+    → IsPathTable version ((records ++ fields ∷ []) ++ past) spans → ⊥
+faulty_none v version [] past fields before spans told t f all = absurd t
+faulty_none v version (first ∷ records) past fields before spans told t f all =
     let same : v ≡ version = one_version v version (sym t.0 ∙ all.0) in
-    let p = part version records fields behind spans all.1.each in
+    let p = part version records fields past spans all.1.each in
     let ours = subst (λ (k : PathVersion). AllZip (IsPathRecord k) records before) same t.1.each in
     let front : before ≡ p.front = one_spans version records before p.front ours p.each in
     let faulty = subst (λ (xs : List PathSpan). IsFaultyRecord version xs (length (first ∷ records)) fields told) front

@@ -27,7 +27,7 @@ use Rattle.lnt_paths.specs.declared.version.PathVersion.{PathVersion}
 use Rattle.lnt_paths.specs.declared.version.PathVersion.TheVariants.{Three, Four}
 use Rattle.lnt_paths.specs.Joining.{IsPlainByte}
 use Rattle.lnt_paths.specs.Merging.{IsLeft, IsMerged, JudgesByPath}
-use Rattle.lnt_paths.specs.Passing.{GoesOnAs, HasTaken, IsBehind, IsPathBefore, IsPathLine, IsPlace}
+use Rattle.lnt_paths.specs.Passing.{GoesOnAs, HasTaken, IsAfter, IsPathBefore, IsPathLine, IsPlace}
 use Rattle.lnt_paths.specs.PathAnswers.{PathAnswer}
 use Rattle.lnt_paths.specs.PathSpans.{PathSpan}
 use Rattle.lnt_paths.specs.PathTables.{SaysPath, path_column_names}
@@ -234,30 +234,30 @@ reached_both s mid after bytes rest left (f ∷ records) more a b =
     (a.0, a.1, a.2, reached_both a.0.1 mid after a.0.2 rest left records more a.3 b)
 
 -- what is reached after the first record
-behind_first : (s mid after : State) (text rest left : List ℕ) (last first : Fields) (more : List Fields)
+after_first : (s mid after : State) (text rest left : List ℕ) (last first : Fields) (more : List Fields)
     → Reached default_config s text (last ∷ []) mid rest → Reached default_config s text (first ∷ more) after left
     → Reached default_config mid rest more after left
 unfolding Reached
-behind_first s mid after text rest left last first more a b =
+after_first s mid after text rest left last first more a b =
     let same : a.0 ≡ b.0 = same_some a.0 b.0 (sym a.1 ∙ b.1) in
     let from : Reached default_config a.0.1 a.0.2 more after left =
     subst (λ (p : Read). Reached default_config p.1 p.2 more after left) (sym same) b.3 in
     subst (λ (x : State). Reached default_config x rest more after left) a.3.0
     (subst (λ (t : List ℕ). Reached default_config a.0.1 t more after left) a.3.1 from)
 
--- what `csv` reads of the text behind its first record it reads of the bytes
+-- what `csv` reads of the text past its first record it reads of the bytes
 pub reached_on : (bytes text : List ℕ) (records more : List Fields) (first : Fields) (after : State) (left : List ℕ)
-    → IsBehind bytes text records → Reached default_config st.StartRecord (strip_bom text) (first ∷ more) after left
+    → IsAfter bytes text records → Reached default_config st.StartRecord (strip_bom text) (first ∷ more) after left
     → Reached default_config st.StartRecord (strip_bom bytes) (records ++ more) after left
 reached_on bytes text records more first after left h r =
     reached_both st.StartRecord h.after after (strip_bom bytes) h.rest left records more h.goes_on.reached
-    (behind_first st.StartRecord h.after after (strip_bom text) h.rest left h.goes_on.last first more h.goes_on.text_reached r)
+    (after_first st.StartRecord h.after after (strip_bom text) h.rest left h.goes_on.last first more h.goes_on.text_reached r)
 
-pub all_on : (bytes text : List ℕ) (records more : List Fields) (first : Fields) → IsBehind bytes text records
+pub all_on : (bytes text : List ℕ) (records more : List Fields) (first : Fields) → IsAfter bytes text records
     → RecordsOf text (first ∷ more) → RecordsOf bytes (records ++ more)
 all_on bytes text records more first h all = (all.0, all.1, reached_on bytes text records more first all.0 all.1 h all.2, all.3)
 
-pub begins_on : (bytes text : List ℕ) (records more : List Fields) (first : Fields) → IsBehind bytes text records
+pub begins_on : (bytes text : List ℕ) (records more : List Fields) (first : Fields) → IsAfter bytes text records
     → BeginsWith text (first ∷ more) → BeginsWith bytes (records ++ more)
 begins_on bytes text records more first h b = (b.0, b.1, reached_on bytes text records more first b.0 b.1 h b.2)
 
@@ -304,7 +304,7 @@ line_passed version said bytes text next rest records h l =
       text_reached = rw (line_unmarked version said next rest l) one;
     }
 
--- ---- records that `csv` reads behind the text's first one
+-- ---- records that `csv` reads past the text's first one
 
 pub judges_nil : {S : Type 0} (to_come : S → List Span → Type 0) (tell : Answer → PathAnswer) (version : PathVersion)
     (comparison : PathComparison S) (list : List Span) (records : List Fields) → JudgesByPath to_come tell version comparison list records
@@ -320,24 +320,24 @@ judges_more to_come tell version comparison list records more fields j =
     subst (λ (r : List Fields). JudgesByPath to_come tell version comparison list r) (append_assoc records more (fields ∷ [])) j
 
 pub begins_more : (reader : BytesReader) (bytes text : List ℕ) (records more : List Fields) (first fields : Fields)
-    → IsBehind bytes text records → HasRead reader text (first ∷ (more ++ fields ∷ []))
+    → IsAfter bytes text records → HasRead reader text (first ∷ (more ++ fields ∷ []))
     → BeginsWith bytes ((records ++ more) ++ fields ∷ [])
-begins_more reader bytes text records more first fields behind read =
+begins_more reader bytes text records more first fields past read =
     subst (λ (r : List Fields). BeginsWith bytes r) (sym (append_assoc records more (fields ∷ [])))
-    (begins_on bytes text records (more ++ fields ∷ []) first behind (begins reader text (first ∷ (more ++ fields ∷ [])) read))
+    (begins_on bytes text records (more ++ fields ∷ []) first past (begins reader text (first ∷ (more ++ fields ∷ [])) read))
 
 -- there is a first one
 pub first_there : (reader : BytesReader) (bytes text : List ℕ) (records : List Fields) (fields : Fields) (found : Bool)
-    → IsBehind bytes text records
+    → IsAfter bytes text records
     → MatchBool found (HasRead reader text (fields ∷ [])) (RecordsOf text []) → HasRead reader text (fields ∷ [])
 first_there reader bytes text records fields true b h = h
 first_there reader bytes text records fields false b h =
     absurd (no_record text b.goes_on.last h (b.after, b.rest, b.goes_on.text_reached))
 
 -- the text as a slice of the bytes
-pub behind_slice : (bytes : List ℕ) (at : ℕ) (records : List Fields) → IsBehind bytes (drop at bytes) records
-    → IsBehind bytes (take (length bytes - at) (drop at bytes)) records
-behind_slice bytes at records h = subst (λ (t : List ℕ). IsBehind bytes t records) (sym (rest_whole bytes at)) h
+pub after_slice : (bytes : List ℕ) (at : ℕ) (records : List Fields) → IsAfter bytes (drop at bytes) records
+    → IsAfter bytes (take (length bytes - at) (drop at bytes)) records
+after_slice bytes at records h = subst (λ (t : List ℕ). IsAfter bytes t records) (sym (rest_whole bytes at)) h
 
 -- ---- the loop over lines
 

@@ -20,9 +20,9 @@ false-and : (a : Bool) → (a && false) ≡ false
 false-and true = refl
 false-and false = refl
 
-pub answer_behind : (s : PathSpan) (rest : List PathSpan) (p : Position) → IsAtMost s.high p
+pub answer_after : (s : PathSpan) (rest : List PathSpan) (p : Position) → IsAtMost s.high p
     → path_span_answer (s ∷ rest) p ≡ path_span_answer rest p
-answer_behind s rest p h = rw (test_not_below p s.high h, false-and) refl
+answer_after s rest p h = rw (test_not_below p s.high h, false-and) refl
 
 pub first_holds : (s : PathSpan) (rest : List PathSpan) → StandInOrder (s ∷ rest) → IsBelow s.low s.high
 first_holds s [] h = h

@@ -49,7 +49,7 @@ pub record GoesOnAs (bytes text : List ℕ) (records : List Fields) (after : Sta
   pub text_reached : Reached default_config state.StartRecord (strip_bom text) (last ∷ []) after rest
 
 -- The same, wherever that is.
-pub record IsBehind (bytes text : List ℕ) (records : List Fields) : Type 0 where
+pub record IsAfter (bytes text : List ℕ) (records : List Fields) : Type 0 where
   pub after : State
   pub rest : List ℕ
   pub goes_on : GoesOnAs bytes text records after rest

@@ -10,7 +10,7 @@ ghost use Rattle.lnt_spans.specs.declared.span.Span as spec;
 ghost use Rattle.lnt_spans.specs.Spans.{AreInOrder};
 ghost use Rattle.lnt_paths.specs.declared.version.PathVersion.{PathVersion};
 ghost use Rattle.lnt_paths.specs.Merging.{AreKnownOf, IsLeft, IsMerged, JudgesByPath, answer_told, table_side};
-ghost use Rattle.lnt_paths.specs.Passing.{IsBehind};
+ghost use Rattle.lnt_paths.specs.Passing.{IsAfter};
 ghost use Rattle.lnt_paths.specs.PathAnswers.{path_answer, spans_by_path};
 ghost use Rattle.lnt_paths.specs.PathDifferences.{IsLeastPathDifference, IsPathComparison, told_path_answer};
 ghost use Rattle.lnt_paths.specs.PathFaults.{IsFaultyRecord};
@@ -58,7 +58,7 @@ pub fn compare_by_path<S: SpanSource + Drop, P: Paths>(
     let Ok(at) = comparison.pass_lines(alloc, paths, version, table) else {
         return Err(TableStop::Memory);
     };
-    compare_behind(alloc, &table[at..], version, comparison, paths)
+    compare_after(alloc, &table[at..], version, comparison, paths)
 }
 
 // The version whose columns record 0 names, if it is a header. The reader of records is large, and the stack is short: it has
@@ -76,10 +76,10 @@ fn header_of(alloc: Global, table: &[u8]) -> Result<Option<PathVersion>, TableSt
     Ok(version_of(&row))
 }
 
-// Compares the records of a text behind its first one with what is left of a section, as `csv` reads them. It holds a reader
+// Compares the records of a text after its first one with what is left of a section, as `csv` reads them. It holds a reader
 // of records, as `header_of` does.
 #[inline(never)]
-fn compare_behind<S: SpanSource + Drop, P: Paths>(
+fn compare_after<S: SpanSource + Drop, P: Paths>(
     alloc: Global,
     text: &[u8],
     version: PathVersion,
@@ -87,9 +87,9 @@ fn compare_behind<S: SpanSource + Drop, P: Paths>(
     paths: &P,
 ) -> Result<ComparedByPath, TableStop>
     requires known { AreKnownOf (P.bytes_of paths.now) comparison.known.slots.items }
-    requires behind { (bytes : List ℕ) × (records : List Fields) × IsBehind bytes text.now records }
+    requires past { (bytes : List ℕ) × (records : List Fields) × IsAfter bytes text.now records }
     requires few { comparison.count + length text.now < 2 ^ 64 + 1 }
-    ensures { IfOk result (λ compared. (bytes : List ℕ) (records : List Fields) (list : List spec.Span) → IsBehind bytes text.now records
+    ensures { IfOk result (λ compared. (bytes : List ℕ) (records : List Fields) (list : List spec.Span) → IsAfter bytes text.now records
         → JudgesByPath S.to_come (path_answer version (P.bytes_of paths.now)) version comparison list records
         → IsPathComparison bytes (λ version. spans_by_path version (P.bytes_of paths.now) list) compared) }
 {
@@ -112,7 +112,7 @@ fn compare_records<S: SpanSource + Drop, P: Paths>(
     requires read { (text : List ℕ) × (first : Fields) × HasRead reader.old text (first ∷ [])
         × (comparison.count + length text < 2 ^ 64 + 1) }
     ensures { IfOk result (λ compared. (text bytes : List ℕ) (first : Fields) (records : List Fields) (list : List spec.Span)
-        → HasRead reader.old text (first ∷ []) → IsBehind bytes text records
+        → HasRead reader.old text (first ∷ []) → IsAfter bytes text records
         → JudgesByPath S.to_come (path_answer version (P.bytes_of paths.now)) version comparison list records
         → IsPathComparison bytes (λ version. spans_by_path version (P.bytes_of paths.now) list) compared) }
 {
@@ -171,7 +171,7 @@ impl<S: SpanSource + Drop> PathComparison<S> {
         said: &PathRecord<'_>,
     ) -> Result<(), AllocError>
         requires known { AreKnownOf (P.bytes_of paths.now) self.old.known.slots.items }
-        requires behind { self.old.at ≤ said.now.low }
+        requires past { self.old.at ≤ said.now.low }
         requires holds { said.now.low < said.now.high }
         ensures known { OnOk result (AreKnownOf (P.bytes_of paths.now) self.new.known.slots.items) }
         ensures count { OnOk result (self.new.count ≡ self.old.count) }

@@ -2,7 +2,7 @@
 ghost use Rattle.std.specs.Prelude.{◌≡◌, ◌≤◌, List, [], ◌∷◌, drop, length, IfOk, OnOk};
 ghost use Rattle.lnt_records.specs.Table.{BeginsWith, Fields};
 ghost use Rattle.lnt_paths.specs.Merging.{AreKnownOf};
-ghost use Rattle.lnt_paths.specs.Passing.{HasTaken, IsBehind};
+ghost use Rattle.lnt_paths.specs.Passing.{HasTaken, IsAfter};
 ghost use Rattle.lnt_paths.specs.PathAnswers.{path_answer};
 ghost use Rattle.lnt_paths.specs.PathTables.{path_column_names};
 
@@ -30,7 +30,7 @@ impl<S: SpanSource + Drop> PathComparison<S> {
         requires count { self.old.count ≡ 1 }
         ensures known { OnOk result (AreKnownOf (P.bytes_of paths.now) self.new.known.slots.items) }
         ensures within { IfOk result (λ at. at ≤ length table.now) }
-        ensures passed { IfOk result (λ at. (records : List Fields) × IsBehind table.now (drop at table.now) records
+        ensures passed { IfOk result (λ at. (records : List Fields) × IsAfter table.now (drop at table.now) records
             × HasTaken S.to_come (path_answer version (P.bytes_of paths.now)) version self.old self.new table.now
             (drop at table.now) records) }
     {

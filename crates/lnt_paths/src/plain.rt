@@ -7,7 +7,7 @@ ghost use Rattle.lnt_paths.specs.Passing.{IsPathBefore, IsPathLine, IsPlace};
 use crate::field::calls_for_quotes;
 use crate::record::PathRecord;
 use crate::version::PathVersion;
-use lnt_records::{address_before, behind, decimal_before};
+use lnt_records::{address_before, decimal_before, past};
 
 // What the line at a place says, and the place after that line. None says nothing of the line: it is left to `csv`. `last` is
 // the path that is tried first, that of the line before: most paths of a table are.
@@ -47,7 +47,7 @@ fn path_before<'t>(table: &'t [u8], at: usize, last: &'t [u8]) -> Option<(&'t [u
     }
     let rest = &table[at..];
     if rest.starts_with(last) {
-        if let Some(next) = behind(table, at + last.len(), b',') {
+        if let Some(next) = past(table, at + last.len(), b',') {
             return Some((last, next));
         }
     }

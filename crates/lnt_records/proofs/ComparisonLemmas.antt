@@ -163,13 +163,13 @@ pub compared_few : {S : Type 0} (to_come : S → List Span → Type 0) (before a
 compared_few to_come before after text version first now fields list passed h read j few =
     omega (arith, few, j.count, read.few, length-append passed h.more, length-append h.more (fields ∷ []))
 
-pub fault_behind : {S : Type 0} (to_come : S → List Span → Type 0) (before after : BytesReader) (text bytes : List ℕ) (version : Version)
+pub fault_after : {S : Type 0} (to_come : S → List Span → Type 0) (before after : BytesReader) (text bytes : List ℕ) (version : Version)
     (first now : Comparison S) (fields : Fields) (passed : List Fields) (table : List Span) (told : TableFault)
     → (h : HasCompared to_come before text version first now) → HasRead after text (column_names version ∷ (h.more ++ fields ∷ []))
     → IsCut version text bytes passed
     → IsTable now.version (column_names version ∷ (passed ++ h.more)) table
     → IsFaulty now.version table (length (column_names version ∷ (passed ++ h.more))) fields told → IsFault bytes told
-fault_behind to_come before after text bytes version first now fields passed table told h read cut is_table faulty =
+fault_after to_come before after text bytes version first now fields passed table told h read cut is_table faulty =
     let names : Fields = column_names version in
     let all = cut (h.more ++ fields ∷ []) (reader_state after) read.rest read.reached in
     let begins : BeginsWith bytes (names ∷ (passed ++ h.more ++ fields ∷ [])) =
@@ -177,6 +177,6 @@ fault_behind to_come before after text bytes version first now fields passed tab
     (reader_state after, read.rest, all) in
     fault_told bytes now.version (names ∷ (passed ++ h.more)) fields table told begins is_table faulty
 
-pub all_behind : (text bytes : List ℕ) (version : Version) (passed more : List Fields) → IsCut version text bytes passed
+pub all_after : (text bytes : List ℕ) (version : Version) (passed more : List Fields) → IsCut version text bytes passed
     → RecordsOf text (column_names version ∷ more) → RecordsOf bytes (column_names version ∷ (passed ++ more))
-all_behind text bytes version passed more cut all = (all.0, all.1, cut more all.0 all.1 all.2, all.3)
+all_after text bytes version passed more cut all = (all.0, all.1, cut more all.0 all.1 all.2, all.3)

@@ -24,7 +24,7 @@ use Rattle.lnt_records.specs.declared.comparison.Comparison.{Comparison}
 use Rattle.lnt_records.specs.Passing.{IsCut, LeavesOff}
 use Rattle.lnt_records.specs.Progress.{BytesReader, HasRead, Judges}
 use Rattle.lnt_records.specs.Table.{Fields, IsSpanRecord, IsTable, IsTableOf, RecordsOf, column_names}
-use Rattle.lnt_records.proofs.ComparisonLemmas.{HasCompared, Judged, all_behind, zip_push}
+use Rattle.lnt_records.proofs.ComparisonLemmas.{HasCompared, Judged, all_after, zip_push}
 use Rattle.lnt_records.proofs.LawLemmas.{one_spans}
 use Rattle.lnt_records.proofs.PassingLemmas.{all_told, version_same}
 
@@ -55,7 +55,7 @@ gathered_all to_come reader text bytes version old new spans list passed h j sam
     let spans_are = one_spans version (passed ++ h.compared.more) now.table (j.table ++ spans) table.1.each
     (zip_both (IsSpanRecord version) passed h.compared.more j.table spans before.1.each h.each) in (
       column_names version ∷ (passed ++ h.compared.more),
-      all_behind text bytes version passed h.compared.more cut rest,
+      all_after text bytes version passed h.compared.more cut rest,
       subst (IsTable version (column_names version ∷ (passed ++ h.compared.more))) spans_are table,
     )
 

@@ -6,10 +6,10 @@ use Rattle.lnt_spans.specs.declared.answer.Version.TheVariants.{One, Two}
 use Rattle.lnt_records.specs.Progress.{AreNamed}
 use Rattle.lnt_records.specs.Table.{Fields, column_names, common_names}
 
-named_behind : (i : ℕ) (names : Fields) (field : List ℕ) (fields : Fields) → AreNamed (suc i) names (field ∷ fields)
+named_after : (i : ℕ) (names : Fields) (field : List ℕ) (fields : Fields) → AreNamed (suc i) names (field ∷ fields)
     → AreNamed i names fields
-named_behind i [] field fields h = tt
-named_behind i (name ∷ names) field fields h = (h.0, named_behind (suc i) names field fields h.1)
+named_after i [] field fields h = tt
+named_after i (name ∷ names) field fields h = (h.0, named_after (suc i) names field fields h.1)
 
 -- fields that are the names one by one
 pub all_named : (names fields : Fields) → length fields ≡ length names → AreNamed 0 names fields → fields ≡ names
@@ -18,7 +18,7 @@ all_named [] (field ∷ fields) e h = absurd (omega (arith, e))
 all_named (name ∷ names) [] e h = absurd (omega (arith, e))
 all_named (name ∷ names) (field ∷ fields) e h =
     let first : field ≡ name = h.0 in
-    let rest = all_named names fields (omega (arith, e)) (named_behind 0 names field fields h.1) in
+    let rest = all_named names fields (omega (arith, e)) (named_after 0 names field fields h.1) in
     cc
 
 pub names_one : (fields : Fields) → length fields ≡ 9 → AreNamed 0 common_names fields → fields ≡ column_names One

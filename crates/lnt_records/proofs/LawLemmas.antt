@@ -55,23 +55,23 @@ one_table bytes v w xs ys a b =
 record Parted (version : Version) (records : List Fields) (fields : Fields) (spans : List Span) : Type 0 where
   front : List Span
   span : Span
-  behind : List Span
-  joined : spans ≡ (front ++ span ∷ []) ++ behind
+  past : List Span
+  joined : spans ≡ (front ++ span ∷ []) ++ past
   each : AllZip (IsSpanRecord version) records front
   says : IsSpanRecord version fields span
 
-part : (version : Version) (records : List Fields) (fields : Fields) (behind : List Fields) (spans : List Span)
-    → AllZip (IsSpanRecord version) ((records ++ fields ∷ []) ++ behind) spans
+part : (version : Version) (records : List Fields) (fields : Fields) (past : List Fields) (spans : List Span)
+    → AllZip (IsSpanRecord version) ((records ++ fields ∷ []) ++ past) spans
     → Parted version records fields spans
-part version [] fields behind [] z = absurd z
-part version [] fields behind (s ∷ spans) z = record { front = []; span = s; behind = spans; joined = refl; each = tt; says = z.0 }
-part version (r ∷ records) fields behind [] z = absurd z
-part version (r ∷ records) fields behind (s ∷ spans) z =
-    let p = part version records fields behind spans z.1 in
+part version [] fields past [] z = absurd z
+part version [] fields past (s ∷ spans) z = record { front = []; span = s; past = spans; joined = refl; each = tt; says = z.0 }
+part version (r ∷ records) fields past [] z = absurd z
+part version (r ∷ records) fields past (s ∷ spans) z =
+    let p = part version records fields past spans z.1 in
     record {
       front = s ∷ p.front;
       span = p.span;
-      behind = p.behind;
+      past = p.past;
       joined = ap (λ (l : List Span). s ∷ l) p.joined;
       each = (z.0, p.each);
       says = p.says;
@@ -86,17 +86,17 @@ not_faulty version records fields spans number (fault.Number k i) p o f =
     f.2.faulty (sound_column version fields p.span p.says i (rw f.1 at f.2.there))
 not_faulty version records fields spans number (fault.Order k) p o f =
     let same : f.1 ≡ p.span = one_span version fields f.1 p.span f.2 p.says in
-    let front = front_in_order (p.front ++ p.span ∷ []) p.behind (rw p.joined at o) in
+    let front = front_in_order (p.front ++ p.span ∷ []) p.past (rw p.joined at o) in
     f.3 (subst (λ (s : Span). AreInOrder (p.front ++ s ∷ [])) (sym same) front)
 
 -- a faulty record among those of a table
-pub faulty_none : (v version : Version) (records behind : List Fields) (fields : Fields) (before spans : List Span) (told : TableFault)
-    → IsTable v records before → IsFaulty v before (length records) fields told → IsTable version ((records ++ fields ∷ []) ++ behind) spans
+pub faulty_none : (v version : Version) (records past : List Fields) (fields : Fields) (before spans : List Span) (told : TableFault)
+    → IsTable v records before → IsFaulty v before (length records) fields told → IsTable version ((records ++ fields ∷ []) ++ past) spans
     → ⊥
-faulty_none v version [] behind fields before spans told t f all = absurd t
-faulty_none v version (first ∷ records) behind fields before spans told t f all =
+faulty_none v version [] past fields before spans told t f all = absurd t
+faulty_none v version (first ∷ records) past fields before spans told t f all =
     let same : v ≡ version = one_version v version (sym t.0 ∙ all.0) in
-    let p = part version records fields behind spans all.1.each in
+    let p = part version records fields past spans all.1.each in
     let ours = subst (λ (k : Version). AllZip (IsSpanRecord k) records before) same t.1.each in
     let front : before ≡ p.front = one_spans version records before p.front ours p.each in
     let faulty = subst (λ (xs : List Span). IsFaulty version xs (length (first ∷ records)) fields told) front

@@ -25,9 +25,9 @@ use Rattle.lnt_records.proofs.WriteLemmas.{quiet_names, same_back}
 -- ---- parts of a line
 
 -- one more field before others
-behind : (field bytes next tail : List ℕ) (fields : Fields) → bytes ≡ field ++ 44 ∷ next → 44 ∷ next ≡ following fields ++ tail
+past : (field bytes next tail : List ℕ) (fields : Fields) → bytes ≡ field ++ 44 ∷ next → 44 ∷ next ≡ following fields ++ tail
     → 44 ∷ bytes ≡ following (field ∷ fields) ++ tail
-behind field bytes next tail fields e f =
+past field bytes next tail fields e f =
     ap (λ (t : List ℕ). 44 ∷ t) e ∙ ap (λ (t : List ℕ). 44 ∷ field ++ t) f ∙ sym (append_assoc (44 ∷ field) (following fields) tail)
 
 pub position_taken : (Address Number : List ℕ → ℕ → Type 0) (position : Position) (bytes next rest : List ℕ)
@@ -52,7 +52,7 @@ more_taken Number more bytes s1 s2 rest e a b =
     ap (λ (t : List ℕ). 44 ∷ t) b.joined ∙ ap (λ (t : List ℕ). 44 ∷ t ++ 10 ∷ rest) (sym (append-nil b.front)) in
     record {
       fields = a.front ∷ b.front ∷ [];
-      joined = e ∙ behind a.front s1 s2 (10 ∷ rest) (b.front ∷ []) a.joined last;
+      joined = e ∙ past a.front s1 s2 (10 ∷ rest) (b.front ∷ []) a.joined last;
       fields_are = (a.front, b.front, refl, a.spells, b.spells);
     }
 
@@ -73,10 +73,10 @@ answer_taken Number version answer s0 s1 s2 s3 s4 s5 s6 unit file line column is
       is_stmt = is_stmt.text;
       more = more.fields;
       joined =
-          behind unit.front s0 s1 (10 ∷ s6) (file.front ∷ line.front ∷ column.front ∷ is_stmt.text ∷ more.fields) unit.joined
-          (behind file.front s1 s2 (10 ∷ s6) (line.front ∷ column.front ∷ is_stmt.text ∷ more.fields) file.joined
-          (behind line.front s2 s3 (10 ∷ s6) (column.front ∷ is_stmt.text ∷ more.fields) line.joined
-          (behind column.front s3 s4 (10 ∷ s6) (is_stmt.text ∷ more.fields) column.joined flag)));
+          past unit.front s0 s1 (10 ∷ s6) (file.front ∷ line.front ∷ column.front ∷ is_stmt.text ∷ more.fields) unit.joined
+          (past file.front s1 s2 (10 ∷ s6) (line.front ∷ column.front ∷ is_stmt.text ∷ more.fields) file.joined
+          (past line.front s2 s3 (10 ∷ s6) (column.front ∷ is_stmt.text ∷ more.fields) line.joined
+          (past column.front s3 s4 (10 ∷ s6) (is_stmt.text ∷ more.fields) column.joined flag)));
       unit_is = unit.spells;
       file_is = file.spells;
       line_is = line.spells;
@@ -107,11 +107,11 @@ line_taken Address Number version span s0 s1 s2 s3 low high answer =
     let more = more_said Number version span.answer answer.more low.address low.op high.address high.op answer.unit answer.file answer.line
     answer.column answer.is_stmt answer.more_are in
     let op : 44 ∷ (high.op ++ 44 ∷ s2) ≡ following (high.op ∷ rest) ++ 10 ∷ s3 =
-    behind high.op (high.op ++ 44 ∷ s2) s2 (10 ∷ s3) rest refl answer.joined in
+    past high.op (high.op ++ 44 ∷ s2) s2 (10 ∷ s3) rest refl answer.joined in
     let address : 44 ∷ s1 ≡ following (high.address ∷ high.op ∷ rest) ++ 10 ∷ s3 =
-    behind high.address s1 (high.op ++ 44 ∷ s2) (10 ∷ s3) (high.op ∷ rest) high.joined op in
+    past high.address s1 (high.op ++ 44 ∷ s2) (10 ∷ s3) (high.op ∷ rest) high.joined op in
     let all : 44 ∷ (low.op ++ 44 ∷ s1) ≡ following (low.op ∷ high.address ∷ high.op ∷ rest) ++ 10 ∷ s3 =
-    behind low.op (low.op ++ 44 ∷ s1) s1 (10 ∷ s3) (high.address ∷ high.op ∷ rest) refl address in
+    past low.op (low.op ++ 44 ∷ s1) s1 (10 ∷ s3) (high.address ∷ high.op ∷ rest) refl address in
     let fields : Fields = low.op ∷ high.address ∷ high.op ∷ rest in
     record {
       fields = low.address ∷ fields;

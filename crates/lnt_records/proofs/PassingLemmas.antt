@@ -259,14 +259,14 @@ left_off : (P : List Span → Type 0) (version : Version) (list pushed table : L
     → LeavesOff (λ (xs : List Span). (rest : List Span) × P rest
     × (xs ≡ cons_option one (cons_option last (map (span_in_version version) rest)))) version list text count end
 left_off P version list pushed table one last text count end given joined lines end_is order =
-    let behind = rest_joined version pushed table given.rest one last joined (subst AreInOrder given.list_is order) in
+    let past = rest_joined version pushed table given.rest one last joined (subst AreInOrder given.list_is order) in
     record {
       table = table;
       rest = cons_option one (cons_option last (map (span_in_version version) given.rest));
       lines = lines;
       left = (given.rest, given.left, refl);
-      order = behind.order;
-      same = λ p. version_same version _ (pushed ++ given.rest) p (behind.same p)
+      order = past.order;
+      same = λ p. version_same version _ (pushed ++ given.rest) p (past.same p)
           ∙ ap (λ (xs : List Span). version_answer version xs p) (sym given.list_is);
       told = all_told version lines.records table lines.each;
       end_is = end_is;

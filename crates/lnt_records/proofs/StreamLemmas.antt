@@ -38,22 +38,22 @@ lines_reached version [] [] rest more after left z r = r
 lines_reached version [] (s ∷ table) rest more after left z r = absurd z
 lines_reached version (f ∷ records) [] rest more after left z r = absurd z
 lines_reached version (f ∷ records) (s ∷ table) rest more after left z r =
-    let behind : List ℕ = lines_text records ++ rest in
+    let past : List ℕ = lines_text records ++ rest in
     let read : next_record default_config st.StartRecord [] [] ((line_text f ++ lines_text records) ++ rest)
-    ≡ Some (f, st.StartRecord, behind) =
+    ≡ Some (f, st.StartRecord, past) =
     ap (λ (t : List ℕ). next_record default_config st.StartRecord [] [] t) (append_assoc (line_text f) (lines_text records) rest)
-    ∙ span_read version f s behind z.0 in
-    ((f, st.StartRecord, behind), read, refl, lines_reached version records table rest more after left z.1 r)
+    ∙ span_read version f s past z.0 in
+    ((f, st.StartRecord, past), read, refl, lines_reached version records table rest more after left z.1 r)
 
 same_some : (p q : Read) → Some p ≡ Some q → p ≡ q
 same_some p q e = cc
 
 -- what is read after the header
-behind_header : (version : Version) (rest : List ℕ) (more : List Fields) (after : State) (left : List ℕ)
+after_header : (version : Version) (rest : List ℕ) (more : List Fields) (after : State) (left : List ℕ)
     → Reached default_config st.StartRecord (strip_bom (line_text (column_names version) ++ rest)) (column_names version ∷ more) after left
     → Reached default_config st.StartRecord rest more after left
 unfolding Reached
-behind_header version rest more after left r =
+after_header version rest more after left r =
     let plain = rw (no_mark version rest) at r in
     let same : (column_names version, st.StartRecord, rest) ≡ plain.0 =
     same_some (column_names version, st.StartRecord, rest) plain.0 (sym (names_read version rest) ∙ plain.1) in
@@ -70,7 +70,7 @@ cut_lines : (version : Version) (records : List Fields) (table : List Span) (res
     → IsCut version (line_text (column_names version) ++ rest) (line_text (column_names version) ++ (lines_text records ++ rest)) records
 cut_lines version records table rest z more after left r =
     with_header version (lines_text records ++ rest) (records ++ more) after left
-    (lines_reached version records table rest more after left z (behind_header version rest more after left r))
+    (lines_reached version records table rest more after left z (after_header version rest more after left r))
 
 -- ---- the stages
 
@@ -93,13 +93,13 @@ few_lines version a b c la lb lc w2 w3 text table count p q lines fits =
       line_some (column_names version),
     )
 
-pub passed_behind : {S : Type 0} (to_come : S → List Span → Type 0) (P : List Span → Type 0) (merge : Merging S) (version : Version)
+pub passed_after : {S : Type 0} (to_come : S → List Span → Type 0) (P : List Span → Type 0) (merge : Merging S) (version : Version)
     (section : List Span) (text : List ℕ) (count : ℕ) (end : Position) → LeavesOff P version section text count end
     → merge.version ≡ version
     → ((passed list : List Span) → P list → AreInOrder (passed ++ list) → AllByRecursion (IsTold version) passed → end ≡ end_of passed
     → Compares to_come merge (passed ++ list) passed)
     → HasPassed to_come merge version section text count
-passed_behind to_come P merge version section text count end l same behind = record {
+passed_after to_come P merge version section text count end l same past = record {
   table = l.table;
   order = front_in_order l.table l.rest l.order;
   lines = l.lines;
@@ -107,7 +107,7 @@ passed_behind to_come P merge version section text count end l same behind = rec
     spans = l.table ++ l.rest;
     same = l.same;
     version_is = same;
-    compares = behind l.table l.rest l.left l.order l.told l.end_is;
+    compares = past l.table l.rest l.left l.order l.told l.end_is;
   };
 }
 

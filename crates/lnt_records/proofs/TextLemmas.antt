@@ -27,11 +27,11 @@ set_before text end c some long =
     drop-set text (end - 1) c within ∙ ap (λ (k : ℕ). c ∷ drop k text) back
 
 -- a number, and a byte after it
-pub put_before : (Spells : List ℕ → ℕ → Type 0) (room new : List ℕ) (start end n behind : ℕ) → length room ≡ 256 → length new ≡ 256
+pub put_before : (Spells : List ℕ → ℕ → Type 0) (room new : List ℕ) (start end n past : ℕ) → length room ≡ 256 → length new ≡ 256
     → start < end - 1 → end ≤ 256
-    → Spells (drop start (take (end - 1) new)) n → drop (end - 1) new ≡ drop (end - 1) (slice_set room (end - 1) behind)
-    → Begins Spells (drop start new) n behind (drop end room)
-put_before Spells room new start end n behind long long' within le spells after =
+    → Spells (drop start (take (end - 1) new)) n → drop (end - 1) new ≡ drop (end - 1) (slice_set room (end - 1) past)
+    → Begins Spells (drop start new) n past (drop end room)
+put_before Spells room new start end n past long long' within le spells after =
     let some : 0 < end = omega (arith, within) in
     let fits : end ≤ length room = omega (arith, long, le) in
     let fits' : end - 1 ≤ length new = omega (arith, long', le) in
@@ -39,7 +39,7 @@ put_before Spells room new start end n behind long long' within le spells after 
     record {
       front = drop start (take (end - 1) new);
       joined = split_before new start (end - 1) at_most fits'
-          ∙ ap (λ (t : List ℕ). drop start (take (end - 1) new) ++ t) (after ∙ set_before room end behind some fits);
+          ∙ ap (λ (t : List ℕ). drop start (take (end - 1) new) ++ t) (after ∙ set_before room end past some fits);
       spells = spells;
     }
 

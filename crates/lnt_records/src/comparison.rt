@@ -54,7 +54,7 @@ pub(crate) fn compare_records<S: SpanSource + Drop>(
     let Some(version) = header_of(alloc, table)? else {
         return Ok(Compared::Fault(TableFault::Header));
     };
-    compare_behind(alloc, table, Merge::new(spans, version), version, 1)
+    compare_after(alloc, table, Merge::new(spans, version), version, 1)
 }
 
 // The version whose columns record 0 names, if it is a header.
@@ -69,7 +69,7 @@ pub(crate) fn header_of(alloc: Global, table: &[u8]) -> Result<Option<Version>, 
 
 // The same of a text that begins with a header, and from which records after that were cut out, so many with the header,
 // which the merge has compared with the spans.
-pub(crate) fn compare_behind<S: SpanSource + Drop>(
+pub(crate) fn compare_after<S: SpanSource + Drop>(
     alloc: Global,
     text: &[u8],
     merge: Merge<S>,

@@ -9,7 +9,7 @@ ghost use Rattle.lnt_records.specs.Differing.{GoesOn, IsDiffering, IsGathered, I
 
 use crate::comparison::header_of;
 use crate::fault::{TableFault, TableStop};
-use crate::gather::{Gathered, gather_behind};
+use crate::gather::{Gathered, gather_after};
 use crate::header::header_line;
 use crate::lines::pass_header;
 use crate::passing::pass_spans;
@@ -62,14 +62,14 @@ pub fn compare_all<S: SpanSource + Drop, T: Source>(
     let mut window = Window::new(alloc);
     window.fill(alloc, table)?;
     let Some(version) = pass_header(&mut window) else {
-        let text = window.rest_behind(alloc, &[], table)?;
+        let text = window.rest_after(alloc, &[], table)?;
         return told(compare_text(alloc, &text, spans));
     };
     let passed = pass_spans::<S, T, Differing<S>>(alloc, spans, version, table, &mut window)?;
-    let text = window.rest_behind(alloc, header_line(version), table)?;
-    let merge = Merge::behind(SpanSlice::of(&[]), version, passed.end);
-    let gathered = gather_behind(alloc, &text, merge, version, passed.count);
-    told(differ_behind(gathered, passed.spans, version, passed.end))
+    let text = window.rest_after(alloc, header_line(version), table)?;
+    let merge = Merge::past(SpanSlice::of(&[]), version, passed.end);
+    let gathered = gather_after(alloc, &text, merge, version, passed.count);
+    told(differ_after(gathered, passed.spans, version, passed.end))
 }
 
 // The same of a table in memory.
@@ -89,7 +89,7 @@ fn compare_text<S: SpanSource + Drop>(
         return Ok(Differing::Fault(TableFault::Header));
     };
     let merge = Merge::new(SpanSlice::of(&[]), version);
-    let gathered = gather_behind(alloc, text, merge, version, 1);
+    let gathered = gather_after(alloc, text, merge, version, 1);
     let all = Remaining {
         first: None,
         second: None,
@@ -97,11 +97,11 @@ fn compare_text<S: SpanSource + Drop>(
         is_ended: false,
         version,
     };
-    differ_behind(gathered, all, version, Position { address: 0, op: 0 })
+    differ_after(gathered, all, version, Position { address: 0, op: 0 })
 }
 
 // What was gathered of a table's records, compared with the spans that come after those that both begin with.
-fn differ_behind<S: SpanSource + Drop>(
+fn differ_after<S: SpanSource + Drop>(
     gathered: Result<Gathered, TableStop>,
     spans: Remaining<S>,
     version: Version,
@@ -116,7 +116,7 @@ fn differ_behind<S: SpanSource + Drop>(
         Gathered::Fault(fault) => Ok(Differing::Fault(fault)),
         Gathered::Spans(records) => {
             let records = SpanList::of(records);
-            Ok(Differing::Table(Differences::behind(spans, records, version, at)))
+            Ok(Differing::Table(Differences::past(spans, records, version, at)))
         }
     }
 }

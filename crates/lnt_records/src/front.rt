@@ -32,7 +32,7 @@ fn digit_before(text: &[u8], at: usize, end: u8) -> Option<(u64, usize)>
         return None;
     }
     let digit = decimal_value(text[at])?;
-    let next = behind(text, at + 1, end)?;
+    let next = past(text, at + 1, end)?;
     Some((digit, next))
 }
 
@@ -60,15 +60,15 @@ fn digits_before(text: &[u8], at: usize, end: u8) -> Option<(u64, usize)>
 pub fn address_before(text: &[u8], at: usize, end: u8) -> Option<(u64, usize)>
     ensures { IfSome result (λ found. Begins IsAddress (drop at text.now) found.0 end (drop found.1 text.now)) }
 {
-    let at = behind(text, at, b'0')?;
-    let at = behind(text, at, b'x')?;
+    let at = past(text, at, b'0')?;
+    let at = past(text, at, b'x')?;
     let (number, next) = hexadecimal_before(text, at, end)?;
     Some((number, next))
 }
 
 /// The place after `at`, where this byte stands at `at`. `None` where another one does, or the text ends.
 #[inline(always)]
-pub fn behind(text: &[u8], at: usize, byte: u8) -> Option<usize>
+pub fn past(text: &[u8], at: usize, byte: u8) -> Option<usize>
     ensures { IfSome result (λ next. drop at text.now ≡ byte ∷ drop next text.now) }
 {
     if at < text.len() && text[at] == byte {

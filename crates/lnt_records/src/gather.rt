@@ -25,7 +25,7 @@ pub(crate) enum Gathered {
 
 // The spans of a text that begins with a header, and from which records after that were cut out, so many with the header,
 // which the merge has compared with some spans.
-pub(crate) fn gather_behind<S: SpanSource + Drop>(
+pub(crate) fn gather_after<S: SpanSource + Drop>(
     alloc: Global,
     text: &[u8],
     merge: Merge<S>,

@@ -31,7 +31,7 @@ pub use column::{field, is_field};
 pub use comparison::{Compared, compare};
 pub use differing::{Differing, compare_all};
 pub use fault::{TableFault, TableStop, WriteStop};
-pub use front::{address_before, behind, decimal_before};
+pub use front::{address_before, decimal_before, past};
 pub use reading::{read_first, read_next, reader_of};
 pub use remaining::Remaining;
 pub use stream::{TableRead, compare_or_take, compare_table};

@@ -9,7 +9,7 @@ ghost use Rattle.lnt_records.specs.Passing.{HasPassed, Passes};
 ghost use Rattle.lnt_records.specs.Table.{column_names};
 ghost use Rattle.lnt_records.specs.Written.{line_text};
 
-use crate::front::{address_before, behind, decimal_before};
+use crate::front::{address_before, decimal_before, past};
 use crate::header::header_line;
 use crate::window::Window;
 use lnt_spans::{Answer, Merge, More, Position, Span, SpanSource, Version};
@@ -112,10 +112,10 @@ fn answer_at(table: &[u8], at: usize, version: Version) -> Option<(Answer, usize
 fn flag_at(table: &[u8], at: usize) -> Option<(bool, usize)>
     ensures { IfSome result (λ found. IsFlagBefore found.0 (drop at table.now) (drop found.1 table.now)) }
 {
-    if let Some(at) = behind(table, at, b'1') {
+    if let Some(at) = past(table, at, b'1') {
         return Some((true, at));
     }
-    let at = behind(table, at, b'0')?;
+    let at = past(table, at, b'0')?;
     Some((false, at))
 }
 
@@ -127,11 +127,11 @@ fn more_at(table: &[u8], at: usize, version: Version) -> Option<(Option<More>, u
 {
     match version {
         Version::One => {
-            let at = behind(table, at, b'\n')?;
+            let at = past(table, at, b'\n')?;
             Some((None, at))
         }
         Version::Two => {
-            let at = behind(table, at, b',')?;
+            let at = past(table, at, b',')?;
             let (isa, at) = decimal_before(table, at, b',')?;
             let (discriminator, at) = decimal_before(table, at, b'\n')?;
             Some((Some(More { isa, discriminator }), at))

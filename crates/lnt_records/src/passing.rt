@@ -57,7 +57,7 @@ pub(crate) fn pass_spans<S: SpanSource + Drop, T: Source, C>(
         };
         window.fill(alloc, source)?;
         if !pass_line(window, &mut room, &joined, version) {
-            let spans = Remaining::behind(joined, joiner.finish(), spans, version);
+            let spans = Remaining::past(joined, joiner.finish(), spans, version);
             return Ok(Passed { spans, count, end });
         }
         count += 1;

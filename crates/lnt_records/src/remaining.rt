@@ -20,7 +20,7 @@ pub struct Remaining<S> {
 impl<S: SpanSource + Drop> Remaining<S> {
     // A span, one more if it is there, and all that the source has left.
     #[inline(always)]
-    pub(crate) fn behind(
+    pub(crate) fn past(
         first: Span,
         second: Option<Span>,
         spans: S,

@@ -5,7 +5,7 @@ ghost use Rattle.lnt_spans.specs.Spans.{AreInOrder};
 ghost use Rattle.lnt_wire.specs.Pulling.{HasMoreThan};
 ghost use Rattle.lnt_records.specs.Faults.{IsComparison, IsTableRead};
 
-use crate::comparison::{Compared, compare_behind, compare_records, header_of};
+use crate::comparison::{Compared, compare_after, compare_records, header_of};
 use crate::fault::{TableFault, TableStop};
 use crate::header::header_line;
 use crate::lines::{pass_header, push_lines};
@@ -80,15 +80,15 @@ pub fn compare_or_take<S: SpanSource + Drop, T: Source>(
     let mut window = Window::new(alloc);
     window.fill(alloc, table)?;
     let Some(version) = pass_header(&mut window) else {
-        let text = window.rest_behind(alloc, &[], table)?;
+        let text = window.rest_after(alloc, &[], table)?;
         return compare_taken(alloc, text, spans);
     };
     let passed = pass_spans::<S, T, Compared>(alloc, spans, version, table, &mut window)?;
-    let mut merge = Merge::behind(passed.spans, version, passed.end);
+    let mut merge = Merge::past(passed.spans, version, passed.end);
     let mut count = passed.count;
     push_lines(alloc, &mut merge, &mut count, version, table, &mut window)?;
-    let text = window.rest_behind(alloc, header_line(version), table)?;
-    let compared = told(compare_behind(alloc, &text, merge, version, count))?;
+    let text = window.rest_after(alloc, header_line(version), table)?;
+    let compared = told(compare_after(alloc, &text, merge, version, count))?;
     Ok(TableRead::Compared(compared))
 }
 

@@ -85,11 +85,11 @@ fn flag_before(room: &mut [u8; ROOM], end: usize, on: bool) -> usize
 
 // Writes a decimal number and the byte after it, so that they end before `end`.
 #[inline(always)]
-fn number_before(room: &mut [u8; ROOM], end: usize, n: u64, behind: u8) -> usize
+fn number_before(room: &mut [u8; ROOM], end: usize, n: u64, past: u8) -> usize
     requires { (21 ≤ end) × (end ≤ 256) }
     ensures begins { (result < end) × (end ≤ result + 21) }
-    ensures written { Begins IsPlainDecimal (drop result room.new) n behind (drop end room.old) }
+    ensures written { Begins IsPlainDecimal (drop result room.new) n past (drop end room.old) }
 {
-    room[end - 1] = behind;
+    room[end - 1] = past;
     decimal_before(room, end - 1, n)
 }

@@ -100,7 +100,7 @@ impl Window {
     }
 
     // A text with the bytes at hand after it, and all that the source has left.
-    pub(crate) fn rest_behind<T: Source>(
+    pub(crate) fn rest_after<T: Source>(
         self,
         alloc: Global,
         text: &[u8],

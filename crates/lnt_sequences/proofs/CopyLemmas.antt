@@ -18,7 +18,7 @@ use Rattle.lnt_sequences.specs.declared.extent.Extent.{Extent}
 use Rattle.lnt_sequences.specs.declared.sequence.SeqId.{SeqId}
 use Rattle.lnt_sequences.specs.Extents.{AreGathered, end_alike, EndsNoLater, is_copied, IsNotLater, kept_extents}
 use Rattle.lnt_sequences.specs.Sequences.{stands_before}
-use Rattle.lnt_sequences.proofs.ExtentLemmas.{Contains-behind}
+use Rattle.lnt_sequences.proofs.ExtentLemmas.{Contains-past}
 use Rattle.lnt_sequences.proofs.SpansOfLemmas.{pieces_permuted}
 
 -- ---- extents that begin and end at the same positions
@@ -178,7 +178,7 @@ gathered_far es s i (suc j) d h l =
 
 contains_middle : {X : Type 0} (xs : List X) (x : X) (ys : List X) → Contains (xs ++ x ∷ ys) x
 contains_middle [] x ys = (0, omega arith, refl)
-contains_middle (y ∷ xs) x ys = Contains-behind y (xs ++ x ∷ ys) x (contains_middle xs x ys)
+contains_middle (y ∷ xs) x ys = Contains-past y (xs ++ x ∷ ys) x (contains_middle xs x ys)
 
 -- whether the one makes the other a copy
 abbrev copies : Extent → Extent → Bool
@@ -243,13 +243,13 @@ dedup_from_kept all seen last (x ∷ xs) are c stands order ids =
         let before : All (λ (e : Extent). copies x e ≡ false) seen =
         All-weaker (λ (e : Extent). (y : Extent) → EndsNoLater last y → Alike e y → Alike last y) (λ (e : Extent). copies x e ≡ false)
         (λ e s. unlike x e (λ a. ne (s x follows (alike_back x e a)))) seen stands in
-        let behind : All (λ (e : Extent). copies x e ≡ false) xs =
+        let past : All (λ (e : Extent). copies x e ≡ false) xs =
         All-weaker (EndsNoLater x) (λ (e : Extent). copies x e ≡ false) (λ e h. no_copy_of_later x e h) xs
         (pairs_head EndsNoLater x xs (pairs_tail EndsNoLater last (x ∷ xs) order)) in
         list_any_none (copies x) all
         (subst (All (λ (e : Extent). copies x e ≡ false)) (sym are)
         (All-append (λ (e : Extent). copies x e ≡ false) seen (x ∷ xs) before
-        (All-cons (λ (e : Extent). copies x e ≡ false) x xs (no_copy_of_later x x (follows_itself x)) behind)))
+        (All-cons (λ (e : Extent). copies x e ≡ false) x xs (no_copy_of_later x x (follows_itself x)) past)))
 
     new_stands : Stands x (seen ++ x ∷ [])
     new_stands =

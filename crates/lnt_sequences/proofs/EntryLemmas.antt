@@ -19,11 +19,11 @@ use Rattle.lnt_spans.specs.Spans.{AreInOrder}
 use Rattle.lnt_sequences.specs.declared.extent.Extent.{Extent}
 use Rattle.lnt_sequences.specs.Extents.{AreApartUpTo, extents_of, IsIn, NoneHolds}
 use Rattle.lnt_sequences.specs.InTurn.{EntriesInTurn, IsEntryOf, StandInTurn}
-use Rattle.lnt_sequences.specs.RowSpans.{row_spans, spans_behind, spans_of}
+use Rattle.lnt_sequences.specs.RowSpans.{row_spans, spans_after, spans_of}
 use Rattle.lnt_sequences.specs.Rules.{AreApart, AreOrdered, IsOrdered}
 use Rattle.lnt_sequences.specs.Sequences.{answer_in, answer_of, holds, Placed, position_of, row_at}
-use Rattle.lnt_sequences.specs.Watching.{last_behind}
-use Rattle.lnt_sequences.proofs.ExtentLemmas.{Contains-behind, here_or_later, IsSketch, of_sequence, test_from_holds}
+use Rattle.lnt_sequences.specs.Watching.{last_after}
+use Rattle.lnt_sequences.proofs.ExtentLemmas.{Contains-past, here_or_later, IsSketch, of_sequence, test_from_holds}
 use Rattle.lnt_sequences.proofs.HolderLemmas.{answer_none, held_once}
 use Rattle.lnt_sequences.proofs.RowLemmas.{spans_answer}
 use Rattle.lnt_sequences.proofs.SpansOfLemmas.{IsTurnOf, turns_permuted}
@@ -39,7 +39,7 @@ turns : (sequences : List Placed) (entries : List Extent) → ((e : Extent) → 
 turns sequences [] h = ([], tt)
 turns sequences (entry ∷ entries) h =
     let one = of_sequence sequences entry (h entry (0, omega arith, refl)) in
-    let rest = turns sequences entries (λ e k. h e (Contains-behind entry entries e k)) in
+    let rest = turns sequences entries (λ e k. h e (Contains-past entry entries e k)) in
     (one.0 ∷ rest.0, (record { contained = one.1; sketch = one.2 }, rest.1))
 
 turn_entries : (sequences : List Placed) (entries : List Extent) (in_turn : List Placed) → AllZip (IsTurn sequences) entries in_turn
@@ -74,16 +74,16 @@ stand : (sequences : List Placed) (entry : Extent) (entries : List Extent) (plac
     × StandInTurn low (placed ∷ in_turn) high
 stand sequences entry [] placed [] low apart z from =
     let s = z.0.sketch in (
-      position_of (last_behind s.first s.others),
-      (s.first, s.others, s.rows_are, subst (IsAtMost low) s.low from, at_most_itself (position_of (last_behind s.first s.others))),
+      position_of (last_after s.first s.others),
+      (s.first, s.others, s.rows_are, subst (IsAtMost low) s.low from, at_most_itself (position_of (last_after s.first s.others))),
     )
 stand sequences entry [] placed (t ∷ in_turn) low apart z from = absurd z.1
 stand sequences entry (next ∷ entries) placed [] low apart z from = absurd z.1
 stand sequences entry (next ∷ entries) placed (t ∷ in_turn) low apart z from =
     let s = z.0.sketch in
-    let begins : IsAtMost (position_of (last_behind s.first s.others)) next.low = subst (λ (p : Position). IsAtMost p next.low) s.high
+    let begins : IsAtMost (position_of (last_after s.first s.others)) next.low = subst (λ (p : Position). IsAtMost p next.low) s.high
     (apart 0 entry (omega arith)) in
-    let more = stand sequences next entries t in_turn (position_of (last_behind s.first s.others))
+    let more = stand sequences next entries t in_turn (position_of (last_after s.first s.others))
     (λ k d few. later k d (apart (suc k) d (omega (arith, few)))) z.1 begins in
     (more.0, (s.first, s.others, s.rows_are, subst (IsAtMost low) s.low from, more.1))
   where
@@ -144,26 +144,26 @@ turns_answer sequences entries in_turn p permuted apart z = by_found (found_alik
 
 -- ---- each has a span
 
-flat : (unit : ℕ) (row : Row) (rows : List Row) → spans_behind unit row rows ≡ []
-    → IsAtMost (position_of (last_behind row rows)) (position_of row)
+flat : (unit : ℕ) (row : Row) (rows : List Row) → spans_after unit row rows ≡ []
+    → IsAtMost (position_of (last_after row rows)) (position_of row)
 flat unit row [] e = at_most_itself (position_of row)
 flat unit row (next ∷ rows) e = by_test (is_below (position_of row) (position_of next)) refl e (flat unit next rows)
   where
     by_test : (t : Bool) → is_below (position_of row) (position_of next) ≡ t
-        → cond t (record { low = position_of row; high = position_of next; answer = answer_of unit row } ∷ []) [] ++ spans_behind unit next
+        → cond t (record { low = position_of row; high = position_of next; answer = answer_of unit row } ∷ []) [] ++ spans_after unit next
         rows ≡ []
-        → (spans_behind unit next rows ≡ [] → IsAtMost (position_of (last_behind next rows)) (position_of next))
-        → IsAtMost (position_of (last_behind next rows)) (position_of row)
+        → (spans_after unit next rows ≡ [] → IsAtMost (position_of (last_after next rows)) (position_of next))
+        → IsAtMost (position_of (last_after next rows)) (position_of row)
     by_test true h none more = absurd (omega (arith, ap length none))
     by_test false h none more = at_most_trans (more none) (at_most_from_not_below (position_of row) (position_of next) h)
 
 some_span : (entry : Extent) (placed : Placed) → IsSketch placed entry → 0 < length (row_spans placed.id.unit placed.rows)
 some_span entry placed s =
     subst (λ (rows : List Row). 0 < length (row_spans placed.id.unit rows)) (sym s.rows_are)
-    (by_spans (spans_behind placed.id.unit s.first s.others) refl)
+    (by_spans (spans_after placed.id.unit s.first s.others) refl)
   where
-    by_spans : (spans : List Span) → spans_behind placed.id.unit s.first s.others ≡ spans
-        → 0 < length (spans_behind placed.id.unit s.first s.others)
+    by_spans : (spans : List Span) → spans_after placed.id.unit s.first s.others ≡ spans
+        → 0 < length (spans_after placed.id.unit s.first s.others)
     by_spans [] e = absurd (not_both
         (subst (IsBelow (position_of s.first)) s.high (subst (λ (p : Position). IsBelow p entry.high) s.low s.some))
         (flat placed.id.unit s.first s.others e))

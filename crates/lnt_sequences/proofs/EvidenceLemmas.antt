@@ -24,8 +24,8 @@ use Rattle.lnt_sequences.specs.Evidence.{IsFall, IsFirstFall, IsFirstMissingFile
 use Rattle.lnt_sequences.specs.Laws.{FallIsNotOrdered, MissingFileIsNotThere}
 use Rattle.lnt_sequences.specs.Rules.{AreOrdered, FilesExist, HaveFiles, IsOrdered}
 use Rattle.lnt_sequences.specs.Sequences.{are_live, is_live, last_row, live_of, Placed, placed_rows, position_of}
-use Rattle.lnt_sequences.specs.Watching.{closed, current_of, fall_shown, falls_behind, file_shown, first_shown, grown}
-use Rattle.lnt_sequences.specs.Watching.{HasSeenAll, is_in_live, last_behind, names_no_file, next, start, Walk, walked}
+use Rattle.lnt_sequences.specs.Watching.{closed, current_of, fall_shown, falls_after, file_shown, first_shown, grown}
+use Rattle.lnt_sequences.specs.Watching.{HasSeenAll, is_in_live, last_after, names_no_file, next, start, Walk, walked}
 use Rattle.lnt_sequences.specs.Laws.Walks.{each_ended, first_shown-append, last_row_is, placed_from, walked-append}
 use Rattle.lnt_sequences.specs.Laws.Walks.{walked_ended, walked_open, walked-rows}
 
@@ -35,14 +35,14 @@ record Cut {X : Type 0} (xs : List X) (front : List X) (x : X) : Type 0 where
   back : List X
   parts : xs ≡ front ++ x ∷ back
 
-record Behind {X : Type 0} (xs ys front : List X) (x : X) (back : List X) : Type 0 where
+record Past {X : Type 0} (xs ys front : List X) (x : X) (back : List X) : Type 0 where
   rest : List X
   front_is : front ≡ xs ++ rest
   parts : ys ≡ rest ++ x ∷ back
 
 -- an element of two lists stands in the first of them, or in the second
 cut_at : {X : Type 0} (xs ys front : List X) (x : X) (back : List X) → xs ++ ys ≡ front ++ x ∷ back → Cut xs front x
-    ⊎ Behind xs ys front x back
+    ⊎ Past xs ys front x back
 cut_at [] ys front x back e = inr (record { rest = front; front_is = refl; parts = e })
 cut_at {X} (y ∷ xs) ys [] x back e = let first : y ≡ x = cc in inl (record { back = xs; parts = ap (λ (z : X). z ∷ xs) first })
 cut_at {X} (y ∷ xs) ys (z ∷ front) x back e =
@@ -187,10 +187,10 @@ stands (p ∷ placed) ended walk none front row cut =
             };
           }
       | inr b ↦
-          let behind = walked walk p.rows in
-          let s = stands placed ended.1 behind (begun_ended walk (record { rows = p.rows }) ended.0) b.rest row
+          let past = walked walk p.rows in
+          let s = stands placed ended.1 past (begun_ended walk (record { rows = p.rows }) ended.0) b.rest row
           (record { back = cut.back; parts = b.parts }) in
-          let same : (walked behind b.rest).begun ≡ (walked walk front).begun =
+          let same : (walked past b.rest).begun ≡ (walked walk front).begun =
           ap (λ (w : Walk). w.begun) (sym (walked-append walk p.rows b.rest))
           ∙ ap (λ (rows : List Row). (walked walk rows).begun) (sym b.front_is) in
           record {
@@ -203,8 +203,8 @@ stands (p ∷ placed) ended walk none front row cut =
               rows_are = s.stands.rows_are ∙ ap (λ (rows : List Row). rows ++ row ∷ s.stands.after) same;
               index_is =
                   ap length b.front_is ∙ length-append p.rows b.rest ∙ ap (λ (n : ℕ). length p.rows + n) s.stands.index_is
-                  ∙ sym (length-append p.rows (rows_of s.stands.earlier ++ (walked behind b.rest).begun))
-                  ∙ ap length (sym (append_assoc p.rows (rows_of s.stands.earlier) (walked behind b.rest).begun))
+                  ∙ sym (length-append p.rows (rows_of s.stands.earlier ++ (walked past b.rest).begun))
+                  ∙ ap length (sym (append_assoc p.rows (rows_of s.stands.earlier) (walked past b.rest).begun))
                   ∙ ap (λ (rows : List Row). length ((p.rows ++ rows_of s.stands.earlier) ++ rows)) same;
             };
           }
@@ -342,20 +342,20 @@ record FallsFrom (begun : List Row) (row : Row) : Type 0 where
   previous_is : last_row begun ≡ Some previous
   falls : IsBelow (position_of row) (position_of previous)
 
-falls_from : (dead : Option ℕ) (begun : List Row) (row : Row) → falls_behind (current_of dead begun) row ≡ true → FallsFrom begun row
+falls_from : (dead : Option ℕ) (begun : List Row) (row : Row) → falls_after (current_of dead begun) row ≡ true → FallsFrom begun row
 falls_from dead [] row e = absurd cc
 falls_from dead (first ∷ rest) row e = record {
-  previous = last_behind first rest;
+  previous = last_after first rest;
   previous_is = last_row_is first rest;
-  falls = below_from_test (position_of row) (position_of (last_behind first rest)) e;
+  falls = below_from_test (position_of row) (position_of (last_after first rest)) e;
 }
 
 falls_test : (dead : Option ℕ) (begun : List Row) (row previous : Row) → last_row begun ≡ Some previous
     → IsBelow (position_of row) (position_of previous)
-    → falls_behind (current_of dead begun) row ≡ true
+    → falls_after (current_of dead begun) row ≡ true
 falls_test dead [] row previous e h = absurd cc
 falls_test dead (first ∷ rest) row previous e h =
-    let same : last_behind first rest ≡ previous = same_Some (last_behind first rest) previous (sym (last_row_is first rest) ∙ e) in
+    let same : last_after first rest ≡ previous = same_Some (last_after first rest) previous (sym (last_row_is first rest) ∙ e) in
     ap (λ (last : Row). is_below (position_of row) (position_of last)) same ∙ test_below (position_of row) (position_of previous) h
 
 shows : {A : Type 0} (t : Bool) (a b : A) → cond t (Some a) None ≡ Some b → (t ≡ true) × (a ≡ b)
@@ -374,16 +374,16 @@ fall_shows dead ss walk index f e none =
     let live : is_in_live dead walk f.row ≡ true =
     live_is dead walk f.row f.placed f.stands.after (f.stands.rows_are ∙ ap (λ (rows : List Row). rows ++ f.row ∷ f.stands.after) (sym e))
     ∙ f.live in
-    let falls : falls_behind (current_of dead walk.begun) f.row ≡ true = falls_test dead walk.begun f.row f.previous
+    let falls : falls_after (current_of dead walk.begun) f.row ≡ true = falls_test dead walk.begun f.row f.previous
     (ap last_row e ∙ f.previous_is) f.falls in
-    shows_not (is_in_live dead walk f.row && falls_behind (current_of dead walk.begun) f.row) walk.rows none (rw (live, falls) refl)
+    shows_not (is_in_live dead walk f.row && falls_after (current_of dead walk.begun) f.row) walk.rows none (rw (live, falls) refl)
 
 first_fall : (dead : Option ℕ) (ss : List Placed) (all : List Row) (index : ℕ) → Whole ss all
     → first_shown (fall_shown dead) start all ≡ Some index → IsFirstFall dead ss index
 first_fall dead ss all index w e =
     let f = found_in ss all (fall_shown dead) index w e in
-    let s = shows (is_in_live dead f.walk f.row && falls_behind (current_of dead f.walk.begun) f.row) f.walk.rows index f.here in
-    let b = both (is_in_live dead f.walk f.row) (falls_behind (current_of dead f.walk.begun) f.row) s.0 in
+    let s = shows (is_in_live dead f.walk f.row && falls_after (current_of dead f.walk.begun) f.row) f.walk.rows index f.here in
+    let b = both (is_in_live dead f.walk f.row) (falls_after (current_of dead f.walk.begun) f.row) s.0 in
     let falls = falls_from dead f.walk.begun f.row b.1 in
     record {
       fall = record {
@@ -416,7 +416,7 @@ last_row-push : (rows : List Row) (more : Row) → last_row (rows ++ more ∷ []
 last_row-push [] more = refl
 last_row-push (row ∷ rows) more = last_row_is row (rows ++ more ∷ []) ∙ ap Some (pushed row rows)
   where
-    pushed : (row : Row) (rows : List Row) → last_behind row (rows ++ more ∷ []) ≡ more
+    pushed : (row : Row) (rows : List Row) → last_after row (rows ++ more ∷ []) ≡ more
     pushed row [] = refl
     pushed row (next ∷ rows) = pushed next rows
 

@@ -20,16 +20,16 @@ use Rattle.lnt_sequences.specs.Laws.{OverlapIsNotApart, SequenceSpans}
 use Rattle.lnt_sequences.specs.Laws.Walks.{last_row_is}
 use Rattle.lnt_sequences.specs.Rules.{AreApart}
 use Rattle.lnt_sequences.specs.Sequences.{first_row, holds, Holds, Placed, position_of}
-use Rattle.lnt_sequences.specs.Watching.{last_behind}
+use Rattle.lnt_sequences.specs.Watching.{last_after}
 use Rattle.lnt_sequences.proofs.RowLemmas.{holds_is, rising_list, row_spans_answer}
 
 -- ---- Holds, of a row and the rows after it
 
-pub holds_behind : (row : Row) (rows : List Row) (p : Position) → IsAtMost (position_of row) p
-    → IsBelow p (position_of (last_behind row rows)) → Holds (row ∷ rows) p
-holds_behind row rows p h k = record {
+pub holds_after : (row : Row) (rows : List Row) (p : Position) → IsAtMost (position_of row) p
+    → IsBelow p (position_of (last_after row rows)) → Holds (row ∷ rows) p
+holds_after row rows p h k = record {
   first = row;
-  last = last_behind row rows;
+  last = last_after row rows;
   first_is = refl;
   last_is = last_row_is row rows;
   from = h;
@@ -37,10 +37,10 @@ holds_behind row rows p h k = record {
 }
 
 pub from_holds : (row : Row) (rows : List Row) (p : Position) → Holds (row ∷ rows) p → IsAtMost (position_of row) p
-    × IsBelow p (position_of (last_behind row rows))
+    × IsBelow p (position_of (last_after row rows))
 from_holds row rows p h =
     let first : row ≡ h.first = same_Some row h.first h.first_is in
-    let last : last_behind row rows ≡ h.last = same_Some (last_behind row rows) h.last (sym (last_row_is row rows) ∙ h.last_is) in
+    let last : last_after row rows ≡ h.last = same_Some (last_after row rows) h.last (sym (last_row_is row rows) ∙ h.last_is) in
     (subst (λ (r : Row). IsAtMost (position_of r) p) (sym first) h.from, subst (λ (r : Row). IsBelow p (position_of r)) (sym last) h.below)
 
 pub none_held : (p : Position) → Holds [] p → ⊥
@@ -60,7 +60,7 @@ pub record IsSketch (s : Placed) (e : Extent) : Type 0 where
   pub id : e.id ≡ s.id
   pub first_is : first_row s.rows ≡ Some first
   pub low : e.low ≡ position_of first
-  pub high : e.high ≡ position_of (last_behind first others)
+  pub high : e.high ≡ position_of (last_after first others)
   pub some : IsBelow e.low e.high
   pub into : (p : Position) → Holds s.rows p → IsIn p e
   pub back : (p : Position) → IsIn p e → Holds s.rows p
@@ -68,13 +68,13 @@ pub record IsSketch (s : Placed) (e : Extent) : Type 0 where
 sketch_of : (id : SeqId) (rows : List Row) → IsEmpty (record { id = id; rows = rows })
     ⊎ ((e : Extent) × IsSketch (record { id = id; rows = rows }) e)
 sketch_of id [] = inl (record { list = refl; none = none_held })
-sketch_of id (row ∷ rows) = by_test (is_below (position_of row) (position_of (last_behind row rows))) refl
+sketch_of id (row ∷ rows) = by_test (is_below (position_of row) (position_of (last_after row rows))) refl
   where
-    by_test : (t : Bool) → is_below (position_of row) (position_of (last_behind row rows)) ≡ t
+    by_test : (t : Bool) → is_below (position_of row) (position_of (last_after row rows)) ≡ t
         → IsEmpty (record { id = id; rows = row ∷ rows }) ⊎ ((e : Extent) × IsSketch (record { id = id; rows = row ∷ rows }) e)
     by_test true e =
         inr (
-          record { low = position_of row; high = position_of (last_behind row rows); id = id },
+          record { low = position_of row; high = position_of (last_after row rows); id = id },
           record {
             first = row;
             others = rows;
@@ -84,16 +84,16 @@ sketch_of id (row ∷ rows) = by_test (is_below (position_of row) (position_of (
             high = refl;
             list = ap (λ (o : Option Row). extent_of_rows id (Some row) o) (last_row_is row rows) ∙ rw e refl;
             id = refl;
-            some = below_from_test (position_of row) (position_of (last_behind row rows)) e;
+            some = below_from_test (position_of row) (position_of (last_after row rows)) e;
             into = λ p h. let b = from_holds row rows p h in record { from = b.0; below = b.1 };
-            back = λ p h. holds_behind row rows p h.from h.below;
+            back = λ p h. holds_after row rows p h.from h.below;
           },
         )
     by_test false e =
         inl (record {
           list = ap (λ (o : Option Row). extent_of_rows id (Some row) o) (last_row_is row rows) ∙ rw e refl;
           none = λ p h. let b = from_holds row rows p h in not_both b.1
-              (at_most_trans (at_most_from_not_below (position_of row) (position_of (last_behind row rows)) e) b.0);
+              (at_most_trans (at_most_from_not_below (position_of row) (position_of (last_after row rows)) e) b.0);
         })
 
 pub sketch : (s : Placed) → IsEmpty s ⊎ ((e : Extent) × IsSketch s e)
@@ -196,8 +196,8 @@ apart_from_disjoint ss h =
     let all = apart_where (λ _. Unit {0}) ss (λ i j d lt l p at x y. h i j d lt l p x y) in
     λ i j d lt l p x y. all i j d lt l p tt x y
 
-pub Contains-behind : {X : Type 0} (y : X) (xs : List X) (x : X) → Contains xs x → Contains (y ∷ xs) x
-Contains-behind y xs x h = (suc h.0, omega (arith, h.1), h.2)
+pub Contains-past : {X : Type 0} (y : X) (xs : List X) (x : X) → Contains xs x → Contains (y ∷ xs) x
+Contains-past y xs x h = (suc h.0, omega (arith, h.1), h.2)
 
 pub here_or_later : {X : Type 0} (y : X) (xs : List X) (x : X) → Contains (y ∷ xs) x → (y ≡ x) ⊎ Contains xs x
 here_or_later {X} y xs x h = by_place h.0 h.1 h.2
@@ -213,11 +213,11 @@ of_sequence (s ∷ ss) e h =
     ⊎_elim
     (λ (none : IsEmpty s).
     let k = of_sequence ss e (subst (λ (es : List Extent). Contains (es ++ extents_of ss) e) none.list h) in
-    (k.0, Contains-behind s ss k.0 k.1, k.2))
+    (k.0, Contains-past s ss k.0 k.1, k.2))
     (λ (one : (f : Extent) × IsSketch s f).
     ⊎_elim
     (λ (here : one.0 ≡ e). (s, (0, omega arith, refl), subst (IsSketch s) here one.1))
-    (λ (later : Contains (extents_of ss) e). let k = of_sequence ss e later in (k.0, Contains-behind s ss k.0 k.1, k.2))
+    (λ (later : Contains (extents_of ss) e). let k = of_sequence ss e later in (k.0, Contains-past s ss k.0 k.1, k.2))
     (here_or_later one.0 (extents_of ss) e (subst (λ (es : List Extent). Contains (es ++ extents_of ss) e) one.1.list h)))
     (sketch s)
 
@@ -279,17 +279,17 @@ pub test_from_holds : (rows : List Row) (p : Position) → Holds rows p → hold
 test_from_holds [] p h = absurd (none_held p h)
 test_from_holds (row ∷ rows) p h =
     let b = from_holds row rows p h in
-    holds_is row rows p ∙ rw (test_at_most (position_of row) p b.0, test_below p (position_of (last_behind row rows)) b.1) refl
+    holds_is row rows p ∙ rw (test_at_most (position_of row) p b.0, test_below p (position_of (last_after row rows)) b.1) refl
 
 pub holds_from_test : (rows : List Row) (p : Position) → holds p rows ≡ true → Holds rows p
 holds_from_test [] p h = absurd cc
 holds_from_test (row ∷ rows) p h =
-    by_parts (is_at_most (position_of row) p) (is_below p (position_of (last_behind row rows))) refl refl (sym (holds_is row rows p) ∙ h)
+    by_parts (is_at_most (position_of row) p) (is_below p (position_of (last_after row rows))) refl refl (sym (holds_is row rows p) ∙ h)
   where
-    by_parts : (a b : Bool) → is_at_most (position_of row) p ≡ a → is_below p (position_of (last_behind row rows)) ≡ b → (a && b) ≡ true
+    by_parts : (a b : Bool) → is_at_most (position_of row) p ≡ a → is_below p (position_of (last_after row rows)) ≡ b → (a && b) ≡ true
         → Holds (row ∷ rows) p
-    by_parts true true e f g = holds_behind row rows p (at_most_from_test (position_of row) p e)
-        (below_from_test p (position_of (last_behind row rows)) f)
+    by_parts true true e f g = holds_after row rows p (at_most_from_test (position_of row) p e)
+        (below_from_test p (position_of (last_after row rows)) f)
     by_parts true false e f g = absurd cc
     by_parts false b e f g = absurd cc
 

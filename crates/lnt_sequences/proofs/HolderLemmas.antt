@@ -28,7 +28,7 @@ pub record IsBracket (extents : List Extent) (p : Position) (low high : ℕ) : T
   pub upto : low ≤ high
   pub within : high ≤ length extents
   pub before : (k : ℕ) (d : Extent) → k < low → IsAtMost (get_or extents k d).high p
-  pub behind : (k : ℕ) (d : Extent) → high ≤ k → k < length extents → IsBelow p (get_or extents k d).low
+  pub past : (k : ℕ) (d : Extent) → high ≤ k → k < length extents → IsBelow p (get_or extents k d).low
 
 in_turn : (extents : List Extent) → AreSettled extents → (i j : ℕ) (d : Extent) → i < j → j < length extents
     → IsAtMost (get_or extents i d).high (get_or extents j d).low
@@ -46,7 +46,7 @@ bracket_below extents p low high middle o b h k e here =
       upto = h;
       within = omega arith;
       before = b.before;
-      behind = λ i d le l.
+      past = λ i d le l.
           ⊎_elim
           (λ (e : middle ≡ i). subst (λ (m : ℕ). IsBelow p (get_or extents m d).low) e (side d))
           (λ (ne : middle ≡ i → ⊥).
@@ -66,7 +66,7 @@ bracket_above extents p low high middle o b h k e here =
     record {
       upto = omega arith;
       within = b.within;
-      behind = b.behind;
+      past = b.past;
       before = λ i d lt.
           ⊎_elim
           (λ (e : middle ≡ i). subst (λ (m : ℕ). IsAtMost (get_or extents m d).high p) e (side d))
@@ -87,7 +87,7 @@ pub found_nowhere : (extents : List Extent) (p : Position) (low high : ℕ) → 
 found_nowhere extents p low high b h = λ k d l i.
     ⊎_elim
     (λ (lt : k < low). not_both i.below (b.before k d lt))
-    (λ (le : low ≤ k). not_both (b.behind k d (omega arith) l) i.from)
+    (λ (le : low ≤ k). not_both (b.past k d (omega arith) l) i.from)
     (cases_lt k low)
 
 -- ---- the sequence that holds a position

@@ -20,8 +20,8 @@ use Rattle.lnt_sequences.specs.Laws.Kept.{kept_distinct}
 use Rattle.lnt_sequences.specs.Rules.{AreApart, AreDistinct}
 use Rattle.lnt_sequences.specs.Sequences.{ends_alike, first_row, hold_alike, Holds, is_copy, is_same, kept_of, last_row}
 use Rattle.lnt_sequences.specs.Sequences.{Placed, position_of, stands_before}
-use Rattle.lnt_sequences.specs.Watching.{last_behind}
-use Rattle.lnt_sequences.proofs.ExtentLemmas.{apart_from_disjoint, extents_ids, extents_some, holds_behind, IsEmpty}
+use Rattle.lnt_sequences.specs.Watching.{last_after}
+use Rattle.lnt_sequences.proofs.ExtentLemmas.{apart_from_disjoint, extents_ids, extents_some, holds_after, IsEmpty}
 use Rattle.lnt_sequences.proofs.ExtentLemmas.{IsSketch, overlap_of_sequences, sketch}
 use Rattle.lnt_sequences.proofs.OverlapLemmas.{first_overlap_permuted}
 
@@ -29,23 +29,23 @@ use Rattle.lnt_sequences.proofs.OverlapLemmas.{first_overlap_permuted}
 
 alike_rows : (row other : Row) (rows others : List Row)
     → hold_alike (row ∷ rows) (other ∷ others)
-    ≡ (is_below (position_of row) (position_of (last_behind row rows))
-    && (is_same (position_of row) (position_of other) && is_same (position_of (last_behind row rows))
-    (position_of (last_behind other others))))
+    ≡ (is_below (position_of row) (position_of (last_after row rows))
+    && (is_same (position_of row) (position_of other) && is_same (position_of (last_after row rows))
+    (position_of (last_after other others))))
 alike_rows row other rows others =
     ap (λ (o : Option Row). ends_alike (Some row) o (Some other) (last_row (other ∷ others))) (last_row_is row rows)
-    ∙ ap (λ (o : Option Row). ends_alike (Some row) (Some (last_behind row rows)) (Some other) o) (last_row_is other others)
+    ∙ ap (λ (o : Option Row). ends_alike (Some row) (Some (last_after row rows)) (Some other) o) (last_row_is other others)
 
 below_ends : (s : Placed) (e : Extent) → (k : IsSketch s e)
-    → is_below (position_of k.first) (position_of (last_behind k.first k.others)) ≡ true
+    → is_below (position_of k.first) (position_of (last_after k.first k.others)) ≡ true
 below_ends s e k =
-    subst (λ (p : Position). is_below p (position_of (last_behind k.first k.others)) ≡ true) k.low
+    subst (λ (p : Position). is_below p (position_of (last_after k.first k.others)) ≡ true) k.low
     (subst (λ (p : Position). is_below e.low p ≡ true) k.high (test_below e.low e.high k.some))
 
 alike_by_extents : (s t : Placed) (e f : Extent) → IsSketch s e → IsSketch t f → hold_alike s.rows t.rows ≡ end_alike e f
 alike_by_extents s t e f k l =
-    let last = position_of (last_behind k.first k.others) in
-    let other_last = position_of (last_behind l.first l.others) in
+    let last = position_of (last_after k.first k.others) in
+    let other_last = position_of (last_after l.first l.others) in
     ap (λ (rows : List Row). hold_alike rows t.rows) k.rows_are
     ∙ ap (λ (rows : List Row). hold_alike (k.first ∷ k.others) rows) l.rows_are
     ∙ alike_rows k.first l.first k.others l.others
@@ -66,22 +66,22 @@ unlike_empty s t e k none = rw k.rows_are (by_rows t.rows none.none)
     by_rows [] h = ap (λ (o : Option Row). ends_alike (Some k.first) o (first_row []) (last_row [])) (last_row_is k.first k.others)
     by_rows (row ∷ rows) h =
         alike_rows k.first row k.others rows
-        ∙ by_test (is_same (position_of k.first) (position_of row) && is_same (position_of (last_behind k.first k.others))
-        (position_of (last_behind row rows))) refl
+        ∙ by_test (is_same (position_of k.first) (position_of row) && is_same (position_of (last_after k.first k.others))
+        (position_of (last_after row rows))) refl
       where
-        some : is_below (position_of k.first) (position_of (last_behind k.first k.others)) ≡ true
+        some : is_below (position_of k.first) (position_of (last_after k.first k.others)) ≡ true
         some = below_ends s e k
 
-        by_test : (t : Bool) → (is_same (position_of k.first) (position_of row) && is_same (position_of (last_behind k.first k.others))
-            (position_of (last_behind row rows))) ≡ t
-            → (is_below (position_of k.first) (position_of (last_behind k.first k.others))
-            && (is_same (position_of k.first) (position_of row) && is_same (position_of (last_behind k.first k.others))
-            (position_of (last_behind row rows)))) ≡ false
+        by_test : (t : Bool) → (is_same (position_of k.first) (position_of row) && is_same (position_of (last_after k.first k.others))
+            (position_of (last_after row rows))) ≡ t
+            → (is_below (position_of k.first) (position_of (last_after k.first k.others))
+            && (is_same (position_of k.first) (position_of row) && is_same (position_of (last_after k.first k.others))
+            (position_of (last_after row rows)))) ≡ false
         by_test true same =
-            let below = alike_some (position_of k.first) (position_of (last_behind k.first k.others)) (position_of row)
-            (position_of (last_behind row rows)) some same in
-            absurd (h (position_of row) (holds_behind row rows (position_of row) (at_most_itself (position_of row))
-            (below_from_test (position_of row) (position_of (last_behind row rows)) below)))
+            let below = alike_some (position_of k.first) (position_of (last_after k.first k.others)) (position_of row)
+            (position_of (last_after row rows)) some same in
+            absurd (h (position_of row) (holds_after row rows (position_of row) (at_most_itself (position_of row))
+            (below_from_test (position_of row) (position_of (last_after row rows)) below)))
         by_test false same = rw (some, same) refl
 
 -- ---- which are copies

@@ -35,12 +35,12 @@ last_found p (row ∷ rows) =
     one_more (Some r) t e h =
         record {
           before = row ∷ h.before;
-          behind = h.behind;
+          past = h.past;
           rows_are = ap (λ (xs : List Row). row ∷ xs) h.rows_are;
           at = h.at;
           above = h.above;
         }
-    one_more None true e h = record { before = []; behind = rows; rows_are = refl; at = at_most_from_test (position_of row) p e; above = h }
+    one_more None true e h = record { before = []; past = rows; rows_are = refl; at = at_most_from_test (position_of row) p e; above = h }
     one_more None false e h = (below_from_not_at_most (position_of row) p e, h)
 
 -- ---- the sequence

@@ -15,10 +15,10 @@ use Rattle.lnt_spans.specs.Laws.Between.{AreBetween, between_from, none_below}
 use Rattle.lnt_spans.specs.Laws.Positions.{at_most_below, at_most_from_test, at_most_itself, at_most_trans}
 use Rattle.lnt_spans.specs.Laws.Positions.{below_at_most, below_from_not_at_most, below_from_test, test_at_most}
 use Rattle.lnt_spans.specs.Laws.Positions.{test_below, test_not_at_most, test_not_below}
-use Rattle.lnt_sequences.specs.RowSpans.{span_between, spans_behind, row_spans, spans_of}
+use Rattle.lnt_sequences.specs.RowSpans.{span_between, spans_after, row_spans, spans_of}
 use Rattle.lnt_sequences.specs.Rules.{AreOrdered, IsOrdered}
 use Rattle.lnt_sequences.specs.Sequences.{answer_in, answer_of, holds, Placed, position_of, row_at}
-use Rattle.lnt_sequences.specs.Watching.{last_behind}
+use Rattle.lnt_sequences.specs.Watching.{last_after}
 use Rattle.lnt_sequences.specs.Laws.Walks.{last_row_is}
 
 -- ---- one span
@@ -38,7 +38,7 @@ rising_from_ordered row [] o = tt
 rising_from_ordered row (next ∷ rows) o =
     (o 0 1 row (omega arith) (omega arith), rising_from_ordered next rows (λ i j d l m. o (suc i) (suc j) d (omega arith) (omega arith)))
 
-pub rising_last : (row : Row) (rows : List Row) → IsRising row rows → IsAtMost (position_of row) (position_of (last_behind row rows))
+pub rising_last : (row : Row) (rows : List Row) → IsRising row rows → IsAtMost (position_of row) (position_of (last_after row rows))
 rising_last row [] h = at_most_itself (position_of row)
 rising_last row (next ∷ rows) h = at_most_trans h.0 (rising_last next rows h.1)
 
@@ -52,13 +52,13 @@ step_between unit row next spans c true e h k =
     (at_most_itself (position_of row), below_from_test (position_of row) (position_of next) e, k)
 step_between unit row next spans c false e h k = between_from (position_of row) (position_of next) c spans h k
 
-pub behind_between : (unit : ℕ) (row : Row) (rows : List Row) → IsRising row rows
-    → AreBetween (position_of row) (spans_behind unit row rows) (position_of (last_behind row rows))
-behind_between unit row [] h = at_most_itself (position_of row)
-behind_between unit row (next ∷ rows) h =
-    step_between unit row next (spans_behind unit next rows) (position_of (last_behind next rows))
+pub after_between : (unit : ℕ) (row : Row) (rows : List Row) → IsRising row rows
+    → AreBetween (position_of row) (spans_after unit row rows) (position_of (last_after row rows))
+after_between unit row [] h = at_most_itself (position_of row)
+after_between unit row (next ∷ rows) h =
+    step_between unit row next (spans_after unit next rows) (position_of (last_after next rows))
     (is_below (position_of row) (position_of next)) refl h.0
-    (behind_between unit next rows h.1)
+    (after_between unit next rows h.1)
 
 -- ---- the last row at or before a position
 
@@ -108,23 +108,23 @@ pass unit row next p true h = rw (test_not_below p (position_of next) h) (both_n
     both_none true = refl
     both_none false = refl
 
-pub behind_answers : (unit : ℕ) (row : Row) (rows : List Row) (p : Position) → IsRising row rows → IsAtMost (position_of row) p
-    → span_answer (spans_behind unit row rows) p ≡ cond (is_below p (position_of (last_behind row rows)))
+pub after_answers : (unit : ℕ) (row : Row) (rows : List Row) (p : Position) → IsRising row rows → IsAtMost (position_of row) p
+    → span_answer (spans_after unit row rows) p ≡ cond (is_below p (position_of (last_after row rows)))
     (option_map (answer_of unit) (row_at p (row ∷ rows))) None
-behind_answers unit row [] p h k = rw (test_not_below p (position_of row) k) refl
-behind_answers unit row (next ∷ rows) p h k = by_next (is_at_most (position_of next) p) refl (λ at. behind_answers unit next rows p h.1 at)
+after_answers unit row [] p h k = rw (test_not_below p (position_of row) k) refl
+after_answers unit row (next ∷ rows) p h k = by_next (is_at_most (position_of next) p) refl (λ at. after_answers unit next rows p h.1 at)
   where
     by_next : (t : Bool) → is_at_most (position_of next) p ≡ t
         → (IsAtMost (position_of next) p
-        → span_answer (spans_behind unit next rows) p ≡ cond (is_below p (position_of (last_behind next rows)))
+        → span_answer (spans_after unit next rows) p ≡ cond (is_below p (position_of (last_after next rows)))
         (option_map (answer_of unit) (row_at p (next ∷ rows))) None)
-        → span_answer (spans_behind unit row (next ∷ rows)) p ≡ cond (is_below p (position_of (last_behind next rows)))
+        → span_answer (spans_after unit row (next ∷ rows)) p ≡ cond (is_below p (position_of (last_after next rows)))
         (option_map (answer_of unit) (row_at p (row ∷ next ∷ rows))) None
     by_next true e rest =
         let at = at_most_from_test (position_of next) p e in
         let found = some_at p next rows at in
         let same : row_at p (row ∷ next ∷ rows) ≡ row_at p (next ∷ rows) = row_at_cons p row (next ∷ rows) ∙ rw found.1 refl in
-        span_answer-append (span_between unit row next) (spans_behind unit next rows) p
+        span_answer-append (span_between unit row next) (spans_after unit next rows) p
         ∙ rw (pass unit row next p (is_below (position_of row) (position_of next)) at, same) (rest at)
     by_next false e rest =
         let above = below_from_not_at_most (position_of next) p e in
@@ -132,7 +132,7 @@ behind_answers unit row (next ∷ rows) p h k = by_next (is_at_most (position_of
         ∙ rw (none_at p next rows h.1 above, test_at_most (position_of row) p k) refl in
         rw (
           one,
-          test_below p (position_of (last_behind next rows)) (below_at_most above (rising_last next rows h.1)),
+          test_below p (position_of (last_after next rows)) (below_at_most above (rising_last next rows h.1)),
           test_below
               (position_of row) (position_of next) (at_most_below k above),
           test_at_most (position_of row) p k,
@@ -154,7 +154,7 @@ rising_list [] o = tt
 rising_list (row ∷ rows) o = rising_from_ordered row rows o
 
 pub holds_is : (row : Row) (rows : List Row) (p : Position)
-    → holds p (row ∷ rows) ≡ (is_at_most (position_of row) p && is_below p (position_of (last_behind row rows)))
+    → holds p (row ∷ rows) ≡ (is_at_most (position_of row) p && is_below p (position_of (last_after row rows)))
 holds_is row rows p =
     ap (λ (o : Option Row). elim o [ None ↦ false | Some last ↦ is_at_most (position_of row) p && is_below p (position_of last) ])
     (last_row_is row rows)
@@ -165,11 +165,11 @@ row_spans_answer unit [] p h = refl
 row_spans_answer unit (row ∷ rows) p h = by_first (is_at_most (position_of row) p) refl
   where
     by_first : (t : Bool) → is_at_most (position_of row) p ≡ t
-        → span_answer (spans_behind unit row rows) p ≡ sequence_answer unit (row ∷ rows) p
-    by_first true e = rw (holds_is row rows p, e) (behind_answers unit row rows p h (at_most_from_test (position_of row) p e))
+        → span_answer (spans_after unit row rows) p ≡ sequence_answer unit (row ∷ rows) p
+    by_first true e = rw (holds_is row rows p, e) (after_answers unit row rows p h (at_most_from_test (position_of row) p e))
     by_first false e =
         rw (holds_is row rows p, e)
-        (none_below (position_of row) (position_of (last_behind row rows)) (spans_behind unit row rows) p (behind_between unit row rows h)
+        (none_below (position_of row) (position_of (last_after row rows)) (spans_after unit row rows) p (after_between unit row rows h)
         (below_from_not_at_most (position_of row) p e))
 
 -- where it holds p, there is a row at or before p
@@ -177,7 +177,7 @@ pub holds_some : (rows : List Row) (p : Position) → holds p rows ≡ true → 
 holds_some [] p h = absurd cc
 holds_some (row ∷ rows) p h =
     some_at p row rows (at_most_from_test (position_of row) p
-    (first_true (is_at_most (position_of row) p) (is_below p (position_of (last_behind row rows))) (sym (holds_is row rows p) ∙ h)))
+    (first_true (is_at_most (position_of row) p) (is_below p (position_of (last_after row rows))) (sym (holds_is row rows p) ∙ h)))
   where
     first_true : (a b : Bool) → (a && b) ≡ true → a ≡ true
     first_true true b e = refl

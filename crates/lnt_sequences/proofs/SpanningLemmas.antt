@@ -5,7 +5,7 @@ use Rattle.lnt_machine.specs.Walking.{GivesFirst, GivesRow, SequenceWalk, WillGi
 use Rattle.lnt_spans.specs.declared.span.Span.{Span}
 use Rattle.lnt_spans.specs.Positions.{IsAtMost, IsBelow}
 use Rattle.lnt_spans.specs.Laws.Positions.{test_below, test_not_below}
-use Rattle.lnt_sequences.specs.RowSpans.{span_between, spans_behind}
+use Rattle.lnt_sequences.specs.RowSpans.{span_between, spans_after}
 use Rattle.lnt_sequences.specs.Sequences.{answer_of, position_of}
 use Rattle.lnt_sequences.specs.Spanning.{GivesSpan, HasSpans, spans_left}
 
@@ -20,23 +20,23 @@ spans_first unit spans old new last row has gives none =
     by_rows (first ∷ others) are g = record {
       rows = others;
       to_come = g.1;
-      spans_are = are ∙ ap (λ (r : Row). spans_behind unit r others) (sym g.0);
+      spans_are = are ∙ ap (λ (r : Row). spans_after unit r others) (sym g.0);
     }
 
-behind_last : (unit : ℕ) (spans : List Span) (old new : SequenceWalk) (last : Option Row) (previous row : Row)
+after_last : (unit : ℕ) (spans : List Span) (old new : SequenceWalk) (last : Option Row) (previous row : Row)
     → HasSpans unit spans old last → GivesRow old (Some row) new → last ≡ Some previous
-    → (others : List Row) × WillGive others new × (spans ≡ span_between unit previous row ++ spans_behind unit row others)
-behind_last unit spans old new last previous row has gives some =
+    → (others : List Row) × WillGive others new × (spans ≡ span_between unit previous row ++ spans_after unit row others)
+after_last unit spans old new last previous row has gives some =
     by_rows has.rows (has.spans_are ∙ ap (λ (l : Option Row). spans_left unit l has.rows) some) (gives has.rows has.to_come)
   where
     by_rows : (rows : List Row) → spans ≡ spans_left unit (Some previous) rows → GivesFirst rows (Some row) new
-        → (others : List Row) × WillGive others new × (spans ≡ span_between unit previous row ++ spans_behind unit row others)
+        → (others : List Row) × WillGive others new × (spans ≡ span_between unit previous row ++ spans_after unit row others)
     by_rows [] are g = absurd g
     by_rows (first ∷ others) are g = (
       others,
       g.1,
       are
-          ∙ ap (λ (r : Row). span_between unit previous r ++ spans_behind unit r others) (sym g.0),
+          ∙ ap (λ (r : Row). span_between unit previous r ++ spans_after unit r others) (sym g.0),
     )
 
 -- a row at a higher position
@@ -46,9 +46,9 @@ pub spans_here : (unit : ℕ) (spans : List Span) (old new : SequenceWalk) (last
     → GivesSpan unit spans (Some (record { low = position_of previous; high = position_of row; answer = answer_of unit previous })) new
     (Some row)
 spans_here unit spans old new last previous row has gives some below =
-    let found = behind_last unit spans old new last previous row has gives some in
+    let found = after_last unit spans old new last previous row has gives some in
     let test = test_below (position_of previous) (position_of row) below in
-    let are : spans ≡ record { low = position_of previous; high = position_of row; answer = answer_of unit previous } ∷ spans_behind unit
+    let are : spans ≡ record { low = position_of previous; high = position_of row; answer = answer_of unit previous } ∷ spans_after unit
     row found.0 = found.2 ∙ rw test refl in
     subst (λ (list : List Span). GivesSpan unit list
     (Some (record { low = position_of previous; high = position_of row; answer = answer_of unit previous })) new (Some row)) (sym are)
@@ -59,7 +59,7 @@ pub spans_pass : (unit : ℕ) (spans : List Span) (old new : SequenceWalk) (last
     → HasSpans unit spans old last → GivesRow old (Some row) new → last ≡ Some previous
     → IsAtMost (position_of row) (position_of previous) → HasSpans unit spans new (Some row)
 spans_pass unit spans old new last previous row has gives some at =
-    let found = behind_last unit spans old new last previous row has gives some in
+    let found = after_last unit spans old new last previous row has gives some in
     let test = test_not_below (position_of previous) (position_of row) at in
     record { rows = found.0; to_come = found.1; spans_are = found.2 ∙ rw test refl }
 

@@ -16,11 +16,11 @@ use Rattle.lnt_spans.specs.Laws.EachTwo.{find_only}
 use Rattle.lnt_spans.specs.Laws.Positions.{at_most_itself, at_most_trans, order_cases}
 use Rattle.lnt_sequences.specs.declared.extent.Extent.{Extent}
 use Rattle.lnt_sequences.specs.Extents.{extents_of, IsIn}
-use Rattle.lnt_sequences.specs.RowSpans.{row_spans, span_between, spans_behind, spans_of}
+use Rattle.lnt_sequences.specs.RowSpans.{row_spans, span_between, spans_after, spans_of}
 use Rattle.lnt_sequences.specs.Rules.{AreApart, AreOrdered, IsOrdered}
 use Rattle.lnt_sequences.specs.Sequences.{holds, Holds, Placed, position_of}
-use Rattle.lnt_sequences.specs.Watching.{last_behind}
-use Rattle.lnt_sequences.proofs.ExtentLemmas.{Contains-behind, holds_behind, IsEmpty, IsSketch, sketch, test_from_holds}
+use Rattle.lnt_sequences.specs.Watching.{last_after}
+use Rattle.lnt_sequences.proofs.ExtentLemmas.{Contains-past, holds_after, IsEmpty, IsSketch, sketch, test_from_holds}
 use Rattle.lnt_sequences.proofs.HolderLemmas.{held_once}
 use Rattle.lnt_sequences.proofs.RowLemmas.{IsRising, rising_from_ordered, rising_last, span_none}
 
@@ -90,24 +90,24 @@ spans_by_sketch sequences placed extent apart c s =
 
 -- ---- a sequence that holds nothing has no span
 
-flat_spans : (unit : ℕ) (row : Row) (rows : List Row) → IsRising row rows → IsAtMost (position_of (last_behind row rows)) (position_of row)
-    → spans_behind unit row rows ≡ []
+flat_spans : (unit : ℕ) (row : Row) (rows : List Row) → IsRising row rows → IsAtMost (position_of (last_after row rows)) (position_of row)
+    → spans_after unit row rows ≡ []
 flat_spans unit row [] rising flat = refl
 flat_spans unit row (next ∷ rows) rising flat =
     let last = rising_last next rows rising.1 in
     let first : span_between unit row next ≡ [] = span_none unit row next (at_most_trans last flat) in
-    let others : spans_behind unit next rows ≡ [] = flat_spans unit next rows rising.1 (at_most_trans flat rising.0) in
-    ap (λ (spans : List Span). spans ++ spans_behind unit next rows) first ∙ others
+    let others : spans_after unit next rows ≡ [] = flat_spans unit next rows rising.1 (at_most_trans flat rising.0) in
+    ap (λ (spans : List Span). spans ++ spans_after unit next rows) first ∙ others
 
 empty_spans : (unit : ℕ) (rows : List Row) → IsOrdered rows → ((p : Position) → Holds rows p → ⊥) → row_spans unit rows ≡ []
 empty_spans unit [] ordered none = refl
 empty_spans unit (row ∷ rows) ordered none =
     ⊎_elim
-    (λ (below : IsBelow (position_of row) (position_of (last_behind row rows))). absurd
-    (none (position_of row) (holds_behind row rows (position_of row) (at_most_itself (position_of row)) below)))
-    (λ (flat : IsAtMost (position_of (last_behind row rows)) (position_of row)). flat_spans unit row rows
+    (λ (below : IsBelow (position_of row) (position_of (last_after row rows))). absurd
+    (none (position_of row) (holds_after row rows (position_of row) (at_most_itself (position_of row)) below)))
+    (λ (flat : IsAtMost (position_of (last_after row rows)) (position_of row)). flat_spans unit row rows
     (rising_from_ordered row rows ordered) flat)
-    (order_cases (position_of row) (position_of (last_behind row rows)))
+    (order_cases (position_of row) (position_of (last_after row rows)))
 
 -- ---- all of them
 
@@ -117,7 +117,7 @@ spans_by_extents : (sequences some : List Placed) → AreApart sequences → Are
     → spans_of some ≡ flat_map (spans_by sequences) (extents_of some)
 spans_by_extents sequences [] apart ordered within = refl
 spans_by_extents sequences (placed ∷ some) apart ordered within =
-    let rest = spans_by_extents sequences some apart ordered.1 (λ s c. within s (Contains-behind placed some s c)) in
+    let rest = spans_by_extents sequences some apart ordered.1 (λ s c. within s (Contains-past placed some s c)) in
     ⊎_elim
     (λ (none : IsEmpty placed).
     ap (λ (spans : List Span). spans ++ spans_of some) (empty_spans placed.id.unit placed.rows ordered.0 none.none) ∙ rest

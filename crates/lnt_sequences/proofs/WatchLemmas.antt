@@ -12,16 +12,16 @@ use Rattle.lnt_sequences.specs.declared.watch.Watch.{Watch}
 use Rattle.lnt_sequences.specs.Extents.{extents_of}
 use Rattle.lnt_sequences.specs.Sequences.{Placed}
 use Rattle.lnt_sequences.specs.Watching.{closed, CollectsRows, counted, current_of, extent_from, extent_shown, fall_shown}
-use Rattle.lnt_sequences.specs.Watching.{falls_behind, file_shown, gone_on, grown, HasSeen, longer, names_no_file, next}
+use Rattle.lnt_sequences.specs.Watching.{falls_after, file_shown, gone_on, grown, HasSeen, longer, names_no_file, next}
 use Rattle.lnt_sequences.specs.Watching.{noted, shown, start, Walk, walked}
-use Rattle.lnt_sequences.specs.Laws.Walks.{first_shown-push, last_behind-push, shown-push, walked-append, walked-rows}
+use Rattle.lnt_sequences.specs.Laws.Walks.{first_shown-push, last_after-push, shown-push, walked-append, walked-rows}
 
 -- ---- where the rows have come to
 
 current-push : (dead : Option ℕ) (begun : List Row) (row : Row)
     → current_of dead (begun ++ row ∷ []) ≡ Some (grown dead (current_of dead begun) row)
 current-push dead [] row = refl
-current-push dead (first ∷ rest) row = rw (last_behind-push first rest row) refl
+current-push dead (first ∷ rest) row = rw (last_after-push first rest row) refl
 
 -- the walk with one more row: its fields, as a watch counts them
 next-rows : (walk : Walk) (row : Row) (t : Bool) → (cond t (closed walk) (longer walk row)).rows ≡ walk.rows + 1
@@ -68,7 +68,7 @@ seen_none dead unit files watch e few = record {
 
 -- what the first rows showed, and what one more shows
 abbrev falls_next : Option ℕ → Option ℕ → Option Current → ℕ → Row → Option ℕ
-falls_next falls dead current rows row = option_or falls (cond ((grown dead current row).live && falls_behind current row) (Some rows) None)
+falls_next falls dead current rows row = option_or falls (cond ((grown dead current row).live && falls_after current row) (Some rows) None)
 
 abbrev file_next : Option MissingFile → Option ℕ → ℕ → Option Current → ℕ → Row → Option MissingFile
 file_next file dead files current rows row =

@@ -11,14 +11,14 @@ use Rattle.lnt_sequences.specs.Extents.{AreSettled, extents_of}
 use Rattle.lnt_sequences.specs.RowSpans.{spans_of}
 use Rattle.lnt_sequences.specs.Rules.{AreApart, AreOrdered}
 use Rattle.lnt_sequences.specs.Sequences.{answer_in, Placed, position_of}
-use Rattle.lnt_sequences.specs.Watching.{last_behind}
+use Rattle.lnt_sequences.specs.Watching.{last_after}
 
 -- Each has rows and begins no earlier than the one before it ends, the first not below `low`, the last not beyond `high`.
 abbrev pub StandInTurn : Position → List Placed → Position → Type 0
 StandInTurn low [] high = IsAtMost low high
 StandInTurn low (placed ∷ sequences) high =
     (row : Row) × (rows : List Row) × (placed.rows ≡ row ∷ rows) × IsAtMost low (position_of row)
-    × StandInTurn (position_of (last_behind row rows)) sequences high
+    × StandInTurn (position_of (last_after row rows)) sequences high
 
 -- Ordered sequences one after another have spans in order.
 abbrev pub SpansInTurn : Type 0

@@ -74,10 +74,10 @@ pub record KeptSequences : Type 0 where
 -- The row is the last of the rows, in their order, at or before p: those after it stand above p.
 pub record IsLastAt (p : Position) (rows : List Row) (row : Row) : Type 0 where
   pub before : List Row
-  pub behind : List Row
-  pub rows_are : rows ≡ before ++ row ∷ behind
+  pub past : List Row
+  pub rows_are : rows ≡ before ++ row ∷ past
   pub at : IsAtMost (position_of row) p
-  pub above : AllByRecursion (λ later. IsBelow p (position_of later)) behind
+  pub above : AllByRecursion (λ later. IsBelow p (position_of later)) past
 
 -- Of sequences that share no position at most one holds p, and they answer at p what its last row at or before p says. Where none
 -- holds p, they answer nothing.

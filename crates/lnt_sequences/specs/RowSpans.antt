@@ -13,13 +13,13 @@ span_between unit row next =
     (record { low = position_of row; high = position_of next; answer = answer_of unit row } ∷ []) []
 
 -- the spans of a row and the rows after it
-abbrev pub spans_behind : ℕ → Row → List Row → List Span
-spans_behind unit row [] = []
-spans_behind unit row (next ∷ rows) = span_between unit row next ++ spans_behind unit next rows
+abbrev pub spans_after : ℕ → Row → List Row → List Span
+spans_after unit row [] = []
+spans_after unit row (next ∷ rows) = span_between unit row next ++ spans_after unit next rows
 
 abbrev pub row_spans : ℕ → List Row → List Span
 row_spans unit [] = []
-row_spans unit (row ∷ rows) = spans_behind unit row rows
+row_spans unit (row ∷ rows) = spans_after unit row rows
 
 -- the spans of sequences, one after another
 abbrev pub spans_of : List Placed → List Span

@@ -3,12 +3,12 @@ use Rattle.std.specs.Prelude.{◌≡◌, ℕ, cond, List, [], ◌∷◌, length,
 use Rattle.lnt_machine.specs.declared.row.Row.{Row}
 use Rattle.lnt_machine.specs.Walking.{SequenceWalk, WillGive}
 use Rattle.lnt_spans.specs.declared.span.Span.{Span}
-use Rattle.lnt_sequences.specs.RowSpans.{row_spans, spans_behind}
+use Rattle.lnt_sequences.specs.RowSpans.{row_spans, spans_after}
 
 -- the spans of the rows that are still to come, after the last one so far
 abbrev pub spans_left : ℕ → Option Row → List Row → List Span
 spans_left unit None rows = row_spans unit rows
-spans_left unit (Some row) rows = spans_behind unit row rows
+spans_left unit (Some row) rows = spans_after unit row rows
 
 -- at most so many rows are
 abbrev pub rows_left : SequenceWalk → ℕ

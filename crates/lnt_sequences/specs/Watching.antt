@@ -38,9 +38,9 @@ extent_from unit index (Some current) row =
     cond row.end_sequence (extent_between (record { unit = unit; index = index }) current.low (position_of row)) []
 
 -- whether a row's position is below that of the row before it in its sequence
-abbrev pub falls_behind : Option Current → Row → Bool
-falls_behind None row = false
-falls_behind (Some current) row = is_below (position_of row) current.last
+abbrev pub falls_after : Option Current → Row → Bool
+falls_after None row = false
+falls_after (Some current) row = is_below (position_of row) current.last
 
 -- whether a row that is no end row names a file that isn't among so many
 abbrev pub names_no_file : ℕ → Row → Bool
@@ -49,7 +49,7 @@ names_no_file files row = not row.end_sequence && nat_le files row.file
 -- a watch that has looked at one more row, of a sequence that is live or not
 abbrev pub noted : Watch → Row → Bool → Watch
 noted watch row live = record watch {
-  falls = option_or watch.falls (cond (live && falls_behind watch.current row) (Some watch.rows) None);
+  falls = option_or watch.falls (cond (live && falls_after watch.current row) (Some watch.rows) None);
   missing_file = option_or watch.missing_file
       (cond (live && names_no_file watch.files row) (Some (record { row = watch.rows; file = row.file })) None);
 }
@@ -105,15 +105,15 @@ first_shown show walk (row ∷ rows) = option_or (show walk row) (first_shown sh
 -- ---- what a row shows
 
 -- the last of a row and the rows after it
-abbrev pub last_behind : Row → List Row → Row
-last_behind row [] = row
-last_behind row (next ∷ rows) = last_behind next rows
+abbrev pub last_after : Row → List Row → Row
+last_after row [] = row
+last_after row (next ∷ rows) = last_after next rows
 
 -- the sequence that hasn't ended, by its rows so far
 abbrev pub current_of : Option ℕ → List Row → Option Current
 current_of dead [] = None
 current_of dead (row ∷ rows) =
-    Some (record { live = begins_live dead row; low = position_of row; last = position_of (last_behind row rows) })
+    Some (record { live = begins_live dead row; low = position_of row; last = position_of (last_after row rows) })
 
 -- whether a row's sequence is live
 abbrev pub is_in_live : Option ℕ → Walk → Row → Bool
@@ -123,7 +123,7 @@ abbrev pub extent_shown : Option ℕ → ℕ → Walk → Row → List Extent
 extent_shown dead unit walk row = cond (is_in_live dead walk row) (extent_from unit walk.ended (current_of dead walk.begun) row) []
 
 abbrev pub fall_shown : Option ℕ → Walk → Row → Option ℕ
-fall_shown dead walk row = cond (is_in_live dead walk row && falls_behind (current_of dead walk.begun) row) (Some walk.rows) None
+fall_shown dead walk row = cond (is_in_live dead walk row && falls_after (current_of dead walk.begun) row) (Some walk.rows) None
 
 abbrev pub file_shown : Option ℕ → ℕ → Walk → Row → Option MissingFile
 file_shown dead files walk row =

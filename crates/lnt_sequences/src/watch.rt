@@ -136,7 +136,7 @@ impl Watch {
     fn note(&mut self, row: &Row, live: bool)
         ensures { self.new ≡ spec.noted self.old row.now live }
     {
-        if live && falls_behind(&self.current, row) {
+        if live && falls_after(&self.current, row) {
             self.falls = self.falls.or(Some(self.rows));
         }
         if live && names_no_file(self.files, row) {
@@ -194,8 +194,8 @@ fn begins_live(dead: Option<u64>, row: &Row) -> bool
 
 // Whether a row's position is below that of the row before it in its sequence.
 #[inline(always)]
-fn falls_behind(current: &Option<Current>, row: &Row) -> bool
-    ensures { result ≡ spec.falls_behind current.now row.now }
+fn falls_after(current: &Option<Current>, row: &Row) -> bool
+    ensures { result ≡ spec.falls_after current.now row.now }
 {
     match current {
         Some(current) => position_of(row).is_below(current.last),

@@ -7,7 +7,7 @@ use Rattle.lnt_spans.specs.Positions.{IsBelow, IsAtMost}
 use Rattle.lnt_spans.specs.Spans.{span_answer}
 use Rattle.lnt_spans.specs.Laws.{Borders, AgreeAt, borders}
 use Rattle.lnt_spans.specs.Laws.Positions.{order_cases, at_most_below, at_most_trans, at_most_itself, below_is_at_most}
-use Rattle.lnt_spans.specs.Laws.Answering.{answer_in, answer_before, answer_behind}
+use Rattle.lnt_spans.specs.Laws.Answering.{answer_in, answer_before, answer_after}
 
 -- the border c isn't after b, or is after p
 abbrev IsOutside : Position → Position → Position → Type 0
@@ -19,7 +19,7 @@ same_since : (spans : List Span) (b p : Position) → IsAtMost b p → AllByRecu
 same_since [] b p le h = refl
 same_since (s ∷ rest) b p le h = elim h.0 [
   | inl low ↦ elim h.1.0 [
-    | inl high ↦ answer_behind s rest b high ∙ same_since rest b p le h.1.1 ∙ sym (answer_behind s rest p (at_most_trans high le))
+    | inl high ↦ answer_after s rest b high ∙ same_since rest b p le h.1.1 ∙ sym (answer_after s rest p (at_most_trans high le))
     | inr high ↦ answer_in s rest b low (at_most_below le high) ∙ sym (answer_in s rest p (at_most_trans low le) high)
   ]
   | inr low ↦ answer_before s rest b (at_most_below le low) ∙ same_since rest b p le h.1.1 ∙ sym (answer_before s rest p low)
@@ -43,17 +43,17 @@ outside_later [] b c p le h = tt
 outside_later (d ∷ bs) b c p le h =
     (elim h.0 [ inl low ↦ inl (at_most_trans low le) | inr high ↦ inr high ], outside_later bs b c p le h.1)
 
-outside_behind : (bs : List Position) (c p : Position) → AllByRecursion (IsBelow p) bs → AllByRecursion (IsOutside c p) bs
-outside_behind [] c p h = tt
-outside_behind (d ∷ bs) c p h = (inr h.0, outside_behind bs c p h.1)
+outside_after : (bs : List Position) (c p : Position) → AllByRecursion (IsBelow p) bs → AllByRecursion (IsOutside c p) bs
+outside_after [] c p h = tt
+outside_after (d ∷ bs) c p h = (inr h.0, outside_after bs c p h.1)
 
 last_border : (Q : Position → Type 0) (bs : List Position) (p : Position) → AllByRecursion Q bs → LastBorder Q bs p
     ⊎ AllByRecursion (IsBelow p) bs
 last_border Q [] p q = inr tt
 last_border Q (c ∷ bs) p q = elim (order_cases p c) [
-  | inl behind ↦ elim (last_border Q bs p q.1) [
-    | inl f ↦ inl (record { border = f.border; before = f.before; holds = f.holds; last = (inr behind, f.last) })
-    | inr all ↦ inr (behind, all)
+  | inl past ↦ elim (last_border Q bs p q.1) [
+    | inl f ↦ inl (record { border = f.border; before = f.before; holds = f.holds; last = (inr past, f.last) })
+    | inr all ↦ inr (past, all)
   ]
   | inr before ↦ elim (last_border Q bs p q.1) [
     | inl f ↦ elim (order_cases f.border c) [
@@ -65,7 +65,7 @@ last_border Q (c ∷ bs) p q = elim (order_cases p c) [
       })
       | inr same ↦ inl (record { border = f.border; before = f.before; holds = f.holds; last = (inl same, f.last) })
     ]
-    | inr all ↦ inl (record { border = c; before = before; holds = q.0; last = (inl (at_most_itself c), outside_behind bs c p all) })
+    | inr all ↦ inl (record { border = c; before = before; holds = q.0; last = (inl (at_most_itself c), outside_after bs c p all) })
   ]
 ]
 

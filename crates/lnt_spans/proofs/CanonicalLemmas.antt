@@ -7,7 +7,7 @@ use Rattle.lnt_spans.specs.Positions.{IsBelow, IsAtMost}
 use Rattle.lnt_spans.specs.Spans.{AreInOrder, DifferWhereTheyTouch, IsCanonical, span_answer}
 use Rattle.lnt_spans.specs.Laws.{OneCanonical, AgreeEverywhere}
 use Rattle.lnt_spans.specs.Laws.Positions.{order_cases, order_three, at_most_below, at_most_itself, below_is_at_most, same_position}
-use Rattle.lnt_spans.specs.Laws.Answering.{answer_in, answer_behind, first_holds, rest_in_order, none_before, rest_none}
+use Rattle.lnt_spans.specs.Laws.Answering.{answer_in, answer_after, first_holds, rest_in_order, none_before, rest_none}
 
 rest_differ : (s : Span) (rest : List Span) → DifferWhereTheyTouch (s ∷ rest) → DifferWhereTheyTouch rest
 rest_differ s [] h = tt
@@ -40,15 +40,15 @@ same_answer x y xs ys ox oy same low =
 -- at its end a canonical list doesn't answer as in its first span
 answers_other : (x : Span) (xs : List Span) → AreInOrder (x ∷ xs) → DifferWhereTheyTouch (x ∷ xs)
     → span_answer (x ∷ xs) x.high ≡ Some x.answer → ⊥
-answers_other x [] o d e = let none = answer_behind x [] x.high (at_most_itself x.high) in cc
+answers_other x [] o d e = let none = answer_after x [] x.high (at_most_itself x.high) in cc
 answers_other x (t ∷ rest) o d e = elim (order_cases x.high t.low) [
   | inl gap ↦
-      let behind = answer_behind x (t ∷ rest) x.high (at_most_itself x.high) in
+      let past = answer_after x (t ∷ rest) x.high (at_most_itself x.high) in
       let none = none_before t rest x.high o.2 gap in
       cc
   | inr le ↦
       let touch = same_position x.high t.low le o.1 in
-      let behind = answer_behind x (t ∷ rest) x.high (at_most_itself x.high) in
+      let past = answer_after x (t ∷ rest) x.high (at_most_itself x.high) in
       let here = answer_in t rest x.high le (at_most_below o.1 (first_holds t rest o.2)) in
       d.0 touch (cc)
 ]
@@ -80,7 +80,7 @@ same_rest : (x y : Span) (xs ys : List Span) → AreInOrder (x ∷ xs) → AreIn
     → x.high ≡ y.high → AgreeEverywhere xs ys
 same_rest x y xs ys ox oy same high p = elim (order_cases p x.high) [
   | inl lt ↦ rest_none x xs p ox lt ∙ sym (rest_none y ys p oy (subst (λ (q : Position). IsBelow p q) high lt))
-  | inr ge ↦ sym (answer_behind x xs p ge) ∙ same p ∙ answer_behind y ys p (subst (λ (q : Position). IsAtMost q p) high ge)
+  | inr ge ↦ sym (answer_after x xs p ge) ∙ same p ∙ answer_after y ys p (subst (λ (q : Position). IsAtMost q p) high ge)
 ]
 
 pub one_list : OneCanonical

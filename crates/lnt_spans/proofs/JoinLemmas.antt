@@ -5,7 +5,7 @@ use Rattle.lnt_spans.specs.declared.position.Position.{Position}
 use Rattle.lnt_spans.specs.declared.span.Span.{Span}
 use Rattle.lnt_spans.specs.Positions.{IsBelow, IsAtMost}
 use Rattle.lnt_spans.specs.Spans.{AreInOrder, DifferWhereTheyTouch, span_answer, span_in_version, version_answer}
-use Rattle.lnt_spans.specs.Laws.Answering.{answer_in, answer_before, answer_behind, answer_same, first_holds, rest_in_order}
+use Rattle.lnt_spans.specs.Laws.Answering.{answer_in, answer_before, answer_after, answer_same, first_holds, rest_in_order}
 use Rattle.lnt_spans.specs.Laws.Positions.{order_cases, below_at_most, below_is_at_most}
 use Rattle.lnt_spans.specs.Laws.Told.{told, told_answer, told_order}
 
@@ -64,9 +64,9 @@ answer_joined first next more p touch same h k = elim (order_cases p first.low) 
         let late : IsAtMost next.low p = subst (λ (q : Position). IsAtMost q p) touch over in
         elim (order_cases p next.high) [
           | inl under ↦ answer_in (joined_span first next.high) more p from under ∙ ap Some same
-              ∙ sym (answer_behind first (next ∷ more) p over ∙ answer_in next more p late under)
-          | inr behind ↦ answer_behind (joined_span first next.high) more p behind
-              ∙ sym (answer_behind first (next ∷ more) p over ∙ answer_behind next more p behind)
+              ∙ sym (answer_after first (next ∷ more) p over ∙ answer_in next more p late under)
+          | inr past ↦ answer_after (joined_span first next.high) more p past
+              ∙ sym (answer_after first (next ∷ more) p over ∙ answer_after next more p past)
         ]
   ]
 ]

@@ -18,10 +18,10 @@ use Rattle.lnt_spans.specs.Comparing.{Advances, AgreeBefore, Compares, DifferBef
 use Rattle.lnt_spans.specs.Comparing.{IsCompared, IsComparedBy, IsNext, IsTold, Merging, State, state_of}
 use Rattle.lnt_spans.specs.Differences.{Agree, IsLeastDifference}
 use Rattle.lnt_spans.specs.Positions.{IsBelow, IsAtMost}
-use Rattle.lnt_spans.specs.Scanning.{DiffersFirst, EndsBehind, IsScanned, Says}
+use Rattle.lnt_spans.specs.Scanning.{DiffersFirst, EndsAfter, IsScanned, Says}
 use Rattle.lnt_spans.specs.Spans.{AreInOrder, span_answer, span_in_version, version_answer}
-use Rattle.lnt_spans.proofs.ScanLemmas.{begins_with, first_is, first_says, gap_says, next_behind, no_first}
-use Rattle.lnt_spans.specs.Laws.Answering.{answer_before, answer_behind, answer_in, answer_same, back_in_order}
+use Rattle.lnt_spans.proofs.ScanLemmas.{begins_with, first_is, first_says, gap_says, next_after, no_first}
+use Rattle.lnt_spans.specs.Laws.Answering.{answer_before, answer_after, answer_in, answer_same, back_in_order}
 use Rattle.lnt_spans.specs.Laws.Answering.{first_holds, front_in_order, none_before, rest_in_order}
 use Rattle.lnt_spans.specs.Laws.Positions.{at_most_below, at_most_itself, at_most_trans, below_at_most}
 use Rattle.lnt_spans.specs.Laws.Positions.{below_is_at_most, not_both, order_cases}
@@ -32,18 +32,18 @@ origin_first : (p : Position) → IsAtMost (record { address = 0; op = 0 }) p
 origin_first p = record { address = omega arith; op = λ e. omega arith }
 
 record Follows (records : List Span) (span : Span) : Type 0 where
-  behind : IsAtMost (end_of records) span.low
+  past : IsAtMost (end_of records) span.low
   holds : IsBelow span.low span.high
 
 order_push : (records : List Span) (span : Span) → AreInOrder records → Follows records span → AreInOrder (records ++ span ∷ [])
 order_push [] span o f = f.holds
-order_push (r ∷ []) span o f = (o, f.behind, f.holds)
-order_push (r ∷ next ∷ records) span o f = (o.0, o.1, order_push (next ∷ records) span o.2 (record { behind = f.behind; holds = f.holds }))
+order_push (r ∷ []) span o f = (o, f.past, f.holds)
+order_push (r ∷ next ∷ records) span o f = (o.0, o.1, order_push (next ∷ records) span o.2 (record { past = f.past; holds = f.holds }))
 
 order_pushed : (records : List Span) (span : Span) → AreInOrder (records ++ span ∷ []) → Follows records span
-order_pushed [] span o = record { behind = origin_first span.low; holds = o }
-order_pushed (r ∷ []) span o = record { behind = o.1; holds = o.2 }
-order_pushed (r ∷ next ∷ records) span o = let f = order_pushed (next ∷ records) span o.2 in record { behind = f.behind; holds = f.holds }
+order_pushed [] span o = record { past = origin_first span.low; holds = o }
+order_pushed (r ∷ []) span o = record { past = o.1; holds = o.2 }
+order_pushed (r ∷ next ∷ records) span o = let f = order_pushed (next ∷ records) span o.2 in record { past = f.past; holds = f.holds }
 
 end_pushed : (records : List Span) (span : Span) → end_of (records ++ span ∷ []) ≡ span.high
 end_pushed [] span = refl
@@ -53,18 +53,18 @@ end_pushed (r ∷ next ∷ records) span = end_pushed (next ∷ records) span
 pub takes_none : (state : State) (spans records : List Span) (span : Span) → IsBelow span.low state.at → HasCompared state spans records
     → AreInOrder (records ++ span ∷ []) → ⊥
 takes_none state spans records span lt c o =
-    not_both lt (subst (λ (p : Position). IsAtMost p span.low) (sym c.at) (order_pushed records span o).behind)
+    not_both lt (subst (λ (p : Position). IsAtMost p span.low) (sym c.at) (order_pushed records span o).past)
 
 pub takes_one : (state : State) (spans records : List Span) (span : Span) (holds : Bool) → IsAtMost state.at span.low
     → MatchBool holds (IsBelow span.low span.high) (IsAtMost span.high span.low)
     → HasCompared state spans records → MatchBool holds (AreInOrder (records ++ span ∷ [])) (AreInOrder (records ++ span ∷ []) → ⊥)
 takes_one state spans records span true le h c =
-    order_push records span c.order (record { behind = subst (λ (p : Position). IsAtMost p span.low) c.at le; holds = h })
+    order_push records span c.order (record { past = subst (λ (p : Position). IsAtMost p span.low) c.at le; holds = h })
 takes_one state spans records span false le h c = λ o. not_both (order_pushed records span o).holds h
 
 -- what `push` asks for, in positions
 pub record Comes (at : Position) (span : Span) : Type 0 where
-  pub behind : IsAtMost at span.low
+  pub past : IsAtMost at span.low
   pub holds : IsBelow span.low span.high
 
 pub comes : {S : Type 0} (to_come : S → List Span → Type 0) (merge : Merging S) (span : Span) → (spans : List Span) × (records : List Span)
@@ -73,7 +73,7 @@ pub comes : {S : Type 0} (to_come : S → List Span → Type 0) (merge : Merging
 comes to_come merge span h =
     let f = order_pushed h.1 span h.3 in
     let c = h.2.compared in
-    record { behind = subst (λ (p : Position). IsAtMost p span.low) (sym c.at) f.behind; holds = f.holds }
+    record { past = subst (λ (p : Position). IsAtMost p span.low) (sym c.at) f.past; holds = f.holds }
 
 -- ---- one more record, and what the table answers
 
@@ -85,7 +85,7 @@ answer_push_none (r ∷ records) more p e = elim (order_cases p r.low) [
   | inl before ↦ answer_before r (records ++ more) p before ∙ answer_push_none records more p (sym (answer_before r records p before) ∙ e)
   | inr from ↦ elim (order_cases p r.high) [
     | inl under ↦ let here = answer_in r records p from under in absurd (cc (here, e))
-    | inr over ↦ answer_behind r (records ++ more) p over ∙ answer_push_none records more p (sym (answer_behind r records p over) ∙ e)
+    | inr over ↦ answer_after r (records ++ more) p over ∙ answer_push_none records more p (sym (answer_after r records p over) ∙ e)
   ]
 ]
 
@@ -115,20 +115,20 @@ push_compares : (old middle new : State) (span : Span) → Comes old.at span →
 push_compares old middle new span h low high gap over spans records c =
     let by_table : Position → Option Answer = span_answer (records ++ span ∷ []) in
     let start = compared_same old.first old spans (span_answer records) by_table
-    (λ p k. sym (answer_push_before records span p (below_at_most k h.behind))) c.compared in
+    (λ p k. sym (answer_push_before records span p (below_at_most k h.past))) c.compared in
     let before = gap spans by_table start (λ p k l. answer_push_before records span p l ∙ c.ended p k) in
     record {
       order = order_push records span c.order
-          (record { behind = subst (λ (p : Position). IsAtMost p span.low) c.at h.behind; holds = h.holds });
+          (record { past = subst (λ (p : Position). IsAtMost p span.low) c.at h.past; holds = h.holds });
       at = high ∙ sym (end_pushed records span);
       ended = λ p k.
           let from : IsAtMost span.high p = subst (λ (q : Position). IsAtMost q p) high k in
-          answer_push_none records (span ∷ []) p (c.ended p (at_most_trans h.behind (at_most_trans (below_is_at_most h.holds) from)))
-          ∙ answer_behind span [] p from;
+          answer_push_none records (span ∷ []) p (c.ended p (at_most_trans h.past (at_most_trans (below_is_at_most h.holds) from)))
+          ∙ answer_after span [] p from;
       compared = over spans by_table before
           (λ p k l.
           let from : IsAtMost span.low p = subst (λ (q : Position). IsAtMost q p) low k in
-          answer_push_none records (span ∷ []) p (c.ended p (at_most_trans h.behind from)) ∙ answer_in span [] p from l);
+          answer_push_none records (span ∷ []) p (c.ended p (at_most_trans h.past from)) ∙ answer_in span [] p from l);
     }
 
 -- ---- a stretch of positions with one answer of the table
@@ -162,8 +162,8 @@ advance_found old rest to answer None e le h spans by_table c says = let a = agr
 advance_found old rest to answer (Some difference) e le h spans by_table c says = let a = agree_before old spans by_table e c in record {
   below = h.below;
   least = record {
-    section = h.section ∙ ap (option_map (in_version old.version)) (a.rest_same difference.position h.behind);
-    table = h.table ∙ sym (says difference.position h.behind h.below);
+    section = h.section ∙ ap (option_map (in_version old.version)) (a.rest_same difference.position h.past);
+    table = h.table ∙ sym (says difference.position h.past h.below);
     differ = h.differ;
     least = λ p k. elim (order_cases p old.at) [
       | inl early ↦ a.agree p early
@@ -192,22 +192,22 @@ pushed to_come old middle new span h low high gap over spans records c =
 -- the spans were scanned
 pub scanned_on : {S : Type 0} (to_come : S → List Span → Type 0) (old : Merging S) (spans : Ahead S) (to : Position)
     (answer : Option Answer) (first : Option Difference) → old.first ≡ None → IsAtMost old.at to
-    → ((list : List Span) → IsAhead to_come old.spans list → AreInOrder list → EndsBehind old.at list
+    → ((list : List Span) → IsAhead to_come old.spans list → AreInOrder list → EndsAfter old.at list
     → IsScanned old.version list old.at to answer first (IsAhead to_come spans))
     → (rest : List Span) → GoesOn to_come old (record { version = old.version; spans = spans; at = to; first = first }) rest to answer
 scanned_on to_come old spans to answer first none le scan rest ahead sound =
-    let s = scan rest ahead sound.order (sound.behind none) in
+    let s = scan rest ahead sound.order (sound.past none) in
     record {
       rest = s.rest;
       ahead = s.left;
-      sound = record { order = s.order; behind = λ e. ends_above rest s.rest first e s.cases };
+      sound = record { order = s.order; past = λ e. ends_above rest s.rest first e s.cases };
       advances = advance_found (state_of old rest) s.rest to answer first none le s.cases;
     }
   where
     ends_above : (all more : List Span) (f : Option Difference) → f ≡ None
         → MatchOption f (Says old.version all old.at to answer more)
-        (λ difference. DiffersFirst old.version all old.at to answer difference) → EndsBehind to more
-    ends_above all more None e says = says.behind
+        (λ difference. DiffersFirst old.version all old.at to answer difference) → EndsAfter to more
+    ends_above all more None e says = says.past
     ends_above all more (Some difference) e says = absurd cc
 
 -- there was a difference before
@@ -218,7 +218,7 @@ pub differed_on : {S : Type 0} (to_come : S → List Span → Type 0) (old : Mer
 differed_on to_come old to answer some le rest ahead sound = record {
   rest = rest;
   ahead = ahead;
-  sound = record { order = sound.order; behind = λ e. absurd (none_not old.first e some) };
+  sound = record { order = sound.order; past = λ e. absurd (none_not old.first e some) };
   advances = λ spans by_table c says. by_first spans by_table old.first some c;
 }
   where
@@ -246,7 +246,7 @@ next_compares old span more rest none order h =
     (λ (xs : List Span). Says old.version xs old.at span.low None (span ∷ more)) (sym rest)
     (gap_says old.version span more old.at span.low order (at_most_itself span.low)) in
     push_compares old middle (record { version = old.version; rest = more; at = span.high; first = None }) said h refl refl
-    (advance_found old (span ∷ more) span.low None None none h.behind before)
+    (advance_found old (span ∷ more) span.low None None none h.past before)
     (advance_found middle more span.high (Some said.answer) None refl (below_is_at_most h.holds) (first_says old.version span more order))
 
 passed_one : {S : Type 0} (to_come : S → List Span → Type 0) (version : Version) (spans spans' : Ahead S) (at : Position) (span : Span)
@@ -260,7 +260,7 @@ passed_one : {S : Type 0} (to_come : S → List Span → Type 0) (version : Vers
 passed_one to_come version spans spans' at span more given records ahead order c h passed = record {
   rest = more;
   ahead = passed span more ahead;
-  sound = record { order = rest_in_order span more order; behind = λ e. next_behind span more order };
+  sound = record { order = rest_in_order span more order; past = λ e. next_after span more order };
   compared = next_compares (record { version = version; rest = span ∷ more; at = at; first = None }) span more refl refl order h given
       records c;
 }
@@ -289,7 +289,7 @@ next_pushed {S} to_come old spans said n h passed given records c =
 
 -- the first position from `at` on that the first span holds
 record IsStart (at : Position) (span : Span) (start : Position) : Type 0 where
-  behind : IsAtMost at start
+  past : IsAtMost at start
   from : IsAtMost span.low start
   below : IsBelow start span.high
   before : (p : Position) → IsAtMost at p → IsBelow p start → IsBelow p span.low
@@ -297,9 +297,9 @@ record IsStart (at : Position) (span : Span) (start : Position) : Type 0 where
 start_is : (at : Position) (span : Span) (start : Position) → IsBelow span.low span.high → IsBelow at span.high
     → (IsBelow at span.low × (start ≡ span.low)) ⊎ (IsAtMost span.low at × (start ≡ at)) → IsStart at span start
 start_is at span start holds ends (inl h) =
-    rw h.1 (record { behind = below_is_at_most h.0; from = at_most_itself span.low; below = holds; before = λ p a b. b })
+    rw h.1 (record { past = below_is_at_most h.0; from = at_most_itself span.low; below = holds; before = λ p a b. b })
 start_is at span start holds ends (inr h) =
-    rw h.1 (record { behind = at_most_itself at; from = h.0; below = ends; before = λ p a b. absurd (not_both b a) })
+    rw h.1 (record { past = at_most_itself at; from = h.0; below = ends; before = λ p a b. absurd (not_both b a) })
 
 first_differs : (state : State) (spans records more : List Span) (span : Span) (start : Position) → AreInOrder (span ∷ more)
     → IsStart state.at span start
@@ -308,8 +308,8 @@ first_differs : (state : State) (spans records more : List Span) (span : Span) (
     → IsLeastDifference (version_answer state.version spans) (span_answer records)
     (record { position = start; by_table = None; by_section = Some (in_version state.version span.answer) })
 first_differs state spans records more span start o s same agree ended = record {
-  section = ap (option_map (in_version state.version)) (sym (answer_in span more start s.from s.below) ∙ same start s.behind);
-  table = sym (ended start s.behind);
+  section = ap (option_map (in_version state.version)) (sym (answer_in span more start s.from s.below) ∙ same start s.past);
+  table = sym (ended start s.past);
   differ = λ e. cc e;
   least = λ p h. elim (order_cases p state.at) [
     | inl early ↦ agree.agree p early
@@ -328,7 +328,7 @@ pub finish_first : {S : Type 0} (to_come : S → List Span → Type 0) (merge : 
 finish_first to_come merge spans records span start next none h c =
     let first = first_is merge.spans.next span c.rest next (begins_with to_come merge.spans c.rest c.ahead) in
     let order : AreInOrder (span ∷ first.0) = subst AreInOrder first.1 c.sound.order in
-    let ends : IsBelow merge.at span.high = subst (EndsBehind merge.at) first.1 (c.sound.behind none) in
+    let ends : IsBelow merge.at span.high = subst (EndsAfter merge.at) first.1 (c.sound.past none) in
     let agree = agree_before (state_of merge c.rest) spans (span_answer records) none c.compared.compared in
     first_differs (state_of merge c.rest) spans records first.0 span start order
     (start_is merge.at span start (first_holds span first.0 order) ends h)
@@ -376,7 +376,7 @@ passed_more version at done (span ∷ passed) rest section o told e c =
     let old : State = record { version = version; rest = span ∷ passed ++ rest; at = at; first = None } in
     let f = rest_from done span (passed ++ rest) o in
     let comes : Comes at (span_in_version version span) = record {
-      behind = subst (λ (p : Position). IsAtMost p span.low) (sym e) f.behind;
+      past = subst (λ (p : Position). IsAtMost p span.low) (sym e) f.past;
       holds = f.holds;
     } in
     let one = next_compares old span (passed ++ rest) refl refl (back_in_order done (span ∷ passed ++ rest) o) comes section done c in
@@ -388,9 +388,9 @@ passed_more version at done (span ∷ passed) rest section o told e c =
     (passed_more version span.high (done ++ span ∷ []) passed rest section
     (subst AreInOrder (sym (append_assoc done (span ∷ []) (passed ++ rest))) o) told.1 (sym (end_pushed done span)) said)
 
-ends_behind : (passed rest : List Span) → AreInOrder (passed ++ rest) → EndsBehind (end_of passed) rest
-ends_behind passed [] o = tt
-ends_behind passed (span ∷ rest) o = let f = rest_from passed span rest o in at_most_below f.behind f.holds
+ends_after : (passed rest : List Span) → AreInOrder (passed ++ rest) → EndsAfter (end_of passed) rest
+ends_after passed [] o = tt
+ends_after passed (span ∷ rest) o = let f = rest_from passed span rest o in at_most_below f.past f.holds
 
 pub compares_passed : {S : Type 0} (to_come : S → List Span → Type 0) (version : Version) (ahead : Ahead S) (at : Position)
     (passed list : List Span) → IsAhead to_come ahead list → AreInOrder (passed ++ list)
@@ -410,7 +410,7 @@ compares_passed to_come version ahead at passed list is order told e =
       ahead = is;
       sound = record {
         order = back_in_order passed list order;
-        behind = λ _. subst (λ (p : Position). EndsBehind p list) (sym e) (ends_behind passed list order);
+        past = λ _. subst (λ (p : Position). EndsAfter p list) (sym e) (ends_after passed list order);
       };
       compared =
           subst (λ (p : Position). HasCompared (record { version = version; rest = list; at = p; first = None }) (passed ++ list) passed)

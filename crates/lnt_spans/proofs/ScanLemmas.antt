@@ -13,9 +13,9 @@ use Rattle.lnt_spans.specs.Answers.{in_version}
 use Rattle.lnt_spans.specs.Positions.{IsBelow, IsAtMost, is_below}
 use Rattle.lnt_spans.specs.declared.ahead.Ahead.{Ahead}
 use Rattle.lnt_spans.specs.Ahead.{BeginsWith, gap_before, IsAhead, rest_of, steps_left}
-use Rattle.lnt_spans.specs.Scanning.{EndsBehind, IsStretch, Says}
+use Rattle.lnt_spans.specs.Scanning.{EndsAfter, IsStretch, Says}
 use Rattle.lnt_spans.specs.Spans.{AreInOrder}
-use Rattle.lnt_spans.specs.Laws.Answering.{answer_behind, answer_in, first_holds, none_before, rest_in_order}
+use Rattle.lnt_spans.specs.Laws.Answering.{answer_after, answer_in, first_holds, none_before, rest_in_order}
 use Rattle.lnt_spans.specs.Laws.Positions.{at_most_itself, at_most_trans, at_most_below, below_at_most}
 use Rattle.lnt_spans.specs.Laws.Positions.{below_is_at_most, order_cases, test_below, test_not_below}
 
@@ -39,7 +39,7 @@ empty_stretch : (version : Version) (at to : Position) → IsBelow at to → IsS
 empty_stretch version at to lt = record {
   from = lt;
   within = at_most_itself to;
-  says = record { order = tt; behind = tt; same = λ p h. refl; says = λ p h k. refl };
+  says = record { order = tt; past = tt; same = λ p h. refl; says = λ p h k. refl };
 }
 
 -- no span is left
@@ -53,7 +53,7 @@ pub gap_says : (version : Version) (span : Span) (more : List Span) (at end : Po
     → Says version (span ∷ more) at end None (span ∷ more)
 gap_says version span more at end o le = record {
   order = o;
-  behind = at_most_below le (first_holds span more o);
+  past = at_most_below le (first_holds span more o);
   same = λ p h. refl;
   says = λ p h k. told version (none_before span more p o (below_at_most k le));
 }
@@ -90,7 +90,7 @@ inside_stretch version span more at to o lt le k = record {
   within = at_most_itself to;
   says = record {
     order = o;
-    behind = k;
+    past = k;
     same = λ p h. refl;
     says = λ p h l. told version (answer_in span more p (at_most_trans le h) (below_at_most l (below_is_at_most k)));
   };
@@ -104,17 +104,17 @@ stretch_inside version next spans span at to is b o lt le k =
     let first = first_is next span spans is b in
     rw first.1 (inside_stretch version span first.0 at to (subst AreInOrder first.1 o) lt le k)
 
-pub next_behind : (span : Span) (more : List Span) → AreInOrder (span ∷ more) → EndsBehind span.high more
-next_behind span [] o = tt
-next_behind span (next ∷ more) o = at_most_below o.1 (first_holds next more o.2)
+pub next_after : (span : Span) (more : List Span) → AreInOrder (span ∷ more) → EndsAfter span.high more
+next_after span [] o = tt
+next_after span (next ∷ more) o = at_most_below o.1 (first_holds next more o.2)
 
 -- all of the first span
 pub first_says : (version : Version) (span : Span) (more : List Span) → AreInOrder (span ∷ more)
     → Says version (span ∷ more) span.low span.high (Some (in_version version span.answer)) more
 first_says version span more o = record {
   order = rest_in_order span more o;
-  behind = next_behind span more o;
-  same = λ p h. sym (answer_behind span more p h);
+  past = next_after span more o;
+  same = λ p h. sym (answer_after span more p h);
   says = λ p h l. told version (answer_in span more p h l);
 }
 
@@ -122,24 +122,24 @@ first_says version span more o = record {
 whole_stretch : (version : Version) (span : Span) (more : List Span) (at to : Position) → AreInOrder (span ∷ more) → IsBelow at span.high
     → IsAtMost span.low at → IsAtMost span.high to
     → IsStretch version (span ∷ more) at to (Some (in_version version span.answer)) span.high more
-whole_stretch version span more at to o behind le k = record {
-  from = behind;
+whole_stretch version span more at to o past le k = record {
+  from = past;
   within = k;
   says = record {
     order = rest_in_order span more o;
-    behind = next_behind span more o;
-    same = λ p h. sym (answer_behind span more p h);
+    past = next_after span more o;
+    same = λ p h. sym (answer_after span more p h);
     says = λ p h l. told version (answer_in span more p (at_most_trans le h) l);
   };
 }
 
 pub stretch_whole : (version : Version) (next : Option Span) (spans : List Span) (span : Span) (at to : Position) → next ≡ Some span
-    → BeginsWith next spans → AreInOrder spans → EndsBehind at spans
+    → BeginsWith next spans → AreInOrder spans → EndsAfter at spans
     → IsAtMost span.low at → IsAtMost span.high to
     → IsStretch version spans at to (Some (in_version version span.answer)) span.high (rest_of true spans)
-stretch_whole version next spans span at to is b o behind le k =
+stretch_whole version next spans span at to is b o past le k =
     let first = first_is next span spans is b in
-    rw first.1 (whole_stretch version span first.0 at to (subst AreInOrder first.1 o) (subst (EndsBehind at) first.1 behind) le k)
+    rw first.1 (whole_stretch version span first.0 at to (subst AreInOrder first.1 o) (subst (EndsAfter at) first.1 past) le k)
 
 -- ---- fewer stretches are left
 
@@ -183,7 +183,7 @@ pub record SoFar (version : Version) (spans : List Span) (from at to : Position)
   pub rest : List Span
   pub left : AreLeft rest
   pub says : Says version spans from at answer rest
-  pub behind : IsAtMost from at
+  pub past : IsAtMost from at
   pub within : IsAtMost at to
 
 says_more : (version : Version) (spans rest more : List Span) (from at end to : Position) (answer own : Option Answer)
@@ -191,7 +191,7 @@ says_more : (version : Version) (spans rest more : List Span) (from at end to : 
     → IsStretch version rest at to own end more → answer ≡ own → Says version spans from end answer more
 says_more version spans rest more from at end to answer own s stretch e = let t = stretch.says in record {
   order = t.order;
-  behind = t.behind;
+  past = t.past;
   same = λ p h. t.same p h ∙ s.same p (at_most_trans (below_is_at_most stretch.from) h);
   says = λ p h k. elim (order_cases p at) [
     | inl early ↦ s.says p h early
@@ -213,7 +213,7 @@ so_far_more version spans from at end to answer own t AreLeft AreLeft' f stretch
   rest = rest_of t f.rest;
   left = left;
   says = says_more version spans f.rest (rest_of t f.rest) from at end to answer own f.says stretch e;
-  behind = at_most_trans f.behind (below_is_at_most stretch.from);
+  past = at_most_trans f.past (below_is_at_most stretch.from);
   within = stretch.within;
 }
 

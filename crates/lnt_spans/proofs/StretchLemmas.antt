@@ -15,27 +15,27 @@ use Rattle.lnt_spans.specs.Ahead.{BeginsWith, gap_before, IsAhead}
 use Rattle.lnt_spans.specs.Comparing.{IsTold, end_of}
 use Rattle.lnt_spans.specs.Differing.{AreToldBelow, HasTold, IsBefore, IsOpen, IsRun, IsSide, IsUpTo, run_end}
 use Rattle.lnt_spans.specs.Positions.{IsBelow, IsAtMost, is_below}
-use Rattle.lnt_spans.specs.Scanning.{EndsBehind}
+use Rattle.lnt_spans.specs.Scanning.{EndsAfter}
 use Rattle.lnt_spans.specs.Spans.{AreInOrder, span_answer, version_answer}
 use Rattle.lnt_spans.specs.Stretches.{AreAnswers, AreRising, BeginsStretch, IsInOne, IsInStretch, Stay}
-use Rattle.lnt_spans.specs.Laws.Answering.{answer_behind, answer_in, answer_same, back_in_order, first_holds}
+use Rattle.lnt_spans.specs.Laws.Answering.{answer_after, answer_in, answer_same, back_in_order, first_holds}
 use Rattle.lnt_spans.specs.Laws.Answering.{front_in_order, none_before, rest_in_order, rest_none}
 use Rattle.lnt_spans.specs.Laws.Positions.{at_most_below, at_most_itself, at_most_trans, below_at_most}
 use Rattle.lnt_spans.specs.Laws.Positions.{below_is_at_most, not_both, order_cases, test_below, test_not_below}
 use Rattle.lnt_spans.specs.Laws.{FirstStretch}
 use Rattle.lnt_spans.specs.Laws.Told.{told, told_answer}
-use Rattle.lnt_spans.proofs.ScanLemmas.{begins_with, first_is, next_behind, no_first}
+use Rattle.lnt_spans.proofs.ScanLemmas.{begins_with, first_is, next_after, no_first}
 
 -- ---- one side
 
 pub run_none : (version : Version) (next : Option Span) (spans : List Span) (at : Position) → next ≡ None → BeginsWith next spans
     → IsRun (version_answer version spans) at None None
-run_none version next spans at e b = rw (no_first next spans e b) (record { behind = tt; says = λ p h k. refl })
+run_none version next spans at e b = rw (no_first next spans e b) (record { past = tt; says = λ p h k. refl })
 
 gap_run : (version : Version) (span : Span) (more : List Span) (at : Position) → AreInOrder (span ∷ more) → IsBelow at span.low
     → IsRun (version_answer version (span ∷ more)) at None (Some span.low)
 gap_run version span more at o gap = record {
-  behind = gap;
+  past = gap;
   says = λ p h k. ap (option_map (in_version version)) (none_before span more p o k);
 }
 
@@ -48,17 +48,17 @@ run_gap version next spans span at is b o gap =
 
 inside_run : (version : Version) (span : Span) (more : List Span) (at : Position) → IsAtMost span.low at → IsBelow at span.high
     → IsRun (version_answer version (span ∷ more)) at (Some (in_version version span.answer)) (Some span.high)
-inside_run version span more at le behind = record {
-  behind = behind;
+inside_run version span more at le past = record {
+  past = past;
   says = λ p h k. ap (option_map (in_version version)) (answer_in span more p (at_most_trans le h) k);
 }
 
 pub run_inside : (version : Version) (next : Option Span) (spans : List Span) (span : Span) (at : Position) → next ≡ Some span
-    → BeginsWith next spans → EndsBehind at spans → IsAtMost span.low at
+    → BeginsWith next spans → EndsAfter at spans → IsAtMost span.low at
     → IsRun (version_answer version spans) at (Some (in_version version span.answer)) (Some span.high)
-run_inside version next spans span at is b behind le =
+run_inside version next spans span at is b past le =
     let first = first_is next span spans is b in
-    rw first.1 (inside_run version span first.0 at le (subst (EndsBehind at) first.1 behind))
+    rw first.1 (inside_run version span first.0 at le (subst (EndsAfter at) first.1 past))
 
 pub end_gap : (next : Option Span) (span : Span) (at : Position) → next ≡ Some span → IsBelow at span.low → Some span.low ≡ run_end at next
 end_gap next span at e lt = rw (e, test_below at span.low lt) refl
@@ -77,10 +77,10 @@ up_to_high span more at end o h = elim (order_cases at span.low) [
   | inr in_it ↦ subst (λ (q : Position). IsAtMost end q) (same_Some _ span.high (sym (end_inside (Some span) span at refl in_it))) h
 ]
 
-behind_high : (span : Span) (more : List Span) (end : Position) → AreInOrder (span ∷ more) → IsAtMost end span.high → EndsBehind end more
-behind_high span more end o le = upto more (next_behind span more o)
+after_high : (span : Span) (more : List Span) (end : Position) → AreInOrder (span ∷ more) → IsAtMost end span.high → EndsAfter end more
+after_high span more end o le = upto more (next_after span more o)
   where
-    upto : (xs : List Span) → EndsBehind span.high xs → EndsBehind end xs
+    upto : (xs : List Span) → EndsAfter span.high xs → EndsAfter end xs
     upto [] h = tt
     upto (x ∷ xs) h = at_most_below le h
 
@@ -98,9 +98,9 @@ side_passed to_come version old new span at end answers some high passes s le up
       rest = first.0;
       coming = passes span first.0 (subst (IsAhead to_come old) first.1 s.coming);
       order = rest_in_order span first.0 order;
-      behind = behind_high span first.0 end order within;
+      past = after_high span first.0 end order within;
       same = λ p h.
-          ap (option_map (in_version version)) (sym (answer_behind span first.0 p (at_most_trans high h)))
+          ap (option_map (in_version version)) (sym (answer_after span first.0 p (at_most_trans high h)))
           ∙ ap (λ (xs : List Span). version_answer version xs p) (sym first.1) ∙ s.same p (at_most_trans le h);
     }
 
@@ -205,10 +205,10 @@ told_new f g at end s t s' t' told b lt stay differ other =
       all = λ p h. elim (order_cases p at) [
         | inl early ↦ elim (b.all p early) [ inl same ↦ inl same | inr one ↦ inr (in_one_more f g told (d ∷ []) p one) ]
         | inr late ↦ inr (in_last f g told d p
-            (record { behind = late; stay = λ q k l. stay q k (below_at_most l (below_is_at_most h)); here = stay p late h }))
+            (record { past = late; stay = λ q k l. stay q k (below_at_most l (below_is_at_most h)); here = stay p late h }))
       ];
       going = inr (λ p h more is. in_last f g told d p
-          (record { behind = at_most_trans (below_is_at_most lt) h; stay = stay_on f g s' t' at end p stay more; here = is }));
+          (record { past = at_most_trans (below_is_at_most lt) h; stay = stay_on f g s' t' at end p stay more; here = is }));
       last = last_answers f g at end s' t' lt stay;
     }
   where
@@ -238,15 +238,15 @@ told_none f g at same = record {
 -- what is answered of a side
 abbrev pub Runs : Version → Option Span → Position → Option Answer → Option Position → Type 0
 Runs version next at answer end =
-    (spans : List Span) → BeginsWith next spans → AreInOrder spans → EndsBehind at spans
+    (spans : List Span) → BeginsWith next spans → AreInOrder spans → EndsAfter at spans
     → IsRun (version_answer version spans) at answer end
 
 pub side_run : {S : Type 0} (to_come : S → List Span → Type 0) (version : Version) (ahead : Ahead S) (at : Position)
     (answers : Position → Option Answer) (answer : Option Answer) (end : Option Position) → IsSide to_come version ahead at answers
     → Runs version ahead.next at answer end → IsRun answers at answer end
 side_run to_come version ahead at answers answer end s runs =
-    let r = runs s.rest (begins_with to_come ahead s.rest s.coming) s.order s.behind in
-    record { behind = r.behind; says = λ p h k. sym (s.same p h) ∙ r.says p h k }
+    let r = runs s.rest (begins_with to_come ahead s.rest s.coming) s.order s.past in
+    record { past = r.past; says = λ p h k. sym (s.same p h) ∙ r.says p h k }
 
 before_end : (p q : Position) (end : Option Position) → IsBelow p q → IsUpTo q end → IsBefore p end
 before_end p q None lt up = tt
@@ -261,7 +261,7 @@ pub moves : (f g : Position → Option Answer) (at end : Position) (s t : Option
     → IsRun g at t other → IsUpTo end one → IsUpTo end other
     → (one ≡ Some end) ⊎ (other ≡ Some end) → Moves f g at end s t
 moves f g at end s t one other a b up up' is = record {
-  below = elim is [ inl e ↦ subst (IsBefore at) e a.behind | inr e ↦ subst (IsBefore at) e b.behind ];
+  below = elim is [ inl e ↦ subst (IsBefore at) e a.past | inr e ↦ subst (IsBefore at) e b.past ];
   stay = λ p h k. record { section = a.says p h (before_end p end one k up); table = b.says p h (before_end p end other k up') };
 }
 
@@ -282,11 +282,11 @@ origin_first : (p : Position) → IsAtMost (record { address = 0; op = 0 }) p
 origin_first p = record { address = omega arith; op = λ e. omega arith }
 
 -- what comes after some spans ends after them
-ends_behind : (passed more : List Span) → AreInOrder (passed ++ more) → EndsBehind (end_of passed) more
-ends_behind [] [] o = tt
-ends_behind [] (span ∷ more) o = at_most_below (origin_first span.low) (first_holds span more o)
-ends_behind (span ∷ []) more o = next_behind span more o
-ends_behind (span ∷ next ∷ passed) more o = ends_behind (next ∷ passed) more o.2
+ends_after : (passed more : List Span) → AreInOrder (passed ++ more) → EndsAfter (end_of passed) more
+ends_after [] [] o = tt
+ends_after [] (span ∷ more) o = at_most_below (origin_first span.low) (first_holds span more o)
+ends_after (span ∷ []) more o = next_after span more o
+ends_after (span ∷ next ∷ passed) more o = ends_after (next ∷ passed) more o.2
 
 end_above : (span : Span) (passed : List Span) → AreInOrder (span ∷ passed) → IsAtMost span.high (end_of (span ∷ passed))
 end_above span [] o = at_most_itself span.high
@@ -303,9 +303,9 @@ answer_below (span ∷ next ∷ passed) more p o h =
 answer_from : (passed more : List Span) (p : Position) → AreInOrder (passed ++ more) → IsAtMost (end_of passed) p
     → span_answer (passed ++ more) p ≡ span_answer more p
 answer_from [] more p o h = refl
-answer_from (span ∷ []) more p o h = answer_behind span more p h
+answer_from (span ∷ []) more p o h = answer_after span more p h
 answer_from (span ∷ next ∷ passed) more p o h =
-    answer_behind span (next ∷ (passed ++ more)) p
+    answer_after span (next ∷ (passed ++ more)) p
     (at_most_trans (end_above span (next ∷ passed) (front_in_order (span ∷ next ∷ passed) more o)) h)
     ∙ answer_from (next ∷ passed) more p o.2 h
 
@@ -327,7 +327,7 @@ told_back : (version : Version) (passed more : List Span) → AllByRecursion (Is
 told_back version [] more h = h
 told_back version (span ∷ passed) more h = told_back version passed more h.1
 
-pub told_behind : {S T : Type 0} (of_section : S → List Span → Type 0) (of_table : T → List Span → Type 0) (section : Ahead S)
+pub told_after : {S T : Type 0} (of_section : S → List Span → Type 0) (of_table : T → List Span → Type 0) (section : Ahead S)
     (table : Ahead T) (version : Version) (at : Position) (f : Position → Option Answer)
     (passed spans records : List Span) → IsAhead of_section section spans → IsAhead of_table table records → AreInOrder (passed ++ spans)
     → AreInOrder (passed ++ records)
@@ -336,19 +336,19 @@ pub told_behind : {S T : Type 0} (of_section : S → List Span → Type 0) (of_t
     → HasTold of_section of_table (record
     { version = version; section = section; table = table; at = at; by_section = None; by_table = None }) f (span_answer
     (passed ++ records)) []
-told_behind of_section of_table section table version at f passed spans records a b o o' t e same = rw e (record {
+told_after of_section of_table section table version at f passed spans records a b o o' t e same = rw e (record {
   section = record {
     rest = spans;
     coming = a;
     order = back_in_order passed spans o;
-    behind = ends_behind passed spans o;
+    past = ends_after passed spans o;
     same = λ p h. sym (ap (option_map (in_version version)) (answer_from passed spans p o h)) ∙ same p;
   };
   table = record {
     rest = records;
     coming = b;
     order = back_in_order passed records o';
-    behind = ends_behind passed records o';
+    past = ends_after passed records o';
     same = λ p h. told_same version records p (told_back version passed records t) ∙ sym (answer_from passed records p o' h);
   };
   below = told_none f (span_answer (passed ++ records)) (end_of passed)
@@ -362,7 +362,7 @@ told_behind of_section of_table section table version at f passed spans records 
 
 not_earlier : (f g : Position → Option Answer) (d : Difference) (list : List Difference) (p : Position) → AreRising (d ∷ list)
     → IsInOne f g (d ∷ list) p → IsAtMost d.position p
-not_earlier f g d list p rising (inl h) = h.behind
+not_earlier f g d list p rising (inl h) = h.past
 not_earlier f g d [] p rising (inr h) = absurd h
 not_earlier f g d (e ∷ list) p rising (inr h) = at_most_trans (below_is_at_most rising.0) (not_earlier f g e list p rising.1 h)
 

@@ -9,7 +9,7 @@ use Rattle.lnt_spans.specs.declared.span.Span.{Span}
 use Rattle.lnt_spans.specs.Ahead.{IsAhead}
 use Rattle.lnt_spans.specs.Differences.{IsLeastDifference}
 use Rattle.lnt_spans.specs.Positions.{IsBelow, IsAtMost}
-use Rattle.lnt_spans.specs.Scanning.{EndsBehind}
+use Rattle.lnt_spans.specs.Scanning.{EndsAfter}
 use Rattle.lnt_spans.specs.Spans.{AreInOrder, span_answer, span_in_version, version_answer}
 
 -- what contracts see of a merge: the version of the table, the spans that may matter from `at` on, the end of the
@@ -33,7 +33,7 @@ state_of merge rest = record { version = merge.version; rest = rest; at = merge.
 -- While there is no difference, the first span that is left ends after `at`.
 pub record IsSound (rest : List Span) (at : Position) (first : Option Difference) : Type 0 where
   pub order : AreInOrder rest
-  pub behind : first ≡ None → EndsBehind at rest
+  pub past : first ≡ None → EndsAfter at rest
 
 -- No difference is below `at`.
 pub record AgreeBefore (state : State) (spans : List Span) (by_table : Position → Option Answer) : Type 0 where

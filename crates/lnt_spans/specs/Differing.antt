@@ -12,7 +12,7 @@ use Rattle.lnt_spans.specs.declared.stretches.Step.TheVariants.{Ended, Known, To
 use Rattle.lnt_spans.specs.declared.ahead.Ahead.{Ahead}
 use Rattle.lnt_spans.specs.Ahead.{count_ahead, gap_before, IsAhead}
 use Rattle.lnt_spans.specs.Positions.{IsBelow, IsAtMost, is_below}
-use Rattle.lnt_spans.specs.Scanning.{EndsBehind}
+use Rattle.lnt_spans.specs.Scanning.{EndsAfter}
 use Rattle.lnt_spans.specs.Spans.{AreInOrder, version_answer}
 use Rattle.lnt_spans.specs.Stretches.{AreAnswers, AreRising, AreStretches, BeginsStretch, IsInOne, Stay}
 
@@ -24,7 +24,7 @@ pub record IsSide {S : Type 0} (to_come : S → List Span → Type 0) (version :
   pub rest : List Span
   pub coming : IsAhead to_come ahead rest
   pub order : AreInOrder rest
-  pub behind : EndsBehind at rest
+  pub past : EndsAfter at rest
   pub same : (p : Position) → IsAtMost at p → version_answer version rest p ≡ answers p
 
 -- The position isn't after the end, where there is one.
@@ -39,7 +39,7 @@ IsBefore p (Some end) = IsBelow p end
 
 -- From a position on up to the end, which is after it, or at all of them, this is answered.
 pub record IsRun (answers : Position → Option Answer) (at : Position) (answer : Option Answer) (end : Option Position) : Type 0 where
-  pub behind : IsBefore at end
+  pub past : IsBefore at end
   pub says : (p : Position) → IsAtMost at p → IsBefore p end → answers p ≡ answer
 
 -- where the answer at a position may end, if this span is next

@@ -9,21 +9,21 @@ use Rattle.lnt_spans.specs.Positions.{IsBelow, IsAtMost}
 use Rattle.lnt_spans.specs.Spans.{AreInOrder, span_answer, version_answer}
 
 -- The first span, if there is one, ends after p.
-abbrev pub EndsBehind : Position → List Span → Type 0
-EndsBehind p [] = Unit {0}
-EndsBehind p (span ∷ spans) = IsBelow p span.high
+abbrev pub EndsAfter : Position → List Span → Type 0
+EndsAfter p [] = Unit {0}
+EndsAfter p (span ∷ spans) = IsBelow p span.high
 
 -- From `from` up to `to` the spans answer `answer`, and from there on the rest answers as they do.
 pub record Says (version : Version) (spans : List Span) (from to : Position) (answer : Option Answer) (rest : List Span) : Type 0 where
   pub order : AreInOrder rest
-  pub behind : EndsBehind to rest
+  pub past : EndsAfter to rest
   pub same : (p : Position) → IsAtMost to p → span_answer rest p ≡ span_answer spans p
   pub says : (p : Position) → IsAtMost from p → IsBelow p to → version_answer version spans p ≡ answer
 
 -- At the difference, below `to`, the spans don't answer `answer` as the table does, and before it they do.
 pub record DiffersFirst (version : Version) (spans : List Span) (from to : Position) (answer : Option Answer)
     (difference : Difference) : Type 0 where
-  pub behind : IsAtMost from difference.position
+  pub past : IsAtMost from difference.position
   pub below : IsBelow difference.position to
   pub table : difference.by_table ≡ answer
   pub section : difference.by_section ≡ version_answer version spans difference.position

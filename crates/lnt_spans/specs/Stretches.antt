@@ -27,7 +27,7 @@ pub record BeginsStretch (by_section by_table : Position → Option Answer) (dif
 
 -- The stretch that begins there holds the position: from its first one up to it, and at it, the two answers are these two.
 pub record IsInStretch (by_section by_table : Position → Option Answer) (difference : Difference) (p : Position) : Type 0 where
-  pub behind : IsAtMost difference.position p
+  pub past : IsAtMost difference.position p
   pub stay : Stay by_section by_table difference.by_section difference.by_table difference.position p
   pub here : AreAnswers by_section by_table difference.by_section difference.by_table p
 

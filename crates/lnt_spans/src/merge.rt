@@ -63,7 +63,7 @@ impl<S: SpanSource + Drop> Merge<S> {
     /// The spans of a section that begins with some records of a table of this version, compared with these records. They
     /// end at a position, and the source has the spans after them. The caller sees to it that all of them are in order,
     /// none is empty, and the records answer as the version tells answers.
-    pub fn behind(spans: S, version: Version, at: Position) -> Merge<S>
+    pub fn past(spans: S, version: Version, at: Position) -> Merge<S>
         ensures version { result.version ≡ version }
         ensures compares { (passed list : List Span) → S.to_come spans list → AreInOrder (passed ++ list)
             → AllByRecursion (IsTold version) passed → at ≡ end_of passed

@@ -4,7 +4,7 @@ ghost use Rattle.std.specs.Bool.{MatchBool};
 ghost use Rattle.lnt_spans.specs.declared.span.Span as spec;
 ghost use Rattle.lnt_spans.specs.Ahead.{BeginsWith, IsAhead, rest_of, steps_left};
 ghost use Rattle.lnt_spans.specs.Positions.{IsBelow, IsAtMost};
-ghost use Rattle.lnt_spans.specs.Scanning.{EndsBehind, IsScanned, IsStretch};
+ghost use Rattle.lnt_spans.specs.Scanning.{EndsAfter, IsScanned, IsStretch};
 ghost use Rattle.lnt_spans.specs.Spans.{AreInOrder};
 
 use crate::ahead::Ahead;
@@ -27,7 +27,7 @@ struct Stretch {
 #[tactic(auto, using(crate::proofs::ScanLemmas::stretch_empty, crate::proofs::ScanLemmas::stretch_inside))]
 fn stretch_at(version: Version, next: Option<Span>, at: Position, to: Position) -> Stretch
     requires { IsBelow at to }
-    ensures stretch { (spans : List spec.Span) → BeginsWith next spans → AreInOrder spans → EndsBehind at spans
+    ensures stretch { (spans : List spec.Span) → BeginsWith next spans → AreInOrder spans → EndsAfter at spans
         → IsStretch version spans at to result.answer result.end (rest_of result.is_passed spans) }
     ensures passed { result.is_passed ≡ true → IsSome next }
     ensures fewer { result.is_passed ≡ false → steps_left next result.end to < steps_left next at to }
@@ -73,7 +73,7 @@ pub(crate) fn scan<S: SpanSource>(
     answer: Option<Answer>,
 ) -> Option<Difference>
     requires { IsAtMost from to }
-    ensures { (list : List spec.Span) → IsAhead S.to_come spans.old list → AreInOrder list → EndsBehind from list
+    ensures { (list : List spec.Span) → IsAhead S.to_come spans.old list → AreInOrder list → EndsAfter from list
         → IsScanned version list from to answer result (IsAhead S.to_come spans.new) }
 {
     let mut at = from;

@@ -12,7 +12,7 @@ ghost use Rattle.lnt_spans.specs.Ahead.{BeginsWith};
 ghost use Rattle.lnt_spans.specs.Comparing.{IsTold, end_of};
 ghost use Rattle.lnt_spans.specs.Differing.{HasTold, IsRun, IsSide, IsUpTo, Steps, run_end, runs_left};
 ghost use Rattle.lnt_spans.specs.Positions.{IsBelow, IsAtMost};
-ghost use Rattle.lnt_spans.specs.Scanning.{EndsBehind};
+ghost use Rattle.lnt_spans.specs.Scanning.{EndsAfter};
 ghost use Rattle.lnt_spans.specs.Spans.{AreInOrder, span_answer, version_answer};
 ghost use Rattle.lnt_spans.specs.Stretches.{AreStretches};
 
@@ -63,7 +63,7 @@ impl<S: SpanSource, T: SpanSource> Differences<S, T> {
     /// No stretch is told of a section and a table that begin with the same spans, which end at a position, and of which the
     /// sources have those after them. The caller sees to it that the spans of both are in order, none is empty, and those
     /// of the table answer as the version tells answers. With no span before them the position is the origin.
-    pub fn behind(section: S, table: T, version: Version, at: Position) -> Differences<S, T>
+    pub fn past(section: S, table: T, version: Version, at: Position) -> Differences<S, T>
         ensures { (by_section : spec_position.Position → Option spec_answer.Answer) (passed spans records : List spec.Span)
             → S.to_come section spans → T.to_come table records
             → AreInOrder (passed ++ spans) → AreInOrder (passed ++ records) → AllByRecursion (IsTold version) (passed ++ records)
@@ -146,7 +146,7 @@ impl<S: SpanSource, T: SpanSource> Differences<S, T> {
 // What is answered from a position on, as a version tells answers, and where that ends, if it does.
 fn run_at(version: Version, next: Option<Span>, at: Position) -> Run
     ensures end { result.end ≡ run_end at next }
-    ensures run { (spans : List spec.Span) → BeginsWith next spans → AreInOrder spans → EndsBehind at spans
+    ensures run { (spans : List spec.Span) → BeginsWith next spans → AreInOrder spans → EndsAfter at spans
         → IsRun (version_answer version spans) at result.answer result.end }
 {
     let Some(span) = next else {

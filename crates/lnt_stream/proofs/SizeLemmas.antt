@@ -16,14 +16,14 @@ use Rattle.lnt_stream.specs.Sizes.{IsLeastSize}
 
 -- nothing was taken yet
 pub least_nothing : (order : Order) (bytes : List ℕ) → bytes ≡ [] → IsLeastSize order bytes (length bytes)
-least_nothing order bytes empty = record { least = λ frame spelling behind more p e. omega (arith, ap length empty) }
+least_nothing order bytes empty = record { least = λ frame spelling past more p e. omega (arith, ap length empty) }
 
 -- ---- the initial length is cut
 
 -- a frame has 4 bytes
 pub least_first : (old : At) (n : ℕ) → n ≤ 4 → IsLeastSize old.order old.rest n
 least_first old n le = record {
-  least = λ frame spelling behind more p e.
+  least = λ frame spelling past more p e.
       omega (
         arith,
         le,
@@ -34,12 +34,12 @@ least_first old n le = record {
 }
 
 -- a frame that begins with 0xffffffff has 12 bytes
-twelve : (order : Order) (format : Format) (n : ℕ) (behind bytes : List ℕ) → LengthFits format n
-    → initial_length format order n ++ behind ≡ number_bytes order 4 0xffffffff ++ bytes → 12 ≤ length (initial_length format order n)
-twelve order D32 n behind bytes fits e =
-    let found = same_number_front order 4 width_4 n 0xffffffff behind bytes (omega arith) (omega arith) e in
+twelve : (order : Order) (format : Format) (n : ℕ) (past bytes : List ℕ) → LengthFits format n
+    → initial_length format order n ++ past ≡ number_bytes order 4 0xffffffff ++ bytes → 12 ≤ length (initial_length format order n)
+twelve order D32 n past bytes fits e =
+    let found = same_number_front order 4 width_4 n 0xffffffff past bytes (omega arith) (omega arith) e in
     absurd (omega (arith, found.0))
-twelve order D64 n behind bytes fits e =
+twelve order D64 n past bytes fits e =
     omega (
       arith,
       length-append (number_bytes order 4 0xffffffff) (number_bytes order 8 n),
@@ -57,10 +57,10 @@ wide_first old ahead first r high =
 pub least_second : (old ahead : At) (first n : ℕ) → Reads (NumberBytes old.order 4) first old ahead → 0xffffffff ≤ first → n ≤ 12
     → IsLeastSize old.order old.rest n
 least_second old ahead first n r high le = record {
-  least = λ frame spelling behind more p e.
+  least = λ frame spelling past more p e.
       let head = initial_length frame.0 old.order (length frame.1) in
-      let long = twelve old.order frame.0 (length frame.1) (frame.1 ++ behind) (ahead.rest ++ more) p.fits
-      (sym (append_assoc head frame.1 behind) ∙ ap (λ (z : List ℕ). z ++ behind) (sym p.joined) ∙ e
+      let long = twelve old.order frame.0 (length frame.1) (frame.1 ++ past) (ahead.rest ++ more) p.fits
+      (sym (append_assoc head frame.1 past) ∙ ap (λ (z : List ℕ). z ++ past) (sym p.joined) ∙ e
       ∙ ap (λ (z : List ℕ). z ++ more) (wide_first old ahead first r high)
       ∙ append_assoc (number_bytes old.order 4 0xffffffff) ahead.rest more) in
       omega (arith, le, long, ap length p.joined, length-append head frame.1);
@@ -68,15 +68,15 @@ least_second old ahead first n r high le = record {
 
 -- ---- the initial length is whole
 
-least_counted : (order : Order) (format : Format) (n size : ℕ) (behind bytes : List ℕ) → LengthFits format n
-    → bytes ≡ initial_length format order n ++ behind
+least_counted : (order : Order) (format : Format) (n size : ℕ) (past bytes : List ℕ) → LengthFits format n
+    → bytes ≡ initial_length format order n ++ past
     → size ≤ length (initial_length format order n) + n → IsLeastSize order bytes size
-least_counted order format n size behind bytes fits begins le = record {
+least_counted order format n size past bytes fits begins le = record {
   least = λ frame spelling rest more p e.
       let head = initial_length frame.0 order (length frame.1) in
-      let found = same_length order frame.0 format (length frame.1) n (frame.1 ++ rest) (behind ++ more) p.fits fits
+      let found = same_length order frame.0 format (length frame.1) n (frame.1 ++ rest) (past ++ more) p.fits fits
       (sym (append_assoc head frame.1 rest) ∙ ap (λ (z : List ℕ). z ++ rest) (sym p.joined) ∙ e
-      ∙ ap (λ (z : List ℕ). z ++ more) begins ∙ append_assoc (initial_length format order n) behind more) in
+      ∙ ap (λ (z : List ℕ). z ++ more) begins ∙ append_assoc (initial_length format order n) past more) in
       let same : head ≡ initial_length format order n =
       ap (λ (f : Format). initial_length f order (length frame.1)) found.format
       ∙ ap (λ (m : ℕ). initial_length format order m) found.number in
@@ -126,19 +126,19 @@ whole_wide old ahead new first n r high q le =
     cut_none old.order D64 n new.rest old.rest (omega (arith, q.spelled.fits)) le (sym (wide_second old ahead new first n r high q))
 
 -- reserved bytes are read as a whole
-reserved_whole : (order : Order) (n : ℕ) (behind bytes : List ℕ) → 0xfffffff0 ≤ n → n < 0xffffffff
-    → bytes ≡ number_bytes order 4 n ++ behind → IsCutFrame order bytes → ⊥
-reserved_whole order n behind bytes low high begins (no_length lt) =
-    omega (arith, ap length begins, length-append (number_bytes order 4 n) behind, length-number_bytes order 4 n)
-reserved_whole order n behind bytes low high begins (no_wide_length rest f lt) =
-    let found = same_number_front order 4 width_4 n 0xffffffff behind rest (omega arith) (omega arith) (sym begins ∙ f) in
+reserved_whole : (order : Order) (n : ℕ) (past bytes : List ℕ) → 0xfffffff0 ≤ n → n < 0xffffffff
+    → bytes ≡ number_bytes order 4 n ++ past → IsCutFrame order bytes → ⊥
+reserved_whole order n past bytes low high begins (no_length lt) =
+    omega (arith, ap length begins, length-append (number_bytes order 4 n) past, length-number_bytes order 4 n)
+reserved_whole order n past bytes low high begins (no_wide_length rest f lt) =
+    let found = same_number_front order 4 width_4 n 0xffffffff past rest (omega arith) (omega arith) (sym begins ∙ f) in
     omega (arith, found.0)
-reserved_whole order n behind bytes low high begins (too_long D32 m rest fits f lt) =
-    let found = same_number_front order 4 width_4 n m behind rest (omega arith) (omega arith) (sym begins ∙ f) in
+reserved_whole order n past bytes low high begins (too_long D32 m rest fits f lt) =
+    let found = same_number_front order 4 width_4 n m past rest (omega arith) (omega arith) (sym begins ∙ f) in
     omega (arith, found.0)
-reserved_whole order n behind bytes low high begins (too_long D64 m rest fits f lt) =
+reserved_whole order n past bytes low high begins (too_long D64 m rest fits f lt) =
     let found =
-    same_number_front order 4 width_4 n 0xffffffff behind (number_bytes order 8 m ++ rest) (omega arith) (omega arith)
+    same_number_front order 4 width_4 n 0xffffffff past (number_bytes order 8 m ++ rest) (omega arith) (omega arith)
     (sym begins ∙ f ∙ append_assoc (number_bytes order 4 0xffffffff) (number_bytes order 8 m) rest) in
     omega (arith, found.0)
 

@@ -11,8 +11,8 @@ use Rattle.lnt_stream.proofs.SizeLemmas.{least_nothing}
 pub least_more : (order : Order) (taken more : List ℕ) (n size : ℕ) → IsLeastSize order taken n → size ≤ n
     → IsLeastSize order (taken ++ more) size
 least_more order taken more n size h le = record {
-  least = λ frame spelling behind after p e.
-      omega (arith, le, h.least frame spelling behind (more ++ after) p (e ∙ append_assoc taken more after));
+  least = λ frame spelling past after p e.
+      omega (arith, le, h.least frame spelling past (more ++ after) p (e ∙ append_assoc taken more after));
 }
 
 -- what a block gives is still a front of the frame

@@ -33,8 +33,8 @@ still_first : (format : Format) (to : Order) (units : List (ℕ × Parts)) (unit
 still_first format to units unit offset f = record {
   before = f.before;
   unit = f.unit;
-  behind = f.behind ++ unit ∷ [];
-  joined = ap (λ (l : List (ℕ × Parts)). l ++ unit ∷ []) f.joined ∙ append_assoc f.before ((offset, f.unit) ∷ f.behind) (unit ∷ []);
+  past = f.past ++ unit ∷ [];
+  joined = ap (λ (l : List (ℕ × Parts)). l ++ unit ∷ []) f.joined ∙ append_assoc f.before ((offset, f.unit) ∷ f.past) (unit ∷ []);
   front = f.front;
   spelled = f.spelled;
   none = f.none;
@@ -50,7 +50,7 @@ next_judged format to units offset unit None false p s =
     record {
       before = units;
       unit = unit;
-      behind = [];
+      past = [];
       joined = refl;
       front = p.0;
       spelled = each_spelled to (units_in_format units format to) p.0 p.1;

@@ -157,14 +157,14 @@ broken_one order offset bytes fault other f g = faults_agree fault other (λ apa
 
 record SameStart (x y r s : List ℕ) : Type 0 where
   bytes : x ≡ y
-  behind : r ≡ s
+  past : r ≡ s
 
 -- the units in front of bytes that no unit begins are the same
 same_start : (order : Order) (k l : ℕ) (us vs : List (ℕ × Parts)) (x y r s : List ℕ) → UnitsFrom order k us x → UnitsFrom order l vs y
     → x ++ r ≡ y ++ s → NoneSpelled (UnitBytesIn order) r
     → NoneSpelled (UnitBytesIn order) s → SameStart x y r s
 same_start order k l [] [] x y r s p q e none none' =
-    record { bytes = p ∙ sym q; behind = ap (λ (z : List ℕ). z ++ r) (sym p) ∙ e ∙ ap (λ (z : List ℕ). z ++ s) q }
+    record { bytes = p ∙ sym q; past = ap (λ (z : List ℕ). z ++ r) (sym p) ∙ e ∙ ap (λ (z : List ℕ). z ++ s) q }
 same_start order k l [] (v ∷ vs) x y r s p q e none none' =
     absurd (none v.1 q.0 (q.1 ++ s) q.3
     (sym (append_assoc q.0 q.1 s) ∙ ap (λ (z : List ℕ). z ++ s) (sym q.4) ∙ sym e ∙ ap (λ (z : List ℕ). z ++ r) p))
@@ -178,7 +178,7 @@ same_start order k l (u ∷ us) (v ∷ vs) x y r s p q e none none' =
     let rest =
     same_start order (k + length p.0) (l + length q.0) us vs p.1 q.1 r s p.5 q.5 (same_rest p.0 q.0 (p.1 ++ r) (q.1 ++ s) one.1 all) none
     none' in
-    record { bytes = p.4 ∙ ap (λ (z : List ℕ). z ++ p.1) one.1 ∙ ap (λ (z : List ℕ). q.0 ++ z) rest.bytes ∙ sym q.4; behind = rest.behind }
+    record { bytes = p.4 ∙ ap (λ (z : List ℕ). z ++ p.1) one.1 ∙ ap (λ (z : List ℕ). q.0 ++ z) rest.bytes ∙ sym q.4; past = rest.past }
 
 -- the bytes of the units before two true faults
 same_front_of : (order : Order) (section : List ℕ) (fault other : Fault) → (f : IsTrueFault order fault section)
@@ -193,7 +193,7 @@ true_faults_agree order section fault other f g =
     let start = same_front_of order section fault other f g in
     let there : BrokenUnit order other (length f.front) f.rest =
     subst (λ (z : List ℕ). BrokenUnit order other (length z) f.rest) (sym start.bytes)
-    (subst (λ (z : List ℕ). BrokenUnit order other (length g.front) z) (sym start.behind) g.broken) in
+    (subst (λ (z : List ℕ). BrokenUnit order other (length g.front) z) (sym start.past) g.broken) in
     broken_one order (length f.front) f.rest fault other f.broken there
 
 units_agree : (order : Order) (section : List ℕ) (fault other : Fault) → (f : IsTrueFault order fault section)

@@ -122,10 +122,10 @@ whole_walk = record {
 
 -- ---- units
 
-broken_behind : (order : Order) (units : List (ℕ × Parts)) (front rest : List ℕ) (fault : Fault) → SectionBytes order units front
+broken_after : (order : Order) (units : List (ℕ × Parts)) (front rest : List ℕ) (fault : Fault) → SectionBytes order units front
     → 0 < length rest → BrokenUnit order fault (length front) rest
     → BrokenSection order fault (front ++ rest)
-broken_behind order units front rest fault spelled some b =
+broken_after order units front rest fault spelled some b =
     let t : IsTrueFault order fault (front ++ rest) = record {
       units = units;
       front = front;
@@ -151,13 +151,13 @@ frame_some unit is =
 pub fault_of_section : FaultOfSection
 fault_of_section = record {
   next = λ order units front rest fault spelled ends.
-      broken_behind order units front rest fault spelled ends.0
+      broken_after order units front rest fault spelled ends.0
       (frame_broken order (record { place = length front; rest = rest; order = order }) fault ends.1);
   here = λ order units front more unit fault spelled is at same b.
       let all : BrokenUnit order fault unit.offset (unit.bytes ++ more) =
       broken_more order fault unit.offset (is.format, is.body) unit.bytes more
       (subst (λ (o : Order). FrameBytes o (is.format, is.body) unit.bytes) same is.spelled) b in
-      broken_behind order units front (unit.bytes ++ more) fault spelled (omega (arith, length-append unit.bytes more, frame_some unit is))
+      broken_after order units front (unit.bytes ++ more) fault spelled (omega (arith, length-append unit.bytes more, frame_some unit is))
       (subst (λ (n : ℕ). BrokenUnit order fault n (unit.bytes ++ more)) at all);
   alone = λ order offset rest fault ends. frame_broken order (record { place = offset; rest = rest; order = order }) fault ends.1;
 }

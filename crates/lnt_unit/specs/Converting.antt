@@ -34,8 +34,8 @@ pub record IsConverted (order : Order) (section : List ℕ) (format : Format) (t
 pub record IsFirstLarge (format : Format) (to : Order) (units : List (ℕ × Parts)) (offset : ℕ) : Type 0 where
   pub before : List (ℕ × Parts)
   pub unit : Parts
-  pub behind : List (ℕ × Parts)
-  pub joined : units ≡ before ++ (offset, unit) ∷ behind
+  pub past : List (ℕ × Parts)
+  pub joined : units ≡ before ++ (offset, unit) ∷ past
   pub front : List ℕ
   pub spelled : Each (UnitBytesIn to) (units_in_format before format to) front
   pub none : NoSpelling (UnitBytesIn to) (unit_in_format unit format to)

@@ -63,7 +63,7 @@ taken_code count = record {
 pub record Peeled {X : Type 0} (u v : X) (front front' rest rest' : List ℕ) : Type 0 where
   pub value : u ≡ v
   pub bytes : front ≡ front'
-  pub behind : rest ≡ rest'
+  pub past : rest ≡ rest'
 
 -- the fronts need not be of one kind
 pub peel_by : {X : Type 0} {P P' Q Q' : List ℕ → Type 0} (u v : X) (x y r s : List ℕ)
@@ -77,7 +77,7 @@ peel_by u v x y r s one t t' e =
     ∙ ap (λ (z : List ℕ). z ++ s) t'.joined
     ∙ append_assoc t'.front t'.back s in
     let found : (u ≡ v) × (t.front ≡ t'.front) = one t.front t'.front (t.back ++ r) (t'.back ++ s) t.first t'.first all in
-    record { value = found.0; bytes = found.1; behind = same_rest t.front t'.front (t.back ++ r) (t'.back ++ s) found.1 all }
+    record { value = found.0; bytes = found.1; past = same_rest t.front t'.front (t.back ++ r) (t'.back ++ s) found.1 all }
 
 pub peel : {X : Type 0} {P : X → List ℕ → Type 0} {Q Q' : List ℕ → Type 0} → IsCode P → (u v : X) (x y r s : List ℕ)
     → (t : Then (P u) Q x) → (t' : Then (P v) Q' y) → x ++ r ≡ y ++ s → Peeled u v t.front t'.front (t.back ++ r) (t'.back ++ s)

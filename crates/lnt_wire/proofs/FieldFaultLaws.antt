@@ -97,8 +97,8 @@ module _ (Length : ℕ → List ℕ → Type 0) (IsLengthFault : Reason → List
       let all : p.front ++ (p.back ++ more) ≡ y ++ rest =
       sym (append_assoc p.front p.back more) ∙ ap (λ (z : List ℕ). z ++ more) (sym p.joined) ∙ e ∙ f in
       let found = code.one (length block) size p.front y (p.back ++ more) rest p.first q all in
-      let behind : p.back ++ more ≡ rest = same_rest p.front y (p.back ++ more) rest found.1 all in
-      omega (arith, lt, found.0, ap length behind, length-append p.back more, ap length p.second)
+      let past : p.back ++ more ≡ rest = same_rest p.front y (p.back ++ more) rest found.1 all in
+      omega (arith, lt, found.0, ap length past, length-append p.back more, ap length p.second)
 
   block_one : (reason other : Reason) (bytes : List ℕ) → IsBlockFault Length IsLengthFault reason bytes
       → IsBlockFault Length IsLengthFault other bytes → reason ≡ other

@@ -35,7 +35,7 @@ same_frame order f g fields left before from fields' left' before' from' h k e =
     let other = fields' ++ left' in
     let found = same_length order f g (length body) (length other) (body ++ h.more) (other ++ k.more) h.fits k.fits
     (sym (whole_frame order f fields left before from h) ∙ e ∙ whole_frame order g fields' left' before' from' k) in
-    (found.format, same_front body other h.more k.more found.number found.behind)
+    (found.format, same_front body other h.more k.more found.number found.past)
 
 -- and where the fields before them are the same, they are one place
 pub same_place : (order : Order) (f g : Format) (fields left before from fields' left' before' from' : List ℕ)
@@ -108,13 +108,13 @@ frame_fault_at order (VersionNotFive v) before from h = in_version h.0 (number_b
 frame_fault_at order reason before from h = absurd h
 
 -- version 5 has no fault
-pub version_none : (order : Order) (reason : Reason) (body behind : List ℕ) → IsVersionFault order reason body
-    → body ≡ version_five order ++ behind → ⊥
-version_none order Truncated body behind h e =
-    omega (arith, h, ap length e, length-append (version_five order) behind, length-number_bytes order 2 5)
-version_none order (VersionNotFive v) body behind h e =
-    h.2 (same_number_front order 2 width_2 v 5 h.0 behind h.1 (omega arith) (sym h.3 ∙ e)).0
-version_none order reason body behind h e = absurd h
+pub version_none : (order : Order) (reason : Reason) (body past : List ℕ) → IsVersionFault order reason body
+    → body ≡ version_five order ++ past → ⊥
+version_none order Truncated body past h e =
+    omega (arith, h, ap length e, length-append (version_five order) past, length-number_bytes order 2 5)
+version_none order (VersionNotFive v) body past h e =
+    h.2 (same_number_front order 2 width_2 v 5 h.0 past h.1 (omega arith) (sym h.3 ∙ e)).0
+version_none order reason body past h e = absurd h
 
 -- and another has one
 pub version_one : (order : Order) (reason other : Reason) (body : List ℕ) → IsVersionFault order reason body

@@ -49,13 +49,13 @@ groups_drop bytes zero = omega arith
 groups_drop [] (suc i) = omega arith
 groups_drop (b ∷ bytes) (suc i) = omega (arith, groups_drop bytes i)
 
-pub groups_behind : (bytes : List ℕ) (i : ℕ) → 128 * groups (drop (suc i) bytes) ≤ groups bytes
-groups_behind [] i = omega arith
-groups_behind (b ∷ bytes) i = omega (arith, groups_drop bytes i)
+pub groups_past : (bytes : List ℕ) (i : ℕ) → 128 * groups (drop (suc i) bytes) ≤ groups bytes
+groups_past [] i = omega arith
+groups_past (b ∷ bytes) i = omega (arith, groups_drop bytes i)
 
 pub groups_after : (bytes : List ℕ) (i : ℕ) → 0 < i → 128 * groups (drop i bytes) ≤ groups bytes
 groups_after bytes zero h = absurd (omega arith)
-groups_after bytes (suc i) h = groups_behind bytes i
+groups_after bytes (suc i) h = groups_past bytes i
 
 -- groups that are too large are no number, and no other groups stand there
 pub none_large : (bytes : List ℕ) (size : ℕ) → IsLeb (take size bytes) → 2 ^ 64 ≤ groups (take size bytes) → NoneSpelled UnsignedLeb bytes

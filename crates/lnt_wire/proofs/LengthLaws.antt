@@ -89,7 +89,7 @@ same_number_front order size width m n r s p q e =
 pub record SameLength (f g : Format) (m n : ℕ) (r s : List ℕ) : Type 0 where
   pub format : f ≡ g
   pub number : m ≡ n
-  pub behind : r ≡ s
+  pub past : r ≡ s
 
 pub length-initial : (format : Format) (order : Order) (n : ℕ) → 4 ≤ length (initial_length format order n)
 length-initial D32 order n = omega (arith, length-number_bytes order 4 n)
@@ -100,7 +100,7 @@ pub same_length : (order : Order) (f g : Format) (m n : ℕ) (r s : List ℕ) �
     → initial_length f order m ++ r ≡ initial_length g order n ++ s → SameLength f g m n r s
 same_length order D32 D32 m n r s p q e =
     let found = same_number_front order 4 width_4 m n r s (omega arith) (omega arith) e in
-    record { format = refl; number = found.0; behind = found.1 }
+    record { format = refl; number = found.0; past = found.1 }
 same_length order D32 D64 m n r s p q e =
     let found =
     same_number_front order 4 width_4 m 0xffffffff r (number_bytes order 8 n ++ s) (omega arith) (omega arith)
@@ -118,4 +118,4 @@ same_length order D64 D64 m n r s p q e =
     ∙ e
     ∙ append_assoc (number_bytes order 4 0xffffffff) (number_bytes order 8 n) s) in
     let found = same_number_front order 8 width_8 m n r s p q tails in
-    record { format = refl; number = found.0; behind = found.1 }
+    record { format = refl; number = found.0; past = found.1 }

@@ -48,7 +48,7 @@ same_block : (order : Order) (prefix : Prefix) (t t' x y r s : List ℕ) → Blo
 same_block order prefix t t' x y r s p q e =
     let one = peel (length_code order prefix) (length t) (length t') x y r s p q e in
     let len : length p.back ≡ length q.back = ap length p.second ∙ one.value ∙ sym (ap length q.second) in
-    let same : p.back ≡ q.back = same_front p.back q.back r s len one.behind in
+    let same : p.back ≡ q.back = same_front p.back q.back r s len one.past in
     (sym p.second ∙ same ∙ q.second, same_join x y p q one.bytes same)
 
 -- values of one form

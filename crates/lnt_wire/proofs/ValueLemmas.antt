@@ -78,8 +78,8 @@ refuses_cut_block prefix old at ahead size bytes fault same there rest short pla
           sym (append_assoc p.front p.back more) ∙ ap (λ (z : List ℕ). z ++ more) (sym p.joined) ∙ e ∙ r.whole in
           let found =
           (length_code old.order prefix).one (length block) size p.front r.spelling (p.back ++ more) ahead.rest p.first r.spelled all in
-          let behind : p.back ++ more ≡ ahead.rest = same_rest p.front r.spelling (p.back ++ more) ahead.rest found.1 all in
-          omega (arith, found.0, short_here, ap length behind, length-append p.back more, ap length p.second);
+          let past : p.back ++ more ≡ ahead.rest = same_rest p.front r.spelling (p.back ++ more) ahead.rest found.1 all in
+          omega (arith, found.0, short_here, ap length past, length-append p.back more, ap length p.second);
     }
 
 pub reads_block : (prefix : Prefix) (old at ahead new : At) (size : ℕ) (bytes block : List ℕ) → at ≡ old

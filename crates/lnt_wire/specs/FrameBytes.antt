@@ -12,8 +12,8 @@ version_five order = number_bytes order 2 5
 
 -- The body of the unit begins with version 5.
 pub record BeginsWithFive (order : Order) (body : List ℕ) : Type 0 where
-  pub behind : List ℕ
-  pub joined : body ≡ version_five order ++ behind
+  pub past : List ℕ
+  pub joined : body ≡ version_five order ++ past
 
 -- an initial length, and after it the body that it counts
 abbrev pub frame_bytes : Order → Format → List ℕ → List ℕ

@@ -23,9 +23,9 @@ not_empty : {X : Type 0} (xs : List X) (x : X) → is_empty (xs ++ x ∷ []) ≡
 not_empty [] x = refl
 not_empty (y ∷ ys) x = search rules
 
-false_behind : (a b : Bool) → (a && (false && b)) ≡ false
-false_behind true b = refl
-false_behind false b = refl
+false_after : (a b : Bool) → (a && (false && b)) ≡ false
+false_after true b = refl
+false_after false b = refl
 
 -- An argument that excludes another is bound.
 pub excluding_binds : (rule : Rule) (old new : Arg) (other : Bor (List ℕ)) → IsArgument rule old → AddsConflicts old new (other ∷ [])
@@ -35,7 +35,7 @@ excluding_binds rule old new other is adds =
     && (is_empty old.r_unless.items && is_empty old.r_unless_all.items))) in
     let is_bound : is_free_arg (record old { conflicts = new.conflicts }) ≡ false =
     ap (λ (xs : List (Bor (List ℕ))). not old.exclusive && (is_empty xs && rest)) adds.1
-    ∙ ap (λ (b : Bool). not old.exclusive && (b && rest)) (not_empty old.conflicts.items other) ∙ false_behind (not old.exclusive) rest in
+    ∙ ap (λ (b : Bool). not old.exclusive && (b && rest)) (not_empty old.conflicts.items other) ∙ false_after (not old.exclusive) rest in
     record {
       rule_is = ap rule_of adds.0 ∙ ap (λ (free : Bool). record (rule_of old) { is_free = free }) is_bound ∙ ap bound is.rule_is;
       local = ap (λ (a : Arg). a.global) adds.0 ∙ is.local;

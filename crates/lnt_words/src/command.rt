@@ -58,7 +58,7 @@ fn subcommand_of<'a>(alloc: Global, subcommand: &Subcommand) -> Result<Command<'
     with_arguments(alloc, command, subcommand.shared)
 }
 
-// The command with this text behind its help.
+// The command with this text after its help.
 fn with_after<'a>(command: Command<'a>, text: Option<&'a str>) -> Command<'a>
     ensures { (app : App) → IsCommand app command.entry → IsCommand app result }
 {

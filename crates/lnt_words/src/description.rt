@@ -6,7 +6,7 @@ pub(crate) struct Subcommand {
     pub(crate) name: &'static str,
     /// What it does.
     pub(crate) about: &'static str,
-    /// What help says behind its arguments, if anything.
+    /// What help says after its arguments, if anything.
     pub(crate) after: Option<&'static str>,
     /// The arguments that it has beside the shared ones, before them.
     pub(crate) own: &'static [Argument],

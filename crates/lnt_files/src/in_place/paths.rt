@@ -61,7 +61,7 @@ pub fn path_of(
 }
 
 // What the entry of this number says. None where it isn't there.
-#[tactic(auto, using(crate::proofs::AtLemmas::behind_first, crate::proofs::AtLemmas::behind_more, crate::proofs::AtLemmas::not_there, crate::proofs::AtLemmas::entry_is, crate::proofs::AtLemmas::there))]
+#[tactic(auto, using(crate::proofs::AtLemmas::after_first, crate::proofs::AtLemmas::after_more, crate::proofs::AtLemmas::not_there, crate::proofs::AtLemmas::entry_is, crate::proofs::AtLemmas::there))]
 fn entry_at<'t>(table: &'t TableView<'t>, number: u64) -> Option<EntryView<'t>>
     ensures { EntryAt table.entry.now number result }
 {

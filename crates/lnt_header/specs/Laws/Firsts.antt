@@ -31,18 +31,18 @@ pub first_not : {X : Type 0} (P : X → Type 0) (xs : List X) (i : ℕ) (d : X) 
 first_not P xs i d lt h other = record {
   before = take i xs;
   value = get_or xs i d;
-  behind = drop (i + 1) xs;
+  past = drop (i + 1) xs;
   joined = sym (take-append-drop i xs) ∙ ap (λ (z : List _). take i xs ++ z) (drop_more xs i d lt);
   index_is = sym (length-take-le i xs (omega arith));
   all_before = h;
   not_so = other;
 }
 
-all_behind : {X : Type 0} (P : X → Type 0) (xs ys : List X) → AllByRecursion P (xs ++ ys) → AllByRecursion P ys
-all_behind P [] ys h = h
-all_behind P (x ∷ xs) ys h = all_behind P xs ys h.1
+all_after : {X : Type 0} (P : X → Type 0) (xs ys : List X) → AllByRecursion P (xs ++ ys) → AllByRecursion P ys
+all_after P [] ys h = h
+all_after P (x ∷ xs) ys h = all_after P xs ys h.1
 
 -- one that isn't so, among values that all are
 pub first_is_wrong : {X : Type 0} {P : X → Type 0} {xs : List X} {i : ℕ} → IsFirstNot P xs i → AllByRecursion P xs → ⊥
 first_is_wrong {X} {P} {xs} {i} first h =
-    first.not_so (all_behind P first.before (first.value ∷ first.behind) (subst (AllByRecursion P) first.joined h)).0
+    first.not_so (all_after P first.before (first.value ∷ first.past) (subst (AllByRecursion P) first.joined h)).0

@@ -13,7 +13,7 @@ same_each code (u ∷ us) [] x y r s len p q e = absurd (omega arith)
 same_each code (u ∷ us) (v ∷ vs) x y r s len p q e =
     let one = peel code u v x y r s p q e in
     let n : length us ≡ length vs = omega arith in
-    let rest = same_each code us vs p.back q.back r s n p.second q.second one.behind in
+    let rest = same_each code us vs p.back q.back r s n p.second q.second one.past in
     let heads : u ≡ v = one.value in
     let tails : us ≡ vs = rest.0 in
     (cc, same_join x y p q one.bytes rest.1)

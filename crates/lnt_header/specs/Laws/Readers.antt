@@ -30,8 +30,8 @@ none_second P Q code u x bytes middle p whole none v spelling more t e =
     let all : t.front ++ (t.back ++ more) ≡ x ++ middle = sym (append_assoc t.front t.back more)
     ∙ ap (λ (z : List ℕ). z ++ more) (sym t.joined) ∙ e ∙ whole in
     let found = code.one v.0 u t.front x (t.back ++ more) middle t.first p all in
-    let behind : t.back ++ more ≡ middle = same_rest t.front x (t.back ++ more) middle found.1 all in
-    none v.1 t.back more (subst (λ w. Q w v.1 t.back) found.0 t.second) behind
+    let past : t.back ++ more ≡ middle = same_rest t.front x (t.back ++ more) middle found.1 all in
+    none v.1 t.back more (subst (λ w. Q w v.1 t.back) found.0 t.second) past
 
 -- ---- readers of a cursor
 
@@ -250,7 +250,7 @@ none_several P zero (u ∷ us) x rest bytes code p lt whole none (v ∷ vs) y mo
 none_several P (suc n) (u ∷ us) x rest bytes code p lt whole none (v ∷ vs) y more q e =
     let one = peel code v u y x more rest q.1 p (e ∙ whole) in
     none_several P n us p.back rest (p.back ++ rest) code p.second (omega arith) refl none vs q.1.back more (omega (arith, q.0), q.1.second)
-    one.behind
+    one.past
 
 pub refuses_more : {X : Type 0} {IsSo : Reason → List ℕ → List ℕ → Type 0} (P : Order → X → List ℕ → Type 0) (n : ℕ) (us : List X)
     (old middle : At) (fault : Fault)

@@ -37,13 +37,13 @@ values_found format order (pair ∷ pairs) (v ∷ values) x more p =
     let size : first_size format order pair.form (x ++ more) ≡ length p.1.front =
     ap (first_size format order pair.form) whole ∙ one.size_is in
     let value : first_value format order pair.form (x ++ more) ≡ v = ap (first_value format order pair.form) whole ∙ one.value_is in
-    let behind : drop (first_size format order pair.form (x ++ more)) (x ++ more) ≡ p.1.back ++ more =
+    let past : drop (first_size format order pair.form (x ++ more)) (x ++ more) ≡ p.1.back ++ more =
     ap (λ (n : ℕ). drop n (x ++ more)) size ∙ ap (drop (length p.1.front)) whole ∙ drop-append_seam p.1.front (p.1.back ++ more) in
     let rest = values_found format order pairs values p.1.back more p.1.second in
     let others : first_values format order pairs (drop (first_size format order pair.form (x ++ more)) (x ++ more)) ≡ values =
-    ap (first_values format order pairs) behind ∙ rest.values_are in
+    ap (first_values format order pairs) past ∙ rest.values_are in
     let other_size : first_values_size format order pairs (drop (first_size format order pair.form (x ++ more)) (x ++ more))
-    ≡ length p.1.back = ap (first_values_size format order pairs) behind ∙ rest.size_is in
+    ≡ length p.1.back = ap (first_values_size format order pairs) past ∙ rest.size_is in
     record {
       values_are = ap (λ (w : FormValue). w ∷ first_values format order pairs
           (drop (first_size format order pair.form (x ++ more)) (x ++ more))) value ∙ ap (λ (ws : List FormValue). v ∷ ws) others;
@@ -60,11 +60,11 @@ entries_found format order pairs (entry ∷ entries) x more p =
     let size : first_values_size format order pairs (x ++ more) ≡ length p.front =
     ap (first_values_size format order pairs) whole ∙ one.size_is in
     let values : first_values format order pairs (x ++ more) ≡ entry.values = ap (first_values format order pairs) whole ∙ one.values_are in
-    let behind : drop (first_values_size format order pairs (x ++ more)) (x ++ more) ≡ p.back ++ more =
+    let past : drop (first_values_size format order pairs (x ++ more)) (x ++ more) ≡ p.back ++ more =
     ap (λ (n : ℕ). drop n (x ++ more)) size ∙ ap (drop (length p.front)) whole ∙ drop-append_seam p.front (p.back ++ more) in
     let others : first_entries format order pairs (length entries) (drop (first_values_size format order pairs (x ++ more)) (x ++ more))
     ≡ entries =
-    ap (first_entries format order pairs (length entries)) behind ∙ entries_found format order pairs entries p.back more p.second in
+    ap (first_entries format order pairs (length entries)) past ∙ entries_found format order pairs entries p.back more p.second in
     ap (λ (vs : List FormValue). entry_of vs ∷ first_entries format order pairs (length entries)
     (drop (first_values_size format order pairs (x ++ more)) (x ++ more))) values ∙ ap (λ (es : List Entry). entry ∷ es) others
 
@@ -76,11 +76,11 @@ first_found format order pairs count entry x rest bytes p whole =
     let one : AreFound format order pairs entry.values x rest = values_found format order pairs entry.values x rest p in
     let size : first_values_size format order pairs bytes ≡ length x = ap (first_values_size format order pairs) whole ∙ one.size_is in
     let values : first_values format order pairs bytes ≡ entry.values = ap (first_values format order pairs) whole ∙ one.values_are in
-    let behind : drop (first_values_size format order pairs bytes) bytes ≡ rest =
+    let past : drop (first_values_size format order pairs bytes) bytes ≡ rest =
     ap (λ (n : ℕ). drop n bytes) size ∙ ap (drop (length x)) whole ∙ drop-append_seam x rest in
     ap (λ (vs : List FormValue). entry_of vs ∷ first_entries format order pairs count
     (drop (first_values_size format order pairs bytes) bytes)) values
-    ∙ ap (λ (z : List ℕ). entry ∷ first_entries format order pairs count z) behind
+    ∙ ap (λ (z : List ℕ). entry ∷ first_entries format order pairs count z) past
 
 -- the others, after it
 pub others_spelled : (format : Format) (order : Order) (pairs : List Pair) (entry : Entry) (entries : List Entry) (x rest bytes : List ℕ)

@@ -34,7 +34,7 @@ laid order size address_size body program =
 pub record SameBody (a a' : ℕ) (body body' program program' : List ℕ) : Type 0 where
   pub address_size : a ≡ a'
   pub header : body ≡ body'
-  pub behind : program ≡ program'
+  pub past : program ≡ program'
 
 pub same_laid : (order : Order) (size : ℕ) → IsWidth size → (a a' : ℕ) (b b' p p' : List ℕ) → length b < 256 ^ size → length b' < 256 ^ size
     → laid order size a b p ≡ laid order size a' b' p' → SameBody a a' b b' p p'
@@ -43,13 +43,13 @@ same_laid order size width a a' b b' p p' fits fits' e =
     let n' = number_bytes order size (length b') in
     let all : version_five order ++ ((a ∷ 0 ∷ []) ++ (n ++ (b ++ p))) ≡ version_five order ++ ((a' ∷ 0 ∷ []) ++ (n' ++ (b' ++ p'))) =
     sym (regroup (version_five order) (a ∷ 0 ∷ []) n b p) ∙ e ∙ regroup (version_five order) (a' ∷ 0 ∷ []) n' b' p' in
-    let behind : a ∷ 0 ∷ (n ++ (b ++ p)) ≡ a' ∷ 0 ∷ (n' ++ (b' ++ p')) =
+    let past : a ∷ 0 ∷ (n ++ (b ++ p)) ≡ a' ∷ 0 ∷ (n' ++ (b' ++ p')) =
     append_cancel_left (version_five order) ((a ∷ 0 ∷ []) ++ (n ++ (b ++ p))) ((a' ∷ 0 ∷ []) ++ (n' ++ (b' ++ p'))) all in
     let sizes : a ≡ a' = cc in
     let rest : n ++ (b ++ p) ≡ n' ++ (b' ++ p') = cc in
     let lengths = same_number_front order size width (length b) (length b') (b ++ p) (b' ++ p') fits fits' rest in
     let bodies : b ≡ b' = same_front b b' p p' lengths.0 lengths.1 in
-    record { address_size = sizes; header = bodies; behind = same_rest b b' p p' bodies lengths.1 }
+    record { address_size = sizes; header = bodies; past = same_rest b b' p p' bodies lengths.1 }
 
 -- ---- the fields that header_length counts
 
@@ -121,12 +121,12 @@ same_fields h h' x y format order address_size left right same =
     let first = same_table h.format h.order h.directory_format h'.directory_format h.directories h'.directories d d' (f ++ h.extra)
     (f' ++ h'.extra) left.directory_table directories' tables in
     let second = same_table h.format h.order h.file_format h'.file_format h.files h'.files f f' h.extra h'.extra left.file_table files'
-    first.behind in
+    first.past in
     let directory_format : h.directory_format ≡ h'.directory_format = first.format in
     let directory_entries : h.directories ≡ h'.directories = first.values in
     let file_format : h.file_format ≡ h'.file_format = second.format in
     let file_entries : h.files ≡ h'.files = second.values in
-    let extra : h.extra ≡ h'.extra = second.behind in
+    let extra : h.extra ≡ h'.extra = second.past in
     let both : header_with h.format h.order h.address_size h.minimum_instruction_length h.max_ops h.default_is_stmt h.line_base h.line_range
     h.opcode_base h.standard_lengths h.directory_format h.directories h.file_format h.files h.extra
     ≡ header_with h'.format h'.order h'.address_size h'.minimum_instruction_length h'.max_ops h'.default_is_stmt h'.line_base h'.line_range
@@ -179,7 +179,7 @@ same_header h h' p p' x y r s order left right e =
     let lengths = same_length h.order h.format h'.format (length whole) (length whole') (whole ++ r) (whole' ++ s) left.fits right.fits
     (sym first ∙ e ∙ second) in
     let format : h.format ≡ h'.format = lengths.format in
-    let wholes : whole ≡ whole' = same_front whole whole' r s lengths.number lengths.behind in
+    let wholes : whole ≡ whole' = same_front whole whole' r s lengths.number lengths.past in
     let over : laid h'.order (offset_size h'.format) h'.address_size body' p'
     ≡ laid h.order (offset_size h.format) h'.address_size body' p' =
     ap (λ (o : Order). laid o (offset_size h'.format) h'.address_size body' p') (sym order)
@@ -197,7 +197,7 @@ same_header h h' p p' x y r s order left right e =
     ∙ ap (λ (o : Order). initial_length h'.format o (length whole)) order ∙ ap (initial_length h'.format h'.order) lengths.number in
     let bytes : x ≡ y = left.joined ∙ ap (λ (z : List ℕ). z ++ whole) starts
     ∙ ap (λ (z : List ℕ). initial_length h'.format h'.order (length whole') ++ z) wholes ∙ sym right.joined in
-    record { header = headers; program = parts.behind; bytes = bytes }
+    record { header = headers; program = parts.past; bytes = bytes }
 
 pub one_header : OneHeader
 one_header order = record {

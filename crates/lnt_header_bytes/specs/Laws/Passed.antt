@@ -7,14 +7,14 @@ use Rattle.lnt_wire.proofs.CodeLaws.{peel}
 use Rattle.lnt_header.specs.Joins.{Each, Several}
 
 -- after spellings of as many values lie the others
-pub others_behind : {X : Type 0} (P : X → List ℕ → Type 0) → IsCode P → (us vs : List X) (x rest bytes : List ℕ) → length us ≤ length vs
+pub others_after : {X : Type 0} (P : X → List ℕ → Type 0) → IsCode P → (us vs : List X) (x rest bytes : List ℕ) → length us ≤ length vs
     → Each P us x → Each P vs bytes → bytes ≡ x ++ rest
     → Each P (drop (length us) vs) rest
-others_behind P code [] vs x rest bytes le p q e = subst (Each P vs) (e ∙ ap (λ (z : List ℕ). z ++ rest) p) q
-others_behind P code (u ∷ us) [] x rest bytes le p q e = absurd (omega arith)
-others_behind P code (u ∷ us) (v ∷ vs) x rest bytes le p q e =
+others_after P code [] vs x rest bytes le p q e = subst (Each P vs) (e ∙ ap (λ (z : List ℕ). z ++ rest) p) q
+others_after P code (u ∷ us) [] x rest bytes le p q e = absurd (omega arith)
+others_after P code (u ∷ us) (v ∷ vs) x rest bytes le p q e =
     let one = peel code u v x bytes rest [] p q (sym e ∙ sym (append-nil bytes)) in
-    others_behind P code us vs p.back rest q.back (omega arith) p.second q.second (sym (append-nil q.back) ∙ sym one.behind)
+    others_after P code us vs p.back rest q.back (omega arith) p.second q.second (sym (append-nil q.back) ∙ sym one.past)
 
 -- Some bytes begin with spellings of these values.
 record HasFront {X : Type 0} (P : X → List ℕ → Type 0) (xs : List X) (bytes : List ℕ) : Type 0 where
@@ -43,12 +43,12 @@ several_there P n vs bytes le q none =
     none (take n vs) r.front r.back (length-take-le n vs le, r.spelled) (sym r.joined)
 
 -- the same of one value after some others
-pub one_behind : {X : Type 0} (P : X → List ℕ → Type 0) → IsCode P → (vs : List X) (n : ℕ) (u : X) (x rest bytes : List ℕ) → n < length vs
+pub one_after : {X : Type 0} (P : X → List ℕ → Type 0) → IsCode P → (vs : List X) (n : ℕ) (u : X) (x rest bytes : List ℕ) → n < length vs
     → P u x → Each P (drop n vs) bytes → bytes ≡ x ++ rest → Each P (drop (n + 1) vs) rest
-one_behind {X = X} P code vs n u x rest bytes lt p q e =
+one_after {X = X} P code vs n u x rest bytes lt p q e =
     let one : Each P (u ∷ []) x = record { front = x; back = []; first = p; second = refl; joined = sym (append-nil x) } in
     subst (λ (ws : List X). Each P ws rest) (drop-drop 1 n vs)
-    (others_behind P code (u ∷ []) (drop n vs) x rest bytes (omega (arith, length-drop n vs)) one q e)
+    (others_after P code (u ∷ []) (drop n vs) x rest bytes (omega (arith, length-drop n vs)) one q e)
 
 pub one_there : {X : Type 0} (P : X → List ℕ → Type 0) (vs : List X) (n : ℕ) (bytes : List ℕ) → n < length vs → Each P (drop n vs) bytes
     → NoneSpelled P bytes → ⊥

@@ -52,21 +52,21 @@ values_more format pairs pair values value old middle new r s =
       order = s.order ∙ r.order;
     }
 
-pub none_values : (format : Format) (order : Order) (pairs : List Pair) (pair : Pair) (behind : List Pair) (us : List FormValue)
+pub none_values : (format : Format) (order : Order) (pairs : List Pair) (pair : Pair) (past : List Pair) (us : List FormValue)
     (x rest bytes : List ℕ) → ValuesBytes format order pairs us x → bytes ≡ x ++ rest
-    → NoneSpelled (ValueBytes format order pair.form) rest → NoneSpelled (ValuesBytes format order (pairs ++ pair ∷ behind)) bytes
-none_values format order [] pair behind [] x rest bytes p whole none [] y more q e = q
-none_values format order [] pair behind [] x rest bytes p whole none (v ∷ vs) y more q e =
+    → NoneSpelled (ValueBytes format order pair.form) rest → NoneSpelled (ValuesBytes format order (pairs ++ pair ∷ past)) bytes
+none_values format order [] pair past [] x rest bytes p whole none [] y more q e = q
+none_values format order [] pair past [] x rest bytes p whole none (v ∷ vs) y more q e =
     none v q.1.front (q.1.back ++ more) (record { form_is = q.0; spelled = q.1.first })
     (sym (append_assoc q.1.front q.1.back more) ∙ ap (λ (z : List ℕ). z ++ more) (sym q.1.joined) ∙ e ∙ whole
     ∙ ap (λ (z : List ℕ). z ++ rest) p)
-none_values format order [] pair behind (u ∷ us) x rest bytes p whole none vs y more q e = p
-none_values format order (a ∷ pairs) pair behind [] x rest bytes p whole none vs y more q e = p
-none_values format order (a ∷ pairs) pair behind (u ∷ us) x rest bytes p whole none [] y more q e = q
-none_values format order (a ∷ pairs) pair behind (u ∷ us) x rest bytes p whole none (v ∷ vs) y more q e =
+none_values format order [] pair past (u ∷ us) x rest bytes p whole none vs y more q e = p
+none_values format order (a ∷ pairs) pair past [] x rest bytes p whole none vs y more q e = p
+none_values format order (a ∷ pairs) pair past (u ∷ us) x rest bytes p whole none [] y more q e = q
+none_values format order (a ∷ pairs) pair past (u ∷ us) x rest bytes p whole none (v ∷ vs) y more q e =
     let one = peel_by v u y x more rest (λ c d s t. same_value format order v u c d s t (q.0 ∙ sym p.0)) q.1 p.1 (e ∙ whole) in
-    none_values format order pairs pair behind us p.1.back rest (p.1.back ++ rest) p.1.second refl none vs q.1.back more q.1.second
-    one.behind
+    none_values format order pairs pair past us p.1.back rest (p.1.back ++ rest) p.1.second refl none vs q.1.back more q.1.second
+    one.past
 
 pub values_none : (format : Format) (at : At) → Reads (ValuesBytes format at.order []) [] at at
 values_none format at = record { spelling = []; spelled = refl; whole = refl; place = sym (add-zero at.place); order = refl }

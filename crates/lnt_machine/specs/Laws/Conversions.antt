@@ -12,7 +12,7 @@ use Rattle.lnt_unit.specs.Converting.{unit_in_format}
 use Rattle.lnt_unit.specs.declared.unit.Parts.{Parts}
 use Rattle.lnt_machine.specs.Laws.{SameMatrix}
 use Rattle.lnt_machine.specs.Laws.Numbers.{fault_over, runs_over}
-use Rattle.lnt_machine.specs.Matrix.{row_of, end_row_of, row_made, rows_behind, rows, sequences_of}
+use Rattle.lnt_machine.specs.Matrix.{row_of, end_row_of, row_made, rows_after, rows, sequences_of}
 use Rattle.lnt_machine.specs.Registers.{advance_of, advances, moved, base, line_increment, line_sum, line, part}
 use Rattle.lnt_machine.specs.Registers.{file, column, isa, discriminator, is_stmt, basic_block, prologue_end}
 use Rattle.lnt_machine.specs.Registers.{epilogue_begin, registers_after}
@@ -102,10 +102,10 @@ same_made h format order back EndSequence = ap Some (same_end_row h format order
 same_made h format order back op = refl
 
 same_rows : (h : HeaderParts) (format : Format) (order : Order) (back ops : List Op)
-    → rows_behind (in_format h format order) back ops ≡ rows_behind h back ops
+    → rows_after (in_format h format order) back ops ≡ rows_after h back ops
 same_rows h format order back [] = refl
 same_rows h format order back (op ∷ ops) =
-    ap (λ (row : Option Row). cons_option row (rows_behind (in_format h format order) (op ∷ back) ops)) (same_made h format order back op)
+    ap (λ (row : Option Row). cons_option row (rows_after (in_format h format order) (op ∷ back) ops)) (same_made h format order back op)
     ∙ ap (λ (more : List Row). cons_option (row_made h back op) more) (same_rows h format order (op ∷ back) ops)
 
 unit_rows : (unit : Parts) (format : Format) (order : Order) → rows (unit_in_format unit format order) ≡ rows unit

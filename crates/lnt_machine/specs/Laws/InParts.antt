@@ -9,8 +9,8 @@ use Rattle.lnt_header.specs.declared.op.Op.{Op}
 use Rattle.lnt_header.specs.declared.op.Op.TheVariants.{Special, Copy, EndSequence, SetAddress, FixedAdvancePc}
 use Rattle.lnt_machine.specs.declared.row.Row.{Row}
 use Rattle.lnt_machine.specs.declared.row.Sequence.{Sequence}
-use Rattle.lnt_machine.specs.Laws.Rows.{cons_option-append, reverse-cons, rows_behind-append}
-use Rattle.lnt_machine.specs.Matrix.{onto_first, row_made, rows_behind, sequences_of}
+use Rattle.lnt_machine.specs.Laws.Rows.{cons_option-append, reverse-cons, rows_after-append}
+use Rattle.lnt_machine.specs.Matrix.{onto_first, row_made, rows_after, sequences_of}
 use Rattle.lnt_machine.specs.Parts.{AreWhole, AtStart, first_sequence, rows_of_ops, RowsOfParts}
 use Rattle.lnt_machine.specs.Registers.{advance_of, advances, base, part}
 use Rattle.lnt_machine.specs.State.{StandsAfter, State}
@@ -60,30 +60,30 @@ alike_row h one other (Special c) a = rw (a.part_is, a.base_is, a.advances_is) r
 alike_row h one other EndSequence a = rw (a.part_is, a.base_is, a.advances_is) refl
 alike_row h one other op a = refl
 
-alike_rows : (h : HeaderParts) (one other ops : List Op) → LeadAlike h one other → rows_behind h one ops ≡ rows_behind h other ops
+alike_rows : (h : HeaderParts) (one other ops : List Op) → LeadAlike h one other → rows_after h one ops ≡ rows_after h other ops
 alike_rows h one other [] a = refl
 alike_rows h one other (op ∷ ops) a =
     rw (alike_row h one other op a, alike_rows h (op ∷ one) (op ∷ other) ops (alike_more h one other op a)) refl
 
 -- the rows after whole sequences are those of a program of its own
-pub rows_at_start : (h : HeaderParts) (back ops : List Op) → AtStart back → rows_behind h back ops ≡ rows_of_ops h ops
+pub rows_at_start : (h : HeaderParts) (back ops : List Op) → AtStart back → rows_after h back ops ≡ rows_of_ops h ops
 rows_at_start h back ops start = alike_rows h back [] ops (start_alike h back start)
 
 -- ---- rows of two lists of operations
 
-pub rows_behind-joined : (h : HeaderParts) (back front rest : List Op)
-    → rows_behind h back (front ++ rest) ≡ rows_behind h back front ++ rows_behind h (reverse front ++ back) rest
-rows_behind-joined h back [] rest = refl
-rows_behind-joined h back (op ∷ front) rest =
-    ap (λ (rows : List Row). cons_option (row_made h back op) rows) (rows_behind-joined h (op ∷ back) front rest)
-    ∙ cons_option-append (row_made h back op) (rows_behind h (op ∷ back) front) (rows_behind h (reverse front ++ op ∷ back) rest)
-    ∙ ap (λ (list : List Op). rows_behind h back (op ∷ front) ++ rows_behind h list rest) (sym (reverse-cons op front back))
+pub rows_after-joined : (h : HeaderParts) (back front rest : List Op)
+    → rows_after h back (front ++ rest) ≡ rows_after h back front ++ rows_after h (reverse front ++ back) rest
+rows_after-joined h back [] rest = refl
+rows_after-joined h back (op ∷ front) rest =
+    ap (λ (rows : List Row). cons_option (row_made h back op) rows) (rows_after-joined h (op ∷ back) front rest)
+    ∙ cons_option-append (row_made h back op) (rows_after h (op ∷ back) front) (rows_after h (reverse front ++ op ∷ back) rest)
+    ∙ ap (λ (list : List Op). rows_after h back (op ∷ front) ++ rows_after h list rest) (sym (reverse-cons op front back))
 
 pub rows_of_parts : (h : HeaderParts) (front rest : List Op) → AreWhole front
     → rows_of_ops h (front ++ rest) ≡ rows_of_ops h front ++ rows_of_ops h rest
 rows_of_parts h front rest whole =
-    rows_behind-joined h [] front rest
-    ∙ ap (λ (list : List Op). rows_of_ops h front ++ rows_behind h list rest) (append-nil (reverse front))
+    rows_after-joined h [] front rest
+    ∙ ap (λ (list : List Op). rows_of_ops h front ++ rows_after h list rest) (append-nil (reverse front))
     ∙ ap (λ (rows : List Row). rows_of_ops h front ++ rows) (rows_at_start h (reverse front) rest whole)
 
 -- ---- sequences of two lists of rows
@@ -157,7 +157,7 @@ whole_closed h ops whole = subst (λ (list : List Op). AreClosed (rows_of_ops h 
     by_back [] start = tt
     by_back (EndSequence ∷ back) start =
         subst (λ (list : List Op). AreClosed (rows_of_ops h list)) (sym (reverse-append (EndSequence ∷ []) back))
-        (subst AreClosed (sym (rows_behind-append h [] (reverse back) EndSequence)) (closed_after (rows_of_ops h (reverse back)) _ refl))
+        (subst AreClosed (sym (rows_after-append h [] (reverse back) EndSequence)) (closed_after (rows_of_ops h (reverse back)) _ refl))
     by_back (op ∷ back) start = absurd start
 
 pub sequences_of_parts : (h : HeaderParts) (front rest : List Op) → AreWhole front
@@ -175,11 +175,11 @@ pub first_of : (rows : List Row) (first : Sequence) (others : List Sequence) →
 first_of [] first others e = absurd (omega (arith, ap length e))
 first_of (row ∷ rows) first others e = by_end row.end_sequence (sequences_of rows) (λ some more is. first_of rows some more is) e
   where
-    by_end : (t : Bool) (behind : List Sequence)
-        → ((some : Sequence) (more : List Sequence) → behind ≡ some ∷ more → some.rows ≡ first_sequence rows)
-        → cond t (record { rows = row ∷ [] } ∷ behind) (onto_first row behind) ≡ first ∷ others
+    by_end : (t : Bool) (past : List Sequence)
+        → ((some : Sequence) (more : List Sequence) → past ≡ some ∷ more → some.rows ≡ first_sequence rows)
+        → cond t (record { rows = row ∷ [] } ∷ past) (onto_first row past) ≡ first ∷ others
         → first.rows ≡ row ∷ cond t [] (first_sequence rows)
-    by_end true behind before is = ap (λ (s : Sequence). s.rows) (sym (same_head is))
+    by_end true past before is = ap (λ (s : Sequence). s.rows) (sym (same_head is))
     by_end false [] before is = absurd (omega (arith, ap length is))
     by_end false (some ∷ more) before is = ap (λ (s : Sequence). s.rows) (sym (same_head is))
         ∙ ap (λ (list : List Row). row ∷ list) (before some more refl)

@@ -10,7 +10,7 @@ use Rattle.lnt_unit.specs.declared.unit.Parts.{Parts}
 use Rattle.lnt_unit.specs.Laws.Numbers.{numbers_of_ops, ops_by_numbers}
 use Rattle.lnt_machine.specs.Laws.Places.{kept_sequence}
 use Rattle.lnt_machine.specs.Laws.{unit_by_numbers, SameByNumbers}
-use Rattle.lnt_machine.specs.Matrix.{row_of, end_row_of, row_made, rows_behind, rows, sequences_of, joined_rows, done}
+use Rattle.lnt_machine.specs.Matrix.{row_of, end_row_of, row_made, rows_after, rows, sequences_of, joined_rows, done}
 use Rattle.lnt_machine.specs.Matrix.{sequences, Runs, IsRunFault}
 use Rattle.lnt_machine.specs.Parts.{first_sequence}
 use Rattle.lnt_machine.specs.Walking.{HasPlaces, IsFront, IsSequencePlace, Kept, Keeps, LinesAfter, WillGive, SequenceWalk}
@@ -99,10 +99,10 @@ same_made h back (Special c) = ap Some (same_row h back (Special c))
 same_made h back EndSequence = ap Some (same_end_row h back)
 same_made h back op = refl
 
-pub same_rows : (h : HeaderParts) (back ops : List Op) → rows_behind (without_entries h) back ops ≡ rows_behind h back ops
+pub same_rows : (h : HeaderParts) (back ops : List Op) → rows_after (without_entries h) back ops ≡ rows_after h back ops
 same_rows h back [] = refl
 same_rows h back (op ∷ ops) =
-    ap (λ (row : Option Row). cons_option row (rows_behind (without_entries h) (op ∷ back) ops)) (same_made h back op)
+    ap (λ (row : Option Row). cons_option row (rows_after (without_entries h) (op ∷ back) ops)) (same_made h back op)
     ∙ ap (λ (more : List Row). cons_option (row_made h back op) more) (same_rows h (op ∷ back) ops)
 
 -- the unit of the same operations, with the numbers of its header alone
@@ -120,22 +120,22 @@ closed_over : (us vs : List Row) → us ≡ vs → joined_rows (sequences_of us)
 closed_over us vs same closed = subst (λ (rows : List Row). joined_rows (sequences_of rows) ≡ rows) same closed
 
 pub runs_over : (h other : HeaderParts) (ops : List Op) → ((back : List Op) → line h back ≡ line other back)
-    → rows_behind h [] ops ≡ rows_behind other [] ops
+    → rows_after h [] ops ≡ rows_after other [] ops
     → Runs (record { header = h; ops = ops }) → Runs (record { header = other; ops = ops })
 runs_over h other ops lines same runs = record {
   lines = lines_over h other ops (length ops) lines runs.lines;
-  closed = closed_over (rows_behind h [] ops) (rows_behind other [] ops) same runs.closed;
+  closed = closed_over (rows_after h [] ops) (rows_after other [] ops) same runs.closed;
 }
 
 pub fault_over : (h other : HeaderParts) (ops : List Op) → ((back : List Op) → line h back ≡ line other back)
-    → rows_behind h [] ops ≡ rows_behind other [] ops
+    → rows_after h [] ops ≡ rows_after other [] ops
     → (fault : RunFault) → IsRunFault (record { header = h; ops = ops }) fault → IsRunFault (record { header = other; ops = ops }) fault
 fault_over h other ops lines same (LineOutOfRange k) (within, fit, leaves) =
     (within, lines_over h other ops k lines fit, λ is. leaves (subst IsLine (sym (lines (done ops (k + 1)))) is))
 fault_over h other ops lines same OpenSequence (fit, left) = (
   lines_over h other ops (length ops) lines fit,
   λ closed. left
-      (closed_over (rows_behind other [] ops) (rows_behind h [] ops) (sym same) closed),
+      (closed_over (rows_after other [] ops) (rows_after h [] ops) (sym same) closed),
 )
 fault_over h other ops lines same Memory is = tt
 
@@ -187,7 +187,7 @@ pub sequence_by_numbers : (kept : Kept) (numbers : HeaderParts) (unit : Parts) (
     → numbers ≡ without_entries kept.header → Keeps kept unit
     → index < length kept.places → slice_index_or kept.places index 0 ≡ place
     → ((earlier later : List Op) → IsSequencePlace numbers kept.program earlier later place
-    → WillGive (first_sequence (rows_behind numbers (reverse earlier) later)) walk)
+    → WillGive (first_sequence (rows_after numbers (reverse earlier) later)) walk)
     → WillGive (slice_index_or (sequences unit) index d).rows walk
 sequence_by_numbers kept numbers unit index place d walk same keeps few at gives =
     let h = kept.header in
@@ -195,8 +195,8 @@ sequence_by_numbers kept numbers unit index place d walk same keeps few at gives
     let begins : IsSequencePlace numbers kept.program earlier later place =
     subst (λ (n : HeaderParts). IsSequencePlace n kept.program earlier later place) (sym same)
     (place_by_numbers h kept.program earlier later place is) in
-    let rows_are : rows_behind numbers (reverse earlier) later ≡ rows_behind h (reverse earlier) later =
-    ap (λ (n : HeaderParts). rows_behind n (reverse earlier) later) same ∙ same_rows h (reverse earlier) later in
+    let rows_are : rows_after numbers (reverse earlier) later ≡ rows_after h (reverse earlier) later =
+    ap (λ (n : HeaderParts). rows_after n (reverse earlier) later) same ∙ same_rows h (reverse earlier) later in
     subst (λ (rows : List Row). WillGive (first_sequence rows) walk) rows_are (gives earlier later begins))
 
 -- a front by the header's numbers is one by the header

@@ -20,7 +20,7 @@ use Rattle.lnt_unit.specs.declared.unit.Parts.{Parts}
 use Rattle.lnt_machine.specs.declared.row.Row.{Row}
 use Rattle.lnt_machine.specs.declared.row.Sequence.{Sequence}
 use Rattle.lnt_machine.specs.Laws.InParts.{first_of, rows_at_start, sequences_of_parts}
-use Rattle.lnt_machine.specs.Matrix.{done, LinesFit, row_made, rows_behind, sequences, sequences_of}
+use Rattle.lnt_machine.specs.Matrix.{done, LinesFit, row_made, rows_after, sequences, sequences_of}
 use Rattle.lnt_machine.specs.Parts.{AtStart, first_sequence, rows_of_ops}
 use Rattle.lnt_machine.specs.Registers.{IsLine, line}
 use Rattle.lnt_machine.specs.Walking.{HasPlaces, IsFront, IsPlaceOf, IsSequencePlace, Kept, Keeps, LinesAfter, SequenceWalk, WillGive}
@@ -41,14 +41,14 @@ index_after (one ∷ front) rest d k e few = rw e (by_rest rest (omega (arith, l
 -- the sequence with this index has the rows from its place on, up to the first end row
 pub sequence_at : (unit : Parts) (program : List ℕ) (index place : ℕ) (d : Sequence) (is : IsPlaceOf unit program index place)
     → index < length (sequences unit)
-    → (slice_index_or (sequences unit) index d).rows ≡ first_sequence (rows_behind unit.header (reverse is.earlier) is.later)
+    → (slice_index_or (sequences unit) index d).rows ≡ first_sequence (rows_after unit.header (reverse is.earlier) is.later)
 sequence_at unit program index place d is few =
     let h = unit.header in
     let before = sequences_of (rows_of_ops h is.earlier) in
-    let behind = sequences_of (rows_of_ops h is.later) in
-    let all : sequences unit ≡ before ++ behind = ap (λ (ops : List Op). sequences_of (rows_of_ops h ops)) is.ops_are
+    let past = sequences_of (rows_of_ops h is.later) in
+    let all : sequences unit ≡ before ++ past = ap (λ (ops : List Op). sequences_of (rows_of_ops h ops)) is.ops_are
     ∙ sequences_of_parts h is.earlier is.later is.place_is.start in
-    let found = index_after before behind d index is.index_is (subst (λ (list : List Sequence). index < length list) all few) in
+    let found = index_after before past d index is.index_is (subst (λ (list : List Sequence). index < length list) all few) in
     ap (λ (list : List Sequence). (slice_index_or list index d).rows) all
     ∙ ap (λ (s : Sequence). s.rows) found.3
     ∙ first_of (rows_of_ops h is.later) found.0 found.1 found.2
@@ -58,14 +58,14 @@ sequence_at unit program index place d is few =
 pub kept_sequence : (kept : Kept) (unit : Parts) (index place : ℕ) (d : Sequence) (walk : SequenceWalk) → Keeps kept unit
     → index < length kept.places → slice_index_or kept.places index 0 ≡ place
     → ((earlier later : List Op) → IsSequencePlace kept.header kept.program earlier later place
-    → WillGive (first_sequence (rows_behind kept.header (reverse earlier) later)) walk)
+    → WillGive (first_sequence (rows_after kept.header (reverse earlier) later)) walk)
     → WillGive (slice_index_or (sequences unit) index d).rows walk
 kept_sequence kept unit index place d walk keeps few at gives =
     let is : IsPlaceOf unit kept.program index place = subst (IsPlaceOf unit kept.program index) at (keeps.places index 0 few) in
     let place_is : IsSequencePlace kept.header kept.program is.earlier is.later place = subst
     (λ (h : HeaderParts). IsSequencePlace h kept.program is.earlier is.later place) (sym keeps.header_is) is.place_is in
-    let rows_are : first_sequence (rows_behind kept.header (reverse is.earlier) is.later) ≡ (slice_index_or (sequences unit) index d).rows =
-    ap (λ (h : HeaderParts). first_sequence (rows_behind h (reverse is.earlier) is.later)) keeps.header_is
+    let rows_are : first_sequence (rows_after kept.header (reverse is.earlier) is.later) ≡ (slice_index_or (sequences unit) index d).rows =
+    ap (λ (h : HeaderParts). first_sequence (rows_after h (reverse is.earlier) is.later)) keeps.header_is
     ∙ sym (sequence_at unit kept.program index place d is (omega (arith, keeps.count, few))) in
     subst (λ (rows : List Row). WillGive rows walk) rows_are (gives is.earlier is.later place_is)
 

@@ -22,10 +22,10 @@ pub record IsEnded (sequence : Sequence) : Type 0 where
 pub record IsCut (rows : List Row) (ended : List Sequence) (left : List Row) : Type 0 where
   pub joined : rows ≡ joined_rows ended ++ left
   pub each : AllByRecursion IsEnded ended
-  pub behind : AreOpen left
+  pub past : AreOpen left
 
 pub cut_none : IsCut [] [] []
-cut_none = record { joined = refl; each = tt; behind = tt }
+cut_none = record { joined = refl; each = tt; past = tt }
 
 all-append : {X : Type 0} (P : X → Type 0) (xs : List X) (x : X) → AllByRecursion P xs → P x → AllByRecursion P (xs ++ x ∷ [])
 all-append P [] x all here = (here, tt)
@@ -44,7 +44,7 @@ pub cut_more : (rows left : List Row) (ended : List Sequence) (row : Row) → Is
 cut_more rows left ended row cut goes_on = record {
   joined = ap (λ (list : List Row). list ++ row ∷ []) cut.joined ∙ append_assoc (joined_rows ended) left (row ∷ []);
   each = cut.each;
-  behind = all-append (λ r. r.end_sequence ≡ false) left row cut.behind goes_on;
+  past = all-append (λ r. r.end_sequence ≡ false) left row cut.past goes_on;
 }
 
 -- one more row, which ends its sequence
@@ -56,8 +56,8 @@ cut_end rows left ended row cut ends =
       joined = ap (λ (list : List Row). list ++ row ∷ []) cut.joined ∙ append_assoc (joined_rows ended) left (row ∷ [])
           ∙ sym (joined_rows-append ended sequence) ∙ sym (append-nil (joined_rows (ended ++ sequence ∷ [])));
       each = all-append IsEnded ended sequence cut.each
-          (record { body = left; last = row; rows_are = refl; body_open = cut.behind; ends = ends });
-      behind = tt;
+          (record { body = left; last = row; rows_are = refl; body_open = cut.past; ends = ends });
+      past = tt;
     }
 
 -- ---- the cut is that of the definition
@@ -73,19 +73,19 @@ sequences_of-ended (row ∷ body) more last o ends = rw (o.0, sequences_of-ended
 
 sequences_of-joined : (ended : List Sequence) (left : List Row) → AllByRecursion IsEnded ended → AreOpen left
     → sequences_of (joined_rows ended ++ left) ≡ ended
-sequences_of-joined [] left each behind = sequences_of-open left behind
-sequences_of-joined (sequence ∷ ended) left (first, each) behind =
+sequences_of-joined [] left each past = sequences_of-open left past
+sequences_of-joined (sequence ∷ ended) left (first, each) past =
     let more = joined_rows ended ++ left in
     let parts : (sequence.rows ++ joined_rows ended) ++ left ≡ first.body ++ first.last ∷ more =
     ap (λ (rows : List Row). (rows ++ joined_rows ended) ++ left) first.rows_are
     ∙ append_assoc (first.body ++ first.last ∷ []) (joined_rows ended) left ∙ append_assoc first.body (first.last ∷ []) more in
     ap sequences_of parts ∙ sequences_of-ended first.body more first.last first.body_open first.ends
     ∙ ap (λ (sequences : List Sequence). record { rows = first.body ++ first.last ∷ [] } ∷ sequences)
-    (sequences_of-joined ended left each behind)
+    (sequences_of-joined ended left each past)
     ∙ ap (λ (rows : List Row). record { rows = rows } ∷ ended) (sym first.rows_are)
 
 pub cut_is : (rows left : List Row) (ended : List Sequence) → IsCut rows ended left → sequences_of rows ≡ ended
-cut_is rows left ended cut = ap sequences_of cut.joined ∙ sequences_of-joined ended left cut.each cut.behind
+cut_is rows left ended cut = ap sequences_of cut.joined ∙ sequences_of-joined ended left cut.each cut.past
 
 -- no row is left after the last end row
 pub cut_closed : (rows : List Row) (ended : List Sequence) → IsCut rows ended [] → joined_rows (sequences_of rows) ≡ rows

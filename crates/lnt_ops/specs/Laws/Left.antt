@@ -82,7 +82,7 @@ each_after h (op ∷ earlier) [] front rest program header p q whole =
     ))
 each_after h (op ∷ earlier) (other ∷ all) front rest program header p q whole =
     let one = peel (op_code h header.numbers) other op program front [] rest q p (append-nil program ∙ whole) in
-    let more = each_after h earlier all p.back rest q.back header p.second q.second (sym (append-nil q.back) ∙ one.behind) in
+    let more = each_after h earlier all p.back rest q.back header p.second q.second (sym (append-nil q.back) ∙ one.past) in
     (more.0, cc (one.value, more.1), more.2)
 
 -- a place stays one, once it is known what the whole program is
@@ -98,6 +98,6 @@ pub left_at : (h : HeaderParts) (program : List ℕ) (earlier later : List Op) (
     → IsPlace h program earlier later place
     → walk.header ≡ h → walk.failed ≡ false → walk.at.rest ≡ drop place program → IsLeft h later walk
 left_at h program earlier later place walk is header going rest =
-    let behind : walk.at.rest ≡ is.rest =
+    let past : walk.at.rest ≡ is.rest =
     rest ∙ ap (λ (n : ℕ). drop n program) is.place_is ∙ ap (drop (length is.front)) is.split ∙ drop-append_seam is.front is.rest in
-    record { header_is = header; going = going; spelled = subst (Each (OpBytes h) later) (sym behind) is.later_spelled }
+    record { header_is = header; going = going; spelled = subst (Each (OpBytes h) later) (sym past) is.later_spelled }

@@ -49,9 +49,9 @@ extended_shape : (h : HeaderParts) (code t : ℕ) (Operand : List ℕ → Type 0
 extended_shape h code t Operand x e p =
     let rest : p.0 ≡ code ∷ p.1.back = p.1.joined ∙ ap (λ (z : List ℕ). z ++ p.1.back) p.1.first in
     let inner = p.2.second in
-    let behind : p.2.back ≡ inner.front ++ (code ∷ p.1.back) = inner.joined ∙ ap (λ (z : List ℕ). inner.front ++ z) (inner.second ∙ rest) in
+    let past : p.2.back ≡ inner.front ++ (code ∷ p.1.back) = inner.joined ∙ ap (λ (z : List ℕ). inner.front ++ z) (inner.second ∙ rest) in
     let whole : x ≡ 0 ∷ (inner.front ++ (code ∷ p.1.back)) = p.2.joined ∙ ap (λ (z : List ℕ). z ++ p.2.back) p.2.first
-    ∙ ap (λ (z : List ℕ). 0 ∷ z) behind in
+    ∙ ap (λ (z : List ℕ). 0 ∷ z) past in
     extended code p.1.back inner.front e (subst (λ (z : List ℕ). UnsignedLeb (length z) inner.front) rest inner.first) whole
 
 -- no standard opcode is 0
@@ -103,7 +103,7 @@ same_shape base t t' x y r s pos (extended code u l tag leb p) (extended code' u
     let all : l ++ ((code ∷ u) ++ r) ≡ l' ++ ((code' ∷ u') ++ s) = sym (append_assoc l (code ∷ u) r) ∙ h.1
     ∙ append_assoc l' (code' ∷ u') s in
     let spelling : l ≡ l' = same_leb l l' ((code ∷ u) ++ r) ((code' ∷ u') ++ s) leb.shape leb'.shape all in
-    let behind : (code ∷ u) ++ r ≡ (code' ∷ u') ++ s = same_rest l l' ((code ∷ u) ++ r) ((code' ∷ u') ++ s) spelling all in
+    let past : (code ∷ u) ++ r ≡ (code' ∷ u') ++ s = same_rest l l' ((code ∷ u) ++ r) ((code' ∷ u') ++ s) spelling all in
     let codes : code ≡ code' = cc in
     omega arith
 
@@ -140,7 +140,7 @@ same_operand : {X : Type 0} {P : X → List ℕ → Type 0} → IsCode P → (ma
     → Standard h j (P m) x → Standard h k (P n) y → x ++ r ≡ y ++ s → (make j m ≡ make k n) × (x ≡ y)
 same_operand code make h j k m n x y r s p q e =
     let opcode = peel byte_code j k x y r s p.1 q.1 e in
-    let operand = code.one m n p.1.back q.1.back r s p.1.second q.1.second opcode.behind in
+    let operand = code.one m n p.1.back q.1.back r s p.1.second q.1.second opcode.past in
     (ap (λ (i : ℕ). make i m) opcode.value ∙ ap (make k) operand.0, same_join x y p.1 q.1 opcode.bytes operand.1)
 
 -- and one without
@@ -158,9 +158,9 @@ same_extended c d x y r s p q e =
     let zero_byte = peel byte_code 0 0 x y r s p.2 q.2 e in
     let p2 = p.2.second in
     let q2 = q.2.second in
-    let size = peel unsigned_code (length p.0) (length q.0) p.2.back q.2.back r s p2 q2 zero_byte.behind in
+    let size = peel unsigned_code (length p.0) (length q.0) p.2.back q.2.back r s p2 q2 zero_byte.past in
     let len : length p2.back ≡ length q2.back = ap length p2.second ∙ size.value ∙ sym (ap length q2.second) in
-    let same : p2.back ≡ q2.back = same_front p2.back q2.back r s len size.behind in
+    let same : p2.back ≡ q2.back = same_front p2.back q2.back r s len size.past in
     (sym p2.second ∙ same ∙ q2.second, same_join x y p.2 q.2 zero_byte.bytes (same_join p.2.back q.2.back p2 q2 size.bytes same))
 
 same_extended_operand : {X : Type 0} {P : X → List ℕ → Type 0} → IsCode P → (make : ℕ → X → Coding) (c d : ℕ) (m n : X)
@@ -169,7 +169,7 @@ same_extended_operand : {X : Type 0} {P : X → List ℕ → Type 0} → IsCode 
 same_extended_operand code make c d m n x y r s p q e =
     let found = same_extended c d x y r s p q e in
     let inner = peel byte_code c d p.0 q.0 [] [] p.1 q.1 (ap (λ (z : List ℕ). z ++ []) found.0) in
-    let operand = code.one m n p.1.back q.1.back [] [] p.1.second q.1.second inner.behind in
+    let operand = code.one m n p.1.back q.1.back [] [] p.1.second q.1.second inner.past in
     (ap (λ (i : ℕ). make i m) inner.value ∙ ap (make d) operand.0, found.1)
 
 same_extended_code : (c d : ℕ) (x y r s : List ℕ) → Extended c (Exactly []) x → Extended d (Exactly []) y → x ++ r ≡ y ++ s
@@ -198,7 +198,7 @@ same_unknown_standard h k l us vs x y r s m n p q e =
     let opcode = peel byte_code k l x y r s p.1 q.1 e in
     let codes : k ≡ l = opcode.value in
     let len : length us ≡ length vs = m ∙ ap (standard_length h) codes ∙ sym n in
-    let all = same_each unsigned_code us vs p.1.back q.1.back r s len p.1.second q.1.second opcode.behind in
+    let all = same_each unsigned_code us vs p.1.back q.1.back r s len p.1.second q.1.second opcode.past in
     (ap (λ (a : ℕ). Coding.unknown_standard a us) codes ∙ ap (Coding.unknown_standard l) all.0, same_join x y p.1 q.1 opcode.bytes all.1)
 
 pub address_width : (size : ℕ) → IsAddressSize size → IsWidth size
@@ -294,9 +294,9 @@ same_whole code some (u ∷ us) [] x y p q e =
     absurd (omega (arith, some u p.front p.first, ap length p.joined, ap length e, ap length q, length-append p.front p.back))
 same_whole code some (u ∷ us) (v ∷ vs) x y p q e =
     let one = peel code u v x y [] [] p q (ap (λ (z : List ℕ). z ++ []) e) in
-    let behind : p.back ≡ q.back = sym (append-nil p.back) ∙ one.behind ∙ append-nil q.back in
+    let past : p.back ≡ q.back = sym (append-nil p.back) ∙ one.past ∙ append-nil q.back in
     let heads : u ≡ v = one.value in
-    let tails : us ≡ vs = same_whole code some us vs p.back q.back p.second q.second behind in
+    let tails : us ≡ vs = same_whole code some us vs p.back q.back p.second q.second past in
     cc
 
 pub same_program : (h : HeaderParts) → HasHeaderNumbers h → (us vs : List Op) (bytes : List ℕ) → Each (OpBytes h) us bytes

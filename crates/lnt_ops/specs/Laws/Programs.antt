@@ -34,7 +34,7 @@ none_filled P [] x rest bytes code p some whole none (v ∷ vs) q =
     none v q.front q.back q.first (sym q.joined ∙ whole ∙ ap (λ (z : List ℕ). z ++ rest) p)
 none_filled P (u ∷ us) x rest bytes code p some whole none (v ∷ vs) q =
     let one = peel code v u bytes x [] rest q p (append-nil bytes ∙ whole) in
-    none_filled P us p.back rest q.back code p.second some (sym (append-nil q.back) ∙ one.behind) none vs q.second
+    none_filled P us p.back rest q.back code p.second some (sym (append-nil q.back) ∙ one.past) none vs q.second
 
 all_more : (h : HeaderParts) (us : List Op) (u : Op) → AllByRecursion (Admits h) us → Admits h u → AllByRecursion (Admits h) (us ++ u ∷ [])
 all_more h [] u all is = (is, tt)

@@ -21,7 +21,7 @@ same_least i j below above =
 -- The records begin with any that are read first.
 read_front : (cfg : Config) (s s1 s2 : State) (xs y1 y2 : List ℕ) (front records : List Fields) → Reached cfg s xs front s1 y1
     → Reached cfg s xs records s2 y2
-    → next_record cfg s2 [] [] y2 ≡ None → (behind : List Fields) × (records ≡ front ++ behind)
+    → next_record cfg s2 [] [] y2 ≡ None → (past : List Fields) × (records ≡ front ++ past)
 unfolding Reached
 read_front cfg s s1 s2 xs y1 y2 [] records h k none = (records, refl)
 read_front cfg s s1 s2 xs y1 y2 (r ∷ front) [] h k none =
@@ -35,25 +35,25 @@ read_front cfg s s1 s2 xs y1 y2 (r ∷ front) (q ∷ records) h k none =
     let first : q ≡ r = k.2 ∙ ap (λ (p : Read). p.0) same ∙ sym h.2 in
     let rest = read_front cfg h.0.1 s1 s2 h.0.2 y1 y2 front records h.3 (subst (λ (p : Read). Reached cfg p.1 p.2 records s2 y2) same k.3)
     none in
-    let behind = rest.1 in
+    let past = rest.1 in
     (rest.0, cc)
 
 pub front_of : (bytes : List ℕ) (front records : List Fields) → BeginsWith bytes front → RecordsOf bytes records
-    → (behind : List Fields) × (records ≡ front ++ behind)
+    → (past : List Fields) × (records ≡ front ++ past)
 front_of bytes front records h k = read_front _ _ _ _ _ _ _ front records h.2 k.2 k.3
 
 pub begins_all : (bytes : List ℕ) (records : List Fields) → RecordsOf bytes records → BeginsWith bytes records
 begins_all bytes records h = (h.0, h.1, h.2)
 
-same_lists : (xs ys behind more : List Fields) → xs ≡ ys ++ behind → ys ≡ xs ++ more → xs ≡ ys
-same_lists [] [] behind more e f = refl
-same_lists [] (y ∷ ys) behind more e f = absurd (cc e)
-same_lists (x ∷ xs) [] behind more e f = absurd (cc f)
-same_lists (x ∷ xs) (y ∷ ys) behind more e f =
+same_lists : (xs ys past more : List Fields) → xs ≡ ys ++ past → ys ≡ xs ++ more → xs ≡ ys
+same_lists [] [] past more e f = refl
+same_lists [] (y ∷ ys) past more e f = absurd (cc e)
+same_lists (x ∷ xs) [] past more e f = absurd (cc f)
+same_lists (x ∷ xs) (y ∷ ys) past more e f =
     let first : x ≡ y = cc in
-    let left : xs ≡ ys ++ behind = cc in
+    let left : xs ≡ ys ++ past = cc in
     let right : ys ≡ xs ++ more = cc in
-    let rest = same_lists xs ys behind more left right in
+    let rest = same_lists xs ys past more left right in
     cc
 
 pub one_list : (bytes : List ℕ) (xs ys : List Fields) → RecordsOf bytes xs → RecordsOf bytes ys → xs ≡ ys
@@ -66,7 +66,7 @@ one_list bytes xs ys h k =
 
 read_both : (cfg : Config) (s s1 s2 : State) (xs y1 y2 : List ℕ) (front records : List Fields) → Reached cfg s xs front s1 y1
     → Reached cfg s xs records s2 y2 → length front ≤ length records
-    → (behind : List Fields) × (records ≡ front ++ behind)
+    → (past : List Fields) × (records ≡ front ++ past)
 unfolding Reached
 read_both cfg s s1 s2 xs y1 y2 [] records h k le = (records, refl)
 read_both cfg s s1 s2 xs y1 y2 (r ∷ front) [] h k le = absurd (omega arith)
@@ -77,30 +77,30 @@ read_both cfg s s1 s2 xs y1 y2 (r ∷ front) (q ∷ records) h k le =
     let first : q ≡ r = k.2 ∙ ap (λ (p : Read). p.0) same ∙ sym h.2 in
     let rest = read_both cfg h.0.1 s1 s2 h.0.2 y1 y2 front records h.3 (subst (λ (p : Read). Reached cfg p.1 p.2 records s2 y2) same k.3)
     (omega arith) in
-    let behind = rest.1 in
+    let past = rest.1 in
     (rest.0, cc)
 
 both_begin : (bytes : List ℕ) (front records : List Fields) → BeginsWith bytes front → BeginsWith bytes records
-    → length front ≤ length records → (behind : List Fields) × (records ≡ front ++ behind)
+    → length front ≤ length records → (past : List Fields) × (records ≡ front ++ past)
 both_begin bytes front records h k le = read_both _ _ _ _ _ _ _ front records h.2 k.2 le
 
 -- The record after the fewer of them is one of the others.
 pub stands_before : (bytes : List ℕ) (xs ys : List Fields) (x y : Fields) → BeginsWith bytes (xs ++ x ∷ [])
-    → BeginsWith bytes (ys ++ y ∷ []) → length xs < length ys → (behind : List Fields) × (ys ≡ (xs ++ x ∷ []) ++ behind)
+    → BeginsWith bytes (ys ++ y ∷ []) → length xs < length ys → (past : List Fields) × (ys ≡ (xs ++ x ∷ []) ++ past)
 stands_before bytes xs ys x y h k lt =
     let le : length (xs ++ x ∷ []) ≤ length (ys ++ y ∷ []) =
     omega (arith, lt, length-append xs (x ∷ []), length-append ys (y ∷ [])) in
     let both = both_begin bytes (xs ++ x ∷ []) (ys ++ y ∷ []) h k le in
     shorter (xs ++ x ∷ []) both.0 ys (y ∷ []) (sym both.1) (omega (arith, lt, length-append xs (x ∷ [])))
   where
-    shorter : (front behind records more : List Fields) → front ++ behind ≡ records ++ more → length front ≤ length records
+    shorter : (front past records more : List Fields) → front ++ past ≡ records ++ more → length front ≤ length records
         → (rest : List Fields) × (records ≡ front ++ rest)
-    shorter [] behind records more e le = (records, refl)
-    shorter (r ∷ front) behind [] more e le = absurd (omega arith)
-    shorter (r ∷ front) behind (q ∷ records) more e le =
+    shorter [] past records more e le = (records, refl)
+    shorter (r ∷ front) past [] more e le = absurd (omega arith)
+    shorter (r ∷ front) past (q ∷ records) more e le =
         let heads : r ≡ q = cc in
-        let tails : front ++ behind ≡ records ++ more = cc in
-        let rest = shorter front behind records more tails (omega arith) in
+        let tails : front ++ past ≡ records ++ more = cc in
+        let rest = shorter front past records more tails (omega arith) in
         let found = rest.1 in
         (rest.0, cc)
 
@@ -113,14 +113,14 @@ one_end bytes xs ys x y h k number =
     let both = both_begin bytes (xs ++ x ∷ []) (ys ++ y ∷ []) h k le in
     same_ends xs ys x y both.0 (both.1 ∙ append_assoc xs (x ∷ []) both.0) number
   where
-    same_ends : (xs ys : List Fields) (x y : Fields) (behind : List Fields) → ys ++ y ∷ [] ≡ xs ++ (x ∷ behind) → length xs ≡ length ys
+    same_ends : (xs ys : List Fields) (x y : Fields) (past : List Fields) → ys ++ y ∷ [] ≡ xs ++ (x ∷ past) → length xs ≡ length ys
         → (xs ≡ ys) × (x ≡ y)
-    same_ends [] [] x y behind e same = let heads : y ≡ x = cc in (refl, sym heads)
-    same_ends [] (b ∷ ys) x y behind e same = absurd (omega arith)
-    same_ends (a ∷ xs) [] x y behind e same = absurd (omega arith)
-    same_ends (a ∷ xs) (b ∷ ys) x y behind e same =
+    same_ends [] [] x y past e same = let heads : y ≡ x = cc in (refl, sym heads)
+    same_ends [] (b ∷ ys) x y past e same = absurd (omega arith)
+    same_ends (a ∷ xs) [] x y past e same = absurd (omega arith)
+    same_ends (a ∷ xs) (b ∷ ys) x y past e same =
         let heads : b ≡ a = cc in
-        let tails : ys ++ y ∷ [] ≡ xs ++ (x ∷ behind) = cc in
-        let rest = same_ends xs ys x y behind tails (omega arith) in
+        let tails : ys ++ y ∷ [] ≡ xs ++ (x ∷ past) = cc in
+        let rest = same_ends xs ys x y past tails (omega arith) in
         let found = rest.0 in
         (cc, rest.1)

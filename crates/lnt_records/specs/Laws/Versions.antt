@@ -10,7 +10,7 @@ use Rattle.lnt_spans.specs.declared.answer.Version.TheVariants.{One, Two}
 use Rattle.lnt_spans.specs.declared.position.Position.{Position}
 use Rattle.lnt_spans.specs.declared.span.Span.{Span}
 use Rattle.lnt_spans.specs.Answers.{in_version}
-use Rattle.lnt_spans.specs.Laws.Answering.{answer_behind, answer_in, first_holds}
+use Rattle.lnt_spans.specs.Laws.Answering.{answer_after, answer_in, first_holds}
 use Rattle.lnt_spans.specs.Laws.Positions.{at_most_itself, at_most_trans, below_is_at_most}
 use Rattle.lnt_spans.specs.Positions.{IsAtMost}
 use Rattle.lnt_spans.specs.Spans.{AreInOrder, is_in_span, span_answer, version_answer}
@@ -56,8 +56,8 @@ each_has version span (next ∷ spans) answers o h same =
     (first_has version span (next ∷ spans) answers o h (same span.low (at_most_itself span.low)))
     (each_has version next spans answers o.2 h
     (λ p k.
-    let behind = at_most_trans o.1 k in
-    sym (answer_behind span (next ∷ spans) p behind) ∙ same p (at_most_trans (below_is_at_most o.0) behind)))
+    let past = at_most_trans o.1 k in
+    sym (answer_after span (next ∷ spans) p past) ∙ same p (at_most_trans (below_is_at_most o.0) past)))
 
 pub answers_of_version : (version : Version) (spans joined : List Span) → AreInOrder joined
     → ((p : Position) → span_answer joined p ≡ version_answer version spans p)

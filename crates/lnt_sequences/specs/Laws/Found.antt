@@ -63,14 +63,14 @@ pub of_filter : {X : Type 0} (test : X → Bool) (xs : List X) (x : X) → Conta
 of_filter test [] x h = h
 of_filter {X} test (y ∷ xs) x h = by_test (test y) h (λ k. of_filter test xs x k)
   where
-    behind : Contains xs x → Contains (y ∷ xs) x
-    behind k = (suc k.0, omega (arith, k.1), k.2)
+    past : Contains xs x → Contains (y ∷ xs) x
+    past k = (suc k.0, omega (arith, k.1), k.2)
 
     by_test : (t : Bool) → Contains (cond t (y ∷ filter test xs) (filter test xs)) x → (Contains (filter test xs) x → Contains xs x)
         → Contains (y ∷ xs) x
-    by_test true k rest = ⊎_elim (λ (here : y ≡ x). (0, omega arith, here)) (λ (later : Contains (filter test xs) x). behind (rest later))
+    by_test true k rest = ⊎_elim (λ (here : y ≡ x). (0, omega arith, here)) (λ (later : Contains (filter test xs) x). past (rest later))
         (head_or_tail y (filter test xs) x k)
-    by_test false k rest = behind (rest k)
+    by_test false k rest = past (rest k)
 
 of_append : {X : Type 0} (xs ys : List X) (x : X) → Contains (xs ++ ys) x → Contains xs x ⊎ Contains ys x
 of_append [] ys x h = inr h

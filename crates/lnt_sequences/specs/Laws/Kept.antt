@@ -182,8 +182,8 @@ rising_sequences dead (unit ∷ units) h =
 
 -- ---- so a copy is found by a look back over the list
 
-not_behind : (a b : SeqId) → stands_before a b ≡ true → stands_before b a ≡ false
-not_behind a b h = grind (arith, nat_tests)
+not_after : (a b : SeqId) → stands_before a b ≡ true → stands_before b a ≡ false
+not_after a b h = grind (arith, nat_tests)
 
 not_itself : (a : SeqId) → stands_before a a ≡ false
 not_itself a = grind (arith, nat_tests)
@@ -198,9 +198,9 @@ pairs_before R (s ∷ seen) x xs h =
     All-cons (λ e. R e x) s seen (All-contains (R s) (seen ++ x ∷ xs) x (pairs_head R s (seen ++ x ∷ xs) h) (middle seen x xs))
     (pairs_before R seen x xs (pairs_tail R s (seen ++ x ∷ xs) h))
 
-pairs_behind : {X : Type 0} (R : X → X → Type 0) (seen : List X) (x : X) (xs : List X) → AllPairs R (seen ++ x ∷ xs) → All (R x) xs
-pairs_behind R [] x xs h = pairs_head R x xs h
-pairs_behind R (s ∷ seen) x xs h = pairs_behind R seen x xs (pairs_tail R s (seen ++ x ∷ xs) h)
+pairs_after : {X : Type 0} (R : X → X → Type 0) (seen : List X) (x : X) (xs : List X) → AllPairs R (seen ++ x ∷ xs) → All (R x) xs
+pairs_after R [] x xs h = pairs_head R x xs h
+pairs_after R (s ∷ seen) x xs h = pairs_after R seen x xs (pairs_tail R s (seen ++ x ∷ xs) h)
 
 any_before : (placed : Placed) (seen : List Placed) → All (λ (e : Placed). IsBefore e placed) seen
     → list_any (makes_copy placed) seen ≡ list_any (λ (e : Placed). hold_alike placed.rows e.rows) seen
@@ -218,12 +218,12 @@ pub copy_by_look_back : (seen : List Placed) (placed : Placed) (rest : List Plac
     → is_copy (seen ++ placed ∷ rest) placed ≡ list_any (λ (e : Placed). hold_alike placed.rows e.rows) seen
 copy_by_look_back seen placed rest order =
     let Makes : Placed → Type 0 = λ e. makes_copy placed e ≡ false in
-    let behind : All Makes rest =
-    All-weaker (IsBefore placed) Makes (λ e b. ap (λ (t : Bool). t && hold_alike placed.rows e.rows) (not_behind placed.id e.id b)) rest
-    (pairs_behind IsBefore seen placed rest order) in
+    let past : All Makes rest =
+    All-weaker (IsBefore placed) Makes (λ e b. ap (λ (t : Bool). t && hold_alike placed.rows e.rows) (not_after placed.id e.id b)) rest
+    (pairs_after IsBefore seen placed rest order) in
     let itself : Makes placed = ap (λ (t : Bool). t && hold_alike placed.rows placed.rows) (not_itself placed.id) in
     list_any-append (makes_copy placed) seen (placed ∷ rest)
     ∙ ap (λ (t : Bool). list_any (makes_copy placed) seen || t)
-    (list_any_none (makes_copy placed) (placed ∷ rest) (All-cons Makes placed rest itself behind))
+    (list_any_none (makes_copy placed) (placed ∷ rest) (All-cons Makes placed rest itself past))
     ∙ or_false (list_any (makes_copy placed) seen)
     ∙ any_before placed seen (pairs_before IsBefore seen placed rest order)

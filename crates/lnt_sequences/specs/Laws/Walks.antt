@@ -15,7 +15,7 @@ use Rattle.lnt_sequences.specs.declared.watch.Current.{Current}
 use Rattle.lnt_sequences.specs.Extents.{extent_between, extent_of, extent_of_rows}
 use Rattle.lnt_sequences.specs.Sequences.{are_live, begins_live, is_live, last_row, Placed, position_of}
 use Rattle.lnt_sequences.specs.Watching.{closed, current_of, extent_from, extent_shown, first_shown, grown, is_in_live}
-use Rattle.lnt_sequences.specs.Watching.{last_behind, longer, next, shown, Walk, walked}
+use Rattle.lnt_sequences.specs.Watching.{last_after, longer, next, shown, Walk, walked}
 
 -- ---- more rows
 
@@ -70,13 +70,13 @@ walked-rows walk (row ∷ rows) =
 
 -- ---- the last row
 
-pub last_row_is : (row : Row) (rows : List Row) → last_row (row ∷ rows) ≡ Some (last_behind row rows)
+pub last_row_is : (row : Row) (rows : List Row) → last_row (row ∷ rows) ≡ Some (last_after row rows)
 last_row_is row [] = refl
 last_row_is row (next ∷ rows) = last_row_is next rows
 
-pub last_behind-push : (row : Row) (rows : List Row) (more : Row) → last_behind row (rows ++ more ∷ []) ≡ more
-last_behind-push row [] more = refl
-last_behind-push row (next ∷ rows) more = last_behind-push next rows more
+pub last_after-push : (row : Row) (rows : List Row) (more : Row) → last_after row (rows ++ more ∷ []) ≡ more
+last_after-push row [] more = refl
+last_after-push row (next ∷ rows) more = last_after-push next rows more
 
 -- ---- the rows of a sequence
 
@@ -142,20 +142,20 @@ extents_last dead unit index (first ∷ rest) row e =
     ap (λ (t : Bool). cond (begins_live dead first)
     (cond t (extent_between (record { unit = unit; index = index }) (position_of first) (position_of row)) []) []) e
     ∙ ap (λ (o : Option Row). cond (begins_live dead first) (extent_of_rows (record { unit = unit; index = index }) (Some first) o) [])
-    (sym (last_row_is first (rest ++ row ∷ []) ∙ ap Some (last_behind-push first rest row)))
+    (sym (last_row_is first (rest ++ row ∷ []) ∙ ap Some (last_after-push first rest row)))
 
 pub extents_ended : (dead : Option ℕ) (unit : ℕ) (walk : Walk) (s : Sequence) → IsEnded s → walk.begun ≡ []
     → shown (extent_shown dead unit) walk s.rows ≡ live_extent dead unit walk.ended s.rows
 extents_ended dead unit walk s e none =
-    let behind = walked walk e.body in
+    let past = walked walk e.body in
     let there = walked_open walk e.body e.body_open in
-    let begun : behind.begun ≡ e.body = ap (λ (w : Walk). w.begun) there ∙ ap (λ (rows : List Row). rows ++ e.body) none in
-    let ended : behind.ended ≡ walk.ended = ap (λ (w : Walk). w.ended) there in
+    let begun : past.begun ≡ e.body = ap (λ (w : Walk). w.begun) there ∙ ap (λ (rows : List Row). rows ++ e.body) none in
+    let ended : past.ended ≡ walk.ended = ap (λ (w : Walk). w.ended) there in
     ap (shown (extent_shown dead unit) walk) e.rows_are
     ∙ shown-push (extent_shown dead unit) walk e.body e.last
-    ∙ ap (λ (extents : List Extent). extents ++ extent_shown dead unit behind e.last) (extents_open dead unit walk e.body e.body_open)
-    ∙ extents_last dead unit behind.ended behind.begun e.last e.ends
-    ∙ ap (λ (index : ℕ). live_extent dead unit index (behind.begun ++ e.last ∷ [])) ended
+    ∙ ap (λ (extents : List Extent). extents ++ extent_shown dead unit past e.last) (extents_open dead unit walk e.body e.body_open)
+    ∙ extents_last dead unit past.ended past.begun e.last e.ends
+    ∙ ap (λ (index : ℕ). live_extent dead unit index (past.begun ++ e.last ∷ [])) ended
     ∙ ap (λ (rows : List Row). live_extent dead unit walk.ended (rows ++ e.last ∷ [])) begun
     ∙ ap (live_extent dead unit walk.ended) (sym e.rows_are)
 

@@ -21,8 +21,8 @@ false-and : (a : Bool) → (a && false) ≡ false
 false-and true = refl
 false-and false = refl
 
-pub answer_behind : (s : Span) (rest : List Span) (p : Position) → IsAtMost s.high p → span_answer (s ∷ rest) p ≡ span_answer rest p
-answer_behind s rest p h = rw (test_not_below p s.high h, false-and) refl
+pub answer_after : (s : Span) (rest : List Span) (p : Position) → IsAtMost s.high p → span_answer (s ∷ rest) p ≡ span_answer rest p
+answer_after s rest p h = rw (test_not_below p s.high h, false-and) refl
 
 -- one more span in front of lists that agree
 pub answer_same : (s : Span) (xs ys : List Span) (p : Position) → span_answer xs p ≡ span_answer ys p
@@ -31,7 +31,7 @@ answer_same s xs ys p e = elim (order_cases p s.low) [
   | inl h ↦ answer_before s xs p h ∙ e ∙ sym (answer_before s ys p h)
   | inr h ↦ elim (order_cases p s.high) [
     | inl k ↦ answer_in s xs p h k ∙ sym (answer_in s ys p h k)
-    | inr k ↦ answer_behind s xs p k ∙ e ∙ sym (answer_behind s ys p k)
+    | inr k ↦ answer_after s xs p k ∙ e ∙ sym (answer_after s ys p k)
   ]
 ]
 

@@ -19,7 +19,7 @@ pub record IsBracket (spans : List Span) (p : Position) (low high : ℕ) : Type 
   pub upto : low ≤ high
   pub within : high ≤ length spans
   pub before : (k : ℕ) (d : Span) → k < low → IsAtMost (get_or spans k d).high p
-  pub behind : (k : ℕ) (d : Span) → high ≤ k → k < length spans → IsBelow p (get_or spans k d).low
+  pub past : (k : ℕ) (d : Span) → high ≤ k → k < length spans → IsBelow p (get_or spans k d).low
 
 pub bracket_below : (spans : List Span) (p : Position) (low high middle : ℕ) → AreInOrder spans → IsBracket spans p low high → low ≤ middle
     → middle < high
@@ -33,7 +33,7 @@ bracket_below spans p low high middle o b h k e here =
       upto = h;
       within = omega arith;
       before = b.before;
-      behind = λ i d le l.
+      past = λ i d le l.
           ⊎_elim
           (λ (e : middle ≡ i). subst (λ (m : ℕ). IsBelow p (get_or spans m d).low) e (side d))
           (λ (ne : middle ≡ i → ⊥).
@@ -53,7 +53,7 @@ bracket_above spans p low high middle o b h k e here =
     record {
       upto = omega arith;
       within = b.within;
-      behind = b.behind;
+      past = b.past;
       before = λ i d lt.
           ⊎_elim
           (λ (e : middle ≡ i). subst (λ (m : ℕ). IsAtMost (get_or spans m d).high p) e (side d))
@@ -90,6 +90,6 @@ found_nowhere spans p low high b h =
     (λ i.
     ⊎_elim
     (λ (lt : k < low). not_both i.below (b.before k d lt))
-    (λ (le : low ≤ k). not_both (b.behind k d (omega arith) l) i.from)
+    (λ (le : low ≤ k). not_both (b.past k d (omega arith) l) i.from)
     (cases_lt k low))) in
     sym (ap (λ (q : Option Span). option_map (λ (s : Span). s.answer) q) none)

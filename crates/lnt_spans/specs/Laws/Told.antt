@@ -6,7 +6,7 @@ use Rattle.lnt_spans.specs.declared.position.Position.{Position}
 use Rattle.lnt_spans.specs.declared.span.Span.{Span}
 use Rattle.lnt_spans.specs.Answers.{in_version}
 use Rattle.lnt_spans.specs.Spans.{AreInOrder, span_answer, span_in_version, version_answer}
-use Rattle.lnt_spans.specs.Laws.Answering.{answer_before, answer_behind, answer_in}
+use Rattle.lnt_spans.specs.Laws.Answering.{answer_before, answer_after, answer_in}
 use Rattle.lnt_spans.specs.Laws.Positions.{order_cases}
 
 abbrev pub told : Version → List Span → List Span
@@ -28,7 +28,7 @@ told_answer version (s ∷ spans) p = elim (order_cases p s.low) [
     | inl under ↦ answer_in (span_in_version version s) (told version spans) p from under
         ∙ sym (ap (option_map (in_version version)) (answer_in s spans p from under))
     | inr over ↦
-        answer_behind (span_in_version version s) (told version spans) p over ∙ told_answer version spans p
-        ∙ sym (ap (option_map (in_version version)) (answer_behind s spans p over))
+        answer_after (span_in_version version s) (told version spans) p over ∙ told_answer version spans p
+        ∙ sym (ap (option_map (in_version version)) (answer_after s spans p over))
   ]
 ]

@@ -49,9 +49,9 @@ converted_none order section format to at rest place ordered =
     record { units = []; front = []; whole = sym rest; sound = refl; place_is = place; order_is = ordered; put = refl }
 
 -- added after other bytes
-behind : {X : Type 0} (P : X → List ℕ → Type 0) (x : X) (done old new : List ℕ) → Appends P x old new
+past : {X : Type 0} (P : X → List ℕ → Type 0) (x : X) (done old new : List ℕ) → Appends P x old new
     → Appends P x (done ++ old) (done ++ new)
-behind P x done old new p = record {
+past P x done old new p = record {
   spelling = p.spelling;
   spelled = p.spelled;
   joined = ap (λ (z : List ℕ). done ++ z) p.joined
@@ -73,7 +73,7 @@ converted_more order section format to done at next old new p c =
       place_is = omega (arith, r.place, p.place_is, length-append p.front r.spelling);
       order_is = r.order ∙ p.order_is;
       put = units_more format to p.units unit (done ++ old) (done ++ new) p.put
-          (behind (UnitBytesIn to) (unit_in_format c.unit format to) done old new c.put);
+          (past (UnitBytesIn to) (unit_in_format c.unit format to) done old new c.put);
     }
 
 -- each unit shortens the rest

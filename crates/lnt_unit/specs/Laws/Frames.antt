@@ -116,7 +116,7 @@ header_frame order h program x p =
     record {
       fits = whole.fits;
       version = record {
-        behind = start ++ (number ++ (whole.fields ++ program));
+        past = start ++ (number ++ (whole.fields ++ program));
         joined = regroup (version_five h.order) start number whole.fields program
             ∙ ap (λ (o : Order). version_five o ++ (start ++ (number ++ (whole.fields ++ program)))) p.order_is;
       };

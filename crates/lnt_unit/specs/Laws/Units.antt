@@ -112,33 +112,33 @@ same_units order offset (u ∷ us) (v ∷ vs) x p q =
     let all : p.0 ++ p.1 ≡ q.0 ++ q.1 = sym p.4 ∙ q.4 in
     let one = same_unit order u.1 v.1 p.0 q.0 p.1 q.1 p.3 q.3 all in
     let heads : u ≡ v = same_place u v (p.2 ∙ sym q.2) one.0 in
-    let behind : p.1 ≡ q.1 = same_rest p.0 q.0 p.1 q.1 one.1 all in
+    let past : p.1 ≡ q.1 = same_rest p.0 q.0 p.1 q.1 one.1 all in
     let later : UnitsFrom order (offset + length p.0) vs p.1 =
     subst (λ (z : List ℕ). UnitsFrom order (offset + length z) vs p.1) (sym one.1)
-    (subst (λ (z : List ℕ). UnitsFrom order (offset + length q.0) vs z) (sym behind) q.5) in
+    (subst (λ (z : List ℕ). UnitsFrom order (offset + length q.0) vs z) (sym past) q.5) in
     let tails : us ≡ vs = same_units order (offset + length p.0) us vs p.1 p.5 later in
     cc (heads, tails)
 
 -- no other list goes past the units that stand before bytes that no unit begins
-none_behind : (order : Order) (k l : ℕ) (units others : List (ℕ × Parts)) (front rest whole : List ℕ) → UnitsFrom order k units front
+none_past : (order : Order) (k l : ℕ) (units others : List (ℕ × Parts)) (front rest whole : List ℕ) → UnitsFrom order k units front
     → UnitsFrom order l others whole
     → whole ≡ front ++ rest → NoneSpelled (UnitBytesIn order) rest → 0 < length rest → ⊥
-none_behind order k l [] [] front rest whole p q e none some =
+none_past order k l [] [] front rest whole p q e none some =
     omega (arith, ap length p, ap length q, ap length e, length-append front rest)
-none_behind order k l [] (u ∷ us) front rest whole p q e none some =
+none_past order k l [] (u ∷ us) front rest whole p q e none some =
     none u.1 q.0 q.1 q.3 (sym q.4 ∙ e ∙ ap (λ (z : List ℕ). z ++ rest) p)
-none_behind order k l (v ∷ vs) [] front rest whole p q e none some =
+none_past order k l (v ∷ vs) [] front rest whole p q e none some =
     omega (arith, unit_is_some order v.1 p.0 p.3, ap length p.4, length-append p.0 p.1, ap length q, ap length e, length-append front rest)
-none_behind order k l (v ∷ vs) (u ∷ us) front rest whole p q e none some =
+none_past order k l (v ∷ vs) (u ∷ us) front rest whole p q e none some =
     let all : q.0 ++ q.1 ≡ p.0 ++ (p.1 ++ rest) = sym q.4 ∙ e ∙ ap (λ (z : List ℕ). z ++ rest) p.4 ∙ append_assoc p.0 p.1 rest in
     let same = same_unit order u.1 v.1 q.0 p.0 q.1 (p.1 ++ rest) q.3 p.3 all in
-    let behind : q.1 ≡ p.1 ++ rest = same_rest q.0 p.0 q.1 (p.1 ++ rest) same.1 all in
-    none_behind order (k + length p.0) (l + length q.0) vs us p.1 rest q.1 p.5 q.5 behind none some
+    let past : q.1 ≡ p.1 ++ rest = same_rest q.0 p.0 q.1 (p.1 ++ rest) same.1 all in
+    none_past order (k + length p.0) (l + length q.0) vs us p.1 rest q.1 p.5 q.5 past none some
 
 pub no_section : (order : Order) (fault : Fault) (section : List ℕ) → IsTrueFault order fault section → (units : List (ℕ × Parts))
     → SectionBytes order units section → ⊥
 no_section order fault section t units q =
-    none_behind order 0 0 t.units units t.front t.rest section t.sound q t.split t.broken.broken.none t.some
+    none_past order 0 0 t.units units t.front t.rest section t.sound q t.split t.broken.broken.none t.some
 
 pub one_section : OneSection
 one_section = record {

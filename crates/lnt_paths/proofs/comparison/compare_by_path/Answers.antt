@@ -1,7 +1,7 @@
 use Rattle.std.proofs.lemmas.Result.{IfOk-weaker}
 use Rattle.lnt_paths.specs.PathAnswers.{path_answer}
 use Rattle.lnt_paths.proofs.ComparisonLemmas.{judges_none}
-use Rattle.lnt_paths.proofs.PassingLemmas.{behind_slice}
+use Rattle.lnt_paths.proofs.PassingLemmas.{after_slice}
 use Rattle.lnt_paths.proofs.comparison.compare_by_path.Goals as goal
 
 pub returns-in_default : goal.returns-in_default
@@ -10,10 +10,10 @@ returns-in_default g c list come order = rw c.in_default.is at c.in_ok-version.e
 pub returns : goal.returns
 returns g c =
     let passed = c.in-Ok-pass_lines.ensures.passed in
-    IfOk-weaker c.compare_behind.result _ _
+    IfOk-weaker c.compare_after.result _ _
     (λ compared is list come order. is c.args.table.now passed.0 list
-    (behind_slice c.args.table.now c.in-Ok-pass_lines.at passed.0 passed.1)
+    (after_slice c.args.table.now c.in-Ok-pass_lines.at passed.0 passed.1)
     (passed.2.judged list
     (judges_none g.S.SpanSource.to_come (path_answer c.in-Some.version (g.P.Paths.bytes_of c.args.paths.now)) c.in-Some.version
     c.in-Ok.comparison list (c.in-Ok.ensures.left list come) order c.in-Ok.ensures.none)))
-    c.compare_behind.ensures
+    c.compare_after.ensures

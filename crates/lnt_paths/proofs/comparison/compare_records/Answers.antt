@@ -29,12 +29,12 @@ take_record-requires-clause-few g c =
     omega (arith, read.few, inv.3, length-append inv.0 (fields_of c.read_next.new.row ∷ []), known.3)
 
 pub returns-in-Some : goal.returns-in-Some
-returns-in-Some g c text bytes first records list read behind j =
+returns-in-Some g c text bytes first records list read past j =
     let inv = c.loop-comparison.invariant in
     let now = rw c.if-branch.true at c.in_ok-read_next.ensures.read text (first ∷ inv.0) (inv.1 text first read) in
     let stops = rw c.in-Some.is at c.in-Ok.ensures.judged list (records ++ inv.0) (inv.4 list records j) in
     fault_told bytes c.args.version (records ++ inv.0) (fields_of c.read_next.new.row) stops.0 c.in-Some.fault
-    (begins_more c.read_next.new.reader bytes text records inv.0 first (fields_of c.read_next.new.row) behind now) stops.1 stops.2
+    (begins_more c.read_next.new.reader bytes text records inv.0 first (fields_of c.read_next.new.row) past now) stops.1 stops.2
 
 pub loop-comparison-preserved : goal.loop-comparison-preserved
 loop-comparison-preserved g c =
@@ -54,21 +54,21 @@ loop-comparison-preserved g c =
     )
 
 pub returns-in-Ok-Some : goal.returns-in-Ok-Some
-returns-in-Ok-Some g c text bytes first records list read behind judged =
+returns-in-Ok-Some g c text bytes first records list read past judged =
     let inv = c.loop-comparison.invariant in
     let rest = rw c.if-branch.false at c.in_ok-read_next.ensures.read text (first ∷ inv.0) (inv.1 text first read) in
     let j = inv.4 list records judged in
     difference_told g.S.SpanSource.to_come (λ version. path_answer version (g.P.Paths.bytes_of c.args.paths.now)) c.args.version
     c.loop-comparison.comparison
-    bytes list (records ++ inv.0) c.in-Ok-Some.difference j (all_on bytes text records inv.0 first behind rest)
+    bytes list (records ++ inv.0) c.in-Ok-Some.difference j (all_on bytes text records inv.0 first past rest)
     (rw c.in-Ok-Some.field-0-is at c.in-Ok-Some.ensures list j.table j.merged)
 
 pub returns-in-Ok-None : goal.returns-in-Ok-None
-returns-in-Ok-None g c text bytes first records list read behind judged =
+returns-in-Ok-None g c text bytes first records list read past judged =
     let inv = c.loop-comparison.invariant in
     let rest = rw c.if-branch.false at c.in_ok-read_next.ensures.read text (first ∷ inv.0) (inv.1 text first read) in
     let j = inv.4 list records judged in
     same_told g.S.SpanSource.to_come (λ version. path_answer version (g.P.Paths.bytes_of c.args.paths.now)) c.args.version
     c.loop-comparison.comparison
-    bytes list (records ++ inv.0) j (all_on bytes text records inv.0 first behind rest)
+    bytes list (records ++ inv.0) j (all_on bytes text records inv.0 first past rest)
     (rw c.in-Ok-None.field-0-is at c.in-Ok-None.ensures list j.table j.merged)

@@ -4,7 +4,7 @@ use Rattle.lnt_spans.specs.Positions.{IsAtMost}
 use Rattle.lnt_spans.specs.Laws.Positions.{at_most_itself, below_is_at_most}
 use Rattle.lnt_paths.specs.PathAnswers.{path_answer}
 use Rattle.lnt_paths.specs.Reading.{whole}
-use Rattle.lnt_paths.proofs.MergingLemmas.{apart_before, apart_gap, apart_other, begun, low_behind, low_high, passed_whole, passed_within}
+use Rattle.lnt_paths.proofs.MergingLemmas.{apart_before, apart_gap, apart_other, begun, low_after, low_high, passed_whole, passed_within}
 use Rattle.lnt_paths.proofs.merge.first_apart.Goals as goal
 
 pub returns-in-Some-clause-apart : goal.returns-in-Some-clause-apart
@@ -61,7 +61,7 @@ loop-alloc-preserved g c =
       inv.2,
       λ list left order.
           let now = inv.3 list left order in (
-            low_behind g.S.SpanSource.to_come (path_answer c.args.version (g.P.Paths.bytes_of c.args.paths.now)) list c.args.said.now
+            low_after g.S.SpanSource.to_come (path_answer c.args.version (g.P.Paths.bytes_of c.args.paths.now)) list c.args.said.now
                 c.loop-alloc.at _ _ c.in-Some-next.span
                 c.in-Some-next.is now.0 now.1,
             passed_whole g.S.SpanSource.to_come (path_answer c.args.version (g.P.Paths.bytes_of c.args.paths.now)) list c.args.said.now

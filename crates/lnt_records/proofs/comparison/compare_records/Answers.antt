@@ -3,11 +3,11 @@ use Rattle.std.proofs.lemmas.Result.{IfOk-weaker}
 use Rattle.lnt_records.proofs.ComparisonLemmas.{judges_header}
 use Rattle.lnt_records.proofs.comparison.compare_records.Goals as goal
 
-pub compare_behind-requires-clause-begins : goal.compare_behind-requires-clause-begins
-compare_behind-requires-clause-begins g c = rw c.in-Some.is at c.in_ok-version.ensures
+pub compare_after-requires-clause-begins : goal.compare_after-requires-clause-begins
+compare_after-requires-clause-begins g c = rw c.in-Some.is at c.in_ok-version.ensures
 
-pub compare_behind-requires-clause-judged : goal.compare_behind-requires-clause-judged
-compare_behind-requires-clause-judged g c =
+pub compare_after-requires-clause-judged : goal.compare_after-requires-clause-judged
+compare_after-requires-clause-judged g c =
     let known = c.requires in (
       known.0,
       [],
@@ -20,9 +20,9 @@ returns-in_default g c list coming order = rw c.in_default.is at c.in_ok-version
 
 pub returns : goal.returns
 returns g c =
-    IfOk-weaker c.compare_behind.result _ _
+    IfOk-weaker c.compare_after.result _ _
     (λ compared h list coming order.
     h list list [] c.args.table.now
     (judges_header g.S.SpanSource.to_come (record { merge = c.new.result; version = c.in-Some.version; count = 1 }) list refl
     c.new.ensures.version (c.new.ensures.compares list coming order)) (λ more after rest r. r) (λ p. refl))
-    c.compare_behind.ensures
+    c.compare_after.ensures

@@ -1,8 +1,8 @@
 use Rattle.std.proofs.Common.{◌∷◌, ◌++◌, refl}
 use Rattle.csv.specs.Records.{fields_of}
 use Rattle.lnt_records.specs.Table.{column_names}
-use Rattle.lnt_records.proofs.ComparisonLemmas.{AnswersSo, all_behind, compared_few, compared_more, compared_none, difference_told}
-use Rattle.lnt_records.proofs.ComparisonLemmas.{fault_behind, same_told}
+use Rattle.lnt_records.proofs.ComparisonLemmas.{AnswersSo, all_after, compared_few, compared_more, compared_none, difference_told}
+use Rattle.lnt_records.proofs.ComparisonLemmas.{fault_after, same_told}
 use Rattle.lnt_records.proofs.comparison.compare_rest.Goals as goal
 
 pub loop-comparison-init : goal.loop-comparison-init
@@ -32,7 +32,7 @@ returns-in-Some g c text list section passed bytes first j cut same =
     let h = c.loop-comparison.invariant text first in
     let read = rw c.if-branch.true at c.in_ok-read_next.ensures.read text (column_names version ∷ h.more) h.read in
     let stops = c.in-Some.ensures.judged list (column_names version ∷ (passed ++ h.more)) (h.judged list passed j) in
-    fault_behind g.S.SpanSource.to_come c.loop-comparison.reader c.read_next.new.reader text bytes version _ c.loop-comparison.comparison
+    fault_after g.S.SpanSource.to_come c.loop-comparison.reader c.read_next.new.reader text bytes version _ c.loop-comparison.comparison
     (fields_of c.read_next.new.row) passed stops.0 c.in-Some.fault h read cut stops.1 stops.2
 
 pub loop-comparison-preserved : goal.loop-comparison-preserved
@@ -48,7 +48,7 @@ returns-in-Some-finish g c text list section passed bytes first j cut same =
     let version = c.args.comparison.version in
     let h = c.loop-comparison.invariant text first in
     let rest = rw c.if-branch.false at c.in_ok-read_next.ensures.read text (column_names version ∷ h.more) h.read in
-    let all = all_behind text bytes version passed h.more cut rest in
+    let all = all_after text bytes version passed h.more cut rest in
     let now = h.judged list passed j in
     let so : AnswersSo c.loop-comparison.comparison.version list section = rw h.version_is same in
     difference_told g.S.SpanSource.to_come bytes c.loop-comparison.comparison list section _ c.in-Some-finish.difference now all so
@@ -59,7 +59,7 @@ returns-in-None g c text list section passed bytes first j cut same =
     let version = c.args.comparison.version in
     let h = c.loop-comparison.invariant text first in
     let rest = rw c.if-branch.false at c.in_ok-read_next.ensures.read text (column_names version ∷ h.more) h.read in
-    let all = all_behind text bytes version passed h.more cut rest in
+    let all = all_after text bytes version passed h.more cut rest in
     let now = h.judged list passed j in
     let so : AnswersSo c.loop-comparison.comparison.version list section = rw h.version_is same in
     same_told g.S.SpanSource.to_come bytes c.loop-comparison.comparison list section _ now all so

@@ -1,7 +1,7 @@
 use Rattle.std.proofs.Common.{◌∷◌, ◌++◌, refl}
 use Rattle.csv.specs.Records.{fields_of}
 use Rattle.lnt_records.specs.Table.{column_names}
-use Rattle.lnt_records.proofs.ComparisonLemmas.{compared_few, fault_behind}
+use Rattle.lnt_records.proofs.ComparisonLemmas.{compared_few, fault_after}
 use Rattle.lnt_records.proofs.GatherLemmas.{gathered_all, gathered_more, gathered_none}
 use Rattle.lnt_records.proofs.gather.gather_rest.Goals as goal
 
@@ -44,7 +44,7 @@ returns-in-Err g c text list passed bytes first j cut =
     let h = (c.loop-spans.invariant text first).compared in
     let read = rw c.if-branch.true at c.in_ok-read_next.ensures.read text (column_names version ∷ h.more) h.read in
     let stops = c.in-Err.ensures.faulty list (column_names version ∷ (passed ++ h.more)) (h.judged list passed j) in
-    fault_behind g.S.SpanSource.to_come c.loop-spans.reader c.read_next.new.reader text bytes version _ c.loop-spans.comparison
+    fault_after g.S.SpanSource.to_come c.loop-spans.reader c.read_next.new.reader text bytes version _ c.loop-spans.comparison
     (fields_of c.read_next.new.row) passed stops.0 c.in-Err.fault h read cut stops.1 stops.2
 
 pub returns : goal.returns

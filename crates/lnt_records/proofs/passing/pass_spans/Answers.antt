@@ -47,7 +47,7 @@ returns-then-not-pass_line-clause-ok g c =
     let pushes : Pushes g.S.SpanSource.to_come old new c.args.version span one c.loop-span.joiner.last c.push.new.self.last =
     record { gives = c.in-Some.ensures.gives; joined = joined } in
     let same = rw c.if-not-pass_line.true at c.pass_line.ensures in
-    rw c.behind-spans.ensures
+    rw c.past-spans.ensures
     rw c.finish.ensures.last
     (leaves_off_at g.S.SpanSource.to_come c.args.spans old new c.args.version c.loop-span.joiner.last c.push.new.self.last one _ _ _ _ _ _
     c.args.window.now c.loop-span.window c.fill.new.self c.pass_line.new.window

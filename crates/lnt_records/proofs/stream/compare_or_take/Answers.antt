@@ -3,7 +3,7 @@ use Rattle.lnt_records.specs.Passing.{Ends, Passes}
 use Rattle.lnt_records.specs.Table.{column_names}
 use Rattle.lnt_records.specs.Written.{line_text}
 use Rattle.lnt_records.proofs.PassingLemmas.{longer_from_start, passes_both}
-use Rattle.lnt_records.proofs.StreamLemmas.{begun, few_all, few_lines, judges_passed, passed_behind, rest_begins, whole_told}
+use Rattle.lnt_records.proofs.StreamLemmas.{begun, few_all, few_lines, judges_passed, passed_after, rest_begins, whole_told}
 use Rattle.lnt_records.proofs.stream.compare_or_take.Goals as goal
 
 pub push_lines-requires-clause-few : goal.push_lines-requires-clause-few
@@ -29,16 +29,16 @@ returns-in_err-text-2-clause-more g c e =
     let first = passes_both _ _ _ _ _ _ [] c.pass_header.new.window c.pass_spans.new.window (line_text (column_names version)) spans.0 begun
     spans.1 in
     let lines = c.in_ok-push_lines.ensures.ok in
-    let behind : List ℕ = c.push_lines.new.window in
+    let past : List ℕ = c.push_lines.new.window in
     let both =
-    passes_both _ _ _ _ _ _ [] c.pass_spans.new.window behind (line_text (column_names version) ++ spans.0) lines.0 first lines.1 in
+    passes_both _ _ _ _ _ _ [] c.pass_spans.new.window past (line_text (column_names version) ++ spans.0) lines.0 first lines.1 in
     let taken = subst (λ (t : List ℕ). Passes (g.T.Source.remaining c.args.table.now) (g.T.Source.remaining c.push_lines.new.source)
-    (g.T.Source.left c.args.table.now) (g.T.Source.left c.push_lines.new.source) [] behind t)
+    (g.T.Source.left c.args.table.now) (g.T.Source.left c.push_lines.new.source) [] past t)
     (append_assoc (line_text (column_names version)) spans.0 lines.0) both in
     longer_from_start _ _ _ _ _ _ _ taken (grind (arith, c.in_err-text-2.ensures.more, c.from_residual-in_err-text-2.ensures, e))
 
-pub compare_behind-requires-clause-begins : goal.compare_behind-requires-clause-begins
-compare_behind-requires-clause-begins g c =
+pub compare_after-requires-clause-begins : goal.compare_after-requires-clause-begins
+compare_after-requires-clause-begins g c =
     let version = c.in-Some.version in
     let begun = begun version _ _ _ _ c.new-window.result c.fill.new.self c.pass_header.new.window c.new-window.ensures
     c.in_ok-fill.ensures.taken c.in-Some.ensures in
@@ -46,18 +46,18 @@ compare_behind-requires-clause-begins g c =
     let first = passes_both _ _ _ _ _ _ [] c.pass_header.new.window c.pass_spans.new.window (line_text (column_names version)) spans.0 begun
     spans.1 in
     let lines = c.in_ok-push_lines.ensures.ok in
-    let behind : List ℕ = c.push_lines.new.window in
+    let past : List ℕ = c.push_lines.new.window in
     let both =
-    passes_both _ _ _ _ _ _ [] c.pass_spans.new.window behind (line_text (column_names version) ++ spans.0) lines.0 first lines.1 in
+    passes_both _ _ _ _ _ _ [] c.pass_spans.new.window past (line_text (column_names version) ++ spans.0) lines.0 first lines.1 in
     let taken = subst (λ (t : List ℕ). Passes (g.T.Source.remaining c.args.table.now) (g.T.Source.remaining c.push_lines.new.source)
-    (g.T.Source.left c.args.table.now) (g.T.Source.left c.push_lines.new.source) [] behind t)
+    (g.T.Source.left c.args.table.now) (g.T.Source.left c.push_lines.new.source) [] past t)
     (append_assoc (line_text (column_names version)) spans.0 lines.0) both in
     let ends : Ends (g.T.Source.remaining c.push_lines.new.source) (g.T.Source.left c.push_lines.new.source)
-    (c.header_line.result.now ++ behind) c.deref.result.now = rw (← c.deref.ensures.value) at c.in_ok-text-2.ensures.ok in
-    rest_begins version _ _ c.header_line.result.now behind c.deref.result.now c.header_line.ensures ends
+    (c.header_line.result.now ++ past) c.deref.result.now = rw (← c.deref.ensures.value) at c.in_ok-text-2.ensures.ok in
+    rest_begins version _ _ c.header_line.result.now past c.deref.result.now c.header_line.ensures ends
 
-pub compare_behind-requires-clause-few : goal.compare_behind-requires-clause-few
-compare_behind-requires-clause-few g c =
+pub compare_after-requires-clause-few : goal.compare_after-requires-clause-few
+compare_after-requires-clause-few g c =
     let version = c.in-Some.version in
     let begun = begun version _ _ _ _ c.new-window.result c.fill.new.self c.pass_header.new.window c.new-window.ensures
     c.in_ok-fill.ensures.taken c.in-Some.ensures in
@@ -65,23 +65,23 @@ compare_behind-requires-clause-few g c =
     let first = passes_both _ _ _ _ _ _ [] c.pass_header.new.window c.pass_spans.new.window (line_text (column_names version)) spans.0 begun
     spans.1 in
     let lines = c.in_ok-push_lines.ensures.ok in
-    let behind : List ℕ = c.push_lines.new.window in
+    let past : List ℕ = c.push_lines.new.window in
     let both =
-    passes_both _ _ _ _ _ _ [] c.pass_spans.new.window behind (line_text (column_names version) ++ spans.0) lines.0 first lines.1 in
+    passes_both _ _ _ _ _ _ [] c.pass_spans.new.window past (line_text (column_names version) ++ spans.0) lines.0 first lines.1 in
     let taken = subst (λ (t : List ℕ). Passes (g.T.Source.remaining c.args.table.now) (g.T.Source.remaining c.push_lines.new.source)
-    (g.T.Source.left c.args.table.now) (g.T.Source.left c.push_lines.new.source) [] behind t)
+    (g.T.Source.left c.args.table.now) (g.T.Source.left c.push_lines.new.source) [] past t)
     (append_assoc (line_text (column_names version)) spans.0 lines.0) both in
     let ends : Ends (g.T.Source.remaining c.push_lines.new.source) (g.T.Source.left c.push_lines.new.source)
-    (c.header_line.result.now ++ behind) c.deref.result.now = rw (← c.deref.ensures.value) at c.in_ok-text-2.ensures.ok in
+    (c.header_line.result.now ++ past) c.deref.result.now = rw (← c.deref.ensures.value) at c.in_ok-text-2.ensures.ok in
     let known = c.requires.spans in
-    let passed = lines.2 known.0 spans.0 (passed_behind _ _ c.behind-merge.result version known.0 spans.0 c.in_ok-passed.passed.count
-    c.in_ok-passed.passed.end (spans.2 known.0 known.1 known.2) c.behind-merge.ensures.version c.behind-merge.ensures.compares) in
+    let passed = lines.2 known.0 spans.0 (passed_after _ _ c.past-merge.result version known.0 spans.0 c.in_ok-passed.passed.count
+    c.in_ok-passed.passed.end (spans.2 known.0 known.1 known.2) c.past-merge.ensures.version c.past-merge.ensures.compares) in
     let fits : g.T.Source.left c.args.table.now < 2 ^ 64 = omega (arith, c.left-may_give.ensures, c.left-may_give.type_inv) in
-    few_all version _ _ _ _ c.header_line.result.now behind (spans.0 ++ lines.0) c.deref.result.now passed.table c.push_lines.new.count
+    few_all version _ _ _ _ c.header_line.result.now past (spans.0 ++ lines.0) c.deref.result.now passed.table c.push_lines.new.count
     c.header_line.ensures taken ends passed.lines fits
 
-pub compare_behind-requires-clause-judged : goal.compare_behind-requires-clause-judged
-compare_behind-requires-clause-judged g c =
+pub compare_after-requires-clause-judged : goal.compare_after-requires-clause-judged
+compare_after-requires-clause-judged g c =
     let version = c.in-Some.version in
     let begun = begun version _ _ _ _ c.new-window.result c.fill.new.self c.pass_header.new.window c.new-window.ensures
     c.in_ok-fill.ensures.taken c.in-Some.ensures in
@@ -89,15 +89,15 @@ compare_behind-requires-clause-judged g c =
     let first = passes_both _ _ _ _ _ _ [] c.pass_header.new.window c.pass_spans.new.window (line_text (column_names version)) spans.0 begun
     spans.1 in
     let lines = c.in_ok-push_lines.ensures.ok in
-    let behind : List ℕ = c.push_lines.new.window in
+    let past : List ℕ = c.push_lines.new.window in
     let both =
-    passes_both _ _ _ _ _ _ [] c.pass_spans.new.window behind (line_text (column_names version) ++ spans.0) lines.0 first lines.1 in
+    passes_both _ _ _ _ _ _ [] c.pass_spans.new.window past (line_text (column_names version) ++ spans.0) lines.0 first lines.1 in
     let taken = subst (λ (t : List ℕ). Passes (g.T.Source.remaining c.args.table.now) (g.T.Source.remaining c.push_lines.new.source)
-    (g.T.Source.left c.args.table.now) (g.T.Source.left c.push_lines.new.source) [] behind t)
+    (g.T.Source.left c.args.table.now) (g.T.Source.left c.push_lines.new.source) [] past t)
     (append_assoc (line_text (column_names version)) spans.0 lines.0) both in
     let known = c.requires.spans in
-    let passed = lines.2 known.0 spans.0 (passed_behind _ _ c.behind-merge.result version known.0 spans.0 c.in_ok-passed.passed.count
-    c.in_ok-passed.passed.end (spans.2 known.0 known.1 known.2) c.behind-merge.ensures.version c.behind-merge.ensures.compares) in (
+    let passed = lines.2 known.0 spans.0 (passed_after _ _ c.past-merge.result version known.0 spans.0 c.in_ok-passed.passed.count
+    c.in_ok-passed.passed.end (spans.2 known.0 known.1 known.2) c.past-merge.ensures.version c.past-merge.ensures.compares) in (
       passed.follows.spans,
       passed.lines.records,
       judges_passed _ c.push_lines.new.merge version known.0 (spans.0 ++ lines.0) c.push_lines.new.count passed,
@@ -112,16 +112,16 @@ returns-clause-ok g c list coming order =
     let first = passes_both _ _ _ _ _ _ [] c.pass_header.new.window c.pass_spans.new.window (line_text (column_names version)) spans.0 begun
     spans.1 in
     let lines = c.in_ok-push_lines.ensures.ok in
-    let behind : List ℕ = c.push_lines.new.window in
+    let past : List ℕ = c.push_lines.new.window in
     let both =
-    passes_both _ _ _ _ _ _ [] c.pass_spans.new.window behind (line_text (column_names version) ++ spans.0) lines.0 first lines.1 in
+    passes_both _ _ _ _ _ _ [] c.pass_spans.new.window past (line_text (column_names version) ++ spans.0) lines.0 first lines.1 in
     let taken = subst (λ (t : List ℕ). Passes (g.T.Source.remaining c.args.table.now) (g.T.Source.remaining c.push_lines.new.source)
-    (g.T.Source.left c.args.table.now) (g.T.Source.left c.push_lines.new.source) [] behind t)
+    (g.T.Source.left c.args.table.now) (g.T.Source.left c.push_lines.new.source) [] past t)
     (append_assoc (line_text (column_names version)) spans.0 lines.0) both in
     let ends : Ends (g.T.Source.remaining c.push_lines.new.source) (g.T.Source.left c.push_lines.new.source)
-    (c.header_line.result.now ++ behind) c.deref.result.now = rw (← c.deref.ensures.value) at c.in_ok-text-2.ensures.ok in
-    let passed = lines.2 list spans.0 (passed_behind _ _ c.behind-merge.result version list spans.0 c.in_ok-passed.passed.count
-    c.in_ok-passed.passed.end (spans.2 list coming order) c.behind-merge.ensures.version c.behind-merge.ensures.compares) in
-    whole_told _ c.push_lines.new.merge version list _ _ _ _ c.header_line.result.now behind (spans.0 ++ lines.0) c.deref.result.now
+    (c.header_line.result.now ++ past) c.deref.result.now = rw (← c.deref.ensures.value) at c.in_ok-text-2.ensures.ok in
+    let passed = lines.2 list spans.0 (passed_after _ _ c.past-merge.result version list spans.0 c.in_ok-passed.passed.count
+    c.in_ok-passed.passed.end (spans.2 list coming order) c.past-merge.ensures.version c.past-merge.ensures.compares) in
+    whole_told _ c.push_lines.new.merge version list _ _ _ _ c.header_line.result.now past (spans.0 ++ lines.0) c.deref.result.now
     c.push_lines.new.count c.in_ok-compared.compared c.header_line.ensures taken ends passed
-    (rw c.in_ok-compared.ensures.ok at c.compare_behind.ensures)
+    (rw c.in_ok-compared.ensures.ok at c.compare_after.ensures)

@@ -7,5 +7,5 @@ pub returns-clause-written : goal.returns-clause-written
 returns-clause-written c =
     let put = c.decimal_before in
     let long : length put.new.text ≡ 256 = omega (arith, put.auto.text, c.told-room) in
-    put_before IsPlainDecimal c.args.room.now put.new.text put.result c.args.end c.args.n c.args.behind c.told-room long
+    put_before IsPlainDecimal c.args.room.now put.new.text put.result c.args.end c.args.n c.args.past c.told-room long
     put.ensures.begins.0 c.requires.1 put.ensures.written put.ensures.after

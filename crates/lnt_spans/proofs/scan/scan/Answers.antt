@@ -5,11 +5,11 @@ use Rattle.lnt_spans.proofs.ScanLemmas.{begins_with, passed_left, so_far_more}
 use Rattle.lnt_spans.proofs.scan.scan.Goals as goal
 
 pub loop-version-preserved-then-stretch : goal.loop-version-preserved-then-stretch
-loop-version-preserved-then-stretch g c list ahead order behind =
+loop-version-preserved-then-stretch g c list ahead order past =
     let to_come = g.S.SpanSource.to_come in
-    let so_far = c.loop-version.invariant list ahead order behind in
+    let so_far = c.loop-version.invariant list ahead order past in
     let stretch = c.stretch_at-stretch.ensures.stretch so_far.rest (begins_with to_come c.loop-version.spans so_far.rest so_far.left)
-    so_far.says.order so_far.says.behind in
+    so_far.says.order so_far.says.past in
     so_far_more c.args.version list c.args.from c.loop-version.at c.stretch_at-stretch.result.end c.args.to c.args.answer
     c.stretch_at-stretch.result.answer true
     (IsAhead to_come c.loop-version.spans) (IsAhead to_come c.pass.new.self) so_far
@@ -20,11 +20,11 @@ loop-version-preserved-then-stretch g c list ahead order behind =
     so_far.left c.pass.ensures.passed)
 
 pub loop-version-preserved : goal.loop-version-preserved
-loop-version-preserved g c list ahead order behind =
+loop-version-preserved g c list ahead order past =
     let to_come = g.S.SpanSource.to_come in
-    let so_far = c.loop-version.invariant list ahead order behind in
+    let so_far = c.loop-version.invariant list ahead order past in
     let stretch = c.stretch_at-stretch.ensures.stretch so_far.rest (begins_with to_come c.loop-version.spans so_far.rest so_far.left)
-    so_far.says.order so_far.says.behind in
+    so_far.says.order so_far.says.past in
     so_far_more c.args.version list c.args.from c.loop-version.at c.stretch_at-stretch.result.end c.args.to c.args.answer
     c.stretch_at-stretch.result.answer false
     (IsAhead to_come c.loop-version.spans) (IsAhead to_come c.loop-version.spans) so_far

@@ -2,20 +2,20 @@ use Rattle.lnt_spans.proofs.ScanLemmas.{fewer_gap, fewer_inside, fewer_none, str
 use Rattle.lnt_spans.proofs.scan.stretch_at.Goals as goal
 
 pub returns-in_default-clause-stretch : goal.returns-in_default-clause-stretch
-returns-in_default-clause-stretch c spans begins order behind = stretch_empty _ _ spans _ _ c.in_default.is begins c.requires
+returns-in_default-clause-stretch c spans begins order past = stretch_empty _ _ spans _ _ c.in_default.is begins c.requires
 
 pub returns-in_default-clause-fewer : goal.returns-in_default-clause-fewer
 returns-in_default-clause-fewer c e = fewer_none _ _ _ c.in_default.is c.requires
 
 pub returns-then-is_below-clause-stretch : goal.returns-then-is_below-clause-stretch
-returns-then-is_below-clause-stretch c spans begins order behind =
+returns-then-is_below-clause-stretch c spans begins order past =
     stretch_gap _ _ spans c.in-Some.span _ _ _ c.in-Some.is begins order c.requires c.if-is_below.ensures c.earlier.ensures
 
 pub returns-then-is_below-clause-fewer : goal.returns-then-is_below-clause-fewer
 returns-then-is_below-clause-fewer c e = fewer_gap _ c.in-Some.span _ _ _ c.in-Some.is c.requires c.if-is_below.ensures c.earlier.ensures
 
 pub returns-then-is_below-2-clause-stretch : goal.returns-then-is_below-2-clause-stretch
-returns-then-is_below-2-clause-stretch c spans begins order behind =
+returns-then-is_below-2-clause-stretch c spans begins order past =
     rw c.in_version.ensures (stretch_inside _ _ spans c.in-Some.span _ _ c.in-Some.is begins order c.requires c.if-is_below.ensures
     c.if-is_below-2.ensures)
 
@@ -23,6 +23,6 @@ pub returns-then-is_below-2-clause-fewer : goal.returns-then-is_below-2-clause-f
 returns-then-is_below-2-clause-fewer c e = fewer_inside _ c.in-Some.span _ _ c.in-Some.is c.requires c.if-is_below.ensures
 
 pub returns-else-is_below-2-clause-stretch : goal.returns-else-is_below-2-clause-stretch
-returns-else-is_below-2-clause-stretch c spans begins order behind =
-    rw c.in_version.ensures (stretch_whole _ _ spans c.in-Some.span _ _ c.in-Some.is begins order behind c.if-is_below.ensures
+returns-else-is_below-2-clause-stretch c spans begins order past =
+    rw c.in_version.ensures (stretch_whole _ _ spans c.in-Some.span _ _ c.in-Some.is begins order past c.if-is_below.ensures
     c.if-is_below-2.ensures)

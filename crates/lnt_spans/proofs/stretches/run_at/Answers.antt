@@ -2,5 +2,5 @@ use Rattle.lnt_spans.proofs.StretchLemmas.{end_gap, end_inside, run_gap, run_ins
 use Rattle.lnt_spans.proofs.stretches.run_at.Goals as goal
 
 pub returns-then-is_below-clause-run : goal.returns-then-is_below-clause-run
-returns-then-is_below-clause-run c spans begins order behind =
+returns-then-is_below-clause-run c spans begins order past =
     run_gap _ _ spans c.in-Some.span _ c.in-Some.is begins order c.if-is_below.ensures

@@ -1,6 +1,6 @@
 use Rattle.std.proofs.Common.{◌+◌, rules}
 use Rattle.lnt_answers.proofs.AddressLemmas.{block_ended, block_more}
-use Rattle.lnt_answers.proofs.CommaLemmas.{rest_behind}
+use Rattle.lnt_answers.proofs.CommaLemmas.{rest_after}
 use Rattle.lnt_answers.proofs.addresses.Asked.answer_block.Goals as goal
 
 pub loop-end-preserved : goal.loop-end-preserved
@@ -16,7 +16,7 @@ loop-end-preserved g c = record {
       c.extend_from_slice.new.self.items c.strip_return.new.line.items c.answer_line.new.self.line.items
       (g.W.Write.contents c.args.out.now) (g.W.Write.contents c.loop-end.out) (g.W.Write.contents c.answer_line.new.out)
       c.args.self.now.status c.loop-end.self.status c.answer_line.new.self.status
-      before at c.in_ok-extend_from_slice.ensures.items c.strip_return.ensures told (rest_behind rest (c.in-Some.end + 1))
+      before at c.in_ok-extend_from_slice.ensures.items c.strip_return.ensures told (rest_after rest (c.in-Some.end + 1))
       c.in_ok-answer_line.ensures.begun;
 }
 

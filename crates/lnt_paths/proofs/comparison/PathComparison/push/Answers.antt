@@ -9,7 +9,7 @@ use Rattle.lnt_paths.proofs.comparison.PathComparison.push.Goals as goal
 pub returns-then-is_some-clause-merged : goal.returns-then-is_some-clause-merged
 returns-then-is_some-clause-merged g c list table m =
     merged_still (path_answer c.args.version (g.P.Paths.bytes_of c.args.paths.now)) list table c.args.said.now _ c.args.self.now.first _ _
-    (follows c.args.self.now.at c.args.said.now c.requires.behind c.requires.holds) c.if-is_some.ensures m
+    (follows c.args.self.now.at c.args.said.now c.requires.past c.requires.holds) c.if-is_some.ensures m
 
 pub returns-in_default-clause-merged : goal.returns-in_default-clause-merged
 returns-in_default-clause-merged g c list table m =
@@ -22,7 +22,7 @@ returns-in_default-clause-merged g c list table m =
     c.args.self.now.first
     (IsLeft g.S.SpanSource.to_come c.args.self.now.section.next c.args.self.now.section.spans)
     (IsLeft g.S.SpanSource.to_come c.first_apart.new.section.next c.first_apart.new.section.spans)
-    (follows c.args.self.now.at c.args.said.now c.requires.behind c.requires.holds) none
+    (follows c.args.self.now.at c.args.said.now c.requires.past c.requires.holds) none
     (λ rest left order. rw c.in_default.is at c.in_ok-found.ensures.apart rest left order) m)
 
 pub returns-clause-merged : goal.returns-clause-merged
@@ -31,6 +31,6 @@ returns-clause-merged g c list table m =
     c.args.self.now.first
     (IsLeft g.S.SpanSource.to_come c.args.self.now.section.next c.args.self.now.section.spans) _ c.in-Some.apart
     c.in_ok-difference_of.field-0
-    (follows c.args.self.now.at c.args.said.now c.requires.behind c.requires.holds) (not_found c.args.self.now.first c.if-is_some.ensures)
+    (follows c.args.self.now.at c.args.said.now c.requires.past c.requires.holds) (not_found c.args.self.now.first c.if-is_some.ensures)
     (λ rest left order. rw c.in-Some.is at c.in_ok-found.ensures.apart rest left order)
     c.in_ok-difference_of.ensures.position c.in_ok-difference_of.ensures.table c.in_ok-difference_of.ensures.section m

@@ -3,7 +3,7 @@ use Rattle.lnt_spans.proofs.MergeLemmas.{comes, next_pushed, pushed}
 use Rattle.lnt_spans.proofs.merge.Merge.push.Goals as goal
 
 pub advance-requires : goal.advance-requires
-advance-requires g c = (comes g.S.SpanSource.to_come _ c.args.span.now c.requires).behind
+advance-requires g c = (comes g.S.SpanSource.to_come _ c.args.span.now c.requires).past
 
 pub advance-requires-2 : goal.advance-requires-2
 advance-requires-2 g c = rw c.advance.ensures.at (below_is_at_most (comes g.S.SpanSource.to_come _ c.args.span.now c.requires).holds)

@@ -1,5 +1,5 @@
 use Rattle.lnt_spans.proofs.MergeLemmas.{compares_passed}
-use Rattle.lnt_spans.proofs.merge.Merge.behind.Goals as goal
+use Rattle.lnt_spans.proofs.merge.Merge.past.Goals as goal
 
 pub returns-clause-compares : goal.returns-clause-compares
 returns-clause-compares g c passed list coming order told e =

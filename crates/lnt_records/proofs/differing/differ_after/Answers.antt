@@ -1,7 +1,7 @@
 use Rattle.std.proofs.Common.{◌++◌}
 use Rattle.lnt_records.specs.Table.{IsTableOf}
 use Rattle.lnt_records.proofs.GatherLemmas.{version_order, version_told}
-use Rattle.lnt_records.proofs.differing.differ_behind.Goals as goal
+use Rattle.lnt_records.proofs.differing.differ_after.Goals as goal
 
 pub returns-in-Spans : goal.returns-in-Spans
 returns-in-Spans g c bytes section table rest gathered goes_on coming =
@@ -11,7 +11,7 @@ returns-in-Spans g c bytes section table rest gathered goes_on coming =
       version = c.args.version;
       table = table ++ items;
       is_table = is_table;
-      told = c.behind.ensures _ table rest items coming c.of-records.ensures goes_on.order
+      told = c.past.ensures _ table rest items coming c.of-records.ensures goes_on.order
           (version_order c.args.version bytes (table ++ items) is_table)
           (version_told c.args.version bytes (table ++ items) is_table) goes_on.end_is goes_on.same;
     }
