@@ -9,5 +9,6 @@ pub mod PassingLemmas
 pub mod PathSpanLemmas
 pub mod ReadingLemmas
 pub mod StepLemmas
+pub mod StretchingLemmas
 pub mod UniqueLemmas
 pub mod WriteLemmas

@@ -238,7 +238,7 @@ passed_within to_come tell list said at next spans span is from same le lt over 
     span first.0 passed first.1 (below_is_at_most lt) over
     (answers tell said at (whole said.high) span same (below_is_at_most over) from le (at_most_itself (whole said.high))) (refl, first.2)
 
-given_left : {S : Type 0} (to_come : S → List Span → Type 0) (given : Option Span) (spans : S) (list : List Span)
+pub given_left : {S : Type 0} (to_come : S → List Span → Type 0) (given : Option Span) (spans : S) (list : List Span)
     → GivesFirst (to_come spans) list given
     → IsLeft to_come given spans list
 given_left to_come None spans [] g = refl

@@ -1,4 +1,5 @@
 pub mod Borders
+pub mod Held
 pub mod Joining
 pub mod Laws
 pub mod Merging
@@ -7,6 +8,8 @@ pub mod PathAnswers
 pub mod PathDifferences
 pub mod PathFaults
 pub mod PathSpans
+pub mod PathStretches
 pub mod PathTables
 pub mod Reading
+pub mod Stretching
 pub mod Written

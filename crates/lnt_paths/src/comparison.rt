@@ -273,7 +273,7 @@ impl<S: SpanSource + Drop> PathComparison<S> {
 }
 
 // What a section answers, as it is told.
-fn told_of<P: Paths>(
+pub(crate) fn told_of<P: Paths>(
     alloc: Global,
     paths: &P,
     version: PathVersion,

@@ -72,11 +72,11 @@ fn goes_on<P: Paths>(
     if last.high != span.low || !same_place(version, &last.answer, &span.answer) {
         return Ok(false);
     }
-    same_path(alloc, paths, &last.answer, &span.answer)
+    Ok(same_path(alloc, paths, &last.answer, &span.answer)?)
 }
 
 // Whether two answers have the same line, and the same column where the version tells it.
-fn same_place(version: PathVersion, one: &Answer, other: &Answer) -> bool
+pub(crate) fn same_place(version: PathVersion, one: &Answer, other: &Answer) -> bool
     ensures { MatchBool result ((one.now.line ≡ other.now.line)
         × (told_column version one.now.column ≡ told_column version other.now.column))
         (one.now.line ≡ other.now.line → told_column version one.now.column ≢ told_column version other.now.column) }

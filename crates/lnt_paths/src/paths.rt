@@ -2,7 +2,6 @@
 ghost use Rattle.std.specs.Prelude.{◌≡◌, ◌≢◌, ℕ, List, IfOk};
 ghost use Rattle.std.specs.Bool.{MatchBool};
 
-use lnt_records::WriteStop;
 use lnt_spans::Answer;
 use std::alloc::{AllocError, Global};
 
@@ -23,7 +22,7 @@ pub(crate) fn same_path<P: Paths>(
     paths: &P,
     one: &Answer,
     other: &Answer,
-) -> Result<bool, WriteStop>
+) -> Result<bool, AllocError>
     ensures { IfOk result (λ same. MatchBool same (P.bytes_of paths.now one.now.unit one.now.file
         ≡ P.bytes_of paths.now other.now.unit other.now.file)
         (P.bytes_of paths.now one.now.unit one.now.file ≢ P.bytes_of paths.now other.now.unit other.now.file)) }

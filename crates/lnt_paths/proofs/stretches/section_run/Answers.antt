@@ -1,0 +1,6 @@
+use Rattle.lnt_paths.proofs.StretchingLemmas.{run_gap}
+use Rattle.lnt_paths.proofs.stretches.section_run.Goals as goal
+
+pub returns-then-is_below-clause-run : goal.returns-then-is_below-clause-run
+returns-then-is_below-clause-run c tell spans begins order past =
+    run_gap tell _ spans c.in-Some.span _ c.in-Some.is begins order c.if-is_below.ensures

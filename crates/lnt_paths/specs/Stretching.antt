@@ -1,0 +1,111 @@
+-- How far the stretches of a section and a table by path are told.
+use Rattle.std.specs.Prelude.{◌≡◌, ◌⊎◌, ℕ, ◌+◌, List, [], ◌∷◌, ◌++◌, Option, Some, None, cond, length, map}
+use Rattle.std.specs.List.{AllByRecursion}
+use Rattle.std.specs.Option.{option_copied, option_map}
+use Rattle.lnt_spans.specs.declared.answer.Answer.{Answer}
+use Rattle.lnt_spans.specs.declared.position.Position.{Position}
+use Rattle.lnt_spans.specs.declared.span.Span.{Span}
+use Rattle.lnt_spans.specs.Differing.{IsBefore}
+use Rattle.lnt_spans.specs.Positions.{IsBelow, IsAtMost, is_below}
+use Rattle.lnt_spans.specs.Scanning.{EndsAfter}
+use Rattle.lnt_spans.specs.Spans.{AreInOrder}
+use Rattle.lnt_paths.specs.declared.held.HeldSpan.{HeldSpan}
+use Rattle.lnt_paths.specs.declared.merge.Section.{Section}
+use Rattle.lnt_paths.specs.declared.stretches.Begun.{Begun}
+use Rattle.lnt_paths.specs.declared.stretches.DifferencesByPath.{DifferencesByPath}
+use Rattle.lnt_paths.specs.declared.stretches.Step.{Step}
+use Rattle.lnt_paths.specs.declared.stretches.Step.TheVariants.{Ended, Known, Told}
+use Rattle.lnt_paths.specs.Held.{held_span}
+use Rattle.lnt_paths.specs.Merging.{answer_told, IsLeft}
+use Rattle.lnt_paths.specs.PathAnswers.{path_answer, PathAnswer}
+use Rattle.lnt_paths.specs.PathDifferences.{told_path_answer}
+use Rattle.lnt_paths.specs.PathSpans.{path_span_answer, PathSpan, StandInOrder}
+use Rattle.lnt_paths.specs.PathStretches.{AreAnswers, AreRising, AreStretches, BeginsStretch, IsInOne, Stay, Stretch}
+use Rattle.lnt_paths.specs.Reading.{whole}
+
+-- ---- one side
+
+-- From a position on up to the end, which is after it, or at all of them, this is answered.
+pub record IsRun {X : Type 0} (answers : Position → Option X) (at : Position) (answer : Option X) (end : Option Position) : Type 0 where
+  pub past : IsBefore at end
+  pub says : (p : Position) → IsAtMost at p → IsBefore p end → answers p ≡ answer
+
+-- These spans of a section are still to come, and from the position on they answer as the function does.
+pub record IsSectionAt {S : Type 0} (to_come : S → List Span → Type 0) (tell : Answer → PathAnswer) (section : Section S) (at : Position)
+    (answers : Position → Option PathAnswer) : Type 0 where
+  pub rest : List Span
+  pub left : IsLeft to_come section.next section.spans rest
+  pub order : AreInOrder rest
+  pub past : EndsAfter at rest
+  pub same : (p : Position) → IsAtMost at p → answer_told tell rest p ≡ answers p
+
+-- The first span, if there is one, ends after p.
+abbrev pub PathsEndAfter : Position → List PathSpan → Type 0
+PathsEndAfter p [] = Unit {0}
+PathsEndAfter p (span ∷ spans) = IsBelow p span.high
+
+-- The same of what is left of a table.
+pub record IsTableAt (table : List HeldSpan) (at : Position) (answers : Position → Option PathAnswer) : Type 0 where
+  pub order : StandInOrder (map held_span table)
+  pub past : PathsEndAfter at (map held_span table)
+  pub same : (p : Position) → IsAtMost at p → path_span_answer (map held_span table) p ≡ answers p
+
+-- where the table's answer at a position may end
+abbrev pub held_end : Position → List HeldSpan → Option Position
+held_end at [] = None
+held_end at (held ∷ table) = Some (cond (is_below at (whole held.low)) (whole held.low) (whole held.high))
+
+-- whether a gap is before the first span
+abbrev pub held_gap : Position → List HeldSpan → ℕ
+held_gap at [] = 0
+held_gap at (held ∷ table) = cond (is_below at (whole held.low)) 1 0
+
+-- so many runs are left at most
+abbrev pub held_runs : Position → List HeldSpan → ℕ
+held_runs at table = length table + length table + held_gap at table
+
+-- ---- both sides
+
+-- From the position on, as long as these two answers stay, one of the stretches holds them.
+abbrev pub IsOpen : {X : Type 0} → (Position → Option X) → (Position → Option X) → Position → Option X → Option X → List (Stretch X)
+    → Type 0
+IsOpen by_section by_table at section table told =
+    (p : Position) → IsAtMost at p → Stay by_section by_table section table at p → AreAnswers by_section by_table section table p
+    → IsInOne by_section by_table told p
+
+-- What is told so far of the stretches below a position.
+pub record AreToldBelow {X : Type 0} (by_section by_table : Position → Option X) (at : Position) (section table : Option X)
+    (told : List (Stretch X)) : Type 0 where
+  pub each : AllByRecursion (BeginsStretch by_section by_table) told
+  pub rising : AreRising told
+  pub below : AllByRecursion (λ stretch. IsBelow stretch.position at) told
+  pub all : (p : Position) → IsBelow p at → (by_section p ≡ by_table p) ⊎ IsInOne by_section by_table told p
+  -- these two were the last answers: if they differ, the last stretch goes on as long as they stay
+  pub going : (section ≡ table) ⊎ IsOpen by_section by_table at section table told
+  -- right below the position the two answer so, or alike
+  pub last : (p : Position) → IsBelow p at
+      → (q : Position) × IsAtMost p q × IsBelow q at × ((by_section q ≡ by_table q) ⊎ AreAnswers by_section by_table section table q)
+
+-- Of the stretches these are told, and the spans to come from there on are at hand. Files of units have these paths.
+pub record HasToldByPath {S : Type 0} (to_come : S → List Span → Type 0) (path : ℕ → ℕ → List ℕ) (differences : DifferencesByPath S)
+    (by_section by_table : Position → Option PathAnswer) (told : List (Stretch PathAnswer)) : Type 0 where
+  pub section : IsSectionAt to_come (path_answer differences.version path) differences.section differences.at by_section
+  pub table : IsTableAt differences.table.now differences.at by_table
+  pub below : AreToldBelow by_section by_table differences.at (option_map (path_answer differences.version path) differences.by_section)
+      (option_map told_path_answer (option_copied differences.by_table)) told
+
+-- a stretch that was found, as it is told
+abbrev pub stretch_begun : (Answer → PathAnswer) → Begun → Stretch PathAnswer
+stretch_begun tell begun = record {
+  position = begun.position;
+  by_section = option_map tell begun.by_section;
+  by_table = option_map told_path_answer (option_copied begun.by_table);
+}
+
+-- what one step brings
+abbrev pub Steps : {S : Type 0} → (S → List Span → Type 0) → (ℕ → ℕ → List ℕ) → DifferencesByPath S → (Position → Option PathAnswer)
+    → (Position → Option PathAnswer) → List (Stretch PathAnswer) → Step → Type 0
+Steps to_come path differences by_section by_table told Ended = AreStretches by_section by_table told
+Steps to_come path differences by_section by_table told Known = HasToldByPath to_come path differences by_section by_table told
+Steps to_come path differences by_section by_table told (Told begun) = HasToldByPath to_come path differences by_section by_table
+    (told ++ stretch_begun (path_answer differences.version path) begun ∷ [])

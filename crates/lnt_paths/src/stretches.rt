@@ -1,0 +1,412 @@
+//! All stretches of positions at which a section and a table by path answer differently, one after another.
+ghost use Rattle.std.specs.Prelude.{◌≡◌, ◌≢◌, ◌⊎◌, ◌+◌, ◌<◌, ◌≤◌, ℕ, List, [], ◌∷◌, ◌++◌, map, None, Option, Some, IfOk, IfSome};
+ghost use Rattle.std.specs.Prelude.{MatchOption};
+ghost use Rattle.std.specs.Bool.{MatchBool};
+ghost use Rattle.std.specs.Option.{option_copied, option_map};
+ghost use Rattle.lnt_spans.specs.declared.answer.Answer as spec_answer;
+ghost use Rattle.lnt_spans.specs.declared.position.Position as spec_position;
+ghost use Rattle.lnt_spans.specs.declared.span.Span as spec;
+ghost use Rattle.lnt_spans.specs.Ahead.{BeginsWith};
+ghost use Rattle.lnt_spans.specs.Differing.{IsUpTo, run_end, runs_left};
+ghost use Rattle.lnt_spans.specs.Positions.{IsAtMost};
+ghost use Rattle.lnt_spans.specs.Scanning.{EndsAfter};
+ghost use Rattle.lnt_spans.specs.Spans.{AreInOrder};
+ghost use Rattle.lnt_paths.specs.declared.answer.DifferenceByPath as spec_difference;
+ghost use Rattle.lnt_paths.specs.declared.stretches.Step.TheVariants as step;
+ghost use Rattle.lnt_paths.specs.Held.{held_span};
+ghost use Rattle.lnt_paths.specs.Merging.{answer_told};
+ghost use Rattle.lnt_paths.specs.PathAnswers.{PathAnswer, path_answer, spans_by_path};
+ghost use Rattle.lnt_paths.specs.PathDifferences.{told_path_answer};
+ghost use Rattle.lnt_paths.specs.PathSpans.{StandInOrder, path_span_answer};
+ghost use Rattle.lnt_paths.specs.PathStretches.{ArePathStretches, Stretch, stretch_of, stretches_of};
+ghost use Rattle.lnt_paths.specs.Stretching.{HasToldByPath, IsRun, IsSectionAt, IsTableAt, PathsEndAfter, Steps};
+ghost use Rattle.lnt_paths.specs.Stretching.{held_end, held_runs, stretch_begun};
+
+use crate::answer::{AnswerByPath, DifferenceByPath};
+use crate::comparison::told_of;
+use crate::held::HeldSpan;
+use crate::joined::same_place;
+use crate::merge::{Section, column_in, whole};
+use crate::paths::{Paths, same_path};
+use crate::version::PathVersion;
+use lnt_spans::{Answer, Position, Span, SpanSource};
+use std::alloc::{AllocError, Global};
+
+/// The stretches of positions at which a section and a table by path answer differently and stay the same two. The section's
+/// spans come from a source, and the table's are held.
+///
+/// Contracts see which of the stretches were told (`HasToldByPath`). No list of them is held: only the next span of the section,
+/// the spans of the table that are left, and the last two answers.
+#[derive(Drop)]
+pub struct DifferencesByPath<'t, S> {
+    version: PathVersion,
+    section: Section<S>,
+    table: &'t [HeldSpan],
+    // all stretches that begin below it are told
+    at: Position,
+    // what was answered up to there
+    by_section: Option<Answer>,
+    by_table: Option<&'t AnswerByPath>,
+}
+
+// What is answered up to an end, if there is one.
+#[derive(Clone, Copy)]
+struct Run<A> {
+    answer: Option<A>,
+    end: Option<Position>,
+}
+
+// Where a stretch begins, and what is answered from there on.
+#[derive(Clone, Copy)]
+struct Begun<'t> {
+    position: Position,
+    by_section: Option<Answer>,
+    by_table: Option<&'t AnswerByPath>,
+}
+
+// What is known where both answers were followed to where one of them ends.
+#[derive(Clone, Copy)]
+enum Step<'t> {
+    // They never end: both sides are through.
+    Ended,
+    // No stretch begins there.
+    Known,
+    // This one does.
+    Told(Begun<'t>),
+}
+
+impl<'t, S: SpanSource> DifferencesByPath<'t, S> {
+    /// No stretch is told yet of a section, whose spans the source has, and a table of these spans. The caller sees to it that
+    /// the spans of both are in order, and none is empty.
+    pub fn of(section: S, table: &'t [HeldSpan], version: PathVersion) -> DifferencesByPath<'t, S>
+        ensures { (path : ℕ → ℕ → List ℕ) (list : List spec.Span) → S.to_come section list → AreInOrder list
+            → StandInOrder (map held_span table.now)
+            → HasToldByPath S.to_come path result (spans_by_path version path list) (path_span_answer (map held_span table.now)) [] }
+    {
+        DifferencesByPath {
+            version,
+            section: Section::of(section),
+            table,
+            at: whole(0),
+            by_section: None,
+            by_table: None,
+        }
+    }
+
+    /// The next stretch: its first position, and the two answers. None where all are told, and these are then exactly the
+    /// stretches, in rising order. The one error is that memory ran out: nothing is known of the state then.
+    pub fn next_difference<P: Paths>(
+        &mut self,
+        alloc: Global,
+        paths: &P,
+    ) -> Result<Option<DifferenceByPath>, AllocError>
+        requires { (by_section : spec_position.Position → Option PathAnswer) × (by_table : spec_position.Position → Option PathAnswer)
+            × (told : List spec_difference.DifferenceByPath)
+            × HasToldByPath S.to_come (P.bytes_of paths.now) self.old by_section by_table (stretches_of told) }
+        ensures told { IfOk result (λ found. (by_section by_table : spec_position.Position → Option PathAnswer)
+            (told : List spec_difference.DifferenceByPath)
+            → HasToldByPath S.to_come (P.bytes_of paths.now) self.old by_section by_table (stretches_of told)
+            → MatchOption found (ArePathStretches by_section by_table told)
+            (λ difference. HasToldByPath S.to_come (P.bytes_of paths.now) self.new by_section by_table
+            (stretches_of (told ++ difference ∷ [])))) }
+        ensures fewer { IfOk result (λ found. IfSome found (λ _.
+            runs_left self.new.at self.new.section.next (S.left self.new.section.spans) + held_runs self.new.at self.new.table.now
+            < runs_left self.old.at self.old.section.next (S.left self.old.section.spans) + held_runs self.old.at self.old.table.now)) }
+    {
+        loop {
+            match self.step(alloc, paths)? {
+                Step::Ended => return Ok(None),
+                Step::Known => {}
+                Step::Told(begun) => {
+                    let difference = difference_at(alloc, paths, self.version, &begun)?;
+                    return Ok(Some(difference));
+                }
+            }
+        }
+    }
+
+    // Goes on to where one of the two answers ends.
+    fn step<P: Paths>(&mut self, alloc: Global, paths: &P) -> Result<Step<'t>, AllocError>
+        requires { (by_section : spec_position.Position → Option PathAnswer) × (by_table : spec_position.Position → Option PathAnswer)
+            × (told : List (Stretch PathAnswer))
+            × HasToldByPath S.to_come (P.bytes_of paths.now) self.old by_section by_table told }
+        ensures version { self.new.version ≡ self.old.version }
+        ensures told { IfOk result (λ found. (by_section by_table : spec_position.Position → Option PathAnswer)
+            (told : List (Stretch PathAnswer))
+            → HasToldByPath S.to_come (P.bytes_of paths.now) self.old by_section by_table told
+            → Steps S.to_come (P.bytes_of paths.now) self.new by_section by_table told found) }
+        ensures fewer { IfOk result (λ found. found ≢ step.Ended
+            → runs_left self.new.at self.new.section.next (S.left self.new.section.spans) + held_runs self.new.at self.new.table.now
+            < runs_left self.old.at self.old.section.next (S.left self.old.section.spans) + held_runs self.old.at self.old.table.now) }
+    {
+        let at = self.at;
+        let section = section_run(self.section.next, at);
+        let table = table_run(self.table, at);
+        let Some(end) = earlier_end(section.end, table.end) else {
+            return Ok(Step::Ended);
+        };
+        let is_known = is_known(
+            alloc,
+            paths,
+            self.version,
+            section.answer,
+            table.answer,
+            self.by_section,
+            self.by_table,
+        )?;
+        pass_section(&mut self.section, end);
+        self.table = past_end(self.table, end);
+        self.at = end;
+        self.by_section = section.answer;
+        self.by_table = table.answer;
+        if is_known {
+            return Ok(Step::Known);
+        }
+        Ok(Step::Told(Begun {
+            position: at,
+            by_section: section.answer,
+            by_table: table.answer,
+        }))
+    }
+}
+
+// What a section answers from a position on, and where that ends, if it does.
+fn section_run(next: Option<Span>, at: Position) -> Run<Answer>
+    ensures end { result.end ≡ run_end at next }
+    ensures run { (tell : spec_answer.Answer → PathAnswer) (spans : List spec.Span) → BeginsWith next spans → AreInOrder spans
+        → EndsAfter at spans → IsRun (answer_told tell spans) at (option_map tell result.answer) result.end }
+{
+    let Some(span) = next else {
+        return Run {
+            answer: None,
+            end: None,
+        };
+    };
+    if at.is_below(span.low) {
+        return Run {
+            answer: None,
+            end: Some(span.low),
+        };
+    }
+    Run {
+        answer: Some(span.answer),
+        end: Some(span.high),
+    }
+}
+
+// What a table answers from a position on, and where that ends, if it does.
+fn table_run<'t>(table: &'t [HeldSpan], at: Position) -> Run<&'t AnswerByPath>
+    ensures end { result.end ≡ held_end at table.now }
+    ensures run { StandInOrder (map held_span table.now) → PathsEndAfter at (map held_span table.now)
+        → IsRun (path_span_answer (map held_span table.now)) at (option_map told_path_answer (option_copied result.answer)) result.end }
+{
+    let Some((span, _)) = table.split_first() else {
+        return Run {
+            answer: None,
+            end: None,
+        };
+    };
+    let low = whole(span.low);
+    if at.is_below(low) {
+        return Run {
+            answer: None,
+            end: Some(low),
+        };
+    }
+    Run {
+        answer: Some(&span.answer),
+        end: Some(whole(span.high)),
+    }
+}
+
+// The earlier of two ends, where there is one.
+fn earlier_end(one: Option<Position>, other: Option<Position>) -> Option<Position>
+    ensures { MatchOption result ((one ≡ None) × (other ≡ None))
+        (λ end. IsUpTo end one × IsUpTo end other × ((one ≡ Some end) ⊎ (other ≡ Some end))) }
+{
+    let Some(first) = one else {
+        return other;
+    };
+    let Some(second) = other else {
+        return one;
+    };
+    if second.is_below(first) { other } else { one }
+}
+
+// Goes on past the next span of a section, if it ends there.
+fn pass_section<S: SpanSource>(section: &mut Section<S>, end: Position)
+    ensures side { (tell : spec_answer.Answer → PathAnswer) (at : spec_position.Position)
+        (answers : spec_position.Position → Option PathAnswer) → IsSectionAt S.to_come tell section.old at answers → IsAtMost at end
+        → IsUpTo end (run_end at section.old.next) → IsSectionAt S.to_come tell section.new end answers }
+    ensures fewer { (at : spec_position.Position) → IsAtMost at end → IsUpTo end (run_end at section.old.next)
+        → (runs_left end section.new.next (S.left section.new.spans) ≤ runs_left at section.old.next (S.left section.old.spans))
+        × (run_end at section.old.next ≡ Some end
+        → runs_left end section.new.next (S.left section.new.spans) < runs_left at section.old.next (S.left section.old.spans)) }
+{
+    let Some(span) = section.next else {
+        return;
+    };
+    if !end.is_below(span.high) {
+        section.next = section.spans.next_span();
+    }
+}
+
+// The spans of a table without the first, if that ends there.
+fn past_end<'t>(table: &'t [HeldSpan], end: Position) -> &'t [HeldSpan]
+    ensures side { (at : spec_position.Position) (answers : spec_position.Position → Option PathAnswer) → IsTableAt table.now at answers
+        → IsAtMost at end → IsUpTo end (held_end at table.now) → IsTableAt result.now end answers }
+    ensures fewer { (at : spec_position.Position) → IsAtMost at end → IsUpTo end (held_end at table.now)
+        → (held_runs end result.now ≤ held_runs at table.now)
+        × (held_end at table.now ≡ Some end → held_runs end result.now < held_runs at table.now) }
+{
+    let Some((span, rest)) = table.split_first() else {
+        return table;
+    };
+    if end.is_below(whole(span.high)) {
+        return table;
+    }
+    rest
+}
+
+// Whether two answers are told alike, or both as they were.
+fn is_known<P: Paths>(
+    alloc: Global,
+    paths: &P,
+    version: PathVersion,
+    section: Option<Answer>,
+    table: Option<&AnswerByPath>,
+    section_before: Option<Answer>,
+    table_before: Option<&AnswerByPath>,
+) -> Result<bool, AllocError>
+    ensures { IfOk result (λ known. MatchBool known
+        ((option_map (path_answer version (P.bytes_of paths.now)) section ≡ option_map told_path_answer (option_copied table.entry))
+        ⊎ (option_map (path_answer version (P.bytes_of paths.now)) section
+        ≡ option_map (path_answer version (P.bytes_of paths.now)) section_before)
+        × (option_map told_path_answer (option_copied table.entry) ≡ option_map told_path_answer (option_copied table_before.entry)))
+        ((option_map told_path_answer (option_copied table.entry) ≢ option_map (path_answer version (P.bytes_of paths.now)) section)
+        × (option_map (path_answer version (P.bytes_of paths.now)) section
+        ≡ option_map (path_answer version (P.bytes_of paths.now)) section_before
+        → option_map told_path_answer (option_copied table.entry) ≡ option_map told_path_answer (option_copied table_before.entry) → ⊥))) }
+{
+    if are_alike(alloc, paths, version, section, table)? {
+        return Ok(true);
+    }
+    if !is_as_held(table, table_before) {
+        return Ok(false);
+    }
+    is_as_before(alloc, paths, version, section, section_before)
+}
+
+// Whether a section's answer is told as a table's.
+fn are_alike<P: Paths>(
+    alloc: Global,
+    paths: &P,
+    version: PathVersion,
+    section: Option<Answer>,
+    table: Option<&AnswerByPath>,
+) -> Result<bool, AllocError>
+    ensures { IfOk result (λ same. MatchBool same
+        (option_map (path_answer version (P.bytes_of paths.now)) section ≡ option_map told_path_answer (option_copied table.entry))
+        (option_map (path_answer version (P.bytes_of paths.now)) section ≢ option_map told_path_answer (option_copied table.entry))) }
+{
+    match (section, table) {
+        (Some(answer), Some(held)) => is_told_so(alloc, paths, version, &answer, held),
+        (None, None) => Ok(true),
+        _ => Ok(false),
+    }
+}
+
+// Whether an answer of a section is told so.
+fn is_told_so<P: Paths>(
+    alloc: Global,
+    paths: &P,
+    version: PathVersion,
+    answer: &Answer,
+    told: &AnswerByPath,
+) -> Result<bool, AllocError>
+    ensures { IfOk result (λ same. MatchBool same (path_answer version (P.bytes_of paths.now) answer.now ≡ told_path_answer told.now)
+        (path_answer version (P.bytes_of paths.now) answer.now ≢ told_path_answer told.now)) }
+{
+    if answer.line != told.line || column_in(version, answer.column) != told.column {
+        return Ok(false);
+    }
+    let path = paths.path_of(alloc, answer.unit, answer.file)?;
+    Ok(path.as_slice() == told.path.as_slice())
+}
+
+// Whether a table answers as before.
+fn is_as_held(one: Option<&AnswerByPath>, other: Option<&AnswerByPath>) -> bool
+    ensures { MatchBool result
+        (option_map told_path_answer (option_copied one.entry) ≡ option_map told_path_answer (option_copied other.entry))
+        (option_map told_path_answer (option_copied one.entry) ≢ option_map told_path_answer (option_copied other.entry)) }
+{
+    match (one, other) {
+        (Some(one), Some(other)) => {
+            one.line == other.line
+                && one.column == other.column
+                && one.path.as_slice() == other.path.as_slice()
+        }
+        (None, None) => true,
+        _ => false,
+    }
+}
+
+// Whether what a section answers is told as before. Units may name one file by different numbers.
+fn is_as_before<P: Paths>(
+    alloc: Global,
+    paths: &P,
+    version: PathVersion,
+    one: Option<Answer>,
+    other: Option<Answer>,
+) -> Result<bool, AllocError>
+    ensures { IfOk result (λ same. MatchBool same (option_map (path_answer version (P.bytes_of paths.now)) one
+        ≡ option_map (path_answer version (P.bytes_of paths.now)) other)
+        (option_map (path_answer version (P.bytes_of paths.now)) one ≢ option_map (path_answer version (P.bytes_of paths.now)) other)) }
+{
+    match (one, other) {
+        (Some(one), Some(other)) => {
+            if !same_place(version, &one, &other) {
+                return Ok(false);
+            }
+            same_path(alloc, paths, &one, &other)
+        }
+        (None, None) => Ok(true),
+        _ => Ok(false),
+    }
+}
+
+// A stretch that begins, with both answers as they are told.
+fn difference_at<P: Paths>(
+    alloc: Global,
+    paths: &P,
+    version: PathVersion,
+    begun: &Begun<'_>,
+) -> Result<DifferenceByPath, AllocError>
+    ensures { IfOk result (λ difference. stretch_of difference ≡ stretch_begun (path_answer version (P.bytes_of paths.now)) begun.now) }
+{
+    let by_table = match begun.by_table {
+        Some(answer) => Some(copy_of(alloc, answer)?),
+        None => None,
+    };
+    let by_section = match &begun.by_section {
+        Some(answer) => Some(told_of(alloc, paths, version, answer)?),
+        None => None,
+    };
+    Ok(DifferenceByPath {
+        position: begun.position,
+        by_table,
+        by_section,
+    })
+}
+
+// A copy of an answer.
+fn copy_of(alloc: Global, answer: &AnswerByPath) -> Result<AnswerByPath, AllocError>
+    ensures { IfOk result (λ copy. told_path_answer copy ≡ told_path_answer answer.now) }
+{
+    let path = Vec::from_slice(alloc, answer.path.as_slice())?;
+    Ok(AnswerByPath {
+        path,
+        line: answer.line,
+        column: answer.column,
+    })
+}
