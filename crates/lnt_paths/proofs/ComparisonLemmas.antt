@@ -57,7 +57,7 @@ zip_push R [] (b ∷ ys) x y z h = absurd z
 zip_push R (a ∷ xs) [] x y z h = absurd z
 zip_push R (a ∷ xs) (b ∷ ys) x y z h = (z.0, zip_push R xs ys x y z.1 h)
 
-table_push : (version : PathVersion) (records : List Fields) (table : List PathSpan) (fields : Fields) (span : PathSpan)
+pub table_push : (version : PathVersion) (records : List Fields) (table : List PathSpan) (fields : Fields) (span : PathSpan)
     → IsPathTable version records table
     → IsPathRecord version fields span → IsAtMost (path_end table) span.low → IsBelow span.low span.high
     → IsPathTable version (records ++ fields ∷ []) (table ++ span ∷ [])
@@ -70,7 +70,7 @@ table_push version (first ∷ records) table fields span t s le lt = (
   },
 )
 
-says_span : (version : PathVersion) (fields : Fields) (said : PathRecord)
+pub says_span : (version : PathVersion) (fields : Fields) (said : PathRecord)
     → SaysPath IsAddress IsDecimal version fields said.low said.high (record_answer said)
     → IsPathRecord version fields (record_span said)
 says_span version fields said h = record { says = h; low_op = refl; high_op = refl }
@@ -96,20 +96,17 @@ record_taken to_come tell version old new section records fields said j says le 
     }
 
 -- it begins too early, or holds nothing
-pub order_fault : {S : Type 0} (to_come : S → List Span → Type 0) (tell : Answer → PathAnswer) (version : PathVersion)
-    (old : PathComparison S)
-    (section : List Span) (records : List Fields) (fields : Fields) (said : PathRecord)
-    → (j : JudgesByPath to_come tell version old section records)
-    → SaysPath IsAddress IsDecimal version fields said.low said.high (record_answer said) → (old.at ≤ said.low → said.low < said.high → ⊥)
-    → IsFaultyRecord version j.table (length records) fields (fault.Order old.count)
-order_fault to_come tell version old section records fields said j says not = (
-  j.count,
+pub order_fault : (version : PathVersion) (table : List PathSpan) (at number : ℕ) (fields : Fields) (said : PathRecord)
+    → whole at ≡ path_end table → SaysPath IsAddress IsDecimal version fields said.low said.high (record_answer said)
+    → (at ≤ said.low → said.low < said.high → ⊥) → IsFaultyRecord version table number fields (fault.Order number)
+order_fault version table at number fields said end says not = (
+  refl,
   record_span said,
   says_span version fields said says,
   λ o.
-      let both = order_pushed j.table (record_span said) o in
-      let past : IsAtMost (whole old.at) (whole said.low) =
-      subst (λ (p : Position). IsAtMost p (whole said.low)) (sym j.merged.at_is) both.0 in
+      let both = order_pushed table (record_span said) o in
+      let past : IsAtMost (whole at) (whole said.low) =
+      subst (λ (p : Position). IsAtMost p (whole said.low)) (sym end) both.0 in
       not past.address (holds_some said.low said.high both.1),
 )
 

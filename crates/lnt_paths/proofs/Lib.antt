@@ -1,5 +1,6 @@
 pub mod BorderLemmas
 pub mod ComparisonLemmas
+pub mod HeldLemmas
 pub mod JoiningLemmas
 pub mod LineLemmas
 pub mod MergingLemmas

@@ -400,7 +400,15 @@ pub header_found : (found : Option PathVersion) (bytes : List ℕ) (fields : Fie
     → HasRead reader bytes (fields ∷ []) × ((other : Fields) → BeginsWith bytes (other ∷ []) → other ≡ fields)
     → MatchOption found ((v : PathVersion) → fields ≢ path_column_names v) (λ v. fields ≡ path_column_names v)
     → MatchOption found ((v : PathVersion) → BeginsWith bytes (path_column_names v ∷ []) → ⊥)
-    (λ v. BeginsWith bytes (path_column_names v ∷ []))
+    (λ v. HasRead reader bytes (path_column_names v ∷ []))
 header_found None bytes fields reader first other = λ v x. other v (sym (first.1 (path_column_names v) x))
 header_found (Some v) bytes fields reader first same =
-    subst (λ (names : Fields). BeginsWith bytes (names ∷ [])) same (begins reader bytes (fields ∷ []) first.0)
+    subst (λ (names : Fields). HasRead reader bytes (names ∷ [])) same first.0
+
+pub header_begins : (found : Option PathVersion) (bytes : List ℕ) (reader : BytesReader)
+    → MatchOption found ((v : PathVersion) → BeginsWith bytes (path_column_names v ∷ []) → ⊥)
+    (λ v. HasRead reader bytes (path_column_names v ∷ []))
+    → MatchOption found ((v : PathVersion) → BeginsWith bytes (path_column_names v ∷ []) → ⊥)
+    (λ v. BeginsWith bytes (path_column_names v ∷ []))
+header_begins None bytes reader none = none
+header_begins (Some v) bytes reader read = begins reader bytes (path_column_names v ∷ []) read

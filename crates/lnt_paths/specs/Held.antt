@@ -1,9 +1,19 @@
--- A span of a table by path that is held.
+-- A table by path, read and held.
+use Rattle.std.specs.Prelude.{ℕ, List, map}
 use Rattle.lnt_paths.specs.declared.held.HeldSpan.{HeldSpan}
+use Rattle.lnt_paths.specs.declared.held.HeldTable.{HeldTable}
+use Rattle.lnt_paths.specs.declared.held.HeldTable.TheVariants as held
 use Rattle.lnt_paths.specs.PathDifferences.{told_path_answer}
+use Rattle.lnt_paths.specs.PathFaults.{IsPathFault}
 use Rattle.lnt_paths.specs.PathSpans.{PathSpan}
+use Rattle.lnt_paths.specs.PathTables.{IsPathTableOf}
 use Rattle.lnt_paths.specs.Reading.{whole}
 
--- the span that it is
+-- a span that is held: it begins and ends at operation index 0
 abbrev pub held_span : HeldSpan → PathSpan
-held_span h = record { low = whole h.low; high = whole h.high; answer = told_path_answer h.answer }
+held_span span = record { low = whole span.low; high = whole span.high; answer = told_path_answer span.answer }
+
+-- The bytes are a table by path of the version, and these are its spans; or they are none, and this is their first fault.
+abbrev pub IsHeld : List ℕ → HeldTable → Type 0
+IsHeld bytes (held.Fault told) = IsPathFault bytes told
+IsHeld bytes (held.Table version spans) = IsPathTableOf version bytes (map held_span spans.items)

@@ -1,6 +1,5 @@
 //! A table by path compared with the spans of a section, record by record.
 ghost use Rattle.std.specs.Prelude.{◌≡◌, ◌+◌, ◌^◌, ◌<◌, ◌≤◌, List, [], ◌∷◌, ◌++◌, length, IfOk, MatchOption, None, OnOk, ℕ};
-ghost use Rattle.std.specs.Bool.{MatchBool};
 ghost use Rattle.std.specs.Option.{option_map};
 ghost use Rattle.csv.specs.Records.{fields_of};
 ghost use Rattle.lnt_records.specs.Progress.{HasRead};
@@ -19,14 +18,14 @@ ghost use Rattle.lnt_paths.specs.PathTables.{IsPathTable, path_column_names};
 ghost use Rattle.lnt_paths.specs.Reading.{record_answer, record_span, whole};
 
 use crate::answer::{AnswerByPath, ComparedByPath, DifferenceByPath};
-use crate::header::version_of;
+use crate::header::read_header;
 use crate::known::KnownPaths;
 use crate::merge::{Apart, Section, column_in, first_apart};
 use crate::paths::Paths;
-use crate::record::{FieldFault, PathRecord, record_of};
+use crate::record::{PathRecord, record_after};
 use crate::version::PathVersion;
 use csv::{ByteRecord, Reader};
-use lnt_records::{TableFault, TableStop, read_first, read_next, reader_of};
+use lnt_records::{TableFault, TableStop, read_next, reader_of};
 use lnt_spans::{Answer, SpanSource};
 use std::alloc::{AllocError, Global};
 
@@ -70,10 +69,7 @@ fn header_of(alloc: Global, table: &[u8]) -> Result<Option<PathVersion>, TableSt
 {
     let mut reader = reader_of(alloc, table);
     let mut row = ByteRecord::new(alloc);
-    if !read_first(&mut reader, &mut row)? {
-        return Ok(None);
-    }
-    Ok(version_of(&row))
+    read_header(&mut reader, &mut row)
 }
 
 // Compares the records of a text after its first one with what is left of a section, as `csv` reads them. It holds a reader
@@ -200,14 +196,6 @@ impl<S: SpanSource + Drop> PathComparison<S> {
         Ok(())
     }
 
-    // Whether a record begins where the records end or after that, and holds something.
-    pub(crate) fn takes(&self, said: &PathRecord<'_>) -> bool
-        ensures { MatchBool result ((self.now.at ≤ said.now.low) × (said.now.low < said.now.high))
-            (self.now.at ≤ said.now.low → said.now.low < said.now.high → ⊥) }
-    {
-        self.at <= said.low && said.low < said.high
-    }
-
     // Takes the next record, if it isn't faulty.
     fn take_record<P: Paths>(
         &mut self,
@@ -227,16 +215,10 @@ impl<S: SpanSource + Drop> PathComparison<S> {
             × IsFaultyRecord version table (length records) (fields_of row.now) fault)) }
         ensures count { IfOk result (λ found. MatchOption found (self.new.count ≡ self.old.count + 1) (λ _. Unit {0})) }
     {
-        let said = match record_of(row, version) {
+        let said = match record_after(row, version, self.at, self.count) {
             Ok(said) => said,
-            Err(FieldFault::Count) => return Ok(Some(TableFault::Fields(self.count))),
-            Err(FieldFault::Number(column)) => {
-                return Ok(Some(TableFault::Number(self.count, column)));
-            }
+            Err(fault) => return Ok(Some(fault)),
         };
-        if !self.takes(&said) {
-            return Ok(Some(TableFault::Order(self.count)));
-        }
         self.push(alloc, paths, version, &said)?;
         self.count += 1;
         Ok(None)
@@ -290,7 +272,7 @@ pub(crate) fn told_of<P: Paths>(
 }
 
 // What a record answers, as it is told.
-fn said_of(alloc: Global, said: &PathRecord<'_>) -> Result<AnswerByPath, AllocError>
+pub(crate) fn said_of(alloc: Global, said: &PathRecord<'_>) -> Result<AnswerByPath, AllocError>
     ensures { IfOk result (λ told. told_path_answer told ≡ record_answer said.now) }
 {
     let path = Vec::from_slice(alloc, said.path)?;

@@ -1,16 +1,33 @@
 //! Record 0 of a table by path, which names its columns.
-ghost use Rattle.std.specs.Prelude.{◌≡◌, ◌≢◌, ◌≤◌, length, MatchOption};
+ghost use Rattle.std.specs.Prelude.{◌≡◌, ◌≢◌, ◌≤◌, ℕ, List, [], ◌∷◌, length, IfOk, MatchOption};
 ghost use Rattle.std.specs.Bool.{MatchBool};
 ghost use Rattle.csv.specs.Records.{fields_of};
-ghost use Rattle.lnt_records.specs.Progress.{AreNamed};
+ghost use Rattle.lnt_records.specs.Progress.{AreNamed, HasRead};
+ghost use Rattle.lnt_records.specs.Table.{BeginsWith};
 ghost use Rattle.lnt_paths.specs.declared.version.PathVersion.{PathVersion};
 ghost use Rattle.lnt_paths.specs.declared.version.PathVersion.TheVariants as version;
 ghost use Rattle.lnt_paths.specs.PathTables.{path_column_count, path_column_names};
 ghost use Rattle.lnt_paths.specs.Reading.{place_names};
 
 use crate::version::PathVersion;
-use csv::ByteRecord;
-use lnt_records::is_field;
+use csv::{ByteRecord, Reader};
+use lnt_records::{TableStop, is_field, read_first};
+
+// Reads record 0 into `row`, and gives the version whose columns it names, if it is a header. The reader has read nothing.
+pub(crate) fn read_header(
+    reader: &mut Reader<&[u8]>,
+    row: &mut ByteRecord,
+) -> Result<Option<PathVersion>, TableStop>
+    requires { (bytes : List ℕ) × HasRead reader.old bytes [] }
+    ensures { IfOk result (λ found. (bytes : List ℕ) → HasRead reader.old bytes []
+        → MatchOption found ((v : PathVersion) → BeginsWith bytes (path_column_names v ∷ []) → ⊥)
+        (λ v. HasRead reader.new bytes (path_column_names v ∷ []))) }
+{
+    if !read_first(reader, row)? {
+        return Ok(None);
+    }
+    Ok(version_of(row))
+}
 
 // How many columns a table of the version has.
 pub(crate) fn columns(version: PathVersion) -> usize
@@ -24,7 +41,7 @@ pub(crate) fn columns(version: PathVersion) -> usize
 
 // The version whose columns a record names.
 #[tactic(auto, using(crate::proofs::ReadingLemmas::names_none))]
-pub(crate) fn version_of(row: &ByteRecord) -> Option<PathVersion>
+fn version_of(row: &ByteRecord) -> Option<PathVersion>
     ensures { MatchOption result ((v : PathVersion) → fields_of row.now ≢ path_column_names v)
         (λ v. fields_of row.now ≡ path_column_names v) }
 {

@@ -1,10 +1,113 @@
-//! The spans of a table by path, held.
+//! A table by path, read and held: what its records say, all at once.
+ghost use Rattle.std.specs.Prelude.{◌≡◌, ℕ, List, [], ◌∷◌, ◌++◌, length, map, IfOk, MatchOption};
+ghost use Rattle.csv.specs.Records.{fields_of};
+ghost use Rattle.lnt_records.specs.Progress.{HasRead};
+ghost use Rattle.lnt_records.specs.Table.{Fields};
+ghost use Rattle.lnt_paths.specs.Held.{IsHeld, held_span};
+ghost use Rattle.lnt_paths.specs.Merging.{path_end};
+ghost use Rattle.lnt_paths.specs.PathFaults.{IsFaultyRecord};
+ghost use Rattle.lnt_paths.specs.PathTables.{IsPathTable, path_column_names};
+ghost use Rattle.lnt_paths.specs.Reading.{whole};
+
 use crate::answer::AnswerByPath;
+use crate::comparison::said_of;
+use crate::header::read_header;
+use crate::record::record_after;
+use crate::version::PathVersion;
+use csv::{ByteRecord, Reader};
+use lnt_records::{TableFault, TableStop, read_next, reader_of};
+use std::alloc::{AllocError, Global};
 
 /// A span of a table by path, held with its answer.
 #[derive(Drop)]
 pub struct HeldSpan {
+    // the address at which it begins
     pub(crate) low: u64,
+    // the first address after it
     pub(crate) high: u64,
     pub(crate) answer: AnswerByPath,
+}
+
+/// What the bytes of a table by path say.
+#[derive(Drop)]
+pub enum HeldTable {
+    /// They are no table by path: this is the first fault.
+    Fault(TableFault),
+    /// They are one of this version, of these spans, in order.
+    Table(PathVersion, Vec<HeldSpan>),
+}
+
+/// Reads the table by path in some bytes, and holds its spans with the paths of their files.
+///
+/// `Table`: the bytes are a table by path of that version, and these are all of its spans. `Fault`: they are no such table,
+/// and the first faulty record is told, as `compare_by_path` tells it. All records are read by `csv`. The one error is that
+/// memory ran out; then nothing is held.
+// The reader of records is large, and the stack is short: no caller holds it beside its own values.
+#[inline(never)]
+pub fn hold_table(alloc: Global, table: &[u8]) -> Result<HeldTable, TableStop>
+    ensures { IfOk result (λ held. IsHeld table.now held) }
+{
+    let mut reader = reader_of(alloc, table);
+    let mut row = ByteRecord::new(alloc);
+    let Some(version) = read_header(&mut reader, &mut row)? else {
+        return Ok(HeldTable::Fault(TableFault::Header));
+    };
+    hold_records(alloc, &mut reader, &mut row, version)
+}
+
+// What is held of the records that a reader has to give, which has read the header of a text, each into `row`.
+fn hold_records(
+    alloc: Global,
+    reader: &mut Reader<&[u8]>,
+    row: &mut ByteRecord,
+    version: PathVersion,
+) -> Result<HeldTable, TableStop>
+    requires { (text : List ℕ) × HasRead reader.old text (path_column_names version ∷ []) }
+    ensures { IfOk result (λ held. (text : List ℕ) → HasRead reader.old text (path_column_names version ∷ []) → IsHeld text held) }
+{
+    let mut spans = Vec::new(alloc);
+    while read_next(reader, row)? {
+        let Ok(found) = hold_record(alloc, &mut spans, version, row) else {
+            return Err(TableStop::Memory);
+        };
+        if let Some(fault) = found {
+            return Ok(HeldTable::Fault(fault));
+        }
+    }
+    Ok(HeldTable::Table(version, spans))
+}
+
+// Holds the span of the next record after those of some spans, if it isn't faulty.
+fn hold_record(
+    alloc: Global,
+    spans: &mut Vec<HeldSpan>,
+    version: PathVersion,
+    row: &ByteRecord,
+) -> Result<Option<TableFault>, AllocError>
+    ensures { IfOk result (λ found. (records : List Fields) → IsPathTable version records (map held_span spans.old.items)
+        → MatchOption found (IsPathTable version (records ++ fields_of row.now ∷ []) (map held_span spans.new.items))
+        (λ fault. IsFaultyRecord version (map held_span spans.old.items) (length records) (fields_of row.now) fault)) }
+{
+    let number = spans.len() as u64 + 1;
+    let said = match record_after(row, version, end_of(spans), number) {
+        Ok(said) => said,
+        Err(fault) => return Ok(Some(fault)),
+    };
+    let answer = said_of(alloc, &said)?;
+    spans.push(HeldSpan {
+        low: said.low,
+        high: said.high,
+        answer,
+    })?;
+    Ok(None)
+}
+
+// The address at which some spans end; 0 where there is none.
+fn end_of(spans: &[HeldSpan]) -> u64
+    ensures { whole result ≡ path_end (map held_span spans.now) }
+{
+    match spans.last() {
+        Some(last) => last.high,
+        None => 0,
+    }
 }

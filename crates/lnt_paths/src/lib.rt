@@ -27,7 +27,7 @@ mod write;
 
 pub use answer::{AnswerByPath, ComparedByPath, DifferenceByPath};
 pub use comparison::compare_by_path;
-pub use held::HeldSpan;
+pub use held::{HeldSpan, HeldTable, hold_table};
 pub use lnt_records::WriteStop;
 pub use paths::Paths;
 pub use stretches::DifferencesByPath;

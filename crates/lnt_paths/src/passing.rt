@@ -42,7 +42,7 @@ impl<S: SpanSource + Drop> PathComparison<S> {
         let mut at = header.len();
         let mut last = b"".as_slice();
         while let Some((said, next)) = line_at(table, at, version, last) {
-            if !self.takes(&said) {
+            if !said.holds_from(self.at) {
                 return Ok(before);
             }
             self.push(alloc, paths, version, &said)?;

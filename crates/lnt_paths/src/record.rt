@@ -1,15 +1,19 @@
 //! The span that a record of a table by path says.
-ghost use Rattle.std.specs.Prelude.{◌≡◌, ◌+◌, ◌<◌, [], length, get_or, IfOk, IfErr, OnOk};
+ghost use Rattle.std.specs.Prelude.{◌≡◌, ◌+◌, ◌<◌, ◌≤◌, List, [], length, get_or, IfOk, IfErr, OnOk};
+ghost use Rattle.std.specs.Bool.{MatchBool};
 ghost use Rattle.csv.specs.Records.{fields_of};
 ghost use Rattle.lnt_digits.specs.Digits.{IsAddress, IsDecimal};
+ghost use Rattle.lnt_paths.specs.Merging.{path_end};
 ghost use Rattle.lnt_paths.specs.PathFaults as kind;
+ghost use Rattle.lnt_paths.specs.PathFaults.{IsFaultyRecord};
+ghost use Rattle.lnt_paths.specs.PathSpans.{PathSpan};
 ghost use Rattle.lnt_paths.specs.PathTables.{SaysColumn, SaysPath, path_column_count};
-ghost use Rattle.lnt_paths.specs.Reading.{AreSoundUpTo, IsFieldFault, IsFieldOfKind, IsPathRecordFault, record_answer};
+ghost use Rattle.lnt_paths.specs.Reading.{AreSoundUpTo, IsFieldFault, IsFieldOfKind, IsPathRecordFault, record_answer, whole};
 
 use crate::header::columns;
 use crate::version::PathVersion;
 use csv::ByteRecord;
-use lnt_records::field;
+use lnt_records::{TableFault, field};
 
 // What a record says, its path where the record has it.
 #[derive(Clone, Copy)]
@@ -22,6 +26,16 @@ pub(crate) struct PathRecord<'r> {
     pub(crate) column: Option<u64>,
 }
 
+impl PathRecord<'_> {
+    // Whether it begins at this address or after that, and holds something.
+    pub(crate) fn holds_from(&self, at: u64) -> bool
+        ensures { MatchBool result ((at ≤ self.now.low) × (self.now.low < self.now.high))
+            (at ≤ self.now.low → self.now.low < self.now.high → ⊥) }
+    {
+        at <= self.low && self.low < self.high
+    }
+}
+
 // Why a record says no span.
 #[derive(Clone, Copy)]
 pub(crate) enum FieldFault {
@@ -31,11 +45,31 @@ pub(crate) enum FieldFault {
     Number(u64),
 }
 
-// What a record says.
-pub(crate) fn record_of<'r>(
+// What the record with this number says, if it isn't faulty, where those before it end at this address.
+pub(crate) fn record_after<'r>(
     row: &'r ByteRecord,
     version: PathVersion,
-) -> Result<PathRecord<'r>, FieldFault>
+    at: u64,
+    number: u64,
+) -> Result<PathRecord<'r>, TableFault>
+    ensures ok { IfOk result (λ said. SaysPath IsAddress IsDecimal version (fields_of row.now) said.low said.high (record_answer said)) }
+    ensures order { IfOk result (λ said. (at ≤ said.low) × (said.low < said.high)) }
+    ensures err { IfErr result (λ fault. (table : List PathSpan) → whole at ≡ path_end table
+        → IsFaultyRecord version table number (fields_of row.now) fault) }
+{
+    let said = match record_of(row, version) {
+        Ok(said) => said,
+        Err(FieldFault::Count) => return Err(TableFault::Fields(number)),
+        Err(FieldFault::Number(column)) => return Err(TableFault::Number(number, column)),
+    };
+    if !said.holds_from(at) {
+        return Err(TableFault::Order(number));
+    }
+    Ok(said)
+}
+
+// What a record says.
+fn record_of<'r>(row: &'r ByteRecord, version: PathVersion) -> Result<PathRecord<'r>, FieldFault>
     ensures ok { IfOk result (λ said. SaysPath IsAddress IsDecimal version (fields_of row.now) said.low said.high (record_answer said)) }
     ensures err { IfErr result (λ fault. IsPathRecordFault version (fields_of row.now) fault) }
 {
