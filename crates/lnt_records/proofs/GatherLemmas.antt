@@ -1,5 +1,5 @@
 -- Records of a table whose spans are gathered.
-use Rattle.std.proofs.Common.{◌≡◌, ◌∙◌, ℕ, List, [], ◌∷◌, ◌++◌, append-nil, append_assoc, ap, map, Option, refl, subst, sym, arith}
+use Rattle.std.proofs.Common.{◌≡◌, ◌≢◌, ◌∙◌, ℕ, List, [], ◌∷◌, ◌++◌, append-nil, append_assoc, ap, map, Option, refl, subst, sym, arith}
 use Rattle.std.specs.List.{AllByRecursion, AllZip}
 use Rattle.std.specs.Prelude.{IfOk, Result}
 use Rattle.std.proofs.lemmas.Result.{IfOk-weaker}
@@ -16,6 +16,7 @@ use Rattle.lnt_spans.specs.Spans.{AreInOrder, span_answer, span_in_version, vers
 use Rattle.lnt_spans.specs.declared.listed.SpanList.{SpanList}
 use Rattle.lnt_records.specs.declared.differing.Differing.{Differing}
 use Rattle.lnt_records.specs.declared.differing.Differing.TheVariants.{Fault, Table}
+use Rattle.lnt_records.specs.declared.fault.TableFault.TheVariants as fault
 use Rattle.lnt_records.specs.declared.fault.TableStop.{TableStop}
 use Rattle.lnt_records.specs.declared.gather.Gathered.{Gathered}
 use Rattle.lnt_records.specs.declared.remaining.Remaining.{Remaining}
@@ -23,7 +24,7 @@ use Rattle.lnt_records.specs.Differing.{GoesOn, IsDiffering, IsGathered, IsStart
 use Rattle.lnt_records.specs.declared.comparison.Comparison.{Comparison}
 use Rattle.lnt_records.specs.Passing.{IsCut, LeavesOff}
 use Rattle.lnt_records.specs.Progress.{BytesReader, HasRead, Judges}
-use Rattle.lnt_records.specs.Table.{Fields, IsSpanRecord, IsTable, IsTableOf, RecordsOf, column_names}
+use Rattle.lnt_records.specs.Table.{BeginsWith, Fields, IsSpanRecord, IsTable, IsTableOf, RecordsOf, column_names}
 use Rattle.lnt_records.proofs.ComparisonLemmas.{HasCompared, Judged, all_after, zip_push}
 use Rattle.lnt_records.proofs.LawLemmas.{one_spans}
 use Rattle.lnt_records.proofs.PassingLemmas.{all_told, version_same}
@@ -177,3 +178,11 @@ pub started : {S : Type 0} (of_section : Remaining S → List Span → Type 0) (
     → IsDiffering of_section of_table bytes section differing → IsStarted of_section of_table differing
 started of_section of_table bytes section (Fault told) h = tt
 started of_section of_table bytes section (Table differences) h = (_, _, h.told)
+
+-- the header's fault isn't told of bytes that begin with the header of a version
+pub no_header_fault : {S : Type 0} (of_section : Remaining S → List Span → Type 0) (of_table : SpanList → List Span → Type 0)
+    (bytes : List ℕ) (version : Version) (section : Position → Option Answer) (differing : Differing S)
+    → BeginsWith bytes (column_names version ∷ []) → IsDiffering of_section of_table bytes section differing
+    → differing ≢ Fault fault.Header
+no_header_fault of_section of_table bytes version section differing begins h e =
+    subst (IsDiffering of_section of_table bytes section) e h version begins

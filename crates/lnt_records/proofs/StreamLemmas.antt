@@ -178,7 +178,7 @@ pub not_header : (bytes : List ℕ) (version : Version) (section : List Span) (c
 not_header bytes version section compared begins h e = subst (IsComparison bytes section) e h version begins
 
 -- A text with lines cut out begins with the header that its bytes begin with.
-cut_begins : (version : Version) (text bytes : List ℕ) (passed : List Fields) → IsCut version text bytes passed
+pub cut_begins : (version : Version) (text bytes : List ℕ) (passed : List Fields) → IsCut version text bytes passed
     → BeginsWith text (column_names version ∷ [])
     → BeginsWith bytes (column_names version ∷ [])
 cut_begins version text bytes passed cut b =

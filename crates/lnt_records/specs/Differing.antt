@@ -1,5 +1,5 @@
 -- A table compared with a section's spans at every position.
-use Rattle.std.specs.Prelude.{◌≡◌, ℕ, List, [], ◌++◌, Option}
+use Rattle.std.specs.Prelude.{◌≡◌, ◌≢◌, ℕ, List, [], ◌∷◌, ◌++◌, Option}
 use Rattle.std.specs.Option.{option_map}
 use Rattle.lnt_spans.specs.declared.answer.Answer.{Answer}
 use Rattle.lnt_spans.specs.declared.answer.Version.{Version}
@@ -13,11 +13,14 @@ use Rattle.lnt_spans.specs.Differing.{HasTold}
 use Rattle.lnt_spans.specs.Spans.{AreInOrder, span_answer, version_answer}
 use Rattle.lnt_records.specs.declared.differing.Differing.{Differing}
 use Rattle.lnt_records.specs.declared.differing.Differing.TheVariants as differing
+use Rattle.lnt_records.specs.declared.differing.DifferingRead.{DifferingRead}
+use Rattle.lnt_records.specs.declared.differing.DifferingRead.TheVariants as read
+use Rattle.lnt_records.specs.declared.fault.TableFault.TheVariants as fault
 use Rattle.lnt_records.specs.declared.remaining.Remaining.{Remaining}
 use Rattle.lnt_records.specs.declared.gather.Gathered.{Gathered}
 use Rattle.lnt_records.specs.declared.gather.Gathered.TheVariants as gathered
 use Rattle.lnt_records.specs.Faults.{IsFault}
-use Rattle.lnt_records.specs.Table.{IsTableOf}
+use Rattle.lnt_records.specs.Table.{BeginsWith, IsTableOf, column_names}
 
 -- The bytes are a table, and the stretches at which it answers otherwise than a section, as far as its version tells, come
 -- one after another.
@@ -40,6 +43,20 @@ IsStarted of_section of_table (differing.Fault told) = Unit {0}
 IsStarted of_section of_table (differing.Table differences) =
     (by_section : Position → Option Answer) × (by_table : Position → Option Answer)
     × HasTold of_section of_table differences by_section by_table []
+
+-- The table was compared, which only one is that begins with the header of a version: the fault that is told isn't the
+-- header's. Or the bytes begin with the header of neither version, and they were given.
+abbrev pub IsDifferingRead : {S : Type 0} → (Remaining S → List Span → Type 0) → (SpanList → List Span → Type 0) → List ℕ
+    → (Position → Option Answer) → DifferingRead S → Type 0
+IsDifferingRead of_section of_table bytes section (read.Differing told) =
+    IsDiffering of_section of_table bytes section told × (told ≢ differing.Fault fault.Header)
+IsDifferingRead of_section of_table bytes section (read.Other text) =
+    (text.items ≡ bytes) × ((version : Version) → BeginsWith bytes (column_names version ∷ []) → ⊥)
+
+-- Where it was compared, no stretch is told yet.
+abbrev pub IsStartedRead : {S : Type 0} → (Remaining S → List Span → Type 0) → (SpanList → List Span → Type 0) → DifferingRead S → Type 0
+IsStartedRead of_section of_table (read.Differing told) = IsStarted of_section of_table told
+IsStartedRead of_section of_table (read.Other text) = Unit {0}
 
 -- After the records of these spans the bytes have records of these others, or a fault. The bodies of this crate use it
 -- among themselves.

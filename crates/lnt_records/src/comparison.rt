@@ -57,7 +57,8 @@ pub(crate) fn compare_records<S: SpanSource + Drop>(
     compare_after(alloc, table, Merge::new(spans, version), version, 1)
 }
 
-// The version whose columns record 0 names, if it is a header.
+// The version whose columns record 0 names, if it is a header. It holds a reader of records, which no caller does beside it.
+#[inline(never)]
 pub(crate) fn header_of(alloc: Global, table: &[u8]) -> Result<Option<Version>, TableStop>
     ensures { IfOk result (λ found. MatchOption found ((v : Version) → BeginsWith table.now (column_names v ∷ []) → ⊥)
         (λ v. BeginsWith table.now (column_names v ∷ []))) }

@@ -1,14 +1,15 @@
 //! A table compared with the spans of a section at every position.
-ghost use Rattle.std.specs.Prelude.{◌≡◌, ◌≢◌, ◌+◌, ◌-◌, ◌^◌, ◌<◌, ℕ, List, Option, IfOk, IfSome, IsErrOf, IsTrue};
+ghost use Rattle.std.specs.Prelude.{◌≡◌, ◌≢◌, ◌+◌, ◌-◌, ◌^◌, ◌<◌, ℕ, List, [], ◌∷◌, Option, IfOk, IfSome, IsErrOf, IsTrue};
 ghost use Rattle.lnt_spans.specs.declared.span.Span.{Span};
 ghost use Rattle.lnt_spans.specs.declared.answer.Answer.{Answer};
 ghost use Rattle.lnt_spans.specs.declared.position.Position.{Position as Place};
 ghost use Rattle.lnt_spans.specs.Spans.{AreInOrder, span_answer};
 ghost use Rattle.lnt_wire.specs.Pulling.{HasMoreThan};
-ghost use Rattle.lnt_records.specs.Differing.{GoesOn, IsDiffering, IsGathered, IsStarted};
+ghost use Rattle.lnt_records.specs.Differing.{GoesOn, IsDiffering, IsDifferingRead, IsGathered, IsStarted, IsStartedRead};
+ghost use Rattle.lnt_records.specs.Table.{BeginsWith, column_names};
 
 use crate::comparison::header_of;
-use crate::fault::{TableFault, TableStop};
+use crate::fault::{TableFault, TableStop, told};
 use crate::gather::{Gathered, gather_after};
 use crate::header::header_line;
 use crate::lines::pass_header;
@@ -57,37 +58,97 @@ pub fn compare_all<S: SpanSource + Drop, T: Source>(
     ensures too_long { IsErrOf result Stop.TooLong → IsTrue (T.too_long table.new) }
     ensures more { IsErrOf result Stop.TooLong → HasMoreThan (T.remaining table.old) (T.left table.old) }
 {
+    match differ_or_take(alloc, table, spans)? {
+        DifferingRead::Differing(differing) => Ok(differing),
+        DifferingRead::Other(_) => Ok(Differing::Fault(TableFault::Header)),
+    }
+}
+
+/// What became of a table.
+#[derive(Drop)]
+pub enum DifferingRead<S> {
+    /// It was compared, and this was found.
+    Differing(Differing<S>),
+    /// Record 0 names the columns of neither version. These are all of its bytes.
+    Other(Vec<u8>),
+}
+
+/// Compares a table as `compare_all` does, but for one that names the columns of neither version: its bytes are given, and
+/// nothing is said of them. So the fault of a header is never told. It stops as `compare_table` does.
+pub fn differ_or_take<S: SpanSource + Drop, T: Source>(
+    alloc: Global,
+    table: &mut T,
+    spans: S,
+) -> Result<DifferingRead<S>, Stop>
+    requires failures { T.failures table.old < 2 ^ 64 - 1 }
+    requires spans { (list : List Span) × S.to_come spans list × AreInOrder list }
+    ensures ok { IfOk result (λ read. (list : List Span) (section : Place → Option Answer) → S.to_come spans list → AreInOrder list
+        → ((p : Place) → span_answer list p ≡ section p)
+        → IfSome (T.remaining table.old) (λ bytes. IsDifferingRead ⟦<Remaining<S> as SpanSource>⟧.to_come ⟦<SpanList as SpanSource>⟧.to_come
+        bytes section read)) }
+    ensures started { IfOk result (λ read. IsStartedRead ⟦<Remaining<S> as SpanSource>⟧.to_come ⟦<SpanList as SpanSource>⟧.to_come
+        read) }
+    ensures read { IsErrOf result Stop.Read → T.failures table.new ≡ T.failures table.old + 1 }
+    ensures no_failure { result ≢ Err Stop.Read → T.failures table.new ≡ T.failures table.old }
+    ensures too_long { IsErrOf result Stop.TooLong → IsTrue (T.too_long table.new) }
+    ensures more { IsErrOf result Stop.TooLong → HasMoreThan (T.remaining table.old) (T.left table.old) }
+{
     // A table has no more records than its source may give bytes, and their number fits.
     let _may_give = table.left();
     let mut window = Window::new(alloc);
     window.fill(alloc, table)?;
     let Some(version) = pass_header(&mut window) else {
         let text = window.rest_after(alloc, &[], table)?;
-        return told(compare_text(alloc, &text, spans));
+        return differ_taken(alloc, text, spans);
     };
     let passed = pass_spans::<S, T, Differing<S>>(alloc, spans, version, table, &mut window)?;
     let text = window.rest_after(alloc, header_line(version), table)?;
     let merge = Merge::past(SpanSlice::of(&[]), version, passed.end);
     let gathered = gather_after(alloc, &text, merge, version, passed.count);
-    told(differ_after(gathered, passed.spans, version, passed.end))
+    let differing = told(differ_after(gathered, passed.spans, version, passed.end))?;
+    Ok(DifferingRead::Differing(differing))
 }
 
-// The same of a table in memory.
-fn compare_text<S: SpanSource + Drop>(
+// The same of all bytes.
+fn differ_taken<S: SpanSource + Drop>(
+    alloc: Global,
+    text: Vec<u8>,
+    spans: S,
+) -> Result<DifferingRead<S>, Stop>
+    requires { (list : List Span) × S.to_come spans list × AreInOrder list }
+    ensures ok { IfOk result (λ read. (list : List Span) (section : Place → Option Answer) → S.to_come spans list → AreInOrder list
+        → ((p : Place) → span_answer list p ≡ section p)
+        → IsDifferingRead ⟦<Remaining<S> as SpanSource>⟧.to_come ⟦<SpanList as SpanSource>⟧.to_come text.items section read) }
+    ensures started { IfOk result (λ read. IsStartedRead ⟦<Remaining<S> as SpanSource>⟧.to_come ⟦<SpanList as SpanSource>⟧.to_come
+        read) }
+    ensures not_read { IsErrOf result Stop.Read → ⊥ }
+    ensures not_long { IsErrOf result Stop.TooLong → ⊥ }
+{
+    match header_of(alloc, &text) {
+        Ok(Some(version)) => {
+            let differing = told(differ_text(alloc, &text, spans, version))?;
+            Ok(DifferingRead::Differing(differing))
+        }
+        Ok(None) => Ok(DifferingRead::Other(text)),
+        Err(TableStop::Memory) => Err(Stop::Memory),
+    }
+}
+
+// The same of a text that begins with a header.
+fn differ_text<S: SpanSource + Drop>(
     alloc: Global,
     text: &[u8],
     spans: S,
+    version: Version,
 ) -> Result<Differing<S>, TableStop>
-    requires { (list : List Span) × S.to_come spans list × AreInOrder list }
+    requires begins { BeginsWith text.now (column_names version ∷ []) }
+    requires spans { (list : List Span) × S.to_come spans list × AreInOrder list }
     ensures started { IfOk result (λ differing. IsStarted ⟦<Remaining<S> as SpanSource>⟧.to_come ⟦<SpanList as SpanSource>⟧.to_come
         differing) }
     ensures differing { IfOk result (λ differing. (list : List Span) (section : Place → Option Answer) → S.to_come spans list
         → AreInOrder list → ((p : Place) → span_answer list p ≡ section p)
         → IsDiffering ⟦<Remaining<S> as SpanSource>⟧.to_come ⟦<SpanList as SpanSource>⟧.to_come text.now section differing) }
 {
-    let Some(version) = header_of(alloc, text)? else {
-        return Ok(Differing::Fault(TableFault::Header));
-    };
     let merge = Merge::new(SpanSlice::of(&[]), version);
     let gathered = gather_after(alloc, text, merge, version, 1);
     let all = Remaining {
@@ -118,17 +179,5 @@ fn differ_after<S: SpanSource + Drop>(
             let records = SpanList::of(records);
             Ok(Differing::Table(Differences::past(spans, records, version, at)))
         }
-    }
-}
-
-// What a comparison of bytes in memory tells.
-fn told<S>(compared: Result<Differing<S>, TableStop>) -> Result<Differing<S>, Stop>
-    ensures ok { IfOk result (λ it. compared ≡ Ok it) }
-    ensures not_read { IsErrOf result Stop.Read → ⊥ }
-    ensures not_long { IsErrOf result Stop.TooLong → ⊥ }
-{
-    match compared {
-        Ok(compared) => Ok(compared),
-        Err(TableStop::Memory) => Err(Stop::Memory),
     }
 }

@@ -1,6 +1,7 @@
 //! What is wrong with a table, and why a call stopped.
-ghost use Rattle.std.specs.Prelude.{◌≡◌};
+ghost use Rattle.std.specs.Prelude.{◌≡◌, IfOk, IsErrOf};
 
+use lnt_wire::Stop;
 use std::alloc::AllocError;
 
 /// The first fault of a table. In one record `Fields` comes before `Number`, and `Number` before `Order`.
@@ -39,5 +40,17 @@ impl From<AllocError> for WriteStop {
 
     fn from(_error: AllocError) -> WriteStop {
         WriteStop::Memory
+    }
+}
+
+// What a call tells of bytes in memory, as one tells it that takes them of a source.
+pub(crate) fn told<C>(found: Result<C, TableStop>) -> Result<C, Stop>
+    ensures ok { IfOk result (λ it. found ≡ Ok it) }
+    ensures not_read { IsErrOf result Stop.Read → ⊥ }
+    ensures not_long { IsErrOf result Stop.TooLong → ⊥ }
+{
+    match found {
+        Ok(found) => Ok(found),
+        Err(TableStop::Memory) => Err(Stop::Memory),
     }
 }

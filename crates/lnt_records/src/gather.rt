@@ -24,7 +24,8 @@ pub(crate) enum Gathered {
 }
 
 // The spans of a text that begins with a header, and from which records after that were cut out, so many with the header,
-// which the merge has compared with some spans.
+// which the merge has compared with some spans. The reader of records is large, and the stack is short: no caller holds it.
+#[inline(never)]
 pub(crate) fn gather_after<S: SpanSource + Drop>(
     alloc: Global,
     text: &[u8],

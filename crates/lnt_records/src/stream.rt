@@ -6,7 +6,7 @@ ghost use Rattle.lnt_wire.specs.Pulling.{HasMoreThan};
 ghost use Rattle.lnt_records.specs.Faults.{IsComparison, IsTableRead};
 
 use crate::comparison::{Compared, compare_after, compare_records, header_of};
-use crate::fault::{TableFault, TableStop};
+use crate::fault::{TableFault, TableStop, told};
 use crate::header::header_line;
 use crate::lines::{pass_header, push_lines};
 use crate::passing::pass_spans;
@@ -109,18 +109,6 @@ fn compare_taken<S: SpanSource + Drop>(
             Ok(TableRead::Compared(compared))
         }
         Ok(None) => Ok(TableRead::Other(text)),
-        Err(TableStop::Memory) => Err(Stop::Memory),
-    }
-}
-
-// What a comparison of bytes in memory tells.
-fn told(compared: Result<Compared, TableStop>) -> Result<Compared, Stop>
-    ensures ok { IfOk result (λ it. compared ≡ Ok it) }
-    ensures not_read { IsErrOf result Stop.Read → ⊥ }
-    ensures not_long { IsErrOf result Stop.TooLong → ⊥ }
-{
-    match compared {
-        Ok(compared) => Ok(compared),
         Err(TableStop::Memory) => Err(Stop::Memory),
     }
 }

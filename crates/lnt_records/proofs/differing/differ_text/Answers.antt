@@ -2,18 +2,18 @@ use Rattle.std.proofs.Common.{[], map, refl}
 use Rattle.std.proofs.lemmas.Result.{IfOk-weaker}
 use Rattle.lnt_spans.specs.Spans.{span_answer, span_in_version}
 use Rattle.lnt_records.proofs.GatherLemmas.{all_to_come, gathered_is, judges_none, started}
-use Rattle.lnt_records.proofs.differing.compare_text.Goals as goal
+use Rattle.lnt_records.proofs.differing.differ_text.Goals as goal
 
 pub gather_after-gathered-requires-clause-judged : goal.gather_after-gathered-requires-clause-judged
 gather_after-gathered-requires-clause-judged g c = (
   [],
   [],
-  (judges_none _ c.new-merge.result c.in-Some.version c.new-merge.ensures.version (c.new-merge.ensures.compares [] c.of.ensures tt)).0,
+  (judges_none _ c.new-merge.result c.args.version c.new-merge.ensures.version (c.new-merge.ensures.compares [] c.of.ensures tt)).0,
 )
 
 pub returns-clause-differing : goal.returns-clause-differing
 returns-clause-differing g c =
-    let version = c.in-Some.version in
+    let version = c.args.version in
     let j = judges_none _ c.new-merge.result version c.new-merge.ensures.version (c.new-merge.ensures.compares [] c.of.ensures tt) in
     IfOk-weaker c.differ_after.result _ _
     (λ differing h list section coming order answers.
@@ -25,8 +25,8 @@ returns-clause-differing g c =
 
 pub returns-clause-started : goal.returns-clause-started
 returns-clause-started g c =
-    let version = c.in-Some.version in
-    let known = c.requires in
+    let version = c.args.version in
+    let known = c.requires.spans in
     let j = judges_none _ c.new-merge.result version c.new-merge.ensures.version (c.new-merge.ensures.compares [] c.of.ensures tt) in
     IfOk-weaker c.differ_after.result _ _
     (λ differing h.
