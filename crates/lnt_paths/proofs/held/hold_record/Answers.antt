@@ -6,7 +6,8 @@ use Rattle.lnt_paths.proofs.held.hold_record.Goals as goal
 
 pub returns-in-Err : goal.returns-in-Err
 returns-in-Err c records table =
-    record_fault c.args.version records (fields_of c.args.row.now) c.args.spans.now.items _ c.in-Err.fault table (omega (arith, c.len.ensures))
+    record_fault c.args.version records (fields_of c.args.row.now) c.args.spans.now.items _ c.in-Err.fault table
+    (omega (arith, c.len.ensures))
     (c.in-Err.ensures.err (map held_span c.args.spans.now.items) (rw c.deref.ensures.value at c.end_of.ensures))
 
 pub returns : goal.returns
