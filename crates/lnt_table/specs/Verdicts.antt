@@ -8,17 +8,23 @@ use Rattle.lnt_sequences.specs.Sequences.{line_answer}
 use Rattle.lnt_records.specs.Faults.{IsComparison}
 use Rattle.lnt_records.specs.declared.comparison.Compared.{Compared}
 use Rattle.lnt_records.specs.declared.comparison.Compared.TheVariants.{Same, Fault, Differs}
+use Rattle.lnt_records.specs.declared.fault.TableFault.{TableFault}
 use Rattle.lnt_records.specs.declared.fault.TableFault.TheVariants as fault
+use Rattle.lnt_table.specs.declared.verdict.TableNo.{TableNo}
 use Rattle.lnt_table.specs.declared.verdict.TableNo.TheVariants as no
 use Rattle.lnt_table.specs.declared.verdict.Verdict.{Verdict}
 use Rattle.lnt_table.specs.declared.verdict.Verdict.TheVariants.{Yes, No}
 
+-- the first fault of a table as a reason against it
+abbrev pub no_of_fault : TableFault → TableNo
+no_of_fault fault.Header = no.Header
+no_of_fault (fault.Fields k) = no.Fields k
+no_of_fault (fault.Number k i) = no.Number k i
+no_of_fault (fault.Order k) = no.Order k
+
 abbrev pub verdict_of : Compared → Verdict
 verdict_of Same = Yes
-verdict_of (Fault fault.Header) = No no.Header
-verdict_of (Fault (fault.Fields k)) = No (no.Fields k)
-verdict_of (Fault (fault.Number k i)) = No (no.Number k i)
-verdict_of (Fault (fault.Order k)) = No (no.Order k)
+verdict_of (Fault told) = No (no_of_fault told)
 verdict_of (Differs difference) = No (no.Differs difference.position difference.by_table difference.by_section)
 
 -- It is what a comparison of the table with spans tells that answer as the rows of the units.

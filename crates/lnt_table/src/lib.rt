@@ -20,7 +20,7 @@ pub use by_path::{Checked, check_any};
 pub use checking::check;
 pub use lnt_lines::{No, Options};
 pub use lnt_paths::{AnswerByPath, ComparedByPath, DifferenceByPath, PathTable, PathVersion};
-pub use lnt_records::{Differing, WriteStop};
+pub use lnt_records::{Differing, TableFault, WriteStop};
 pub use lnt_wire::Stop;
 pub use paths::write_paths;
 pub use stretches::differences;

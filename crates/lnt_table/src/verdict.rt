@@ -1,6 +1,7 @@
 //! What a check answers.
-ghost use Rattle.std.specs.Prelude.{◌≡◌};
-ghost use Rattle.lnt_table.specs.Verdicts.{verdict_of};
+ghost use Rattle.std.specs.Prelude.{◌≡◌, ◌≢◌, IfNone, IfSome};
+ghost use Rattle.lnt_records.specs.declared.fault.TableFault.{TableFault as TableFaultSpec};
+ghost use Rattle.lnt_table.specs.Verdicts.{no_of_fault, verdict_of};
 
 use lnt_lines::No;
 use lnt_records::{Compared, TableFault};
@@ -49,19 +50,43 @@ pub enum TableNo {
     },
 }
 
+impl From<TableFault> for TableNo {
+    ghost from_gives = { λ fault no. no ≡ no_of_fault fault };
+
+    fn from(fault: TableFault) -> TableNo {
+        match fault {
+            TableFault::Header => TableNo::Header,
+            TableFault::Fields(record) => TableNo::Fields(record),
+            TableFault::Number(record, column) => TableNo::Number { record, column },
+            TableFault::Order(record) => TableNo::Order(record),
+        }
+    }
+}
+
+impl TableNo {
+    /// What is wrong with the table itself: the fault of which this is the reason. None where this tells of the section, or of
+    /// a position at which the two differ.
+    pub fn fault(&self) -> Option<TableFault>
+        ensures some { IfSome result (λ fault. self.now ≡ no_of_fault fault) }
+        ensures none { IfNone result ((fault : TableFaultSpec) → self.now ≢ no_of_fault fault) }
+    {
+        match *self {
+            TableNo::Header => Some(TableFault::Header),
+            TableNo::Fields(record) => Some(TableFault::Fields(record)),
+            TableNo::Number { record, column } => Some(TableFault::Number(record, column)),
+            TableNo::Order(record) => Some(TableFault::Order(record)),
+            TableNo::Section(_) | TableNo::Differs { .. } => None,
+        }
+    }
+}
+
 // What a comparison of the table with a good section makes of the two.
 pub(crate) fn verdict_of(compared: Compared) -> Verdict
     ensures { result ≡ verdict_of compared }
 {
     match compared {
         Compared::Same => Verdict::Yes,
-        Compared::Fault(TableFault::Header) => Verdict::No(TableNo::Header),
-        Compared::Fault(TableFault::Fields(record)) => Verdict::No(TableNo::Fields(record)),
-        Compared::Fault(TableFault::Number(record, column)) => Verdict::No(TableNo::Number {
-            record,
-            column,
-        }),
-        Compared::Fault(TableFault::Order(record)) => Verdict::No(TableNo::Order(record)),
+        Compared::Fault(fault) => Verdict::No(TableNo::from(fault)),
         Compared::Differs(difference) => Verdict::No(TableNo::Differs {
             position: difference.position,
             by_table: difference.by_table,
