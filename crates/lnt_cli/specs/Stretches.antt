@@ -16,7 +16,8 @@ use Rattle.lnt_cli.specs.declared.stretches.Stretches.TheVariants.{Faulty, Told}
 use Rattle.lnt_cli.specs.declared.stretches.Places.{Places}
 use Rattle.lnt_cli.specs.declared.stretches.Places.TheVariants.{Section, Table}
 use Rattle.lnt_cli.specs.Questions.{ForUnitsOf, IsNoTold}
-use Rattle.lnt_cli.specs.Verdicts.{reason_of, table_no_text}
+use Rattle.lnt_table.specs.Verdicts.{no_of_fault}
+use Rattle.lnt_cli.specs.Verdicts.{table_no_text}
 use Rattle.lnt_lines.specs.declared.options.Options.{Options}
 use Rattle.lnt_lines.specs.Indexed.{Indexed}
 use Rattle.lnt_lines.specs.declared.section.JudgedIndex.{JudgedIndex}
@@ -43,7 +44,7 @@ AreStretchesOf dead skip units table old new (Told status) = AreToldOf dead skip
 
 -- A writer that held these bytes has gained the line of what is wrong with the table, where something is.
 abbrev pub IsFaultTold : Stretches → Option (List ℕ) → Option (List ℕ) → Type 0
-IsFaultTold (Faulty told) old new = Appends old new (table_no_text (reason_of told) ++ codes "\n")
+IsFaultTold (Faulty told) old new = Appends old new (table_no_text (no_of_fault told) ++ codes "\n")
 IsFaultTold (Told status) old new = Unit {0}
 
 -- how a run ends that tells it

@@ -2,8 +2,6 @@
 use Rattle.std.specs.Prelude.{ℕ, List, [], ◌++◌, Option, None, Some, codes, decimal}
 use Rattle.lnt_sources.specs.declared.status.Status.{Status}
 use Rattle.lnt_sources.specs.declared.status.Status.TheVariants as status
-use Rattle.lnt_records.specs.declared.fault.TableFault.{TableFault}
-use Rattle.lnt_records.specs.declared.fault.TableFault.TheVariants as fault
 use Rattle.lnt_paths.specs.declared.answer.AnswerByPath.{AnswerByPath}
 use Rattle.lnt_paths.specs.declared.answer.ComparedByPath.{ComparedByPath}
 use Rattle.lnt_paths.specs.declared.answer.ComparedByPath.TheVariants.{Same, Fault, Differs}
@@ -14,6 +12,7 @@ use Rattle.lnt_table.specs.declared.verdict.TableNo.{TableNo}
 use Rattle.lnt_table.specs.declared.verdict.TableNo.TheVariants as no
 use Rattle.lnt_table.specs.declared.verdict.Verdict.{Verdict}
 use Rattle.lnt_table.specs.declared.verdict.Verdict.TheVariants.{Yes, No}
+use Rattle.lnt_table.specs.Verdicts.{no_of_fault}
 use Rattle.lnt_answers.specs.DifferenceLines.{difference_text}
 use Rattle.lnt_answers.specs.Texts.{no_text}
 use Rattle.lnt_text.specs.Quotes.{quoted_text}
@@ -40,13 +39,6 @@ abbrev pub verdict_status : Verdict → Status
 verdict_status Yes = status.Done
 verdict_status (No reason) = status.No
 
--- the first fault of a table as a reason against it
-abbrev pub reason_of : TableFault → TableNo
-reason_of fault.Header = no.Header
-reason_of (fault.Fields record_number) = no.Fields record_number
-reason_of (fault.Number record_number column) = no.Number record_number column
-reason_of (fault.Order record_number) = no.Order record_number
-
 -- ---- tables by path
 
 -- the column of an answer, where the version tells it
@@ -69,7 +61,7 @@ path_difference_text difference =
 -- the line of what a comparison by path tells
 abbrev pub compared_text : ComparedByPath → List ℕ
 compared_text Same = codes "yes\n"
-compared_text (Fault told) = table_no_text (reason_of told) ++ codes "\n"
+compared_text (Fault told) = table_no_text (no_of_fault told) ++ codes "\n"
 compared_text (Differs difference) = path_difference_text difference ++ codes "\n"
 
 -- how a run ends that tells it

@@ -108,10 +108,7 @@ pub(crate) fn open<O: Opener>(
         O.tells opener.old name.now (⟦<Counted<BufReader<O::Reader>> as Source>⟧.remaining source)) }
     ensures later { TellsNoMore (O.tells opener.old) (O.tells opener.new) }
 {
-    match open_file(alloc, opener, name) {
-        Ok(source) => Ok(source),
-        Err(halt) => Err(CliStop::of_file(alloc, name, halt)),
-    }
+    of_file(alloc, name, open_file(alloc, opener, name))
 }
 
 // The files of a section that is to be judged, and another one, open.

@@ -187,17 +187,6 @@ fn print_places<R: Source, T: Source, W: Write>(
     Ok(Places::Table(of_file(alloc, table, printed)?))
 }
 
-// What stands against a table itself.
-fn fault_of(no: &TableNo) -> Option<TableFault> {
-    match *no {
-        TableNo::Header => Some(TableFault::Header),
-        TableNo::Fields(record) => Some(TableFault::Fields(record)),
-        TableNo::Number { record, column } => Some(TableFault::Number(record, column)),
-        TableNo::Order(record) => Some(TableFault::Order(record)),
-        TableNo::Section(_) | TableNo::Differs { .. } => None,
-    }
-}
-
 // The notes to answers. None are told where the words ask for none, and none stops a run.
 impl<O: Opener, W: Write, N: Write> Session<'_, '_, '_, O, W, N> {
     pub(crate) fn tell_good(&mut self, hints: &Hints, from: &Judging<'_>)
@@ -267,7 +256,7 @@ impl<O: Opener, W: Write, N: Write> Session<'_, '_, '_, O, W, N> {
             Verdict::No(no) => no,
             Verdict::Yes => return self.tell_agreed(from, table),
         };
-        match fault_of(no) {
+        match no.fault() {
             Some(fault) => self.tell_fault(fault, Columns::Numbered, table),
             None => Status::No,
         }

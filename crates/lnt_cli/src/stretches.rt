@@ -4,12 +4,12 @@ ghost use Rattle.lnt_cli.specs.Stretches.{AreStretchesOf, IsFaultTold};
 ghost use Rattle.lnt_lines.specs.Indexed.{IsIndexOf};
 ghost use Rattle.lnt_unit.specs.declared.unit.Parts.{Parts};
 
-use crate::verdict::{TableNoLine, no_of};
+use crate::verdict::TableNoLine;
 use lnt_answers::print_differences;
 use lnt_lines::{Index, No};
 use lnt_records::TableFault;
 use lnt_sources::{Halt, Status};
-use lnt_table::{Differing, differences};
+use lnt_table::{Differing, TableNo, differences};
 use lnt_wire::Source;
 use std::alloc::Global;
 use std::io::Write;
@@ -54,7 +54,7 @@ pub(crate) fn print_stretches<T: Source, W: Write>(
             Ok(Stretches::Told(status))
         }
         Ok(Differing::Fault(fault)) => {
-            writeln!(out, "{}", TableNoLine(no_of(fault)))?;
+            writeln!(out, "{}", TableNoLine(TableNo::from(fault)))?;
             Ok(Stretches::Faulty(fault))
         }
         Err(stop) => Err(Halt::from(stop)),

@@ -9,11 +9,11 @@ ghost use Rattle.lnt_table.specs.Written.{IsTableOfUnits};
 ghost use Rattle.lnt_cli.specs.Verdicts.{checked_text, compared_text, verdict_text};
 
 use crate::stop::halt_of;
-use crate::verdict::{PathDifferenceLine, TableNoLine, no_of};
+use crate::verdict::{PathDifferenceLine, TableNoLine};
 use lnt_lines::{Index, Options};
 use lnt_sources::{Halt, Status};
 use lnt_spans::Version;
-use lnt_table::{Checked, ComparedByPath, Verdict, check_any, write_index};
+use lnt_table::{Checked, ComparedByPath, TableNo, Verdict, check_any, write_index};
 use lnt_wire::{Source, Strings};
 use std::alloc::Global;
 use std::io::Write;
@@ -77,7 +77,9 @@ fn print_compared<W: Write>(compared: &ComparedByPath, out: &mut W) -> Result<()
 {
     match compared {
         ComparedByPath::Same => writeln!(out, "yes")?,
-        ComparedByPath::Fault(fault) => writeln!(out, "{}", TableNoLine(no_of(*fault)))?,
+        ComparedByPath::Fault(fault) => {
+            writeln!(out, "{}", TableNoLine(TableNo::from(*fault)))?;
+        }
         ComparedByPath::Differs(difference) => {
             writeln!(out, "{}", PathDifferenceLine(difference))?;
         }

@@ -1,10 +1,9 @@
 //! How the evidence against a table is printed.
-ghost use Rattle.std.specs.Prelude.{◌≡◌, Some};
-ghost use Rattle.lnt_cli.specs.Verdicts.{column_text, path_answer_text, path_difference_text, reason_of, table_no_text};
+ghost use Rattle.std.specs.Prelude.{Some};
+ghost use Rattle.lnt_cli.specs.Verdicts.{column_text, path_answer_text, path_difference_text, table_no_text};
 
 use lnt_answers::{DifferenceLine, NoLine};
 use lnt_paths::{AnswerByPath, DifferenceByPath};
-use lnt_records::TableFault;
 use lnt_spans::Difference;
 use lnt_table::TableNo;
 use lnt_text::{PositionText, Quoted};
@@ -39,18 +38,6 @@ impl fmt::Display for TableNoLine {
                 write!(f, "{}", DifferenceLine(difference))
             }
         }
-    }
-}
-
-// The first fault of a table as a reason against it.
-pub(crate) fn no_of(fault: TableFault) -> TableNo
-    ensures { result ≡ reason_of fault }
-{
-    match fault {
-        TableFault::Header => TableNo::Header,
-        TableFault::Fields(record) => TableNo::Fields(record),
-        TableFault::Number(record, column) => TableNo::Number { record, column },
-        TableFault::Order(record) => TableNo::Order(record),
     }
 }
 
