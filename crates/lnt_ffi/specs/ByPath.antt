@@ -1,13 +1,13 @@
 -- The verdict that C sees of a check of a table of any version, and the paths beside it.
 use Rattle.std.specs.Prelude.{ℕ, Bool, ◌||◌, if◌then◌else◌, false, is_some, List, [], Option, Some, None, length, unwrap_or}
-use Rattle.lnt_records.specs.declared.fault.TableFault.{TableFault}
-use Rattle.lnt_records.specs.declared.fault.TableFault.TheVariants as fault
 use Rattle.lnt_paths.specs.declared.answer.AnswerByPath.{AnswerByPath}
 use Rattle.lnt_paths.specs.declared.answer.ComparedByPath.{ComparedByPath}
 use Rattle.lnt_paths.specs.declared.answer.ComparedByPath.TheVariants.{Same, Fault, Differs}
 use Rattle.lnt_paths.specs.declared.answer.DifferenceByPath.{DifferenceByPath}
 use Rattle.lnt_table.specs.declared.by_path.Checked.{Checked}
 use Rattle.lnt_table.specs.declared.by_path.Checked.TheVariants.{Numbered, ByPath}
+use Rattle.lnt_table.specs.declared.verdict.Verdict.TheVariants.{No}
+use Rattle.lnt_table.specs.Verdicts.{no_of_fault}
 use Rattle.lnt_ffi.specs.declared.flat.FlatAnswer.{FlatAnswer}
 use Rattle.lnt_ffi.specs.declared.verdict.FlatVerdict.{FlatVerdict}
 use Rattle.lnt_ffi.specs.Flat.{nothing}
@@ -47,15 +47,9 @@ of_difference difference = record (numbered 40 0) {
 
 -- ---- a check
 
-abbrev pub of_fault : TableFault → FlatVerdict
-of_fault fault.Header = numbered 36 0
-of_fault (fault.Fields entry) = record (numbered 37 0) { index = entry }
-of_fault (fault.Number entry column) = record (numbered 38 0) { index = entry; value = column }
-of_fault (fault.Order entry) = record (numbered 39 0) { index = entry }
-
 abbrev pub verdict_of_compared : ComparedByPath → FlatVerdict
 verdict_of_compared Same = yes
-verdict_of_compared (Fault told) = of_fault told
+verdict_of_compared (Fault told) = verdict_of_table (No (no_of_fault told))
 verdict_of_compared (Differs difference) = of_difference difference
 
 abbrev pub verdict_of_check : Checked → FlatVerdict

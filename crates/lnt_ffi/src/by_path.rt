@@ -1,13 +1,11 @@
 //! What is told of a table of any version, as C sees it.
 ghost use Rattle.std.specs.Prelude.{◌≡◌};
-ghost use Rattle.lnt_ffi.specs.ByPath.{flat_place, of_difference, of_fault, path_in, section_path, table_path, tells_column};
-ghost use Rattle.lnt_ffi.specs.ByPath.{verdict_of_check};
+ghost use Rattle.lnt_ffi.specs.ByPath.{flat_place, of_difference, path_in, section_path, table_path, tells_column, verdict_of_check};
 
 use crate::flat::{FlatAnswer, NOTHING};
-use crate::verdict::{FlatVerdict, YES, at, numbered, of_record, verdict_of_table};
+use crate::verdict::{FlatVerdict, YES, at, verdict_of_table};
 use lnt_paths::{AnswerByPath, ComparedByPath, DifferenceByPath};
-use lnt_records::TableFault;
-use lnt_table::Checked;
+use lnt_table::{Checked, TableNo, Verdict};
 
 // What a check finds, but for the paths.
 pub(crate) fn verdict_of_check(found: &Checked) -> FlatVerdict
@@ -16,20 +14,10 @@ pub(crate) fn verdict_of_check(found: &Checked) -> FlatVerdict
     match found {
         Checked::Numbered(verdict) => verdict_of_table(*verdict),
         Checked::ByPath(ComparedByPath::Same) => YES,
-        Checked::ByPath(ComparedByPath::Fault(fault)) => of_fault(*fault),
+        Checked::ByPath(ComparedByPath::Fault(fault)) => {
+            verdict_of_table(Verdict::No(TableNo::from(*fault)))
+        }
         Checked::ByPath(ComparedByPath::Differs(difference)) => of_difference(difference),
-    }
-}
-
-// What is wrong with a table by path.
-fn of_fault(fault: TableFault) -> FlatVerdict
-    ensures { result ≡ of_fault fault }
-{
-    match fault {
-        TableFault::Header => numbered(36, 0),
-        TableFault::Fields(number) => of_record(37, number, 0),
-        TableFault::Number(record, column) => of_record(38, record, column),
-        TableFault::Order(number) => of_record(39, number, 0),
     }
 }
 

@@ -69,7 +69,7 @@ pub(crate) const YES: FlatVerdict = FlatVerdict {
 };
 
 // A number and a detail, with no evidence.
-pub(crate) fn numbered(number: u32, detail: u32) -> FlatVerdict
+fn numbered(number: u32, detail: u32) -> FlatVerdict
     ensures { result ≡ numbered number detail }
 {
     FlatVerdict {
@@ -209,7 +209,7 @@ pub(crate) fn at(position: Position, number: u32) -> FlatVerdict
 }
 
 // What is wrong with a record of a table.
-pub(crate) fn of_record(number: u32, entry: u64, column: u64) -> FlatVerdict
+fn of_record(number: u32, entry: u64, column: u64) -> FlatVerdict
     ensures { result ≡ record (numbered number 0) { index = entry; value = column } }
 {
     FlatVerdict {
