@@ -1,15 +1,11 @@
 //! The words that judge a section.
-ghost use Rattle.std.specs.Prelude.{◌≡◌, ◌-◌, ◌^◌, ◌<◌, IfErr, IfOk, IfSome};
-ghost use Rattle.std.specs.Io.KnownBytes.{Appends};
+ghost use Rattle.std.specs.Prelude.{◌≡◌, IfErr, IfOk};
 ghost use Rattle.lnt_cli.specs.Answered.{AnswersCheck, AnswersPlaces, IsChecked, options_in};
 ghost use Rattle.lnt_cli.specs.Stops.{IsUsage};
-ghost use Rattle.lnt_cli.specs.Stretches.{ArePlacesTold, places_status};
-ghost use Rattle.lnt_cli.specs.Verdicts.{checked_status, checked_text, compared_status, verdict_status};
-ghost use Rattle.lnt_lines.specs.Drafts.{IsJudgedIndex};
-ghost use Rattle.lnt_lines.specs.declared.section.JudgedIndex.{JudgedIndex as JudgedSpec};
-ghost use Rattle.lnt_table.specs.AnyVersion.{IsTrueCheck};
+ghost use Rattle.lnt_cli.specs.Stretches.{places_status};
+ghost use Rattle.lnt_cli.specs.Verdicts.{checked_status, compared_status, verdict_status};
 
-use crate::inputs::{Texts, of_file, open_both};
+use crate::inputs::{of_file, open_both};
 use crate::question::judge;
 use crate::session::Session;
 use crate::stop::CliStop;
@@ -79,31 +75,11 @@ fn judge_table<O: Opener, W: Write>(
 {
     let opened = open_both(alloc, opener, from, table, seen)?;
     let (texts, mut section, mut records) = (opened.texts, opened.section, opened.file);
-    check_opened(alloc, from, table, &texts, &mut section, &mut records, out)
-}
-
-// The same of a section and a table that are open.
-fn check_opened<R: Source, T: Source, W: Write>(
-    alloc: Global,
-    from: &Judging<'_>,
-    table: &str,
-    texts: &Texts,
-    section: &mut R,
-    records: &mut T,
-    out: &mut W,
-) -> Result<Checked, CliStop>
-    requires section_fails { R.failures section.old < 2 ^ 64 - 1 }
-    requires table_fails { T.failures records.old < 2 ^ 64 - 1 }
-    ensures usage { IfErr result (λ stop. IsUsage stop → ⊥) }
-    ensures checked { IfOk result (λ checked. IfSome (R.remaining section.old) (λ bytes. IfSome (T.remaining records.old) (λ text.
-        IsTrueCheck texts.now.line.items texts.now.general.items (options_in from.now) bytes text checked))) }
-    ensures printed { IfOk result (λ checked. Appends (W.contents out.old) (W.contents out.new) (checked_text checked)) }
-{
     match print_check(
         alloc,
-        section,
+        &mut section,
         &texts.strings(),
-        records,
+        &mut records,
         &options_of(from),
         out,
     ) {
@@ -157,33 +133,11 @@ fn judge_places<O: Opener, W: Write>(
 {
     let opened = open_both(alloc, opener, from, table, seen)?;
     let (texts, mut section, mut records) = (opened.texts, opened.section, opened.file);
-    print_places(alloc, from, table, &texts, &mut section, &mut records, out)
-}
-
-// The same of a section and a table that are open.
-fn print_places<R: Source, T: Source, W: Write>(
-    alloc: Global,
-    from: &Judging<'_>,
-    table: &str,
-    texts: &Texts,
-    section: &mut R,
-    records: &mut T,
-    out: &mut W,
-) -> Result<Places, CliStop>
-    requires section_fails { R.failures section.old < 2 ^ 64 - 1 }
-    requires table_fails { T.failures records.old < 2 ^ 64 - 1 }
-    ensures usage { IfErr result (λ stop. IsUsage stop → ⊥) }
-    ensures told { IfOk result (λ places. (judged : JudgedSpec)
-        × IfSome (R.remaining section.old) (λ bytes. IsJudgedIndex texts.now.line.items texts.now.general.items (options_in from.now) bytes
-        judged)
-        × ArePlacesTold (options_in from.now) judged (T.remaining records.old) (W.contents out.old) (W.contents out.new)
-        (places_status places)) }
-{
-    let index = match judge(alloc, section, texts, from, out)? {
+    let index = match judge(alloc, &mut section, &texts, from, out)? {
         JudgedIndex::Good(index) => index,
         JudgedIndex::Bad(no) => return Ok(Places::Section(no)),
     };
-    let printed = print_stretches(alloc, records, &index, out);
+    let printed = print_stretches(alloc, &mut records, &index, out);
     Ok(Places::Table(of_file(alloc, table, printed)?))
 }
 
