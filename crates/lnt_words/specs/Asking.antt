@@ -1,8 +1,8 @@
 -- What the words ask for. What clap makes of them is a function of the words and of the command (`linetab`): the subcommand's
 -- name, and a row for each of its arguments, with the values that it was given or has by default.
-use Rattle.std.specs.Prelude.{◌≡◌, ◌⊎◌, Bool, true, false, ℕ, List, Option, Some, None, codes}
+use Rattle.std.specs.Prelude.{◌≡◌, ◌≢◌, ◌⊎◌, Bool, true, false, ℕ, List, Option, Some, None, codes}
 use Rattle.std.specs.Option.{option_copied}
-use Rattle.clap.specs.Words.{Row, Text, first_of, found_of, one_of, rows_of, subcommand_of}
+use Rattle.clap.specs.Words.{Row, Text, first_of, found_of, one_of, rows_of, subcommand_of, takes}
 use Rattle.clap.specs.declared.parser.matches.ArgMatches.{ArgMatches}
 use Rattle.lnt_digits.specs.Digits.{IsAddress}
 use Rattle.lnt_spans.specs.declared.answer.Version.{Version}
@@ -107,7 +107,10 @@ abbrev pub IsHelp : Request → Type 0
 IsHelp (Help text) = Unit {0}
 IsHelp _ = ⊥
 
--- These words, of which the first is the program's own name, ask for this. Of the texts of help and of the version nothing is said,
--- nor when they are asked for.
+-- Help or the version is asked for, which words that the command takes never do. Of the text nothing is said.
+abbrev pub IsHelpFor : List Text → Request → Type 0
+IsHelpFor words request = IsHelp request × (takes linetab words ≢ true)
+
+-- These words, of which the first is the program's own name, ask for this.
 abbrev pub IsAskedBy : List Text → Asked → Type 0
-IsAskedBy words asked = IsHelp asked.request ⊎ IsAskedOf (subcommand_of linetab words) asked
+IsAskedBy words asked = IsHelpFor words asked.request ⊎ IsAskedOf (subcommand_of linetab words) asked

@@ -1,6 +1,6 @@
 //! What the words of the command ask for.
-ghost use Rattle.std.specs.Prelude.{◌≡◌, ℕ, List, codes, map, option_map, string_bytes, IfOk};
-ghost use Rattle.clap.specs.Words.{first_of};
+ghost use Rattle.std.specs.Prelude.{◌≡◌, ◌≢◌, ℕ, List, codes, map, option_map, string_bytes, IfOk};
+ghost use Rattle.clap.specs.Words.{first_of, kind_of};
 ghost use Rattle.lnt_words.specs.Described.{IsAskedOfMatches};
 ghost use Rattle.lnt_digits.specs.Digits.{IsAddress};
 ghost use Rattle.lnt_words.specs.Asking.{IsAskedBy, IsAskedIn, IsFlag, IsHelp, IsJudging, IsOrder, IsQuestion};
@@ -35,7 +35,7 @@ pub fn request_of<'a>(alloc: Global, words: &'a [String]) -> Result<Asked<'a>, W
 
 // What clap says where it finds no matches: help, the version, or how the command is used.
 fn help_in<'a>(alloc: Global, error: &Error) -> Result<Asked<'a>, WordsStop>
-    ensures { IfOk result (λ asked. IsHelp asked.request) }
+    ensures { IfOk result (λ asked. IsHelp asked.request × (kind_of error.now ≢ ErrorKind.OutOfMemory)) }
 {
     if error.kind() == ErrorKind::OutOfMemory {
         return Err(WordsStop::Memory);

@@ -1,7 +1,7 @@
 use Rattle.std.proofs.Common.{◌≡◌, ◌∙◌, ap, inl, inr, map, subst}
 use Rattle.std.specs.Prelude.{string_bytes}
 use Rattle.std.proofs.lemmas.Result.{IfOk-weaker}
-use Rattle.clap.specs.Words.{App, is_simple, subcommand_of, subcommand_rows_of}
+use Rattle.clap.specs.Words.{App, is_simple, subcommand_of, subcommand_rows_of, takes}
 use Rattle.lnt_words.specs.Asking.{IsAskedOf}
 use Rattle.lnt_words.specs.Words.{linetab}
 use Rattle.lnt_words.proofs.WordLemmas.{by_rows, linetab_is_simple}
@@ -16,4 +16,10 @@ returns-in-Ok c =
     IfOk-weaker c.asked_in.result _ _ (λ asked so. inr (subst (λ of. IsAskedOf of asked) found (by_rows _ asked so))) c.asked_in.ensures
 
 pub returns-in-Err : goal.returns-in-Err
-returns-in-Err c = IfOk-weaker c.help_in.result _ _ (λ asked so. inl so) c.help_in.ensures
+returns-in-Err c =
+    let built = c.in_ok-command_of.ensures in
+    IfOk-weaker c.help_in.result _ _ (λ asked so. inl (
+      so.0,
+      λ taken. so.1 (c.in-Err.ensures.passes
+          (ap (λ (a : App). takes a (map string_bytes c.args.words.now)) built ∙ taken)),
+    )) c.help_in.ensures
