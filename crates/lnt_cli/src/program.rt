@@ -1,7 +1,8 @@
 //! One run of the command.
-ghost use Rattle.std.specs.Prelude.{◌≡◌, IfErr, IfOk};
+ghost use Rattle.std.specs.Prelude.{◌≡◌, map, string_bytes, IfErr, IfOk};
 ghost use Rattle.std.specs.Io.KnownBytes.{Keeps};
 ghost use Rattle.lnt_cli.specs.Answered.{IsAnswered};
+ghost use Rattle.lnt_cli.specs.Runs.{AnswersWords};
 ghost use Rattle.lnt_cli.specs.Stops.{IsUsage};
 
 use crate::session::Session;
@@ -17,8 +18,8 @@ use std::io::Write;
 ///
 /// `out` isn't flushed, but where the lines of addresses are answered. A run is stopped by `Usage` before a file is
 /// opened, and `out` has then gained nothing; by `Read` or `TooLong` for a file that the words name; by `Write` where
-/// `out` failed, and then it holds a front of the text; and by `Memory`. What the words ask for, by `lnt_words::request_of`,
-/// is answered as [`answer`] does.
+/// `out` failed, and then it holds a front of the text; and by `Memory`. Else there is a request that the words ask for, by
+/// `lnt_words::request_of`, and it is answered as [`answer`] does (`AnswersWords`).
 ///
 /// What helps a person is written to `notes`, a line for each note, to be shown after the answer; nothing, where the
 /// words ask for no notes. A run isn't stopped where `notes` fails.
@@ -30,6 +31,8 @@ pub fn run<O: Opener, W: Write, N: Write>(
     notes: &mut N,
 ) -> Result<Status, CliStop>
     ensures usage { IfErr result (λ stop. IsUsage stop → Keeps (W.contents out.old) (W.contents out.new)) }
+    ensures answer { IfOk result (λ status. AnswersWords (O.tells opener.old) (map string_bytes words.items)
+        (W.contents out.old) (W.contents out.new) status) }
 {
     let asked = match request_of(alloc, words.as_slice()) {
         Ok(asked) => asked,

@@ -23,7 +23,8 @@ use std::alloc::{AllocError, Global};
 /// where one of them isn't what it has to be; and by `Memory`. What it gives names files by the words themselves.
 ///
 /// Where it gives no text of help, what it gives is what the words ask for (`IsAskedBy`): which subcommand they name, and
-/// what each of its arguments was given, follows from the words and from the command that `linetab` tells.
+/// what each of its arguments was given, follows from the words and from the command that `linetab` tells. It gives no text
+/// of help to words that this command takes.
 pub fn request_of<'a>(alloc: Global, words: &'a [String]) -> Result<Asked<'a>, WordsStop>
     ensures { IfOk result (IsAskedBy (map string_bytes words.entry.now)) }
 {
