@@ -49,13 +49,25 @@ pub fn hold_table(alloc: Global, table: &[u8]) -> Result<HeldTable, TableStop>
 {
     let mut reader = reader_of(alloc, table);
     let mut row = ByteRecord::new(alloc);
-    let Some(version) = read_header(&mut reader, &mut row)? else {
-        return Ok(HeldTable::Fault(TableFault::Header));
-    };
-    hold_records(alloc, &mut reader, &mut row, version)
+    hold_read(alloc, &mut reader, &mut row)
 }
 
-// What is held of the records that a reader has to give, which has read the header of a text, each into `row`.
+// What is held of the bytes of a reader that has read nothing yet, each record into `row`.
+fn hold_read(
+    alloc: Global,
+    reader: &mut Reader<&[u8]>,
+    row: &mut ByteRecord,
+) -> Result<HeldTable, TableStop>
+    requires { (bytes : List ℕ) × HasRead reader.old bytes [] }
+    ensures { IfOk result (λ held. (bytes : List ℕ) → HasRead reader.old bytes [] → IsHeld bytes held) }
+{
+    let Some(version) = read_header(reader, row)? else {
+        return Ok(HeldTable::Fault(TableFault::Header));
+    };
+    hold_records(alloc, reader, row, version)
+}
+
+// The same where it has read the header of a text.
 fn hold_records(
     alloc: Global,
     reader: &mut Reader<&[u8]>,
