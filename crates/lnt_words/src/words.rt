@@ -145,15 +145,7 @@ fn judge_in<'a>(
 fn lookup_in<'a>(alloc: Global, words: &ArgMatches<'a>) -> Result<Request<'a>, WordsStop>
     ensures { IfOk result (λ request. IsAskedIn (codes "lookup") (rows_in words.now) request) }
 {
-    let mut positions = Vec::new(alloc);
-    if let Some(addresses) = words.get_strs("ADDRESS") {
-        for word in addresses {
-            let address = address_of(alloc, words, word, Argument::Address)?;
-            if positions.push(Position { address, op: 0 }).is_err() {
-                return Err(WordsStop::Memory);
-            }
-        }
-    }
+    let mut positions = positions_in(alloc, words)?;
     let op = match str_in(words, "op") {
         Some(word) => number_of(alloc, words, word)?,
         None => 0,
@@ -166,6 +158,20 @@ fn lookup_in<'a>(alloc: Global, words: &ArgMatches<'a>) -> Result<Request<'a>, W
         position.op = op;
     }
     judge_in(alloc, words, Question::Lookup(positions))
+}
+
+// A position at each of the addresses, in their order, with operation index 0.
+fn positions_in(alloc: Global, words: &ArgMatches<'_>) -> Result<Vec<Position>, WordsStop> {
+    let mut positions = Vec::new(alloc);
+    if let Some(addresses) = words.get_strs("ADDRESS") {
+        for word in addresses {
+            let address = address_of(alloc, words, word, Argument::Address)?;
+            if positions.push(Position { address, op: 0 }).is_err() {
+                return Err(WordsStop::Memory);
+            }
+        }
+    }
+    Ok(positions)
 }
 
 // Which table is asked for: at most one of the three flags is given.
