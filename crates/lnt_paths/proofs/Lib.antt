@@ -1,6 +1,7 @@
 pub mod BorderLemmas
 pub mod ComparisonLemmas
 pub mod HeldLemmas
+pub mod HeldOrderLemmas
 pub mod JoiningLemmas
 pub mod LineLemmas
 pub mod MergingLemmas

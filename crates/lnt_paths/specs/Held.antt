@@ -5,7 +5,7 @@ use Rattle.lnt_paths.specs.declared.held.HeldTable.{HeldTable}
 use Rattle.lnt_paths.specs.declared.held.HeldTable.TheVariants as held
 use Rattle.lnt_paths.specs.PathDifferences.{told_path_answer}
 use Rattle.lnt_paths.specs.PathFaults.{IsPathFault}
-use Rattle.lnt_paths.specs.PathSpans.{PathSpan}
+use Rattle.lnt_paths.specs.PathSpans.{PathSpan, StandInOrder}
 use Rattle.lnt_paths.specs.PathTables.{IsPathTableOf}
 use Rattle.lnt_paths.specs.Reading.{whole}
 
@@ -17,3 +17,8 @@ held_span span = record { low = whole span.low; high = whole span.high; answer =
 abbrev pub IsHeld : List ℕ → HeldTable → Type 0
 IsHeld bytes (held.Fault told) = IsPathFault bytes told
 IsHeld bytes (held.Table version spans) = IsPathTableOf version bytes (map held_span spans.items)
+
+-- Spans that are held stand in order, and none is empty.
+abbrev pub HoldsInOrder : HeldTable → Type 0
+HoldsInOrder (held.Fault told) = Unit {0}
+HoldsInOrder (held.Table version spans) = StandInOrder (map held_span spans.items)

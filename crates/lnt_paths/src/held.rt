@@ -3,7 +3,7 @@ ghost use Rattle.std.specs.Prelude.{◌≡◌, ℕ, List, [], ◌∷◌, ◌++�
 ghost use Rattle.csv.specs.Records.{fields_of};
 ghost use Rattle.lnt_records.specs.Progress.{HasRead};
 ghost use Rattle.lnt_records.specs.Table.{Fields};
-ghost use Rattle.lnt_paths.specs.Held.{IsHeld, held_span};
+ghost use Rattle.lnt_paths.specs.Held.{HoldsInOrder, IsHeld, held_span};
 ghost use Rattle.lnt_paths.specs.Merging.{path_end};
 ghost use Rattle.lnt_paths.specs.PathFaults.{IsFaultyRecord};
 ghost use Rattle.lnt_paths.specs.PathTables.{IsPathTable, path_column_names};
@@ -40,12 +40,13 @@ pub enum HeldTable {
 /// Reads the table by path in some bytes, and holds its spans with the paths of their files.
 ///
 /// `Table`: the bytes are a table by path of that version, and these are all of its spans. `Fault`: they are no such table,
-/// and the first faulty record is told, as `compare_by_path` tells it. All records are read by `csv`. The one error is that
-/// memory ran out; then nothing is held.
+/// and the first faulty record is told, as `compare_by_path` tells it. All records are read by `csv`. The spans that are held
+/// stand in order. The one error is that memory ran out; then nothing is held.
 // The reader of records is large, and the stack is short: no caller holds it beside its own values.
 #[inline(never)]
 pub fn hold_table(alloc: Global, table: &[u8]) -> Result<HeldTable, TableStop>
-    ensures { IfOk result (λ held. IsHeld table.now held) }
+    ensures held { IfOk result (λ held. IsHeld table.now held) }
+    ensures in_order { IfOk result HoldsInOrder }
 {
     let mut reader = reader_of(alloc, table);
     let mut row = ByteRecord::new(alloc);

@@ -76,12 +76,14 @@ enum Step<'t> {
 }
 
 impl<'t, S: SpanSource> DifferencesByPath<'t, S> {
-    /// No stretch is told yet of a section, whose spans the source has, and a table of these spans. The caller sees to it that
-    /// the spans of both are in order, and none is empty.
+    /// No stretch is told yet of a section, whose spans the source has, and a table of these spans. The section may be known by
+    /// any function that answers as its spans do. The caller sees to it that the spans of both are in order, and none is empty.
     pub fn of(section: S, table: &'t [HeldSpan], version: PathVersion) -> DifferencesByPath<'t, S>
-        ensures { (path : ℕ → ℕ → List ℕ) (list : List spec.Span) → S.to_come section list → AreInOrder list
+        ensures { (path : ℕ → ℕ → List ℕ) (list : List spec.Span) (by_section : spec_position.Position → Option PathAnswer)
+            → S.to_come section list → AreInOrder list
+            → ((p : spec_position.Position) → spans_by_path version path list p ≡ by_section p)
             → StandInOrder (map held_span table.now)
-            → HasToldByPath S.to_come path result (spans_by_path version path list) (path_span_answer (map held_span table.now)) [] }
+            → HasToldByPath S.to_come path result by_section (path_span_answer (map held_span table.now)) [] }
     {
         DifferencesByPath {
             version,
