@@ -1,5 +1,5 @@
 -- All places where a table answers otherwise than a section's rows.
-use Rattle.std.specs.Prelude.{Bool, ℕ, List, [], Option}
+use Rattle.std.specs.Prelude.{◌≢◌, Bool, ℕ, List, [], ◌∷◌, Option}
 use Rattle.lnt_unit.specs.declared.unit.Parts.{Parts}
 use Rattle.lnt_spans.specs.declared.answer.Version.{Version}
 use Rattle.lnt_spans.specs.declared.listed.SpanList.{SpanList}
@@ -9,9 +9,14 @@ use Rattle.lnt_spans.specs.Differing.{HasTold}
 use Rattle.lnt_spans.specs.Spans.{span_answer}
 use Rattle.lnt_records.specs.declared.differing.Differing.{Differing}
 use Rattle.lnt_records.specs.declared.differing.Differing.TheVariants.{Fault, Table}
+use Rattle.lnt_records.specs.declared.fault.TableFault.TheVariants as fault
 use Rattle.lnt_records.specs.declared.remaining.Remaining.{Remaining}
 use Rattle.lnt_records.specs.Faults.{IsFault}
-use Rattle.lnt_records.specs.Table.{IsTableOf}
+use Rattle.lnt_records.specs.Differing.{IsStarted}
+use Rattle.lnt_records.specs.Table.{BeginsWith, IsTableOf, column_names}
+use Rattle.lnt_paths.specs.Held.{HoldsInOrder, IsHeld}
+use Rattle.lnt_table.specs.declared.stretches.AnyDiffering.{AnyDiffering}
+use Rattle.lnt_table.specs.declared.stretches.AnyDiffering.TheVariants.{ByPath, Numbered}
 use Rattle.lnt_table.specs.Headline.{told_answer}
 
 -- The bytes are a table, and the stretches at which it answers otherwise than the rows of the units, as far as its version
@@ -29,3 +34,17 @@ abbrev pub IsDifferingFrom : {S : Type 0} → (Remaining S → List Span → Typ
 IsDifferingFrom of_section of_table dead skip units table (Fault told) = IsFault table told
 IsDifferingFrom of_section of_table dead skip units table (Table differences) =
     DiffersFromUnits of_section of_table dead skip units table differences
+
+-- Of a table of any version: with the header of version 1 or 2 it is that, and the fault that is told isn't the header's. Else the
+-- bytes begin with the header of neither, and what is held is the table by path that they are, or its first fault.
+abbrev pub IsAnyDiffering : {S : Type 0} → (Remaining S → List Span → Type 0) → (SpanList → List Span → Type 0) → Option ℕ → Bool
+    → List (ℕ × Parts) → List ℕ → AnyDiffering S → Type 0
+IsAnyDiffering of_section of_table dead skip units table (Numbered told) =
+    IsDifferingFrom of_section of_table dead skip units table told × (told ≢ Fault fault.Header)
+IsAnyDiffering of_section of_table dead skip units table (ByPath held) =
+    ((version : Version) → BeginsWith table (column_names version ∷ []) → ⊥) × IsHeld table held
+
+-- No stretch is told yet of a table of numbers, and the spans of one by path stand in order, whatever the units are.
+abbrev pub IsStartedAny : {S : Type 0} → (Remaining S → List Span → Type 0) → (SpanList → List Span → Type 0) → AnyDiffering S → Type 0
+IsStartedAny of_section of_table (Numbered told) = IsStarted of_section of_table told
+IsStartedAny of_section of_table (ByPath held) = HoldsInOrder held

@@ -11,10 +11,19 @@ use lnt_records::WriteStop;
 use std::alloc::{AllocError, Global};
 use std::io::Write;
 
-// The paths of the files of an index.
+/// The paths of the files of an index, by which `DifferencesByPath` tells answers.
 #[derive(Drop)]
-pub(crate) struct IndexPaths<'i, 'a> {
+pub struct IndexPaths<'i, 'a> {
     pub(crate) index: &'i Index<'a>,
+}
+
+impl<'i, 'a> IndexPaths<'i, 'a> {
+    /// The whole paths of the files that the units of this index name: the directory joined with the name, byte for byte.
+    pub fn of(index: &'i Index<'a>) -> IndexPaths<'i, 'a>
+        ensures { ⟦<IndexPaths<'i, 'a> as Paths>⟧.bytes_of result ≡ path_at index.entry.now }
+    {
+        IndexPaths { index }
+    }
 }
 
 impl<'i, 'a> Paths for IndexPaths<'i, 'a> {

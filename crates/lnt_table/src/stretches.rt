@@ -1,14 +1,21 @@
 //! A table compared with a good section at every position.
-ghost use Rattle.std.specs.Prelude.{◌≡◌, ◌≢◌, ◌+◌, ◌-◌, ◌^◌, ◌<◌, Bool, ℕ, List, Option, IfOk, IfSome, IsErrOf};
+ghost use Rattle.std.specs.Prelude.{◌≡◌, ◌≢◌, ◌+◌, ◌-◌, ◌^◌, ◌<◌, Bool, ℕ, List, [], map, Option, IfOk, IfSome, IsErrOf};
 ghost use Rattle.lnt_lines.specs.Indexed.{IsIndexOf};
 ghost use Rattle.lnt_wire.specs.declared.stop.Stop.TheVariants.{Read, TooLong};
+ghost use Rattle.lnt_spans.specs.declared.position.Position.{Position};
 ghost use Rattle.lnt_records.specs.Differing.{IsStarted};
+ghost use Rattle.lnt_paths.specs.Held.{held_span};
+ghost use Rattle.lnt_paths.specs.PathAnswers.{PathAnswer};
+ghost use Rattle.lnt_paths.specs.PathSpans.{StandInOrder, path_span_answer};
+ghost use Rattle.lnt_paths.specs.Stretching.{HasToldByPath};
+ghost use Rattle.lnt_table.specs.ByPath.{path_at, told_path};
 ghost use Rattle.lnt_table.specs.Headline.{IsTooLong};
-ghost use Rattle.lnt_table.specs.Stretches.{IsDifferingFrom};
+ghost use Rattle.lnt_table.specs.Stretches.{IsAnyDiffering, IsDifferingFrom, IsStartedAny};
 ghost use Rattle.lnt_unit.specs.declared.unit.Parts.{Parts};
 
 use lnt_lines::{Index, Spans};
-use lnt_records::{Differing, Remaining, compare_all};
+use lnt_paths::{DifferencesByPath, HeldSpan, HeldTable, PathVersion, hold_table};
+use lnt_records::{Differing, DifferingRead, Remaining, TableStop, compare_all, differ_or_take};
 use lnt_spans::{SpanList, SpanSource};
 use lnt_wire::{Source, Stop};
 use std::alloc::Global;
@@ -39,4 +46,66 @@ pub fn differences<'i, T: Source>(
 {
     let differing = compare_all(alloc, table, index.spans())?;
     Ok(differing)
+}
+
+/// What a comparison at every position makes of a table of any version.
+#[derive(Drop)]
+pub enum AnyDiffering<S> {
+    /// The table's header is that of version 1 or 2: the stretches come one after another, or this is the first fault of its
+    /// records.
+    Numbered(Differing<S>),
+    /// It isn't. This is the table by path that it is, whose spans `differences_by_path` compares, or its first fault: `Fault`
+    /// of the header, where it isn't one of versions 3 and 4 either.
+    ByPath(HeldTable),
+}
+
+/// Compares the address table of any version that a source has to give with the units that an index is of, at every position.
+///
+/// Of a table with the header of version 1 or 2 it tells what `differences` tells. Of another one all bytes are taken, and it
+/// tells whether they are a table by path, and holds its spans, which stand in order; else their first fault.
+///
+/// It stops as `check` does. The caller sees to it that the number of the source's failures is below `u64::MAX`.
+pub fn differences_any<'i, T: Source>(
+    alloc: Global,
+    table: &mut T,
+    index: &'i Index<'_>,
+) -> Result<AnyDiffering<Spans<'i>>, Stop>
+    requires { T.failures table.old < 2 ^ 64 - 1 }
+    ensures ok { IfOk result (λ any. (dead : Option ℕ) (skip : Bool) (units : List (ℕ × Parts))
+        → IsIndexOf dead skip units index.entry.now → IfSome (T.remaining table.old) (λ text.
+        IsAnyDiffering ⟦<Remaining<Spans<'i>> as SpanSource>⟧.to_come ⟦<SpanList as SpanSource>⟧.to_come dead skip units text any)) }
+    ensures started { IfOk result (λ any. IsStartedAny ⟦<Remaining<Spans<'i>> as SpanSource>⟧.to_come ⟦<SpanList as SpanSource>⟧.to_come
+        any) }
+    ensures read { IsErrOf result Stop.Read → T.failures table.new ≡ T.failures table.old + 1 }
+    ensures no_failure { result ≢ Err Stop.Read → T.failures table.new ≡ T.failures table.old }
+    ensures too_long { IsErrOf result Stop.TooLong → IsTooLong (T.too_long table.new) (T.remaining table.old) (T.left table.old) }
+{
+    let read = differ_or_take(alloc, table, index.spans())?;
+    let text = match read {
+        DifferingRead::Differing(differing) => return Ok(AnyDiffering::Numbered(differing)),
+        DifferingRead::Other(text) => text,
+    };
+    match hold_table(alloc, &text) {
+        Ok(held) => Ok(AnyDiffering::ByPath(held)),
+        Err(TableStop::Memory) => Err(Stop::Memory),
+    }
+}
+
+/// The stretches at which a table by path of these spans, of a version, answers otherwise than the rows of the units that an
+/// index is of, with the whole path of their file. No stretch is told yet: `DifferencesByPath::next_difference` tells them, with
+/// `IndexPaths::of` the same index. The caller sees to it that the spans stand in order, as those that are held do.
+pub fn differences_by_path<'t, 'i>(
+    index: &'i Index<'_>,
+    spans: &'t [HeldSpan],
+    version: PathVersion,
+) -> DifferencesByPath<'t, Spans<'i>>
+    ensures told { (dead : Option ℕ) (skip : Bool) (units : List (ℕ × Parts)) → IsIndexOf dead skip units index.entry.now
+        → StandInOrder (map held_span spans.entry.now)
+        → HasToldByPath ⟦<Spans<'i> as SpanSource>⟧.to_come (path_at index.entry.now) result
+        (told_path version index.entry.now dead skip units) (path_span_answer (map held_span spans.entry.now)) [] }
+    ensures started { StandInOrder (map held_span spans.entry.now)
+        → (by_section : Position → Option PathAnswer) × (by_table : Position → Option PathAnswer)
+        × HasToldByPath ⟦<Spans<'i> as SpanSource>⟧.to_come (path_at index.entry.now) result by_section by_table [] }
+{
+    DifferencesByPath::of(index.spans(), spans, version)
 }
