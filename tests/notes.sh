@@ -173,8 +173,7 @@ faulty() { # NAME STDOUT NOTE TEXT
 names='low,low_op,high,high_op,unit,file,line,column,is_stmt'
 first=0x1129,0,0x1130,0,0,1,1,27,1
 second=0x1130,0,0x1137,0,0,1,1,36,1
-numbered="the table has to begin with $names or with this and ,isa,discriminator"
-header="$numbered, or with low,high,path,line or with this and ,column"
+header="the table has to begin with $names or with this and ,isa,discriminator, or with low,high,path,line or with this and ,column"
 faulty 'no header' 'no 36 table header' "$header" ''
 faulty 'another header' 'no 36 table header' "$header" "$first\n"
 faulty 'too few fields' 'no 37 table fields record 2' 'line 3 of the table: each record has as many fields as the header has names' "$names\n$first\n0x1130,0\n"
@@ -209,7 +208,12 @@ faulty 'by path, too many fields' 'no 37 table fields record 1' 'line 2 of the t
 faulty 'by path, an empty span' 'no 39 table order record 1' "line 2 of the table: each span ends above its low, which isn't below the high of the span before" 'low,high,path,line\n0x1130,0x1130,a,1\n'
 printf 'low,high,path,line\n' >"$work/table"
 notes 'by path, nothing held' 0 $'yes\n' '' "$nothing" check /dev/null "$work/table"
-notes 'by path, all places' 1 $'no 36 table header\n' '' "with --all $numbered" check /dev/null "$work/table" --all
+notes 'by path, nothing held, all places' 0 $'yes\n' '' "$nothing" check /dev/null "$work/table" --all
+printf 'low,high,path,line\n0x1,2,a,1\n' >"$work/table"
+notes 'by path, a bad high, all places' 1 $'no 38 table number record 1 column 1\n' '' 'line 2 of the table: high is 0x and 1 to 16 hexadecimal digits' \
+  check /dev/null "$work/table" --all
+printf 'low,high\n' >"$work/table"
+notes 'another header, all places' 1 $'no 36 table header\n' '' "$header" check /dev/null "$work/table" --all
 faulty 'a field of two lines' 'no 38 table number record 3 column 1' "line 4 of the table: low_op is $decimal" "$names\n\"0x1129\",0,0x1130,0,0,1,1,27,1\n$second\n0x1137,\"x\n\",0x1139,0,0,1,1,50,1\n"
 input=$work/table
 notes 'a table on standard input' 1 $'no 38 table number record 3 column 1\n' '' "low_op is $decimal" check "${hello[@]:0:1}" - "${hello[@]:1}"

@@ -1,3 +1,4 @@
+pub mod PathStretchLemmas
 pub mod QuestionLemmas
 pub mod ReadingLemmas
 pub mod StretchLemmas

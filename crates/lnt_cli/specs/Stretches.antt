@@ -1,5 +1,5 @@
 -- What `check` prints where it tells all places at which a table answers otherwise than a good section.
-use Rattle.std.specs.Prelude.{◌≡◌, ◌++◌, Bool, ℕ, List, Option, IfSome, codes}
+use Rattle.std.specs.Prelude.{◌≡◌, ◌≢◌, ◌++◌, Bool, ℕ, List, [], ◌∷◌, Option, IfSome, codes}
 use Rattle.std.specs.Io.KnownBytes.{Appends}
 use Rattle.lnt_unit.specs.declared.unit.Parts.{Parts}
 use Rattle.lnt_spans.specs.declared.answer.Version.{Version}
@@ -7,17 +7,26 @@ use Rattle.lnt_spans.specs.declared.difference.Difference.{Difference}
 use Rattle.lnt_spans.specs.declared.span.Span.{Span}
 use Rattle.lnt_spans.specs.Spans.{span_answer}
 use Rattle.lnt_spans.specs.Stretches.{AreStretches}
+use Rattle.lnt_records.specs.declared.fault.TableFault.{TableFault}
+use Rattle.lnt_records.specs.declared.fault.TableFault.TheVariants as fault
 use Rattle.lnt_records.specs.Faults.{IsFault}
-use Rattle.lnt_records.specs.Table.{IsTableOf}
+use Rattle.lnt_records.specs.Table.{BeginsWith, IsTableOf, column_names}
+use Rattle.lnt_paths.specs.declared.answer.DifferenceByPath.{DifferenceByPath}
+use Rattle.lnt_paths.specs.declared.version.PathVersion.{PathVersion}
+use Rattle.lnt_paths.specs.PathFaults.{IsPathFault}
+use Rattle.lnt_paths.specs.PathSpans.{PathSpan, path_span_answer}
+use Rattle.lnt_paths.specs.PathStretches.{ArePathStretches}
+use Rattle.lnt_paths.specs.PathTables.{IsPathTableOf}
+use Rattle.lnt_table.specs.ByPath.{told_path}
 use Rattle.lnt_table.specs.Headline.{told_answer}
 use Rattle.lnt_answers.specs.DifferenceLines.{stretches_status, stretches_text}
 use Rattle.lnt_cli.specs.declared.stretches.Stretches.{Stretches}
-use Rattle.lnt_cli.specs.declared.stretches.Stretches.TheVariants.{Faulty, Told}
+use Rattle.lnt_cli.specs.declared.stretches.Stretches.TheVariants.{Faulty, FaultyByPath, Told, ToldByPath}
 use Rattle.lnt_cli.specs.declared.stretches.Places.{Places}
 use Rattle.lnt_cli.specs.declared.stretches.Places.TheVariants.{Section, Table}
 use Rattle.lnt_cli.specs.Questions.{ForUnitsOf, IsNoTold}
 use Rattle.lnt_table.specs.Verdicts.{no_of_fault}
-use Rattle.lnt_cli.specs.Verdicts.{table_no_text}
+use Rattle.lnt_cli.specs.Verdicts.{path_stretches_status, path_stretches_text, table_no_text}
 use Rattle.lnt_lines.specs.declared.options.Options.{Options}
 use Rattle.lnt_lines.specs.Indexed.{Indexed}
 use Rattle.lnt_lines.specs.declared.section.JudgedIndex.{JudgedIndex}
@@ -37,20 +46,44 @@ pub record AreToldOf (dead : Option ℕ) (skip : Bool) (units : List (ℕ × Par
   pub printed : Appends old new (stretches_text differences)
   pub status_is : status ≡ stretches_status differences
 
--- That, or the first fault of the bytes.
-abbrev pub AreStretchesOf : Option ℕ → Bool → List (ℕ × Parts) → List ℕ → Option (List ℕ) → Option (List ℕ) → Stretches → Type 0
-AreStretchesOf dead skip units table old new (Faulty told) = IsFault table told
-AreStretchesOf dead skip units table old new (Told status) = AreToldOf dead skip units table old new status
+-- The same of a table by path, and of what the rows answer with the whole path of each file.
+pub record AreToldByPath (index : Indexed) (dead : Option ℕ) (skip : Bool) (units : List (ℕ × Parts)) (table : List ℕ)
+    (old new : Option (List ℕ)) (status : Status) : Type 0 where
+  pub version : PathVersion
+  pub spans : List PathSpan
+  pub is_table : IsPathTableOf version table spans
+  pub differences : List DifferenceByPath
+  pub are_stretches : ArePathStretches (told_path version index dead skip units) (path_span_answer spans) differences
+  pub printed : Appends old new (path_stretches_text differences)
+  pub status_is : status ≡ path_stretches_status differences
+
+-- The bytes begin with the header of neither version 1 nor 2, and this is their first fault as a table by path: that of the
+-- header, where they begin with the header of neither of these.
+pub record IsFaultByPath (table : List ℕ) (told : TableFault) : Type 0 where
+  pub unnumbered : (version : Version) → BeginsWith table (column_names version ∷ []) → ⊥
+  pub fault : IsPathFault table told
+
+-- Those are the stretches of the table, by its version, or that is the first fault of the bytes. Of a table with the header of
+-- neither version 1 nor 2 nothing is told as of one of these.
+abbrev pub AreStretchesOf : Indexed → Option ℕ → Bool → List (ℕ × Parts) → List ℕ → Option (List ℕ) → Option (List ℕ) → Stretches → Type 0
+AreStretchesOf index dead skip units table old new (Faulty told) = IsFault table told × (told ≢ fault.Header)
+AreStretchesOf index dead skip units table old new (Told status) = AreToldOf dead skip units table old new status
+AreStretchesOf index dead skip units table old new (FaultyByPath told) = IsFaultByPath table told
+AreStretchesOf index dead skip units table old new (ToldByPath status) = AreToldByPath index dead skip units table old new status
 
 -- A writer that held these bytes has gained the line of what is wrong with the table, where something is.
 abbrev pub IsFaultTold : Stretches → Option (List ℕ) → Option (List ℕ) → Type 0
 IsFaultTold (Faulty told) old new = Appends old new (table_no_text (no_of_fault told) ++ codes "\n")
 IsFaultTold (Told status) old new = Unit {0}
+IsFaultTold (FaultyByPath told) old new = Appends old new (table_no_text (no_of_fault told) ++ codes "\n")
+IsFaultTold (ToldByPath status) old new = Unit {0}
 
 -- how a run ends that tells it
 abbrev pub told_status : Stretches → Status
 told_status (Faulty told) = ending.No
 told_status (Told status) = status
+told_status (FaultyByPath told) = ending.No
+told_status (ToldByPath status) = status
 
 -- The same of a section too, whatever was found of it.
 abbrev pub places_status : Places → Status
@@ -63,7 +96,7 @@ pub record AreTableTold (options : Options) (index : Indexed) (table old new : O
   pub fault : IsFaultTold told old new
   pub status_is : status ≡ told_status told
   pub so : ForUnitsOf options index (λ units. IfSome table
-      (λ text. AreStretchesOf options.dead options.skip_copies units text old new told))
+      (λ text. AreStretchesOf index options.dead options.skip_copies units text old new told))
 
 -- What is told of a section that was judged so and of a table.
 abbrev pub ArePlacesTold : Options → JudgedIndex → Option (List ℕ) → Option (List ℕ) → Option (List ℕ) → Status → Type 0

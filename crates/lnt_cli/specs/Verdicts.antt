@@ -1,5 +1,6 @@
 -- What is printed of a check of a section and a table.
-use Rattle.std.specs.Prelude.{ℕ, List, [], ◌++◌, Option, None, Some, codes, decimal}
+use Rattle.std.specs.Prelude.{ℕ, List, [], ◌∷◌, ◌++◌, Option, None, Some, codes, decimal}
+use Rattle.std.specs.List.{flat_map}
 use Rattle.lnt_sources.specs.declared.status.Status.{Status}
 use Rattle.lnt_sources.specs.declared.status.Status.TheVariants as status
 use Rattle.lnt_paths.specs.declared.answer.AnswerByPath.{AnswerByPath}
@@ -58,17 +59,30 @@ path_difference_text difference =
     codes "no 40 differs at " ++ (position_text difference.position ++ (codes " table " ++
     (path_answer_text difference.by_table ++ (codes " section " ++ path_answer_text difference.by_section))))
 
+abbrev pub path_difference_line : DifferenceByPath → List ℕ
+path_difference_line difference = path_difference_text difference ++ codes "\n"
+
 -- the line of what a comparison by path tells
 abbrev pub compared_text : ComparedByPath → List ℕ
 compared_text Same = codes "yes\n"
 compared_text (Fault told) = table_no_text (no_of_fault told) ++ codes "\n"
-compared_text (Differs difference) = path_difference_text difference ++ codes "\n"
+compared_text (Differs difference) = path_difference_line difference
 
 -- how a run ends that tells it
 abbrev pub compared_status : ComparedByPath → Status
 compared_status Same = status.Done
 compared_status (Fault told) = status.No
 compared_status (Differs difference) = status.No
+
+-- a line for each stretch, or that there is none
+abbrev pub path_stretches_text : List DifferenceByPath → List ℕ
+path_stretches_text [] = codes "yes\n"
+path_stretches_text (first ∷ differences) = flat_map path_difference_line (first ∷ differences)
+
+-- how a run ends that tells them
+abbrev pub path_stretches_status : List DifferenceByPath → Status
+path_stretches_status [] = status.Done
+path_stretches_status (first ∷ differences) = status.No
 
 -- ---- tables of any version
 

@@ -111,8 +111,13 @@ impl<O: Opener, W: Write, N: Write> Session<'_, '_, '_, O, W, N> {
             Places::Table(Stretches::Faulty(fault)) => {
                 Ok(self.tell_fault(fault, Columns::Numbered, table))
             }
-            Places::Table(Stretches::Told(Status::Done)) => Ok(self.tell_agreed(from, table)),
+            Places::Table(Stretches::FaultyByPath(fault)) => {
+                Ok(self.tell_fault(fault, Columns::ByPath, table))
+            }
+            Places::Table(Stretches::Told(Status::Done) | Stretches::ToldByPath(Status::Done)) =>
+                Ok(self.tell_agreed(from, table)),
             Places::Table(Stretches::Told(Status::No)) => Ok(Status::No),
+            Places::Table(Stretches::ToldByPath(Status::No)) => Ok(Status::No),
         }
     }
 }

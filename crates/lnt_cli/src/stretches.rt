@@ -1,15 +1,27 @@
 //! The subcommand `check` where it tells all places.
-ghost use Rattle.std.specs.Prelude.{◌≡◌, ◌-◌, ◌^◌, ◌<◌, ◌+◌, Bool, ℕ, List, Option, IfOk, IfSome, IsErrOf};
+ghost use Rattle.std.specs.Prelude.{◌≡◌, ◌-◌, ◌^◌, ◌<◌, ◌+◌, [], Bool, ℕ, List, Option, IfErr, IfOk, IfSome, IsErrOf};
+ghost use Rattle.std.specs.Io.KnownBytes.{Appends};
 ghost use Rattle.lnt_cli.specs.Stretches.{AreStretchesOf, IsFaultTold};
+ghost use Rattle.lnt_cli.specs.Verdicts.{path_stretches_status, path_stretches_text};
 ghost use Rattle.lnt_lines.specs.Indexed.{IsIndexOf};
+ghost use Rattle.lnt_paths.specs.declared.answer.DifferenceByPath.{DifferenceByPath as Spec};
+ghost use Rattle.lnt_paths.specs.PathAnswers.{PathAnswer};
+ghost use Rattle.lnt_paths.specs.PathStretches.{ArePathStretches};
+ghost use Rattle.lnt_paths.specs.Stretching.{HasToldByPath};
+ghost use Rattle.lnt_sources.specs.Halts.{IsPrinting};
+ghost use Rattle.lnt_spans.specs.declared.position.Position.{Position};
 ghost use Rattle.lnt_unit.specs.declared.unit.Parts.{Parts};
 
-use crate::verdict::TableNoLine;
+use crate::verdict::{PathDifferenceLine, TableNoLine};
 use lnt_answers::print_differences;
 use lnt_lines::{Index, No};
+use lnt_paths::{DifferencesByPath, HeldTable, Paths};
 use lnt_records::TableFault;
 use lnt_sources::{Halt, Status};
-use lnt_table::{Differing, TableNo, differences};
+use lnt_spans::SpanSource;
+use lnt_table::{
+    AnyDiffering, Differing, IndexPaths, TableNo, differences_any, differences_by_path,
+};
 use lnt_wire::Source;
 use std::alloc::Global;
 use std::io::Write;
@@ -17,10 +29,14 @@ use std::io::Write;
 // What was told of a table that is compared with a good section at every position.
 #[derive(Drop)]
 pub(crate) enum Stretches {
-    // It is no table, for this reason.
+    // It has the header of version 1 or 2, and is no table, for this reason.
     Faulty(TableFault),
-    // It is one, and the places were told where it answers otherwise: `Done` where there is none.
+    // It is one of these, and the places were told where it answers otherwise: `Done` where there is none.
     Told(Status),
+    // It has another header, and is no table by path, for this reason.
+    FaultyByPath(TableFault),
+    // It is one, and the places were told where it answers otherwise, with the paths of files: `Done` where there is none.
+    ToldByPath(Status),
 }
 
 // What was told of a section and a table.
@@ -32,7 +48,7 @@ pub(crate) enum Places {
     Table(Stretches),
 }
 
-// Prints the No line of each stretch at which the table answers otherwise than a good section, in rising order, or `yes`
+// Prints the No line of each stretch at which the table, of any version, answers otherwise than a good section, in rising order, or `yes`
 // where there is none; or the line of what is wrong with the table. It holds much, and the stack is short: no other word's
 // frame holds it too.
 #[inline(never)]
@@ -44,19 +60,58 @@ pub(crate) fn print_stretches<T: Source, W: Write>(
 ) -> Result<Stretches, Halt>
     requires { T.failures table.old < 2 ^ 64 - 1 }
     ensures told { IfOk result (λ told. (dead : Option ℕ) (skip : Bool) (units : List (ℕ × Parts)) → IsIndexOf dead skip units index.now
-        → IfSome (T.remaining table.old) (λ text. AreStretchesOf dead skip units text (W.contents out.old) (W.contents out.new) told)) }
+        → IfSome (T.remaining table.old) (λ text. AreStretchesOf index.now dead skip units text
+        (W.contents out.old) (W.contents out.new) told)) }
     ensures faulty { IfOk result (λ told. IsFaultTold told (W.contents out.old) (W.contents out.new)) }
     ensures read { IsErrOf result Halt.Read → T.failures table.new ≡ T.failures table.old + 1 }
 {
-    match differences(alloc, table, index) {
-        Ok(Differing::Table(differences)) => {
+    match differences_any(alloc, table, index) {
+        Ok(AnyDiffering::Numbered(Differing::Table(differences))) => {
             let status = print_differences(differences, out)?;
             Ok(Stretches::Told(status))
         }
-        Ok(Differing::Fault(fault)) => {
+        Ok(AnyDiffering::Numbered(Differing::Fault(fault))) => {
             writeln!(out, "{}", TableNoLine(TableNo::from(fault)))?;
             Ok(Stretches::Faulty(fault))
         }
+        Ok(AnyDiffering::ByPath(HeldTable::Table(version, spans))) => {
+            let differences = differences_by_path(index, &spans, version);
+            let status = print_path_differences(alloc, differences, &IndexPaths::of(index), out)?;
+            Ok(Stretches::ToldByPath(status))
+        }
+        Ok(AnyDiffering::ByPath(HeldTable::Fault(fault))) => {
+            writeln!(out, "{}", TableNoLine(TableNo::from(fault)))?;
+            Ok(Stretches::FaultyByPath(fault))
+        }
         Err(stop) => Err(Halt::from(stop)),
     }
+}
+
+// Prints a line for each stretch of positions at which a table by path answers otherwise than a section, in rising order, or
+// `yes` where there is none. It stops where memory ran out or the writer failed; what was printed before stays.
+#[inline(never)]
+fn print_path_differences<S: SpanSource + Drop, P: Paths, W: Write>(
+    alloc: Global,
+    differences: DifferencesByPath<'_, S>,
+    paths: &P,
+    out: &mut W,
+) -> Result<Status, Halt>
+    requires { (by_section : Position → Option PathAnswer) × (by_table : Position → Option PathAnswer)
+        × HasToldByPath S.to_come (P.bytes_of paths.now) differences by_section by_table [] }
+    ensures err { IfErr result IsPrinting }
+    ensures lines { IfOk result (λ status. (by_section by_table : Position → Option PathAnswer)
+        → HasToldByPath S.to_come (P.bytes_of paths.now) differences.entry by_section by_table []
+        → (list : List Spec) × ArePathStretches by_section by_table list
+        × Appends (W.contents out.old) (W.contents out.new) (path_stretches_text list) × (status ≡ path_stretches_status list)) }
+{
+    let mut differences = differences;
+    let Some(first) = differences.next_difference(alloc, paths)? else {
+        writeln!(out, "yes")?;
+        return Ok(Status::Done);
+    };
+    writeln!(out, "{}", PathDifferenceLine(&first))?;
+    while let Some(difference) = differences.next_difference(alloc, paths)? {
+        writeln!(out, "{}", PathDifferenceLine(&difference))?;
+    }
+    Ok(Status::No)
 }

@@ -277,8 +277,8 @@ pub fn tell_agreed<O: Opener, N: Write>(
     Ok(())
 }
 
-/// Prints the note to a fault of the table in the file of this name, which was read as one with these columns. `ByPath` says of
-/// a faulty header that it is that of no version at all.
+/// Prints the note to a fault of the table in the file of this name, which was read as one with these columns. A faulty header
+/// is that of no version at all, whatever the columns.
 pub fn tell_table<O: Opener, N: Write>(
     alloc: Global,
     fault: TableFault,
@@ -288,10 +288,7 @@ pub fn tell_table<O: Opener, N: Write>(
     notes: &mut N,
 ) -> io::Result<()> {
     let note = match fault {
-        TableFault::Header => match columns {
-            Columns::Numbered => Note::NumberedHeader,
-            Columns::ByPath => Note::TableHeader,
-        },
+        TableFault::Header => Note::TableHeader,
         TableFault::Fields(record) => {
             let line = line_again(alloc, record, table, opener);
             Note::TableRecord(line, RecordRule::Fields)

@@ -9,7 +9,7 @@ use Rattle.lnt_text.specs.declared.note.Look.{Look}
 use Rattle.lnt_text.specs.declared.note.Look.TheVariants.{Elf, Pe, MachO, Gzip, Zstd, CompressedSection, Text, InOrder}
 use Rattle.lnt_text.specs.declared.note.Note.{Note}
 use Rattle.lnt_text.specs.declared.note.Note.TheVariants.{Word, NotRaw, NoStrings, MaybeDead, NoneDead, Copies}
-use Rattle.lnt_text.specs.declared.note.Note.TheVariants.{HoldsNothing, NoSums, TableHeader, NumberedHeader, TableRecord}
+use Rattle.lnt_text.specs.declared.note.Note.TheVariants.{HoldsNothing, NoSums, TableHeader, TableRecord}
 use Rattle.lnt_text.specs.declared.note.RecordRule.{RecordRule}
 use Rattle.lnt_text.specs.declared.note.RecordRule.TheVariants.{Fields, Kind, Order}
 use Rattle.lnt_text.specs.declared.note.StringSection.{StringSection}
@@ -102,7 +102,6 @@ note_text HoldsNothing = codes "no sequence holds a position, so the section's t
 note_text NoSums = codes "the section lists no MD5 sum, so nothing was compared"
 note_text TableHeader =
     codes "the table has to begin with " ++ (numbered_headers ++ codes ", or with low,high,path,line or with this and ,column")
-note_text NumberedHeader = codes "with --all the table has to begin with " ++ numbered_headers
 note_text (TableRecord line rule) = line_text line ++ rule_text rule
 
 -- the line of a note, on standard error

@@ -27,8 +27,6 @@ pub enum Note {
     NoSums,
     /// The table begins with the header of no version.
     TableHeader,
-    /// The table doesn't begin with the header of a version that tells units and file numbers, and `--all` takes no other.
-    NumberedHeader,
     /// A record of the table breaks this rule. It begins in this line of the text, where that is known.
     TableRecord(Option<u64>, RecordRule),
 }
@@ -147,11 +145,6 @@ impl fmt::Display for Note {
             Note::TableHeader => write!(
                 f,
                 "the table has to begin with {}, or with low,high,path,line or with this and ,column",
-                NumberedHeaders
-            ),
-            Note::NumberedHeader => write!(
-                f,
-                "with --all the table has to begin with {}",
                 NumberedHeaders
             ),
             Note::TableRecord(line, rule) => write!(f, "{}{rule}", LineText(line)),

@@ -1,0 +1,98 @@
+-- The stretches at which a table by path answers otherwise than the rows of units, told one after another.
+use Rattle.std.proofs.Common.{◌≡◌, Bool, ℕ, List, [], ◌∷◌, ◌++◌, map, append-nil, Option, Some, None, IfSome, subst, sym}
+use Rattle.std.specs.Io.KnownBytes.{Appends}
+use Rattle.std.specs.List.{flat_map}
+use Rattle.std.proofs.KnownBytes.{Appends-trans}
+use Rattle.std.proofs.lemmas.List.Concat.{flat_map-append}
+use Rattle.lnt_unit.specs.declared.unit.Parts.{Parts}
+use Rattle.lnt_spans.specs.declared.answer.Version.{Version}
+use Rattle.lnt_spans.specs.declared.position.Position.{Position}
+use Rattle.lnt_spans.specs.declared.span.Span.{Span}
+use Rattle.lnt_sources.specs.declared.status.Status.{Status}
+use Rattle.lnt_lines.specs.Indexed.{Indexed}
+use Rattle.lnt_records.specs.Table.{BeginsWith, column_names}
+use Rattle.lnt_paths.specs.declared.answer.DifferenceByPath.{DifferenceByPath}
+use Rattle.lnt_paths.specs.declared.held.HeldSpan.{HeldSpan}
+use Rattle.lnt_paths.specs.declared.stretches.DifferencesByPath.{DifferencesByPath}
+use Rattle.lnt_paths.specs.declared.version.PathVersion.{PathVersion}
+use Rattle.lnt_paths.specs.Held.{held_span}
+use Rattle.lnt_paths.specs.PathAnswers.{PathAnswer}
+use Rattle.lnt_paths.specs.PathSpans.{StandInOrder, path_span_answer}
+use Rattle.lnt_paths.specs.PathStretches.{ArePathStretches, stretches_of}
+use Rattle.lnt_paths.specs.PathTables.{IsPathTableOf}
+use Rattle.lnt_paths.specs.Stretching.{HasToldByPath}
+use Rattle.lnt_table.specs.ByPath.{path_at, told_path}
+use Rattle.lnt_cli.specs.Stretches.{AreToldByPath}
+use Rattle.lnt_cli.specs.Verdicts.{path_difference_line, path_stretches_status, path_stretches_text}
+
+-- A first stretch was told, and others after it, and a writer has gained their lines.
+pub record HasPrintedByPath {S : Type 0} (to_come : S → List Span → Type 0) (path : ℕ → ℕ → List ℕ) (differences : DifferencesByPath S)
+    (f g : Position → Option PathAnswer) (old new : Option (List ℕ)) : Type 0 where
+  pub first : DifferenceByPath
+  pub more : List DifferenceByPath
+  pub told : HasToldByPath to_come path differences f g (stretches_of (first ∷ more))
+  pub text : Appends old new (flat_map path_difference_line (first ∷ more))
+
+line_alone : (old new : Option (List ℕ)) (d : DifferenceByPath) → Appends old new (path_difference_line d)
+    → Appends old new (flat_map path_difference_line (d ∷ []))
+line_alone old new d h = subst (Appends old new) (sym (append-nil (path_difference_line d))) h
+
+pub printed_first_path : {S : Type 0} (to_come : S → List Span → Type 0) (path : ℕ → ℕ → List ℕ) (differences : DifferencesByPath S)
+    (f g : Position → Option PathAnswer) (old new : Option (List ℕ)) (d : DifferenceByPath)
+    → HasToldByPath to_come path differences f g (stretches_of (d ∷ [])) → Appends old new (path_difference_line d)
+    → HasPrintedByPath to_come path differences f g old new
+printed_first_path to_come path differences f g old new d told text =
+    record { first = d; more = []; told = told; text = line_alone old new d text }
+
+pub printed_more_path : {S : Type 0} (to_come : S → List Span → Type 0) (path : ℕ → ℕ → List ℕ) (before after : DifferencesByPath S)
+    (f g : Position → Option PathAnswer) (old now new : Option (List ℕ)) (d : DifferenceByPath)
+    → (h : HasPrintedByPath to_come path before f g old now)
+    → HasToldByPath to_come path after f g (stretches_of (h.first ∷ (h.more ++ d ∷ []))) → Appends now new (path_difference_line d)
+    → HasPrintedByPath to_come path after f g old new
+printed_more_path to_come path before after f g old now new d h told text = record {
+  first = h.first;
+  more = h.more ++ d ∷ [];
+  told = told;
+  text =
+      subst (Appends old new) (sym (flat_map-append path_difference_line (h.first ∷ h.more) (d ∷ [])))
+      (Appends-trans old now new (flat_map path_difference_line (h.first ∷ h.more)) (flat_map path_difference_line (d ∷ [])) h.text
+      (line_alone now new d text));
+}
+
+-- what is printed of stretches by path, whatever the two answer
+abbrev pub PrintsByPath : {S : Type 0} → (S → List Span → Type 0) → (ℕ → ℕ → List ℕ) → DifferencesByPath S → Option (List ℕ)
+    → Option (List ℕ) → Status → Type 0
+PrintsByPath to_come path differences old new status =
+    (f g : Position → Option PathAnswer) → HasToldByPath to_come path differences f g []
+    → (list : List DifferenceByPath) × ArePathStretches f g list × Appends old new (path_stretches_text list)
+    × (status ≡ path_stretches_status list)
+
+-- The spans that are held are those of a slice, and the paths are those of the index.
+pub told_by_path : {S : Type 0} (to_come : S → List Span → Type 0) (index : Indexed) (path : ℕ → ℕ → List ℕ)
+    (differences : DifferencesByPath S) (version : PathVersion) (spans slice : List HeldSpan) (dead : Option ℕ) (skip : Bool)
+    (units : List (ℕ × Parts)) (table old new : Option (List ℕ)) (status : Status) → slice ≡ spans → path ≡ path_at index
+    → IfSome table (λ text. ((numbered : Version) → BeginsWith text (column_names numbered ∷ []) → ⊥)
+    × IsPathTableOf version text (map held_span spans))
+    → StandInOrder (map held_span spans)
+    → (StandInOrder (map held_span slice) → HasToldByPath to_come (path_at index) differences (told_path version index dead skip units)
+    (path_span_answer (map held_span slice)) [])
+    → PrintsByPath to_come path differences old new status
+    → IfSome table (λ text. AreToldByPath index dead skip units text old new status)
+told_by_path to_come index path differences version spans slice dead skip units None old new status same by is order told p = tt
+told_by_path to_come index path differences version spans slice dead skip units (Some text) old new status same by is order told p =
+    let begun =
+    subst (λ (l : List HeldSpan). StandInOrder (map held_span l)
+    → HasToldByPath to_come (path_at index) differences (told_path version index dead skip units) (path_span_answer (map held_span l)) [])
+    same told order in
+    let printed =
+    subst (λ (q : ℕ → ℕ → List ℕ). PrintsByPath to_come q differences old new status) by p
+    (told_path version index dead skip units) (path_span_answer (map held_span spans)) begun in
+    record {
+      version = version;
+      spans = map held_span spans;
+      is_table = is.1;
+      differences = printed.0;
+      are_stretches = printed.1;
+      printed = printed.2;
+      status_is = printed.3;
+    }
