@@ -31,8 +31,8 @@ from_units of_section of_table dead skip units (Some text) (Table differences) h
 -- ---- a table of any version
 
 pub numbered_from_units : {S : Type 0} (of_section : Remaining S → List Span → Type 0) (of_table : SpanList → List Span → Type 0)
-    (dead : Option ℕ) (skip : Bool) (units : List (ℕ × Parts)) (table : Option (List ℕ)) (became : DifferingRead S) (differing : Differing S)
-    → became ≡ read.Differing differing
+    (dead : Option ℕ) (skip : Bool) (units : List (ℕ × Parts)) (table : Option (List ℕ)) (became : DifferingRead S)
+    (differing : Differing S) → became ≡ read.Differing differing
     → IfSome table (λ text. IsDifferingRead of_section of_table text (line_answer dead skip units) became)
     → IfSome table (λ text. IsDifferingFrom of_section of_table dead skip units text differing × (differing ≢ Fault fault.Header))
 numbered_from_units of_section of_table dead skip units None became differing e h = tt
