@@ -4,8 +4,7 @@ use lnt_lines::{JudgedIndex, index_section};
 use lnt_records::TableFault;
 use lnt_samples::{PLAIN, TABLE, whole};
 use lnt_table::{
-    AnyDiffering, Checked, ComparedByPath, HeldTable, IndexPaths, Verdict, check_any,
-    differences_any, differences_by_path,
+    AnyDiffering, Checked, ComparedByPath, HeldTable, Verdict, check_any, differences_any,
 };
 use lnt_wire::Counted;
 use std::alloc::Global;
@@ -85,44 +84,26 @@ fn tables_by_path_checked(rt: HostRuntime) {
     assert!(rt; has_fault(alloc, FALLING, TableFault::Order(2)));
 }
 
-// The addresses at which the first two stretches begin where a table by path answers otherwise than the unit; 0 for one that
-// isn't there.
-fn first_stretches(alloc: Global, table: &[u8]) -> Option<(u64, u64)> {
+// How many spans are held of a table by path that is to be compared with the unit at every position.
+fn held_spans(alloc: Global, table: &[u8]) -> Option<usize> {
     let mut section = Counted::new(whole(&PLAIN), 1000);
     let mut table = Counted::new(whole(table), 1000);
     let Ok(JudgedIndex::Good(index)) = index_section(alloc, &mut section, &STRINGS, &OPTIONS) else {
         return None;
     };
-    let Ok(AnyDiffering::ByPath(HeldTable::Table(version, spans))) = differences_any(
-        alloc, &mut table, &index,
-    ) else {
-        return None;
-    };
-    let paths = IndexPaths::of(&index);
-    let mut differences = differences_by_path(&index, &spans, version);
-    let first = differences.next_difference(alloc, &paths).ok()?;
-    let Some(first) = first else {
-        return Some((0, 0));
-    };
-    let second = differences.next_difference(alloc, &paths).ok()?;
-    match second {
-        Some(second) => Some((first.position.address, second.position.address)),
-        None => Some((first.position.address, 0)),
+    match differences_any(alloc, &mut table, &index) {
+        Ok(AnyDiffering::ByPath(HeldTable::Table(_, spans))) => Some(spans.len()),
+        _ => None,
     }
 }
 
 #[test]
-fn tables_by_path_compared_at_every_position(rt: HostRuntime) {
+fn tables_by_path_held(rt: HostRuntime) {
     let alloc = rt.alloc();
-    let apart = b"low,high,path,line
-0x1000,0x1002,/s/a.c,2
-0x1002,0x1004,/s/a.c,3
-0x1005,0x1006,/s/a.c,4
-";
-    assert!(rt; first_stretches(alloc, COLUMNS) == Some((0, 0)));
-    assert!(rt; first_stretches(alloc, OTHER) == Some((0x1004, 0)));
-    assert!(rt; first_stretches(alloc, apart) == Some((0x1000, 0x1004)));
-    assert!(rt; first_stretches(alloc, FALLING).is_none());
+    assert!(rt; held_spans(alloc, COLUMNS) == Some(2));
+    assert!(rt; held_spans(alloc, PIECES) == Some(3));
+    assert!(rt; held_spans(alloc, FALLING).is_none());
+    assert!(rt; held_spans(alloc, TABLE).is_none());
 }
 
 #[test]
