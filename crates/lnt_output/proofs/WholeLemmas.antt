@@ -1,0 +1,47 @@
+-- Bytes that are written piece by piece.
+use Rattle.std.proofs.Common.{◌≡◌, ◌∙◌, ℕ, List, [], ◌++◌, append-nil, append_assoc, take, drop, length, Option, ap, subst, sym}
+use Rattle.std.proofs.Common.{take-append-drop, None, Some, refl, arith, ◌-◌}
+use Rattle.std.proofs.lemmas.List.{length-drop, take_all}
+use Rattle.std.specs.Io.KnownBytes.{Appends, Keeps}
+use Rattle.std.proofs.KnownBytes.{Appends-nil, Appends-trans}
+use Rattle.lnt_output.specs.Fronts.{AppendsFront}
+
+-- All of the bytes but the rest were written.
+pub record HasWritten (old now : Option (List ℕ)) (bytes rest : List ℕ) : Type 0 where
+  pub front : List ℕ
+  pub joined : front ++ rest ≡ bytes
+  pub gained : Appends old now front
+
+pub none_written : (old : Option (List ℕ)) (bytes : List ℕ) → HasWritten old old bytes bytes
+none_written old bytes = record { front = []; joined = refl; gained = Appends-nil old }
+
+-- what is left of a slice from a place on
+pub left_from : (rest : List ℕ) (count : ℕ) → drop count rest ≡ take (length rest - count) (drop count rest)
+left_from rest count = sym (take_all (length rest - count) (drop count rest) (omega (arith, length-drop count rest)))
+
+pub more_written : (old now new : Option (List ℕ)) (bytes rest : List ℕ) (count : ℕ) → HasWritten old now bytes rest
+    → Appends now new (take count rest) → HasWritten old new bytes (drop count rest)
+more_written old now new bytes rest count w a = record {
+  front = w.front ++ take count rest;
+  joined = append_assoc w.front (take count rest) (drop count rest) ∙ ap (λ (l : List ℕ). w.front ++ l) (take-append-drop count rest)
+      ∙ w.joined;
+  gained = Appends-trans old now new w.front (take count rest) w.gained a;
+}
+
+Appends_kept : (old now new : Option (List ℕ)) (bytes : List ℕ) → Appends old now bytes → Keeps now new → Appends old new bytes
+Appends_kept None now new bytes a k = tt
+Appends_kept (Some xs) None new bytes a k = absurd a
+Appends_kept (Some xs) (Some ys) None bytes a k = absurd k
+Appends_kept (Some xs) (Some ys) (Some zs) bytes a k = k ∙ a
+
+pub kept_written : (old now new : Option (List ℕ)) (bytes rest : List ℕ) → HasWritten old now bytes rest → Keeps now new
+    → HasWritten old new bytes rest
+kept_written old now new bytes rest w k =
+    record { front = w.front; joined = w.joined; gained = Appends_kept old now new w.front w.gained k }
+
+pub all_written : (old now : Option (List ℕ)) (bytes rest : List ℕ) → HasWritten old now bytes rest → rest ≡ [] → Appends old now bytes
+all_written old now bytes rest w none =
+    subst (Appends old now) (sym (append-nil w.front) ∙ ap (λ (l : List ℕ). w.front ++ l) (sym none) ∙ w.joined) w.gained
+
+pub front_written : (old now : Option (List ℕ)) (bytes rest : List ℕ) → HasWritten old now bytes rest → AppendsFront old now bytes
+front_written old now bytes rest w = record { front = w.front; rest = rest; joined = w.joined; gained = w.gained }

@@ -1,0 +1,19 @@
+-- What a writer holds that was stopped.
+--     old, new    the known bytes that it holds before and afterwards
+use Rattle.std.specs.Prelude.{◌≡◌, ℕ, List, ◌++◌, Option}
+use Rattle.std.specs.Io.KnownBytes.{Appends, append_known}
+
+-- known bytes grow by a front of these
+pub record AppendsFront (old new : Option (List ℕ)) (bytes : List ℕ) : Type 0 where
+  pub front : List ℕ
+  pub rest : List ℕ
+  pub joined : front ++ rest ≡ bytes
+  pub gained : Appends old new front
+
+-- Known bytes grow by a front of some bytes, with all of which the work might have ended so.
+--     Ends    what a writer holds afterwards, and how the work ends
+pub record HasBegun {Ending : Type 0} (Ends : Option (List ℕ) → Ending → Type 0) (old new : Option (List ℕ)) : Type 0 where
+  pub whole : List ℕ
+  pub ending : Ending
+  pub is_end : Ends (append_known old whole) ending
+  pub front : AppendsFront old new whole

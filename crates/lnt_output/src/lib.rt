@@ -1,0 +1,8 @@
+//! Bytes written to a writer whole, or a front of them.
+//!
+//! The library's `write_all` says nothing of what a writer holds after it failed. [`write_whole`] does.
+#![tactic(auto)]
+
+mod whole;
+
+pub use whole::write_whole;
