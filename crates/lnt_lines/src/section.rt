@@ -3,6 +3,7 @@ ghost use Rattle.std.specs.Prelude.{◌≡◌, ◌≢◌, ◌+◌, ◌-◌, ◌^
 ghost use Rattle.lnt_wire.specs.Pulling.{HasMoreThan};
 ghost use Rattle.lnt_lines.specs.Drafts.{IsDraftOfSection, IsIndexOfSection, IsJudged, IsJudgedIndex, IsRefusal};
 ghost use Rattle.lnt_stream.specs.declared.reader.Progress.TheVariants.{Reading};
+ghost use Rattle.lnt_stream.specs.Readers.{loan_of, offset_of, order_of, progress_of, source_of};
 
 use crate::draft::Draft;
 use crate::gather::lines_of;
@@ -119,19 +120,19 @@ fn judge_units<R: Source>(
     strings: &Strings<'_>,
     options: &Options,
 ) -> Result<Draft, Refusal>
-    requires reading { reader.old.progress ≡ Reading }
-    requires offset { reader.old.offset ≡ 0 }
-    requires order { reader.old.order ≡ options.now.order }
+    requires reading { progress_of reader.old ≡ Reading }
+    requires offset { offset_of reader.old ≡ 0 }
+    requires order { order_of reader.old ≡ options.now.order }
     ensures draft { IfOk result (IsDraftOfSection strings.now.line.now strings.now.general.now options.now
-        (R.remaining reader.old.source.now)) }
-    ensures bad { IfErr result (λ refusal. IfSome (R.remaining reader.old.source.now) (λ bytes.
+        (R.remaining (source_of reader.old))) }
+    ensures bad { IfErr result (λ refusal. IfSome (R.remaining (source_of reader.old)) (λ bytes.
         IsRefusal strings.now.line.now strings.now.general.now options.now bytes refusal)) }
-    ensures read { IsErrOf result (Refusal.Stop Stop.Read) → R.failures reader.new.source.now ≡ R.failures reader.old.source.now + 1 }
-    ensures no_failure { result ≢ Err (Refusal.Stop Stop.Read) → R.failures reader.new.source.now ≡ R.failures reader.old.source.now }
-    ensures too_long { IsErrOf result (Refusal.Stop Stop.TooLong) → IsTrue (R.too_long reader.new.source.now) }
+    ensures read { IsErrOf result (Refusal.Stop Stop.Read) → R.failures (source_of reader.new) ≡ R.failures (source_of reader.old) + 1 }
+    ensures no_failure { result ≢ Err (Refusal.Stop Stop.Read) → R.failures (source_of reader.new) ≡ R.failures (source_of reader.old) }
+    ensures too_long { IsErrOf result (Refusal.Stop Stop.TooLong) → IsTrue (R.too_long (source_of reader.new)) }
     ensures more { IsErrOf result (Refusal.Stop Stop.TooLong)
-        → HasMoreThan (R.remaining reader.old.source.now) (R.left reader.old.source.now) }
-    ensures same_reference { reader.new.source.ghost_name ≡ reader.old.source.ghost_name }
+        → HasMoreThan (R.remaining (source_of reader.old)) (R.left (source_of reader.old)) }
+    ensures same_reference { loan_of reader.new ≡ loan_of reader.old }
 {
     let mut draft = Draft::new(alloc);
     let mut room = Vec::new(alloc);

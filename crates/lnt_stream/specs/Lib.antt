@@ -1,3 +1,4 @@
+pub mod Readers
 pub mod Sizes
 pub mod Steps
 pub mod Stops

@@ -7,6 +7,7 @@ use Rattle.lnt_stream.specs.declared.reader.Progress.TheVariants.{Reading, Ended
 use Rattle.lnt_stream.specs.declared.reader.SectionReader.{SectionReader}
 use Rattle.lnt_stream.specs.declared.stop.SectionStop.{SectionStop}
 use Rattle.lnt_stream.specs.declared.stop.SectionStop.TheVariants as stop
+use Rattle.lnt_stream.specs.Readers.{source_of, loan_of, order_of, offset_of, progress_of}
 use Rattle.lnt_stream.specs.Stops.{IfFault}
 use Rattle.lnt_stream.specs.Units.{IsNextUnit, SectionEndsBy, UnitBytes}
 
@@ -16,29 +17,29 @@ pub record IsStep {R : Type 0} {source : Ghosts R} (old new : SectionReader R so
     (answer : Result (Option UnitBytes) SectionStop) : Type 0 where
   -- a unit is the next one, and the reader goes on after it
   pub unit : IfOk answer (λ got. IfSome got (λ unit.
-      IsNextUnit old.offset old.order (source.remaining old.source.now) (source.remaining new.source.now) unit))
+      IsNextUnit (offset_of old) (order_of old) (source.remaining (source_of old)) (source.remaining (source_of new)) unit))
   pub goes_on : IfOk answer (λ got. IfSome got (λ unit.
-      (new.progress ≡ Reading) × (new.offset ≡ old.offset + length unit.bytes)))
+      (progress_of new ≡ Reading) × (offset_of new ≡ offset_of old + length unit.bytes)))
   pub left : IfOk answer (λ got. IfSome got (λ unit.
-      source.left new.source.now + length unit.bytes ≡ source.left old.source.now))
-  pub fewer : IfOk answer (λ got. IfSome got (λ unit. source.left new.source.now < source.left old.source.now))
+      source.left (source_of new) + length unit.bytes ≡ source.left (source_of old)))
+  pub fewer : IfOk answer (λ got. IfSome got (λ unit. source.left (source_of new) < source.left (source_of old)))
   -- none comes only at the end of the section
-  pub end : old.progress ≡ Reading → IfOk answer (λ got. IfNone got
-      (SectionEndsBy old.offset old.order (source.remaining old.source.now) None))
-  pub not_long : old.progress ≡ Reading → IfOk answer (λ got. IfNone got (source.too_long new.source.now ≡ false))
-  pub ends : IfOk answer (λ got. IfNone got (new.progress ≡ Ended))
+  pub end : progress_of old ≡ Reading → IfOk answer (λ got. IfNone got
+      (SectionEndsBy (offset_of old) (order_of old) (source.remaining (source_of old)) None))
+  pub not_long : progress_of old ≡ Reading → IfOk answer (λ got. IfNone got (source.too_long (source_of new) ≡ false))
+  pub ends : IfOk answer (λ got. IfNone got (progress_of new ≡ Ended))
   -- what a stop says is so, and the reader is done
   pub fault : IfErr answer (λ why. IfFault why (λ fault.
-      SectionEndsBy old.offset old.order (source.remaining old.source.now) (Some fault)))
-  pub read : IsErrOf answer stop.Read → source.failures new.source.now ≡ source.failures old.source.now + 1
-  pub no_failure : answer ≢ Err stop.Read → source.failures new.source.now ≡ source.failures old.source.now
-  pub too_long : IsErrOf answer stop.TooLong → IsTrue (source.too_long new.source.now)
-  pub more : IsErrOf answer stop.TooLong → HasMoreThan (source.remaining old.source.now) (source.left old.source.now)
-  pub stops : OnErr answer (new.progress ≡ Failed)
+      SectionEndsBy (offset_of old) (order_of old) (source.remaining (source_of old)) (Some fault)))
+  pub read : IsErrOf answer stop.Read → source.failures (source_of new) ≡ source.failures (source_of old) + 1
+  pub no_failure : answer ≢ Err stop.Read → source.failures (source_of new) ≡ source.failures (source_of old)
+  pub too_long : IsErrOf answer stop.TooLong → IsTrue (source.too_long (source_of new))
+  pub more : IsErrOf answer stop.TooLong → HasMoreThan (source.remaining (source_of old)) (source.left (source_of old))
+  pub stops : OnErr answer (progress_of new ≡ Failed)
   -- after the end, and after a stop, nothing changes
-  pub ended : old.progress ≡ Ended → (answer ≡ Ok None) × (new ≡ old)
-  pub failed : old.progress ≡ Failed → (answer ≡ Err stop.Failed) × (new ≡ old)
-  pub failed_before : IsErrOf answer stop.Failed → old.progress ≡ Failed
+  pub ended : progress_of old ≡ Ended → (answer ≡ Ok None) × (new ≡ old)
+  pub failed : progress_of old ≡ Failed → (answer ≡ Err stop.Failed) × (new ≡ old)
+  pub failed_before : IsErrOf answer stop.Failed → progress_of old ≡ Failed
   -- what no call changes: the byte order, and which source it is
-  pub order : new.order ≡ old.order
-  pub same_reference : new.source.ghost_name ≡ old.source.ghost_name
+  pub order : order_of new ≡ order_of old
+  pub same_reference : loan_of new ≡ loan_of old

@@ -25,8 +25,8 @@ pub enum Progress {
 
 /// Reads a section unit by unit from a source, which it borrows.
 ///
-/// A contract sees the source, the byte order, the offset in the section at which the next unit stands, and the progress. It
-/// sees them as fields, and not over a model: so what is known of the source in the reader is known of it after the loan.
+/// A contract sees the source by now and which one it is, the byte order, the offset in the section at which the next
+/// unit stands, and the progress (`source_of` and its neighbours).
 #[derive(Drop)]
 pub struct SectionReader<'s, R: Source> {
     source: &'s mut R,
@@ -38,6 +38,7 @@ pub struct SectionReader<'s, R: Source> {
 }
 
 impl<'s, R: Source> SectionReader<'s, R> {
+    ghost use Rattle.lnt_stream.specs.Readers.{source_of, loan_of, order_of, offset_of, progress_of};
     ghost use Rattle.lnt_stream.specs.Steps.{IsStep};
 
     /// A reader before the first unit of the section that the source has to give from where it stands, with numbers in this
@@ -45,11 +46,11 @@ impl<'s, R: Source> SectionReader<'s, R> {
     /// `u64::MAX` times.
     pub fn new(source: &'s mut R, order: Order) -> SectionReader<'s, R>
         requires { R.failures source.now < 2 ^ 64 - 1 }
-        ensures source { result.source.now ≡ source.entry.now }
-        ensures same_reference { result.source.ghost_name ≡ source.entry.ghost_name }
-        ensures reading { result.progress ≡ Progress.Reading }
-        ensures offset { result.offset ≡ 0 }
-        ensures order { result.order ≡ order }
+        ensures source { source_of result ≡ source.entry.now }
+        ensures same_reference { loan_of result ≡ source.entry.ghost_name }
+        ensures reading { progress_of result ≡ Progress.Reading }
+        ensures offset { offset_of result ≡ 0 }
+        ensures order { order_of result ≡ order }
     {
         // The bytes to come are counted by a u64, so each offset is one.
         let _left = source.left();
@@ -63,14 +64,14 @@ impl<'s, R: Source> SectionReader<'s, R> {
 
     /// Where the reader stands: whether it reads on, has told the end of the section, or was stopped.
     pub fn progress(&self) -> Progress
-        ensures { result ≡ self.now.progress }
+        ensures { result ≡ progress_of self.now }
     {
         self.progress
     }
 
     /// The offset in the section, in bytes, at which the next unit stands: how many bytes the units that were given have.
     pub fn offset(&self) -> u64
-        ensures { result ≡ self.now.offset }
+        ensures { result ≡ offset_of self.now }
     {
         self.offset
     }
@@ -88,30 +89,31 @@ impl<'s, R: Source> SectionReader<'s, R> {
     /// by `Failed`, and leaves the source alone.
     pub fn next_unit(&mut self, alloc: Global) -> Result<Option<UnitBuffer>, SectionStop>
         ensures unit { IfOk result (λ got. IfSome got (λ unit.
-            IsNextUnit self.old.offset self.old.order (R.remaining self.old.source.now) (R.remaining self.new.source.now) unit)) }
+            IsNextUnit (offset_of self.old) (order_of self.old) (R.remaining (source_of self.old))
+            (R.remaining (source_of self.new)) unit)) }
         ensures goes_on { IfOk result (λ got. IfSome got (λ unit.
-            (self.new.progress ≡ Progress.Reading) × (self.new.offset ≡ self.old.offset + length unit.bytes))) }
+            (progress_of self.new ≡ Progress.Reading) × (offset_of self.new ≡ offset_of self.old + length unit.bytes))) }
         ensures left { IfOk result (λ got. IfSome got (λ unit.
-            R.left self.new.source.now + length unit.bytes ≡ R.left self.old.source.now)) }
+            R.left (source_of self.new) + length unit.bytes ≡ R.left (source_of self.old))) }
         ensures fewer { IfOk result (λ got. IfSome got (λ unit.
-            R.left self.new.source.now < R.left self.old.source.now)) }
-        ensures end { self.old.progress ≡ Progress.Reading → IfOk result (λ got. IfNone got
-            (SectionEndsBy self.old.offset self.old.order (R.remaining self.old.source.now) None)) }
-        ensures not_long { self.old.progress ≡ Progress.Reading → IfOk result (λ got. IfNone got
-            (R.too_long self.new.source.now ≡ false)) }
-        ensures ends { IfOk result (λ got. IfNone got (self.new.progress ≡ Progress.Ended)) }
+            R.left (source_of self.new) < R.left (source_of self.old))) }
+        ensures end { progress_of self.old ≡ Progress.Reading → IfOk result (λ got. IfNone got
+            (SectionEndsBy (offset_of self.old) (order_of self.old) (R.remaining (source_of self.old)) None)) }
+        ensures not_long { progress_of self.old ≡ Progress.Reading → IfOk result (λ got. IfNone got
+            (R.too_long (source_of self.new) ≡ false)) }
+        ensures ends { IfOk result (λ got. IfNone got (progress_of self.new ≡ Progress.Ended)) }
         ensures fault { IfErr result (λ stop. IfFault stop (λ fault.
-            SectionEndsBy self.old.offset self.old.order (R.remaining self.old.source.now) (Some fault))) }
-        ensures read { IsErrOf result SectionStop.Read → R.failures self.new.source.now ≡ R.failures self.old.source.now + 1 }
-        ensures no_failure { result ≢ Err SectionStop.Read → R.failures self.new.source.now ≡ R.failures self.old.source.now }
-        ensures too_long { IsErrOf result SectionStop.TooLong → IsTrue (R.too_long self.new.source.now) }
-        ensures more { IsErrOf result SectionStop.TooLong → HasMoreThan (R.remaining self.old.source.now) (R.left self.old.source.now) }
-        ensures stops { OnErr result (self.new.progress ≡ Progress.Failed) }
-        ensures ended { self.old.progress ≡ Progress.Ended → (result ≡ Ok None) × (self.new ≡ self.old) }
-        ensures failed { self.old.progress ≡ Progress.Failed → (result ≡ Err SectionStop.Failed) × (self.new ≡ self.old) }
-        ensures failed_before { IsErrOf result SectionStop.Failed → self.old.progress ≡ Progress.Failed }
-        ensures order { self.new.order ≡ self.old.order }
-        ensures same_reference { self.new.source.ghost_name ≡ self.old.source.ghost_name }
+            SectionEndsBy (offset_of self.old) (order_of self.old) (R.remaining (source_of self.old)) (Some fault))) }
+        ensures read { IsErrOf result SectionStop.Read → R.failures (source_of self.new) ≡ R.failures (source_of self.old) + 1 }
+        ensures no_failure { result ≢ Err SectionStop.Read → R.failures (source_of self.new) ≡ R.failures (source_of self.old) }
+        ensures too_long { IsErrOf result SectionStop.TooLong → IsTrue (R.too_long (source_of self.new)) }
+        ensures more { IsErrOf result SectionStop.TooLong → HasMoreThan (R.remaining (source_of self.old)) (R.left (source_of self.old)) }
+        ensures stops { OnErr result (progress_of self.new ≡ Progress.Failed) }
+        ensures ended { progress_of self.old ≡ Progress.Ended → (result ≡ Ok None) × (self.new ≡ self.old) }
+        ensures failed { progress_of self.old ≡ Progress.Failed → (result ≡ Err SectionStop.Failed) × (self.new ≡ self.old) }
+        ensures failed_before { IsErrOf result SectionStop.Failed → progress_of self.old ≡ Progress.Failed }
+        ensures order { order_of self.new ≡ order_of self.old }
+        ensures same_reference { loan_of self.new ≡ loan_of self.old }
     {
         self.next_unit_in(Vec::new(alloc))
     }
