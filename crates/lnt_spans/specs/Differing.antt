@@ -1,5 +1,5 @@
 -- How far the stretches of a section and a table are told.
-use Rattle.std.specs.Prelude.{◌≡◌, ◌≢◌, ◌⊎◌, ℕ, ◌+◌, List, [], ◌∷◌, ◌++◌, Option, Some, None, cond}
+use Rattle.std.specs.Prelude.{◌≡◌, ◌⊎◌, ℕ, ◌+◌, List, [], ◌∷◌, ◌++◌, Option, Some, None, cond}
 use Rattle.std.specs.List.{AllByRecursion}
 use Rattle.lnt_spans.specs.declared.answer.Answer.{Answer}
 use Rattle.lnt_spans.specs.declared.answer.Version.{Version}
@@ -79,6 +79,13 @@ pub record HasTold {S T : Type 0} (of_section : S → List Span → Type 0) (of_
   pub section : IsSide of_section differences.version differences.section differences.at by_section
   pub table : IsSide of_table differences.version differences.table differences.at by_table
   pub below : AreToldBelow by_section by_table differences.at differences.by_section differences.by_table told
+
+-- At most so many stretches are left to tell, where the sources have no more spans left than these functions say. Each begins where a
+-- run of one side does, so the runs that both have left are counted.
+abbrev pub stretches_left : {S T : Type 0} → (S → ℕ) → (T → ℕ) → Differences S T → ℕ
+stretches_left of_section of_table differences =
+    runs_left differences.at differences.section.next (of_section differences.section.spans)
+    + runs_left differences.at differences.table.next (of_table differences.table.spans)
 
 -- what one step brings
 abbrev pub Steps : {S T : Type 0} → (S → List Span → Type 0) → (T → List Span → Type 0) → Differences S T → (Position → Option Answer)

@@ -1,5 +1,5 @@
 //! All stretches of positions at which a section and a table answer differently, one after another.
-ghost use Rattle.std.specs.Prelude.{◌≡◌, ◌≢◌, ◌⊎◌, ◌+◌, ◌<◌, ◌≤◌, List, [], ◌∷◌, ◌++◌, None, Option, Some, MatchOption, IfSome};
+ghost use Rattle.std.specs.Prelude.{◌≡◌, ◌≢◌, ◌⊎◌, ◌<◌, ◌≤◌, List, [], ◌∷◌, ◌++◌, None, Option, Some, MatchOption, IfSome};
 ghost use Rattle.std.specs.Bool.{MatchBool};
 ghost use Rattle.std.specs.List.{AllByRecursion};
 ghost use Rattle.lnt_spans.specs.declared.answer.Answer as spec_answer;
@@ -10,7 +10,7 @@ ghost use Rattle.lnt_spans.specs.declared.span.Span as spec;
 ghost use Rattle.lnt_spans.specs.declared.stretches.Step.TheVariants as step;
 ghost use Rattle.lnt_spans.specs.Ahead.{BeginsWith};
 ghost use Rattle.lnt_spans.specs.Comparing.{IsTold, end_of};
-ghost use Rattle.lnt_spans.specs.Differing.{HasTold, IsRun, IsSide, IsUpTo, Steps, run_end, runs_left};
+ghost use Rattle.lnt_spans.specs.Differing.{HasTold, IsRun, IsSide, IsUpTo, Steps, run_end, runs_left, stretches_left};
 ghost use Rattle.lnt_spans.specs.Positions.{IsBelow, IsAtMost};
 ghost use Rattle.lnt_spans.specs.Scanning.{EndsAfter};
 ghost use Rattle.lnt_spans.specs.Spans.{AreInOrder, span_answer, version_answer};
@@ -91,11 +91,7 @@ impl<S: SpanSource, T: SpanSource> Differences<S, T> {
             → HasTold S.to_come T.to_come self.old by_section by_table told
             → MatchOption result (AreStretches by_section by_table told)
             (λ difference. HasTold S.to_come T.to_come self.new by_section by_table (told ++ difference ∷ [])) }
-        ensures fewer { IfSome result (λ _.
-            runs_left self.new.at self.new.section.next (S.left self.new.section.spans)
-            + runs_left self.new.at self.new.table.next (T.left self.new.table.spans)
-            < runs_left self.old.at self.old.section.next (S.left self.old.section.spans)
-            + runs_left self.old.at self.old.table.next (T.left self.old.table.spans)) }
+        ensures fewer { IfSome result (λ _. stretches_left S.left T.left self.new < stretches_left S.left T.left self.old) }
     {
         loop {
             match self.step() {
@@ -114,11 +110,7 @@ impl<S: SpanSource, T: SpanSource> Differences<S, T> {
         ensures told { (by_section by_table : spec_position.Position → Option spec_answer.Answer) (told : List spec_difference.Difference)
             → HasTold S.to_come T.to_come self.old by_section by_table told
             → Steps S.to_come T.to_come self.new by_section by_table told result }
-        ensures fewer { result ≢ step.Ended
-            → runs_left self.new.at self.new.section.next (S.left self.new.section.spans)
-            + runs_left self.new.at self.new.table.next (T.left self.new.table.spans)
-            < runs_left self.old.at self.old.section.next (S.left self.old.section.spans)
-            + runs_left self.old.at self.old.table.next (T.left self.old.table.spans) }
+        ensures fewer { result ≢ step.Ended → stretches_left S.left T.left self.new < stretches_left S.left T.left self.old }
     {
         let at = self.at;
         let section = run_at(self.version, self.section.next, at);
