@@ -14,7 +14,7 @@ pub struct SpanList {
 impl SpanList {
     /// These spans, of which none was given.
     pub fn of(spans: Vec<Span>) -> SpanList
-        ensures { drop result.given result.spans.items ≡ spans.items }
+        ensures { ⟦<SpanList as SpanSource>⟧.to_come result spans.items }
     {
         SpanList { spans, given: 0 }
     }
