@@ -1,4 +1,4 @@
-use Rattle.lnt_spans.proofs.StretchLemmas.{end_gap, end_inside, run_gap, run_inside, run_none}
+use Rattle.lnt_spans.proofs.StretchLemmas.{run_gap}
 use Rattle.lnt_spans.proofs.stretches.run_at.Goals as goal
 
 pub returns-then-is_below-clause-run : goal.returns-then-is_below-clause-run
