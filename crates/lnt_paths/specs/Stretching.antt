@@ -5,7 +5,7 @@ use Rattle.std.specs.Option.{option_copied, option_map}
 use Rattle.lnt_spans.specs.declared.answer.Answer.{Answer}
 use Rattle.lnt_spans.specs.declared.position.Position.{Position}
 use Rattle.lnt_spans.specs.declared.span.Span.{Span}
-use Rattle.lnt_spans.specs.Differing.{IsBefore}
+use Rattle.lnt_spans.specs.Differing.{IsBefore, runs_left}
 use Rattle.lnt_spans.specs.Positions.{IsBelow, IsAtMost, is_below}
 use Rattle.lnt_spans.specs.Scanning.{EndsAfter}
 use Rattle.lnt_spans.specs.Spans.{AreInOrder}
@@ -93,6 +93,13 @@ pub record HasToldByPath {S : Type 0} (to_come : S → List Span → Type 0) (pa
   pub table : IsTableAt differences.table.now differences.at by_table
   pub below : AreToldBelow by_section by_table differences.at (option_map (path_answer differences.version path) differences.by_section)
       (option_map told_path_answer (option_copied differences.by_table)) told
+
+-- At most so many stretches are left to tell, where the section's source has no more spans left than the function says. Each begins
+-- where a run of one side does, so the runs that both have left are counted.
+abbrev pub path_stretches_left : {S : Type 0} → (S → ℕ) → DifferencesByPath S → ℕ
+path_stretches_left of_section differences =
+    runs_left differences.at differences.section.next (of_section differences.section.spans)
+    + held_runs differences.at differences.table.now
 
 -- a stretch that was found, as it is told
 abbrev pub stretch_begun : (Answer → PathAnswer) → Begun → Stretch PathAnswer

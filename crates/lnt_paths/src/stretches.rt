@@ -1,5 +1,5 @@
 //! All stretches of positions at which a section and a table by path answer differently, one after another.
-ghost use Rattle.std.specs.Prelude.{◌≡◌, ◌≢◌, ◌⊎◌, ◌+◌, ◌<◌, ◌≤◌, ℕ, List, [], ◌∷◌, ◌++◌, map, None, Option, Some, IfOk, IfSome};
+ghost use Rattle.std.specs.Prelude.{◌≡◌, ◌≢◌, ◌⊎◌, ◌<◌, ◌≤◌, ℕ, List, [], ◌∷◌, ◌++◌, map, None, Option, Some, IfOk, IfSome};
 ghost use Rattle.std.specs.Prelude.{MatchOption};
 ghost use Rattle.std.specs.Bool.{MatchBool};
 ghost use Rattle.std.specs.Option.{option_copied, option_map};
@@ -20,7 +20,7 @@ ghost use Rattle.lnt_paths.specs.PathDifferences.{told_path_answer};
 ghost use Rattle.lnt_paths.specs.PathSpans.{StandInOrder, path_span_answer};
 ghost use Rattle.lnt_paths.specs.PathStretches.{ArePathStretches, Stretch, stretch_of, stretches_of};
 ghost use Rattle.lnt_paths.specs.Stretching.{HasToldByPath, IsRun, IsSectionAt, IsTableAt, PathsEndAfter, Steps};
-ghost use Rattle.lnt_paths.specs.Stretching.{held_end, held_runs, stretch_begun};
+ghost use Rattle.lnt_paths.specs.Stretching.{held_end, held_runs, path_stretches_left, stretch_begun};
 
 use crate::answer::{AnswerByPath, DifferenceByPath};
 use crate::comparison::told_of;
@@ -112,8 +112,7 @@ impl<'t, S: SpanSource> DifferencesByPath<'t, S> {
             (λ difference. HasToldByPath S.to_come (P.bytes_of paths.now) self.new by_section by_table
             (stretches_of (told ++ difference ∷ [])))) }
         ensures fewer { IfOk result (λ found. IfSome found (λ _.
-            runs_left self.new.at self.new.section.next (S.left self.new.section.spans) + held_runs self.new.at self.new.table.now
-            < runs_left self.old.at self.old.section.next (S.left self.old.section.spans) + held_runs self.old.at self.old.table.now)) }
+            path_stretches_left S.left self.new < path_stretches_left S.left self.old)) }
     {
         loop {
             match self.step(alloc, paths)? {
@@ -138,8 +137,7 @@ impl<'t, S: SpanSource> DifferencesByPath<'t, S> {
             → HasToldByPath S.to_come (P.bytes_of paths.now) self.old by_section by_table told
             → Steps S.to_come (P.bytes_of paths.now) self.new by_section by_table told found) }
         ensures fewer { IfOk result (λ found. found ≢ step.Ended
-            → runs_left self.new.at self.new.section.next (S.left self.new.section.spans) + held_runs self.new.at self.new.table.now
-            < runs_left self.old.at self.old.section.next (S.left self.old.section.spans) + held_runs self.old.at self.old.table.now) }
+            → path_stretches_left S.left self.new < path_stretches_left S.left self.old) }
     {
         let at = self.at;
         let section = section_run(self.section.next, at);

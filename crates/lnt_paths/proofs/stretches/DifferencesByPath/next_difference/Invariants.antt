@@ -1,9 +1,8 @@
-use Rattle.std.proofs.Common.{◌+◌, ◌≤◌, List, Option}
+use Rattle.std.proofs.Common.{◌≤◌, List, Option}
 use Rattle.lnt_spans.specs.declared.position.Position.{Position}
-use Rattle.lnt_spans.specs.Differing.{runs_left}
 use Rattle.lnt_paths.specs.PathAnswers.{PathAnswer}
 use Rattle.lnt_paths.specs.PathStretches.{Stretch}
-use Rattle.lnt_paths.specs.Stretching.{HasToldByPath, held_runs}
+use Rattle.lnt_paths.specs.Stretching.{HasToldByPath, path_stretches_left}
 use Rattle.lnt_paths.proofs.stretches.DifferencesByPath.next_difference.Given as goal
 
 abbrev pub invariant-loop-begun : goal.invariant-loop-begun
@@ -11,11 +10,8 @@ invariant-loop-begun g l = record {
   told : (by_section by_table : Position → Option PathAnswer) (told : List (Stretch PathAnswer))
       → HasToldByPath g.S.SpanSource.to_come (g.P.Paths.bytes_of l.paths) l.fn.self by_section by_table told
       → HasToldByPath g.S.SpanSource.to_come (g.P.Paths.bytes_of l.paths) l.self by_section by_table told;
-  fewer : runs_left l.self.at l.self.section.next (g.S.SpanSource.left l.self.section.spans) + held_runs l.self.at l.self.table.now
-      ≤ runs_left l.fn.self.at l.fn.self.section.next (g.S.SpanSource.left l.fn.self.section.spans)
-      + held_runs l.fn.self.at l.fn.self.table.now;
+  fewer : path_stretches_left g.S.SpanSource.left l.self ≤ path_stretches_left g.S.SpanSource.left l.fn.self;
 }
 
 abbrev pub decreases-loop-begun : goal.decreases-loop-begun
-decreases-loop-begun g l =
-    runs_left l.self.at l.self.section.next (g.S.SpanSource.left l.self.section.spans) + held_runs l.self.at l.self.table.now
+decreases-loop-begun g l = path_stretches_left g.S.SpanSource.left l.self
