@@ -1,7 +1,7 @@
-use Rattle.std.proofs.Common.{◌+◌, [], Option}
+use Rattle.std.proofs.Common.{[], Option}
 use Rattle.lnt_spans.specs.declared.answer.Answer.{Answer}
 use Rattle.lnt_spans.specs.declared.position.Position.{Position}
-use Rattle.lnt_spans.specs.Differing.{HasTold, runs_left}
+use Rattle.lnt_spans.specs.Differing.{HasTold, stretches_left}
 use Rattle.lnt_answers.proofs.DifferenceLemmas.{HasPrinted}
 use Rattle.lnt_answers.proofs.differences.print_differences.Given as goal
 
@@ -11,6 +11,4 @@ invariant-loop-difference g l =
     → HasPrinted g.S.SpanSource.to_come g.T.SpanSource.to_come l.differences f f' (g.W.Write.contents l.fn.out) (g.W.Write.contents l.out)
 
 abbrev pub decreases-loop-difference : goal.decreases-loop-difference
-decreases-loop-difference g l =
-    runs_left l.differences.at l.differences.section.next (g.S.SpanSource.left l.differences.section.spans)
-    + runs_left l.differences.at l.differences.table.next (g.T.SpanSource.left l.differences.table.spans)
+decreases-loop-difference g l = stretches_left g.S.SpanSource.left g.T.SpanSource.left l.differences
