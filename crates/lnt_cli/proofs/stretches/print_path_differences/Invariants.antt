@@ -1,8 +1,7 @@
-use Rattle.std.proofs.Common.{◌+◌, [], Option}
+use Rattle.std.proofs.Common.{[], Option}
 use Rattle.lnt_spans.specs.declared.position.Position.{Position}
-use Rattle.lnt_spans.specs.Differing.{runs_left}
 use Rattle.lnt_paths.specs.PathAnswers.{PathAnswer}
-use Rattle.lnt_paths.specs.Stretching.{HasToldByPath, held_runs}
+use Rattle.lnt_paths.specs.Stretching.{HasToldByPath, path_stretches_left}
 use Rattle.lnt_cli.proofs.PathStretchLemmas.{HasPrintedByPath}
 use Rattle.lnt_cli.proofs.stretches.print_path_differences.Given as goal
 
@@ -14,6 +13,4 @@ invariant-loop-first g l =
     (g.W.Write.contents l.out)
 
 abbrev pub decreases-loop-first : goal.decreases-loop-first
-decreases-loop-first g l =
-    runs_left l.differences.at l.differences.section.next (g.S.SpanSource.left l.differences.section.spans)
-    + held_runs l.differences.at l.differences.table.now
+decreases-loop-first g l = path_stretches_left g.S.SpanSource.left l.differences
