@@ -35,8 +35,8 @@ use std::alloc::{AllocError, Global};
 /// The stretches of positions at which a section and a table by path answer differently and stay the same two. The section's
 /// spans come from a source, and the table's are held.
 ///
-/// Contracts see which of the stretches were told (`HasToldByPath`). No list of them is held: only the next span of the section,
-/// the spans of the table that are left, and the last two answers.
+/// Contracts see which of the stretches were told (`HasToldByPath`), and how many are left at most (`path_stretches_left`). No list
+/// of them is held: only the next span of the section, the spans of the table that are left, and the last two answers.
 #[derive(Drop)]
 pub struct DifferencesByPath<'t, S> {
     version: PathVersion,

@@ -27,8 +27,8 @@ use crate::span::Span;
 /// The stretches of positions at which a section and a table answer differently and stay the same two, as the spans of
 /// both come, each from a source of its own.
 ///
-/// Contracts see which of the stretches were told (`HasTold`). No list of them is held: only the next span of each side,
-/// and the last two answers. It takes no memory.
+/// Contracts see which of the stretches were told (`HasTold`), and how many are left at most (`stretches_left`). No list of
+/// them is held: only the next span of each side, and the last two answers. It takes no memory.
 #[derive(Drop)]
 pub struct Differences<S, T> {
     version: Version,
