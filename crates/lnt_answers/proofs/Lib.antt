@@ -2,5 +2,6 @@ pub mod AddressLemmas
 pub mod CommaLemmas
 pub mod DifferenceLemmas
 pub mod FileLemmas
+pub mod RoomLemmas
 pub mod SumLaws
 pub mod SumLemmas

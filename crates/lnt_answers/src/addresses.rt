@@ -52,6 +52,7 @@ pub fn print_addresses<T: Source, W: Write>(
     let mut asked = Asked {
         op,
         line: Vec::new(alloc),
+        room: Vec::new(alloc),
         status: Status::Done,
     };
     loop {
@@ -80,6 +81,8 @@ struct Asked {
     op: u64,
     // what came of the line at hand
     line: Vec<u8>,
+    // for the lines that are printed
+    room: Vec<u8>,
     // whether all lines so far told positions
     status: Status,
 }
@@ -125,7 +128,7 @@ impl Asked {
     {
         match position_in(&self.line, self.op) {
             Some(position) => {
-                print_lookup(alloc, index, position, out)?;
+                print_lookup(alloc, index, position, &mut self.room, out)?;
             }
             None => {
                 writeln!(out, "bad {}", Quoted(&self.line))?;

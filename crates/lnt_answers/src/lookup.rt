@@ -1,41 +1,65 @@
 //! What is answered at a position.
-ghost use Rattle.std.specs.Prelude.{◌≡◌, Bool, ℕ, List, ◌++◌, Option, IfErr, IfOk, OnOk, Some};
+ghost use Rattle.std.specs.Prelude.{◌≡◌, Bool, ℕ, List, ◌++◌, Option, IfErr, IfOk, OnErr, OnOk, Some};
 ghost use Rattle.std.specs.Io.KnownBytes.{Appends};
-ghost use Rattle.lnt_sources.specs.declared.halt.Halt.TheVariants.{Write};
 ghost use Rattle.lnt_sources.specs.declared.status.Status.TheVariants.{Done};
 ghost use Rattle.lnt_unit.specs.declared.unit.Parts.{Parts};
 ghost use Rattle.lnt_lines.specs.Indexed.{IsIndexOf};
+ghost use Rattle.lnt_output.specs.Fronts.{AppendsFront};
 ghost use Rattle.lnt_sources.specs.Halts.{IsPrinting};
 ghost use Rattle.std.specs.List.{flat_map};
 ghost use Rattle.lnt_answers.specs.Lines.{answer_line, lookup_line, place_text, row_text};
 
 use lnt_lines::Index;
+use lnt_output::write_whole;
 use lnt_sources::{Halt, Status};
 use lnt_spans::{Answer, Position, Probes};
 use lnt_text::{PositionText, Quoted};
 use std::alloc::Global;
 use std::io::Write;
 
-/// Prints the line that says what is answered at the position, with the path of the file.
+/// Prints the line that says what is answered at the position, with the path of the file. The line is made in the room
+/// first, whatever that held.
 ///
-/// It answers `Done`. It stops by `Write` where the writer failed, and by `Memory`.
+/// It answers `Done`. It stops by `Write` where the writer failed, and by `Memory`. Where it stops, the writer has gained
+/// a front of the line, and nothing else.
 pub fn print_lookup<W: Write>(
     alloc: Global,
     index: &Index<'_>,
     position: Position,
+    room: &mut Vec<u8>,
     out: &mut W,
 ) -> Result<Status, Halt>
     ensures done { IfOk result (λ status. status ≡ Done) }
     ensures err { IfErr result (λ halt. IsPrinting halt) }
     ensures line { (dead : Option ℕ) (skip : Bool) (units : List (ℕ × Parts)) → IsIndexOf dead skip units index.now
         → OnOk result (Appends (W.contents out.old) (W.contents out.new) (lookup_line index.now dead skip units position)) }
+    ensures front { (dead : Option ℕ) (skip : Bool) (units : List (ℕ × Parts)) → IsIndexOf dead skip units index.now
+        → OnErr result (AppendsFront (W.contents out.old) (W.contents out.new) (lookup_line index.now dead skip units position)) }
+{
+    room.clear();
+    // A vector refuses a piece of the line only for want of memory.
+    let Ok(()) = put_lookup(alloc, index, position, room) else {
+        return Err(Halt::Memory);
+    };
+    write_whole(out, room.as_slice())?;
+    Ok(Status::Done)
+}
+
+// Prints the line of what is answered at the position, piece by piece.
+fn put_lookup<W: Write>(
+    alloc: Global,
+    index: &Index<'_>,
+    position: Position,
+    out: &mut W,
+) -> Result<(), Halt>
+    ensures line { (dead : Option ℕ) (skip : Bool) (units : List (ℕ × Parts)) → IsIndexOf dead skip units index.now
+        → OnOk result (Appends (W.contents out.old) (W.contents out.new) (lookup_line index.now dead skip units position)) }
 {
     let Some(answer) = index.lookup(position, &mut Probes::new()) else {
         writeln!(out, "{} none", PositionText(position))?;
-        return Ok(Status::Done);
+        return Ok(());
     };
-    print_answered(alloc, index, position, &answer, out)?;
-    Ok(Status::Done)
+    print_answered(alloc, index, position, &answer, out)
 }
 
 // Prints the line of an answer at the position.
@@ -46,7 +70,6 @@ fn print_answered<W: Write>(
     answer: &Answer,
     out: &mut W,
 ) -> Result<(), Halt>
-    ensures err { IfErr result (λ halt. IsPrinting halt) }
     ensures line { OnOk result (Appends (W.contents out.old) (W.contents out.new) (answer_line index.now position (Some answer.now))) }
 {
     print_answer(position, answer, out)?;
@@ -58,7 +81,8 @@ fn print_answered<W: Write>(
     Ok(())
 }
 
-/// Prints the lines of `print_lookup` at these positions, in their order. It ends as `print_lookup`.
+/// Prints the lines of `print_lookup` at these positions, in their order. It ends as `print_lookup`: where it stops, the
+/// writer has gained a front of these lines, and nothing else.
 pub fn print_lookups<W: Write>(
     alloc: Global,
     index: &Index<'_>,
@@ -69,16 +93,19 @@ pub fn print_lookups<W: Write>(
     ensures err { IfErr result (λ halt. IsPrinting halt) }
     ensures lines { (dead : Option ℕ) (skip : Bool) (units : List (ℕ × Parts)) → IsIndexOf dead skip units index.now
         → OnOk result (Appends (W.contents out.old) (W.contents out.new) (flat_map (lookup_line index.now dead skip units) positions.now)) }
+    ensures front { (dead : Option ℕ) (skip : Bool) (units : List (ℕ × Parts)) → IsIndexOf dead skip units index.now
+        → OnErr result (AppendsFront (W.contents out.old) (W.contents out.new)
+        (flat_map (lookup_line index.now dead skip units) positions.now)) }
 {
+    let mut room = Vec::new(alloc);
     for position in positions {
-        print_lookup(alloc, index, *position, out)?;
+        print_lookup(alloc, index, *position, &mut room, out)?;
     }
     Ok(Status::Done)
 }
 
 // Prints the position, and what is answered there but for the path.
 fn print_answer<W: Write>(position: Position, answer: &Answer, out: &mut W) -> Result<(), Halt>
-    ensures err { IfErr result (λ halt. halt ≡ Write) }
     ensures text { OnOk result (Appends (W.contents out.old) (W.contents out.new) (place_text position answer.now ++ row_text answer.now)) }
 {
     let (unit, file, line, column) = (answer.unit, answer.file, answer.line, answer.column);

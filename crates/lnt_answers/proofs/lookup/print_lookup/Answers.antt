@@ -1,5 +1,26 @@
-use Rattle.std.proofs.Common.{rules}
+use Rattle.std.proofs.Common.{subst}
+use Rattle.std.specs.Io.KnownBytes.{Appends}
+use Rattle.lnt_output.proofs.FrontLaws.{front_none, front_same}
+use Rattle.lnt_answers.proofs.RoomLemmas.{so_stopped, text_in_room}
+use Rattle.lnt_answers.specs.Lines.{lookup_line}
 use Rattle.lnt_answers.proofs.lookup.print_lookup.Goals as goal
 
-pub returns-in_default-clause-line : goal.returns-in_default-clause-line
-returns-in_default-clause-line g c = search rules
+pub returns-in_default-clause-front : goal.returns-in_default-clause-front
+returns-in_default-clause-front g c dead skip units is =
+    front_none (g.W.Write.contents c.args.out.now) (lookup_line c.args.index.now dead skip units c.args.position)
+
+pub returns-in_err-write_whole-clause-front : goal.returns-in_err-write_whole-clause-front
+returns-in_err-write_whole-clause-front g c dead skip units is =
+    so_stopped c.from_residual.result _
+    (front_same (g.W.Write.contents c.args.out.now) (g.W.Write.contents c.write_whole.new.out) c.as_slice.result.now
+    (lookup_line c.args.index.now dead skip units c.args.position)
+    (text_in_room c.clear.new.self.items c.put_lookup.new.out.items c.as_slice.result.now _ c.clear.ensures.items
+    (c.in-Ok.ensures.line dead skip units is) c.as_slice.ensures.value)
+    c.in_err-write_whole.ensures.front)
+
+pub returns-clause-line : goal.returns-clause-line
+returns-clause-line g c dead skip units is =
+    subst (Appends (g.W.Write.contents c.args.out.now) (g.W.Write.contents c.write_whole.new.out))
+    (text_in_room c.clear.new.self.items c.put_lookup.new.out.items c.as_slice.result.now _ c.clear.ensures.items
+    (c.in-Ok.ensures.line dead skip units is) c.as_slice.ensures.value)
+    c.in_ok-write_whole.ensures.whole
