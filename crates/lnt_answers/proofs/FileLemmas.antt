@@ -1,11 +1,13 @@
 -- Texts of items, one after another.
 use Rattle.std.proofs.Common.{◌≡◌, ◌∙◌, ℕ, ◌+◌, ◌<◌, ◌≤◌, suc, List, [], ◌∷◌, ◌++◌, append-nil, length, get_or, take, Option, ap}
-use Rattle.std.proofs.Common.{append_assoc, sym, subst, arith}
+use Rattle.std.proofs.Common.{append_assoc, sym, subst, arith, ◌-◌, zero}
 use Rattle.std.specs.List.{flat_map}
 use Rattle.std.specs.Io.KnownBytes.{Appends}
 use Rattle.std.proofs.KnownBytes.{Appends-nil, Appends-trans}
 use Rattle.std.proofs.lemmas.List.{take_all, take_more}
 use Rattle.std.proofs.lemmas.List.Concat.{flat_map-append}
+use Rattle.lnt_output.specs.Fronts.{AppendsFront}
+use Rattle.lnt_output.proofs.FrontLaws.{front_after, front_before, front_same}
 use Rattle.lnt_lines.specs.Indexed.{Indexed}
 use Rattle.lnt_answers.specs.FileLines.{file_record, records_below}
 
@@ -43,3 +45,32 @@ records_more index unit file a b c before here =
     let next : suc file ≡ file + 1 = omega arith in
     subst (λ (n : ℕ). Appends a c (records_below index unit n)) next
     (Appends-trans a b c (records_below index unit file) (file_record index unit file) before here)
+
+-- those of the files after one
+records_after : (index : Indexed) (unit file k : ℕ)
+    → (rest : List ℕ) × (records_below index unit (suc file) ++ rest ≡ records_below index unit (k + suc file))
+records_after index unit file zero =
+    let first = records_below index unit (suc file) in
+    let same : suc file ≡ 0 + suc file = omega arith in
+    ([], subst (λ (n : ℕ). first ++ [] ≡ records_below index unit n) same (append-nil first))
+records_after index unit file (suc k) =
+    let first = records_below index unit (suc file) in
+    let before = records_after index unit file k in
+    let here = file_record index unit (k + suc file) in
+    let next : suc (k + suc file) ≡ suc k + suc file = omega arith in (
+      before.0 ++ here,
+      subst (λ (n : ℕ). first ++ (before.0 ++ here) ≡ records_below index unit n) next
+          (sym (append_assoc first before.0 here) ∙ ap (λ (l : List ℕ). l ++ here) before.1),
+    )
+
+-- a writer that was stopped within a record
+pub records_stopped : (index : Indexed) (unit file count : ℕ) (a b c : Option (List ℕ)) → file < count
+    → Appends a b (records_below index unit file) → AppendsFront b c (file_record index unit file)
+    → AppendsFront a c (records_below index unit count)
+records_stopped index unit file count a b c lt before here =
+    let after = records_after index unit file (count - suc file) in
+    let all : (count - suc file) + suc file ≡ count = omega arith in
+    subst (λ (n : ℕ). AppendsFront a c (records_below index unit n)) all
+    (front_same a c (records_below index unit (suc file) ++ after.0) _ after.1
+    (front_before a c (records_below index unit (suc file)) after.0
+    (front_after a b c (records_below index unit file) (file_record index unit file) before here)))

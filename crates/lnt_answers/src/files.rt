@@ -1,7 +1,8 @@
 //! The files of a good section, as comma-separated values.
-ghost use Rattle.std.specs.Prelude.{◌≡◌, ◌++◌, IfErr, IfOk, OnOk, Some, false, string_bytes};
+ghost use Rattle.std.specs.Prelude.{◌≡◌, ◌++◌, IfErr, IfOk, OnErr, OnOk, Some, false, string_bytes};
 ghost use Rattle.std.specs.Io.KnownBytes.{Appends};
 ghost use Rattle.csv.specs.Writing as csv;
+ghost use Rattle.lnt_output.specs.Fronts.{AppendsFront};
 ghost use Rattle.lnt_sources.specs.declared.halt.Halt.TheVariants.{Memory};
 ghost use Rattle.lnt_sources.specs.declared.status.Status.TheVariants.{Done};
 ghost use Rattle.lnt_sources.specs.Halts.{IsPrinting};
@@ -10,6 +11,7 @@ ghost use Rattle.lnt_answers.specs.FileLines.{file_record, files_text, path_fiel
 
 use csv::Writer;
 use lnt_lines::Index;
+use lnt_output::write_whole;
 use lnt_sources::{Halt, Status};
 use std::alloc::Global;
 use std::io::Write;
@@ -18,13 +20,15 @@ use std::io::Write;
 /// the unit's offset and the file's index, from 0 on, as decimal numbers, the whole path, and the listed sum in
 /// hexadecimal, or nothing.
 ///
-/// It answers `Done`. It stops by `Write` where the writer failed, and by `Memory`.
+/// It answers `Done`. It stops by `Write` where the writer failed, and by `Memory`. Where it stops, the writer has gained
+/// a front of these lines, and nothing else.
 pub fn print_files<W: Write>(alloc: Global, index: &Index<'_>, out: &mut W) -> Result<Status, Halt>
     ensures done { IfOk result (λ status. status ≡ Done) }
     ensures err { IfErr result IsPrinting }
     ensures files { OnOk result (Appends (W.contents out.old) (W.contents out.new) (files_text index.now)) }
+    ensures front { OnErr result (AppendsFront (W.contents out.old) (W.contents out.new) (files_text index.now)) }
 {
-    writeln!(out, "unit,file,path,md5")?;
+    write_whole(out, b"unit,file,path,md5\n")?;
     for unit in index.units() {
         print_unit_files(alloc, index, *unit, out)?;
     }
@@ -41,6 +45,7 @@ fn print_unit_files<W: Write>(
 ) -> Result<(), Halt>
     ensures err { IfErr result IsPrinting }
     ensures records { OnOk result (Appends (W.contents out.old) (W.contents out.new) (unit_records index.now unit)) }
+    ensures front { OnErr result (AppendsFront (W.contents out.old) (W.contents out.new) (unit_records index.now unit)) }
 {
     for file in 0..index.file_count(unit) {
         print_file(alloc, index, unit, file, out)?;
@@ -58,13 +63,14 @@ fn print_file<W: Write>(
 ) -> Result<(), Halt>
     ensures err { IfErr result IsPrinting }
     ensures record { OnOk result (Appends (W.contents out.old) (W.contents out.new) (file_record index.now unit file)) }
+    ensures front { OnErr result (AppendsFront (W.contents out.old) (W.contents out.new) (file_record index.now unit file)) }
 {
     let mut records = Writer::from_writer(Vec::new(alloc));
     put_file(alloc, index, unit, file, &mut records)?;
     let Ok(bytes) = records.into_inner() else {
         return Err(Halt::Memory);
     };
-    out.write_all(&bytes)?;
+    write_whole(out, &bytes)?;
     Ok(())
 }
 
