@@ -21,7 +21,7 @@ use Rattle.lnt_answers.specs.SumLines.{found_text, head_text, place_of, sum_line
 
 -- ---- joins
 
-true_joined : (tells : List ℕ → Option (List ℕ) → Type 0) (index : Indexed) (first second : List Finding)
+pub true_joined : (tells : List ℕ → Option (List ℕ) → Type 0) (index : Indexed) (first second : List Finding)
     → AllByRecursion (IsTrueFinding tells index) first → AllByRecursion (IsTrueFinding tells index) second
     → AllByRecursion (IsTrueFinding tells index) (first ++ second)
 true_joined tells index [] second all more = more
@@ -105,7 +105,7 @@ sums_more tells tells' index unit file a b c s t later so next =
 
 -- ---- the files of all units
 
-units_more : (index : Indexed) (units : List ℕ) (i d : ℕ) → i < length units
+pub units_more : (index : Indexed) (units : List ℕ) (i d : ℕ) → i < length units
     → flat_map (listed_in index) (take (i + 1) units) ≡ flat_map (listed_in index) (take i units) ++ listed_in index (get_or units i d)
 units_more index units i d lt =
     ap (flat_map (listed_in index)) (take_more units i d lt)

@@ -1,6 +1,7 @@
 //! Whether files have the sums that are listed.
-ghost use Rattle.std.specs.Prelude.{◌≡◌, ◌++◌, IfErr, IfOk, OnOk, codes};
+ghost use Rattle.std.specs.Prelude.{◌≡◌, ◌++◌, IfErr, IfOk, OnErr, OnOk, codes};
 ghost use Rattle.std.specs.Io.KnownBytes.{Appends};
+ghost use Rattle.lnt_output.specs.Fronts.{HasBegun};
 ghost use Rattle.lnt_sources.specs.Files.{TellsNoMore};
 ghost use Rattle.lnt_sources.specs.Halts.{IsPrinting};
 ghost use Rattle.lnt_text.specs.Quotes.{quoted_text};
@@ -9,6 +10,7 @@ ghost use Rattle.lnt_answers.specs.SumLines.{listed_at, listed_files, listed_in}
 
 use crate::files::path_of;
 use lnt_lines::Index;
+use lnt_output::write_whole;
 use lnt_sources::{Halt, LIMIT, Opener, Status};
 use lnt_sums::{Agreement, md5_agrees};
 use lnt_text::Quoted;
@@ -21,8 +23,8 @@ use std::str;
 /// of the file at its path, and if not, which sum it has; or that it can't be read. Nothing is read of a file named `-`.
 ///
 /// It answers `Done` where all of them have their sums, and `No` where one has another sum or can't be read. It stops by
-/// `Write` where the writer failed, and by `Memory`; what was printed before stays. A file that can't be read stops
-/// nothing.
+/// `Write` where the writer failed, and by `Memory`. Where it stops, the writer has gained a front of lines that are so of
+/// the files, and nothing else. A file that can't be read stops nothing.
 pub fn print_sums<O: Opener, W: Write>(
     alloc: Global,
     index: &Index<'_>,
@@ -32,10 +34,13 @@ pub fn print_sums<O: Opener, W: Write>(
     ensures err { IfErr result IsPrinting }
     ensures sums { IfOk result (λ status. AreSumsTold (O.tells opener.old) index.now (listed_files index.now)
         (W.contents out.old) (W.contents out.new) status) }
+    ensures begun { OnErr result (HasBegun (AreSumsTold (O.tells opener.old) index.now (listed_files index.now)
+        (W.contents out.old)) (W.contents out.old) (W.contents out.new)) }
 {
     let mut status = Status::Done;
+    let mut room = Vec::new(alloc);
     for unit in index.units() {
-        let of_unit = print_unit_sums(alloc, index, *unit, opener, out)?;
+        let of_unit = print_unit_sums(alloc, index, *unit, opener, &mut room, out)?;
         status = together(status, of_unit);
     }
     Ok(status)
@@ -47,41 +52,52 @@ fn print_unit_sums<O: Opener, W: Write>(
     index: &Index<'_>,
     unit: u64,
     opener: &mut O,
+    room: &mut Vec<u8>,
     out: &mut W,
 ) -> Result<Status, Halt>
     ensures err { IfErr result IsPrinting }
     ensures later { OnOk result (TellsNoMore (O.tells opener.old) (O.tells opener.new)) }
     ensures sums { IfOk result (λ status. AreSumsTold (O.tells opener.old) index.now (listed_in index.now unit)
         (W.contents out.old) (W.contents out.new) status) }
+    ensures begun { OnErr result (HasBegun (AreSumsTold (O.tells opener.old) index.now (listed_in index.now unit)
+        (W.contents out.old)) (W.contents out.old) (W.contents out.new)) }
 {
     let mut status = Status::Done;
     for file in 0..index.file_count(unit) {
-        let of_file = print_sum(alloc, index, unit, file, opener, out)?;
+        let of_file = print_sum(alloc, index, unit, file, opener, room, out)?;
         status = together(status, of_file);
     }
     Ok(status)
 }
 
-// Prints the line of a file, where a sum is listed for it.
+// Prints the line of a file, where a sum is listed for it. The line is made in the room first, whatever that held.
 fn print_sum<O: Opener, W: Write>(
     alloc: Global,
     index: &Index<'_>,
     unit: u64,
     file: u64,
     opener: &mut O,
+    room: &mut Vec<u8>,
     out: &mut W,
 ) -> Result<Status, Halt>
     ensures err { IfErr result IsPrinting }
     ensures later { OnOk result (TellsNoMore (O.tells opener.old) (O.tells opener.new)) }
     ensures sum { IfOk result (λ status. AreSumsTold (O.tells opener.old) index.now (listed_at index.now unit file)
         (W.contents out.old) (W.contents out.new) status) }
+    ensures begun { OnErr result (HasBegun (AreSumsTold (O.tells opener.old) index.now (listed_at index.now unit file)
+        (W.contents out.old)) (W.contents out.old) (W.contents out.new)) }
 {
     let Some(listed) = index.listed(unit, file) else {
         return Ok(Status::Done);
     };
     let path = path_of(alloc, index, unit, file)?;
     let found = found_of(&path, &listed, opener);
-    print_found(alloc, unit, file, &path, found, out)?;
+    room.clear();
+    // A vector refuses a piece of the line only for want of memory.
+    let Ok(()) = print_found(alloc, unit, file, &path, found, room) else {
+        return Err(Halt::Memory);
+    };
+    write_whole(out, room.as_slice())?;
     Ok(status_of(found))
 }
 
@@ -98,7 +114,7 @@ fn found_of<O: Opener>(path: &[u8], listed: &[u8; 16], opener: &mut O) -> Option
     md5_agrees(&mut Counted::new(reader, LIMIT), listed).ok()
 }
 
-// Prints the line of what was found of a file.
+// Prints the line of what was found of a file, piece by piece.
 fn print_found<W: Write>(
     alloc: Global,
     unit: u64,
@@ -107,7 +123,6 @@ fn print_found<W: Write>(
     found: Option<Agreement>,
     out: &mut W,
 ) -> Result<(), Halt>
-    ensures err { IfErr result IsPrinting }
     ensures line { OnOk result (Appends (W.contents out.old) (W.contents out.new)
         ((head_text unit file ++ found_text found) ++ (codes " " ++ (quoted_text path.now ++ codes "\n")))) }
 {
@@ -123,7 +138,6 @@ fn print_agreement<W: Write>(
     found: Option<Agreement>,
     out: &mut W,
 ) -> Result<(), Halt>
-    ensures err { IfErr result IsPrinting }
     ensures text { OnOk result (Appends (W.contents out.old) (W.contents out.new) (found_text found)) }
 {
     match found {

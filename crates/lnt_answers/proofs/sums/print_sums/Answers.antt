@@ -1,5 +1,7 @@
 use Rattle.std.proofs.Common.{rules}
+use Rattle.lnt_answers.proofs.SumFronts.{units_stopped}
 use Rattle.lnt_answers.proofs.SumLemmas.{sums_of_all, sums_of_more}
+use Rattle.lnt_answers.proofs.RoomLemmas.{so_stopped}
 use Rattle.lnt_answers.proofs.sums.print_sums.Goals as goal
 
 pub loop-unit-preserved : goal.loop-unit-preserved
@@ -17,3 +19,11 @@ pub returns-clause-sums : goal.returns-clause-sums
 returns-clause-sums g c =
     sums_of_all (g.O.Opener.tells c.args.opener.now) c.args.index.now c.args.index.now.units c.loop-unit.unit-index
     (g.W.Write.contents c.args.out.now) (g.W.Write.contents c.loop-unit.out) c.loop-unit.status (search rules) c.loop-unit.invariant.1
+
+pub returns-in_err-of_unit-clause-begun : goal.returns-in_err-of_unit-clause-begun
+returns-in_err-of_unit-clause-begun g c =
+    so_stopped c.from_residual.result _
+    (units_stopped (g.O.Opener.tells c.args.opener.now) (g.O.Opener.tells c.loop-unit.opener) c.args.index.now c.args.index.now.units
+    c.loop-unit.unit-index 0 (g.W.Write.contents c.args.out.now) (g.W.Write.contents c.loop-unit.out)
+    (g.W.Write.contents c.print_unit_sums.new.out) c.loop-unit.status (search rules) c.loop-unit.invariant.0 c.loop-unit.invariant.1
+    (search rules))

@@ -1,4 +1,8 @@
+use Rattle.std.proofs.Common.{arith}
+use Rattle.lnt_lines.specs.Indexed.{file_count_in}
+use Rattle.lnt_answers.proofs.SumFronts.{sums_stopped}
 use Rattle.lnt_answers.proofs.SumLemmas.{sums_more}
+use Rattle.lnt_answers.proofs.RoomLemmas.{so_stopped}
 use Rattle.lnt_answers.proofs.sums.print_unit_sums.Goals as goal
 
 pub loop-file-preserved : goal.loop-file-preserved
@@ -11,3 +15,11 @@ loop-file-preserved g c =
       λ name told so. before.0 name told (c.in_ok-of_file.ensures.later name told so),
       rw c.together-status.ensures told,
     )
+
+pub returns-in_err-of_file-clause-begun : goal.returns-in_err-of_file-clause-begun
+returns-in_err-of_file-clause-begun g c =
+    so_stopped c.from_residual.result _
+    (sums_stopped (g.O.Opener.tells c.args.opener.now) (g.O.Opener.tells c.loop-file.opener) c.args.index.now c.args.unit
+    c.loop-file.file (file_count_in c.args.index.now c.args.unit) (g.W.Write.contents c.args.out.now) (g.W.Write.contents c.loop-file.out)
+    (g.W.Write.contents c.print_sum.new.out) c.loop-file.status (omega arith) c.loop-file.invariant.0 c.loop-file.invariant.1
+    c.in_err-of_file.ensures.begun)
