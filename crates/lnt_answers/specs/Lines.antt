@@ -4,9 +4,11 @@ use Rattle.std.specs.List.{position}
 use Rattle.std.specs.Io.KnownBytes.{Appends, Keeps}
 use Rattle.lnt_spans.specs.declared.answer.Answer.{Answer}
 use Rattle.lnt_spans.specs.declared.position.Position.{Position}
+use Rattle.lnt_lines.specs.declared.no.No.{No}
 use Rattle.lnt_lines.specs.declared.section.JudgedIndex.{JudgedIndex}
 use Rattle.lnt_lines.specs.declared.section.JudgedIndex.TheVariants.{Good, Bad}
 use Rattle.lnt_unit.specs.declared.unit.Parts.{Parts}
+use Rattle.lnt_output.specs.Fronts.{AppendsFront}
 use Rattle.lnt_sequences.specs.Sequences.{line_answer}
 use Rattle.lnt_lines.specs.Indexed.{file_path_in, Indexed}
 use Rattle.lnt_digits.specs.Digits.{IsAddress, IsDecimal}
@@ -23,6 +25,13 @@ IsIndexGiven (Bad reason) = ⊥
 abbrev pub IsTold : JudgedIndex → Option (List ℕ) → Option (List ℕ) → Type 0
 IsTold (Good index) old new = Keeps old new
 IsTold (Bad reason) old new = Appends old new (no_text reason ++ codes "\n")
+
+-- A writer that held these bytes has gained a front of the line of what is so wrong with the section, and nothing else.
+--     IsSo    that the section was judged so is true of it
+pub record HasBegunLine (IsSo : JudgedIndex → Type 0) (old new : Option (List ℕ)) : Type 0 where
+  pub reason : No
+  pub is_so : IsSo (Bad reason)
+  pub front : AppendsFront old new (no_text reason ++ codes "\n")
 
 -- the line of a position without an answer
 abbrev pub none_text : Position → List ℕ

@@ -1,10 +1,12 @@
 //! A section that is judged.
-ghost use Rattle.std.specs.Prelude.{◌≡◌, ◌+◌, ◌-◌, ◌^◌, ◌<◌, IfOk, IfSome, IsErrOf, IsTrue};
+ghost use Rattle.std.specs.Prelude.{◌≡◌, ◌+◌, ◌-◌, ◌^◌, ◌<◌, ◌⊎◌, IfOk, IfSome, IsErrOf, IsTrue, OnErr};
+ghost use Rattle.std.specs.Io.KnownBytes.{Keeps};
 ghost use Rattle.lnt_lines.specs.Drafts.{IsJudgedIndex};
-ghost use Rattle.lnt_answers.specs.Lines.{IsIndexGiven, IsTold};
+ghost use Rattle.lnt_answers.specs.Lines.{HasBegunLine, IsIndexGiven, IsTold};
 
 use crate::no::NoLine;
 use lnt_lines::{JudgedIndex, Options, index_section};
+use lnt_output::write_whole;
 use lnt_sources::Halt;
 use lnt_wire::{Source, Strings};
 use std::alloc::Global;
@@ -15,7 +17,8 @@ use std::io::Write;
 /// What is given is so of the section (`IsJudgedIndex`): its index where it is good, and the writer is then as before;
 /// else what is wrong with it, and the writer has gained the line that says so, and nothing else. It stops by `Read` only
 /// where the source failed, by `TooLong` only where it has more bytes than it may give, by `Write` where the writer
-/// failed, and by `Memory`. The caller sees to it that the number of the source's failures is below `u64::MAX`.
+/// failed, and by `Memory`. Where it stops, the writer has gained nothing, or a front of the line that says what is so
+/// wrong with the section. The caller sees to it that the number of the source's failures is below `u64::MAX`.
 pub fn judge_section<'s, R: Source, W: Write>(
     alloc: Global,
     section: &mut R,
@@ -28,13 +31,18 @@ pub fn judge_section<'s, R: Source, W: Write>(
         IsJudgedIndex strings.now.line.now strings.now.general.now options.now bytes judged)) }
     ensures told { IfOk result (λ judged. IsTold judged (W.contents out.old) (W.contents out.new)) }
     ensures silent { IfOk result (λ judged. IsIndexGiven judged → out.new ≡ out.old) }
+    ensures begun { OnErr result (Keeps (W.contents out.old) (W.contents out.new)
+        ⊎ HasBegunLine (λ judged. IfSome (R.remaining section.old) (λ bytes.
+        IsJudgedIndex strings.now.line.now strings.now.general.now options.now bytes judged))
+        (W.contents out.old) (W.contents out.new)) }
     ensures read { IsErrOf result Halt.Read → R.failures section.new ≡ R.failures section.old + 1 }
     ensures too_long { IsErrOf result Halt.TooLong → IsTrue (R.too_long section.new) }
 {
     match index_section(alloc, section, strings, options) {
         Ok(JudgedIndex::Good(index)) => Ok(JudgedIndex::Good(index)),
         Ok(JudgedIndex::Bad(no)) => {
-            writeln!(out, "{}", NoLine(no))?;
+            let line = format!(in alloc; "{}\n", NoLine(no))?;
+            write_whole(out, line.as_bytes())?;
             Ok(JudgedIndex::Bad(no))
         }
         Err(stop) => Err(Halt::from(stop)),
