@@ -46,7 +46,7 @@ line_cut line more whole =
     ap lines_of_parts (slice_split_at (λ b. b == 10) line 10 more whole refl)
     ∙ parts_cons line (slice_split (λ b. b == 10) more) (let size = length-slice_split (λ b. b == 10) more in omega (arith, size))
 
-line_last : (b : ℕ) (line : List ℕ) → HasNo 10 (b ∷ line) → lines (b ∷ line) ≡ (b ∷ line) ∷ []
+pub line_last : (b : ℕ) (line : List ℕ) → HasNo 10 (b ∷ line) → lines (b ∷ line) ≡ (b ∷ line) ∷ []
 line_last b line whole =
     ap lines_of_parts (slice_split_none (λ b. b == 10) (b ∷ line) whole)
     ∙ ap (λ (t : Bool). cond t [] ((b ∷ line) ∷ [])) (is_some (b ∷ line) (omega arith))
@@ -80,7 +80,8 @@ status_append : (before : Status) (a b : List (List ℕ × Option Position))
 status_append before [] b = refl
 status_append before (told ∷ a) b = status_append (line_status before told.1) a b
 
-texts_append : (a b : List (List ℕ × Option Position)) → map (λ line. line.0) (a ++ b) ≡ map (λ line. line.0) a ++ map (λ line. line.0) b
+pub texts_append : (a b : List (List ℕ × Option Position))
+    → map (λ line. line.0) (a ++ b) ≡ map (λ line. line.0) a ++ map (λ line. line.0) b
 texts_append [] b = refl
 texts_append (told ∷ a) b = ap (λ (z : List (List ℕ)). told.0 ∷ z) (texts_append a b)
 
@@ -107,6 +108,23 @@ pub block_begun : (index : Indexed) (op : ℕ) (line block : List ℕ) (old : Op
 block_begun index op line block old status whole =
     record { texts = []; told = told_none index op old status; cut = λ more. refl; whole = whole }
 
+-- the lines up to a place of the block at which the line at hand ends
+pub cut_within : (index : Indexed) (op : ℕ) (line block left rest : List ℕ) (place : ℕ) (full stripped : List ℕ)
+    (old now : Option (List ℕ)) (s t : Status)
+    → (before : IsBlockTold index op line block left rest old now s t) → IsCutAt 10 place rest → full ≡ left ++ take place rest
+    → stripped ≡ strip_carriage_return full
+    → (more : List ℕ) → lines (line ++ (block ++ more)) ≡ (before.texts ++ stripped ∷ []) ++ lines (drop (place + 1) rest ++ more)
+cut_within index op line block left rest place full stripped old now s t before at full_is stripped_is more =
+    let front = take place rest in
+    let back = drop (place + 1) rest in
+    let whole : HasNo 10 (left ++ front) = All-append (λ other. (other == 10) ≡ false) left front before.whole at.1 in
+    before.cut more ∙ ap (λ (z : List (List ℕ)). before.texts ++ z) (
+    ap lines (ap (λ (z : List ℕ). left ++ (z ++ more)) at.0 ∙ ap (λ (z : List ℕ). left ++ z) (append_assoc front (10 ∷ back) more)
+    ∙ sym (append_assoc left front (10 ∷ (back ++ more))))
+    ∙ line_cut (left ++ front) (back ++ more) whole
+    ∙ ap (λ (z : List ℕ). z ∷ lines (back ++ more)) (sym (stripped_is ∙ ap strip_carriage_return full_is)))
+    ∙ sym (append_assoc before.texts (stripped ∷ []) (lines (back ++ more)))
+
 -- the line at hand ends at a place of the block
 pub block_more : (index : Indexed) (op : ℕ) (line block left rest : List ℕ) (place : ℕ) (next full stripped left' : List ℕ)
     (old now new : Option (List ℕ)) (s t u : Status)
@@ -116,19 +134,11 @@ pub block_more : (index : Indexed) (op : ℕ) (line block left rest : List ℕ) 
     → IsBlockTold index op line block left' next old new s u
 block_more index op line block left rest place next full stripped left' old now new s t u before at full_is stripped_is told next_is
     left_is =
-    let front = take place rest in
     let back = drop (place + 1) rest in
-    let whole : HasNo 10 (left ++ front) = All-append (λ other. (other == 10) ≡ false) left front before.whole at.1 in
     let told_more : IsBlockTold index op line block [] back old new s u = record {
       texts = before.texts ++ stripped ∷ [];
       told = told_append index op before.texts (stripped ∷ []) old now new s t u before.told told;
-      cut = λ more.
-          before.cut more ∙ ap (λ (z : List (List ℕ)). before.texts ++ z) (
-          ap lines (ap (λ (z : List ℕ). left ++ (z ++ more)) at.0 ∙ ap (λ (z : List ℕ). left ++ z) (append_assoc front (10 ∷ back) more)
-          ∙ sym (append_assoc left front (10 ∷ (back ++ more))))
-          ∙ line_cut (left ++ front) (back ++ more) whole
-          ∙ ap (λ (z : List ℕ). z ∷ lines (back ++ more)) (sym (stripped_is ∙ ap strip_carriage_return full_is)))
-          ∙ sym (append_assoc before.texts (stripped ∷ []) (lines (back ++ more)));
+      cut = cut_within index op line block left rest place full stripped old now s t before at full_is stripped_is;
       whole = λ j d few. absurd (omega arith);
     } in
     subst (λ (z : List ℕ). IsBlockTold index op line block z next old new s u) (sym left_is)
@@ -213,7 +223,7 @@ text_pulled index op start mid now line old new status before pulls = record {
 }
 
 -- The text is at its end: its lines are those told, and the line at hand, if it has a byte.
-cut_ended : (start now : Option (List ℕ)) (texts : List (List ℕ)) (line : List ℕ) (ended : Bool) → IsTextCut start now texts line
+pub cut_ended : (start now : Option (List ℕ)) (texts : List (List ℕ)) (line : List ℕ) (ended : Bool) → IsTextCut start now texts line
     → IsAtEnd now ended → ended ≡ false
     → IfSome start (λ text. lines text ≡ texts ++ lines line)
 cut_ended None now texts line ended c e short = tt

@@ -1,3 +1,4 @@
+pub mod AddressFronts
 pub mod AddressLemmas
 pub mod CommaLemmas
 pub mod DifferenceLemmas

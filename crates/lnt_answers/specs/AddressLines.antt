@@ -3,6 +3,7 @@ use Rattle.std.specs.Prelude.{◌≡◌, ◌==◌, ◌+◌, Bool, false, ℕ, Li
 use Rattle.std.specs.List.{All, AllByRecursion, flat_map}
 use Rattle.std.specs.Io.KnownBytes.{Appends}
 use Rattle.std.specs.Str.Lines.{lines}
+use Rattle.lnt_output.specs.Fronts.{AppendsFront}
 use Rattle.lnt_sources.specs.declared.status.Status.{Status}
 use Rattle.lnt_sources.specs.declared.status.Status.TheVariants.{Done, No}
 use Rattle.lnt_spans.specs.declared.position.Position.{Position}
@@ -47,6 +48,21 @@ pub record AreLinesTold (index : Indexed) (op : ℕ) (texts : List (List ℕ)) (
 abbrev pub AreAddressesTold : Indexed → ℕ → Option (List ℕ) → Option (List ℕ) → Option (List ℕ) → Status → Type 0
 AreAddressesTold index op text old new status = IfSome text (λ bytes. AreLinesTold index op (lines bytes) old new Done status)
 
+-- ---- where the writer was stopped
+
+-- A writer that held these bytes (old) has gained a front of what is printed of each of these lines in their order, and nothing else.
+pub record AreLinesBegun (index : Indexed) (op : ℕ) (texts : List (List ℕ)) (old new : Option (List ℕ)) : Type 0 where
+  pub told : List (List ℕ × Option Position)
+  pub lines_are : map (λ line. line.0) told ≡ texts
+  pub so : AllByRecursion (Tells op) told
+  pub front : (dead : Option ℕ) (skip : Bool) (units : List (ℕ × Parts)) → IsIndexOf dead skip units index
+      → AppendsFront old new (flat_map (told_line index dead skip units) told)
+
+-- Where the source of the text told what it had to give (text), this is so of some of the text's first lines.
+abbrev pub AreAddressesBegun : Indexed → ℕ → Option (List ℕ) → Option (List ℕ) → Option (List ℕ) → Type 0
+AreAddressesBegun index op text old new =
+    IfSome text (λ bytes. (count : ℕ) × AreLinesBegun index op (take count (lines bytes)) old new)
+
 -- ---- a text that comes block by block; no public contract speaks of this
 
 -- none of the bytes is this one
@@ -65,3 +81,9 @@ pub record IsBlockTold (index : Indexed) (op : ℕ) (line block left rest : List
   pub told : AreLinesTold index op texts old new before after
   pub cut : (more : List ℕ) → lines (line ++ (block ++ more)) ≡ texts ++ lines (left ++ (rest ++ more))
   pub whole : HasNo 10 left
+
+-- The writer was stopped: what it gained is a front of what is printed of some of the first lines of a line, a block after it, and more.
+pub record IsBlockBegun (index : Indexed) (op : ℕ) (line block : List ℕ) (old new : Option (List ℕ)) : Type 0 where
+  pub texts : List (List ℕ)
+  pub begun : AreLinesBegun index op texts old new
+  pub cut : (more : List ℕ) → (rest : List (List ℕ)) × (texts ++ rest ≡ lines (line ++ (block ++ more)))

@@ -1,17 +1,22 @@
 //! Lookups of the positions that the lines of a text tell.
 ghost use Rattle.std.specs.Prelude.{◌≡◌, ◌+◌, ◌-◌, ◌^◌, ◌<◌, ◌==◌, [], ◌∷◌, length, IfErr, IfOk, IfSome, IsErrOf, IsTrue, MatchOption};
-ghost use Rattle.std.specs.Prelude.{OnOk};
+ghost use Rattle.std.specs.Prelude.{◌++◌, OnErr, OnOk, codes};
 ghost use Rattle.std.specs.List.{position};
 ghost use Rattle.std.specs.Str.Lines.{strip_carriage_return};
+ghost use Rattle.std.specs.Io.KnownBytes.{Appends};
+ghost use Rattle.lnt_output.specs.Fronts.{AppendsFront};
 ghost use Rattle.lnt_sources.specs.declared.halt.Halt.TheVariants as halt;
 ghost use Rattle.lnt_sources.specs.Halts.{IsPrinting};
-ghost use Rattle.lnt_answers.specs.AddressLines.{AreAddressesTold, AreLinesTold, HasNo, IsBlockTold, IsCutAt};
+ghost use Rattle.lnt_text.specs.Quotes.{quoted_text};
+ghost use Rattle.lnt_answers.specs.AddressLines.{AreAddressesBegun, AreAddressesTold, AreLinesBegun, AreLinesTold, HasNo};
+ghost use Rattle.lnt_answers.specs.AddressLines.{IsBlockBegun, IsBlockTold, IsCutAt};
 ghost use Rattle.lnt_answers.specs.Lines.{TellsPosition};
 ghost use Rattle.lnt_spans.specs.declared.position.Position.{Position as Spec};
 
 use crate::lookup::print_lookup;
 use lnt_digits::{address, decimal};
 use lnt_lines::Index;
+use lnt_output::write_whole;
 use lnt_sources::{Halt, Status};
 use lnt_spans::Position;
 use lnt_text::Quoted;
@@ -33,8 +38,9 @@ const BLOCK: usize = 1 << 16;
 /// It answers `Done` where all lines tell positions, and else `No`, and the writer has then gained these lines, and nothing
 /// else (`AreAddressesTold`). It stops by `Read` only where the source failed, and
 /// by `TooLong` only where it has more bytes than it may give: the lines before are then answered. It stops by `Write`
-/// where the writer failed, and by `Memory`. The caller sees to it that the number of the source's failures is below
-/// `u64::MAX`.
+/// where the writer failed, and by `Memory`. Where it stops, the writer has gained a front of what is printed of the text's
+/// first lines, and nothing else (`AreAddressesBegun`). The caller sees to it that the number of the source's failures is
+/// below `u64::MAX`.
 pub fn print_addresses<T: Source, W: Write>(
     alloc: Global,
     index: &Index<'_>,
@@ -45,6 +51,8 @@ pub fn print_addresses<T: Source, W: Write>(
     requires { T.failures lines.old < 2 ^ 64 - 1 }
     ensures told { IfOk result (λ status. AreAddressesTold index.now op (T.remaining lines.old)
         (W.contents out.old) (W.contents out.new) status) }
+    ensures begun { OnErr result (AreAddressesBegun index.now op (T.remaining lines.old)
+        (W.contents out.old) (W.contents out.new)) }
     ensures read { IsErrOf result halt.Read → T.failures lines.new ≡ T.failures lines.old + 1 }
     ensures too_long { IsErrOf result halt.TooLong → IsTrue (T.too_long lines.new) }
 {
@@ -100,6 +108,8 @@ impl Asked {
         ensures err { IfErr result IsPrinting }
         ensures told { OnOk result (IsBlockTold index.now self.old.op self.old.line.items block.now self.new.line.items []
             (W.contents out.old) (W.contents out.new) self.old.status self.new.status) }
+        ensures stopped { OnErr result (IsBlockBegun index.now self.old.op self.old.line.items block.now
+            (W.contents out.old) (W.contents out.new)) }
         ensures same { OnOk result (self.new.op ≡ self.old.op) }
     {
         let mut rest = block;
@@ -123,6 +133,8 @@ impl Asked {
         ensures err { IfErr result IsPrinting }
         ensures told { OnOk result (AreLinesTold index.now self.old.op (self.old.line.items ∷ [])
             (W.contents out.old) (W.contents out.new) self.old.status self.new.status) }
+        ensures stopped { OnErr result (AreLinesBegun index.now self.old.op (self.old.line.items ∷ [])
+            (W.contents out.old) (W.contents out.new)) }
         ensures begun { OnOk result (self.new.line.items ≡ []) }
         ensures same { self.new.op ≡ self.old.op }
     {
@@ -131,13 +143,29 @@ impl Asked {
                 print_lookup(alloc, index, position, &mut self.room, out)?;
             }
             None => {
-                writeln!(out, "bad {}", Quoted(&self.line))?;
+                print_bad(&self.line, &mut self.room, out)?;
                 self.status = Status::No;
             }
         }
         self.line.clear();
         Ok(())
     }
+}
+
+// Prints that a line is bad. What says so is made in the room first, whatever that held.
+fn print_bad<W: Write>(line: &[u8], room: &mut Vec<u8>, out: &mut W) -> Result<(), Halt>
+    ensures err { IfErr result IsPrinting }
+    ensures bad { OnOk result (Appends (W.contents out.old) (W.contents out.new) (codes "bad " ++ (quoted_text line.now ++ codes "\n"))) }
+    ensures front { OnErr result (AppendsFront (W.contents out.old) (W.contents out.new)
+        (codes "bad " ++ (quoted_text line.now ++ codes "\n"))) }
+{
+    room.clear();
+    // A vector refuses a piece of the line only for want of memory.
+    let Ok(()) = writeln!(room, "bad {}", Quoted(line)) else {
+        return Err(Halt::Memory);
+    };
+    write_whole(out, room.as_slice())?;
+    Ok(())
 }
 
 // Leaves out the carriage return that ends a line.

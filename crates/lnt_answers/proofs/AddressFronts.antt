@@ -1,0 +1,146 @@
+-- The lines of a text that tell positions, where the writer was stopped.
+use Rattle.std.proofs.Common.{◌≡◌, ◌∙◌, Bool, false, ℕ, ◌+◌, ◌<◌, ◌≤◌, List, [], ◌∷◌, ◌++◌, length, map}
+use Rattle.std.proofs.Common.{take, drop, Option, Some, None, IfSome}
+use Rattle.std.proofs.Common.{refl, sym, ap, subst, append_assoc, append-nil, arith}
+use Rattle.std.proofs.lemmas.List.{take-append-le, take_all}
+use Rattle.std.proofs.lemmas.List.Concat.{flat_map-append}
+use Rattle.std.proofs.ByRecursion.{All-append as all_append}
+use Rattle.std.specs.List.{flat_map}
+use Rattle.std.specs.Str.Lines.{lines, strip_carriage_return}
+use Rattle.lnt_output.specs.Fronts.{AppendsFront}
+use Rattle.lnt_output.proofs.FrontLaws.{front_after, front_all, front_none, front_same}
+use Rattle.lnt_wire.specs.Pulling.{Pulls, IsAtEnd}
+use Rattle.lnt_sources.specs.declared.status.Status.{Status}
+use Rattle.lnt_spans.specs.declared.position.Position.{Position}
+use Rattle.lnt_unit.specs.declared.unit.Parts.{Parts}
+use Rattle.lnt_lines.specs.Indexed.{Indexed, IsIndexOf}
+use Rattle.lnt_answers.specs.AddressLines.{AreAddressesBegun, AreLinesBegun, AreLinesTold, IsBlockBegun, IsBlockTold, IsCutAt, Tells}
+use Rattle.lnt_answers.specs.AddressLines.{told_line}
+use Rattle.lnt_answers.proofs.AddressLemmas.{IsTextTold, cut_ended, cut_within, line_last, texts_append}
+
+-- ---- lines
+
+begun_none : (index : Indexed) (op : ℕ) (old : Option (List ℕ)) → AreLinesBegun index op [] old old
+begun_none index op old = record { told = []; lines_are = refl; so = tt; front = λ dead skip units is. front_none old [] }
+
+-- those that were told
+begun_told : (index : Indexed) (op : ℕ) (texts : List (List ℕ)) (old new : Option (List ℕ)) (s t : Status)
+    → AreLinesTold index op texts old new s t → AreLinesBegun index op texts old new
+begun_told index op texts old new s t all = record {
+  told = all.told;
+  lines_are = all.lines_are;
+  so = all.so;
+  front = λ dead skip units is. front_all old new (flat_map (told_line index dead skip units) all.told) (all.printed dead skip units is);
+}
+
+-- one line
+pub begun_one : (index : Indexed) (op : ℕ) (line : List ℕ) (position : Option Position) (old new : Option (List ℕ))
+    → Tells op (line, position)
+    → ((dead : Option ℕ) (skip : Bool) (units : List (ℕ × Parts)) → IsIndexOf dead skip units index
+    → AppendsFront old new (told_line index dead skip units (line, position)))
+    → AreLinesBegun index op (line ∷ []) old new
+begun_one index op line position old new tells front = record {
+  told = (line, position) ∷ [];
+  lines_are = refl;
+  so = (tells, tt);
+  front = λ dead skip units is. front_same old new _ _ (sym (append-nil (told_line index dead skip units (line, position))))
+      (front dead skip units is);
+}
+
+-- and those before it
+begun_append : (index : Indexed) (op : ℕ) (xs ys : List (List ℕ)) (old now new : Option (List ℕ)) (s t : Status)
+    → AreLinesTold index op xs old now s t → AreLinesBegun index op ys now new → AreLinesBegun index op (xs ++ ys) old new
+begun_append index op xs ys old now new s t a b = record {
+  told = a.told ++ b.told;
+  lines_are = texts_append a.told b.told ∙ ap (λ (z : List (List ℕ)). z ++ map (λ line. line.0) b.told) a.lines_are
+      ∙ ap (λ (z : List (List ℕ)). xs ++ z) b.lines_are;
+  so = all_append (Tells op) a.told b.told a.so b.so;
+  front = λ dead skip units is.
+      front_same old new _ _ (sym (flat_map-append (told_line index dead skip units) a.told b.told))
+      (front_after old now new (flat_map (told_line index dead skip units) a.told) (flat_map (told_line index dead skip units) b.told)
+      (a.printed dead skip units is) (b.front dead skip units is));
+}
+
+-- ---- a block
+
+-- within the line that ends at a place of the block
+pub block_stopped : (index : Indexed) (op : ℕ) (line block left rest : List ℕ) (place : ℕ) (full stripped : List ℕ)
+    (old now new : Option (List ℕ)) (s t : Status)
+    → IsBlockTold index op line block left rest old now s t → IsCutAt 10 place rest → full ≡ left ++ take place rest
+    → stripped ≡ strip_carriage_return full → AreLinesBegun index op (stripped ∷ []) now new
+    → IsBlockBegun index op line block old new
+block_stopped index op line block left rest place full stripped old now new s t before at full_is stripped_is begun = record {
+  texts = before.texts ++ stripped ∷ [];
+  begun = begun_append index op before.texts (stripped ∷ []) old now new s t before.told begun;
+  cut = λ more. (
+    lines (drop (place + 1) rest ++ more),
+    sym (cut_within index op line block left rest place full stripped old now s t before at full_is stripped_is more),
+  );
+}
+
+-- after a line
+pub block_kept : (index : Indexed) (op : ℕ) (line block left rest : List ℕ) (old now : Option (List ℕ)) (s t : Status)
+    → IsBlockTold index op line block left rest old now s t → IsBlockBegun index op line block old now
+block_kept index op line block left rest old now s t before = record {
+  texts = before.texts;
+  begun = begun_told index op before.texts old now s t before.told;
+  cut = λ more. (lines (left ++ (rest ++ more)), sym (before.cut more));
+}
+
+-- ---- a whole text
+
+begun_in : (index : Indexed) (op : ℕ) (start : Option (List ℕ)) (texts rest : List (List ℕ)) (old new : Option (List ℕ))
+    → IfSome start (λ text. texts ++ rest ≡ lines text) → AreLinesBegun index op texts old new
+    → AreAddressesBegun index op start old new
+begun_in index op None texts rest old new e begun = tt
+begun_in index op (Some text) texts rest old new e begun =
+    let whole : length texts ≤ length texts = omega arith in
+    let front : texts ≡ take (length texts) (lines text) =
+    sym (take_all (length texts) texts whole) ∙ sym (take-append-le (length texts) texts rest whole) ∙ ap (take (length texts)) e in
+    (length texts, subst (λ (z : List (List ℕ)). AreLinesBegun index op z old new) front begun)
+
+pub text_unbegun : (index : Indexed) (op : ℕ) (start : Option (List ℕ)) (old : Option (List ℕ)) → AreAddressesBegun index op start old old
+text_unbegun index op None old = tt
+text_unbegun index op (Some text) old = (0, begun_none index op old)
+
+-- between two blocks
+pub text_kept_begun : (index : Indexed) (op : ℕ) (start now : Option (List ℕ)) (line : List ℕ) (old new : Option (List ℕ)) (status : Status)
+    → IsTextTold index op start now line old new status → AreAddressesBegun index op start old new
+text_kept_begun index op None now line old new status before = tt
+text_kept_begun index op (Some text) None line old new status before = absurd before.cut
+text_kept_begun index op (Some text) (Some rest) line old new status before =
+    begun_in index op (Some text) before.texts (lines (line ++ rest)) old new (sym before.cut)
+    (begun_told index op before.texts old new _ status before.told)
+
+-- within a block
+pub text_stopped : (index : Indexed) (op : ℕ) (start mid now : Option (List ℕ)) (line block : List ℕ) (old then new : Option (List ℕ))
+    (s : Status)
+    → IsTextTold index op start mid line old then s → Pulls mid now block → IsBlockBegun index op line block then new
+    → AreAddressesBegun index op start old new
+text_stopped index op None mid now line block old then new s before pulls begun = tt
+text_stopped index op (Some text) None now line block old then new s before pulls begun = absurd before.cut
+text_stopped index op (Some text) (Some x) None line block old then new s before pulls begun = absurd pulls
+text_stopped index op (Some text) (Some x) (Some y) line block old then new s before pulls begun =
+    let after = begun.cut y in
+    begun_in index op (Some text) (before.texts ++ begun.texts) after.0 old new
+    (append_assoc before.texts begun.texts after.0 ∙ ap (λ (z : List (List ℕ)). before.texts ++ z) after.1
+    ∙ sym (before.cut ∙ ap (λ (z : List ℕ). before.texts ++ lines (line ++ z)) pulls))
+    (begun_append index op before.texts begun.texts old then new _ s before.told begun.begun)
+
+-- within the last line, that no line feed ends
+pub last_stopped : (index : Indexed) (op : ℕ) (start now : Option (List ℕ)) (line : List ℕ) (old then new : Option (List ℕ)) (s : Status)
+    (ended : Bool)
+    → IsTextTold index op start now line old then s → IsAtEnd now ended → ended ≡ false → 0 < length line
+    → AreLinesBegun index op (line ∷ []) then new → AreAddressesBegun index op start old new
+last_stopped index op start now [] old then new s ended before at short some begun = absurd (omega arith)
+last_stopped index op start now (b ∷ line) old then new s ended before at short some begun =
+    let line_is = line_last b line before.whole in
+    begun_in index op start (before.texts ++ (b ∷ line) ∷ []) [] old new
+    (last_in start (before.texts ++ (b ∷ line) ∷ []) (before.texts ++ lines (b ∷ line))
+    (cut_ended start now before.texts (b ∷ line) ended before.cut at short) (ap (λ (z : List (List ℕ)). before.texts ++ z) (sym line_is)))
+    (begun_append index op before.texts ((b ∷ line) ∷ []) old then new _ s before.told begun)
+  where
+    last_in : (start : Option (List ℕ)) (texts all : List (List ℕ)) → IfSome start (λ text. lines text ≡ all) → texts ≡ all
+        → IfSome start (λ text. texts ++ [] ≡ lines text)
+    last_in None texts all e same = tt
+    last_in (Some text) texts all e same = append-nil texts ∙ same ∙ sym e
