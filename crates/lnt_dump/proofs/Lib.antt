@@ -1,4 +1,5 @@
 pub mod Entries
 pub mod Frames
 pub mod RowLemmas
+pub mod SectionFronts
 pub mod Sections

@@ -1,9 +1,12 @@
 -- What is printed.
-use Rattle.std.specs.Prelude.{ℕ, List, [], ◌++◌, Option, codes}
-use Rattle.std.specs.Io.KnownBytes.{Appends}
+use Rattle.std.specs.Prelude.{◌⊎◌, ℕ, List, [], ◌++◌, Option, codes}
+use Rattle.std.specs.Io.KnownBytes.{Appends, Keeps}
+use Rattle.lnt_output.specs.Fronts.{AppendsFront, HasBegun}
+use Rattle.lnt_sources.specs.declared.status.Status.{Status}
+use Rattle.lnt_sources.specs.declared.status.Status.TheVariants.{Done, No}
 use Rattle.lnt_wire.specs.declared.format.Format.{Format}
 use Rattle.lnt_wire.specs.declared.format.Order.{Order}
-use Rattle.lnt_unit.specs.Converting.{IsConvertFault}
+use Rattle.lnt_unit.specs.Converting.{IsConverted, IsConvertFault}
 use Rattle.lnt_unit.specs.declared.convert.ConvertFault.{ConvertFault}
 use Rattle.lnt_unit.specs.declared.convert.ConvertFault.TheVariants.{Malformed, TooLarge, Memory}
 use Rattle.lnt_wire.specs.FaultTexts.{hexadecimal}
@@ -27,3 +30,17 @@ refusal_text Memory = []
 abbrev pub IsRefusalTold : Order → List ℕ → Format → Order → Option (List ℕ) → Option (List ℕ) → Type 0
 IsRefusalTold order section format to old new =
     (fault : ConvertFault) × IsConvertFault order section format to fault × Appends old new (refusal_text fault)
+
+-- how the work on a section ends: it was printed converted, or the line was that says why there is no conversion
+abbrev pub IsConversionTold : Order → List ℕ → Format → Order → Option (List ℕ) → Option (List ℕ) → Status → Type 0
+IsConversionTold order section format to old new Done = IsPrintedIn (IsConverted order section format to) old new
+IsConversionTold order section format to old new No = IsRefusalTold order section format to old new
+
+-- A writer that held these bytes has gained nothing, or a front of what the work on the section might have printed, and nothing else.
+abbrev pub IsConversionBegun : Order → List ℕ → Format → Order → Option (List ℕ) → Option (List ℕ) → Type 0
+IsConversionBegun order section format to old new =
+    Keeps old new ⊎ HasBegun (IsConversionTold order section format to old) old new
+
+-- a writer that held these bytes has gained a front of such a text, and nothing else
+abbrev pub IsFrontIn : (List ℕ → Type 0) → Option (List ℕ) → Option (List ℕ) → Type 0
+IsFrontIn Is old new = (text : List ℕ) × Is text × AppendsFront old new text

@@ -1,12 +1,15 @@
 //! The subcommand `convert`.
-ghost use Rattle.std.specs.Prelude.{◌≡◌, ◌+◌, ◌-◌, ◌^◌, ◌<◌, IfErr, IfOk, IfSome, IsErrOf, IsTrue, OnOk};
+ghost use Rattle.std.specs.Prelude.{◌≡◌, ◌+◌, ◌-◌, ◌^◌, ◌<◌, IfErr, IfOk, IfSome, IsErrOf, IsTrue, OnErr, OnOk};
 ghost use Rattle.std.specs.Io.KnownBytes.{Appends};
+ghost use Rattle.lnt_output.specs.Fronts.{AppendsFront};
 ghost use Rattle.lnt_sources.specs.Halts.{IsPrinting};
 ghost use Rattle.lnt_sources.specs.declared.status.Status.TheVariants.{Done, No};
+ghost use Rattle.lnt_unit.specs.ConvertedUnits.{Converts};
 ghost use Rattle.lnt_unit.specs.Converting.{IsConverted};
-ghost use Rattle.lnt_dump.specs.Printed.{IsPrintedIn, IsRefusalTold, refusal_text};
+ghost use Rattle.lnt_dump.specs.Printed.{IsConversionBegun, IsFrontIn, IsPrintedIn, IsRefusalTold, refusal_text, too_large_text};
 
 use crate::faults::print_fault;
+use lnt_output::write_whole;
 use lnt_sources::{Halt, Status};
 use lnt_unit::{ConvertFault, convert_unit, judge_conversion};
 use lnt_wire::{Cursor, Format, Order, Source, read_all};
@@ -21,10 +24,10 @@ const PAGE: usize = 1 << 16;
 /// Where it answers `Done`, the writer has gained the converted section, and nothing else. Where it answers `No`, the
 /// section is malformed, or a unit of it is too large for the format, and the writer has gained the line that says so
 /// alone. It stops by `Read` only where the source failed, by `TooLong` only where it has more bytes than it may give,
-/// by `Write` where the writer failed, and by `Memory`. It keeps the bytes of the section, which are read once, and
-/// converts them unit by unit, once it is known that each unit has a spelling in the format. The caller sees to it that the
-/// number of the source's failures
-/// is below `u64::MAX`.
+/// by `Write` where the writer failed, and by `Memory`. Where it stops, the writer has gained a front of the converted
+/// section, or of the line that says why there is none, and nothing else. It keeps the bytes of the section, which are
+/// read once, and converts them unit by unit, once it is known that each unit has a spelling in the format. The caller
+/// sees to it that the number of the source's failures is below `u64::MAX`.
 pub fn print_converted<R: Source, W: Write>(
     alloc: Global,
     source: &mut R,
@@ -38,18 +41,20 @@ pub fn print_converted<R: Source, W: Write>(
         IsPrintedIn (IsConverted order bytes format to) (W.contents out.old) (W.contents out.new))) }
     ensures no { IfOk result (λ status. status ≡ No → IfSome (R.remaining source.old) (λ bytes.
         IsRefusalTold order bytes format to (W.contents out.old) (W.contents out.new))) }
+    ensures begun { OnErr result (IfSome (R.remaining source.old) (λ bytes.
+        IsConversionBegun order bytes format to (W.contents out.old) (W.contents out.new))) }
     ensures read { IsErrOf result Halt.Read → R.failures source.new ≡ R.failures source.old + 1 }
     ensures too_long { IsErrOf result Halt.TooLong → IsTrue (R.too_long source.new) }
 {
     let bytes = read_all(alloc, source)?;
     if let Err(fault) = judge_conversion(alloc, &bytes, order, format, to) {
-        return print_refusal(fault, out);
+        return print_refusal(alloc, fault, out);
     }
     print_section(alloc, &bytes, order, format, to, out)?;
     Ok(Status::Done)
 }
 
-// Prints a section that converts in the format and in the byte order `to`, unit by unit.
+// Prints a section that converts in the format and in the byte order `to`, unit by unit, or a front of it.
 #[tactic(auto, using(crate::proofs::Sections::section_begun, crate::proofs::Sections::section_handed_on, crate::proofs::Sections::unit_long))]
 fn print_section<W: Write>(
     alloc: Global,
@@ -59,7 +64,9 @@ fn print_section<W: Write>(
     to: Order,
     out: &mut W,
 ) -> Result<(), Halt>
+    requires { Converts order bytes.now format to }
     ensures ok { OnOk result (IsPrintedIn (IsConverted order bytes.now format to) (W.contents out.old) (W.contents out.new)) }
+    ensures front { OnErr result (IsFrontIn (IsConverted order bytes.now format to) (W.contents out.old) (W.contents out.new)) }
     ensures err { IfErr result IsPrinting }
 {
     let mut page = Vec::new(alloc);
@@ -69,26 +76,39 @@ fn print_section<W: Write>(
             return Err(Halt::Memory);
         };
         if page.len() >= PAGE {
-            out.write_all(&page)?;
+            write_whole(out, &page)?;
             page.clear();
         }
     }
-    out.write_all(&page)?;
+    write_whole(out, &page)?;
     Ok(())
 }
 
-// Prints the line that says why a section isn't converted.
-fn print_refusal<W: Write>(fault: ConvertFault, out: &mut W) -> Result<Status, Halt>
+// Prints the line that says why a section isn't converted, or a front of it.
+fn print_refusal<W: Write>(alloc: Global, fault: ConvertFault, out: &mut W) -> Result<Status, Halt>
     ensures no { IfOk result (λ status. status ≡ No) }
     ensures err { IfErr result IsPrinting }
     ensures line { OnOk result (Appends (W.contents out.old) (W.contents out.new) (refusal_text fault)) }
+    ensures front { OnErr result (AppendsFront (W.contents out.old) (W.contents out.new) (refusal_text fault)) }
 {
     match fault {
-        ConvertFault::Malformed(fault) => print_fault(fault, out),
-        ConvertFault::TooLarge(offset) => {
-            writeln!(out, "no 20 too large unit 0x{offset:x}")?;
-            Ok(Status::No)
-        }
+        ConvertFault::Malformed(fault) => print_fault(alloc, fault, out),
+        ConvertFault::TooLarge(offset) => print_too_large(alloc, offset, out),
         ConvertFault::Memory => Err(Halt::Memory),
     }
+}
+
+// Prints the line of the unit at the offset, which is too large, or a front of it.
+fn print_too_large<W: Write>(alloc: Global, offset: u64, out: &mut W) -> Result<Status, Halt>
+    ensures no { IfOk result (λ status. status ≡ No) }
+    ensures err { IfErr result IsPrinting }
+    ensures line { OnOk result (Appends (W.contents out.old) (W.contents out.new) (too_large_text offset)) }
+    ensures front { OnErr result (AppendsFront (W.contents out.old) (W.contents out.new) (too_large_text offset)) }
+{
+    let mut line = Vec::new(alloc);
+    if writeln!(line, "no 20 too large unit 0x{offset:x}").is_err() {
+        return Err(Halt::Memory);
+    }
+    write_whole(out, &line)?;
+    Ok(Status::No)
 }

@@ -73,7 +73,7 @@ pub fn print_dump<R: Source, W: Write>(
     loop {
         let unit = match next_of(&mut reader, room)? {
             Next::Unit(unit) => unit,
-            Next::Fault(fault) => return print_fault(fault, out),
+            Next::Fault(fault) => return print_fault(alloc, fault, out),
             Next::End => return Ok(Status::Done),
         };
         if print_unit(alloc, &unit, shown, &mut page, out)? == Status::No {
@@ -101,7 +101,7 @@ fn print_unit<W: Write>(
             };
             print_judged(&sheet, page, out)
         }
-        Err(fault) => print_fault(fault, out),
+        Err(fault) => print_fault(alloc, fault, out),
     }
 }
 
@@ -110,7 +110,7 @@ fn print_judged<W: Write>(sheet: &Sheet<'_>, page: &mut Page, out: &mut W) -> Re
     page.begin();
     match print_sheet(sheet, page, out) {
         Ok(()) => Ok(Status::Done),
-        Err(Stop::Malformed(fault)) => print_fault(fault, out),
+        Err(Stop::Malformed(fault)) => print_fault(sheet.alloc, fault, out),
         Err(Stop::NotRun(fault)) => print_run_fault(sheet.buffer.offset(), fault, out),
         Err(Stop::Halt(halt)) => Err(halt),
     }

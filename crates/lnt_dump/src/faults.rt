@@ -1,26 +1,38 @@
 //! How faults end the printing.
-ghost use Rattle.std.specs.Prelude.{◌≡◌, ◌++◌, IfErr, IfOk, OnOk, codes};
+ghost use Rattle.std.specs.Prelude.{◌≡◌, ◌++◌, IfErr, IfOk, OnErr, OnOk, codes};
 ghost use Rattle.std.specs.Io.KnownBytes.{Appends};
+ghost use Rattle.lnt_output.specs.Fronts.{AppendsFront};
 ghost use Rattle.lnt_sources.specs.Halts.{IsPrinting};
 ghost use Rattle.lnt_sources.specs.declared.status.Status.TheVariants.{No};
 ghost use Rattle.lnt_text.specs.Texts.{malformed_text, run_text};
 
 use lnt_machine::RunFault;
+use lnt_output::write_whole;
 use lnt_sources::{Halt, Status};
 use lnt_text::{MalformedLine, RunLine};
 use lnt_wire::{Fault, Reason};
+use std::alloc::Global;
 use std::io::Write;
 
-// Prints the line that says which bytes are refused, and why.
-pub(crate) fn print_fault<W: Write>(fault: Fault, out: &mut W) -> Result<Status, Halt>
+// Prints the line that says which bytes are refused, and why, or a front of it.
+pub(crate) fn print_fault<W: Write>(
+    alloc: Global,
+    fault: Fault,
+    out: &mut W,
+) -> Result<Status, Halt>
     ensures no { IfOk result (λ status. status ≡ No) }
     ensures err { IfErr result IsPrinting }
     ensures line { OnOk result (Appends (W.contents out.old) (W.contents out.new) (malformed_text fault ++ codes "\n")) }
+    ensures front { OnErr result (AppendsFront (W.contents out.old) (W.contents out.new) (malformed_text fault ++ codes "\n")) }
 {
     if fault.reason == Reason::Memory {
         return Err(Halt::Memory);
     }
-    writeln!(out, "{}", MalformedLine(fault))?;
+    let mut line = Vec::new(alloc);
+    if writeln!(line, "{}", MalformedLine(fault)).is_err() {
+        return Err(Halt::Memory);
+    }
+    write_whole(out, &line)?;
     Ok(Status::No)
 }
 

@@ -37,7 +37,7 @@ pub fn print_units<R: Source, W: Write>(
                 print_frame(&unit.frame(), out)?;
                 room = unit.into_bytes();
             }
-            Next::Fault(fault) => return print_fault(fault, out),
+            Next::Fault(fault) => return print_fault(alloc, fault, out),
             Next::End => return Ok(Status::Done),
         }
     }
