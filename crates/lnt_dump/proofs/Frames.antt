@@ -20,12 +20,16 @@ use Rattle.lnt_sources.specs.declared.status.Status.{Status}
 use Rattle.lnt_sources.specs.declared.status.Status.TheVariants.{No}
 use Rattle.lnt_dump.specs.Units.{AreUnitsTold, end_line, end_status, unit_line}
 
--- The source gave the bytes of these frames, the next byte stands at the offset, and the frames' lines were printed.
-pub record FramesTold (order : Order) (start now old new : Option (List ℕ)) (of_reader : Order) (offset : ℕ) : Type 0 where
-  pub frames : List Frame
+-- The source gave the bytes of these frames, and the next byte stands at the offset.
+pub record FramesRead (order : Order) (start now : Option (List ℕ)) (frames : List Frame) (of_reader : Order) (offset : ℕ) : Type 0 where
   pub front : List ℕ
   pub so_far : FramesSoFar order front frames (record { place = offset; rest = []; order = of_reader })
   pub pulls : Pulls start now front
+
+-- It gave those of some frames, and the frames' lines were printed.
+pub record FramesTold (order : Order) (start now old new : Option (List ℕ)) (of_reader : Order) (offset : ℕ) : Type 0 where
+  pub frames : List Frame
+  pub read : FramesRead order start now frames of_reader offset
   pub printed : Appends old new (flat_map unit_line frames)
 
 pub frames_none : (order : Order) (start now old : Option (List ℕ)) (of_reader : Order) (offset : ℕ) → of_reader ≡ order → offset ≡ 0
@@ -33,9 +37,11 @@ pub frames_none : (order : Order) (start now old : Option (List ℕ)) (of_reader
     → FramesTold order start now old old of_reader offset
 frames_none order start now old of_reader offset ordered at same = record {
   frames = [];
-  front = [];
-  so_far = no_frames order [] (record { place = offset; rest = []; order = of_reader }) refl at ordered;
-  pulls = subst (λ (o : Option (List ℕ)). Pulls start o []) (sym same) (pulls_none start);
+  read = record {
+    front = [];
+    so_far = no_frames order [] (record { place = offset; rest = []; order = of_reader }) refl at ordered;
+    pulls = subst (λ (o : Option (List ℕ)). Pulls start o []) (sym same) (pulls_none start);
+  };
   printed = Appends-nil old;
 }
 
@@ -58,12 +64,17 @@ frames_push order frames frame front more of_reader offset after so_far here is 
     })
     (record { spelling = more; spelled = is; whole = sym (append-nil more); place = at; order = refl }) here
 
+-- the lines with one line more
+pub line_joined : (frames : List Frame) (frame : Frame)
+    → flat_map unit_line frames ++ unit_line frame ≡ flat_map unit_line (frames ++ frame ∷ [])
+line_joined frames frame = sym (flat_map-append unit_line frames (frame ∷ [])
+    ∙ ap (λ (z : List ℕ). flat_map unit_line frames ++ z) (append-nil (unit_line frame)))
+
 line_more : (frames : List Frame) (frame : Frame) (old now new : Option (List ℕ)) → Appends old now (flat_map unit_line frames)
     → Appends now new (unit_line frame)
     → Appends old new (flat_map unit_line (frames ++ frame ∷ []))
 line_more frames frame old now new before here =
-    subst (Appends old new) (sym (flat_map-append unit_line frames (frame ∷ [])
-    ∙ ap (λ (z : List ℕ). flat_map unit_line frames ++ z) (append-nil (unit_line frame))))
+    subst (Appends old new) (line_joined frames frame)
     (Appends-trans old now new (flat_map unit_line frames) (unit_line frame) before here)
 
 framed : (order : Order) (unit : UnitBytes) (frame : Frame) → unit.order ≡ order
@@ -72,6 +83,22 @@ framed order unit frame ordered bytes placed =
     subst (λ (o : Order). IsFrame o frame unit.bytes) ordered (subst (λ (z : List ℕ). IsFrame unit.order frame z) bytes placed.is)
 
 -- the frame of a unit that the source gave
+pub read_more : (order : Order) (start mid now : Option (List ℕ)) (frames : List Frame) (of_reader next_order : Order) (offset after : ℕ)
+    (unit : UnitBytes) (frame : Frame)
+    → next_order ≡ of_reader → FramesRead order start mid frames of_reader offset → IsNextUnit offset of_reader mid now unit
+    → after ≡ offset + length unit.bytes
+    → frame.offset ≡ unit.offset → frame_bytes unit.order frame.format frame.body.now ≡ unit.bytes → IsPlacedFrame unit.order frame
+    → FramesRead order start now (frames ++ frame ∷ []) next_order after
+read_more order start mid now frames of_reader next_order offset after unit frame ordered read next at here bytes placed =
+    subst (λ (o : Order). FramesRead order start now (frames ++ frame ∷ []) o after) (sym ordered) (record {
+      front = read.front ++ unit.bytes;
+      so_far =
+          frames_push order frames frame read.front unit.bytes of_reader offset after read.so_far (here ∙ next.offset_is)
+          (framed of_reader unit frame next.order_is bytes placed) at;
+      pulls = pulls_append start mid now read.front unit.bytes read.pulls next.pulls;
+    })
+
+-- and its line was printed
 pub frames_more : (order : Order) (start mid now old then new : Option (List ℕ)) (of_reader next_order : Order) (offset after : ℕ)
     (unit : UnitBytes) (frame : Frame)
     → next_order ≡ of_reader → FramesTold order start mid old then of_reader offset → IsNextUnit offset of_reader mid now unit
@@ -80,32 +107,29 @@ pub frames_more : (order : Order) (start mid now old then new : Option (List ℕ
     → Appends then new (unit_line frame)
     → FramesTold order start now old new next_order after
 frames_more order start mid now old then new of_reader next_order offset after unit frame ordered told next at here bytes placed printed =
-    subst (λ (o : Order). FramesTold order start now old new o after) (sym ordered) (record {
+    record {
       frames = told.frames ++ frame ∷ [];
-      front = told.front ++ unit.bytes;
-      so_far =
-          frames_push order told.frames frame told.front unit.bytes of_reader offset after told.so_far (here ∙ next.offset_is)
-          (framed of_reader unit frame next.order_is bytes placed) at;
-      pulls = pulls_append start mid now told.front unit.bytes told.pulls next.pulls;
+      read = read_more order start mid now told.frames of_reader next_order offset after unit frame ordered told.read next at here bytes
+          placed;
       printed = line_more told.frames frame old then new told.printed printed;
-    })
+    }
 
-frames_end : (order : Order) (start now : Option (List ℕ)) (frames : List Frame) (front : List ℕ) (of_reader : Order) (offset : ℕ)
-    (fault : Option Fault)
-    → FramesSoFar order front frames (record { place = offset; rest = []; order = of_reader }) → Pulls start now front
-    → SectionEndsBy offset of_reader now fault
+pub frames_end : (order : Order) (start now : Option (List ℕ)) (frames : List Frame) (of_reader : Order) (offset : ℕ) (fault : Option Fault)
+    → FramesRead order start now frames of_reader offset → SectionEndsBy offset of_reader now fault
     → IfSome start (λ bytes. AreFrames order bytes frames fault)
-frames_end order None now frames front of_reader offset fault so_far pulls ends = tt
-frames_end order (Some bytes) None frames front of_reader offset fault so_far pulls ends = absurd pulls
-frames_end order (Some bytes) (Some rest) frames front of_reader offset fault so_far pulls ends = record {
-  front = so_far.front;
-  rest = rest;
-  whole = pulls ∙ ap (λ (z : List ℕ). z ++ rest) (so_far.whole ∙ append-nil so_far.front);
-  joined = so_far.joined;
-  ends =
-      subst (λ (o : Order). EndsBy (record { place = length so_far.front; rest = rest; order = o }) fault) so_far.order_is
-      (subst (λ (n : ℕ). EndsBy (record { place = n; rest = rest; order = of_reader }) fault) so_far.place ends);
-}
+frames_end order None now frames of_reader offset fault read ends = tt
+frames_end order (Some bytes) None frames of_reader offset fault read ends = absurd read.pulls
+frames_end order (Some bytes) (Some rest) frames of_reader offset fault read ends =
+    let so_far = read.so_far in
+    record {
+      front = so_far.front;
+      rest = rest;
+      whole = read.pulls ∙ ap (λ (z : List ℕ). z ++ rest) (so_far.whole ∙ append-nil so_far.front);
+      joined = so_far.joined;
+      ends =
+          subst (λ (o : Order). EndsBy (record { place = length so_far.front; rest = rest; order = o }) fault) so_far.order_is
+          (subst (λ (n : ℕ). EndsBy (record { place = n; rest = rest; order = of_reader }) fault) so_far.place ends);
+    }
 
 -- the section ends
 pub frames_all : (order : Order) (start now old then new : Option (List ℕ)) (of_reader : Order) (offset : ℕ) (fault : Option Fault)
@@ -116,7 +140,7 @@ pub frames_all : (order : Order) (start now old then new : Option (List ℕ)) (o
 frames_all order start now old then new of_reader offset fault status told ends printed ended = record {
   frames = told.frames;
   fault = fault;
-  so = frames_end order start now told.frames told.front of_reader offset fault told.so_far told.pulls ends;
+  so = frames_end order start now told.frames of_reader offset fault told.read ends;
   printed = Appends-trans old then new (flat_map unit_line told.frames) (end_line fault) told.printed printed;
   status_is = ended;
 }

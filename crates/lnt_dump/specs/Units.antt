@@ -1,6 +1,6 @@
 -- What `units` prints.
-use Rattle.std.specs.Prelude.{◌≡◌, ℕ, List, [], ◌++◌, Option, Some, None, IfSome, codes, decimal}
-use Rattle.std.specs.List.{flat_map}
+use Rattle.std.specs.Prelude.{◌≡◌, ◌<◌, ℕ, List, [], ◌++◌, Option, Some, None, IfSome, codes, decimal}
+use Rattle.std.specs.List.{All, flat_map}
 use Rattle.std.specs.Io.KnownBytes.{Appends}
 use Rattle.lnt_wire.specs.declared.fault.Fault.{Fault}
 use Rattle.lnt_wire.specs.declared.format.Order.{Order}
@@ -35,3 +35,7 @@ pub record AreUnitsTold (order : Order) (section old new : Option (List ℕ)) (s
   pub so : IfSome section (λ bytes. AreFrames order bytes frames fault)
   pub printed : Appends old new (flat_map unit_line frames ++ end_line fault)
   pub status_is : status ≡ end_status fault
+
+-- each is a number below 256, and so a byte
+abbrev pub AreBytes : List ℕ → Type 0
+AreBytes items = All (λ item. item < 256) items

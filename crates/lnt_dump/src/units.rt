@@ -1,12 +1,14 @@
 //! The subcommand `units`.
-ghost use Rattle.std.specs.Prelude.{◌≡◌, ◌-◌, ◌^◌, ◌<◌, IfOk, OnOk};
+ghost use Rattle.std.specs.Prelude.{◌≡◌, ◌-◌, ◌^◌, ◌<◌, IfOk, IfSome, OnErr, OnOk};
 ghost use Rattle.std.specs.Io.KnownBytes.{Appends};
+ghost use Rattle.lnt_output.specs.Fronts.{AppendsFront, HasBegun};
 ghost use Rattle.lnt_stream.specs.declared.reader.Progress.TheVariants.{Reading};
 ghost use Rattle.lnt_dump.specs.Nexts.{IsNext, IsUnit};
-ghost use Rattle.lnt_dump.specs.Units.{AreUnitsTold, unit_line};
+ghost use Rattle.lnt_dump.specs.Units.{AreBytes, AreUnitsTold, unit_line};
 
 use crate::faults::print_fault;
 use crate::width::width_of;
+use lnt_output::write_whole;
 use lnt_sources::{Halt, Status};
 use lnt_stream::{SectionReader, SectionStop, UnitBuffer};
 use lnt_wire::{Fault, Frame, Order, Source};
@@ -18,8 +20,10 @@ use std::io::Write;
 /// It answers `Done` where all of them were printed. Where no unit begins what is left, it prints the line of the
 /// fault, and answers `No`. In both cases the writer has gained the lines of the section's frames (`AreFrames` of
 /// `lnt_wire`), that of the fault, and nothing else. It stops by `Read` where the source failed, by `TooLong` where it
-/// has more bytes than it may give, by `Write` where the writer failed, and by `Memory`; what was printed before stays.
-/// The caller sees to it that the number of the source's failures is below `u64::MAX`.
+/// has more bytes than it may give, by `Write` where the writer failed, and by `Memory`. Where it stops, the writer has
+/// gained a front of these lines, also of those of frames that weren't read, and nothing else. That is said of a source
+/// that has numbers below 256 to give, and so bytes. The caller sees to it that the number of the source's failures is
+/// below `u64::MAX`.
 pub fn print_units<R: Source, W: Write>(
     alloc: Global,
     source: &mut R,
@@ -27,14 +31,17 @@ pub fn print_units<R: Source, W: Write>(
     out: &mut W,
 ) -> Result<Status, Halt>
     requires { R.failures source.old < 2 ^ 64 - 1 }
-    ensures { IfOk result (λ status. AreUnitsTold order (R.remaining source.old) (W.contents out.old) (W.contents out.new) status) }
+    ensures told { IfOk result (λ status. AreUnitsTold order (R.remaining source.old) (W.contents out.old) (W.contents out.new) status) }
+    ensures begun { OnErr result (IfSome (R.remaining source.old) AreBytes
+        → HasBegun (AreUnitsTold order (R.remaining source.old) (W.contents out.old)) (W.contents out.old) (W.contents out.new)) }
 {
     let mut reader = SectionReader::new(source, order);
     let mut room = Vec::new(alloc);
+    let mut line = Vec::new(alloc);
     loop {
         match next_of(&mut reader, room)? {
             Next::Unit(unit) => {
-                print_frame(&unit.frame(), out)?;
+                print_frame(&unit.frame(), &mut line, out)?;
                 room = unit.into_bytes();
             }
             Next::Fault(fault) => return print_fault(alloc, fault, out),
@@ -75,11 +82,16 @@ pub(crate) fn next_of<R: Source>(
     }
 }
 
-// Prints the line of a unit.
-fn print_frame<W: Write>(frame: &Frame<'_>, out: &mut W) -> Result<(), Halt>
-    ensures { OnOk result (Appends (W.contents out.old) (W.contents out.new) (unit_line frame.now)) }
+// Prints the line of a unit, or a front of it. The line is put together in the room.
+fn print_frame<W: Write>(frame: &Frame<'_>, room: &mut Vec<u8>, out: &mut W) -> Result<(), Halt>
+    ensures whole { OnOk result (Appends (W.contents out.old) (W.contents out.new) (unit_line frame.now)) }
+    ensures front { OnErr result (AppendsFront (W.contents out.old) (W.contents out.new) (unit_line frame.now)) }
 {
     let (offset, width, length) = (frame.offset, width_of(frame.format), frame.length);
-    writeln!(out, "0x{offset:x} {width} {length}")?;
+    room.clear();
+    if writeln!(room, "0x{offset:x} {width} {length}").is_err() {
+        return Err(Halt::Memory);
+    }
+    write_whole(out, room)?;
     Ok(())
 }

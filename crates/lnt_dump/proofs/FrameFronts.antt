@@ -1,0 +1,126 @@
+-- Fronts of the lines of a section's frames, of which some weren't read.
+use Rattle.std.proofs.Common.{◌≡◌, ℕ, ◌+◌, List, [], ◌∷◌, ◌++◌, length, Option, Some, None, IfSome, Result, Ok, Err, OnErr, refl, sym, ap}
+use Rattle.std.proofs.Common.{subst, ◌∙◌, append_assoc, append-nil, arith}
+use Rattle.std.proofs.lemmas.List.{length-append}
+use Rattle.std.proofs.lemmas.List.Concat.{flat_map-append}
+use Rattle.std.specs.List.{flat_map}
+use Rattle.lnt_output.specs.Fronts.{AppendsFront, HasBegun}
+use Rattle.lnt_output.proofs.FrontLaws.{appends_known, front_after, front_all, front_before, front_same}
+use Rattle.lnt_wire.specs.At.{At}
+use Rattle.lnt_wire.specs.FrameBytes.{FramesFrom, IsPlacedFrame, frame_bytes}
+use Rattle.lnt_wire.specs.Frames.{AreFrames, EndsBy}
+use Rattle.lnt_wire.specs.declared.fault.Fault.{Fault}
+use Rattle.lnt_wire.specs.declared.format.Order.{Order}
+use Rattle.lnt_wire.specs.declared.frame.Frame.{Frame}
+use Rattle.lnt_stream.specs.Units.{IsNextUnit, SectionEndsBy, UnitBytes}
+use Rattle.lnt_sources.specs.declared.halt.Halt.{Halt}
+use Rattle.lnt_sources.specs.declared.status.Status.{Status}
+use Rattle.lnt_dump.specs.Units.{AreBytes, AreUnitsTold, end_line, end_status, unit_line}
+use Rattle.lnt_dump.proofs.Frames.{FramesRead, FramesTold, frames_end, line_joined, read_more}
+use Rattle.lnt_dump.proofs.FramesAhead.{bytes_after, frames_ahead, frames_join}
+
+-- How a section ends after these frames.
+record RestOf (order : Order) (section : Option (List ℕ)) (frames : List Frame) : Type 0 where
+  more : List Frame
+  fault : Option Fault
+  so : IfSome section (λ bytes. AreFrames order bytes (frames ++ more) fault)
+
+rest_of : (order : Order) (start now : Option (List ℕ)) (frames : List Frame) (of_reader : Order) (offset : ℕ)
+    → FramesRead order start now frames of_reader offset → IfSome start AreBytes → RestOf order start frames
+rest_of order None now frames of_reader offset read are = record { more = []; fault = None; so = tt }
+rest_of order (Some bytes) None frames of_reader offset read are = absurd read.pulls
+rest_of order (Some bytes) (Some rest) frames of_reader offset read are =
+    let at : At = record { place = offset; rest = rest; order = of_reader } in
+    let later = frames_ahead at (bytes_after read.front rest bytes read.pulls are) in
+    let before = read.so_far in
+    let place : offset + length later.front ≡ length (before.front ++ later.front) =
+    omega (arith, before.place, length-append before.front later.front) in
+    let Joined : Order → ℕ → Type 0 = λ (o : Order) (n : ℕ). FramesFrom o n later.frames later.front in
+    let Ends : Order → ℕ → Type 0 = λ (o : Order) (n : ℕ). EndsBy (record { place = n; rest = later.rest; order = o }) later.fault in
+    let start : offset ≡ 0 + length before.front = omega (arith, before.place) in
+    let joined : Joined order (0 + length before.front) =
+    subst (λ (o : Order). Joined o (0 + length before.front)) before.order_is
+    (subst (λ (n : ℕ). Joined of_reader n) start later.joined) in
+    record {
+      more = later.frames;
+      fault = later.fault;
+      so = record {
+        front = before.front ++ later.front;
+        rest = later.rest;
+        whole = read.pulls ∙ ap (λ (z : List ℕ). z ++ rest) (before.whole ∙ append-nil before.front)
+            ∙ ap (λ (z : List ℕ). before.front ++ z) later.whole ∙ sym (append_assoc before.front later.front later.rest);
+        joined = frames_join order 0 frames later.frames before.front later.front before.joined joined;
+        ends = subst (λ (o : Order). Ends o (length (before.front ++ later.front))) before.order_is
+            (subst (λ (n : ℕ). Ends of_reader n) place later.ends);
+      };
+    }
+
+-- a front of the lines of these frames, where the section goes on so
+lines_begun : (order : Order) (section old new : Option (List ℕ)) (frames : List Frame) → RestOf order section frames
+    → AppendsFront old new (flat_map unit_line frames) → HasBegun (AreUnitsTold order section old) old new
+lines_begun order section old new frames rest f =
+    let before = flat_map unit_line frames in
+    let later = flat_map unit_line rest.more in
+    let end = end_line rest.fault in
+    let text = flat_map unit_line (frames ++ rest.more) ++ end in
+    let joined : before ++ (later ++ end) ≡ text =
+    sym (append_assoc before later end) ∙ ap (λ (z : List ℕ). z ++ end) (sym (flat_map-append unit_line frames rest.more)) in
+    record {
+      whole = text;
+      ending = end_status rest.fault;
+      is_end = record {
+        frames = frames ++ rest.more;
+        fault = rest.fault;
+        so = rest.so;
+        printed = appends_known old text;
+        status_is = refl;
+      };
+      front = front_same old new (before ++ (later ++ end)) text joined (front_before old new before (later ++ end) f);
+    }
+
+-- nothing more is written
+pub units_stopped : (order : Order) (start now old new : Option (List ℕ)) (of_reader : Order) (offset : ℕ)
+    → FramesTold order start now old new of_reader offset → IfSome start AreBytes → HasBegun (AreUnitsTold order start old) old new
+units_stopped order start now old new of_reader offset told are =
+    lines_begun order start old new told.frames (rest_of order start now told.frames of_reader offset told.read are)
+    (front_all old new (flat_map unit_line told.frames) told.printed)
+
+-- of the line of a unit a front is written
+pub units_cut : (order : Order) (start mid now old then new : Option (List ℕ)) (of_reader next_order : Order) (offset after : ℕ)
+    (unit : UnitBytes) (frame : Frame)
+    → next_order ≡ of_reader → FramesTold order start mid old then of_reader offset → IsNextUnit offset of_reader mid now unit
+    → after ≡ offset + length unit.bytes
+    → frame.offset ≡ unit.offset → frame_bytes unit.order frame.format frame.body.now ≡ unit.bytes → IsPlacedFrame unit.order frame
+    → AppendsFront then new (unit_line frame)
+    → IfSome start AreBytes → HasBegun (AreUnitsTold order start old) old new
+units_cut order start mid now old then new of_reader next_order offset after unit frame ordered told next at here bytes placed f are =
+    let frames = told.frames ++ frame ∷ [] in
+    let before = flat_map unit_line told.frames in
+    let read = read_more order start mid now told.frames of_reader next_order offset after unit frame ordered told.read next at here bytes
+    placed in
+    lines_begun order start old new frames (rest_of order start now frames next_order after read are)
+    (front_same old new (before ++ unit_line frame) (flat_map unit_line frames) (line_joined told.frames frame)
+    (front_after old then new before (unit_line frame) told.printed f))
+
+-- of the line of the fault
+pub fault_cut : (order : Order) (start now old then new : Option (List ℕ)) (of_reader : Order) (offset : ℕ) (fault : Fault)
+    (printed : Result Status Halt)
+    → FramesTold order start now old then of_reader offset → SectionEndsBy offset of_reader now (Some fault)
+    → OnErr printed (AppendsFront then new (end_line (Some fault)))
+    → OnErr printed (IfSome start AreBytes → HasBegun (AreUnitsTold order start old) old new)
+fault_cut order start now old then new of_reader offset fault (Ok status) told ends f = tt
+fault_cut order start now old then new of_reader offset fault (Err halt) told ends f =
+    let before = flat_map unit_line told.frames in
+    let end = end_line (Some fault) in
+    λ are. record {
+      whole = before ++ end;
+      ending = end_status (Some fault);
+      is_end = record {
+        frames = told.frames;
+        fault = Some fault;
+        so = frames_end order start now told.frames of_reader offset (Some fault) told.read ends;
+        printed = appends_known old (before ++ end);
+        status_is = refl;
+      };
+      front = front_after old then new before end told.printed f;
+    }
