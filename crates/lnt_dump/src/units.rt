@@ -3,6 +3,7 @@ ghost use Rattle.std.specs.Prelude.{◌≡◌, ◌-◌, ◌^◌, ◌<◌, IfOk, 
 ghost use Rattle.std.specs.Io.KnownBytes.{Appends};
 ghost use Rattle.lnt_output.specs.Fronts.{AppendsFront, HasBegun};
 ghost use Rattle.lnt_stream.specs.declared.reader.Progress.TheVariants.{Reading};
+ghost use Rattle.lnt_stream.specs.Readers.{offset_of, order_of, progress_of, source_of};
 ghost use Rattle.lnt_dump.specs.Nexts.{IsNext, IsUnit};
 ghost use Rattle.lnt_dump.specs.Units.{AreBytes, AreUnitsTold, unit_line};
 
@@ -64,12 +65,12 @@ pub(crate) fn next_of<R: Source>(
     reader: &mut SectionReader<'_, R>,
     room: Vec<u8>,
 ) -> Result<Next, Halt>
-    requires { reader.old.progress ≡ Reading }
+    requires { progress_of reader.old ≡ Reading }
     ensures goes_on { IfOk result (λ next. IsUnit next
-        → (reader.new.progress ≡ Reading) × (R.left reader.new.source.now < R.left reader.old.source.now)) }
-    ensures next { IfOk result (λ next. IsNext reader.old.offset reader.new.offset reader.old.order
-        (R.remaining reader.old.source.now) (R.remaining reader.new.source.now) next) }
-    ensures order { reader.new.order ≡ reader.old.order }
+        → (progress_of reader.new ≡ Reading) × (R.left (source_of reader.new) < R.left (source_of reader.old))) }
+    ensures next { IfOk result (λ next. IsNext (offset_of reader.old) (offset_of reader.new) (order_of reader.old)
+        (R.remaining (source_of reader.old)) (R.remaining (source_of reader.new)) next) }
+    ensures order { order_of reader.new ≡ order_of reader.old }
 {
     match reader.next_unit_in(room) {
         Ok(Some(unit)) => Ok(Next::Unit(unit)),
