@@ -1,6 +1,7 @@
 -- Spans joined as they come, one after another.
 use Rattle.std.specs.Prelude.{◌≡◌, List, [], ◌∷◌, ◌++◌, map, Option, Some, None}
 use Rattle.lnt_spans.specs.declared.answer.Version.{Version}
+use Rattle.lnt_spans.specs.declared.joiner.Joiner.{Joiner}
 use Rattle.lnt_spans.specs.declared.position.Position.{Position}
 use Rattle.lnt_spans.specs.declared.span.Span.{Span}
 use Rattle.lnt_spans.specs.Spans.{AreInOrder, DifferWhereTheyTouch, span_answer, span_in_version, version_answer}
@@ -16,3 +17,13 @@ pub record IsJoined (version : Version) (pushed given : List Span) (last : Span)
 abbrev pub HasJoined : Version → List Span → List Span → Option Span → Type 0
 HasJoined version pushed given None = (pushed ≡ []) × (given ≡ [])
 HasJoined version pushed given (Some last) = IsJoined version pushed given last
+
+-- ---- what contracts see of a joiner
+
+-- the version, as which answers are told
+abbrev pub version_of : Joiner → Version
+version_of joiner = joiner.version
+
+-- the span that is kept, and may still grow, if there is one
+abbrev pub growing : Joiner → Option Span
+growing joiner = joiner.last
