@@ -1,21 +1,23 @@
 //! The words that judge a section.
-ghost use Rattle.std.specs.Prelude.{◌≡◌, IfErr, IfOk};
+ghost use Rattle.std.specs.Prelude.{◌≡◌, ◌⊎◌, ℕ, List, Option, IfErr, IfOk, OnErr};
+ghost use Rattle.std.specs.Io.KnownBytes.{Appends, Keeps};
+ghost use Rattle.lnt_output.specs.Fronts.{HasBegun};
 ghost use Rattle.lnt_cli.specs.Answered.{AnswersCheck, AnswersPlaces, IsChecked, options_in};
 ghost use Rattle.lnt_cli.specs.Stops.{IsUsage};
 ghost use Rattle.lnt_cli.specs.Stretches.{places_status};
-ghost use Rattle.lnt_cli.specs.Verdicts.{checked_status, compared_status, verdict_status};
+ghost use Rattle.lnt_cli.specs.Verdicts.{checked_status, checked_text, compared_status, verdict_status};
 
 use crate::inputs::{of_file, open_both};
 use crate::question::judge;
 use crate::session::Session;
 use crate::stop::CliStop;
 use crate::stretches::{Places, Stretches, print_stretches};
-use crate::table::print_check;
+use crate::table::print_checked;
 use lnt_lines::{JudgedIndex, No, Options};
 use lnt_notes::{Columns, Given, Hints, Seen, tell_agreed, tell_bad, tell_good, tell_table};
 use lnt_records::TableFault;
-use lnt_sources::{Opener, Status};
-use lnt_table::{Checked, ComparedByPath, TableNo, Verdict};
+use lnt_sources::{Halt, Opener, Status};
+use lnt_table::{Checked, ComparedByPath, TableNo, Verdict, check_any};
 use lnt_wire::Source;
 use lnt_words::Judging;
 use std::alloc::Global;
@@ -51,44 +53,46 @@ impl<O: Opener, W: Write, N: Write> Session<'_, '_, '_, O, W, N> {
         ensures usage { IfErr result (λ stop. IsUsage stop → ⊥) }
         ensures answer { IfOk result (λ status. AnswersCheck (O.tells self.old.opener.now) from.now table.now
             (W.contents self.old.out.now) (W.contents self.new.out.now) status) }
+        ensures stopped { OnErr result (Keeps (W.contents self.old.out.now) (W.contents self.new.out.now)
+            ⊎ HasBegun (AnswersCheck (O.tells self.old.opener.now) from.now table.now (W.contents self.old.out.now))
+            (W.contents self.old.out.now) (W.contents self.new.out.now)) }
         ensures same_reference { self.new.out.ghost_name ≡ self.old.out.ghost_name }
     {
         let seen = Cell::new(Seen::nothing());
-        let checked = judge_table(self.alloc, from, table, self.opener, &seen, self.out)?;
+        let checked = judge_table(self.alloc, from, table, self.opener, &seen)?;
+        print_checked(self.alloc, &checked, self.out)?;
         Ok(self.tell_checked(&checked, &seen.get(), from, table))
     }
 }
 
-// Judges whether the table of this name, of any version, answers as the section does, and prints the answer. Of the section's
-// bytes is kept what was seen.
-fn judge_table<O: Opener, W: Write>(
+// Judges whether the table of this name, of any version, answers as the section does. What it tells is the answer once its
+// line is printed. Of the section's bytes is kept what was seen.
+fn judge_table<O: Opener>(
     alloc: Global,
     from: &Judging<'_>,
     table: &str,
     opener: &mut O,
     seen: &Cell<Seen>,
-    out: &mut W,
 ) -> Result<Checked, CliStop>
     ensures usage { IfErr result (λ stop. IsUsage stop → ⊥) }
-    ensures checked { IfOk result (λ checked.
-        IsChecked (O.tells opener.old) from.now table.now (W.contents out.old) (W.contents out.new) checked) }
+    ensures checked { IfOk result (λ checked. (old new : Option (List ℕ)) → Appends old new (checked_text checked)
+        → IsChecked (O.tells opener.old) from.now table.now old new checked) }
 {
     let opened = open_both(alloc, opener, from, table, seen)?;
     let (texts, mut section, mut records) = (opened.texts, opened.section, opened.file);
-    match print_check(
+    match check_any(
         alloc,
         &mut section,
         &texts.strings(),
         &mut records,
         &options_of(from),
-        out,
     ) {
         Ok(checked) => Ok(checked),
         // The section is read first: where it was the cause, the table is as it was.
-        Err(halt) => {
+        Err(stop) => {
             let of_section = section.failures() > 0 || section.too_long();
             let name = if of_section { from.section } else { table };
-            Err(CliStop::of_file(alloc, name, halt))
+            Err(CliStop::of_file(alloc, name, Halt::from(stop)))
         }
     }
 }

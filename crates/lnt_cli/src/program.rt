@@ -1,8 +1,9 @@
 //! One run of the command.
-ghost use Rattle.std.specs.Prelude.{◌≡◌, map, string_bytes, IfErr, IfOk};
+ghost use Rattle.std.specs.Prelude.{◌≡◌, ◌⊎◌, map, string_bytes, IfErr, IfOk, OnErr};
 ghost use Rattle.std.specs.Io.KnownBytes.{Keeps};
 ghost use Rattle.lnt_cli.specs.Answered.{IsAnswered};
-ghost use Rattle.lnt_cli.specs.Runs.{AnswersWords};
+ghost use Rattle.lnt_cli.specs.Runs.{AnswersWords, StopsWords};
+ghost use Rattle.lnt_cli.specs.Stopped.{IsStopped};
 ghost use Rattle.lnt_cli.specs.Stops.{IsUsage};
 
 use crate::session::Session;
@@ -19,7 +20,8 @@ use std::io::Write;
 /// `out` isn't flushed, but where the lines of addresses are answered. A run is stopped by `Usage` before a file is
 /// opened, and `out` has then gained nothing; by `Read` or `TooLong` for a file that the words name; by `Write` where
 /// `out` failed, and then it holds a front of the text; and by `Memory`. Else there is a request that the words ask for, by
-/// `lnt_words::request_of`, and it is answered as [`answer`] does (`AnswersWords`).
+/// `lnt_words::request_of`, and it is answered as [`answer`] does (`AnswersWords`); where that is stopped, `out` has gained
+/// what [`answer`] says of it (`StopsWords`).
 ///
 /// What helps a person is written to `notes`, a line for each note, to be shown after the answer; nothing, where the
 /// words ask for no notes. A run isn't stopped where `notes` fails.
@@ -33,6 +35,8 @@ pub fn run<O: Opener, W: Write, N: Write>(
     ensures usage { IfErr result (λ stop. IsUsage stop → Keeps (W.contents out.old) (W.contents out.new)) }
     ensures answer { IfOk result (λ status. AnswersWords (O.tells opener.old) (map string_bytes words.items)
         (W.contents out.old) (W.contents out.new) status) }
+    ensures stopped { OnErr result (Keeps (W.contents out.old) (W.contents out.new)
+        ⊎ StopsWords (O.tells opener.old) (map string_bytes words.items) (W.contents out.old) (W.contents out.new)) }
 {
     let asked = match request_of(alloc, words.as_slice()) {
         Ok(asked) => asked,
@@ -57,7 +61,10 @@ pub fn run<O: Opener, W: Write, N: Write>(
 /// its frames, and of its first fault (`AnswersRead`). Where the lines of a file are answered, `out` has gained a line for each
 /// of them (`AnswersAddresses`).
 ///
-/// Nothing is said of what dumps print, nor of `out` where it stops. It stops as `run` does, and never by `Usage`.
+/// Where it stops and was to print help, or to tell whether a table answers as a section does, `out` has gained a front of an
+/// answer, and nothing else (`IsStopped`). It stops as `run` does, and never by `Usage`.
+///
+/// Nothing is said of what dumps print, nor of `out` where another answer is stopped.
 pub fn answer<O: Opener, W: Write, N: Write>(
     alloc: Global,
     asked: &Asked<'_>,
@@ -68,6 +75,7 @@ pub fn answer<O: Opener, W: Write, N: Write>(
     ensures usage { IfErr result (λ stop. IsUsage stop → ⊥) }
     ensures answer { IfOk result (λ status.
         IsAnswered (O.tells opener.old) asked.now.request (W.contents out.old) (W.contents out.new) status) }
+    ensures stopped { OnErr result (IsStopped (O.tells opener.old) asked.now.request (W.contents out.old) (W.contents out.new)) }
 {
     let mut session = Session {
         alloc,

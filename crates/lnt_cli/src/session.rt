@@ -1,13 +1,15 @@
 //! What a run works with, and how it answers.
-ghost use Rattle.std.specs.Prelude.{◌≡◌, ◌-◌, ◌^◌, ◌<◌, IfErr, IfOk, IfSome};
+ghost use Rattle.std.specs.Prelude.{◌≡◌, ◌-◌, ◌^◌, ◌<◌, IfErr, IfOk, IfSome, OnErr};
 ghost use Rattle.lnt_cli.specs.Answered.{AnswersRead, IsAnswered};
 ghost use Rattle.lnt_cli.specs.Readings.{AnswersReading};
+ghost use Rattle.lnt_cli.specs.Stopped.{IsStopped};
 ghost use Rattle.lnt_cli.specs.Stops.{IsUsage};
 
 use crate::inputs::{of_file, open_section};
 use crate::stop::CliStop;
 use lnt_dump::{Shown, print_converted, print_dump, print_units};
 use lnt_notes::{Seen, tell_refused};
+use lnt_output::write_whole;
 use lnt_sources::{Halt, Opener, Status};
 use lnt_wire::{Order, Source};
 use lnt_words::{Reading, Request};
@@ -31,6 +33,8 @@ impl<O: Opener, W: Write, N: Write> Session<'_, '_, '_, O, W, N> {
         ensures usage { IfErr result (λ stop. IsUsage stop → ⊥) }
         ensures answer { IfOk result (λ status. IsAnswered (O.tells self.old.opener.now) request.now
             (W.contents self.old.out.now) (W.contents self.new.out.now) status) }
+        ensures stopped { OnErr result (IsStopped (O.tells self.old.opener.now) request.now
+            (W.contents self.old.out.now) (W.contents self.new.out.now)) }
         ensures same_reference { self.new.out.ghost_name ≡ self.old.out.ghost_name }
     {
         let ended = self.answer_request(request);
@@ -44,11 +48,13 @@ impl<O: Opener, W: Write, N: Write> Session<'_, '_, '_, O, W, N> {
         ensures usage { IfErr result (λ stop. IsUsage stop → ⊥) }
         ensures answer { IfOk result (λ status. IsAnswered (O.tells self.old.opener.now) request.now
             (W.contents self.old.out.now) (W.contents self.new.out.now) status) }
+        ensures stopped { OnErr result (IsStopped (O.tells self.old.opener.now) request.now
+            (W.contents self.old.out.now) (W.contents self.new.out.now)) }
         ensures same_reference { self.new.out.ghost_name ≡ self.old.out.ghost_name }
     {
         match request {
             Request::Help(text) => {
-                self.out.write_all(text.as_bytes())?;
+                write_whole(self.out, text.as_bytes())?;
                 Ok(Status::Done)
             }
             Request::Read {

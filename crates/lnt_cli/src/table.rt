@@ -1,21 +1,22 @@
 //! The subcommands that read and write address tables: `table` and `check`.
-ghost use Rattle.std.specs.Prelude.{◌≡◌, ◌++◌, ◌-◌, ◌^◌, ◌<◌, Bool, ℕ, List, Option, IfOk, IfSome, OnOk};
+ghost use Rattle.std.specs.Prelude.{◌≡◌, Bool, ℕ, List, Option, IfErr, IfOk, OnErr, OnOk, string_bytes};
 ghost use Rattle.std.specs.Io.KnownBytes.{Appends};
+ghost use Rattle.lnt_output.specs.Fronts.{AppendsFront};
 ghost use Rattle.lnt_sources.specs.declared.status.Status.TheVariants.{Done};
-ghost use Rattle.lnt_table.specs.AnyVersion.{IsTrueCheck};
 ghost use Rattle.lnt_unit.specs.declared.unit.Parts.{Parts};
 ghost use Rattle.lnt_lines.specs.Indexed.{IsIndexOf};
 ghost use Rattle.lnt_table.specs.Written.{IsTableOfUnits};
+ghost use Rattle.lnt_cli.specs.Stops.{IsUsage};
 ghost use Rattle.lnt_cli.specs.Verdicts.{checked_text, compared_text, verdict_text};
 
-use crate::stop::halt_of;
+use crate::stop::{CliStop, halt_of};
 use crate::verdict::{PathDifferenceLine, TableNoLine};
-use lnt_lines::{Index, Options};
+use lnt_lines::Index;
+use lnt_output::write_whole;
 use lnt_sources::{Halt, Status};
 use lnt_spans::Version;
-use lnt_table::{Checked, ComparedByPath, TableNo, Verdict, check_any, write_index};
-use lnt_wire::{Source, Strings};
-use std::alloc::Global;
+use lnt_table::{Checked, ComparedByPath, TableNo, Verdict, write_index};
+use std::alloc::{AllocError, Global};
 use std::io::Write;
 
 // Prints the address table of a good section.
@@ -36,53 +37,52 @@ pub(crate) fn print_table<W: Write>(
     }
 }
 
-// Judges whether the table, of any version, answers as the section does, and prints the line of the answer, which is so, and
-// nothing else.
-pub(crate) fn print_check<R: Source, T: Source, W: Write>(
+// Prints the line of what a check answers, and nothing else; where it stops, a front of it.
+pub(crate) fn print_checked<W: Write>(
     alloc: Global,
-    section: &mut R,
-    strings: &Strings<'_>,
-    table: &mut T,
-    options: &Options,
+    checked: &Checked,
     out: &mut W,
-) -> Result<Checked, Halt>
-    requires section_fails { R.failures section.old < 2 ^ 64 - 1 }
-    requires table_fails { T.failures table.old < 2 ^ 64 - 1 }
-    ensures checked { IfOk result (λ checked. IfSome (R.remaining section.old) (λ bytes. IfSome (T.remaining table.old) (λ text.
-        IsTrueCheck strings.now.line.now strings.now.general.now options.now bytes text checked))) }
-    ensures line { IfOk result (λ checked. Appends (W.contents out.old) (W.contents out.new) (checked_text checked)) }
+) -> Result<(), CliStop>
+    ensures usage { IfErr result (λ stop. IsUsage stop → ⊥) }
+    ensures line { OnOk result (Appends (W.contents out.old) (W.contents out.new) (checked_text checked.now)) }
+    ensures front { OnErr result (AppendsFront (W.contents out.old) (W.contents out.new) (checked_text checked.now)) }
 {
-    let checked = check_any(alloc, section, strings, table, options)?;
-    match &checked {
-        Checked::Numbered(verdict) => print_verdict(*verdict, out)?,
-        Checked::ByPath(compared) => print_compared(compared, out)?,
-    }
-    Ok(checked)
+    let line = line_of(alloc, checked)?;
+    write_whole(out, line.as_bytes())?;
+    Ok(())
 }
 
-// Prints the line of a verdict on a table of version 1 or 2.
-fn print_verdict<W: Write>(verdict: Verdict, out: &mut W) -> Result<(), Halt>
-    ensures { OnOk result (Appends (W.contents out.old) (W.contents out.new) (verdict_text verdict)) }
+// The line of what a check answers.
+fn line_of(alloc: Global, checked: &Checked) -> Result<String, AllocError>
+    ensures { IfOk result (λ line. string_bytes line ≡ checked_text checked.now) }
+{
+    match checked {
+        Checked::Numbered(verdict) => verdict_line(alloc, *verdict),
+        Checked::ByPath(compared) => compared_line(alloc, compared),
+    }
+}
+
+// The line of a verdict on a table of version 1 or 2.
+fn verdict_line(alloc: Global, verdict: Verdict) -> Result<String, AllocError>
+    ensures { IfOk result (λ line. string_bytes line ≡ verdict_text verdict) }
 {
     match verdict {
-        Verdict::Yes => writeln!(out, "yes")?,
-        Verdict::No(no) => writeln!(out, "{}", TableNoLine(no))?,
+        Verdict::Yes => String::from_str(alloc, "yes\n"),
+        Verdict::No(no) => format!(in alloc; "{}\n", TableNoLine(no)),
     }
-    Ok(())
 }
 
-// Prints the line of what a comparison by path tells.
-fn print_compared<W: Write>(compared: &ComparedByPath, out: &mut W) -> Result<(), Halt>
-    ensures { OnOk result (Appends (W.contents out.old) (W.contents out.new) (compared_text compared.now)) }
+// The line of what a comparison by path tells.
+fn compared_line(alloc: Global, compared: &ComparedByPath) -> Result<String, AllocError>
+    ensures { IfOk result (λ line. string_bytes line ≡ compared_text compared.now) }
 {
     match compared {
-        ComparedByPath::Same => writeln!(out, "yes")?,
+        ComparedByPath::Same => String::from_str(alloc, "yes\n"),
         ComparedByPath::Fault(fault) => {
-            writeln!(out, "{}", TableNoLine(TableNo::from(*fault)))?;
+            format!(in alloc; "{}\n", TableNoLine(TableNo::from(*fault)))
         }
         ComparedByPath::Differs(difference) => {
-            writeln!(out, "{}", PathDifferenceLine(difference))?;
+            format!(in alloc; "{}\n", PathDifferenceLine(difference))
         }
     }
-    Ok(())
 }
