@@ -1,11 +1,23 @@
 -- Answers that were stopped.
-use Rattle.std.proofs.Common.{ℕ, List, ◌⊎◌, Option, Result, Ok, Err, OnErr, inr, refl}
+use Rattle.std.proofs.Common.{ℕ, List, ◌⊎◌, Option, IfSome, Result, Ok, Err, OnErr, inl, inr, refl}
 use Rattle.std.specs.Io.KnownBytes.{Appends, Keeps, append_known}
 use Rattle.lnt_output.specs.Fronts.{AppendsFront, HasBegun}
 use Rattle.lnt_output.proofs.FrontLaws.{appends_known}
+use Rattle.lnt_sources.specs.Files.{TellsNoMore}
+use Rattle.lnt_lines.specs.declared.options.Options.{Options}
+use Rattle.lnt_lines.specs.declared.section.JudgedIndex.{JudgedIndex}
+use Rattle.lnt_lines.specs.declared.section.JudgedIndex.TheVariants.{Good, Bad}
+use Rattle.lnt_lines.specs.Drafts.{IsJudgedIndex}
+use Rattle.lnt_lines.specs.Indexed.{Indexed}
 use Rattle.lnt_words.specs.declared.request.Judging.{Judging}
+use Rattle.lnt_words.specs.declared.request.Question.{Question}
+use Rattle.lnt_words.specs.declared.request.Question.TheVariants.{Verify, Lookup, Files, Table, TableByPath, Md5}
 use Rattle.lnt_table.specs.declared.by_path.Checked.{Checked}
-use Rattle.lnt_cli.specs.Answered.{AnswersCheck, IsChecked}
+use Rattle.lnt_answers.specs.Lines.{HasBegunLine}
+use Rattle.lnt_answers.specs.SumLines.{listed_files}
+use Rattle.lnt_answers.proofs.SumLaws.{sums_later}
+use Rattle.lnt_cli.specs.Answered.{AnswersCheck, AreTextsOf, IsChecked, options_in}
+use Rattle.lnt_cli.specs.Stopped.{BeginsGood, BeginsJudged, BeginsQuestion}
 use Rattle.lnt_cli.specs.Verdicts.{checked_status, checked_text}
 
 -- a front of the line of what a check answers, where that is the answer once its line is printed
@@ -30,3 +42,68 @@ pub check_stopped : {T E : Type 0} (tells : List ℕ → Option (List ℕ) → T
     → AppendsFront old new (checked_text checked) → OnErr ended (Keeps old new ⊎ HasBegun (AnswersCheck tells from table old) old new)
 check_stopped tells from table checked old new (Ok status) so front = tt
 check_stopped tells from table checked old new (Err stop) so front = inr (check_begun tells from table checked old new so front)
+
+-- ---- questions
+
+-- A section was judged so, and a front of the answer to the question was gained.
+abbrev pub Begins : (List ℕ → Option (List ℕ) → Type 0) → Options → Question → (JudgedIndex → Type 0) → Option (List ℕ) → Option (List ℕ)
+    → Type 0
+Begins tells options question IsSo old new =
+    Keeps old new ⊎ ((judged : JudgedIndex) × IsSo judged × BeginsJudged tells options question judged old new)
+
+-- a front of the line of a section that isn't good
+line_begun : (tells : List ℕ → Option (List ℕ) → Type 0) (options : Options) (question : Question) (IsSo : JudgedIndex → Type 0)
+    (old new : Option (List ℕ)) → Keeps old new ⊎ HasBegunLine IsSo old new → Begins tells options question IsSo old new
+line_begun tells options question IsSo old new (inl kept) = inl kept
+line_begun tells options question IsSo old new (inr line) = inr (Bad line.reason, line.is_so, line.front)
+
+pub begins_line : {T E : Type 0} (tells : List ℕ → Option (List ℕ) → Type 0) (options : Options) (question : Question)
+    (IsSo : JudgedIndex → Type 0) (old new : Option (List ℕ)) (ended : Result T E) → Keeps old new ⊎ HasBegunLine IsSo old new
+    → OnErr ended (Begins tells options question IsSo old new)
+begins_line tells options question IsSo old new (Ok answered) begun = tt
+begins_line tells options question IsSo old new (Err stop) begun = line_begun tells options question IsSo old new begun
+
+-- what was gained as less may be told of files is so by more
+good_begun_later : (tells tells' : List ℕ → Option (List ℕ) → Type 0) (options : Options) (question : Question) (index : Indexed)
+    (old new : Option (List ℕ)) → TellsNoMore tells tells' → BeginsGood tells' options question index old new
+    → BeginsGood tells options question index old new
+good_begun_later tells tells' options Verify index old new later begun = begun
+good_begun_later tells tells' options (Lookup positions) index old new later begun = begun
+good_begun_later tells tells' options Files index old new later begun = begun
+good_begun_later tells tells' options (Table version) index old new later begun = begun
+good_begun_later tells tells' options (TableByPath columns) index old new later begun = begun
+good_begun_later tells tells' options Md5 index old new later begun = record {
+  whole = begun.whole;
+  ending = begun.ending;
+  is_end =
+      sums_later tells tells' index (listed_files index) old (append_known old begun.whole) begun.ending later begun.is_end;
+  front = begun.front;
+}
+
+judged_begun_later : (tells tells' : List ℕ → Option (List ℕ) → Type 0) (options : Options) (question : Question) (judged : JudgedIndex)
+    (old new : Option (List ℕ)) → TellsNoMore tells tells' → BeginsJudged tells' options question judged old new
+    → BeginsJudged tells options question judged old new
+judged_begun_later tells tells' options question (Good index) old new later begun =
+    good_begun_later tells tells' options question index old new later begun
+judged_begun_later tells tells' options question (Bad reason) old new later begun = begun
+
+-- What was gained of the answer about a section that was judged, as less might be told of files, is so of the question.
+pub question_stopped : {T E : Type 0} (tells tells' : List ℕ → Option (List ℕ) → Type 0) (from : Judging) (question : Question)
+    (old new : Option (List ℕ)) (line general : List ℕ) (section : Option (List ℕ)) (ended : Result T E)
+    → AreTextsOf tells from line general → tells from.section.now section → TellsNoMore tells tells'
+    → OnErr ended (Begins tells' (options_in from) question
+    (λ judged. IfSome section (λ bytes. IsJudgedIndex line general (options_in from) bytes judged)) old new)
+    → OnErr ended (Keeps old new ⊎ BeginsQuestion tells from question old new)
+question_stopped tells tells' from question old new line general section (Ok answered) texts of_section later begun = tt
+question_stopped tells tells' from question old new line general section (Err stop) texts of_section later (inl kept) = inl kept
+question_stopped tells tells' from question old new line general section (Err stop) texts of_section later (inr begun) =
+    inr (record {
+      line = line;
+      general = general;
+      texts = texts;
+      section_bytes = section;
+      of_section = of_section;
+      judged = begun.0;
+      is_true = begun.1;
+      begun = judged_begun_later tells tells' (options_in from) question begun.0 old new later begun.2;
+    })

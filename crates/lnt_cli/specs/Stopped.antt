@@ -1,19 +1,65 @@
 -- What the writer of the answer has gained where the answer to a request was stopped: nothing, or a front of an answer.
 --     tells       what may be told of the files of names as the run begins
 --     old, new    what that writer holds before and afterwards
-use Rattle.std.specs.Prelude.{ℕ, List, ◌⊎◌, Option, true, false, string_bytes}
+use Rattle.std.specs.Prelude.{ℕ, List, ◌++◌, ◌⊎◌, Option, IfSome, true, false, codes, string_bytes}
+use Rattle.std.specs.List.{flat_map}
 use Rattle.std.specs.Io.KnownBytes.{Keeps}
 use Rattle.lnt_output.specs.Fronts.{AppendsFront, HasBegun}
+use Rattle.lnt_lines.specs.declared.options.Options.{Options}
+use Rattle.lnt_lines.specs.declared.section.JudgedIndex.{JudgedIndex}
+use Rattle.lnt_lines.specs.declared.section.JudgedIndex.TheVariants.{Good, Bad}
+use Rattle.lnt_lines.specs.Drafts.{IsJudgedIndex}
+use Rattle.lnt_lines.specs.Indexed.{Indexed}
+use Rattle.lnt_words.specs.declared.request.Judging.{Judging}
+use Rattle.lnt_words.specs.declared.request.Question.{Question}
+use Rattle.lnt_words.specs.declared.request.Question.TheVariants.{Verify, Lookup, Files, Md5}
 use Rattle.lnt_words.specs.declared.request.Request.{Request}
 use Rattle.lnt_words.specs.declared.request.Request.TheVariants.{Help, Read, Judge, Addresses, Check}
-use Rattle.lnt_cli.specs.Answered.{AnswersCheck}
+use Rattle.lnt_answers.specs.FileLines.{files_text}
+use Rattle.lnt_answers.specs.Lines.{lookup_line}
+use Rattle.lnt_answers.specs.SumLines.{AreSumsTold, listed_files}
+use Rattle.lnt_answers.specs.Texts.{no_text}
+use Rattle.lnt_cli.specs.Answered.{AnswersCheck, AreTextsOf, options_in}
+use Rattle.lnt_cli.specs.Questions.{ForUnitsOf}
 
--- Where the answer to a request was stopped. Nothing is said yet of sections that are read, of questions about a section, of the
--- lines of a file, and of a check of all places.
+-- ---- sections that are judged
+
+-- A front of what is answered of a good section with this index. Of its table nothing is said.
+abbrev pub BeginsGood : (List ℕ → Option (List ℕ) → Type 0) → Options → Question → Indexed → Option (List ℕ) → Option (List ℕ) → Type 0
+BeginsGood tells options Verify index old new = AppendsFront old new (codes "yes\n")
+BeginsGood tells options (Lookup positions) index old new =
+    ForUnitsOf options index
+    (λ units. AppendsFront old new (flat_map (lookup_line index options.dead options.skip_copies units) positions.items))
+BeginsGood tells options Files index old new = AppendsFront old new (files_text index)
+BeginsGood tells options Md5 index old new = HasBegun (AreSumsTold tells index (listed_files index) old) old new
+BeginsGood tells options other index old new = Unit {0}
+
+-- A front of what is answered of a section that was judged so.
+abbrev pub BeginsJudged : (List ℕ → Option (List ℕ) → Type 0) → Options → Question → JudgedIndex → Option (List ℕ) → Option (List ℕ)
+    → Type 0
+BeginsJudged tells options question (Good index) old new = BeginsGood tells options question index old new
+BeginsJudged tells options question (Bad reason) old new = AppendsFront old new (no_text reason ++ codes "\n")
+
+-- What is told of the section whose file is named is so, and the writer has gained a front of the answer to the question.
+pub record BeginsQuestion (tells : List ℕ → Option (List ℕ) → Type 0) (from : Judging) (question : Question) (old new : Option (List ℕ))
+    : Type 0 where
+  pub line : List ℕ
+  pub general : List ℕ
+  pub texts : AreTextsOf tells from line general
+  pub section_bytes : Option (List ℕ)
+  pub of_section : tells from.section.now section_bytes
+  pub judged : JudgedIndex
+  pub is_true : IfSome section_bytes (λ section. IsJudgedIndex line general (options_in from) section judged)
+  pub begun : BeginsJudged tells (options_in from) question judged old new
+
+-- ---- requests
+
+-- Where the answer to a request was stopped. Nothing is said yet of sections that are read, of the lines of a file, and of a check
+-- of all places.
 abbrev pub IsStopped : (List ℕ → Option (List ℕ) → Type 0) → Request → Option (List ℕ) → Option (List ℕ) → Type 0
 IsStopped tells (Help text) old new = AppendsFront old new (string_bytes text)
 IsStopped tells (Read section order reading) old new = Unit {0}
-IsStopped tells (Judge from question) old new = Unit {0}
+IsStopped tells (Judge from question) old new = Keeps old new ⊎ BeginsQuestion tells from question old new
 IsStopped tells (Addresses from file op) old new = Unit {0}
 IsStopped tells (Check from table false) old new = Keeps old new ⊎ HasBegun (AnswersCheck tells from table.now old) old new
 IsStopped tells (Check from table true) old new = Unit {0}

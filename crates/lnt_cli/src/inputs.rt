@@ -1,5 +1,5 @@
 //! The files that a run reads.
-ghost use Rattle.std.specs.Prelude.{◌≡◌, IfErr, IfOk, Ok};
+ghost use Rattle.std.specs.Prelude.{◌≡◌, IfErr, IfOk, IsErr, Ok, OnErr};
 ghost use Rattle.std.specs.Option.{option_copied};
 ghost use Rattle.lnt_sources.specs.Files.{TellsNoMore};
 ghost use Rattle.lnt_cli.specs.Answered.{AreStringsOf, AreTextsOf};
@@ -40,6 +40,7 @@ impl Texts {
 pub(crate) fn of_file<T>(alloc: Global, name: &str, ended: Result<T, Halt>) -> Result<T, CliStop>
     ensures ok { IfOk result (λ value. ended ≡ Ok value) }
     ensures told { IfErr result (λ stop. IfErr ended (λ halt. IsFileStop halt name.now stop)) }
+    ensures err { OnErr result (IsErr ended) }
     ensures usage { IfErr result (λ stop. IsUsage stop → ⊥) }
 {
     match ended {

@@ -61,8 +61,9 @@ pub fn run<O: Opener, W: Write, N: Write>(
 /// its frames, and of its first fault (`AnswersRead`). Where the lines of a file are answered, `out` has gained a line for each
 /// of them (`AnswersAddresses`).
 ///
-/// Where it stops and was to print help, or to tell whether a table answers as a section does, `out` has gained a front of an
-/// answer, and nothing else (`IsStopped`). It stops as `run` does, and never by `Usage`.
+/// Where it stops and was to print help, to tell whether a table answers as a section does, or to answer a question about a
+/// section other than for its table, `out` has gained a front of an answer, and nothing else (`IsStopped`). It stops as `run`
+/// does, and never by `Usage`.
 ///
 /// Nothing is said of what dumps print, nor of `out` where another answer is stopped.
 pub fn answer<O: Opener, W: Write, N: Write>(

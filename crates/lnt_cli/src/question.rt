@@ -1,9 +1,11 @@
 //! Questions about a good section.
-ghost use Rattle.std.specs.Prelude.{◌≡◌, ◌-◌, ◌^◌, ◌<◌, IfErr, IfOk, IfSome};
+ghost use Rattle.std.specs.Prelude.{◌≡◌, ◌-◌, ◌^◌, ◌<◌, ◌⊎◌, IfErr, IfOk, IfSome, OnErr};
+ghost use Rattle.std.specs.Io.KnownBytes.{Keeps};
 ghost use Rattle.lnt_answers.specs.AddressLines.{AreAddressesTold};
-ghost use Rattle.lnt_answers.specs.Lines.{IsIndexGiven, IsTold};
+ghost use Rattle.lnt_answers.specs.Lines.{HasBegunLine, IsIndexGiven, IsTold};
 ghost use Rattle.lnt_cli.specs.Answered.{AnswersAddresses, AnswersQuestion, options_in};
 ghost use Rattle.lnt_cli.specs.Questions.{AnswersAddressesJudged, AnswersGood, AnswersJudged};
+ghost use Rattle.lnt_cli.specs.Stopped.{BeginsGood, BeginsJudged, BeginsQuestion};
 ghost use Rattle.lnt_cli.specs.Stops.{IsUsage};
 ghost use Rattle.lnt_lines.specs.Drafts.{IsJudgedIndex};
 ghost use Rattle.lnt_lines.specs.declared.options.Options.{Options as OptionsSpec};
@@ -20,6 +22,7 @@ use lnt_answers::{
 };
 use lnt_lines::{Index, JudgedIndex, No};
 use lnt_notes::{Hints, Seen, hints_of};
+use lnt_output::write_whole;
 use lnt_sources::{Halt, Opener, Status};
 use lnt_table::PathVersion;
 use lnt_wire::Source;
@@ -52,6 +55,9 @@ impl<O: Opener, W: Write, N: Write> Session<'_, '_, '_, O, W, N> {
         ensures usage { IfErr result (λ stop. IsUsage stop → ⊥) }
         ensures answer { IfOk result (λ status. AnswersQuestion (O.tells self.old.opener.now) from.now question.now
             (W.contents self.old.out.now) (W.contents self.new.out.now) status) }
+        ensures stopped { OnErr result (Keeps (W.contents self.old.out.now) (W.contents self.new.out.now)
+            ⊎ BeginsQuestion (O.tells self.old.opener.now) from.now question.now (W.contents self.old.out.now)
+            (W.contents self.new.out.now)) }
         ensures same_reference { self.new.out.ghost_name ≡ self.old.out.ghost_name }
     {
         let seen = Cell::new(Seen::nothing());
@@ -100,6 +106,8 @@ fn answer_alone<O: Opener, W: Write>(
     ensures usage { IfErr result (λ stop. IsUsage stop → ⊥) }
     ensures answer { IfOk result (λ answered. AnswersQuestion (O.tells opener.old) from.now question.now
         (W.contents out.old) (W.contents out.new) answered.status) }
+    ensures stopped { OnErr result (Keeps (W.contents out.old) (W.contents out.new)
+        ⊎ BeginsQuestion (O.tells opener.old) from.now question.now (W.contents out.old) (W.contents out.new)) }
 {
     let mut opened = open_judged(alloc, opener, from, seen)?;
     let files = &mut opened;
@@ -124,6 +132,10 @@ fn answer_opened<R: Source, O: Opener, W: Write>(
         IsJudgedIndex texts.now.line.items texts.now.general.items (options_in from.now) bytes judged)
         × AnswersJudged (O.tells opener.old) (options_in from.now) question.now judged (W.contents out.old) (W.contents out.new)
         answered.status) }
+    ensures stopped { OnErr result (Keeps (W.contents out.old) (W.contents out.new) ⊎ ((judged : JudgedIndex)
+        × IfSome (R.remaining section.old) (λ bytes.
+        IsJudgedIndex texts.now.line.items texts.now.general.items (options_in from.now) bytes judged)
+        × BeginsJudged (O.tells opener.old) (options_in from.now) question.now judged (W.contents out.old) (W.contents out.new))) }
 {
     match judge(alloc, section, texts, from, out)? {
         JudgedIndex::Good(index) => answer_good(alloc, from.section, &index, question, opener, out),
@@ -143,6 +155,8 @@ fn answer_good<O: Opener, W: Write>(
     ensures usage { IfErr result (λ stop. IsUsage stop → ⊥) }
     ensures answer { IfOk result (λ answered. (options : OptionsSpec)
         → AnswersGood (O.tells opener.old) options question.now index.now (W.contents out.old) (W.contents out.new) answered.status) }
+    ensures stopped { OnErr result ((options : OptionsSpec)
+        → BeginsGood (O.tells opener.old) options question.now index.now (W.contents out.old) (W.contents out.new)) }
 {
     let printed = print_answer(alloc, index, question, opener, out);
     let status = of_file(alloc, section, printed)?;
@@ -228,6 +242,10 @@ pub(crate) fn judge<'t, R: Source, W: Write>(
         IsJudgedIndex texts.now.line.items texts.now.general.items (options_in from.now) bytes judged)) }
     ensures told { IfOk result (λ judged. IsTold judged (W.contents out.old) (W.contents out.new)) }
     ensures silent { IfOk result (λ judged. IsIndexGiven judged → out.new ≡ out.old) }
+    ensures stopped { OnErr result (Keeps (W.contents out.old) (W.contents out.new) ⊎ HasBegunLine (λ judged.
+        IfSome (R.remaining section.old) (λ bytes.
+        IsJudgedIndex texts.now.line.items texts.now.general.items (options_in from.now) bytes judged))
+        (W.contents out.old) (W.contents out.new)) }
 {
     let judged = judge_section(alloc, section, &texts.strings(), &options_of(from), out);
     of_file(alloc, from.section, judged)
@@ -253,12 +271,14 @@ fn print_answer<O: Opener, W: Write>(
     opener: &mut O,
     out: &mut W,
 ) -> Result<Status, Halt>
-    ensures { IfOk result (λ status. (options : OptionsSpec)
+    ensures answer { IfOk result (λ status. (options : OptionsSpec)
         → AnswersGood (O.tells opener.old) options question.now index.now (W.contents out.old) (W.contents out.new) status) }
+    ensures stopped { OnErr result ((options : OptionsSpec)
+        → BeginsGood (O.tells opener.old) options question.now index.now (W.contents out.old) (W.contents out.new)) }
 {
     match question {
         Question::Verify => {
-            writeln!(out, "yes")?;
+            write_whole(out, b"yes\n")?;
             Ok(Status::Done)
         }
         Question::Lookup(positions) => print_lookups(alloc, index, positions, out),
