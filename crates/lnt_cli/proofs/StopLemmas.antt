@@ -17,7 +17,7 @@ use Rattle.lnt_answers.specs.Lines.{HasBegunLine}
 use Rattle.lnt_answers.specs.SumLines.{listed_files}
 use Rattle.lnt_answers.proofs.SumLaws.{sums_later}
 use Rattle.lnt_cli.specs.Answered.{AnswersCheck, AreTextsOf, IsChecked, options_in}
-use Rattle.lnt_cli.specs.Stopped.{BeginsGood, BeginsJudged, BeginsQuestion}
+use Rattle.lnt_cli.specs.Stopped.{BeginsAddresses, BeginsAddressesJudged, BeginsGood, BeginsJudged, BeginsQuestion}
 use Rattle.lnt_cli.specs.Verdicts.{checked_status, checked_text}
 
 -- a front of the line of what a check answers, where that is the answer once its line is printed
@@ -106,4 +106,41 @@ question_stopped tells tells' from question old new line general section (Err st
       judged = begun.0;
       is_true = begun.1;
       begun = judged_begun_later tells tells' (options_in from) question begun.0 old new later begun.2;
+    })
+
+-- ---- lines of a file
+
+-- A section was judged so, and a front of the answer to the text was gained.
+abbrev pub BeginsLines : (JudgedIndex → Type 0) → ℕ → Option (List ℕ) → Option (List ℕ) → Option (List ℕ) → Type 0
+BeginsLines IsSo op text old new =
+    Keeps old new ⊎ ((judged : JudgedIndex) × IsSo judged × BeginsAddressesJudged judged op text old new)
+
+-- a front of the line of a section that isn't good
+pub lines_not_begun : {T E : Type 0} (IsSo : JudgedIndex → Type 0) (op : ℕ) (text old new : Option (List ℕ)) (ended : Result T E)
+    → Keeps old new ⊎ HasBegunLine IsSo old new → OnErr ended (BeginsLines IsSo op text old new)
+lines_not_begun IsSo op text old new (Ok answered) begun = tt
+lines_not_begun IsSo op text old new (Err stop) (inl kept) = inl kept
+lines_not_begun IsSo op text old new (Err stop) (inr line) = inr (Bad line.reason, line.is_so, line.front)
+
+-- What was gained of the answer to the text of a file is so of that file.
+pub addresses_stopped : {T E : Type 0} (tells : List ℕ → Option (List ℕ) → Type 0) (from : Judging) (file : List ℕ) (op : ℕ)
+    (old new : Option (List ℕ)) (line general : List ℕ) (section text : Option (List ℕ)) (ended : Result T E)
+    → AreTextsOf tells from line general → tells from.section.now section → tells file text
+    → OnErr ended (BeginsLines (λ judged. IfSome section (λ bytes. IsJudgedIndex line general (options_in from) bytes judged)) op text
+    old new)
+    → OnErr ended (Keeps old new ⊎ BeginsAddresses tells from file op old new)
+addresses_stopped tells from file op old new line general section text (Ok answered) texts of_section of_text begun = tt
+addresses_stopped tells from file op old new line general section text (Err stop) texts of_section of_text (inl kept) = inl kept
+addresses_stopped tells from file op old new line general section text (Err stop) texts of_section of_text (inr begun) =
+    inr (record {
+      line = line;
+      general = general;
+      texts = texts;
+      section_bytes = section;
+      of_section = of_section;
+      judged = begun.0;
+      is_true = begun.1;
+      text_bytes = text;
+      of_text = of_text;
+      begun = begun.2;
     })

@@ -15,6 +15,7 @@ use Rattle.lnt_words.specs.declared.request.Question.{Question}
 use Rattle.lnt_words.specs.declared.request.Question.TheVariants.{Verify, Lookup, Files, Md5}
 use Rattle.lnt_words.specs.declared.request.Request.{Request}
 use Rattle.lnt_words.specs.declared.request.Request.TheVariants.{Help, Read, Judge, Addresses, Check}
+use Rattle.lnt_answers.specs.AddressLines.{AreAddressesBegun}
 use Rattle.lnt_answers.specs.FileLines.{files_text}
 use Rattle.lnt_answers.specs.Lines.{lookup_line}
 use Rattle.lnt_answers.specs.SumLines.{AreSumsTold, listed_files}
@@ -52,14 +53,33 @@ pub record BeginsQuestion (tells : List ℕ → Option (List ℕ) → Type 0) (f
   pub is_true : IfSome section_bytes (λ section. IsJudgedIndex line general (options_in from) section judged)
   pub begun : BeginsJudged tells (options_in from) question judged old new
 
+-- A front of what is answered to a text whose lines tell positions, where the section was judged so.
+abbrev pub BeginsAddressesJudged : JudgedIndex → ℕ → Option (List ℕ) → Option (List ℕ) → Option (List ℕ) → Type 0
+BeginsAddressesJudged (Good index) op text old new = AreAddressesBegun index op text old new
+BeginsAddressesJudged (Bad reason) op text old new = AppendsFront old new (no_text reason ++ codes "\n")
+
+-- What is told of the section whose file is named is so, and the writer has gained a front of the answer to the text of the file of
+-- this name, whose lines tell positions.
+pub record BeginsAddresses (tells : List ℕ → Option (List ℕ) → Type 0) (from : Judging) (file : List ℕ) (op : ℕ)
+    (old new : Option (List ℕ)) : Type 0 where
+  pub line : List ℕ
+  pub general : List ℕ
+  pub texts : AreTextsOf tells from line general
+  pub section_bytes : Option (List ℕ)
+  pub of_section : tells from.section.now section_bytes
+  pub judged : JudgedIndex
+  pub is_true : IfSome section_bytes (λ section. IsJudgedIndex line general (options_in from) section judged)
+  pub text_bytes : Option (List ℕ)
+  pub of_text : tells file text_bytes
+  pub begun : BeginsAddressesJudged judged op text_bytes old new
+
 -- ---- requests
 
--- Where the answer to a request was stopped. Nothing is said yet of sections that are read, of the lines of a file, and of a check
--- of all places.
+-- Where the answer to a request was stopped. Nothing is said yet of sections that are read, and of a check of all places.
 abbrev pub IsStopped : (List ℕ → Option (List ℕ) → Type 0) → Request → Option (List ℕ) → Option (List ℕ) → Type 0
 IsStopped tells (Help text) old new = AppendsFront old new (string_bytes text)
 IsStopped tells (Read section order reading) old new = Unit {0}
 IsStopped tells (Judge from question) old new = Keeps old new ⊎ BeginsQuestion tells from question old new
-IsStopped tells (Addresses from file op) old new = Unit {0}
+IsStopped tells (Addresses from file op) old new = Keeps old new ⊎ BeginsAddresses tells from file.now op old new
 IsStopped tells (Check from table false) old new = Keeps old new ⊎ HasBegun (AnswersCheck tells from table.now old) old new
 IsStopped tells (Check from table true) old new = Unit {0}

@@ -1,11 +1,11 @@
 //! Questions about a good section.
 ghost use Rattle.std.specs.Prelude.{◌≡◌, ◌-◌, ◌^◌, ◌<◌, ◌⊎◌, IfErr, IfOk, IfSome, OnErr};
 ghost use Rattle.std.specs.Io.KnownBytes.{Keeps};
-ghost use Rattle.lnt_answers.specs.AddressLines.{AreAddressesTold};
+ghost use Rattle.lnt_answers.specs.AddressLines.{AreAddressesBegun, AreAddressesTold};
 ghost use Rattle.lnt_answers.specs.Lines.{HasBegunLine, IsIndexGiven, IsTold};
 ghost use Rattle.lnt_cli.specs.Answered.{AnswersAddresses, AnswersQuestion, options_in};
 ghost use Rattle.lnt_cli.specs.Questions.{AnswersAddressesJudged, AnswersGood, AnswersJudged};
-ghost use Rattle.lnt_cli.specs.Stopped.{BeginsGood, BeginsJudged, BeginsQuestion};
+ghost use Rattle.lnt_cli.specs.Stopped.{BeginsAddresses, BeginsAddressesJudged, BeginsGood, BeginsJudged, BeginsQuestion};
 ghost use Rattle.lnt_cli.specs.Stops.{IsUsage};
 ghost use Rattle.lnt_lines.specs.Drafts.{IsJudgedIndex};
 ghost use Rattle.lnt_lines.specs.declared.options.Options.{Options as OptionsSpec};
@@ -76,6 +76,9 @@ impl<O: Opener, W: Write, N: Write> Session<'_, '_, '_, O, W, N> {
         ensures usage { IfErr result (λ stop. IsUsage stop → ⊥) }
         ensures answer { IfOk result (λ status. AnswersAddresses (O.tells self.old.opener.now) from.now file.now op
             (W.contents self.old.out.now) (W.contents self.new.out.now) status) }
+        ensures stopped { OnErr result (Keeps (W.contents self.old.out.now) (W.contents self.new.out.now)
+            ⊎ BeginsAddresses (O.tells self.old.opener.now) from.now file.now op (W.contents self.old.out.now)
+            (W.contents self.new.out.now)) }
         ensures same_reference { self.new.out.ghost_name ≡ self.old.out.ghost_name }
     {
         let seen = Cell::new(Seen::nothing());
@@ -177,6 +180,8 @@ fn answer_lines<O: Opener, W: Write>(
     ensures usage { IfErr result (λ stop. IsUsage stop → ⊥) }
     ensures answer { IfOk result (λ answered. AnswersAddresses (O.tells opener.old) from.now file.now op
         (W.contents out.old) (W.contents out.new) answered.status) }
+    ensures stopped { OnErr result (Keeps (W.contents out.old) (W.contents out.new)
+        ⊎ BeginsAddresses (O.tells opener.old) from.now file.now op (W.contents out.old) (W.contents out.new)) }
 {
     let opened = open_both(alloc, opener, from, file, seen)?;
     let (texts, mut section, mut lines) = (opened.texts, opened.section, opened.file);
@@ -201,6 +206,10 @@ fn answer_lines_of<R: Source, T: Source, W: Write>(
         × IfSome (R.remaining section.old) (λ bytes.
         IsJudgedIndex texts.now.line.items texts.now.general.items (options_in from.now) bytes judged)
         × AnswersAddressesJudged judged op (T.remaining lines.old) (W.contents out.old) (W.contents out.new) answered.status) }
+    ensures stopped { OnErr result (Keeps (W.contents out.old) (W.contents out.new) ⊎ ((judged : JudgedIndex)
+        × IfSome (R.remaining section.old) (λ bytes.
+        IsJudgedIndex texts.now.line.items texts.now.general.items (options_in from.now) bytes judged)
+        × BeginsAddressesJudged judged op (T.remaining lines.old) (W.contents out.old) (W.contents out.new))) }
 {
     match judge(alloc, section, texts, from, out)? {
         JudgedIndex::Good(index) => print_lines(alloc, &index, file, op, lines, out),
@@ -221,6 +230,8 @@ fn print_lines<T: Source, W: Write>(
     ensures usage { IfErr result (λ stop. IsUsage stop → ⊥) }
     ensures answer { IfOk result (λ answered. AreAddressesTold index.now op (T.remaining lines.old)
         (W.contents out.old) (W.contents out.new) answered.status) }
+    ensures stopped { OnErr result (AreAddressesBegun index.now op (T.remaining lines.old)
+        (W.contents out.old) (W.contents out.new)) }
 {
     let printed = print_addresses(alloc, index, lines, op, out);
     let status = of_file(alloc, file, printed)?;
