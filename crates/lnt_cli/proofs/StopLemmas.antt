@@ -1,5 +1,6 @@
 -- Answers that were stopped.
-use Rattle.std.proofs.Common.{ℕ, List, ◌⊎◌, Option, IfSome, Result, Ok, Err, OnErr, inl, inr, refl}
+use Rattle.std.proofs.Common.{ℕ, List, ◌⊎◌, Option, IfSome, IsErr, Result, Ok, Err, OnErr, inl, inr, refl}
+use Rattle.std.proofs.lemmas.Bool.{false≢true}
 use Rattle.std.specs.Io.KnownBytes.{Appends, Keeps, append_known}
 use Rattle.lnt_output.specs.Fronts.{AppendsFront, HasBegun}
 use Rattle.lnt_output.proofs.FrontLaws.{appends_known}
@@ -42,6 +43,15 @@ pub check_stopped : {T E : Type 0} (tells : List ℕ → Option (List ℕ) → T
     → AppendsFront old new (checked_text checked) → OnErr ended (Keeps old new ⊎ HasBegun (AnswersCheck tells from table old) old new)
 check_stopped tells from table checked old new (Ok status) so front = tt
 check_stopped tells from table checked old new (Err stop) so front = inr (check_begun tells from table checked old new so front)
+
+-- ---- sections that are read
+
+-- what is so where the work on a file was stopped is so where the run was stopped for it
+pub file_stopped : {T S E : Type 0} (Gained : Type 0) (worked : Result T E) (ended : Result T S) → OnErr ended (IsErr worked)
+    → OnErr worked Gained → OnErr ended Gained
+file_stopped Gained worked (Ok value) is gained = tt
+file_stopped Gained (Ok value) (Err stop) is gained = absurd (false≢true is)
+file_stopped Gained (Err halt) (Err stop) is gained = gained
 
 -- ---- questions
 

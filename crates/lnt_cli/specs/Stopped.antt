@@ -5,6 +5,7 @@ use Rattle.std.specs.Prelude.{ℕ, List, ◌++◌, ◌⊎◌, Option, IfSome, tr
 use Rattle.std.specs.List.{flat_map}
 use Rattle.std.specs.Io.KnownBytes.{Keeps}
 use Rattle.lnt_output.specs.Fronts.{AppendsFront, HasBegun}
+use Rattle.lnt_wire.specs.declared.format.Order.{Order}
 use Rattle.lnt_lines.specs.declared.options.Options.{Options}
 use Rattle.lnt_lines.specs.declared.section.JudgedIndex.{JudgedIndex}
 use Rattle.lnt_lines.specs.declared.section.JudgedIndex.TheVariants.{Good, Bad}
@@ -13,6 +14,7 @@ use Rattle.lnt_lines.specs.Indexed.{Indexed}
 use Rattle.lnt_words.specs.declared.request.Judging.{Judging}
 use Rattle.lnt_words.specs.declared.request.Question.{Question}
 use Rattle.lnt_words.specs.declared.request.Question.TheVariants.{Verify, Lookup, Files, Md5}
+use Rattle.lnt_words.specs.declared.request.Reading.{Reading}
 use Rattle.lnt_words.specs.declared.request.Request.{Request}
 use Rattle.lnt_words.specs.declared.request.Request.TheVariants.{Help, Read, Judge, Addresses, Check}
 use Rattle.lnt_answers.specs.AddressLines.{AreAddressesBegun}
@@ -22,6 +24,7 @@ use Rattle.lnt_answers.specs.SumLines.{AreSumsTold, listed_files}
 use Rattle.lnt_answers.specs.Texts.{no_text}
 use Rattle.lnt_cli.specs.Answered.{AnswersCheck, AreTextsOf, options_in}
 use Rattle.lnt_cli.specs.Questions.{ForUnitsOf}
+use Rattle.lnt_cli.specs.Readings.{BeginsReading}
 
 -- ---- sections that are judged
 
@@ -73,12 +76,21 @@ pub record BeginsAddresses (tells : List ℕ → Option (List ℕ) → Type 0) (
   pub of_text : tells file text_bytes
   pub begun : BeginsAddressesJudged judged op text_bytes old new
 
+-- ---- sections that are read
+
+-- What is told of the section whose file is named is so, and the writer has gained a front of it.
+pub record StopsRead (tells : List ℕ → Option (List ℕ) → Type 0) (section : List ℕ) (order : Order) (reading : Reading)
+    (old new : Option (List ℕ)) : Type 0 where
+  pub section_bytes : Option (List ℕ)
+  pub of_section : tells section section_bytes
+  pub begun : IfSome section_bytes (λ bytes. BeginsReading order reading bytes old new)
+
 -- ---- requests
 
--- Where the answer to a request was stopped. Nothing is said yet of sections that are read, and of a check of all places.
+-- Where the answer to a request was stopped. Nothing is said of dumps, of tables that are written, and of a check of all places.
 abbrev pub IsStopped : (List ℕ → Option (List ℕ) → Type 0) → Request → Option (List ℕ) → Option (List ℕ) → Type 0
 IsStopped tells (Help text) old new = AppendsFront old new (string_bytes text)
-IsStopped tells (Read section order reading) old new = Unit {0}
+IsStopped tells (Read section order reading) old new = Keeps old new ⊎ StopsRead tells section.now order reading old new
 IsStopped tells (Judge from question) old new = Keeps old new ⊎ BeginsQuestion tells from question old new
 IsStopped tells (Addresses from file op) old new = Keeps old new ⊎ BeginsAddresses tells from file.now op old new
 IsStopped tells (Check from table false) old new = Keeps old new ⊎ HasBegun (AnswersCheck tells from table.now old) old new

@@ -61,9 +61,10 @@ pub fn run<O: Opener, W: Write, N: Write>(
 /// its frames, and of its first fault (`AnswersRead`). Where the lines of a file are answered, `out` has gained a line for each
 /// of them (`AnswersAddresses`).
 ///
-/// Where it stops and was to print help, to tell whether a table answers as a section does, to answer a question about a
-/// section other than for its table, or to answer the lines of a file, `out` has gained a front of an answer, and nothing else
-/// (`IsStopped`); of a file, a front of the answers to its first lines. It stops as `run` does, and never by `Usage`.
+/// Where it stops and was to print help, to list the units of a section, to convert it, to tell whether a table answers as a
+/// section does, to answer a question about a section other than for its table, or to answer the lines of a file, `out` has
+/// gained a front of an answer, and nothing else (`IsStopped`); of a file, a front of the answers to its first lines. It stops
+/// as `run` does, and never by `Usage`.
 ///
 /// Nothing is said of what dumps print, nor of `out` where another answer is stopped.
 pub fn answer<O: Opener, W: Write, N: Write>(

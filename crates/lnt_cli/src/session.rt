@@ -1,8 +1,9 @@
 //! What a run works with, and how it answers.
-ghost use Rattle.std.specs.Prelude.{◌≡◌, ◌-◌, ◌^◌, ◌<◌, IfErr, IfOk, IfSome, OnErr};
+ghost use Rattle.std.specs.Prelude.{◌≡◌, ◌-◌, ◌^◌, ◌<◌, ◌⊎◌, IfErr, IfOk, IfSome, OnErr};
+ghost use Rattle.std.specs.Io.KnownBytes.{Keeps};
 ghost use Rattle.lnt_cli.specs.Answered.{AnswersRead, IsAnswered};
-ghost use Rattle.lnt_cli.specs.Readings.{AnswersReading};
-ghost use Rattle.lnt_cli.specs.Stopped.{IsStopped};
+ghost use Rattle.lnt_cli.specs.Readings.{AnswersReading, BeginsReading};
+ghost use Rattle.lnt_cli.specs.Stopped.{IsStopped, StopsRead};
 ghost use Rattle.lnt_cli.specs.Stops.{IsUsage};
 
 use crate::inputs::{of_file, open_section};
@@ -100,6 +101,9 @@ impl<O: Opener, W: Write, N: Write> Session<'_, '_, '_, O, W, N> {
     ) -> Result<Status, Halt>
         ensures answer { IfOk result (λ status. AnswersRead (O.tells self.old.opener.now) section.now order reading
             (W.contents self.old.out.now) (W.contents self.new.out.now) status) }
+        ensures stopped { OnErr result (Keeps (W.contents self.old.out.now) (W.contents self.new.out.now)
+            ⊎ StopsRead (O.tells self.old.opener.now) section.now order reading
+            (W.contents self.old.out.now) (W.contents self.new.out.now)) }
         ensures same_reference { self.new.out.ghost_name ≡ self.old.out.ghost_name }
     {
         let seen = Cell::new(Seen::nothing());
@@ -113,7 +117,6 @@ impl<O: Opener, W: Write, N: Write> Session<'_, '_, '_, O, W, N> {
 }
 
 // Prints a section, as it is to be read.
-#[tactic(auto, using(crate::proofs::ReadingLemmas::units_told))]
 fn print_reading<R: Source, W: Write>(
     alloc: Global,
     source: &mut R,
@@ -122,8 +125,10 @@ fn print_reading<R: Source, W: Write>(
     out: &mut W,
 ) -> Result<Status, Halt>
     requires { R.failures source.old < 2 ^ 64 - 1 }
-    ensures { IfOk result (λ status. IfSome (R.remaining source.old) (λ bytes.
+    ensures told { IfOk result (λ status. IfSome (R.remaining source.old) (λ bytes.
         AnswersReading order reading bytes (W.contents out.old) (W.contents out.new) status)) }
+    ensures begun { OnErr result (IfSome (R.remaining source.old) (λ bytes. Keeps (W.contents out.old) (W.contents out.new)
+        ⊎ BeginsReading order reading bytes (W.contents out.old) (W.contents out.new))) }
 {
     match reading {
         Reading::Units => print_units(alloc, source, order, out),
