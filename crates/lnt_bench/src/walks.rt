@@ -85,7 +85,7 @@ fn sum_of_ops(unit: &UnitView<'_>) -> u64 {
     sum
 }
 
-#[tactic(auto, using(lnt_machine::specs::Laws::Walks::step_allowed))]
+#[tactic(auto, using(lnt_machine::proofs::WalkLaws::step_allowed))]
 fn sum_of_rows(unit: &UnitView<'_>) -> u64 {
     let mut machine = Machine::new(unit.header());
     let mut sum = 0u64;

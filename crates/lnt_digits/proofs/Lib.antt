@@ -2,3 +2,4 @@ pub mod DigitLemmas
 pub mod OneTextLemmas
 pub mod PutLemmas
 pub mod ReadLemmas
+pub mod TextLaws

@@ -1,4 +1,3 @@
-pub mod Texts
 -- What the laws of numbers as text say.
 use Rattle.std.specs.Prelude.{◌≡◌, ℕ, List}
 use Rattle.lnt_digits.specs.Digits.{IsPlainAddress, IsPlainDecimal}

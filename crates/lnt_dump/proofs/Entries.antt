@@ -10,9 +10,9 @@ use Rattle.lnt_wire.specs.declared.format.Order.{Order}
 use Rattle.lnt_header.specs.declared.header.Pair.{Pair}
 use Rattle.lnt_header_bytes.specs.Borrowed.{BorrowedTable, AreEntryBytes, Passes}
 use Rattle.lnt_header_bytes.specs.Layouts.{entry_of}
-use Rattle.lnt_header_bytes.specs.Laws.Passed.{one_after, one_there}
-use Rattle.lnt_header_bytes.specs.Laws.Tables.{entry_code}
-use Rattle.lnt_header_bytes.specs.Laws.Values as laws
+use Rattle.lnt_header_bytes.proofs.PassedLaws.{one_after, one_there}
+use Rattle.lnt_header_bytes.proofs.TableLaws.{entry_code}
+use Rattle.lnt_header_bytes.proofs.ValueLaws as laws
 use Rattle.lnt_header_bytes.specs.Marks.{from_entry}
 use Rattle.lnt_header_bytes.specs.TableBytes.{EntryBytes}
 

@@ -15,8 +15,8 @@ use Rattle.lnt_sources.specs.declared.status.Status.{Status}
 use Rattle.lnt_sources.specs.declared.status.Status.TheVariants.{No}
 use Rattle.lnt_unit.specs.ConvertedUnits.{ConvertedTo, Converts}
 use Rattle.lnt_unit.specs.Converting.{unit_in_format, units_in_format, IsConverted, IsConvertFault}
-use Rattle.lnt_unit.specs.Laws.Converted.{whole_converted}
-use Rattle.lnt_unit.specs.Laws.Units.{one_spelling, unit_is_some}
+use Rattle.lnt_unit.proofs.ConvertedLaws.{whole_converted}
+use Rattle.lnt_unit.proofs.UnitLaws.{one_spelling, unit_is_some}
 use Rattle.lnt_unit.specs.UnitBytes.{SectionBytes, UnitBytesIn, UnitsFrom}
 use Rattle.lnt_unit.specs.declared.convert.ConvertFault.{ConvertFault}
 use Rattle.lnt_unit.specs.declared.unit.Parts.{Parts}

@@ -11,7 +11,7 @@ use std::io::Write;
 
 // Prints a line for each operation of a unit, and judges its program as it goes; where rows are shown too, also whether
 // it runs.
-#[tactic(auto, using(lnt_machine::specs::Laws::Walks::step_allowed))]
+#[tactic(auto, using(lnt_machine::proofs::WalkLaws::step_allowed))]
 pub(crate) fn print_ops<W: Write>(
     sheet: &Sheet<'_>,
     page: &mut Page,

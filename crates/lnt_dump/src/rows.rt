@@ -7,7 +7,7 @@ use lnt_machine::{Machine, Row};
 use std::io::Write;
 
 // Prints a line for each row of a unit, and judges its program as it goes.
-#[tactic(auto, using(lnt_machine::specs::Laws::Walks::step_allowed))]
+#[tactic(auto, using(lnt_machine::proofs::WalkLaws::step_allowed))]
 pub(crate) fn print_rows<W: Write>(
     sheet: &Sheet<'_>,
     page: &mut Page,

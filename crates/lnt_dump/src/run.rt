@@ -5,7 +5,7 @@ use lnt_unit::UnitInPlace;
 
 // Runs the program of a unit. It refuses with the fault of the first operation that isn't there, and else with that of
 // the run.
-#[tactic(auto, using(lnt_machine::specs::Laws::Walks::step_allowed))]
+#[tactic(auto, using(lnt_machine::proofs::WalkLaws::step_allowed))]
 pub(crate) fn run(unit: &UnitInPlace<'_>) -> Result<(), Stop> {
     let mut machine = Machine::new(unit.numbers());
     let mut open = false;

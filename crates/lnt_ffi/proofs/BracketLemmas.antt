@@ -12,8 +12,8 @@ use Rattle.lnt_spans.specs.declared.position.Position.{Position}
 use Rattle.lnt_spans.specs.declared.span.Span.{Span}
 use Rattle.lnt_spans.specs.Positions.{IsBelow, IsAtMost}
 use Rattle.lnt_spans.specs.Spans.{AreInOrder}
-use Rattle.lnt_spans.specs.Laws.Between.{ends_before, none_empty}
-use Rattle.lnt_spans.specs.Laws.Bracket.{IsBracket}
+use Rattle.lnt_spans.proofs.BetweenLaws.{ends_before, none_empty}
+use Rattle.lnt_spans.specs.Brackets.{IsBracket}
 use Rattle.lnt_ffi.specs.declared.flat.FlatSpan.{FlatSpan}
 use Rattle.lnt_ffi.specs.Flat.{nothing, span_of}
 use Rattle.lnt_ffi.specs.Index.{begins_below, bucket, first_low, IsIndex, last_low, spans_below}

@@ -4,7 +4,7 @@ use Rattle.std.proofs.Common.{arith}
 use Rattle.std.proofs.lemmas.List.{length-append, map-append, take_more_set}
 use Rattle.lnt_spans.specs.declared.span.Span.{Span}
 use Rattle.lnt_spans.specs.Coming.{GivesFirst}
-use Rattle.lnt_spans.specs.Laws.Coming.{all_given, HasGiven, none_given, one_given}
+use Rattle.lnt_spans.proofs.ComingLaws.{all_given, HasGiven, none_given, one_given}
 use Rattle.lnt_ffi.specs.declared.flat.FlatSpan.{FlatSpan}
 use Rattle.lnt_ffi.specs.Flat.{span_of}
 

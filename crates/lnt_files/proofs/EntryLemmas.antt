@@ -15,7 +15,7 @@ use Rattle.lnt_wire.specs.declared.form.FormValue.{FormValue}
 use Rattle.lnt_wire.specs.declared.format.Format.{Format}
 use Rattle.lnt_wire.specs.declared.view.ValueView.{ValueView}
 use Rattle.lnt_header_bytes.specs.Layouts.{forms_of, entry_of}
-use Rattle.lnt_header_bytes.specs.Laws.Values.{AreReadTo, read_none, read_more, entry_read, no_entry}
+use Rattle.lnt_header_bytes.proofs.ValueLaws.{AreReadTo, read_none, read_more, entry_read, no_entry}
 use Rattle.lnt_header_bytes.specs.TableBytes.{EntryBytes}
 use Rattle.lnt_header.specs.declared.header.Pair.{Pair}
 use Rattle.lnt_files.specs.Contents.{content_path, content_directory_index, content_md5}

@@ -6,7 +6,7 @@ use Rattle.std.specs.List.{AllByRecursion, slice_get}
 use Rattle.std.specs.Option.{option_map, option_and_then}
 use Rattle.lnt_header.specs.declared.header.Entry.{Entry}
 use Rattle.lnt_header.specs.declared.header.HeaderParts.{HeaderParts}
-use Rattle.lnt_header.specs.Laws.Firsts.{all_at}
+use Rattle.lnt_header.proofs.FirstLaws.{all_at}
 use Rattle.lnt_files.specs.Contents.{path_text, directory_number}
 use Rattle.lnt_files.specs.Paths.{begins_with_slash, join, directory_text, below_first, directory_path, below_directory, file_path}
 use Rattle.lnt_files.specs.Tables.{HasPath, HasDirectory, AreUsableTables}

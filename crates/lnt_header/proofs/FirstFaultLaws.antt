@@ -9,7 +9,7 @@ use Rattle.lnt_header.specs.FirstFaults.{FirstOf, FirstOfSeveral}
 use Rattle.lnt_header.specs.FirstFaults.FirstOf.{first, second}
 use Rattle.lnt_header.specs.FirstFaults.FirstOfSeveral.{next}
 use Rattle.lnt_header.specs.Joins.{Both, Each, Several}
-use Rattle.lnt_header.specs.Laws.Readers.{none_first, none_second, none_several}
+use Rattle.lnt_header.proofs.ReaderLaws.{none_first, none_second, none_several}
 
 -- Faults that say no two things of the same bytes: one reason, at one place.
 abbrev pub AreOne : (Reason → List ℕ → List ℕ → Type 0) → Type 0

@@ -1,2 +1,9 @@
+pub mod ByteLaws
+pub mod ConversionLaws
 pub mod FirstFaultLaws
+pub mod FirstLaws
+pub mod ListLaws
+pub mod PutLaws
+pub mod ReaderLaws
+pub mod ShortestLaws
 pub mod TestLemmas

@@ -15,7 +15,7 @@ use Rattle.lnt_header.specs.declared.header.Entry.{Entry}
 use Rattle.lnt_header.specs.declared.header.HeaderParts.{HeaderParts}
 use Rattle.lnt_header.specs.declared.header.Pair.{Pair}
 use Rattle.lnt_header.specs.declared.header.EntryTable.TheVariants.{Directories, Files}
-use Rattle.lnt_header.specs.Laws.Firsts.{first_is_wrong}
+use Rattle.lnt_header.proofs.FirstLaws.{first_is_wrong}
 use Rattle.lnt_header.specs.HeaderRules.{IsAddressSize, AreStandardLengths, six_bytes, HasHeaderNumbers}
 use Rattle.lnt_header.specs.OpRules.{known_lengths}
 use Rattle.lnt_header.specs.HeaderRules.{IsEntryOf, IsTable, IsHeader}

@@ -6,5 +6,4 @@ pub mod FirstFaults
 pub mod HeaderRules
 pub mod HeaderTests
 pub mod Joins
-pub mod Laws
 pub mod OpRules

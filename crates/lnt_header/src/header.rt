@@ -145,7 +145,7 @@ impl Header {
 
     /// The header in this format and order: these two are changed, and nothing else (DWARF 5, sections 6.2.4 and 7.4).
     /// It takes no memory, and refuses nothing.
-    #[tactic(auto, using(crate::specs::Laws::Conversions::header_in_format))]
+    #[tactic(auto, using(crate::proofs::ConversionLaws::header_in_format))]
     pub fn with_format(self, format: Format, order: Order) -> Header
         ensures { result ≡ in_format self format order }
     {

@@ -89,7 +89,7 @@ fn is_format(pairs: &[Pair], entries: &[Entry]) -> bool
 }
 
 // The index of the first entry that hasn't one value of the right form for each pair; none where each has.
-#[tactic(auto, using(crate::specs::Laws::Firsts::all_more, crate::specs::Laws::Firsts::all_taken, crate::specs::Laws::Firsts::first_not))]
+#[tactic(auto, using(crate::proofs::FirstLaws::all_more, crate::proofs::FirstLaws::all_taken, crate::proofs::FirstLaws::first_not))]
 fn first_of_no_format(entries: &[Entry], pairs: &[Pair]) -> Option<u64>
     ensures { MatchOption result (AllByRecursion (IsOfFormat pairs.now) entries.now)
         (λ index. IsFirstNot (IsOfFormat pairs.now) entries.now index) }
@@ -135,7 +135,7 @@ fn fits_its_form(value: &FormValue) -> bool
 }
 
 // The index of the first entry with a zero byte in a text, at which a reader would end it; none where there is none.
-#[tactic(auto, using(crate::specs::Laws::Firsts::all_more, crate::specs::Laws::Firsts::all_taken, crate::specs::Laws::Firsts::first_not))]
+#[tactic(auto, using(crate::proofs::FirstLaws::all_more, crate::proofs::FirstLaws::all_taken, crate::proofs::FirstLaws::first_not))]
 fn first_with_zero(entries: &[Entry]) -> Option<u64>
     ensures { MatchOption result (AllByRecursion HasSoundTexts entries.now) (λ index. IsFirstNot HasSoundTexts entries.now index) }
 {
@@ -147,7 +147,7 @@ fn first_with_zero(entries: &[Entry]) -> Option<u64>
     None
 }
 
-#[tactic(auto, using(crate::specs::Laws::Firsts::all_more, crate::specs::Laws::Firsts::all_taken, crate::specs::Laws::Firsts::not_all))]
+#[tactic(auto, using(crate::proofs::FirstLaws::all_more, crate::proofs::FirstLaws::all_taken, crate::proofs::FirstLaws::not_all))]
 fn has_sound_texts(entry: &Entry) -> bool
     ensures { IsTrue result ↔ HasSoundTexts entry.now }
 {

@@ -24,8 +24,8 @@ use Rattle.lnt_header.specs.Encoding.{RefusedPut, EntryParts}
 use Rattle.lnt_header_bytes.specs.HeaderPuts.{around, AddsAround}
 use Rattle.lnt_header.specs.HeaderRules.{IsEntryOf, IsTable, IsHeader, six_bytes, single_bytes}
 use Rattle.lnt_header.specs.Joins.{Each}
-use Rattle.lnt_header_bytes.specs.Laws.Programs.{length-initial-same, length-around, length-body, fits_less}
-use Rattle.lnt_header.specs.Laws.Puts.{byte_put, join_put, put_as, each_begun, each_more, each_done, each_refused}
+use Rattle.lnt_header_bytes.proofs.ProgramLaws.{length-initial-same, length-around, length-body, fits_less}
+use Rattle.lnt_header.proofs.PutLaws.{byte_put, join_put, put_as, each_begun, each_more, each_done, each_refused}
 use Rattle.lnt_header_bytes.specs.TableBytes.{PairBytes, ValuesBytes, EntryBytes, TableOf}
 
 -- ---- pairs

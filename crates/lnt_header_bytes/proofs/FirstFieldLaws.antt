@@ -17,7 +17,7 @@ use Rattle.lnt_header_bytes.specs.Broken.{InHeader, IsFirstField, sound_start}
 use Rattle.lnt_header_bytes.specs.Broken.IsFirstField.{frame, start, counted}
 use Rattle.lnt_header_bytes.specs.FieldsBytes.{IsHeaderFault}
 use Rattle.lnt_header.specs.HeaderRules.{IsAddressSize}
-use Rattle.lnt_header_bytes.specs.Laws.Headers.{below}
+use Rattle.lnt_header_bytes.proofs.HeaderLaws.{below}
 use Rattle.lnt_header_bytes.specs.StartBytes.{IsStartFault}
 use Rattle.lnt_header.proofs.FirstFaultLaws.{AreOne}
 use Rattle.lnt_header_bytes.proofs.FieldsFaultLaws.{fields_fault}

@@ -22,7 +22,7 @@ use Rattle.lnt_header_bytes.specs.FieldsBytes.{FieldsBytes, IsHeaderFault}
 use Rattle.lnt_header_bytes.specs.HeaderBytes.{HeaderFieldsBytes, unit_body, HeaderBytesIn}
 use Rattle.lnt_header_bytes.specs.HeaderReading.{standing, IsAfterVersion, HasFields}
 use Rattle.lnt_header.specs.HeaderRules.{IsAddressSize}
-use Rattle.lnt_header_bytes.specs.Laws.Headers.{laid, regroup, same_laid, below, length-laid}
+use Rattle.lnt_header_bytes.proofs.HeaderLaws.{laid, regroup, same_laid, below, length-laid}
 use Rattle.lnt_header_bytes.specs.StartBytes.{StartBytes, IsStartFault}
 use Rattle.lnt_header_bytes.specs.TableBytes.{TableOf}
 use Rattle.lnt_header_bytes.proofs.Places.{at_header, at_start}

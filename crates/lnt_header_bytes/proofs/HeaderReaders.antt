@@ -11,14 +11,14 @@ use Rattle.lnt_wire.specs.declared.fault.Reason.TheVariants.{Truncated, MaxOpsZe
 use Rattle.lnt_wire.specs.declared.format.Format.{Format}
 use Rattle.lnt_wire.specs.declared.format.Order.{Order}
 use Rattle.lnt_wire.proofs.LengthLaws.{same_front}
-use Rattle.lnt_header.specs.Laws.Readers.{first_refused, second_refused, reads_both}
+use Rattle.lnt_header.proofs.ReaderLaws.{first_refused, second_refused, reads_both}
 use Rattle.lnt_header.specs.declared.header.Entry.{Entry}
 use Rattle.lnt_header.specs.declared.header.Pair.{Pair}
 use Rattle.lnt_header_bytes.specs.TableBytes.{TableOf}
 use Rattle.lnt_header_bytes.specs.TableFaults.{IsTableFault}
 use Rattle.lnt_header_bytes.specs.FieldsBytes.{FieldsBytes, AfterSingles, AfterLengths, TwoTables, TwoTablesFault, AfterSinglesFault}
 use Rattle.lnt_header_bytes.specs.FieldsBytes.{IsHeaderFault}
-use Rattle.lnt_header_bytes.specs.Laws.Tables.{same_table}
+use Rattle.lnt_header_bytes.proofs.TableLaws.{same_table}
 use Rattle.lnt_header_bytes.specs.declared.numbers.Singles.{Singles}
 use Rattle.lnt_header.specs.HeaderRules.{AreStandardLengths}
 use Rattle.lnt_header.specs.OpRules.{known_lengths}

@@ -10,8 +10,8 @@ use Rattle.lnt_wire.specs.declared.format.Order.{Order}
 use Rattle.lnt_header.specs.declared.header.Entry.{Entry}
 use Rattle.lnt_header.specs.Joins.{Each, Several}
 use Rattle.lnt_header_bytes.specs.Borrowed.{BorrowedTable, AreEntryBytes, PassesAll}
-use Rattle.lnt_header_bytes.specs.Laws.Passed.{others_after, several_there}
-use Rattle.lnt_header_bytes.specs.Laws.Tables.{entry_code}
+use Rattle.lnt_header_bytes.proofs.PassedLaws.{others_after, several_there}
+use Rattle.lnt_header_bytes.proofs.TableLaws.{entry_code}
 use Rattle.lnt_header_bytes.specs.Marks.{from_entry, BeginsAt, AreMarksFrom, AreMarks}
 use Rattle.lnt_header_bytes.specs.TableBytes.{EntryBytes}
 

@@ -15,12 +15,12 @@ use Rattle.lnt_header.specs.declared.header.Pair.{Pair}
 use Rattle.lnt_header_bytes.specs.declared.table.Layout.TheVariants.{Path, IndexedPath, SummedPath}
 use Rattle.lnt_header_bytes.specs.Borrowed.{Passes, PassesAll}
 use Rattle.lnt_header.specs.Joins.{Each, Several}
-use Rattle.lnt_header.specs.Laws.Readers.{reads_map}
+use Rattle.lnt_header.proofs.ReaderLaws.{reads_map}
 use Rattle.lnt_header_bytes.specs.Layouts.{IsLayout, entry_of}
 use Rattle.lnt_header_bytes.specs.TableBytes.{ValuesBytes, EntryBytes}
 use Rattle.lnt_header_bytes.specs.TableFaults.{IsEntryFault, IsEntriesFault}
 use Rattle.lnt_header_bytes.proofs.ShortLemmas.{path_values, indexed_values, summed_values, entry_refused}
-use Rattle.lnt_header_bytes.specs.Laws.Values.{values_none, values_next}
+use Rattle.lnt_header_bytes.proofs.ValueLaws.{values_none, values_next}
 use Rattle.lnt_header_bytes.proofs.TableReaders.{refuses_values_at, entries_none, entries_more, refuses_entries}
 
 -- ---- one entry

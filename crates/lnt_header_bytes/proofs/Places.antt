@@ -19,7 +19,7 @@ use Rattle.lnt_header.specs.FirstFaults.FirstOf.{first, second}
 use Rattle.lnt_header_bytes.specs.HeaderFaults.{SinglesBytes, IsSinglesFault, IsLengthsFault}
 use Rattle.lnt_header_bytes.specs.declared.numbers.Singles.{Singles}
 use Rattle.lnt_header_bytes.proofs.WrongTables.{small_offset, IsWrongTable, wrong_after, wrong_table}
-use Rattle.lnt_header.specs.Laws.Readers.{cut_later}
+use Rattle.lnt_header.proofs.ReaderLaws.{cut_later}
 
 cut_at : (order : Order) (before left from : List ℕ) → 0 < length before → UpToLimit order left before from → IsCutField before left
     → IsAt order Truncated before from

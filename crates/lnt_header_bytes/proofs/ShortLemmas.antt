@@ -14,11 +14,11 @@ use Rattle.lnt_header.specs.declared.header.Entry.{Entry}
 use Rattle.lnt_header.specs.declared.header.Pair.{Pair}
 use Rattle.lnt_header_bytes.specs.declared.table.Layout.TheVariants.{Path, IndexedPath, SummedPath}
 use Rattle.lnt_header.specs.Joins.{Each}
-use Rattle.lnt_header.specs.Laws.Readers.{refuses_map, reads_map}
+use Rattle.lnt_header.proofs.ReaderLaws.{refuses_map, reads_map}
 use Rattle.lnt_header_bytes.specs.Layouts.{forms_of, IsLayout, ReadsNext, entry_of}
 use Rattle.lnt_header_bytes.specs.TableBytes.{ValuesBytes, EntryBytes}
 use Rattle.lnt_header_bytes.specs.TableFaults.{IsEntryFault}
-use Rattle.lnt_header_bytes.specs.Laws.Values.{values_none, values_more}
+use Rattle.lnt_header_bytes.proofs.ValueLaws.{values_none, values_more}
 use Rattle.lnt_header_bytes.proofs.TableReaders.{refuses_values, entries_more}
 
 same_head : {X : Type 0} (x y : X) (xs ys : List X) → x ∷ xs ≡ y ∷ ys → x ≡ y

@@ -23,8 +23,8 @@ use Rattle.lnt_header_bytes.specs.HeaderBytes.{HeaderBytes, HeaderFieldsBytes, u
 use Rattle.lnt_header.specs.HeaderRules.{IsEntryOf, IsHeader, IsTable, six_bytes}
 use Rattle.lnt_header.specs.Joins.{Each}
 use Rattle.lnt_header_bytes.specs.Laws.{AllowedIsSpelled}
-use Rattle.lnt_header_bytes.specs.Laws.Programs.{fits_less, length-body}
-use Rattle.lnt_header.specs.Laws.Shortest.{each_shortest}
+use Rattle.lnt_header_bytes.proofs.ProgramLaws.{fits_less, length-body}
+use Rattle.lnt_header.proofs.ShortestLaws.{each_shortest}
 use Rattle.lnt_header_bytes.specs.Spelled.{FitsFields, FitsTable, HasSmallOffsets, LengthsFit, OffsetsFit}
 use Rattle.lnt_header_bytes.specs.TableBytes.{EntryBytes, PairBytes, TableBytes, TableOf, ValuesBytes}
 use Rattle.lnt_header_bytes.proofs.Allowed.{spelled_header}

@@ -11,7 +11,7 @@ use Rattle.lnt_wire.proofs.FieldFaultLaws.{IsOneFieldFault}
 use Rattle.lnt_wire.proofs.LengthLaws.{length-number_bytes, same_number_front}
 use Rattle.lnt_wire.proofs.ValueLaws.{offset_width}
 use Rattle.lnt_header.specs.HeaderRules.{IsAddressSize}
-use Rattle.lnt_header.specs.Laws.Bytes.{byte_code}
+use Rattle.lnt_header.proofs.ByteLaws.{byte_code}
 use Rattle.lnt_header_bytes.specs.StartBytes.{AddressSizeBytes, AfterSize, CountedBytes, IsCountedFault, IsSelectorFault, IsSizeFault}
 use Rattle.lnt_header_bytes.specs.StartBytes.{IsStartFault, SelectorBytes, StartBytes}
 use Rattle.lnt_header_bytes.specs.StartBytes.IsStartFault.{address_size, selector, header_length}

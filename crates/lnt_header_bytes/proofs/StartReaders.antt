@@ -14,13 +14,13 @@ use Rattle.lnt_wire.proofs.CodeLaws.{number_code}
 use Rattle.lnt_wire.proofs.LengthLaws.{same_rest}
 use Rattle.lnt_wire.proofs.ValueLaws.{offset_width}
 use Rattle.lnt_header.specs.HeaderRules.{IsAddressSize}
-use Rattle.lnt_header.specs.Laws.Bytes.{byte_code, one_digit}
+use Rattle.lnt_header.proofs.ByteLaws.{byte_code, one_digit}
 use Rattle.lnt_header_bytes.specs.StartBytes.{AddressSizeBytes, IsSizeFault, SelectorBytes, IsSelectorFault, CountedBytes, IsCountedFault}
 use Rattle.lnt_header_bytes.specs.StartBytes.{AfterSize, StartBytes, IsStartFault}
 use Rattle.lnt_header_bytes.specs.StartBytes.IsStartFault.{address_size, selector, header_length}
 use Rattle.lnt_header.specs.Joins.{Both}
-use Rattle.lnt_header.specs.Laws.Readers.{any_local, nothing_asked, moved_field, refuses_field, reads_map, reads_both, refuses_first}
-use Rattle.lnt_header.specs.Laws.Readers.{refuses_second}
+use Rattle.lnt_header.proofs.ReaderLaws.{any_local, nothing_asked, moved_field, refuses_field, reads_map, reads_both, refuses_first}
+use Rattle.lnt_header.proofs.ReaderLaws.{refuses_second}
 
 -- ---- one byte
 

@@ -22,11 +22,11 @@ use Rattle.lnt_header.specs.declared.header.Pair.{Pair}
 use Rattle.lnt_header.specs.FirstFaults.FirstOf.{first, second}
 use Rattle.lnt_header.specs.FirstFaults.FirstOfSeveral.{next}
 use Rattle.lnt_header.specs.Joins.{Both, Several}
-use Rattle.lnt_header.specs.Laws.Lists.{several_code}
-use Rattle.lnt_header.specs.Laws.Bytes.{one_digit}
-use Rattle.lnt_header.specs.Laws.Readers.{none_first, none_second}
-use Rattle.lnt_header_bytes.specs.Laws.Tables.{entry_code, pair_code}
-use Rattle.lnt_header_bytes.specs.Laws.Values.{none_values}
+use Rattle.lnt_header.proofs.ListLaws.{several_code}
+use Rattle.lnt_header.proofs.ByteLaws.{one_digit}
+use Rattle.lnt_header.proofs.ReaderLaws.{none_first, none_second}
+use Rattle.lnt_header_bytes.proofs.TableLaws.{entry_code, pair_code}
+use Rattle.lnt_header_bytes.proofs.ValueLaws.{none_values}
 use Rattle.lnt_header_bytes.specs.TableBytes.{EntryBytes, PairBytes, TableOf, ValuesBytes}
 use Rattle.lnt_header_bytes.specs.TableFaults.{AfterCountFault, AfterPairsFault, IsCodeFault, IsCountFault, IsEntriesFault, IsEntryFault}
 use Rattle.lnt_header_bytes.specs.TableFaults.{IsNumberFault, IsPairFault, IsPairsFault, IsSizeFault, IsTableFault}

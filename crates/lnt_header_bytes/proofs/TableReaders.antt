@@ -18,9 +18,9 @@ use Rattle.lnt_wire.specs.declared.fault.Reason.TheVariants.{UnknownForm, EmptyF
 use Rattle.lnt_wire.proofs.CodeLaws.{unsigned_code, number_code}
 use Rattle.lnt_wire.proofs.LengthLaws.{width_1}
 use Rattle.lnt_header.specs.Joins.{Both, Several, Each}
-use Rattle.lnt_header.specs.Laws.Lists.{several_code}
-use Rattle.lnt_header.specs.Laws.Readers.{refuses_here, moved_field, refuses_field, refuses_map, reads_map, reads_both, first_refused}
-use Rattle.lnt_header.specs.Laws.Readers.{second_refused, several_refused, reads_none, reads_more}
+use Rattle.lnt_header.proofs.ListLaws.{several_code}
+use Rattle.lnt_header.proofs.ReaderLaws.{refuses_here, moved_field, refuses_field, refuses_map, reads_map, reads_both, first_refused}
+use Rattle.lnt_header.proofs.ReaderLaws.{second_refused, several_refused, reads_none, reads_more}
 use Rattle.lnt_header.specs.declared.header.Entry.{Entry}
 use Rattle.lnt_header.specs.declared.header.Pair.{Pair}
 use Rattle.lnt_header_bytes.specs.TableBytes.{PairBytes, ValuesBytes, EntryBytes, TableOf}
@@ -30,9 +30,9 @@ use Rattle.lnt_header_bytes.specs.TableFaults.{IsSizeFault, AfterPairsFault, Aft
 use Rattle.lnt_header_bytes.specs.TableFaults.IsCodeFault.{no_code}
 use Rattle.lnt_header_bytes.specs.TableFaults.IsEntryFault.{no_value}
 use Rattle.lnt_header_bytes.specs.TableFaults.IsSizeFault.{no_size}
-use Rattle.lnt_header_bytes.specs.Laws.Tables.{pair_code, entry_code}
-use Rattle.lnt_header.specs.Laws.Bytes.{one_digit}
-use Rattle.lnt_header_bytes.specs.Laws.Values.{none_values}
+use Rattle.lnt_header_bytes.proofs.TableLaws.{pair_code, entry_code}
+use Rattle.lnt_header.proofs.ByteLaws.{one_digit}
+use Rattle.lnt_header_bytes.proofs.ValueLaws.{none_values}
 
 -- numbers that are refused
 refuses_leb : (old : At) (fault : Fault) → RefusesField (IsLebFault IsLargeUnsigned) UnsignedLeb old fault

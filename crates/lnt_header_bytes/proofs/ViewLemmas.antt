@@ -19,7 +19,7 @@ use Rattle.lnt_header_bytes.specs.HeaderFaults.{SinglesBytes, LengthsBytes}
 use Rattle.lnt_header_bytes.specs.HeaderReading.{HasFields, AreFields}
 use Rattle.lnt_header.specs.HeaderRules.{IsAddressSize, IsHeader}
 use Rattle.lnt_header.specs.Joins.{Each, Several}
-use Rattle.lnt_header_bytes.specs.Laws.Borrowed.{all_found, entries_found, header_without_entries}
+use Rattle.lnt_header_bytes.proofs.BorrowedLaws.{all_found, entries_found, header_without_entries}
 use Rattle.lnt_header_bytes.specs.TableBytes.{PairBytes, EntryBytes, TableOf}
 use Rattle.lnt_header_bytes.proofs.Allowed.{found_header}
 use Rattle.lnt_header_bytes.proofs.DecodeLemmas.{fields_found}

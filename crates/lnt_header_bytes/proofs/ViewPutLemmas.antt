@@ -20,10 +20,10 @@ use Rattle.lnt_header.specs.Encoding.{EntryParts, RefusedPut, NoSpelling}
 use Rattle.lnt_header_bytes.specs.HeaderBytes.{HeaderBytesIn, HeaderFieldsBytes}
 use Rattle.lnt_header_bytes.specs.HeaderPuts.{around, AddsAround, AddsEntry, RefusesEntry}
 use Rattle.lnt_header.specs.Joins.{Each}
-use Rattle.lnt_header_bytes.specs.Laws.Borrowed.{others_spelled}
-use Rattle.lnt_header.specs.Laws.Puts.{each_begun, each_put, put_as}
-use Rattle.lnt_header_bytes.specs.Laws.Tables.{entry_code}
-use Rattle.lnt_header_bytes.specs.Laws.Values.{AreReadTo, read_none, read_more, entry_read}
+use Rattle.lnt_header_bytes.proofs.BorrowedLaws.{others_spelled}
+use Rattle.lnt_header.proofs.PutLaws.{each_begun, each_put, put_as}
+use Rattle.lnt_header_bytes.proofs.TableLaws.{entry_code}
+use Rattle.lnt_header_bytes.proofs.ValueLaws.{AreReadTo, read_none, read_more, entry_read}
 use Rattle.lnt_header_bytes.specs.Layouts.{entry_of}
 use Rattle.lnt_header_bytes.specs.TableBytes.{ValuesBytes, EntryBytes}
 use Rattle.lnt_header.specs.declared.header.Entry.{Entry}

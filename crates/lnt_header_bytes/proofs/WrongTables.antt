@@ -19,8 +19,8 @@ use Rattle.lnt_header.specs.FieldFaults.IsCutField.{number, text, leb, block, si
 use Rattle.lnt_header.specs.FirstFaults.FirstOf.{first, second}
 use Rattle.lnt_header.specs.FirstFaults.FirstOfSeveral.{next}
 use Rattle.lnt_header.specs.Joins.{Each, Several}
-use Rattle.lnt_header.specs.Laws.Readers.{cut_later}
-use Rattle.lnt_header.specs.Laws.Bytes.{one_digit}
+use Rattle.lnt_header.proofs.ReaderLaws.{cut_later}
+use Rattle.lnt_header.proofs.ByteLaws.{one_digit}
 use Rattle.lnt_header_bytes.specs.TableBytes.{PairBytes}
 use Rattle.lnt_header_bytes.specs.TableFaults.{IsNumberFault, IsCodeFault, IsPairFault, IsEntryFault, AfterPairsFault, IsTableFault}
 use Rattle.lnt_header_bytes.specs.TableFaults.IsCodeFault.{no_code, unknown}

@@ -1,9 +1,3 @@
-pub mod Borrowed
-pub mod Headers
-pub mod Passed
-pub mod Programs
-pub mod Tables
-pub mod Values
 -- What is spelled is read again, whatever follows: no spelling begins another, and each spells one value. And what is allowed is
 -- spelled.
 use Rattle.std.specs.Prelude.{◌≡◌, ℕ, List}

@@ -31,7 +31,7 @@ pub fn encode_header(alloc: Global, header: &Header, program: &[u8]) -> Result<V
     encode_parts(alloc, header.parts(), program)
 }
 
-#[tactic(auto, using(crate::proofs::EncodeLemmas::header_put, crate::proofs::EncodeLemmas::header_refused, crate::proofs::EncodeLemmas::header_too_long, lnt_header::specs::Laws::Puts::refused_memory, crate::proofs::LargeLemmas::offset_large, crate::proofs::LargeLemmas::unit_too_long, crate::proofs::LargeLemmas::memory_not_large))]
+#[tactic(auto, using(crate::proofs::EncodeLemmas::header_put, crate::proofs::EncodeLemmas::header_refused, crate::proofs::EncodeLemmas::header_too_long, lnt_header::proofs::PutLaws::refused_memory, crate::proofs::LargeLemmas::offset_large, crate::proofs::LargeLemmas::unit_too_long, crate::proofs::LargeLemmas::memory_not_large))]
 fn encode_parts(alloc: Global, parts: &HeaderParts, program: &[u8]) -> Result<Vec<u8>, EncodeFault>
     requires { IsHeader parts.now }
     ensures ok { IfOk result (λ bytes. IsShortest (HeaderBytesIn parts.now.order) (parts.now, program.now) bytes.items) }
@@ -116,7 +116,7 @@ fn add_initial_length(
 }
 
 // The fields that header_length counts.
-#[tactic(auto, using(crate::proofs::EncodeLemmas::fields_put, crate::proofs::EncodeLemmas::directories_refused, crate::proofs::EncodeLemmas::files_refused, lnt_header::specs::Laws::Puts::refused_memory))]
+#[tactic(auto, using(crate::proofs::EncodeLemmas::fields_put, crate::proofs::EncodeLemmas::directories_refused, crate::proofs::EncodeLemmas::files_refused, lnt_header::proofs::PutLaws::refused_memory))]
 fn counted_fields(alloc: Global, parts: &HeaderParts) -> Result<Vec<u8>, EncodeFault>
     requires { IsHeader parts.now }
     ensures ok { IfOk result (λ bytes. IsShortest HeaderFieldsBytes parts.now bytes.items) }
@@ -146,7 +146,7 @@ fn counted_fields(alloc: Global, parts: &HeaderParts) -> Result<Vec<u8>, EncodeF
 }
 
 // Adds a table: its format, the number of its entries, and these.
-#[tactic(auto, using(crate::proofs::EncodeLemmas::table_put, crate::proofs::EncodeLemmas::table_refused, lnt_header::specs::Laws::Puts::refused_memory, crate::proofs::LargeLemmas::memory_not_large))]
+#[tactic(auto, using(crate::proofs::EncodeLemmas::table_put, crate::proofs::EncodeLemmas::table_refused, lnt_header::proofs::PutLaws::refused_memory, crate::proofs::LargeLemmas::memory_not_large))]
 fn add_table(
     out: &mut Vec<u8>,
     pairs: &[Pair],
@@ -188,7 +188,7 @@ fn add_pair(out: &mut Vec<u8>, pair: &Pair) -> Result<(), EncodeFault>
 }
 
 // Adds the entries of a table.
-#[tactic(auto, using(crate::proofs::EncodeLemmas::entries_begun, crate::proofs::EncodeLemmas::entries_more, crate::proofs::EncodeLemmas::entries_done, crate::proofs::EncodeLemmas::entries_refused, lnt_header::specs::Laws::Puts::refused_memory, crate::proofs::LargeLemmas::entry_large, crate::proofs::LargeLemmas::memory_not_large))]
+#[tactic(auto, using(crate::proofs::EncodeLemmas::entries_begun, crate::proofs::EncodeLemmas::entries_more, crate::proofs::EncodeLemmas::entries_done, crate::proofs::EncodeLemmas::entries_refused, lnt_header::proofs::PutLaws::refused_memory, crate::proofs::LargeLemmas::entry_large, crate::proofs::LargeLemmas::memory_not_large))]
 fn add_entries(
     out: &mut Vec<u8>,
     entries: &[Entry],
@@ -207,7 +207,7 @@ fn add_entries(
 }
 
 // Adds the values of an entry.
-#[tactic(auto, using(crate::proofs::EncodeLemmas::values_begun, crate::proofs::EncodeLemmas::values_more, crate::proofs::EncodeLemmas::values_done, crate::proofs::EncodeLemmas::values_refused, lnt_header::specs::Laws::Puts::refused_memory, crate::proofs::LargeLemmas::value_large, crate::proofs::LargeLemmas::memory_not_large))]
+#[tactic(auto, using(crate::proofs::EncodeLemmas::values_begun, crate::proofs::EncodeLemmas::values_more, crate::proofs::EncodeLemmas::values_done, crate::proofs::EncodeLemmas::values_refused, lnt_header::proofs::PutLaws::refused_memory, crate::proofs::LargeLemmas::value_large, crate::proofs::LargeLemmas::memory_not_large))]
 fn add_values(
     out: &mut Vec<u8>,
     values: &[FormValue],

@@ -3,7 +3,7 @@ ghost use Rattle.lnt_header_bytes.specs.Laws.{AllowedIsSpelled, OneHeader};
 
 /// Under one byte order no header with its program begins another's bytes, and each spells one header and one
 /// program (DWARF 5, section 6.2.4). So decoding what was encoded gives it back, whatever follows.
-#[tactic(auto, using(crate::specs::Laws::Headers::one_header))]
+#[tactic(auto, using(crate::proofs::HeaderLaws::one_header))]
 pub fn one_header()
     ensures { OneHeader }
 {}

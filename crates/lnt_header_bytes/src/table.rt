@@ -52,7 +52,7 @@ pub(crate) fn read_pairs(
 }
 
 // One value for each pair.
-#[tactic(auto, using(crate::specs::Laws::Values::values_none, crate::specs::Laws::Values::values_next, crate::proofs::TableReaders::refuses_values_at))]
+#[tactic(auto, using(crate::proofs::ValueLaws::values_none, crate::proofs::ValueLaws::values_next, crate::proofs::TableReaders::refuses_values_at))]
 fn read_values(
     alloc: Global,
     cursor: &mut Cursor<'_>,

@@ -67,7 +67,7 @@ impl<'a> TableView<'a> {
     }
 
     /// How many entries there are. It takes no memory.
-    #[tactic(auto, using(crate::specs::Laws::Borrowed::length_found))]
+    #[tactic(auto, using(crate::proofs::BorrowedLaws::length_found))]
     pub fn count(&self) -> u64
         ensures { result ≡ length self.now.entries }
     {

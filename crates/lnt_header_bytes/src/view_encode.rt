@@ -39,7 +39,7 @@ pub fn put_header_view(
 }
 
 // The fields that header_length counts.
-#[tactic(auto, using(crate::proofs::EncodeLemmas::fields_put, crate::proofs::EncodeLemmas::directories_refused, crate::proofs::EncodeLemmas::files_refused, lnt_header::specs::Laws::Puts::refused_memory, lnt_header::specs::Laws::Conversions::header_in_format))]
+#[tactic(auto, using(crate::proofs::EncodeLemmas::fields_put, crate::proofs::EncodeLemmas::directories_refused, crate::proofs::EncodeLemmas::files_refused, lnt_header::proofs::PutLaws::refused_memory, lnt_header::proofs::ConversionLaws::header_in_format))]
 fn fields_of(
     alloc: Global,
     header: &HeaderView<'_>,
@@ -60,7 +60,7 @@ fn fields_of(
 }
 
 // Adds a table.
-#[tactic(auto, using(crate::proofs::EncodeLemmas::table_put, crate::proofs::EncodeLemmas::table_refused, lnt_header::specs::Laws::Puts::refused_memory))]
+#[tactic(auto, using(crate::proofs::EncodeLemmas::table_put, crate::proofs::EncodeLemmas::table_refused, lnt_header::proofs::PutLaws::refused_memory))]
 fn add_table_view(
     alloc: Global,
     out: &mut Vec<u8>,
@@ -79,7 +79,7 @@ fn add_table_view(
 }
 
 // Adds the entries of a table, each read where it lies.
-#[tactic(auto, using(crate::proofs::ViewPutLemmas::entries_begun, crate::proofs::ViewPutLemmas::entries_done, lnt_header::specs::Laws::Puts::refused_memory))]
+#[tactic(auto, using(crate::proofs::ViewPutLemmas::entries_begun, crate::proofs::ViewPutLemmas::entries_done, lnt_header::proofs::PutLaws::refused_memory))]
 fn add_entries_view(
     alloc: Global,
     out: &mut Vec<u8>,

@@ -10,7 +10,7 @@ use Rattle.lnt_spans.specs.Coming.{GivesFirst}
 use Rattle.lnt_sequences.specs.declared.extent.Extent.{Extent}
 use Rattle.lnt_sequences.specs.declared.sequence.SeqId.{SeqId}
 use Rattle.lnt_sequences.specs.InTurn.{EntriesInTurn, IsEntryOf}
-use Rattle.lnt_sequences.specs.Laws.Kept.{kept_ordered}
+use Rattle.lnt_sequences.proofs.KeptLaws.{kept_ordered}
 use Rattle.lnt_sequences.specs.RowSpans.{row_spans, spans_of}
 use Rattle.lnt_sequences.specs.Sequences.{kept_sequences, live_sequences, Placed}
 use Rattle.lnt_sequences.specs.Spanning.{GivesSpan, HasSpans, rows_left}

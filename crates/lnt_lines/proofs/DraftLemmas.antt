@@ -6,17 +6,17 @@ use Rattle.std.proofs.lemmas.List.Elements.{All-cons, All-nil, All-weaker}
 use Rattle.lnt_wire.specs.declared.format.Order.{Order}
 use Rattle.lnt_stream.specs.Units.{UnitBytes}
 use Rattle.lnt_unit.specs.declared.unit.Parts.{Parts}
-use Rattle.lnt_unit.specs.Laws.Units.{unit_is_some}
+use Rattle.lnt_unit.proofs.UnitLaws.{unit_is_some}
 use Rattle.lnt_unit.specs.UnitBytes.{UnitsFrom}
 use Rattle.lnt_machine.specs.Walking.{Kept, Keeps}
 use Rattle.lnt_files.specs.Tables.{AreUsableTables}
-use Rattle.lnt_sequences.specs.Laws.Units.{distinct_sequences, offsets_differ, ordered-append}
+use Rattle.lnt_sequences.proofs.UnitLaws.{distinct_sequences, offsets_differ, ordered-append}
 use Rattle.std.specs.List.Sorted.{IsPermutation}
 use Rattle.lnt_sequences.specs.declared.extent.Extent.{Extent}
 use Rattle.lnt_sequences.specs.Extents.{AreSettled, extents_of}
 use Rattle.lnt_sequences.specs.Rules.{AreApart, AreDistinct, AreOrdered}
 use Rattle.lnt_sequences.specs.Sequences.{kept_sequences, live_in, live_sequences}
-use Rattle.lnt_spans.specs.Laws.EachTwo.{pairs_cons, pairs_nil}
+use Rattle.lnt_spans.proofs.EachTwoLaws.{pairs_cons, pairs_nil}
 use Rattle.lnt_lines.specs.declared.draft.Draft.{Draft}
 use Rattle.lnt_lines.specs.Contents.{AreRising}
 use Rattle.lnt_lines.specs.Drafts.{HasAdded, IsDraftOf}

@@ -7,9 +7,9 @@ use Rattle.lnt_wire.specs.declared.format.Order.{Order}
 use Rattle.lnt_wire.proofs.LengthLaws.{same_rest}
 use Rattle.lnt_header.specs.declared.header.HeaderParts.{HeaderParts}
 use Rattle.lnt_header.specs.declared.header.EntryTable.TheVariants.{Directories, Files}
-use Rattle.lnt_header.specs.Laws.Firsts.{first_is_wrong}
+use Rattle.lnt_header.proofs.FirstLaws.{first_is_wrong}
 use Rattle.lnt_unit.specs.declared.unit.Parts.{Parts}
-use Rattle.lnt_unit.specs.Laws.Units.{one_section, one_spelling, unit_is_some}
+use Rattle.lnt_unit.proofs.UnitLaws.{one_section, one_spelling, unit_is_some}
 use Rattle.lnt_unit.specs.UnitBytes.{UnitsFrom}
 use Rattle.lnt_machine.specs.declared.fault.RunFault.{RunFault}
 use Rattle.lnt_machine.specs.declared.fault.RunFault.TheVariants as run

@@ -17,8 +17,8 @@ use Rattle.lnt_files.specs.Tables.{AreUsableTables}
 use Rattle.lnt_sequences.specs.declared.extent.Extent.{Extent}
 use Rattle.lnt_sequences.specs.declared.sequence.SeqId.{SeqId}
 use Rattle.lnt_sequences.specs.Extents.{HolderAnswers, IsHolder, NoneHolds}
-use Rattle.lnt_sequences.specs.Laws.Found.{live_placed}
-use Rattle.lnt_sequences.specs.Laws.Kept.{kept_live}
+use Rattle.lnt_sequences.proofs.FoundLaws.{live_placed}
+use Rattle.lnt_sequences.proofs.KeptLaws.{kept_live}
 use Rattle.lnt_sequences.specs.Sequences.{answer_of, kept_sequences, line_answer, live_sequences, Placed, row_at}
 use Rattle.lnt_sequences.specs.Spanning.{rows_left}
 use Rattle.lnt_lines.specs.Cursors.{room_of}

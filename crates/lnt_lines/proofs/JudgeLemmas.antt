@@ -10,7 +10,7 @@ use Rattle.lnt_sequences.specs.declared.collected.Collected.{Collected}
 use Rattle.lnt_sequences.specs.declared.watch.MissingFile.{MissingFile}
 use Rattle.lnt_sequences.specs.declared.watch.Watch.{Watch}
 use Rattle.lnt_sequences.specs.Evidence.{IsFirstFall, IsFirstMissingFile}
-use Rattle.lnt_sequences.specs.Laws.Units.{collects_more}
+use Rattle.lnt_sequences.proofs.UnitLaws.{collects_more}
 use Rattle.lnt_sequences.specs.Rules.{AreOrdered, HaveFiles}
 use Rattle.lnt_sequences.specs.Sequences.{live_of, live_sequences, placed_rows}
 use Rattle.lnt_sequences.specs.Watching.{HasSeenAll}

@@ -6,8 +6,8 @@ use Rattle.std.proofs.lemmas.List.{get_or_default}
 use Rattle.std.proofs.lemmas.Option.{same_Some}
 use Rattle.lnt_machine.specs.declared.row.Row.{Row}
 use Rattle.lnt_spans.specs.declared.position.Position.{Position}
-use Rattle.lnt_spans.specs.Laws.EachTwo.{each_two_from_pairs}
-use Rattle.lnt_spans.specs.Laws.Positions.{at_most_itself, order_three}
+use Rattle.lnt_spans.proofs.EachTwoLaws.{each_two_from_pairs}
+use Rattle.lnt_spans.proofs.PositionLaws.{at_most_itself, order_three}
 use Rattle.lnt_spans.specs.Positions.{IsBelow}
 use Rattle.lnt_sequences.specs.declared.extent.Overlap.{Overlap}
 use Rattle.lnt_sequences.specs.declared.sequence.SeqId.{SeqId}

@@ -16,9 +16,9 @@ use Rattle.lnt_stream.specs.Stops.{IfFault}
 use Rattle.lnt_stream.specs.Units.{IsNextUnit, IsWholeUnit, SectionEndsBy, UnitBytes}
 use Rattle.lnt_unit.specs.declared.unit.Parts.{Parts}
 use Rattle.lnt_unit.specs.BrokenUnits.{BrokenUnit, IsTrueFault}
-use Rattle.lnt_unit.specs.Laws.Broken.{frame_broken}
-use Rattle.lnt_unit.specs.Laws.Frames.{broken_more}
-use Rattle.lnt_unit.specs.Laws.Units.{no_section, units_push}
+use Rattle.lnt_unit.proofs.BrokenLaws.{frame_broken}
+use Rattle.lnt_unit.proofs.FrameLaws.{broken_more}
+use Rattle.lnt_unit.proofs.UnitLaws.{no_section, units_push}
 use Rattle.lnt_unit.specs.UnitBytes.{SectionBytes, UnitBytesIn}
 use Rattle.lnt_sequences.specs.Rules.{AreApart}
 use Rattle.lnt_sequences.specs.Sequences.{kept_of, live_sequences, Placed}

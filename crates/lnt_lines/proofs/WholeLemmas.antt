@@ -7,8 +7,8 @@ use Rattle.lnt_spans.specs.declared.answer.Answer.{Answer}
 use Rattle.lnt_spans.specs.declared.answer.More.{More}
 use Rattle.lnt_spans.specs.declared.position.Position.{Position}
 use Rattle.lnt_spans.specs.declared.span.Span.{Span}
-use Rattle.lnt_spans.specs.Laws.Answering.{answer_after, answer_in, first_holds}
-use Rattle.lnt_spans.specs.Laws.Positions.{at_most_itself, at_most_trans, below_is_at_most}
+use Rattle.lnt_spans.proofs.AnsweringLaws.{answer_after, answer_in, first_holds}
+use Rattle.lnt_spans.proofs.PositionLaws.{at_most_itself, at_most_trans, below_is_at_most}
 use Rattle.lnt_spans.specs.Positions.{IsAtMost}
 use Rattle.lnt_spans.specs.Spans.{AreInOrder, span_answer}
 use Rattle.lnt_unit.specs.declared.unit.Parts.{Parts}

@@ -9,7 +9,7 @@ use Rattle.lnt_machine.specs.declared.fault.RunFault.{RunFault}
 use Rattle.lnt_machine.specs.declared.fault.RunFault.TheVariants.{LineOutOfRange, Memory}
 use Rattle.lnt_machine.specs.declared.row.Row.{Row}
 use Rattle.lnt_machine.specs.declared.row.Sequence.{Sequence}
-use Rattle.lnt_machine.specs.Laws.Sequences.{IsCut}
+use Rattle.lnt_machine.specs.Cuts.{IsCut}
 use Rattle.lnt_machine.specs.Matrix.{LinesFit, rows}
 use Rattle.lnt_machine.specs.State.{StandsAfter, State}
 use Rattle.lnt_machine.specs.Steps.{LeavesRange}

@@ -12,8 +12,9 @@ use Rattle.lnt_machine.specs.declared.fault.RunFault.{RunFault}
 use Rattle.lnt_machine.specs.declared.fault.RunFault.TheVariants.{LineOutOfRange, OpenSequence}
 use Rattle.lnt_machine.specs.declared.row.Row.{Row}
 use Rattle.lnt_machine.specs.declared.row.Sequence.{Sequence}
-use Rattle.lnt_machine.specs.Laws.Rows.{done-more, lines_more, rows_after-append}
-use Rattle.lnt_machine.specs.Laws.Sequences.{cut_closed, cut_is, cut_open, IsCut}
+use Rattle.lnt_machine.proofs.RowLaws.{done-more, lines_more, rows_after-append}
+use Rattle.lnt_machine.specs.Cuts.{IsCut}
+use Rattle.lnt_machine.proofs.SequenceLaws.{cut_closed, cut_is, cut_open}
 use Rattle.lnt_machine.specs.Matrix.{done, IsRunFault, LinesFit, row_made, rows, rows_after, Runs, sequences}
 use Rattle.lnt_machine.specs.Registers.{IsLine, line}
 use Rattle.lnt_machine.specs.State.{StandsAfter, State}

@@ -9,11 +9,11 @@ use Rattle.lnt_header.specs.declared.op.Op.{Op}
 use Rattle.lnt_header.specs.declared.op.OpView.{OpView}
 use Rattle.lnt_header.specs.HeaderRules.{IsHeader}
 use Rattle.lnt_header.specs.OpRules.{Admits, StandsFor}
-use Rattle.lnt_ops.specs.Laws.Left.{left_at, left_ends, left_fails, left_next}
+use Rattle.lnt_ops.proofs.LeftLaws.{left_at, left_ends, left_fails, left_next}
 use Rattle.lnt_ops.specs.Walks as walks
 use Rattle.lnt_ops.specs.Walks.{Walk, Ends, Fails}
 use Rattle.lnt_machine.specs.declared.row.Row.{Row}
-use Rattle.lnt_machine.specs.Laws.InParts.{stands_at_start}
+use Rattle.lnt_machine.proofs.PartLaws.{stands_at_start}
 use Rattle.lnt_machine.specs.Matrix.{row_made, rows_after}
 use Rattle.lnt_machine.specs.Parts.{first_sequence}
 use Rattle.lnt_machine.specs.Registers.{IsLine, line}

@@ -1,6 +1,6 @@
 //! The sequences of a unit.
 ghost use Rattle.std.specs.Prelude.{◌≡◌, List, [], ◌∷◌, ◌++◌, IfOk, OnOk, IfErr};
-ghost use Rattle.lnt_machine.specs.Laws.Sequences.{IsCut};
+ghost use Rattle.lnt_machine.specs.Cuts.{IsCut};
 ghost use Rattle.lnt_machine.specs.Matrix.{IsRunFault, Runs, sequences};
 ghost use Rattle.lnt_machine.specs.declared.row.Row.{Row};
 
@@ -40,7 +40,7 @@ pub fn matrix(alloc: Global, unit: &Unit) -> Result<Vec<Sequence>, RunFault>
 }
 
 // Adds a row to those after the last end row. An end row makes a sequence of them. The only error is `Memory`.
-#[tactic(auto, using(crate::specs::Laws::Sequences::cut_more, crate::specs::Laws::Sequences::cut_end))]
+#[tactic(auto, using(crate::proofs::SequenceLaws::cut_more, crate::proofs::SequenceLaws::cut_end))]
 fn add_row(
     alloc: Global,
     row: Row,

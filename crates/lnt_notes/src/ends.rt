@@ -52,7 +52,7 @@ fn ends_in(alloc: Global, buffer: &UnitBuffer, index: u64) -> Option<Ends> {
 }
 
 // The same of a unit. None where its program doesn't run as far.
-#[tactic(auto, using(lnt_machine::specs::Laws::Walks::step_allowed))]
+#[tactic(auto, using(lnt_machine::proofs::WalkLaws::step_allowed))]
 fn ends_of(unit: &UnitView<'_>, index: u64) -> Option<Ends> {
     let mut machine = Machine::new(unit.header());
     let mut ended: u64 = 0;

@@ -46,7 +46,7 @@ impl Survey {
     }
 
     // Sees the sequences of a unit. None where its program doesn't run.
-    #[tactic(auto, using(lnt_machine::specs::Laws::Walks::step_allowed))]
+    #[tactic(auto, using(lnt_machine::proofs::WalkLaws::step_allowed))]
     fn see_unit(&mut self, unit: &UnitInPlace<'_>) -> Option<()> {
         let numbers = unit.numbers();
         let mut machine = Machine::new(numbers);

@@ -7,8 +7,8 @@ use Rattle.lnt_header.specs.declared.op.Op.{Op}
 use Rattle.lnt_header.specs.declared.op.OpView.{OpView}
 use Rattle.lnt_header.specs.Joins.{Each}
 use Rattle.lnt_header.specs.OpRules.{Admits}
-use Rattle.lnt_header.specs.Laws.Puts.{each_begun, each_put}
-use Rattle.lnt_ops.specs.Laws.Programs.{ops_none, walk_more, walk_done}
+use Rattle.lnt_header.proofs.PutLaws.{each_begun, each_put}
+use Rattle.lnt_ops.proofs.ProgramLaws.{ops_none, walk_more, walk_done}
 use Rattle.lnt_ops.specs.OpBytes.{OpBytes}
 use Rattle.lnt_ops.specs.OpPuts.{IsOpOf, AddsView, IsLike, AddsOps}
 use Rattle.lnt_ops.specs.Programs.{OpsSoFar}

@@ -22,7 +22,7 @@ use Rattle.lnt_header.specs.declared.op.OpView.TheVariants as views
 use Rattle.lnt_header.specs.FieldFaults.{IsWrongOperand}
 use Rattle.lnt_header.specs.OpRules.{StandsFor}
 use Rattle.lnt_ops.proofs.StandardReaders.{after_byte}
-use Rattle.lnt_ops.specs.Laws.Ops.{tag, extended_tag}
+use Rattle.lnt_ops.proofs.OpLaws.{tag, extended_tag}
 use Rattle.lnt_ops.specs.OpBytes.{Extended, OpBytes}
 use Rattle.lnt_ops.specs.OpFaults.IsFirstFault.{no_length, cut_counted, wrong_counted, large_counted}
 use Rattle.lnt_ops.specs.OpSteps.{BytesAfter, IsFaultAfter, GivesAfter, CountedBytes, IsRightOperand, GivesCounted, IsCountedFault}

@@ -22,7 +22,7 @@ use Rattle.lnt_header.specs.declared.header.HeaderParts.{HeaderParts}
 use Rattle.lnt_header.specs.declared.op.Op.{Op}
 use Rattle.lnt_header.specs.declared.op.Op.TheVariants.{Special}
 use Rattle.lnt_header.proofs.FirstFaultLaws.{AreOne, each_one, field_fault, IsHere, IsOneFault, several_of}
-use Rattle.lnt_ops.specs.Laws.Ops.{op_code, op_is_some}
+use Rattle.lnt_ops.proofs.OpLaws.{op_code, op_is_some}
 use Rattle.lnt_ops.specs.OpBytes.{CodingBytes, Extended, OpBytes, OperandBytes, Standard}
 use Rattle.lnt_ops.specs.OpFaults.{Following, following, IsFirstFault, TakesUnsigned}
 use Rattle.lnt_ops.specs.OpFaults.Following.{counted, unsigned, signed, fixed, bare, listed}

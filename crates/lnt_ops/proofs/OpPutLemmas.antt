@@ -26,9 +26,9 @@ use Rattle.lnt_header.specs.declared.op.Operands.{Operands}
 use Rattle.lnt_header.specs.declared.op.Operands.TheVariants.{Spelled, Listed}
 use Rattle.lnt_header.specs.OpRules.{AreOperands, StandsFor, op_of, operands_of, Admits, AdmitsCoding, Coding, coding, Operand}
 use Rattle.lnt_header.specs.Joins.{Each}
-use Rattle.lnt_header.specs.Laws.Puts.{put_as, each_begun, each_put, each_more, each_done}
-use Rattle.lnt_ops.specs.Laws.Ops.{same_whole}
-use Rattle.lnt_ops.specs.Laws.Views.{leb_is_some, is_op_of}
+use Rattle.lnt_header.proofs.PutLaws.{put_as, each_begun, each_put, each_more, each_done}
+use Rattle.lnt_ops.proofs.OpLaws.{same_whole}
+use Rattle.lnt_ops.proofs.ViewLaws.{leb_is_some, is_op_of}
 use Rattle.lnt_ops.specs.OpBytes.{CodingBytes, OpBytes, OperandBytes, Standard, Extended}
 use Rattle.lnt_ops.specs.OpPuts.{IsOpOf, AddsView, AddsSpelled, AddsOperands}
 use Rattle.lnt_ops.specs.OperandLists.{SpellsNumbers, NumbersSoFar}

@@ -10,12 +10,12 @@ use Rattle.lnt_header.specs.declared.header.HeaderParts.{HeaderParts}
 use Rattle.lnt_header.specs.declared.op.Op.TheVariants as ops
 use Rattle.lnt_header.specs.declared.op.OpView.{OpView}
 use Rattle.lnt_header.specs.declared.op.OpView.TheVariants as views
-use Rattle.lnt_header.specs.Laws.Bytes.{one_digit}
-use Rattle.lnt_ops.specs.Laws.Ops.{op_is_some}
+use Rattle.lnt_header.proofs.ByteLaws.{one_digit}
+use Rattle.lnt_ops.proofs.OpLaws.{op_is_some}
 use Rattle.lnt_ops.specs.OpBytes.{OpBytes}
 use Rattle.lnt_ops.specs.OpFaults.{IsOpFault, IsFirstFault}
 use Rattle.lnt_ops.specs.OpFaults.IsFirstFault.{no_opcode}
-use Rattle.lnt_ops.specs.Laws.Faults.{refuses_op}
+use Rattle.lnt_ops.proofs.FaultLaws.{refuses_op}
 use Rattle.lnt_ops.specs.OpReading.{GivesOp}
 use Rattle.lnt_ops.specs.OpSteps.{BytesAfter, IsFaultAfter, GivesAfter}
 

@@ -8,14 +8,14 @@ use Rattle.lnt_wire.specs.Leb128.{UnsignedLeb, IsLargeUnsigned, IsLebFault}
 use Rattle.lnt_wire.specs.declared.fault.Fault.{Fault}
 use Rattle.lnt_wire.specs.Reading.{Reads, RefusesField}
 use Rattle.lnt_header.specs.Joins.{Each}
-use Rattle.lnt_header.specs.Laws.Readers.{each_more}
+use Rattle.lnt_header.proofs.ReaderLaws.{each_more}
 use Rattle.lnt_header.specs.OpRules.{StandsFor}
 use Rattle.lnt_header.specs.declared.op.Op.{Op}
 use Rattle.lnt_header.specs.declared.op.Op.TheVariants as ops
 use Rattle.lnt_header.specs.declared.op.OpView.TheVariants as views
 use Rattle.lnt_header.specs.declared.op.Operands.{Operands}
-use Rattle.lnt_ops.specs.Laws.Programs.{none_filled}
-use Rattle.lnt_ops.specs.Laws.Views.{leb_is_some}
+use Rattle.lnt_ops.proofs.ProgramLaws.{none_filled}
+use Rattle.lnt_ops.proofs.ViewLaws.{leb_is_some}
 use Rattle.lnt_ops.specs.OperandLists.{IsOperands, SpellsNumbers, NumbersSoFar}
 use Rattle.lnt_ops.specs.Programs.{IsView}
 

@@ -13,7 +13,7 @@ use Rattle.lnt_header.specs.declared.header.HeaderParts.{HeaderParts}
 use Rattle.lnt_header.specs.declared.op.Op.{Op}
 use Rattle.lnt_header.specs.HeaderRules.{HasHeaderNumbers, IsAddressSize}
 use Rattle.lnt_header.specs.Joins.{Each}
-use Rattle.lnt_header.specs.Laws.Shortest.{each_shortest}
+use Rattle.lnt_header.proofs.ShortestLaws.{each_shortest}
 use Rattle.lnt_header.specs.OpRules.{Admits, AdmitsCoding, Coding, coding, Operand}
 use Rattle.lnt_ops.specs.Laws.{AllowedOpsAreSpelled}
 use Rattle.lnt_ops.specs.OpBytes.{CodingBytes, Extended, OpBytes, OperandBytes, Standard}

@@ -13,8 +13,8 @@ use Rattle.lnt_header.specs.declared.header.HeaderParts.{HeaderParts}
 use Rattle.lnt_header.specs.declared.op.Op.{Op}
 use Rattle.lnt_header.specs.declared.op.Op.TheVariants as ops
 use Rattle.lnt_header.specs.declared.op.OpView.TheVariants as views
-use Rattle.lnt_header.specs.Laws.Readers.{reads_map}
-use Rattle.lnt_ops.specs.Laws.Ops.{tag, standard_tag}
+use Rattle.lnt_header.proofs.ReaderLaws.{reads_map}
+use Rattle.lnt_ops.proofs.OpLaws.{tag, standard_tag}
 use Rattle.lnt_ops.specs.OpBytes.{Standard, OpBytes}
 use Rattle.lnt_ops.specs.OpFaults.{following, IsFirstFault}
 use Rattle.lnt_ops.specs.OpFaults.IsFirstFault.{unsigned_operand, signed_operand, fixed_operand}

@@ -13,10 +13,10 @@ use Rattle.lnt_header.specs.declared.op.Op.TheVariants as ops
 use Rattle.lnt_header.specs.declared.op.OpView.{OpView}
 use Rattle.lnt_header.specs.HeaderRules.{IsHeader}
 use Rattle.lnt_header.specs.Joins.{Each, Several}
-use Rattle.lnt_header.specs.Laws.Readers.{any_local, nothing_asked, moved_field, reads_none, reads_more, refuses_more, reads_map}
+use Rattle.lnt_header.proofs.ReaderLaws.{any_local, nothing_asked, moved_field, reads_none, reads_more, refuses_more, reads_map}
 use Rattle.lnt_header.specs.OpRules.{standard_length, StandsFor}
 use Rattle.lnt_ops.proofs.StandardReaders.{standard, after_byte}
-use Rattle.lnt_ops.specs.Laws.Ops.{tag, standard_tag}
+use Rattle.lnt_ops.proofs.OpLaws.{tag, standard_tag}
 use Rattle.lnt_ops.specs.OpBytes.{OpBytes}
 use Rattle.lnt_ops.specs.OpFaults.IsFirstFault.{unknown_operand}
 use Rattle.lnt_ops.specs.OpSteps.{BytesAfter, IsFaultAfter, GivesAfter, PassesOperands, IsOperandFault}

@@ -6,7 +6,7 @@ use Rattle.lnt_wire.specs.declared.format.Order.{Order}
 use Rattle.lnt_wire.specs.Reading.{Refuses}
 use Rattle.lnt_header.specs.declared.header.HeaderParts.{HeaderParts}
 use Rattle.lnt_header.specs.declared.op.OpView.{OpView}
-use Rattle.lnt_ops.specs.Laws.Programs.{op_long}
+use Rattle.lnt_ops.proofs.ProgramLaws.{op_long}
 use Rattle.lnt_ops.specs.OpBytes.{OpBytes}
 use Rattle.lnt_ops.specs.OpFaults.{IsOpFault, IsFirstFault}
 use Rattle.lnt_ops.specs.OpReading.{GivesOp}

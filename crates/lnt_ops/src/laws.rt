@@ -3,7 +3,7 @@ ghost use Rattle.lnt_ops.specs.Laws.{AllowedOpsAreSpelled, OneProgram};
 
 /// Under one header no operation begins another's bytes, and each spells one operation (DWARF 5, section 6.2.5).
 /// A whole program spells one list of operations.
-#[tactic(auto, using(crate::specs::Laws::Ops::one_program))]
+#[tactic(auto, using(crate::proofs::OpLaws::one_program))]
 pub fn one_program()
     ensures { OneProgram }
 {}

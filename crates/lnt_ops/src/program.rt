@@ -18,7 +18,7 @@ use std::alloc::Global;
 ///
 /// It refuses only where no operations spell the program, with the fault of the first operation that isn't there,
 /// or with `Memory`.
-#[tactic(auto, using(crate::specs::Laws::Programs::ops_none, crate::specs::Laws::Programs::ops_more, crate::specs::Laws::Programs::ops_spelled, crate::specs::Laws::Programs::ops_admitted, crate::specs::Laws::Programs::walk_done, crate::specs::Laws::Programs::is_view))]
+#[tactic(auto, using(crate::proofs::ProgramLaws::ops_none, crate::proofs::ProgramLaws::ops_more, crate::proofs::ProgramLaws::ops_spelled, crate::proofs::ProgramLaws::ops_admitted, crate::proofs::ProgramLaws::walk_done, crate::proofs::ProgramLaws::is_view))]
 pub fn read_ops(
     alloc: Global,
     header: &Header,

@@ -36,7 +36,7 @@ pub fn put_ops(out: &mut Vec<u8>, header: &Header, ops: &[Op]) -> Result<(), Enc
 }
 
 // Adds operations. After a refusal a part of them may be there.
-#[tactic(auto, using(crate::proofs::OpPutLemmas::ops_begun, crate::proofs::OpPutLemmas::ops_more, crate::proofs::OpPutLemmas::ops_done, lnt_header::specs::Laws::Firsts::all_at))]
+#[tactic(auto, using(crate::proofs::OpPutLemmas::ops_begun, crate::proofs::OpPutLemmas::ops_more, crate::proofs::OpPutLemmas::ops_done, lnt_header::proofs::FirstLaws::all_at))]
 fn add_ops(out: &mut Vec<u8>, header: &Header, ops: &[Op]) -> Result<(), EncodeFault>
     requires { AllByRecursion (Admits header.now) ops.now }
     ensures ok { OnOk result (Appends (Each (OpBytes header.now)) ops.now out.old.items out.new.items) }

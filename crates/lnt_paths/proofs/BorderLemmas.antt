@@ -6,8 +6,8 @@ use Rattle.lnt_spans.specs.declared.position.Position.{Position}
 use Rattle.lnt_spans.specs.declared.span.Span.{Span}
 use Rattle.lnt_spans.specs.Coming.{GivesFirst}
 use Rattle.lnt_spans.specs.Positions.{IsAtMost}
-use Rattle.lnt_spans.specs.Laws.Coming.{HasGiven}
-use Rattle.lnt_spans.specs.Laws.Positions.{at_most_itself, at_most_trans, below_is_at_most}
+use Rattle.lnt_spans.proofs.ComingLaws.{HasGiven}
+use Rattle.lnt_spans.proofs.PositionLaws.{at_most_itself, at_most_trans, below_is_at_most}
 use Rattle.lnt_paths.specs.Borders.{HasNoOperation, IsLeastOperation, path_borders}
 use Rattle.lnt_paths.specs.Joining.{IsFirstOperation, tell_span}
 use Rattle.lnt_paths.specs.PathAnswers.{PathAnswer}

@@ -9,8 +9,8 @@ use Rattle.lnt_spans.specs.declared.position.Position.{Position}
 use Rattle.lnt_spans.specs.declared.span.Span.{Span}
 use Rattle.lnt_spans.specs.Positions.{IsBelow, IsAtMost}
 use Rattle.lnt_spans.specs.Spans.{AreInOrder, is_in_span, span_answer}
-use Rattle.lnt_spans.specs.Laws.Answering.{answer_before, answer_after, answer_in, first_holds}
-use Rattle.lnt_spans.specs.Laws.Positions.{at_most_itself, below_at_most, below_is_at_most, not_both, order_cases, order_three}
+use Rattle.lnt_spans.proofs.AnsweringLaws.{answer_before, answer_after, answer_in, first_holds}
+use Rattle.lnt_spans.proofs.PositionLaws.{at_most_itself, below_at_most, below_is_at_most, not_both, order_cases, order_three}
 use Rattle.lnt_paths.specs.Joining.{AllJoinTo, GoesOn, JoinsTo, grown, tell_span}
 use Rattle.lnt_paths.specs.PathAnswers.{PathAnswer}
 use Rattle.lnt_paths.specs.PathSpans.{AreCanonicalOf, PathSpan, PathsDifferWhereTheyTouch, StandInOrder, is_in_path_span, path_span_answer}

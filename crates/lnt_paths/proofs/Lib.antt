@@ -1,3 +1,4 @@
+pub mod BeginningLaws
 pub mod BorderLemmas
 pub mod ComparisonLemmas
 pub mod HeldLemmas

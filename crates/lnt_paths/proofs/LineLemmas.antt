@@ -11,7 +11,7 @@ use Rattle.csv.specs.Writing.{default_writer, field_text, fields_text, is_blank,
 use Rattle.csv.specs.declared.parser.State.TheVariants as st
 use Rattle.csv.proofs.RoundTrip.{read-write}
 use Rattle.lnt_digits.specs.Digits.{IsDecimal, IsPlainAddress, IsPlainDecimal, Puts}
-use Rattle.lnt_digits.specs.Laws.Texts.{FromZero, address_from_zero, decimal_from_zero, plain_address}
+use Rattle.lnt_digits.proofs.TextLaws.{FromZero, address_from_zero, decimal_from_zero, plain_address}
 use Rattle.lnt_records.specs.Table.{Fields, RecordsOf}
 use Rattle.lnt_spans.specs.declared.answer.Answer.{Answer}
 use Rattle.lnt_spans.specs.declared.span.Span.{Span}

@@ -2,18 +2,18 @@
 use Rattle.std.proofs.Common.{◌≡◌, ◌∙◌, ℕ, ◌<◌, List, [], ◌∷◌, Option, length, refl, sym, ap, subst, inl, inr}
 use Rattle.std.specs.Option.{option_map}
 use Rattle.lnt_spans.specs.declared.position.Position.{Position}
-use Rattle.lnt_spans.specs.Laws.Positions.{order_three}
+use Rattle.lnt_spans.proofs.PositionLaws.{order_three}
 use Rattle.lnt_spans.specs.Positions.{IsBelow}
 use Rattle.lnt_records.specs.declared.fault.TableFault.{TableFault}
 use Rattle.lnt_records.specs.declared.fault.TableFault.TheVariants as fault
-use Rattle.lnt_records.specs.Laws.Records.{one_end, same_least, stands_before}
+use Rattle.lnt_records.proofs.RecordLaws.{one_end, same_least, stands_before}
 use Rattle.lnt_records.specs.Table.{BeginsWith, Fields}
 use Rattle.lnt_paths.specs.declared.answer.ComparedByPath.TheVariants.{Same, Fault, Differs}
 use Rattle.lnt_paths.specs.declared.answer.DifferenceByPath.{DifferenceByPath}
 use Rattle.lnt_paths.specs.declared.version.PathVersion.{PathVersion}
 use Rattle.lnt_paths.specs.Laws.{NoPathFault, OneLeastPathDifference, OnePathComparison, OnePathFault, OnePathTable, tells_difference}
 use Rattle.lnt_paths.specs.Laws.{tells_fault}
-use Rattle.lnt_paths.specs.Laws.Beginnings.{faulty_path_begins}
+use Rattle.lnt_paths.proofs.BeginningLaws.{faulty_path_begins}
 use Rattle.lnt_paths.specs.PathAnswers.{PathAnswer}
 use Rattle.lnt_paths.specs.PathDifferences.{AnswersByPath, DifferFirst, DiffersByPath, IsLeastPathDifference, told_path_answer}
 use Rattle.lnt_paths.specs.PathFaults.{HasFaultyPathRecord, IsFaultyRecord}

@@ -3,15 +3,15 @@ use Rattle.std.proofs.Common.{◌≡◌, ◌∙◌, ℕ, zero, suc, ◌<◌, Lis
 use Rattle.std.proofs.Common.{sym, ap, subst, arith}
 use Rattle.std.specs.List.{AllZip}
 use Rattle.lnt_digits.specs.Digits.{IsDecimal}
-use Rattle.lnt_digits.specs.Laws.Texts.{one_address_number, one_decimal_number}
+use Rattle.lnt_digits.proofs.TextLaws.{one_address_number, one_decimal_number}
 use Rattle.lnt_records.specs.declared.fault.TableFault.{TableFault}
 use Rattle.lnt_records.specs.declared.fault.TableFault.TheVariants as fault
-use Rattle.lnt_records.specs.Laws.Records.{front_of, one_list}
+use Rattle.lnt_records.proofs.RecordLaws.{front_of, one_list}
 use Rattle.lnt_records.specs.Table.{Fields, RecordsOf}
 use Rattle.lnt_paths.specs.declared.version.PathVersion.{PathVersion}
 use Rattle.lnt_paths.specs.declared.version.PathVersion.TheVariants.{Three, Four}
 use Rattle.lnt_paths.specs.Laws.{NoPathFault, OnePathTable}
-use Rattle.lnt_paths.specs.Laws.Beginnings.{path_table_begins}
+use Rattle.lnt_paths.proofs.BeginningLaws.{path_table_begins}
 use Rattle.lnt_paths.specs.PathFaults.{HasFaultyPathRecord, IsFaultyRecord, IsSoundField}
 use Rattle.lnt_paths.specs.PathSpans.{PathSpan, StandInOrder}
 use Rattle.lnt_paths.specs.PathTables.{IsPathRecord, IsPathTable, SaysColumn, path_column_count, path_column_names}

@@ -3,7 +3,7 @@ use Rattle.std.proofs.Common.{◌≡◌, ◌∙◌, true, false, Bool, List, [],
 use Rattle.std.specs.Prelude.{◌&&◌}
 use Rattle.lnt_spans.specs.declared.position.Position.{Position}
 use Rattle.lnt_spans.specs.Positions.{IsBelow, IsAtMost}
-use Rattle.lnt_spans.specs.Laws.Positions.{test_below, test_not_below, test_at_most, test_not_at_most, below_at_most, below_is_at_most}
+use Rattle.lnt_spans.proofs.PositionLaws.{test_below, test_not_below, test_at_most, test_not_at_most, below_at_most, below_is_at_most}
 use Rattle.lnt_paths.specs.PathSpans.{PathSpan, StandInOrder, path_span_answer}
 
 -- p is in the first span

@@ -13,9 +13,9 @@ use Rattle.lnt_spans.specs.Differing.{IsBefore, IsUpTo, run_end}
 use Rattle.lnt_spans.specs.Positions.{IsBelow, IsAtMost}
 use Rattle.lnt_spans.specs.Scanning.{EndsAfter}
 use Rattle.lnt_spans.specs.Spans.{AreInOrder}
-use Rattle.lnt_spans.specs.Laws.Answering as answering
-use Rattle.lnt_spans.specs.Laws.Positions.{at_most_below, at_most_itself, at_most_trans, below_at_most, below_is_at_most, order_cases}
-use Rattle.lnt_spans.specs.Laws.Positions.{test_below, test_not_below}
+use Rattle.lnt_spans.proofs.AnsweringLaws as answering
+use Rattle.lnt_spans.proofs.PositionLaws.{at_most_below, at_most_itself, at_most_trans, below_at_most, below_is_at_most, order_cases}
+use Rattle.lnt_spans.proofs.PositionLaws.{test_below, test_not_below}
 use Rattle.lnt_paths.specs.declared.held.HeldSpan.{HeldSpan}
 use Rattle.lnt_paths.specs.declared.merge.Section.{Section}
 use Rattle.lnt_paths.specs.Held.{held_span}

@@ -2,7 +2,7 @@
 use Rattle.std.proofs.Common.{◌≡◌, ◌∙◌, List, [], ◌∷◌, inl, inr, refl, sym, subst, Some}
 use Rattle.lnt_spans.specs.declared.position.Position.{Position}
 use Rattle.lnt_spans.specs.Positions.{IsBelow, IsAtMost}
-use Rattle.lnt_spans.specs.Laws.Positions.{order_cases, order_three, at_most_below, at_most_itself, below_is_at_most, same_position}
+use Rattle.lnt_spans.proofs.PositionLaws.{order_cases, order_three, at_most_below, at_most_itself, below_is_at_most, same_position}
 use Rattle.lnt_paths.specs.Laws.{AgreeByPath, OneCanonicalOfPaths}
 use Rattle.lnt_paths.specs.PathAnswers.{PathAnswer}
 use Rattle.lnt_paths.specs.PathSpans.{AreCanonicalPaths, PathSpan, PathsDifferWhereTheyTouch, StandInOrder, path_span_answer}

@@ -1,4 +1,3 @@
-pub mod Beginnings
 -- What the laws of spans and of tables by path say.
 use Rattle.std.specs.Prelude.{◌≡◌, ℕ, List, Option}
 use Rattle.std.specs.Option.{option_map}

@@ -42,12 +42,12 @@ pub enum HeldTable {
 /// `Table`: the bytes are a table by path of that version, and these are all of its spans. `Fault`: they are no such table,
 /// and the first faulty record is told, as `compare_by_path` tells it. All records are read by `csv`. The spans that are held
 /// stand in order. The one error is that memory ran out; then nothing is held.
-// The reader of records is large, and the stack is short: no caller holds it beside its own values.
 #[inline(never)]
 pub fn hold_table(alloc: Global, table: &[u8]) -> Result<HeldTable, TableStop>
     ensures held { IfOk result (λ held. IsHeld table.now held) }
     ensures in_order { IfOk result HoldsInOrder }
 {
+    // The reader is large, and the stack is short: so no caller holds it beside its own values.
     let mut reader = reader_of(alloc, table);
     let mut row = ByteRecord::new(alloc);
     hold_read(alloc, &mut reader, &mut row)

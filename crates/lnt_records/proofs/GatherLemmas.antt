@@ -10,8 +10,8 @@ use Rattle.lnt_spans.specs.declared.span.Span.{Span}
 use Rattle.lnt_spans.specs.declared.position.Position.{Position}
 use Rattle.lnt_spans.specs.Answers.{in_version}
 use Rattle.lnt_spans.specs.Comparing.{Compares, IsTold, Merging, end_of}
-use Rattle.lnt_spans.specs.Laws.Answering.{front_in_order}
-use Rattle.lnt_spans.specs.Laws.Told.{told, told_answer, told_order}
+use Rattle.lnt_spans.proofs.AnsweringLaws.{front_in_order}
+use Rattle.lnt_spans.proofs.ToldLaws.{told, told_answer, told_order}
 use Rattle.lnt_spans.specs.Spans.{AreInOrder, span_answer, span_in_version, version_answer}
 use Rattle.lnt_spans.specs.declared.listed.SpanList.{SpanList}
 use Rattle.lnt_records.specs.declared.differing.Differing.{Differing}

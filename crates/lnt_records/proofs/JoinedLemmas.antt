@@ -9,10 +9,10 @@ use Rattle.lnt_spans.specs.declared.answer.Version.{Version}
 use Rattle.lnt_spans.specs.declared.position.Position.{Position}
 use Rattle.lnt_spans.specs.declared.span.Span.{Span}
 use Rattle.lnt_spans.specs.Joined.{HasJoined}
-use Rattle.lnt_spans.specs.Laws.Answering.{front_in_order}
-use Rattle.lnt_spans.specs.Laws.Coming.{HasGiven}
+use Rattle.lnt_spans.proofs.AnsweringLaws.{front_in_order}
+use Rattle.lnt_spans.proofs.ComingLaws.{HasGiven}
 use Rattle.lnt_spans.specs.Spans.{AreInOrder, IsCanonical, span_answer, version_answer}
-use Rattle.lnt_records.specs.Laws.Versions.{answers_of_version}
+use Rattle.lnt_records.proofs.VersionLaws.{answers_of_version}
 use Rattle.lnt_records.specs.Written.{IsCanonicalTable, IsOfVersion, TellsAll}
 use Rattle.lnt_records.proofs.WriteLemmas.{Lines, lines_done}
 

@@ -6,15 +6,15 @@ use Rattle.lnt_spans.specs.declared.answer.Version.TheVariants.{One, Two}
 use Rattle.lnt_spans.specs.declared.span.Span.{Span}
 use Rattle.lnt_spans.specs.declared.difference.Difference.{Difference}
 use Rattle.lnt_spans.specs.Differences.{Agree, IsLeastDifference}
-use Rattle.lnt_spans.specs.Laws.Answering.{front_in_order}
+use Rattle.lnt_spans.proofs.AnsweringLaws.{front_in_order}
 use Rattle.lnt_spans.specs.Spans.{AreInOrder, span_answer, version_answer}
 use Rattle.lnt_records.specs.declared.comparison.Compared.TheVariants.{Differs, Fault, Same}
 use Rattle.lnt_records.specs.declared.fault.TableFault.{TableFault}
 use Rattle.lnt_records.specs.declared.fault.TableFault.TheVariants as fault
 use Rattle.lnt_records.specs.Faults.{DiffersSo, HasFaultyRecord, IsFaulty}
 use Rattle.lnt_records.specs.Laws.{Agreement, NoFault, OneTable}
-use Rattle.lnt_records.specs.Laws.Beginnings.{table_begins}
-use Rattle.lnt_records.specs.Laws.Records.{front_of, one_list}
+use Rattle.lnt_records.proofs.BeginningLaws.{table_begins}
+use Rattle.lnt_records.proofs.RecordLaws.{front_of, one_list}
 use Rattle.lnt_records.specs.Table.{Fields, IsSpanRecord, IsTable, IsTableOf, RecordsOf, column_names}
 use Rattle.lnt_records.proofs.SaidLemmas.{one_span, sound_column}
 

@@ -6,8 +6,8 @@ use Rattle.lnt_records.specs.declared.fault.TableFault.{TableFault}
 use Rattle.lnt_records.specs.declared.fault.TableFault.TheVariants as fault
 use Rattle.lnt_records.specs.Faults.{HasFaultyRecord, IsFaulty}
 use Rattle.lnt_records.specs.Laws.{OneFault}
-use Rattle.lnt_records.specs.Laws.Beginnings.{faulty_begins}
-use Rattle.lnt_records.specs.Laws.Records.{one_end, same_least, stands_before}
+use Rattle.lnt_records.proofs.BeginningLaws.{faulty_begins}
+use Rattle.lnt_records.proofs.RecordLaws.{one_end, same_least, stands_before}
 use Rattle.lnt_records.specs.Table.{BeginsWith, Fields, IsTable, column_names}
 use Rattle.lnt_records.proofs.LawLemmas.{faulty_none, one_of}
 use Rattle.lnt_records.proofs.SaidLemmas.{sound_column}

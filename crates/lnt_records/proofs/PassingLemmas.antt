@@ -16,8 +16,8 @@ use Rattle.lnt_spans.specs.declared.span.Span.{Span}
 use Rattle.lnt_spans.specs.Answers.{in_version}
 use Rattle.lnt_spans.specs.Comparing.{Compares, IsTold, Merging, end_of}
 use Rattle.lnt_spans.specs.Joined.{HasJoined}
-use Rattle.lnt_spans.specs.Laws.Coming.{HasGiven, all_given, none_given, one_given}
-use Rattle.lnt_spans.specs.Laws.Told.{told, told_answer, told_order}
+use Rattle.lnt_spans.proofs.ComingLaws.{HasGiven, all_given, none_given, one_given}
+use Rattle.lnt_spans.proofs.ToldLaws.{told, told_answer, told_order}
 use Rattle.lnt_spans.specs.Coming.{GivesFirst}
 use Rattle.lnt_spans.specs.Spans.{AreInOrder, span_answer, span_in_version, version_answer}
 use Rattle.lnt_records.specs.Lines.{IsLine}

@@ -3,7 +3,7 @@ use Rattle.std.proofs.Common.{◌≡◌, ◌∙◌, ℕ, zero, suc, ◌<◌, Boo
 use Rattle.std.proofs.Common.{arith}
 use Rattle.std.specs.List.{AllZip}
 use Rattle.lnt_digits.specs.Digits.{IsAddress, IsDecimal, IsPlainDecimal}
-use Rattle.lnt_digits.specs.Laws.Texts.{one_address_number, one_decimal_number, plain_address}
+use Rattle.lnt_digits.proofs.TextLaws.{one_address_number, one_decimal_number, plain_address}
 use Rattle.lnt_spans.specs.declared.answer.More.{More}
 use Rattle.lnt_spans.specs.declared.answer.Version.{Version}
 use Rattle.lnt_spans.specs.declared.answer.Version.TheVariants.{One, Two}

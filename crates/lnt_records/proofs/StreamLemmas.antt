@@ -10,7 +10,7 @@ use Rattle.lnt_spans.specs.declared.answer.Version.{Version}
 use Rattle.lnt_spans.specs.declared.position.Position.{Position}
 use Rattle.lnt_spans.specs.declared.span.Span.{Span}
 use Rattle.lnt_spans.specs.Comparing.{Compares, IsTold, Merging, end_of}
-use Rattle.lnt_spans.specs.Laws.Answering.{front_in_order}
+use Rattle.lnt_spans.proofs.AnsweringLaws.{front_in_order}
 use Rattle.lnt_spans.specs.Spans.{AreInOrder}
 use Rattle.lnt_wire.specs.Pulling.{Pulls}
 use Rattle.lnt_records.specs.declared.comparison.Compared.{Compared}
@@ -18,7 +18,7 @@ use Rattle.lnt_records.specs.declared.comparison.Compared.TheVariants.{Fault}
 use Rattle.lnt_records.specs.declared.fault.TableFault.TheVariants as fault
 use Rattle.lnt_records.specs.declared.stream.TableRead.TheVariants.{Compared as Told}
 use Rattle.lnt_records.specs.Faults.{IsComparison, IsTableRead}
-use Rattle.lnt_records.specs.Laws.Beginnings.{first_begins}
+use Rattle.lnt_records.proofs.BeginningLaws.{first_begins}
 use Rattle.lnt_records.specs.Passing.{AreLines, Ends, HasPassed, IsCut, LeavesOff, Passes}
 use Rattle.lnt_records.specs.Progress.{Judges}
 use Rattle.lnt_records.specs.Table.{BeginsWith, Fields, IsSpanRecord, column_names}

@@ -12,7 +12,7 @@ use Rattle.csv.specs.Writing.{default_writer, field_text, fields_text, is_blank,
 use Rattle.csv.specs.declared.parser.State.TheVariants as st
 use Rattle.csv.proofs.RoundTrip.{read-write, rows_text}
 use Rattle.lnt_digits.specs.Digits.{IsPlainAddress, IsPlainDecimal}
-use Rattle.lnt_digits.specs.Laws.Texts.{FromZero, address_from_zero, decimal_from_zero, plain_address}
+use Rattle.lnt_digits.proofs.TextLaws.{FromZero, address_from_zero, decimal_from_zero, plain_address}
 use Rattle.lnt_spans.specs.declared.answer.Version.{Version}
 use Rattle.lnt_spans.specs.declared.answer.Version.TheVariants.{One, Two}
 use Rattle.lnt_spans.specs.declared.span.Span.{Span}

@@ -1,6 +1,3 @@
-pub mod Beginnings
-pub mod Records
-pub mod Versions
 -- What the laws of tables say.
 use Rattle.std.specs.Prelude.{◌≡◌, ℕ, List}
 use Rattle.lnt_spans.specs.declared.answer.Version.{Version}

@@ -13,9 +13,9 @@ use Rattle.lnt_machine.specs.Laws.{SameMatrix}
 use Rattle.lnt_machine.specs.Matrix.{sequences}
 use Rattle.lnt_spans.specs.declared.position.Position.{Position}
 use Rattle.lnt_sequences.specs.Laws.{AreAlike, ConvertedAnswers, StandAlike}
-use Rattle.lnt_sequences.specs.Laws.Kept.{copy_by_look_back, IsBefore, rising_sequences}
-use Rattle.lnt_sequences.specs.Laws.Units.{offsets_rise}
-use Rattle.lnt_sequences.specs.Laws.Walks.{placed_from}
+use Rattle.lnt_sequences.proofs.KeptLaws.{copy_by_look_back, IsBefore, rising_sequences}
+use Rattle.lnt_sequences.proofs.UnitLaws.{offsets_rise}
+use Rattle.lnt_sequences.proofs.WalkLaws.{placed_from}
 use Rattle.lnt_sequences.specs.Sequences.{answer_of, are_live, hold_alike, holds, is_copy, is_live, kept_of, kept_sequences}
 use Rattle.lnt_sequences.specs.Sequences.{live_in, live_sequences, Placed, placed_in, row_at}
 

@@ -12,8 +12,8 @@ use Rattle.std.proofs.lemmas.List.Elements.{All-append, All-cons, All-nil, All-t
 use Rattle.std.proofs.lemmas.List.Folds.{list_any_at, list_any_none}
 use Rattle.std.proofs.lemmas.List.Sorted.{list_any-IsPermutation}
 use Rattle.lnt_spans.specs.declared.position.Position.{Position}
-use Rattle.lnt_spans.specs.Laws.EachTwo.{each_two_from_pairs, each_two_permutation, pairs_cons, pairs_from_each_two, pairs_head, pairs_tail}
-use Rattle.lnt_spans.specs.Laws.Positions.{at_most_itself, at_most_trans}
+use Rattle.lnt_spans.proofs.EachTwoLaws.{each_two_from_pairs, each_two_permutation, pairs_cons, pairs_from_each_two, pairs_head, pairs_tail}
+use Rattle.lnt_spans.proofs.PositionLaws.{at_most_itself, at_most_trans}
 use Rattle.lnt_sequences.specs.declared.extent.Extent.{Extent}
 use Rattle.lnt_sequences.specs.declared.sequence.SeqId.{SeqId}
 use Rattle.lnt_sequences.specs.Extents.{AreGathered, end_alike, EndsNoLater, is_copied, IsNotLater, kept_extents}

@@ -13,8 +13,8 @@ use Rattle.lnt_machine.specs.declared.row.Row.{Row}
 use Rattle.lnt_spans.specs.declared.position.Position.{Position}
 use Rattle.lnt_spans.specs.declared.span.Span.{Span}
 use Rattle.lnt_spans.specs.Positions.{IsAtMost, IsBelow, is_below}
-use Rattle.lnt_spans.specs.Laws.EachTwo.{find_only}
-use Rattle.lnt_spans.specs.Laws.Positions.{at_most_from_not_below, at_most_itself, at_most_trans, not_both}
+use Rattle.lnt_spans.proofs.EachTwoLaws.{find_only}
+use Rattle.lnt_spans.proofs.PositionLaws.{at_most_from_not_below, at_most_itself, at_most_trans, not_both}
 use Rattle.lnt_spans.specs.Spans.{AreInOrder}
 use Rattle.lnt_sequences.specs.declared.extent.Extent.{Extent}
 use Rattle.lnt_sequences.specs.Extents.{AreApartUpTo, extents_of, IsIn, NoneHolds}

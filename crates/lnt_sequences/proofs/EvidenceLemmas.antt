@@ -12,12 +12,12 @@ use Rattle.std.proofs.lemmas.List.Quantifiers.{all_pairs_push}
 use Rattle.std.proofs.lemmas.Option.{same_Some}
 use Rattle.lnt_machine.specs.declared.row.Row.{Row}
 use Rattle.lnt_machine.specs.declared.row.Sequence.{Sequence}
-use Rattle.lnt_machine.specs.Laws.Sequences.{AreOpen, IsEnded}
+use Rattle.lnt_machine.specs.Cuts.{AreOpen, IsEnded}
 use Rattle.lnt_machine.specs.Matrix.{joined_rows, sequences_of}
 use Rattle.lnt_spans.specs.declared.position.Position.{Position}
 use Rattle.lnt_spans.specs.Positions.{IsAtMost, IsBelow, is_below}
-use Rattle.lnt_spans.specs.Laws.EachTwo.{pairs_tail}
-use Rattle.lnt_spans.specs.Laws.Positions.{at_most_from_not_below, at_most_itself, at_most_trans, below_from_test, not_both, test_below}
+use Rattle.lnt_spans.proofs.EachTwoLaws.{pairs_tail}
+use Rattle.lnt_spans.proofs.PositionLaws.{at_most_from_not_below, at_most_itself, at_most_trans, below_from_test, not_both, test_below}
 use Rattle.lnt_sequences.specs.declared.watch.MissingFile.{MissingFile}
 use Rattle.lnt_sequences.specs.declared.watch.Watch.{Watch}
 use Rattle.lnt_sequences.specs.Evidence.{IsFall, IsFirstFall, IsFirstMissingFile, IsMissingFile, rows_of, StandsIn}
@@ -26,8 +26,8 @@ use Rattle.lnt_sequences.specs.Rules.{AreOrdered, FilesExist, HaveFiles, IsOrder
 use Rattle.lnt_sequences.specs.Sequences.{are_live, is_live, last_row, live_of, Placed, placed_rows, position_of}
 use Rattle.lnt_sequences.specs.Watching.{closed, current_of, fall_shown, falls_after, file_shown, first_shown, grown}
 use Rattle.lnt_sequences.specs.Watching.{HasSeenAll, is_in_live, last_after, names_no_file, next, start, Walk, walked}
-use Rattle.lnt_sequences.specs.Laws.Walks.{each_ended, first_shown-append, last_row_is, placed_from, walked-append}
-use Rattle.lnt_sequences.specs.Laws.Walks.{walked_ended, walked_open, walked-rows}
+use Rattle.lnt_sequences.proofs.WalkLaws.{each_ended, first_shown-append, last_row_is, placed_from, walked-append}
+use Rattle.lnt_sequences.proofs.WalkLaws.{walked_ended, walked_open, walked-rows}
 
 -- ---- lists cut at an element
 

@@ -8,16 +8,16 @@ use Rattle.std.proofs.lemmas.Option.{same_Some}
 use Rattle.lnt_machine.specs.declared.row.Row.{Row}
 use Rattle.lnt_spans.specs.declared.position.Position.{Position}
 use Rattle.lnt_spans.specs.Positions.{IsBelow, IsAtMost, is_below, is_at_most}
-use Rattle.lnt_spans.specs.Laws.EachTwo.{each_two_from_pairs, pairs_nil, pairs_cons, pairs_head, pairs_tail}
-use Rattle.lnt_spans.specs.Laws.Positions.{at_most_from_not_below, at_most_from_test, at_most_itself, at_most_trans}
-use Rattle.lnt_spans.specs.Laws.Positions.{below_from_test, not_both, test_at_most, test_below}
+use Rattle.lnt_spans.proofs.EachTwoLaws.{each_two_from_pairs, pairs_nil, pairs_cons, pairs_head, pairs_tail}
+use Rattle.lnt_spans.proofs.PositionLaws.{at_most_from_not_below, at_most_from_test, at_most_itself, at_most_trans}
+use Rattle.lnt_spans.proofs.PositionLaws.{below_from_test, not_both, test_at_most, test_below}
 use Rattle.lnt_sequences.specs.declared.extent.Extent.{Extent}
 use Rattle.lnt_sequences.specs.declared.extent.Overlap.{Overlap}
 use Rattle.lnt_sequences.specs.declared.sequence.SeqId.{SeqId}
 use Rattle.lnt_sequences.specs.Extents.{BeginsNoLater, ComesNoLater, extent_of, extent_of_rows, extents_of, ExtentsDisjoint}
 use Rattle.lnt_sequences.specs.Extents.{ExtentsOverlap, IsFirstOverlap, IsIn, IsNotLater}
 use Rattle.lnt_sequences.specs.Laws.{OverlapIsNotApart, SequenceSpans}
-use Rattle.lnt_sequences.specs.Laws.Walks.{last_row_is}
+use Rattle.lnt_sequences.proofs.WalkLaws.{last_row_is}
 use Rattle.lnt_sequences.specs.Rules.{AreApart}
 use Rattle.lnt_sequences.specs.Sequences.{first_row, holds, Holds, Placed, position_of}
 use Rattle.lnt_sequences.specs.Watching.{last_after}

@@ -13,8 +13,8 @@ use Rattle.lnt_machine.specs.declared.row.Row.{Row}
 use Rattle.lnt_machine.specs.Walking.{GivesFirst, GivesRow, SequenceWalk, WillGive}
 use Rattle.lnt_spans.specs.declared.position.Position.{Position}
 use Rattle.lnt_spans.specs.Positions.{IsBelow, IsAtMost, is_at_most}
-use Rattle.lnt_spans.specs.Laws.EachTwo.{each_two_from_pairs, find_none, find_only}
-use Rattle.lnt_spans.specs.Laws.Positions.{at_most_trans, below_at_most, below_is_at_most, not_both, test_at_most, test_not_at_most}
+use Rattle.lnt_spans.proofs.EachTwoLaws.{each_two_from_pairs, find_none, find_only}
+use Rattle.lnt_spans.proofs.PositionLaws.{at_most_trans, below_at_most, below_is_at_most, not_both, test_at_most, test_not_at_most}
 use Rattle.lnt_sequences.specs.declared.extent.Extent.{Extent}
 use Rattle.lnt_sequences.specs.Extents.{AnswersFor, AreSettled, extents_of, HolderAnswers, IsHolder, IsIn, NoneHolds}
 use Rattle.lnt_sequences.specs.Rules.{AreApart}

@@ -9,14 +9,14 @@ use Rattle.std.proofs.lemmas.List.Sorted.{All-permutation, IsPermutation-sym}
 use Rattle.lnt_machine.specs.declared.row.Row.{Row}
 use Rattle.lnt_spans.specs.declared.position.Position.{Position}
 use Rattle.lnt_spans.specs.Positions.{IsBelow, is_below}
-use Rattle.lnt_spans.specs.Laws.EachTwo.{each_two_from_pairs, each_two_permutation, pairs_from_each_two}
-use Rattle.lnt_spans.specs.Laws.Positions.{at_most_itself, below_from_test, test_below}
+use Rattle.lnt_spans.proofs.EachTwoLaws.{each_two_from_pairs, each_two_permutation, pairs_from_each_two}
+use Rattle.lnt_spans.proofs.PositionLaws.{at_most_itself, below_from_test, test_below}
 use Rattle.lnt_sequences.specs.declared.extent.Extent.{Extent}
 use Rattle.lnt_sequences.specs.declared.extent.Overlap.{Overlap}
 use Rattle.lnt_sequences.specs.declared.sequence.SeqId.{SeqId}
 use Rattle.lnt_sequences.specs.Extents.{end_alike, extents_of, ExtentsDisjoint, ExtentsOverlap, is_copied, IsFirstOverlap, kept_extents}
-use Rattle.lnt_sequences.specs.Laws.Walks.{last_row_is}
-use Rattle.lnt_sequences.specs.Laws.Kept.{kept_distinct}
+use Rattle.lnt_sequences.proofs.WalkLaws.{last_row_is}
+use Rattle.lnt_sequences.proofs.KeptLaws.{kept_distinct}
 use Rattle.lnt_sequences.specs.Rules.{AreApart, AreDistinct}
 use Rattle.lnt_sequences.specs.Sequences.{ends_alike, first_row, hold_alike, Holds, is_copy, is_same, kept_of, last_row}
 use Rattle.lnt_sequences.specs.Sequences.{Placed, position_of, stands_before}

@@ -10,8 +10,8 @@ use Rattle.lnt_machine.specs.declared.row.Row.{Row}
 use Rattle.lnt_spans.specs.declared.answer.Answer.{Answer}
 use Rattle.lnt_spans.specs.declared.position.Position.{Position}
 use Rattle.lnt_spans.specs.Positions.{IsBelow, is_at_most}
-use Rattle.lnt_spans.specs.Laws.EachTwo.{each_two_from_pairs, find_none, find_only}
-use Rattle.lnt_spans.specs.Laws.Positions.{at_most_from_test, below_from_not_at_most}
+use Rattle.lnt_spans.proofs.EachTwoLaws.{each_two_from_pairs, find_none, find_only}
+use Rattle.lnt_spans.proofs.PositionLaws.{at_most_from_test, below_from_not_at_most}
 use Rattle.lnt_sequences.specs.Laws.{AnswersAsHolder, IsLastAt}
 use Rattle.lnt_sequences.specs.Rules.{AreApart}
 use Rattle.lnt_sequences.specs.Sequences.{answer_in, answer_of, holds, Holds, Placed, position_of, row_at}

@@ -12,8 +12,8 @@ use Rattle.std.proofs.lemmas.Bool.{cases_eq, cases_lt}
 use Rattle.std.proofs.lemmas.List.{get_or_default}
 use Rattle.lnt_spans.specs.declared.position.Position.{Position}
 use Rattle.lnt_spans.specs.Positions.{IsBelow, IsAtMost}
-use Rattle.lnt_spans.specs.Laws.EachTwo.{EachTwo, each_two_from_pairs, pairs_from_each_two, each_two_permutation}
-use Rattle.lnt_spans.specs.Laws.Positions.{at_most_itself, at_most_trans, not_both}
+use Rattle.lnt_spans.proofs.EachTwoLaws.{EachTwo, each_two_from_pairs, pairs_from_each_two, each_two_permutation}
+use Rattle.lnt_spans.proofs.PositionLaws.{at_most_itself, at_most_trans, not_both}
 use Rattle.lnt_sequences.specs.declared.extent.Extent.{Extent}
 use Rattle.lnt_sequences.specs.Extents.{AreApartUpTo, AreFirstToOverlap, AreSorted, ComesNoLater, ExtentsDisjoint, IsIn}
 

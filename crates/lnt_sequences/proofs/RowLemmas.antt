@@ -11,15 +11,15 @@ use Rattle.lnt_spans.specs.declared.position.Position.{Position}
 use Rattle.lnt_spans.specs.declared.span.Span.{Span}
 use Rattle.lnt_spans.specs.Positions.{IsBelow, IsAtMost, is_below, is_at_most}
 use Rattle.lnt_spans.specs.Spans.{is_in_span, span_answer}
-use Rattle.lnt_spans.specs.Laws.Between.{AreBetween, between_from, none_below}
-use Rattle.lnt_spans.specs.Laws.Positions.{at_most_below, at_most_from_test, at_most_itself, at_most_trans}
-use Rattle.lnt_spans.specs.Laws.Positions.{below_at_most, below_from_not_at_most, below_from_test, test_at_most}
-use Rattle.lnt_spans.specs.Laws.Positions.{test_below, test_not_at_most, test_not_below}
+use Rattle.lnt_spans.proofs.BetweenLaws.{AreBetween, between_from, none_below}
+use Rattle.lnt_spans.proofs.PositionLaws.{at_most_below, at_most_from_test, at_most_itself, at_most_trans}
+use Rattle.lnt_spans.proofs.PositionLaws.{below_at_most, below_from_not_at_most, below_from_test, test_at_most}
+use Rattle.lnt_spans.proofs.PositionLaws.{test_below, test_not_at_most, test_not_below}
 use Rattle.lnt_sequences.specs.RowSpans.{span_between, spans_after, row_spans, spans_of}
 use Rattle.lnt_sequences.specs.Rules.{AreOrdered, IsOrdered}
 use Rattle.lnt_sequences.specs.Sequences.{answer_in, answer_of, holds, Placed, position_of, row_at}
 use Rattle.lnt_sequences.specs.Watching.{last_after}
-use Rattle.lnt_sequences.specs.Laws.Walks.{last_row_is}
+use Rattle.lnt_sequences.proofs.WalkLaws.{last_row_is}
 
 -- ---- one span
 

@@ -4,7 +4,7 @@ use Rattle.lnt_machine.specs.declared.row.Row.{Row}
 use Rattle.lnt_machine.specs.Walking.{GivesFirst, GivesRow, SequenceWalk, WillGive}
 use Rattle.lnt_spans.specs.declared.span.Span.{Span}
 use Rattle.lnt_spans.specs.Positions.{IsAtMost, IsBelow}
-use Rattle.lnt_spans.specs.Laws.Positions.{test_below, test_not_below}
+use Rattle.lnt_spans.proofs.PositionLaws.{test_below, test_not_below}
 use Rattle.lnt_sequences.specs.RowSpans.{span_between, spans_after}
 use Rattle.lnt_sequences.specs.Sequences.{answer_of, position_of}
 use Rattle.lnt_sequences.specs.Spanning.{GivesSpan, HasSpans, spans_left}

@@ -12,8 +12,8 @@ use Rattle.lnt_machine.specs.declared.row.Row.{Row}
 use Rattle.lnt_spans.specs.declared.position.Position.{Position}
 use Rattle.lnt_spans.specs.declared.span.Span.{Span}
 use Rattle.lnt_spans.specs.Positions.{IsAtMost, IsBelow}
-use Rattle.lnt_spans.specs.Laws.EachTwo.{find_only}
-use Rattle.lnt_spans.specs.Laws.Positions.{at_most_itself, at_most_trans, order_cases}
+use Rattle.lnt_spans.proofs.EachTwoLaws.{find_only}
+use Rattle.lnt_spans.proofs.PositionLaws.{at_most_itself, at_most_trans, order_cases}
 use Rattle.lnt_sequences.specs.declared.extent.Extent.{Extent}
 use Rattle.lnt_sequences.specs.Extents.{extents_of, IsIn}
 use Rattle.lnt_sequences.specs.RowSpans.{row_spans, span_between, spans_after, spans_of}

@@ -1,7 +1,3 @@
-pub mod Found
-pub mod Kept
-pub mod Units
-pub mod Walks
 -- What the laws of rows say.
 use Rattle.std.specs.Prelude.{◌≡◌, ◌≢◌, ℕ, ◌^◌, ◌<◌, Bool, true, false, List, ◌∷◌, ◌++◌, get_or, length, None, Some, Option}
 use Rattle.std.specs.List.{AllByRecursion, AllPairs, Contains}

@@ -6,8 +6,8 @@ use Rattle.lnt_spans.specs.declared.span.Span.{Span}
 use Rattle.lnt_spans.specs.Positions.{IsBelow, IsAtMost}
 use Rattle.lnt_spans.specs.Spans.{span_answer}
 use Rattle.lnt_spans.specs.Laws.{Borders, AgreeAt, borders}
-use Rattle.lnt_spans.specs.Laws.Positions.{order_cases, at_most_below, at_most_trans, at_most_itself, below_is_at_most}
-use Rattle.lnt_spans.specs.Laws.Answering.{answer_in, answer_before, answer_after}
+use Rattle.lnt_spans.proofs.PositionLaws.{order_cases, at_most_below, at_most_trans, at_most_itself, below_is_at_most}
+use Rattle.lnt_spans.proofs.AnsweringLaws.{answer_in, answer_before, answer_after}
 
 -- the border c isn't after b, or is after p
 abbrev IsOutside : Position → Position → Position → Type 0

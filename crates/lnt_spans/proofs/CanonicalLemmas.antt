@@ -6,8 +6,8 @@ use Rattle.lnt_spans.specs.declared.span.Span.{Span}
 use Rattle.lnt_spans.specs.Positions.{IsBelow, IsAtMost}
 use Rattle.lnt_spans.specs.Spans.{AreInOrder, DifferWhereTheyTouch, IsCanonical, span_answer}
 use Rattle.lnt_spans.specs.Laws.{OneCanonical, AgreeEverywhere}
-use Rattle.lnt_spans.specs.Laws.Positions.{order_cases, order_three, at_most_below, at_most_itself, below_is_at_most, same_position}
-use Rattle.lnt_spans.specs.Laws.Answering.{answer_in, answer_after, first_holds, rest_in_order, none_before, rest_none}
+use Rattle.lnt_spans.proofs.PositionLaws.{order_cases, order_three, at_most_below, at_most_itself, below_is_at_most, same_position}
+use Rattle.lnt_spans.proofs.AnsweringLaws.{answer_in, answer_after, first_holds, rest_in_order, none_before, rest_none}
 
 rest_differ : (s : Span) (rest : List Span) → DifferWhereTheyTouch (s ∷ rest) → DifferWhereTheyTouch rest
 rest_differ s [] h = tt

@@ -5,9 +5,9 @@ use Rattle.lnt_spans.specs.declared.position.Position.{Position}
 use Rattle.lnt_spans.specs.declared.span.Span.{Span}
 use Rattle.lnt_spans.specs.Positions.{IsBelow, IsAtMost}
 use Rattle.lnt_spans.specs.Spans.{AreInOrder, DifferWhereTheyTouch, span_answer, span_in_version, version_answer}
-use Rattle.lnt_spans.specs.Laws.Answering.{answer_in, answer_before, answer_after, answer_same, first_holds, rest_in_order}
-use Rattle.lnt_spans.specs.Laws.Positions.{order_cases, below_at_most, below_is_at_most}
-use Rattle.lnt_spans.specs.Laws.Told.{told, told_answer, told_order}
+use Rattle.lnt_spans.proofs.AnsweringLaws.{answer_in, answer_before, answer_after, answer_same, first_holds, rest_in_order}
+use Rattle.lnt_spans.proofs.PositionLaws.{order_cases, below_at_most, below_is_at_most}
+use Rattle.lnt_spans.proofs.ToldLaws.{told, told_answer, told_order}
 
 -- what stands for an element past a list's end
 abbrev pub no_span : Span

@@ -8,7 +8,7 @@ use Rattle.lnt_spans.specs.declared.span.Span.{Span}
 use Rattle.lnt_spans.specs.Joined.{HasJoined, IsJoined}
 use Rattle.lnt_spans.specs.Spans.{AreInOrder, IsCanonical, span_answer, span_in_version, version_answer}
 use Rattle.lnt_spans.proofs.JoinLemmas.{join_differ, joined_span, Joining, keep_join, keep_push, push_differ}
-use Rattle.lnt_spans.specs.Laws.Told.{told, told_answer, told_order}
+use Rattle.lnt_spans.proofs.ToldLaws.{told, told_answer, told_order}
 
 regrouped : (pushed rest : List Span) (span : Span) → AreInOrder ((pushed ++ span ∷ []) ++ rest) → AreInOrder (pushed ++ span ∷ rest)
 regrouped pushed rest span o = subst AreInOrder (append_assoc pushed (span ∷ []) rest) o

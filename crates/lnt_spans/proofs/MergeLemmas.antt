@@ -21,10 +21,10 @@ use Rattle.lnt_spans.specs.Positions.{IsBelow, IsAtMost}
 use Rattle.lnt_spans.specs.Scanning.{DiffersFirst, EndsAfter, IsScanned, Says}
 use Rattle.lnt_spans.specs.Spans.{AreInOrder, span_answer, span_in_version, version_answer}
 use Rattle.lnt_spans.proofs.ScanLemmas.{begins_with, first_is, first_says, gap_says, next_after, no_first}
-use Rattle.lnt_spans.specs.Laws.Answering.{answer_before, answer_after, answer_in, answer_same, back_in_order}
-use Rattle.lnt_spans.specs.Laws.Answering.{first_holds, front_in_order, none_before, rest_in_order}
-use Rattle.lnt_spans.specs.Laws.Positions.{at_most_below, at_most_itself, at_most_trans, below_at_most}
-use Rattle.lnt_spans.specs.Laws.Positions.{below_is_at_most, not_both, order_cases}
+use Rattle.lnt_spans.proofs.AnsweringLaws.{answer_before, answer_after, answer_in, answer_same, back_in_order}
+use Rattle.lnt_spans.proofs.AnsweringLaws.{first_holds, front_in_order, none_before, rest_in_order}
+use Rattle.lnt_spans.proofs.PositionLaws.{at_most_below, at_most_itself, at_most_trans, below_at_most}
+use Rattle.lnt_spans.proofs.PositionLaws.{below_is_at_most, not_both, order_cases}
 
 -- ---- one more record, and the order
 

@@ -15,9 +15,9 @@ use Rattle.lnt_spans.specs.declared.ahead.Ahead.{Ahead}
 use Rattle.lnt_spans.specs.Ahead.{BeginsWith, gap_before, IsAhead, rest_of, steps_left}
 use Rattle.lnt_spans.specs.Scanning.{EndsAfter, IsStretch, Says}
 use Rattle.lnt_spans.specs.Spans.{AreInOrder}
-use Rattle.lnt_spans.specs.Laws.Answering.{answer_after, answer_in, first_holds, none_before, rest_in_order}
-use Rattle.lnt_spans.specs.Laws.Positions.{at_most_itself, at_most_trans, at_most_below, below_at_most}
-use Rattle.lnt_spans.specs.Laws.Positions.{below_is_at_most, order_cases, test_below, test_not_below}
+use Rattle.lnt_spans.proofs.AnsweringLaws.{answer_after, answer_in, first_holds, none_before, rest_in_order}
+use Rattle.lnt_spans.proofs.PositionLaws.{at_most_itself, at_most_trans, at_most_below, below_at_most}
+use Rattle.lnt_spans.proofs.PositionLaws.{below_is_at_most, order_cases, test_below, test_not_below}
 
 -- answers as a version tells them
 told : (version : Version) {a b : Option Answer} → a ≡ b → option_map (in_version version) a ≡ option_map (in_version version) b

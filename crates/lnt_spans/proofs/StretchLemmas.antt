@@ -18,12 +18,12 @@ use Rattle.lnt_spans.specs.Positions.{IsBelow, IsAtMost, is_below}
 use Rattle.lnt_spans.specs.Scanning.{EndsAfter}
 use Rattle.lnt_spans.specs.Spans.{AreInOrder, span_answer, version_answer}
 use Rattle.lnt_spans.specs.Stretches.{AreAnswers, AreRising, BeginsStretch, IsInOne, IsInStretch, Stay}
-use Rattle.lnt_spans.specs.Laws.Answering.{answer_after, answer_in, answer_same, back_in_order, first_holds}
-use Rattle.lnt_spans.specs.Laws.Answering.{front_in_order, none_before, rest_in_order, rest_none}
-use Rattle.lnt_spans.specs.Laws.Positions.{at_most_below, at_most_itself, at_most_trans, below_at_most}
-use Rattle.lnt_spans.specs.Laws.Positions.{below_is_at_most, not_both, order_cases, test_below, test_not_below}
+use Rattle.lnt_spans.proofs.AnsweringLaws.{answer_after, answer_in, answer_same, back_in_order, first_holds}
+use Rattle.lnt_spans.proofs.AnsweringLaws.{front_in_order, none_before, rest_in_order, rest_none}
+use Rattle.lnt_spans.proofs.PositionLaws.{at_most_below, at_most_itself, at_most_trans, below_at_most}
+use Rattle.lnt_spans.proofs.PositionLaws.{below_is_at_most, not_both, order_cases, test_below, test_not_below}
 use Rattle.lnt_spans.specs.Laws.{FirstStretch}
-use Rattle.lnt_spans.specs.Laws.Told.{told, told_answer}
+use Rattle.lnt_spans.proofs.ToldLaws.{told, told_answer}
 use Rattle.lnt_spans.proofs.ScanLemmas.{begins_with, first_is, next_after, no_first}
 
 -- ---- one side

@@ -1,11 +1,3 @@
-pub mod Answering
-pub mod Between
-pub mod Bisection
-pub mod Bracket
-pub mod Coming
-pub mod EachTwo
-pub mod Positions
-pub mod Told
 -- What the laws of spans say.
 use Rattle.std.specs.Prelude.{◌≡◌, List, [], ◌∷◌, Option}
 use Rattle.std.specs.List.{AllByRecursion}

@@ -3,12 +3,12 @@ use Rattle.std.proofs.Common.{◌≡◌, ℕ, List, length, refl, sym, ap, arith
 use Rattle.lnt_spans.specs.declared.answer.Version.{Version}
 use Rattle.lnt_spans.specs.declared.answer.Version.TheVariants.{One, Two}
 use Rattle.lnt_records.specs.declared.fault.TableFault.TheVariants as fault
-use Rattle.lnt_records.specs.Laws.Beginnings.{faulty_begins, one_beginning, table_begins}
+use Rattle.lnt_records.proofs.BeginningLaws.{faulty_begins, one_beginning, table_begins}
 use Rattle.lnt_records.specs.Table.{column_names}
 use Rattle.lnt_paths.specs.declared.version.PathVersion.{PathVersion}
 use Rattle.lnt_paths.specs.declared.version.PathVersion.TheVariants.{Three, Four}
 use Rattle.lnt_paths.specs.declared.answer.ComparedByPath.TheVariants.{Same}
-use Rattle.lnt_paths.specs.Laws.Beginnings.{path_table_begins}
+use Rattle.lnt_paths.proofs.BeginningLaws.{path_table_begins}
 use Rattle.lnt_paths.specs.PathTables.{path_column_names}
 use Rattle.lnt_paths.specs.Written.{IsCanonicalPathTable}
 use Rattle.lnt_lines.specs.declared.options.Options.{Options}

@@ -1,7 +1,7 @@
 -- Where the section is good and the table answers as it does, no other verdict is true.
 use Rattle.std.proofs.Common.{◌∙◌, ℕ, List, refl, sym, subst}
 use Rattle.lnt_unit.specs.declared.unit.Parts.{Parts}
-use Rattle.lnt_unit.specs.Laws.Units.{same_units}
+use Rattle.lnt_unit.proofs.UnitLaws.{same_units}
 use Rattle.lnt_spans.specs.declared.answer.Version.{Version}
 use Rattle.lnt_spans.specs.declared.difference.Difference.{Difference}
 use Rattle.lnt_spans.specs.declared.span.Span.{Span}

@@ -5,7 +5,7 @@ use Rattle.std.specs.Prelude.{◌==◌}
 use Rattle.std.specs.Option.{option_and_then, option_map}
 use Rattle.lnt_header.specs.declared.header.HeaderParts.{HeaderParts}
 use Rattle.lnt_unit.specs.declared.unit.Parts.{Parts}
-use Rattle.lnt_unit.specs.Laws.Units.{same_units}
+use Rattle.lnt_unit.proofs.UnitLaws.{same_units}
 use Rattle.lnt_machine.specs.Walking.{Keeps, Kept}
 use Rattle.lnt_files.specs.Paths.{path_bytes}
 use Rattle.lnt_spans.specs.declared.answer.Answer.{Answer}

@@ -1,14 +1,14 @@
 -- Of a section and a table one verdict is true.
 use Rattle.std.proofs.Common.{◌≡◌, ◌∙◌, ℕ, List, Option, refl, sym, ap, subst, inl, inr}
 use Rattle.lnt_unit.specs.declared.unit.Parts.{Parts}
-use Rattle.lnt_unit.specs.Laws.Units.{same_units}
+use Rattle.lnt_unit.proofs.UnitLaws.{same_units}
 use Rattle.lnt_spans.specs.declared.answer.Answer.{Answer}
 use Rattle.lnt_spans.specs.declared.answer.Version.{Version}
 use Rattle.lnt_spans.specs.declared.difference.Difference.{Difference}
 use Rattle.lnt_spans.specs.declared.position.Position.{Position}
 use Rattle.lnt_spans.specs.declared.span.Span.{Span}
 use Rattle.lnt_spans.specs.Differences.{IsLeastDifference}
-use Rattle.lnt_spans.specs.Laws.Positions.{order_three}
+use Rattle.lnt_spans.proofs.PositionLaws.{order_three}
 use Rattle.lnt_spans.specs.Positions.{IsBelow}
 use Rattle.lnt_spans.specs.Spans.{span_answer}
 use Rattle.lnt_records.specs.declared.comparison.Compared.TheVariants.{Fault}

@@ -8,7 +8,7 @@ use Rattle.lnt_spans.specs.declared.position.Position.{Position}
 use Rattle.lnt_spans.specs.declared.span.Span.{Span}
 use Rattle.lnt_spans.specs.Spans.{IsCanonical, span_answer, version_answer}
 use Rattle.lnt_records.specs.Written.{IsOfVersion}
-use Rattle.lnt_records.specs.Laws.Versions.{answers_of_version}
+use Rattle.lnt_records.proofs.VersionLaws.{answers_of_version}
 use Rattle.lnt_lines.specs.Contents.{AreWhole}
 
 abbrev TellsAll : Span → Type 0

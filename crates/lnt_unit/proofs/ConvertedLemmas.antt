@@ -16,7 +16,7 @@ use Rattle.lnt_header.specs.Conversion.{in_format}
 use Rattle.lnt_header.specs.Encoding.{RefusedPut}
 use Rattle.lnt_header_bytes.specs.HeaderBytes.{HeaderBytesIn}
 use Rattle.lnt_header.specs.Joins.{Each}
-use Rattle.lnt_header.specs.Laws.Conversions.{op_in_format}
+use Rattle.lnt_header.proofs.ConversionLaws.{op_in_format}
 use Rattle.lnt_header.specs.declared.header.HeaderParts.{HeaderParts}
 use Rattle.lnt_header.specs.declared.op.Op.{Op}
 use Rattle.lnt_ops.specs.OpBytes.{OpBytes}
@@ -27,8 +27,8 @@ use Rattle.lnt_unit.specs.ConvertedUnits.{ConvertsBytes, ConvertsUnit, IsLarge, 
 use Rattle.lnt_unit.specs.declared.convert.ConvertFault.{ConvertFault}
 use Rattle.lnt_unit.specs.declared.convert.ConvertFault.TheVariants as convert
 use Rattle.lnt_unit.specs.Converting.{unit_in_format}
-use Rattle.lnt_unit.specs.Laws.Numbers.{admits_by_numbers, ops_by_numbers, broken_by_numbers}
-use Rattle.lnt_unit.specs.Laws.Units.{unit_found}
+use Rattle.lnt_unit.proofs.NumberLaws.{admits_by_numbers, ops_by_numbers, broken_by_numbers}
+use Rattle.lnt_unit.proofs.UnitLaws.{unit_found}
 use Rattle.lnt_unit.specs.declared.unit.Parts.{Parts}
 use Rattle.lnt_unit.proofs.UnitLemmas.{unit_put, unit_refused}
 use Rattle.lnt_unit.proofs.UnitReaders.{StandsAt, unit_read, frame_without_unit}

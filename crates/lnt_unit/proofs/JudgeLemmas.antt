@@ -8,7 +8,7 @@ use Rattle.lnt_wire.specs.declared.format.Order.{Order}
 use Rattle.lnt_unit.specs.BrokenUnits.{BrokenUnit}
 use Rattle.lnt_unit.specs.ConvertedUnits.{JudgesUnit, IsSaid, IsToldAs, Converts, IsJudged, first_large}
 use Rattle.lnt_unit.specs.Converting.{units_in_format, IsFirstLarge, HasFirstLarge, IsConvertFault}
-use Rattle.lnt_unit.specs.Laws.Converted.{units_more, each_spelled, whole_converted, no_length}
+use Rattle.lnt_unit.proofs.ConvertedLaws.{units_more, each_spelled, whole_converted, no_length}
 use Rattle.lnt_unit.specs.declared.convert.ConvertFault.{ConvertFault}
 use Rattle.lnt_unit.specs.declared.convert.ConvertFault.TheVariants.{Malformed, TooLarge, Memory}
 use Rattle.lnt_unit.specs.declared.unit.Parts.{Parts}

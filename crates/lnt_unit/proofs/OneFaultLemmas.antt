@@ -20,7 +20,7 @@ use Rattle.lnt_header_bytes.proofs.FirstFieldLaws.{first_field_one}
 use Rattle.lnt_ops.proofs.OpFaultLaws.{program_one}
 use Rattle.lnt_unit.specs.BrokenUnits.{BeginsWithHeader, BrokenUnit, IsTrueFault}
 use Rattle.lnt_unit.specs.Laws.{OneTrueFault}
-use Rattle.lnt_unit.specs.Laws.Units.{one_spelling, same_units}
+use Rattle.lnt_unit.proofs.UnitLaws.{one_spelling, same_units}
 use Rattle.lnt_unit.specs.UnitBytes.{UnitBytesIn, UnitsFrom}
 use Rattle.lnt_unit.specs.declared.unit.Parts.{Parts}
 

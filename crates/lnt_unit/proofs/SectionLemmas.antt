@@ -6,7 +6,7 @@ use Rattle.lnt_wire.specs.Reading.{Reads}
 use Rattle.lnt_wire.specs.declared.fault.Fault.{Fault}
 use Rattle.lnt_wire.specs.declared.format.Order.{Order}
 use Rattle.lnt_unit.specs.BrokenUnits.{BrokenUnit, IsTrueFault, BrokenSection}
-use Rattle.lnt_unit.specs.Laws.Units.{unit_is_some, units_push, no_section}
+use Rattle.lnt_unit.proofs.UnitLaws.{unit_is_some, units_push, no_section}
 use Rattle.lnt_unit.specs.UnitBytes.{UnitBytesIn, SectionBytes}
 use Rattle.lnt_unit.specs.declared.unit.Parts.{Parts}
 

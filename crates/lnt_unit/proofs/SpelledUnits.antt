@@ -2,7 +2,7 @@
 use Rattle.std.proofs.Common.{ℕ, List, length, arith}
 use Rattle.lnt_header_bytes.specs.HeaderBytes.{unit_body}
 use Rattle.lnt_header_bytes.specs.Laws as header
-use Rattle.lnt_header_bytes.specs.Laws.Programs.{fits_less, length-body}
+use Rattle.lnt_header_bytes.proofs.ProgramLaws.{fits_less, length-body}
 use Rattle.lnt_header_bytes.specs.Spelled.{HasSmallOffsets}
 use Rattle.lnt_ops.specs.Laws as operations
 use Rattle.lnt_unit.specs.declared.unit.Parts.{Parts}

@@ -15,8 +15,8 @@ use Rattle.lnt_header.specs.declared.header.HeaderParts.{HeaderParts}
 use Rattle.lnt_unit.specs.BrokenUnits.{BrokenUnit}
 use Rattle.lnt_unit.specs.UnitBytes.{UnitBytesIn}
 use Rattle.lnt_unit.specs.declared.unit.Parts.{Parts}
-use Rattle.lnt_unit.specs.Laws.Frames.{broken_more}
-use Rattle.lnt_unit.specs.Laws.Broken.{frame_broken}
+use Rattle.lnt_unit.proofs.FrameLaws.{broken_more}
+use Rattle.lnt_unit.proofs.BrokenLaws.{frame_broken}
 
 -- the program lies in the frame
 pub program_within : (order : Order) (h : HeaderParts) (program bytes : List ℕ) → HeaderBytesIn order (h, program) bytes

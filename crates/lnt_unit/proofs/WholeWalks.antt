@@ -17,11 +17,11 @@ use Rattle.lnt_stream.specs.Units as stream
 use Rattle.lnt_unit.specs.declared.unit.Parts.{Parts}
 use Rattle.lnt_unit.specs.BrokenUnits.{BrokenSection, BrokenUnit, IsTrueFault}
 use Rattle.lnt_unit.specs.Laws.{AreGiven, BeginsOf, FaultOfSection, GivesEach, WholeWalk}
-use Rattle.lnt_unit.specs.Laws.Broken.{frame_broken}
-use Rattle.lnt_unit.specs.Laws.Frames.{broken_more}
-use Rattle.lnt_unit.specs.Laws.Numbers.{given_all_by_numbers, given_broken_by_numbers}
-use Rattle.lnt_unit.specs.Laws.Units.{no_section}
-use Rattle.lnt_unit.specs.Laws.Views.{given_all, given_broken, given_more, given_none}
+use Rattle.lnt_unit.proofs.BrokenLaws.{frame_broken}
+use Rattle.lnt_unit.proofs.FrameLaws.{broken_more}
+use Rattle.lnt_unit.proofs.NumberLaws.{given_all_by_numbers, given_broken_by_numbers}
+use Rattle.lnt_unit.proofs.UnitLaws.{no_section}
+use Rattle.lnt_unit.proofs.ViewLaws.{given_all, given_broken, given_more, given_none}
 use Rattle.lnt_unit.specs.UnitBytes.{SectionBytes}
 use Rattle.lnt_unit.specs.Views.{HasGiven, View, by_numbers}
 

@@ -1,9 +1,3 @@
-pub mod Broken
-pub mod Converted
-pub mod Frames
-pub mod Numbers
-pub mod Units
-pub mod Views
 -- What is spelled is read again, whatever follows: no spelling begins another, and each spells one value. And what whole walks
 -- over a unit and over a section say.
 use Rattle.std.specs.Prelude.{◌≡◌, ◌⊎◌, ◌≤◌, ℕ, List, [], ◌∷◌, ◌++◌, length, false, Some}

@@ -42,7 +42,7 @@ impl Error for ConvertFault {}
 ///
 /// It refuses with `Malformed` where no units spell the section; with `TooLarge` and the offset of the first unit
 /// that nothing spells in the format, which is an offset in `bytes`; and else with `Memory`.
-#[tactic(auto, using(crate::specs::Laws::Converted::converted_none, crate::specs::Laws::Converted::converted_all, crate::specs::Laws::Converted::converted_long))]
+#[tactic(auto, using(crate::proofs::ConvertedLaws::converted_none, crate::proofs::ConvertedLaws::converted_all, crate::proofs::ConvertedLaws::converted_long))]
 pub fn convert_section(
     alloc: Global,
     bytes: &[u8],

@@ -112,7 +112,7 @@ impl Unit {
 }
 
 // The index of the first operation that the header doesn't admit.
-#[tactic(auto, using(lnt_header::specs::Laws::Firsts::all_more, lnt_header::specs::Laws::Firsts::all_taken, lnt_header::specs::Laws::Firsts::first_not))]
+#[tactic(auto, using(lnt_header::proofs::FirstLaws::all_more, lnt_header::proofs::FirstLaws::all_taken, lnt_header::proofs::FirstLaws::first_not))]
 fn first_not_admitted(header: &Header, ops: &[Op]) -> Option<u64>
     ensures { MatchOption result (AllByRecursion (Admits header.now) ops.now) (λ index. IsFirstNot (Admits header.now) ops.now index) }
 {

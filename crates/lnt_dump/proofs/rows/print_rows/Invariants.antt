@@ -1,5 +1,5 @@
 use Rattle.lnt_header_bytes.specs.Borrowed.{without_entries}
-use Rattle.lnt_machine.specs.Laws.Walks.{HaveHeader}
+use Rattle.lnt_machine.proofs.WalkLaws.{HaveHeader}
 use Rattle.lnt_dump.proofs.rows.print_rows.Given as goal
 
 abbrev pub invariant-loop-op : goal.invariant-loop-op

@@ -1,6 +1,6 @@
 use Rattle.std.proofs.Common.{◌-◌, ◌≡◌, ◌≤◌, length, map}
 use Rattle.lnt_spans.specs.Spans.{AreInOrder}
-use Rattle.lnt_spans.specs.Laws.Bracket.{IsBracket}
+use Rattle.lnt_spans.specs.Brackets.{IsBracket}
 use Rattle.lnt_ffi.specs.Flat.{span_of}
 use Rattle.lnt_ffi.proofs.looking.linetab_lookup.Given as goal
 

@@ -3,7 +3,7 @@ use Rattle.lnt_wire.specs.Bytes.{NoneSpelled}
 use Rattle.lnt_wire.specs.declared.format.Format.{Format}
 use Rattle.lnt_header.specs.Joins.{Several}
 use Rattle.lnt_header_bytes.specs.Borrowed.{BorrowedTable, borrowed_table, PassesAll}
-use Rattle.lnt_header_bytes.specs.Laws.Borrowed.{length_found}
+use Rattle.lnt_header_bytes.proofs.BorrowedLaws.{length_found}
 use Rattle.lnt_header_bytes.specs.TableBytes.{EntryBytes}
 use Rattle.lnt_header_bytes.proofs.MarkLemmas.{AreMade, counted, made_more, never_refused}
 use Rattle.lnt_header_bytes.proofs.marks.marks_of.Goals as goal

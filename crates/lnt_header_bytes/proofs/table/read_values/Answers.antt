@@ -5,7 +5,7 @@ use Rattle.lnt_wire.specs.Reading.{RefusesOr}
 use Rattle.lnt_header_bytes.specs.TableBytes.{ValuesBytes}
 use Rattle.lnt_header_bytes.specs.TableFaults.{IsEntryFault}
 use Rattle.lnt_header_bytes.proofs.TableReaders.{refuses_values_at}
-use Rattle.lnt_header_bytes.specs.Laws.Values.{values_next}
+use Rattle.lnt_header_bytes.proofs.ValueLaws.{values_next}
 use Rattle.lnt_header_bytes.proofs.table.read_values.Goals as goal
 
 pub returns-in_err-value-clause-err : goal.returns-in_err-value-clause-err

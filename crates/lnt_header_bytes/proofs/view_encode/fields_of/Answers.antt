@@ -2,7 +2,7 @@ use Rattle.std.proofs.Common.{List, ◌++◌, ℕ, ap, ◌∙◌}
 use Rattle.std.proofs.lemmas.Result.{err_from_is_err_and}
 use Rattle.lnt_header.specs.Conversion.{in_format}
 use Rattle.lnt_header.specs.HeaderRules.{six_bytes}
-use Rattle.lnt_header.specs.Laws.Conversions.{header_in_format}
+use Rattle.lnt_header.proofs.ConversionLaws.{header_in_format}
 use Rattle.lnt_header.specs.declared.header.HeaderParts.{HeaderParts}
 use Rattle.lnt_header_bytes.proofs.EncodeLemmas.{fields_put, directories_refused, files_refused}
 use Rattle.lnt_header_bytes.proofs.view_encode.fields_of.Goals as goal

@@ -1,4 +1,4 @@
-use Rattle.lnt_machine.specs.Laws.Walks.{HaveHeader}
+use Rattle.lnt_machine.proofs.WalkLaws.{HaveHeader}
 use Rattle.lnt_notes.proofs.ends.ends_of.Given as goal
 
 abbrev pub invariant-loop-op : goal.invariant-loop-op

@@ -6,7 +6,7 @@ use Rattle.lnt_wire.specs.declared.fault.Fault.{Fault}
 use Rattle.lnt_header.specs.declared.op.OpView.{OpView}
 use Rattle.lnt_ops.specs.Programs.{BrokenProgram}
 use Rattle.lnt_ops.specs.Walks.{Fails, Steps, WalkStep}
-use Rattle.lnt_ops.specs.Laws.Programs.{ops_admitted, walk_broken, walk_done, walk_more}
+use Rattle.lnt_ops.proofs.ProgramLaws.{ops_admitted, walk_broken, walk_done, walk_more}
 use Rattle.lnt_ops.proofs.program.read_ops.Goals as goal
 
 pub returns-in_err-view-clause-err : goal.returns-in_err-view-clause-err

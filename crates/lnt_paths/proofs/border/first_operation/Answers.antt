@@ -2,7 +2,7 @@ use Rattle.std.proofs.Common.{List, [], ◌∷◌, ◌++◌, inl, inr, Option, S
 use Rattle.lnt_spans.specs.declared.answer.Answer.{Answer}
 use Rattle.lnt_spans.specs.declared.span.Span.{Span}
 use Rattle.lnt_spans.specs.Coming.{GivesFirst}
-use Rattle.lnt_spans.specs.Laws.Coming.{one_given}
+use Rattle.lnt_spans.proofs.ComingLaws.{one_given}
 use Rattle.lnt_paths.specs.Joining.{WillGive}
 use Rattle.lnt_paths.specs.PathAnswers.{PathAnswer, path_answer}
 use Rattle.lnt_paths.proofs.BorderLemmas.{found, none_more}

@@ -2,7 +2,7 @@ use Rattle.std.specs.Prelude.{List}
 use Rattle.std.specs.List.{AllByRecursion}
 use Rattle.lnt_spans.specs.declared.span.Span.{Span}
 use Rattle.lnt_spans.specs.Ahead.{count_ahead}
-use Rattle.lnt_spans.specs.Laws.Coming.{HasGiven}
+use Rattle.lnt_spans.proofs.ComingLaws.{HasGiven}
 use Rattle.lnt_paths.specs.Borders.{HasNoOperation}
 use Rattle.lnt_paths.specs.Joining.{AllJoinTo, WillGive}
 use Rattle.lnt_paths.specs.PathAnswers.{path_answer}

@@ -3,7 +3,7 @@ use Rattle.std.specs.Io.KnownBytes.{Appends}
 use Rattle.lnt_spans.specs.declared.answer.Answer.{Answer}
 use Rattle.lnt_spans.specs.declared.span.Span.{Span}
 use Rattle.lnt_spans.specs.Coming.{GivesFirst}
-use Rattle.lnt_spans.specs.Laws.Coming.{none_given, one_given}
+use Rattle.lnt_spans.proofs.ComingLaws.{none_given, one_given}
 use Rattle.lnt_paths.specs.Joining.{WillGive}
 use Rattle.lnt_paths.specs.PathAnswers.{PathAnswer, path_answer}
 use Rattle.lnt_paths.proofs.WriteLemmas.{names_written, one_written}

@@ -1,7 +1,7 @@
 use Rattle.std.specs.Prelude.{List}
 use Rattle.lnt_spans.specs.declared.span.Span.{Span}
 use Rattle.lnt_spans.specs.Ahead.{count_ahead}
-use Rattle.lnt_spans.specs.Laws.Coming.{HasGiven}
+use Rattle.lnt_spans.proofs.ComingLaws.{HasGiven}
 use Rattle.lnt_paths.specs.Joining.{AllJoinTo, AreFieldsOf, HasWritten, WillGive}
 use Rattle.lnt_paths.specs.PathAnswers.{path_answer}
 use Rattle.lnt_paths.proofs.write.write_lines.Given as goal

@@ -1,13 +1,14 @@
 use Rattle.std.specs.Prelude.{◌≡◌, List}
 use Rattle.lnt_spans.specs.declared.span.Span.{Span}
 use Rattle.lnt_spans.specs.Joined.{HasJoined, growing, version_of}
-use Rattle.lnt_spans.specs.Laws.Coming.{HasGiven}
+use Rattle.lnt_spans.proofs.ComingLaws.{HasGiven}
 use Rattle.lnt_records.proofs.WriteLemmas.{Lines}
 use Rattle.lnt_records.proofs.canonical.write_canonical.Given as goal
 
 abbrev pub invariant-loop-span : goal.invariant-loop-span
 invariant-loop-span g l =
-    (pushed : List Span) × (given : List Span) × HasJoined l.fn.version pushed given (growing l.joiner) × (version_of l.joiner ≡ l.fn.version)
+    (pushed : List Span) × (given : List Span) × HasJoined l.fn.version pushed given (growing l.joiner)
+    × (version_of l.joiner ≡ l.fn.version)
     × Lines l.fn.version (g.W.Write.contents l.initial.out) (g.W.Write.contents l.out) l.block.items given
     × ((list : List Span) → g.S.SpanSource.to_come l.fn.spans list → HasGiven list pushed (g.S.SpanSource.to_come l.spans))
 

@@ -1,5 +1,5 @@
 use Rattle.std.proofs.Common.{arith}
-use Rattle.lnt_spans.specs.Laws.Bisection.{bounded_half, bounded_next}
+use Rattle.lnt_spans.proofs.BisectionLaws.{bounded_half, bounded_next}
 use Rattle.lnt_sequences.proofs.HolderLemmas.{bracket_above, bracket_below, found_inside, found_nowhere}
 use Rattle.lnt_sequences.proofs.held.holder.Goals as goal
 

@@ -1,5 +1,5 @@
 use Rattle.std.proofs.Common.{◌-◌, ◌<◌, ◌^◌, length}
-use Rattle.lnt_spans.specs.Laws.Bisection.{IsBounded}
+use Rattle.lnt_spans.proofs.BisectionLaws.{IsBounded}
 use Rattle.lnt_sequences.proofs.HolderLemmas.{IsBracket}
 use Rattle.lnt_sequences.proofs.held.holder.Given as goal
 

@@ -1,4 +1,4 @@
-use Rattle.lnt_sequences.specs.Laws.Units.{collects_unit}
+use Rattle.lnt_sequences.proofs.UnitLaws.{collects_unit}
 use Rattle.lnt_sequences.proofs.laws.collected_unit.Goals as goal
 
 pub returns : goal.returns

@@ -1,4 +1,4 @@
-use Rattle.lnt_sequences.specs.Laws.Units.{distinct_sequences}
+use Rattle.lnt_sequences.proofs.UnitLaws.{distinct_sequences}
 use Rattle.lnt_sequences.proofs.laws.distinct_sequences.Goals as goal
 
 pub returns : goal.returns

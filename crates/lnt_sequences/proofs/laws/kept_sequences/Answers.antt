@@ -1,6 +1,6 @@
 use Rattle.std.proofs.Common.{refl, true}
-use Rattle.lnt_sequences.specs.Laws.Kept.{kept_differ, kept_live}
-use Rattle.lnt_sequences.specs.Laws.Units.{distinct_sequences}
+use Rattle.lnt_sequences.proofs.KeptLaws.{kept_differ, kept_live}
+use Rattle.lnt_sequences.proofs.UnitLaws.{distinct_sequences}
 use Rattle.lnt_sequences.specs.Sequences.{live_sequences}
 use Rattle.lnt_sequences.proofs.laws.kept_sequences.Goals as goal
 

@@ -1,5 +1,5 @@
 use Rattle.std.proofs.Common.{drop}
-use Rattle.lnt_spans.specs.Laws.Told.{told}
+use Rattle.lnt_spans.proofs.ToldLaws.{told}
 use Rattle.lnt_spans.proofs.JoinLemmas.{Joining}
 use Rattle.lnt_spans.proofs.joined.canonical.Given as goal
 

@@ -1,6 +1,6 @@
 use Rattle.std.proofs.Common.{arith}
-use Rattle.lnt_spans.specs.Laws.Bisection.{bounded_half, bounded_next}
-use Rattle.lnt_spans.specs.Laws.Bracket.{bracket_above, bracket_below, found_inside, found_nowhere}
+use Rattle.lnt_spans.proofs.BisectionLaws.{bounded_half, bounded_next}
+use Rattle.lnt_spans.proofs.BracketLaws.{bracket_above, bracket_below, found_inside, found_nowhere}
 use Rattle.lnt_spans.proofs.search.lookup.Goals as goal
 
 pub probe-requires : goal.probe-requires

@@ -1,6 +1,6 @@
 use Rattle.std.proofs.Common.{List, sym, subst}
 use Rattle.lnt_spans.specs.declared.span.Span.{Span}
-use Rattle.lnt_spans.specs.Laws.Coming.{all_given, HasGiven, none_given, one_given}
+use Rattle.lnt_spans.proofs.ComingLaws.{all_given, HasGiven, none_given, one_given}
 use Rattle.lnt_spans.proofs.source.collect.Goals as goal
 
 pub loop-span-init : goal.loop-span-init

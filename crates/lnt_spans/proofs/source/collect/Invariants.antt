@@ -1,6 +1,6 @@
 use Rattle.std.specs.Prelude.{List}
 use Rattle.lnt_spans.specs.declared.span.Span.{Span}
-use Rattle.lnt_spans.specs.Laws.Coming.{HasGiven}
+use Rattle.lnt_spans.proofs.ComingLaws.{HasGiven}
 use Rattle.lnt_spans.proofs.source.collect.Given as goal
 
 abbrev pub invariant-loop-span : goal.invariant-loop-span

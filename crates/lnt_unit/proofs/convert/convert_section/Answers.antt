@@ -1,6 +1,6 @@
 use Rattle.std.proofs.Common.{◌≡◌, length, [], sym, ap, ◌∙◌, arith}
 use Rattle.std.proofs.lemmas.Bool.{eqb-true}
-use Rattle.lnt_unit.specs.Laws.Converted.{converted_all, converted_more}
+use Rattle.lnt_unit.proofs.ConvertedLaws.{converted_all, converted_more}
 use Rattle.lnt_unit.proofs.convert.convert_section.Goals as goal
 
 pub loop-cursor-preserved : goal.loop-cursor-preserved

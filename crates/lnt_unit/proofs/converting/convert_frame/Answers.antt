@@ -1,4 +1,4 @@
-use Rattle.lnt_unit.specs.Laws.Broken.{header_broken}
+use Rattle.lnt_unit.proofs.BrokenLaws.{header_broken}
 use Rattle.lnt_unit.proofs.ConvertedLemmas.{told_stop}
 use Rattle.lnt_unit.proofs.converting.convert_frame.Goals as goal
 

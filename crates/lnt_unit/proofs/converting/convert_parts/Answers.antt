@@ -7,7 +7,7 @@ use Rattle.lnt_header.specs.declared.header.HeaderParts.{HeaderParts}
 use Rattle.lnt_wire.specs.FrameBytes.{frame_bytes}
 use Rattle.lnt_wire.specs.declared.fault.Reason.TheVariants.{Memory}
 use Rattle.lnt_unit.specs.BrokenUnits.{BrokenUnit}
-use Rattle.lnt_unit.specs.Laws.Broken.{ops_broken}
+use Rattle.lnt_unit.proofs.BrokenLaws.{ops_broken}
 use Rattle.lnt_unit.proofs.ConvertedLemmas.{frame_broken_program, frame_converted, frame_large, told_stop}
 use Rattle.lnt_unit.proofs.converting.convert_parts.Goals as goal
 

@@ -3,9 +3,9 @@ use Rattle.std.proofs.lemmas.Result.{err_from_is_err_and}
 use Rattle.lnt_wire.specs.FrameBytes.{frame_bytes}
 use Rattle.lnt_wire.specs.declared.fault.Reason.TheVariants.{Memory}
 use Rattle.lnt_unit.specs.BrokenUnits.{BrokenUnit}
-use Rattle.lnt_unit.specs.Laws.Broken.{header_broken, ops_broken}
+use Rattle.lnt_unit.proofs.BrokenLaws.{header_broken, ops_broken}
 use Rattle.lnt_unit.proofs.UnitReaders.{program_within}
-use Rattle.lnt_unit.specs.Laws.Units.{unit_found}
+use Rattle.lnt_unit.proofs.UnitLaws.{unit_found}
 use Rattle.lnt_unit.proofs.decode.unit_of.Goals as goal
 
 pub returns-in_err-header-clause-err : goal.returns-in_err-header-clause-err

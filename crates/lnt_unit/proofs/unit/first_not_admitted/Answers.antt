@@ -1,5 +1,5 @@
 use Rattle.std.proofs.Common.{subst, sym}
-use Rattle.lnt_header.specs.Laws.Firsts.{first_not}
+use Rattle.lnt_header.proofs.FirstLaws.{first_not}
 use Rattle.lnt_header.specs.OpRules.{Admits}
 use Rattle.lnt_unit.proofs.unit.first_not_admitted.Goals as goal
 

@@ -1,5 +1,5 @@
 use Rattle.std.proofs.Common.{rules}
-use Rattle.lnt_header.specs.Laws.Conversions.{header_in_format}
+use Rattle.lnt_header.proofs.ConversionLaws.{header_in_format}
 use Rattle.lnt_header.proofs.header.Header.with_format.Goals as goal
 
 pub returns : goal.returns

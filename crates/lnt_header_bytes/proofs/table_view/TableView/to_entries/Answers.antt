@@ -2,7 +2,7 @@ use Rattle.std.proofs.Common.{◌≡◌, ◌∙◌, sym, ap, subst, length, ℕ}
 use Rattle.lnt_wire.specs.Reading.{Reads}
 use Rattle.lnt_header_bytes.specs.Borrowed.{BorrowedTable, borrowed_table}
 use Rattle.lnt_header.specs.Joins.{Several}
-use Rattle.lnt_header_bytes.specs.Laws.Borrowed.{length_found}
+use Rattle.lnt_header_bytes.proofs.BorrowedLaws.{length_found}
 use Rattle.lnt_header_bytes.specs.TableBytes.{EntryBytes}
 use Rattle.lnt_header_bytes.proofs.ViewLemmas.{entries_are}
 use Rattle.lnt_header_bytes.proofs.table_view.TableView.to_entries.Goals as goal

@@ -1,5 +1,5 @@
 use Rattle.std.proofs.Common.{◌≡◌, ◌<◌, ◌∙◌, ap, length, slice_index_or, subst, sym, List, ℕ, drop, rules}
-use Rattle.lnt_machine.specs.Laws.Numbers.{sequence_by_numbers}
+use Rattle.lnt_machine.proofs.NumberLaws.{sequence_by_numbers}
 use Rattle.lnt_machine.specs.Walking.{IsSequencePlace, Keeps, Kept}
 use Rattle.lnt_machine.proofs.kept.Program.sequence.Goals as goal
 

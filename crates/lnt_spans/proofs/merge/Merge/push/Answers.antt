@@ -1,4 +1,4 @@
-use Rattle.lnt_spans.specs.Laws.Positions.{below_is_at_most}
+use Rattle.lnt_spans.proofs.PositionLaws.{below_is_at_most}
 use Rattle.lnt_spans.proofs.MergeLemmas.{comes, next_pushed, pushed}
 use Rattle.lnt_spans.proofs.merge.Merge.push.Goals as goal
 

@@ -4,7 +4,7 @@ use Rattle.lnt_wire.specs.declared.fault.Fault.{Fault}
 use Rattle.lnt_header.specs.declared.op.OpView.{OpView}
 use Rattle.lnt_ops.specs.Walks.{Fails, Steps, WalkStep}
 use Rattle.lnt_unit.specs.BrokenUnits.{BrokenUnit}
-use Rattle.lnt_unit.specs.Laws.Numbers.{given_broken_by_numbers}
+use Rattle.lnt_unit.proofs.NumberLaws.{given_broken_by_numbers}
 use Rattle.lnt_unit.specs.Views.{by_numbers}
 use Rattle.lnt_unit.proofs.InPlaceLemmas.{counted_all_by_numbers}
 use Rattle.lnt_unit.proofs.ViewLemmas.{counted_more}

@@ -3,7 +3,7 @@ use Rattle.std.proofs.lemmas.Result.{err_from_is_err_and}
 use Rattle.lnt_wire.specs.declared.fault.Reason.TheVariants.{Memory}
 use Rattle.lnt_header_bytes.specs.Broken.{BrokenHeader}
 use Rattle.lnt_unit.specs.BrokenUnits.{BrokenUnit}
-use Rattle.lnt_unit.specs.Laws.Broken.{header_broken}
+use Rattle.lnt_unit.proofs.BrokenLaws.{header_broken}
 use Rattle.lnt_unit.proofs.ViewLemmas.{no_header}
 use Rattle.lnt_unit.proofs.in_place.UnitInPlace.over.Goals as goal
 

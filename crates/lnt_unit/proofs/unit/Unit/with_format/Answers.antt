@@ -1,4 +1,4 @@
-use Rattle.lnt_header.specs.Laws.Conversions.{ops_in_format}
+use Rattle.lnt_header.proofs.ConversionLaws.{ops_in_format}
 use Rattle.lnt_unit.proofs.unit.Unit.with_format.Goals as goal
 
 pub of-requires : goal.of-requires

@@ -4,7 +4,7 @@ use Rattle.lnt_wire.specs.declared.fault.Fault.{Fault}
 use Rattle.lnt_header.specs.declared.op.OpView.{OpView}
 use Rattle.lnt_ops.specs.Walks.{Fails, Steps, WalkStep}
 use Rattle.lnt_unit.specs.BrokenUnits.{BrokenUnit}
-use Rattle.lnt_unit.specs.Laws.Views.{given_broken}
+use Rattle.lnt_unit.proofs.ViewLaws.{given_broken}
 use Rattle.lnt_unit.proofs.ViewLemmas.{counted_more, counted_all}
 use Rattle.lnt_unit.proofs.view.UnitView.operation_count.Goals as goal
 

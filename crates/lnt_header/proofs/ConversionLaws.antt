@@ -1,0 +1,38 @@
+-- A header in another format and byte order can be read too, and admits what it admitted.
+use Rattle.std.proofs.Common.{List, [], ◌∷◌}
+use Rattle.std.specs.List.{AllByRecursion}
+use Rattle.lnt_wire.specs.declared.format.Format.{Format}
+use Rattle.lnt_wire.specs.declared.format.Order.{Order}
+use Rattle.lnt_header.specs.Conversion.{in_format}
+use Rattle.lnt_header.specs.HeaderRules.{HasHeaderNumbers, IsHeader}
+use Rattle.lnt_header.specs.OpRules.{Admits}
+use Rattle.lnt_header.specs.declared.header.HeaderParts.{HeaderParts}
+use Rattle.lnt_header.specs.declared.op.Op.{Op}
+use Rattle.lnt_header.specs.declared.op.Op.TheVariants.{Special}
+
+numbers_in_format : (h : HeaderParts) (format : Format) (order : Order) → HasHeaderNumbers h → HasHeaderNumbers (in_format h format order)
+numbers_in_format h format order n = record {
+  address_size = n.address_size;
+  line_base = n.line_base;
+  bytes = n.bytes;
+  max_ops = n.max_ops;
+  line_range = n.line_range;
+  opcode_base = n.opcode_base;
+  lengths = n.lengths;
+}
+
+pub header_in_format : (h : HeaderParts) (format : Format) (order : Order) → IsHeader h → IsHeader (in_format h format order)
+header_in_format h format order is = record {
+  numbers = numbers_in_format h format order is.numbers;
+  directories = is.directories;
+  files = is.files;
+}
+
+pub op_in_format : (h : HeaderParts) (format : Format) (order : Order) (op : Op) → Admits h op → Admits (in_format h format order) op
+op_in_format h format order (Special c) a = a
+op_in_format h format order op a = a
+
+pub ops_in_format : (h : HeaderParts) (format : Format) (order : Order) (ops : List Op) → AllByRecursion (Admits h) ops
+    → AllByRecursion (Admits (in_format h format order)) ops
+ops_in_format h format order [] all = tt
+ops_in_format h format order (op ∷ ops) all = (op_in_format h format order op all.0, ops_in_format h format order ops all.1)

@@ -1,0 +1,83 @@
+-- Rows cut into sequences, one row at a time.
+use Rattle.std.proofs.Common.{◌≡◌, true, false, List, [], ◌∷◌, ◌++◌, length, refl, sym, ap, ◌∙◌, append_assoc, arith}
+use Rattle.std.specs.List.{AllByRecursion}
+use Rattle.std.proofs.lemmas.List.{append-nil, length-append}
+use Rattle.lnt_machine.specs.declared.row.Row.{Row}
+use Rattle.lnt_machine.specs.declared.row.Sequence.{Sequence}
+use Rattle.lnt_machine.specs.Matrix.{joined_rows, sequences_of}
+use Rattle.lnt_machine.specs.Cuts.{AreOpen, IsEnded, IsCut}
+
+pub cut_none : IsCut [] [] []
+cut_none = record { joined = refl; each = tt; past = tt }
+
+all-append : {X : Type 0} (P : X → Type 0) (xs : List X) (x : X) → AllByRecursion P xs → P x → AllByRecursion P (xs ++ x ∷ [])
+all-append P [] x all here = (here, tt)
+all-append P (y ∷ xs) x all here = (all.0, all-append P xs x all.1 here)
+
+joined_rows-append : (ended : List Sequence) (sequence : Sequence)
+    → joined_rows (ended ++ sequence ∷ []) ≡ joined_rows ended ++ sequence.rows
+joined_rows-append [] sequence = append-nil sequence.rows
+joined_rows-append (first ∷ ended) sequence =
+    ap (λ (rows : List Row). first.rows ++ rows) (joined_rows-append ended sequence)
+    ∙ sym (append_assoc first.rows (joined_rows ended) sequence.rows)
+
+-- one more row that doesn't end its sequence
+pub cut_more : (rows left : List Row) (ended : List Sequence) (row : Row) → IsCut rows ended left → row.end_sequence ≡ false
+    → IsCut (rows ++ row ∷ []) ended (left ++ row ∷ [])
+cut_more rows left ended row cut goes_on = record {
+  joined = ap (λ (list : List Row). list ++ row ∷ []) cut.joined ∙ append_assoc (joined_rows ended) left (row ∷ []);
+  each = cut.each;
+  past = all-append (λ r. r.end_sequence ≡ false) left row cut.past goes_on;
+}
+
+-- one more row, which ends its sequence
+pub cut_end : (rows left : List Row) (ended : List Sequence) (row : Row) → IsCut rows ended left → row.end_sequence ≡ true
+    → IsCut (rows ++ row ∷ []) (ended ++ record { rows = left ++ row ∷ [] } ∷ []) []
+cut_end rows left ended row cut ends =
+    let sequence : Sequence = record { rows = left ++ row ∷ [] } in
+    record {
+      joined = ap (λ (list : List Row). list ++ row ∷ []) cut.joined ∙ append_assoc (joined_rows ended) left (row ∷ [])
+          ∙ sym (joined_rows-append ended sequence) ∙ sym (append-nil (joined_rows (ended ++ sequence ∷ [])));
+      each = all-append IsEnded ended sequence cut.each
+          (record { body = left; last = row; rows_are = refl; body_open = cut.past; ends = ends });
+      past = tt;
+    }
+
+-- ---- the cut is that of the definition
+
+sequences_of-open : (rows : List Row) → AreOpen rows → sequences_of rows ≡ []
+sequences_of-open [] o = refl
+sequences_of-open (row ∷ rows) o = rw (o.0, sequences_of-open rows o.1) refl
+
+sequences_of-ended : (body more : List Row) (last : Row) → AreOpen body → last.end_sequence ≡ true
+    → sequences_of (body ++ last ∷ more) ≡ record { rows = body ++ last ∷ [] } ∷ sequences_of more
+sequences_of-ended [] more last o ends = rw ends refl
+sequences_of-ended (row ∷ body) more last o ends = rw (o.0, sequences_of-ended body more last o.1 ends) refl
+
+sequences_of-joined : (ended : List Sequence) (left : List Row) → AllByRecursion IsEnded ended → AreOpen left
+    → sequences_of (joined_rows ended ++ left) ≡ ended
+sequences_of-joined [] left each past = sequences_of-open left past
+sequences_of-joined (sequence ∷ ended) left (first, each) past =
+    let more = joined_rows ended ++ left in
+    let parts : (sequence.rows ++ joined_rows ended) ++ left ≡ first.body ++ first.last ∷ more =
+    ap (λ (rows : List Row). (rows ++ joined_rows ended) ++ left) first.rows_are
+    ∙ append_assoc (first.body ++ first.last ∷ []) (joined_rows ended) left ∙ append_assoc first.body (first.last ∷ []) more in
+    ap sequences_of parts ∙ sequences_of-ended first.body more first.last first.body_open first.ends
+    ∙ ap (λ (sequences : List Sequence). record { rows = first.body ++ first.last ∷ [] } ∷ sequences)
+    (sequences_of-joined ended left each past)
+    ∙ ap (λ (rows : List Row). record { rows = rows } ∷ ended) (sym first.rows_are)
+
+pub cut_is : (rows left : List Row) (ended : List Sequence) → IsCut rows ended left → sequences_of rows ≡ ended
+cut_is rows left ended cut = ap sequences_of cut.joined ∙ sequences_of-joined ended left cut.each cut.past
+
+-- no row is left after the last end row
+pub cut_closed : (rows : List Row) (ended : List Sequence) → IsCut rows ended [] → joined_rows (sequences_of rows) ≡ rows
+cut_closed rows ended cut = ap joined_rows (cut_is rows [] ended cut) ∙ sym (cut.joined ∙ append-nil (joined_rows ended))
+
+-- a row is left
+pub cut_open : (rows left : List Row) (ended : List Sequence) (row : Row) → IsCut rows ended (row ∷ left)
+    → joined_rows (sequences_of rows) ≡ rows → ⊥
+cut_open rows left ended row cut closed =
+    let all : joined_rows ended ≡ joined_rows ended ++ row ∷ left = ap joined_rows (sym (cut_is rows (row ∷ left) ended cut)) ∙ closed
+    ∙ cut.joined in
+    omega (arith, ap length all, length-append (joined_rows ended) (row ∷ left))

@@ -1,0 +1,24 @@
+-- Rows cut into sequences, and those that no sequence ends yet (DWARF 5, 6.2.2).
+use Rattle.std.specs.Prelude.{◌≡◌, true, false, List, [], ◌∷◌, ◌++◌}
+use Rattle.std.specs.List.{AllByRecursion}
+use Rattle.lnt_machine.specs.declared.row.Row.{Row}
+use Rattle.lnt_machine.specs.declared.row.Sequence.{Sequence}
+use Rattle.lnt_machine.specs.Matrix.{joined_rows}
+
+-- rows that don't end their sequence
+abbrev pub AreOpen : List Row → Type 0
+AreOpen rows = AllByRecursion (λ row. row.end_sequence ≡ false) rows
+
+-- The last row ends the sequence, and no other does.
+pub record IsEnded (sequence : Sequence) : Type 0 where
+  pub body : List Row
+  pub last : Row
+  pub rows_are : sequence.rows ≡ body ++ last ∷ []
+  pub body_open : AreOpen body
+  pub ends : last.end_sequence ≡ true
+
+-- The rows are those of sequences, and rows after the last end row.
+pub record IsCut (rows : List Row) (ended : List Sequence) (left : List Row) : Type 0 where
+  pub joined : rows ≡ joined_rows ended ++ left
+  pub each : AllByRecursion IsEnded ended
+  pub past : AreOpen left

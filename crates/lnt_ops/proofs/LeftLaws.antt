@@ -1,0 +1,103 @@
+-- Walks over a program whose operations are known, from some place on.
+use Rattle.std.proofs.Common.{◌≡◌, ℕ, List, [], ◌∷◌, ◌++◌, length, refl, sym, ap, subst, ◌∙◌, arith, true, false, ◌⊎◌, inl, inr}
+use Rattle.std.specs.Prelude.{drop}
+use Rattle.std.proofs.lemmas.Bool.{true≢false}
+use Rattle.std.proofs.lemmas.List.{append-nil, length-append}
+use Rattle.std.proofs.Math.Seq.{drop-append_seam}
+use Rattle.lnt_wire.proofs.CodeLaws.{peel}
+use Rattle.lnt_wire.proofs.LengthLaws.{same_rest}
+use Rattle.lnt_wire.specs.declared.fault.Fault.{Fault}
+use Rattle.lnt_header.specs.declared.header.HeaderParts.{HeaderParts}
+use Rattle.lnt_header.specs.declared.op.Op.{Op}
+use Rattle.lnt_header.specs.declared.op.OpView.{OpView}
+use Rattle.lnt_header.specs.HeaderRules.{IsHeader}
+use Rattle.lnt_header.specs.Joins.{Each}
+use Rattle.lnt_header.specs.OpRules.{StandsFor}
+use Rattle.lnt_ops.proofs.OpLaws.{op_code, op_is_some}
+use Rattle.lnt_ops.specs.Left.{IsLeft, IsNextOf, IsPlace}
+use Rattle.lnt_ops.specs.OpBytes.{OpBytes}
+use Rattle.lnt_ops.specs.OpReading.{GivesOp}
+use Rattle.lnt_ops.specs.Walks.{Walk, Ends, Steps, Fails}
+
+-- the next operation
+pub left_next : (h : HeaderParts) (later : List Op) (view : OpView) (old new : Walk) → IsHeader h → IsLeft h later old → Steps view old new
+    → IsNextOf h later view new
+left_next h [] view old new header left s =
+    let r = s.gives.reads in
+    absurd (omega (
+      arith,
+      ap length left.spelled,
+      ap length r.whole,
+      length-append r.spelling new.at.rest,
+      op_is_some old.header s.gives.op
+          r.spelling r.spelled,
+    ))
+left_next h (op ∷ later) view old new header left s =
+    let gives : GivesOp h view old.at new.at = subst (λ (g : HeaderParts). GivesOp g view old.at new.at) left.header_is s.gives in
+    let r = gives.reads in
+    let t = left.spelled in
+    let both = sym t.joined ∙ r.whole in
+    let found = (op_code h header.numbers).one op gives.op t.front r.spelling t.back new.at.rest t.first r.spelled both in
+    let rest : t.back ≡ new.at.rest = same_rest t.front r.spelling t.back new.at.rest found.1 both in
+    record {
+      op = op;
+      others = later;
+      later_is = refl;
+      stands = subst (StandsFor view) (sym found.0) gives.stands;
+      left = record { header_is = s.header_is ∙ left.header_is; going = s.goes_on; spelled = subst (Each (OpBytes h) later) rest t.second };
+    }
+
+-- none is left
+pub left_ends : (h : HeaderParts) (later : List Op) (old new : Walk) → IsLeft h later old → Ends old new → later ≡ []
+left_ends h [] old new left e = refl
+left_ends h (op ∷ later) old new left e = absurd (by_end e.ended)
+  where
+    by_end : (old.failed ≡ true) ⊎ (length old.at.rest ≡ 0) → ⊥
+    by_end (inl failed) = true≢false (sym failed ∙ left.going)
+    by_end (inr empty) = let t = left.spelled in omega
+        (arith, empty, ap length t.joined, length-append t.front t.back, op_is_some h op t.front t.first)
+
+-- none is refused
+pub left_fails : (h : HeaderParts) (later : List Op) (fault : Fault) (old new : Walk) → IsLeft h later old → Fails fault old new → ⊥
+left_fails h [] fault old new left f = omega (arith, f.some, ap length left.spelled)
+left_fails h (op ∷ later) fault old new left f =
+    let t = left.spelled in
+    f.refuses.none op t.front t.back (subst (λ (g : HeaderParts). OpBytes g op t.front) (sym left.header_is) t.first) (sym t.joined)
+
+-- the operations after some that a front of the program spells
+pub each_after : (h : HeaderParts) (earlier all : List Op) (front rest program : List ℕ) → IsHeader h → Each (OpBytes h) earlier front
+    → Each (OpBytes h) all program → program ≡ front ++ rest
+    → (later : List Op) × (all ≡ earlier ++ later) × Each (OpBytes h) later rest
+each_after h [] all front rest program header p q whole =
+    (all, refl, subst (Each (OpBytes h) all) (whole ∙ ap (λ (z : List ℕ). z ++ rest) p) q)
+each_after h (op ∷ earlier) [] front rest program header p q whole =
+    absurd (omega (
+      arith,
+      ap length q,
+      ap length whole,
+      length-append front rest,
+      ap length p.joined,
+      length-append p.front p.back,
+      op_is_some h op p.front p.first,
+    ))
+each_after h (op ∷ earlier) (other ∷ all) front rest program header p q whole =
+    let one = peel (op_code h header.numbers) other op program front [] rest q p (append-nil program ∙ whole) in
+    let more = each_after h earlier all p.back rest q.back header p.second q.second (sym (append-nil q.back) ∙ one.past) in
+    (more.0, cc (one.value, more.1), more.2)
+
+-- a place stays one, once it is known what the whole program is
+pub place_found : (h : HeaderParts) (earlier all : List Op) (front rest program : List ℕ) → IsHeader h → Each (OpBytes h) earlier front
+    → Each (OpBytes h) all program → program ≡ front ++ rest
+    → (later : List Op) × (all ≡ earlier ++ later) × IsPlace h program earlier later (length front)
+place_found h earlier all front rest program header p q whole =
+    let found = each_after h earlier all front rest program header p q whole in
+    (found.0, found.1, record { front = front; rest = rest; split = whole; place_is = refl; earlier_spelled = p; later_spelled = found.2 })
+
+-- a walk that begins at a place has the later operations before it
+pub left_at : (h : HeaderParts) (program : List ℕ) (earlier later : List Op) (place : ℕ) (walk : Walk)
+    → IsPlace h program earlier later place
+    → walk.header ≡ h → walk.failed ≡ false → walk.at.rest ≡ drop place program → IsLeft h later walk
+left_at h program earlier later place walk is header going rest =
+    let past : walk.at.rest ≡ is.rest =
+    rest ∙ ap (λ (n : ℕ). drop n program) is.place_is ∙ ap (drop (length is.front)) is.split ∙ drop-append_seam is.front is.rest in
+    record { header_is = header; going = going; spelled = subst (Each (OpBytes h) later) (sym past) is.later_spelled }

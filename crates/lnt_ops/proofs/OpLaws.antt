@@ -1,0 +1,307 @@
+-- Under one header an operation has one value for its bytes, and none begins another.
+use Rattle.std.proofs.Common.{◌≡◌, ℕ, ◌+◌, ◌*◌, ◌<◌, ◌≤◌, inl, inr, List, [], ◌∷◌, ◌++◌, length, refl, sym, ap, subst}
+use Rattle.std.proofs.Common.{◌∙◌, append_assoc, arith}
+use Rattle.std.proofs.lemmas.List.{length-append, append-nil}
+use Rattle.std.specs.Prelude.{ℤ}
+use Rattle.lnt_wire.specs.Bytes.{Exactly, IsCode}
+use Rattle.lnt_wire.specs.Leb128.{UnsignedLeb}
+use Rattle.lnt_wire.proofs.CodeLaws.{same_leb, unsigned_code, signed_code, number_code, peel, same_join}
+use Rattle.lnt_wire.proofs.LengthLaws.{IsWidth, width_2, width_4, width_8, same_front, same_rest}
+use Rattle.lnt_header.specs.declared.header.HeaderParts.{HeaderParts}
+use Rattle.lnt_header.specs.declared.op.Op.{Op}
+use Rattle.lnt_header.specs.declared.op.Op.TheVariants.{Special}
+use Rattle.lnt_header.specs.HeaderRules.{IsAddressSize, HasHeaderNumbers}
+use Rattle.lnt_header.specs.Joins.{Each}
+use Rattle.lnt_header.proofs.ListLaws.{same_each}
+use Rattle.lnt_header.proofs.ByteLaws.{byte_code}
+use Rattle.lnt_header.specs.OpRules.{Coding, coding, Operand, standard_length}
+use Rattle.lnt_ops.specs.Laws.{OneProgram}
+use Rattle.lnt_ops.specs.OpBytes.{CodingBytes, Standard, Extended, OpBytes}
+
+-- ---- which operation it is
+
+-- a number of each opcode: 0 of special ones, odd numbers of standard ones, even ones of extended ones
+abbrev pub tag_of : Coding → ℕ
+tag_of (Coding.special c) = 0
+tag_of (Coding.standard k operand) = 2 * k + 1
+tag_of (Coding.unknown_standard k operands) = 2 * k + 1
+tag_of (Coding.extended code) = 2 * code + 2
+tag_of (Coding.extended_number code n) = 2 * code + 2
+tag_of (Coding.extended_address code address) = 2 * code + 2
+tag_of (Coding.unknown_extended code operand) = 2 * code + 2
+
+abbrev pub tag : Op → ℕ
+tag op = tag_of (coding op)
+
+-- what the first bytes of an operation say of its kind
+data Shape (opcode_base t : ℕ) (x : List ℕ) : Type 0 where
+  special : (c : ℕ) → t ≡ 0 → opcode_base ≤ c → x ≡ c ∷ [] → Shape opcode_base t x
+  standard : (k : ℕ) (operand : List ℕ) → t ≡ 2 * k + 1 → 0 < k → k < opcode_base → x ≡ k ∷ operand → Shape opcode_base t x
+  extended : (code : ℕ) (operand spelling : List ℕ) → t ≡ 2 * code + 2 → UnsignedLeb (length (code ∷ operand)) spelling
+      → x ≡ 0 ∷ (spelling ++ (code ∷ operand)) → Shape opcode_base t x
+
+standard_shape : (h : HeaderParts) (k t : ℕ) (Operand : List ℕ → Type 0) (x : List ℕ) → t ≡ 2 * k + 1 → 0 < k → Standard h k Operand x
+    → Shape h.opcode_base t x
+standard_shape h k t Operand x e positive p = standard k p.1.back e positive p.0 (p.1.joined ∙ ap (λ (z : List ℕ). z ++ p.1.back) p.1.first)
+
+extended_shape : (h : HeaderParts) (code t : ℕ) (Operand : List ℕ → Type 0) (x : List ℕ) → t ≡ 2 * code + 2 → Extended code Operand x
+    → Shape h.opcode_base t x
+extended_shape h code t Operand x e p =
+    let rest : p.0 ≡ code ∷ p.1.back = p.1.joined ∙ ap (λ (z : List ℕ). z ++ p.1.back) p.1.first in
+    let inner = p.2.second in
+    let past : p.2.back ≡ inner.front ++ (code ∷ p.1.back) = inner.joined ∙ ap (λ (z : List ℕ). inner.front ++ z) (inner.second ∙ rest) in
+    let whole : x ≡ 0 ∷ (inner.front ++ (code ∷ p.1.back)) = p.2.joined ∙ ap (λ (z : List ℕ). z ++ p.2.back) p.2.first
+    ∙ ap (λ (z : List ℕ). 0 ∷ z) past in
+    extended code p.1.back inner.front e (subst (λ (z : List ℕ). UnsignedLeb (length z) inner.front) rest inner.first) whole
+
+-- no standard opcode is 0
+abbrev IsPositive : Coding → Type 0
+IsPositive (Coding.standard k operand) = 0 < k
+IsPositive c = 0 < 1
+
+positive : (op : Op) → IsPositive (coding op)
+positive (Special c) = omega arith
+positive op = omega arith
+
+coding_shape : (h : HeaderParts) (c : Coding) (x : List ℕ) → IsPositive c → CodingBytes h c x → Shape h.opcode_base (tag_of c) x
+coding_shape h (Coding.special c) x some p = special c refl p.0 p.2
+coding_shape h (Coding.standard k operand) x some p = standard_shape h k (2 * k + 1) _ x refl some p
+coding_shape h (Coding.unknown_standard k operands) x some p = standard_shape h k (2 * k + 1) _ x refl (omega (arith, p.0)) p.2
+coding_shape h (Coding.extended code) x some p = extended_shape h code (2 * code + 2) _ x refl p
+coding_shape h (Coding.extended_number code n) x some p = extended_shape h code (2 * code + 2) _ x refl p
+coding_shape h (Coding.extended_address code address) x some p = extended_shape h code (2 * code + 2) _ x refl p
+coding_shape h (Coding.unknown_extended code operand) x some p = extended_shape h code (2 * code + 2) _ x refl p.4
+
+shape_of : (h : HeaderParts) (op : Op) (x : List ℕ) → OpBytes h op x → Shape h.opcode_base (tag op) x
+shape_of h op x p = coding_shape h (coding op) x (positive op) p
+
+-- the same bytes in front say the same
+heads_of : (a b : ℕ) (x y u v r s : List ℕ) → x ≡ a ∷ u → y ≡ b ∷ v → x ++ r ≡ y ++ s → (a ≡ b) × (u ++ r ≡ v ++ s)
+heads_of a b x y u v r s p q e =
+    let all : a ∷ (u ++ r) ≡ b ∷ (v ++ s) = ap (λ (z : List ℕ). z ++ r) (sym p) ∙ e ∙ ap (λ (z : List ℕ). z ++ s) q in
+    (cc, cc)
+
+same_shape : (opcode_base t t' : ℕ) (x y r s : List ℕ) → 0 < opcode_base → Shape opcode_base t x → Shape opcode_base t' y → x ++ r ≡ y ++ s
+    → t ≡ t'
+same_shape base t t' x y r s pos (special c tag le p) (special c' tag' le' q) e = omega arith
+same_shape base t t' x y r s pos (special c tag le p) (standard k u tag' some lt q) e =
+    let h = heads_of c k x y [] u r s p q e in absurd (omega (arith, h.0))
+same_shape base t t' x y r s pos (special c tag le p) (extended code u l tag' leb q) e =
+    let h = heads_of c 0 x y [] (l ++ (code ∷ u)) r s p q e in absurd (omega (arith, h.0))
+same_shape base t t' x y r s pos (standard k u tag some lt p) (special c tag' le q) e =
+    let h = heads_of k c x y u [] r s p q e in absurd (omega (arith, h.0))
+same_shape base t t' x y r s pos (standard k u tag some lt p) (standard k' u' tag' some' lt' q) e =
+    let h = heads_of k k' x y u u' r s p q e in omega (arith, h.0)
+same_shape base t t' x y r s pos (standard k u tag some lt p) (extended code u' l tag' leb q) e =
+    let h = heads_of k 0 x y u (l ++ (code ∷ u')) r s p q e in absurd (omega (arith, h.0))
+same_shape base t t' x y r s pos (extended code u l tag leb p) (special c tag' le q) e =
+    let h = heads_of 0 c x y (l ++ (code ∷ u)) [] r s p q e in absurd (omega (arith, h.0))
+same_shape base t t' x y r s pos (extended code u l tag leb p) (standard k u' tag' some lt q) e =
+    let h = heads_of 0 k x y (l ++ (code ∷ u)) u' r s p q e in absurd (omega (arith, h.0))
+same_shape base t t' x y r s pos (extended code u l tag leb p) (extended code' u' l' tag' leb' q) e =
+    let h = heads_of 0 0 x y (l ++ (code ∷ u)) (l' ++ (code' ∷ u')) r s p q e in
+    let all : l ++ ((code ∷ u) ++ r) ≡ l' ++ ((code' ∷ u') ++ s) = sym (append_assoc l (code ∷ u) r) ∙ h.1
+    ∙ append_assoc l' (code' ∷ u') s in
+    let spelling : l ≡ l' = same_leb l l' ((code ∷ u) ++ r) ((code' ∷ u') ++ s) leb.shape leb'.shape all in
+    let past : (code ∷ u) ++ r ≡ (code' ∷ u') ++ s = same_rest l l' ((code ∷ u) ++ r) ((code' ∷ u') ++ s) spelling all in
+    let codes : code ≡ code' = cc in
+    omega arith
+
+pub same_tag : (h : HeaderParts) (u v : Op) (x y r s : List ℕ) → 0 < h.opcode_base → OpBytes h u x → OpBytes h v y → x ++ r ≡ y ++ s
+    → tag u ≡ tag v
+same_tag h u v x y r s pos p q e = same_shape h.opcode_base (tag u) (tag v) x y r s pos (shape_of h u x p) (shape_of h v y q) e
+
+-- ---- what the first byte says
+
+standard_of : (base t k : ℕ) (y : List ℕ) → 0 < k → k < base → Shape base t (k ∷ y) → t ≡ 2 * k + 1
+standard_of base t k y some lt (special c tag le p) = let same : k ≡ c = cc in absurd (omega (arith, same))
+standard_of base t k y some lt (standard j u tag positive under p) = let same : k ≡ j = cc in omega (arith, same)
+standard_of base t k y some lt (extended code u l tag leb p) = let same : k ≡ 0 = cc in absurd (omega (arith, same))
+
+extended_of : (base t : ℕ) (y : List ℕ) → 0 < base → Shape base t (0 ∷ y) → (code : ℕ) × (t ≡ 2 * code + 2)
+extended_of base t y some (special c tag le p) = let same : 0 ≡ c = cc in absurd (omega (arith, same))
+extended_of base t y some (standard j u tag positive under p) = let same : 0 ≡ j = cc in absurd (omega (arith, same))
+extended_of base t y some (extended code u l tag leb p) = (code, tag)
+
+-- an operation whose first byte is a standard opcode
+pub standard_tag : (h : HeaderParts) (op : Op) (k : ℕ) (y : List ℕ) → 0 < k → k < h.opcode_base → OpBytes h op (k ∷ y) → tag op ≡ 2 * k + 1
+standard_tag h op k y some lt p = standard_of h.opcode_base (tag op) k y some lt (shape_of h op (k ∷ y) p)
+
+-- and one whose first byte is zero
+pub extended_tag : (h : HeaderParts) (op : Op) (y : List ℕ) → 0 < h.opcode_base → OpBytes h op (0 ∷ y) → (code : ℕ)
+    × (tag op ≡ 2 * code + 2)
+extended_tag h op y some p = extended_of h.opcode_base (tag op) y some (shape_of h op (0 ∷ y) p)
+
+-- ---- its operand
+
+-- a standard operation with an operand
+same_operand : {X : Type 0} {P : X → List ℕ → Type 0} → IsCode P → (make : ℕ → X → Coding) (h : HeaderParts) (j k : ℕ) (m n : X)
+    (x y r s : List ℕ)
+    → Standard h j (P m) x → Standard h k (P n) y → x ++ r ≡ y ++ s → (make j m ≡ make k n) × (x ≡ y)
+same_operand code make h j k m n x y r s p q e =
+    let opcode = peel byte_code j k x y r s p.1 q.1 e in
+    let operand = code.one m n p.1.back q.1.back r s p.1.second q.1.second opcode.past in
+    (ap (λ (i : ℕ). make i m) opcode.value ∙ ap (make k) operand.0, same_join x y p.1 q.1 opcode.bytes operand.1)
+
+-- and one without
+same_opcode : (h : HeaderParts) (j k : ℕ) (x y r s : List ℕ) → Standard h j (Exactly []) x → Standard h k (Exactly []) y
+    → x ++ r ≡ y ++ s
+    → (Coding.standard j Operand.bare ≡ Coding.standard k Operand.bare) × (x ≡ y)
+same_opcode h j k x y r s p q e =
+    let opcode = peel byte_code j k x y r s p.1 q.1 e in
+    (ap (λ (i : ℕ). Coding.standard i Operand.bare) opcode.value, same_join x y p.1 q.1 opcode.bytes (p.1.second ∙ sym q.1.second))
+
+-- what follows the length of an extended operation
+same_extended : {P Q : List ℕ → Type 0} (c d : ℕ) (x y r s : List ℕ) → (p : Extended c P x) → (q : Extended d Q y) → x ++ r ≡ y ++ s
+    → (p.0 ≡ q.0) × (x ≡ y)
+same_extended c d x y r s p q e =
+    let zero_byte = peel byte_code 0 0 x y r s p.2 q.2 e in
+    let p2 = p.2.second in
+    let q2 = q.2.second in
+    let size = peel unsigned_code (length p.0) (length q.0) p.2.back q.2.back r s p2 q2 zero_byte.past in
+    let len : length p2.back ≡ length q2.back = ap length p2.second ∙ size.value ∙ sym (ap length q2.second) in
+    let same : p2.back ≡ q2.back = same_front p2.back q2.back r s len size.past in
+    (sym p2.second ∙ same ∙ q2.second, same_join x y p.2 q.2 zero_byte.bytes (same_join p.2.back q.2.back p2 q2 size.bytes same))
+
+same_extended_operand : {X : Type 0} {P : X → List ℕ → Type 0} → IsCode P → (make : ℕ → X → Coding) (c d : ℕ) (m n : X)
+    (x y r s : List ℕ)
+    → Extended c (P m) x → Extended d (P n) y → x ++ r ≡ y ++ s → (make c m ≡ make d n) × (x ≡ y)
+same_extended_operand code make c d m n x y r s p q e =
+    let found = same_extended c d x y r s p q e in
+    let inner = peel byte_code c d p.0 q.0 [] [] p.1 q.1 (ap (λ (z : List ℕ). z ++ []) found.0) in
+    let operand = code.one m n p.1.back q.1.back [] [] p.1.second q.1.second inner.past in
+    (ap (λ (i : ℕ). make i m) inner.value ∙ ap (make d) operand.0, found.1)
+
+same_extended_code : (c d : ℕ) (x y r s : List ℕ) → Extended c (Exactly []) x → Extended d (Exactly []) y → x ++ r ≡ y ++ s
+    → (Coding.extended c ≡ Coding.extended d) × (x ≡ y)
+same_extended_code c d x y r s p q e =
+    let found = same_extended c d x y r s p q e in
+    let inner = peel byte_code c d p.0 q.0 [] [] p.1 q.1 (ap (λ (z : List ℕ). z ++ []) found.0) in
+    (ap Coding.extended inner.value, found.1)
+
+same_unknown : (c d : ℕ) (t t' x y r s : List ℕ) → Extended c (Exactly t) x → Extended d (Exactly t') y → x ++ r ≡ y ++ s
+    → (Coding.unknown_extended c t ≡ Coding.unknown_extended d t') × (x ≡ y)
+same_unknown c d t t' x y r s p q e =
+    let found = same_extended c d x y r s p q e in
+    let inner = peel byte_code c d p.0 q.0 [] [] p.1 q.1 (ap (λ (z : List ℕ). z ++ []) found.0) in
+    let whole : c ∷ t ≡ d ∷ t' = sym (p.1.joined ∙ ap (λ (z : List ℕ). z ++ p.1.back) p.1.first ∙ ap (λ (z : List ℕ). c ∷ z) p.1.second)
+    ∙ found.0 ∙ (q.1.joined ∙ ap (λ (z : List ℕ). z ++ q.1.back) q.1.first ∙ ap (λ (z : List ℕ). d ∷ z) q.1.second) in
+    let codes : c ≡ d = inner.value in
+    let operands : t ≡ t' = cc in
+    (ap (λ (a : ℕ). Coding.unknown_extended a t) codes ∙ ap (Coding.unknown_extended d) operands, found.1)
+
+same_unknown_standard : (h : HeaderParts) (k l : ℕ) (us vs x y r s : List ℕ) → length us ≡ standard_length h k
+    → length vs ≡ standard_length h l
+    → Standard h k (Each UnsignedLeb us) x → Standard h l (Each UnsignedLeb vs) y → x ++ r ≡ y ++ s
+    → (Coding.unknown_standard k us ≡ Coding.unknown_standard l vs) × (x ≡ y)
+same_unknown_standard h k l us vs x y r s m n p q e =
+    let opcode = peel byte_code k l x y r s p.1 q.1 e in
+    let codes : k ≡ l = opcode.value in
+    let len : length us ≡ length vs = m ∙ ap (standard_length h) codes ∙ sym n in
+    let all = same_each unsigned_code us vs p.1.back q.1.back r s len p.1.second q.1.second opcode.past in
+    (ap (λ (a : ℕ). Coding.unknown_standard a us) codes ∙ ap (Coding.unknown_standard l) all.0, same_join x y p.1 q.1 opcode.bytes all.1)
+
+pub address_width : (size : ℕ) → IsAddressSize size → IsWidth size
+address_width size (inl two) = subst IsWidth (sym two) width_2
+address_width size (inr (inl four)) = subst IsWidth (sym four) width_4
+address_width size (inr (inr eight)) = subst IsWidth (sym eight) width_8
+
+-- a number of each kind of operand, and of each kind of coding
+operand_kind : Operand → ℕ
+operand_kind Operand.bare = 0
+operand_kind (Operand.unsigned n) = 1
+operand_kind (Operand.signed z) = 2
+operand_kind (Operand.half n) = 3
+
+abbrev kind : Coding → ℕ
+kind (Coding.special c) = 0
+kind (Coding.unknown_standard k operands) = 1
+kind (Coding.extended code) = 2
+kind (Coding.extended_number code n) = 3
+kind (Coding.extended_address code address) = 4
+kind (Coding.unknown_extended code operand) = 5
+kind (Coding.standard k operand) = 6 + operand_kind operand
+
+-- An opcode has one kind of operand. The clauses are for each pair of operations.
+same_kind : (h : HeaderParts) (u v : Op) (x y : List ℕ) → tag u ≡ tag v → OpBytes h u x → OpBytes h v y → kind (coding u) ≡ kind (coding v)
+unfolding operand_kind
+same_kind h (Special c) (Special d) x y t p q = refl
+same_kind h u (Special d) x y t p q = absurd (omega arith)
+same_kind h u v x y t p q = omega arith
+
+same_coding : (h : HeaderParts) (width : IsWidth h.address_size) (c d : Coding) (x y r s : List ℕ) → kind c ≡ kind d → CodingBytes h c x
+    → CodingBytes h d y → x ++ r ≡ y ++ s → (c ≡ d) × (x ≡ y)
+unfolding operand_kind
+same_coding h width (Coding.special c) (Coding.special d) x y r s t p q e =
+    let both = heads_of c d x y [] [] r s p.2 q.2 e in (ap Coding.special both.0, p.2 ∙ ap (λ (a : ℕ). a ∷ []) both.0 ∙ sym q.2)
+same_coding h width (Coding.standard j Operand.bare) (Coding.standard k Operand.bare) x y r s t p q e = same_opcode h j k x y r s p q e
+same_coding h width (Coding.standard j (Operand.unsigned m)) (Coding.standard k (Operand.unsigned n)) x y r s t p q e =
+    same_operand unsigned_code (λ (i a : ℕ). Coding.standard i (Operand.unsigned a)) h j k m n x y r s p q e
+same_coding h width (Coding.standard j (Operand.signed m)) (Coding.standard k (Operand.signed n)) x y r s t p q e =
+    same_operand signed_code (λ (i : ℕ) (a : ℤ). Coding.standard i (Operand.signed a)) h j k m n x y r s p q e
+same_coding h width (Coding.standard j (Operand.half m)) (Coding.standard k (Operand.half n)) x y r s t p q e =
+    same_operand (number_code h.order 2 width_2) (λ (i a : ℕ). Coding.standard i (Operand.half a)) h j k m n x y r s p q e
+same_coding h width (Coding.unknown_standard k us) (Coding.unknown_standard l vs) x y r s t p q e =
+    same_unknown_standard h k l us vs x y r s p.1 q.1 p.2 q.2 e
+same_coding h width (Coding.extended c) (Coding.extended d) x y r s t p q e = same_extended_code c d x y r s p q e
+same_coding h width (Coding.extended_number c m) (Coding.extended_number d n) x y r s t p q e =
+    same_extended_operand unsigned_code Coding.extended_number c d m n x y r s p q e
+same_coding h width (Coding.extended_address c m) (Coding.extended_address d n) x y r s t p q e =
+    same_extended_operand (number_code h.order h.address_size width) Coding.extended_address c d m n x y r s p q e
+same_coding h width (Coding.unknown_extended c m) (Coding.unknown_extended d n) x y r s t p q e = same_unknown c d m n x y r s p.4 q.4 e
+same_coding h width c d x y r s t p q e = absurd (omega arith)
+
+-- each coding is that of one operation
+one_coding : (u v : Op) → coding u ≡ coding v → u ≡ v
+one_coding (Special c) (Special d) e = cc
+one_coding u (Special d) e = cc
+one_coding u v e = cc
+
+same_of_tag : (h : HeaderParts) (width : IsWidth h.address_size) (u v : Op) (x y r s : List ℕ) → tag u ≡ tag v → OpBytes h u x
+    → OpBytes h v y → x ++ r ≡ y ++ s → (u ≡ v) × (x ≡ y)
+same_of_tag h width u v x y r s t p q e =
+    let found = same_coding h width (coding u) (coding v) x y r s (same_kind h u v x y t p q) p q e in
+    (one_coding u v found.0, found.1)
+
+pub op_code : (h : HeaderParts) → HasHeaderNumbers h → IsCode (OpBytes h)
+op_code h numbers =
+    let size = numbers.address_size in
+    let some : 0 < h.opcode_base = omega (arith, numbers.opcode_base) in
+    record {
+      one = λ u v x y r s p q e. same_of_tag h (address_width h.address_size size) u v x y r s (same_tag h u v x y r s some p q e) p
+          q e;
+    }
+
+-- each operation has some byte
+some_shape : (base t : ℕ) (x : List ℕ) → Shape base t x → 0 < length x
+some_shape base t x (special c tag le p) = omega (arith, ap length p)
+some_shape base t x (standard k u tag some lt p) = omega (arith, ap length p)
+some_shape base t x (extended code u l tag leb p) = omega (arith, ap length p)
+
+pub op_is_some : (h : HeaderParts) (op : Op) (x : List ℕ) → OpBytes h op x → 0 < length x
+op_is_some h op x p = some_shape h.opcode_base (tag op) x (shape_of h op x p)
+
+-- ---- programs
+
+-- lists of values that have some bytes each, and spell the same bytes
+pub same_whole : {X : Type 0} {P : X → List ℕ → Type 0} → IsCode P → ((u : X) (x : List ℕ) → P u x → 0 < length x)
+    → (us vs : List X) (x y : List ℕ)
+    → Each P us x → Each P vs y → x ≡ y → us ≡ vs
+same_whole code some [] [] x y p q e = refl
+same_whole code some [] (v ∷ vs) x y p q e =
+    absurd (omega (arith, some v q.front q.first, ap length q.joined, ap length e, ap length p, length-append q.front q.back))
+same_whole code some (u ∷ us) [] x y p q e =
+    absurd (omega (arith, some u p.front p.first, ap length p.joined, ap length e, ap length q, length-append p.front p.back))
+same_whole code some (u ∷ us) (v ∷ vs) x y p q e =
+    let one = peel code u v x y [] [] p q (ap (λ (z : List ℕ). z ++ []) e) in
+    let past : p.back ≡ q.back = sym (append-nil p.back) ∙ one.past ∙ append-nil q.back in
+    let heads : u ≡ v = one.value in
+    let tails : us ≡ vs = same_whole code some us vs p.back q.back p.second q.second past in
+    cc
+
+pub same_program : (h : HeaderParts) → HasHeaderNumbers h → (us vs : List Op) (bytes : List ℕ) → Each (OpBytes h) us bytes
+    → Each (OpBytes h) vs bytes → us ≡ vs
+same_program h numbers us vs bytes p q = same_whole (op_code h numbers) (op_is_some h) us vs bytes bytes p q refl
+
+pub one_program : OneProgram
+one_program = record { operation = op_code; program = same_program }

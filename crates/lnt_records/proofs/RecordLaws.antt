@@ -1,0 +1,126 @@
+-- The records that are read from bytes: there is one list of them, and of two that were read from the front the shorter one begins
+-- the longer one.
+use Rattle.std.proofs.Common.{◌≡◌, ◌∙◌, ℕ, ◌<◌, ◌≤◌, List, [], ◌∷◌, ◌++◌, length, refl, sym, ap, subst, None, arith, append_assoc}
+use Rattle.std.proofs.Common.{⊎_elim}
+use Rattle.std.proofs.lemmas.Bool.{cases_lt}
+use Rattle.std.proofs.lemmas.List.{length-append}
+use Rattle.csv.specs.Machine.{Read, next_record}
+use Rattle.csv.specs.Reading.{Reached}
+use Rattle.csv.specs.declared.parser.Config.{Config}
+use Rattle.csv.specs.declared.parser.State.{State}
+use Rattle.lnt_records.specs.Table.{BeginsWith, Fields, RecordsOf}
+
+-- of two least numbers
+pub same_least : (i j : ℕ) → (i < j → ⊥) → (j < i → ⊥) → i ≡ j
+same_least i j below above =
+    ⊎_elim (λ (lt : i < j). absurd (below lt)) (λ (le : j ≤ i). ⊎_elim (λ (lt : j < i). absurd (above lt)) (λ (ge : i ≤ j). omega arith)
+    (cases_lt j i)) (cases_lt i j)
+
+-- ---- one list of records
+
+-- The records begin with any that are read first.
+read_front : (cfg : Config) (s s1 s2 : State) (xs y1 y2 : List ℕ) (front records : List Fields) → Reached cfg s xs front s1 y1
+    → Reached cfg s xs records s2 y2
+    → next_record cfg s2 [] [] y2 ≡ None → (past : List Fields) × (records ≡ front ++ past)
+unfolding Reached
+read_front cfg s s1 s2 xs y1 y2 [] records h k none = (records, refl)
+read_front cfg s s1 s2 xs y1 y2 (r ∷ front) [] h k none =
+    let last : next_record cfg s [] [] xs ≡ None = rw (k.0, k.1) none in
+    let first = h.1 in
+    absurd (cc (last, first))
+read_front cfg s s1 s2 xs y1 y2 (r ∷ front) (q ∷ records) h k none =
+    let one = h.1 in
+    let two = k.1 in
+    let same : k.0 ≡ h.0 = cc in
+    let first : q ≡ r = k.2 ∙ ap (λ (p : Read). p.0) same ∙ sym h.2 in
+    let rest = read_front cfg h.0.1 s1 s2 h.0.2 y1 y2 front records h.3 (subst (λ (p : Read). Reached cfg p.1 p.2 records s2 y2) same k.3)
+    none in
+    let past = rest.1 in
+    (rest.0, cc)
+
+pub front_of : (bytes : List ℕ) (front records : List Fields) → BeginsWith bytes front → RecordsOf bytes records
+    → (past : List Fields) × (records ≡ front ++ past)
+front_of bytes front records h k = read_front _ _ _ _ _ _ _ front records h.2 k.2 k.3
+
+pub begins_all : (bytes : List ℕ) (records : List Fields) → RecordsOf bytes records → BeginsWith bytes records
+begins_all bytes records h = (h.0, h.1, h.2)
+
+same_lists : (xs ys past more : List Fields) → xs ≡ ys ++ past → ys ≡ xs ++ more → xs ≡ ys
+same_lists [] [] past more e f = refl
+same_lists [] (y ∷ ys) past more e f = absurd (cc e)
+same_lists (x ∷ xs) [] past more e f = absurd (cc f)
+same_lists (x ∷ xs) (y ∷ ys) past more e f =
+    let first : x ≡ y = cc in
+    let left : xs ≡ ys ++ past = cc in
+    let right : ys ≡ xs ++ more = cc in
+    let rest = same_lists xs ys past more left right in
+    cc
+
+pub one_list : (bytes : List ℕ) (xs ys : List Fields) → RecordsOf bytes xs → RecordsOf bytes ys → xs ≡ ys
+one_list bytes xs ys h k =
+    let a = front_of bytes ys xs (begins_all bytes ys k) h in
+    let b = front_of bytes xs ys (begins_all bytes xs h) k in
+    same_lists xs ys a.0 b.0 a.1 b.1
+
+-- ---- records up to one
+
+read_both : (cfg : Config) (s s1 s2 : State) (xs y1 y2 : List ℕ) (front records : List Fields) → Reached cfg s xs front s1 y1
+    → Reached cfg s xs records s2 y2 → length front ≤ length records
+    → (past : List Fields) × (records ≡ front ++ past)
+unfolding Reached
+read_both cfg s s1 s2 xs y1 y2 [] records h k le = (records, refl)
+read_both cfg s s1 s2 xs y1 y2 (r ∷ front) [] h k le = absurd (omega arith)
+read_both cfg s s1 s2 xs y1 y2 (r ∷ front) (q ∷ records) h k le =
+    let one = h.1 in
+    let two = k.1 in
+    let same : k.0 ≡ h.0 = cc in
+    let first : q ≡ r = k.2 ∙ ap (λ (p : Read). p.0) same ∙ sym h.2 in
+    let rest = read_both cfg h.0.1 s1 s2 h.0.2 y1 y2 front records h.3 (subst (λ (p : Read). Reached cfg p.1 p.2 records s2 y2) same k.3)
+    (omega arith) in
+    let past = rest.1 in
+    (rest.0, cc)
+
+both_begin : (bytes : List ℕ) (front records : List Fields) → BeginsWith bytes front → BeginsWith bytes records
+    → length front ≤ length records → (past : List Fields) × (records ≡ front ++ past)
+both_begin bytes front records h k le = read_both _ _ _ _ _ _ _ front records h.2 k.2 le
+
+-- The record after the fewer of them is one of the others.
+pub stands_before : (bytes : List ℕ) (xs ys : List Fields) (x y : Fields) → BeginsWith bytes (xs ++ x ∷ [])
+    → BeginsWith bytes (ys ++ y ∷ []) → length xs < length ys → (past : List Fields) × (ys ≡ (xs ++ x ∷ []) ++ past)
+stands_before bytes xs ys x y h k lt =
+    let le : length (xs ++ x ∷ []) ≤ length (ys ++ y ∷ []) =
+    omega (arith, lt, length-append xs (x ∷ []), length-append ys (y ∷ [])) in
+    let both = both_begin bytes (xs ++ x ∷ []) (ys ++ y ∷ []) h k le in
+    shorter (xs ++ x ∷ []) both.0 ys (y ∷ []) (sym both.1) (omega (arith, lt, length-append xs (x ∷ [])))
+  where
+    shorter : (front past records more : List Fields) → front ++ past ≡ records ++ more → length front ≤ length records
+        → (rest : List Fields) × (records ≡ front ++ rest)
+    shorter [] past records more e le = (records, refl)
+    shorter (r ∷ front) past [] more e le = absurd (omega arith)
+    shorter (r ∷ front) past (q ∷ records) more e le =
+        let heads : r ≡ q = cc in
+        let tails : front ++ past ≡ records ++ more = cc in
+        let rest = shorter front past records more tails (omega arith) in
+        let found = rest.1 in
+        (rest.0, cc)
+
+-- As many of them are the same, and so is the record after them.
+pub one_end : (bytes : List ℕ) (xs ys : List Fields) (x y : Fields) → BeginsWith bytes (xs ++ x ∷ [])
+    → BeginsWith bytes (ys ++ y ∷ []) → length xs ≡ length ys → (xs ≡ ys) × (x ≡ y)
+one_end bytes xs ys x y h k number =
+    let le : length (xs ++ x ∷ []) ≤ length (ys ++ y ∷ []) =
+    omega (arith, number, length-append xs (x ∷ []), length-append ys (y ∷ [])) in
+    let both = both_begin bytes (xs ++ x ∷ []) (ys ++ y ∷ []) h k le in
+    same_ends xs ys x y both.0 (both.1 ∙ append_assoc xs (x ∷ []) both.0) number
+  where
+    same_ends : (xs ys : List Fields) (x y : Fields) (past : List Fields) → ys ++ y ∷ [] ≡ xs ++ (x ∷ past) → length xs ≡ length ys
+        → (xs ≡ ys) × (x ≡ y)
+    same_ends [] [] x y past e same = let heads : y ≡ x = cc in (refl, sym heads)
+    same_ends [] (b ∷ ys) x y past e same = absurd (omega arith)
+    same_ends (a ∷ xs) [] x y past e same = absurd (omega arith)
+    same_ends (a ∷ xs) (b ∷ ys) x y past e same =
+        let heads : b ≡ a = cc in
+        let tails : ys ++ y ∷ [] ≡ xs ++ (x ∷ past) = cc in
+        let rest = same_ends xs ys x y past tails (omega arith) in
+        let found = rest.0 in
+        (cc, rest.1)

@@ -1,0 +1,116 @@
+-- A live sequence, found again by its id.
+use Rattle.std.proofs.Common.{◌≡◌, ℕ, zero, suc, ◌+◌, ◌<◌, Bool, true, false, List, [], ◌∷◌, ◌++◌, Option, refl, sym}
+use Rattle.std.proofs.Common.{ap, ◌∙◌, arith, length, get_or, inl, inr, ◌⊎◌, ⊎_elim}
+use Rattle.std.specs.Prelude.{cond}
+use Rattle.std.specs.List.{Contains, filter}
+use Rattle.lnt_unit.specs.declared.unit.Parts.{Parts}
+use Rattle.lnt_machine.specs.declared.row.Sequence.{Sequence}
+use Rattle.lnt_machine.specs.Matrix.{sequences}
+use Rattle.lnt_sequences.proofs.WalkLaws.{placed_from}
+use Rattle.lnt_sequences.specs.Sequences.{is_live, live_in, live_sequences, Placed, placed_in}
+
+-- It is the sequence with this index of the unit with this place among all.
+pub record IsSequenceOf (units : List (ℕ × Parts)) (placed : Placed) : Type 0 where
+  pub place : ℕ
+  pub unit : ℕ × Parts
+  pub within : place < length units
+  pub unit_at : (d : ℕ × Parts) → get_or units place d ≡ unit
+  pub unit_is : placed.id.unit ≡ unit.0
+  pub few : placed.id.index < length (sequences unit.1)
+  pub rows_are : (d : Sequence) → placed.rows ≡ (get_or (sequences unit.1) placed.id.index d).rows
+
+-- the sequence of these, with indices from a number on
+record IsOneOf (unit index : ℕ) (ss : List Sequence) (placed : Placed) : Type 0 where
+  k : ℕ
+  few : k < length ss
+  unit_is : placed.id.unit ≡ unit
+  index_is : placed.id.index ≡ index + k
+  rows_are : (d : Sequence) → placed.rows ≡ (get_or ss k d).rows
+
+head_or_tail : {X : Type 0} (y : X) (xs : List X) (x : X) → Contains (y ∷ xs) x → (y ≡ x) ⊎ Contains xs x
+head_or_tail {X} y xs x h = by_place h.0 h.1 h.2
+  where
+    by_place : (k : ℕ) → k < suc (length xs) → get_or (y ∷ xs) k x ≡ x → (y ≡ x) ⊎ Contains xs x
+    by_place zero l e = inl e
+    by_place (suc k) l e = inr (k, omega arith, e)
+
+one_of : (unit index : ℕ) (ss : List Sequence) (placed : Placed) → Contains (placed_from unit index ss) placed
+    → IsOneOf unit index ss placed
+one_of unit index [] placed h = absurd (omega (arith, h.1))
+one_of unit index (s ∷ ss) placed h =
+    let first : Placed = record { id = record { unit = unit; index = index }; rows = s.rows } in
+    ⊎_elim
+    (λ (here : first ≡ placed). record {
+      k = 0;
+      few = omega arith;
+      unit_is = ap (λ (p : Placed). p.id.unit) (sym here);
+      index_is = omega (arith, ap (λ (p : Placed). p.id.index) here);
+      rows_are = λ d. ap (λ (p : Placed). p.rows) (sym here);
+    })
+    (λ (later : Contains (placed_from unit (index + 1) ss) placed).
+    let one = one_of unit (index + 1) ss placed later in
+    let few = one.few in
+    record {
+      k = suc one.k;
+      few = omega arith;
+      unit_is = one.unit_is;
+      index_is = omega (arith, one.index_is);
+      rows_are = one.rows_are;
+    })
+    (head_or_tail first (placed_from unit (index + 1) ss) placed h)
+
+pub of_filter : {X : Type 0} (test : X → Bool) (xs : List X) (x : X) → Contains (filter test xs) x → Contains xs x
+of_filter test [] x h = h
+of_filter {X} test (y ∷ xs) x h = by_test (test y) h (λ k. of_filter test xs x k)
+  where
+    past : Contains xs x → Contains (y ∷ xs) x
+    past k = (suc k.0, omega (arith, k.1), k.2)
+
+    by_test : (t : Bool) → Contains (cond t (y ∷ filter test xs) (filter test xs)) x → (Contains (filter test xs) x → Contains xs x)
+        → Contains (y ∷ xs) x
+    by_test true k rest = ⊎_elim (λ (here : y ≡ x). (0, omega arith, here)) (λ (later : Contains (filter test xs) x). past (rest later))
+        (head_or_tail y (filter test xs) x k)
+    by_test false k rest = past (rest k)
+
+of_append : {X : Type 0} (xs ys : List X) (x : X) → Contains (xs ++ ys) x → Contains xs x ⊎ Contains ys x
+of_append [] ys x h = inr h
+of_append {X} (y ∷ xs) ys x h =
+    ⊎_elim
+    (λ (here : y ≡ x). inl (0, omega arith, here))
+    (λ (later : Contains (xs ++ ys) x).
+    ⊎_elim
+    (λ (k : Contains xs x). inl (suc k.0, omega (arith, k.1), k.2))
+    (λ (k : Contains ys x). inr k)
+    (of_append xs ys x later))
+    (head_or_tail y (xs ++ ys) x h)
+
+pub live_placed : (dead : Option ℕ) (units : List (ℕ × Parts)) (placed : Placed) → Contains (live_sequences dead units) placed
+    → IsSequenceOf units placed
+live_placed dead [] placed h = absurd (omega (arith, h.1))
+live_placed dead (unit ∷ units) placed h =
+    ⊎_elim
+    (λ (here : Contains (live_in dead unit) placed).
+    let one = one_of unit.0 0 (sequences unit.1) placed (of_filter (is_live dead) (placed_in unit) placed here) in
+    let index : placed.id.index ≡ one.k = omega (arith, one.index_is) in
+    record {
+      place = 0;
+      unit = unit;
+      within = omega arith;
+      unit_at = λ d. refl;
+      unit_is = one.unit_is;
+      few = omega (arith, index, one.few);
+      rows_are = λ d. one.rows_are d ∙ ap (λ (k : ℕ). (get_or (sequences unit.1) k d).rows) (sym index);
+    })
+    (λ (later : Contains (live_sequences dead units) placed).
+    let one = live_placed dead units placed later in
+    let within = one.within in
+    record {
+      place = suc one.place;
+      unit = one.unit;
+      within = omega arith;
+      unit_at = one.unit_at;
+      unit_is = one.unit_is;
+      few = one.few;
+      rows_are = one.rows_are;
+    })
+    (of_append (live_in dead unit) (live_sequences dead units) placed h)

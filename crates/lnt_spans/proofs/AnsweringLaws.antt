@@ -1,0 +1,66 @@
+-- What a list of spans answers, by its first span.
+use Rattle.std.proofs.Common.{◌≡◌, ◌∙◌, true, false, Bool, List, [], ◌∷◌, ◌++◌, inl, inr, refl, sym, Some, None}
+use Rattle.std.specs.Prelude.{◌&&◌}
+use Rattle.lnt_spans.specs.declared.position.Position.{Position}
+use Rattle.lnt_spans.specs.declared.span.Span.{Span}
+use Rattle.lnt_spans.specs.Positions.{IsBelow, IsAtMost}
+use Rattle.lnt_spans.specs.Spans.{AreInOrder, span_answer}
+use Rattle.lnt_spans.proofs.PositionLaws.{test_below, test_not_below, test_at_most, test_not_at_most, below_at_most}
+use Rattle.lnt_spans.proofs.PositionLaws.{below_is_at_most, order_cases}
+
+-- p is in the first span
+pub answer_in : (s : Span) (rest : List Span) (p : Position) → IsAtMost s.low p → IsBelow p s.high
+    → span_answer (s ∷ rest) p ≡ Some s.answer
+answer_in s rest p h k = rw (test_at_most s.low p h, test_below p s.high k) refl
+
+-- p is before it, or after
+pub answer_before : (s : Span) (rest : List Span) (p : Position) → IsBelow p s.low → span_answer (s ∷ rest) p ≡ span_answer rest p
+answer_before s rest p h = rw (test_not_at_most s.low p h) refl
+
+false-and : (a : Bool) → (a && false) ≡ false
+false-and true = refl
+false-and false = refl
+
+pub answer_after : (s : Span) (rest : List Span) (p : Position) → IsAtMost s.high p → span_answer (s ∷ rest) p ≡ span_answer rest p
+answer_after s rest p h = rw (test_not_below p s.high h, false-and) refl
+
+-- one more span in front of lists that agree
+pub answer_same : (s : Span) (xs ys : List Span) (p : Position) → span_answer xs p ≡ span_answer ys p
+    → span_answer (s ∷ xs) p ≡ span_answer (s ∷ ys) p
+answer_same s xs ys p e = elim (order_cases p s.low) [
+  | inl h ↦ answer_before s xs p h ∙ e ∙ sym (answer_before s ys p h)
+  | inr h ↦ elim (order_cases p s.high) [
+    | inl k ↦ answer_in s xs p h k ∙ sym (answer_in s ys p h k)
+    | inr k ↦ answer_after s xs p k ∙ e ∙ sym (answer_after s ys p k)
+  ]
+]
+
+pub first_holds : (s : Span) (rest : List Span) → AreInOrder (s ∷ rest) → IsBelow s.low s.high
+first_holds s [] h = h
+first_holds s (t ∷ rest) h = h.0
+
+pub rest_in_order : (s : Span) (rest : List Span) → AreInOrder (s ∷ rest) → AreInOrder rest
+rest_in_order s [] h = tt
+rest_in_order s (t ∷ rest) h = h.2
+
+-- spans in order, cut in two
+pub front_in_order : (xs ys : List Span) → AreInOrder (xs ++ ys) → AreInOrder xs
+front_in_order [] ys h = tt
+front_in_order (x ∷ []) [] h = h
+front_in_order (x ∷ []) (y ∷ ys) h = h.0
+front_in_order (x ∷ next ∷ xs) ys h = (h.0, h.1, front_in_order (next ∷ xs) ys h.2)
+
+pub back_in_order : (xs ys : List Span) → AreInOrder (xs ++ ys) → AreInOrder ys
+back_in_order [] ys h = h
+back_in_order (x ∷ xs) ys h = back_in_order xs ys (rest_in_order x (xs ++ ys) h)
+
+-- before the first span nothing answers
+pub none_before : (s : Span) (rest : List Span) (p : Position) → AreInOrder (s ∷ rest) → IsBelow p s.low → span_answer (s ∷ rest) p ≡ None
+none_before s [] p h k = answer_before s [] p k
+none_before s (t ∷ rest) p h k =
+    answer_before s (t ∷ rest) p k ∙ none_before t rest p h.2 (below_at_most (below_at_most k (below_is_at_most h.0)) h.1)
+
+-- up to the end of the first span the rest doesn't answer
+pub rest_none : (s : Span) (rest : List Span) (p : Position) → AreInOrder (s ∷ rest) → IsBelow p s.high → span_answer rest p ≡ None
+rest_none s [] p h k = refl
+rest_none s (t ∷ rest) p h k = none_before t rest p h.2 (below_at_most k h.1)
