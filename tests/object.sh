@@ -30,11 +30,11 @@ agrees() { # NAME FILE EXAMPLE ERROR [OPTION..]
 refuses() { # NAME FILE REASON
   expect "$1" 3 '' "$says $work/$2: $3"$'\n' object table "$work/$2"
 }
-# Whether these are here; else the case is counted as skipped.
-here() { # TOOL..
+# Whether the tools of a case are here; else it is left out, and told with the first that is missing.
+here() { # NAME TOOL..
   local tool
-  for tool; do
-    command -v "$tool" >/dev/null || { skipped=$((skipped + 1)); return 1; }
+  for tool in "${@:2}"; do
+    command -v "$tool" >/dev/null || { skip "$tool isn't here: $1"; return 1; }
   done
 }
 
@@ -92,13 +92,14 @@ packed() {
   refuses 'a compressed section that is cut' packed "$note"
   image elf64 packed "gnu:${hello[0]}" damaged
   refuses 'one that is cut in .zdebug' packed "$note"
-  here objcopy || return
+  here 'sections compressed by zstd' objcopy || return
   # Large enough that compressing gains anything.
   image elf64 packed "${dead[@]}"
-  objcopy --compress-debug-sections=zstd "$work/packed" 2>/dev/null || { skipped=$((skipped + 1)); return; }
+  objcopy --compress-debug-sections=zstd "$work/packed" 2>/dev/null ||
+    { skip 'objcopy compresses nothing by zstd'; return; }
   local units
   units=$("$linetab" units examples/gc-sections.debug_line)$'\n'
-  if here zstd; then
+  if here 'sections compressed by zstd, by the command' zstd; then
     expect 'sections compressed by zstd' 0 "$units" '' object units "$work/packed"
     # Another byte in the middle of the section.
     python3 - "$work/packed" "$work/torn" <<'END'
@@ -302,8 +303,8 @@ compiled() {
   { printf 'static int twice(int x) { return 2 * x; }\nint main(int n, char **v) { return twice(n); }\n'
     printf 'int f%d(int x) { return x + 1; }\n' {1..50}; } >"$work/main.c"
   while IFS=: read -r name tools words; do
-    here $tools || continue
-    (cd "$work" && bash -c "$words") >/dev/null 2>&1 || { skipped=$((skipped + 1)); continue; }
+    here "$name" $tools || continue
+    (cd "$work" && bash -c "$words") >/dev/null 2>&1 || { skip "$tools can't make it here: $name"; continue; }
     object table "$work/made" >"$work/made.csv" 2>/dev/null
     expect "$name" 0 $'yes\n' '' bash -c 'object check "$0" "$1" 2>/dev/null' "$work/made" "$work/made.csv"
     expect "$name, line 2" 0 $'0\n' '' bash -c 'awk -F , "\$7 == 2" "$0" | grep -q . ; echo $?' "$work/made.csv"
@@ -321,7 +322,8 @@ clang, WebAssembly:clang wasm-ld:clang --target=wasm32 -nostdlib -gdwarf-5 -Wl,-
 mingw:x86_64-w64-mingw32-gcc:x86_64-w64-mingw32-gcc -gdwarf-5 -o made.exe main.c && mv made.exe made
 arm:arm-linux-gnueabihf-gcc:arm-linux-gnueabihf-gcc -gdwarf-5 -Wa,--gdwarf-5 -o made main.c
 END
-  here gcc && gcc -gdwarf-4 -o "$work/made" "$work/main.c" || return
+  here 'gcc, version 4' gcc || return
+  gcc -gdwarf-4 -o "$work/made" "$work/main.c" 2>/dev/null || { skip "gcc can't make it here: gcc, version 4"; return; }
   expect 'gcc, version 4' 1 $'no 25 malformed at 0x4: version 4\n' \
     "$says note: its unit, of $work/main.c, is of version 4; linetab reads DWARF 5 alone: compile with -gdwarf-5"$'\n' \
     object table "$work/made"
@@ -334,11 +336,11 @@ END
 # The C library of this machine, whose debug information lies where its build id says.
 installed() {
   local file identity found
-  here readelf || return
+  here 'the C library, by its build id' readelf || return
   file=$(ldd "$linetab" | grep -oE '/[^ ]*libc\.so[^ ]*')
   identity=$(readelf -n "$file" 2>/dev/null | sed -n 's/.*Build ID: //p')
   found=/usr/lib/debug/.build-id/${identity:0:2}/${identity:2}.debug
-  [ -n "$identity" ] && [ -e "$found" ] || { skipped=$((skipped + 1)); return; }
+  [ -n "$identity" ] && [ -e "$found" ] || { skip "the debug information of the C library isn't here"; return; }
   expect 'the C library, by its build id' 0 "$(object units "$found")"$'\n' \
     "$says note: the debug information of $file is in $found"$'\n' object units "$file"
 }

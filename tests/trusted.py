@@ -1,12 +1,16 @@
-"""Finds the definitions that the headline leads to, name by name, and compares their files with those of docs/TRUSTED.md."""
+"""Finds the definitions that the contract of `lnt_table::check` leads to, name by name, and compares their files with those of
+docs/TRUSTED.md: which they are, that each stands after those that it needs, and how many lines they have, also of a Yes alone."""
 
 import os
 import re
 import sys
 
 TOP = os.path.dirname(os.path.dirname(os.path.abspath(__file__)))
-# What `lnt_table::check` says where it answers Yes.
+CONTRACT = "crates/lnt_table/src/checking.rt", "check"
+# What the contract says where the answer is Yes.
 HEADLINE = ("Rattle.lnt_table.specs.Headline", "AnswersRight")
+COUNTS = r"(\d+) lines of definitions in (\d+) files"
+COUNTS_OF_YES = r"(\d+) lines in (\d+) files for a Yes"
 WORDS = r"(?:(?:abbrev|unfoldable|opaque|pub|record|data) )+"
 
 
@@ -42,9 +46,20 @@ def is_named(name, words):
     return all(part in words for part in name.split("◌") if part)
 
 
-def closure():
-    """The files that the headline leads to, with the number of lines of each that it needs."""
-    texts, seen, left, files = {}, set(), [HEADLINE], {}
+def contract():
+    """The definitions that the clauses of the contract name, each with its module."""
+    with open(os.path.join(TOP, CONTRACT[0]), encoding="utf-8") as file:
+        text = file.read()
+    head = re.search(r"(?ms)^pub fn %s\b.*?^\{$" % CONTRACT[1], text)[0]
+    words = set(re.split(r"[\s(){},.;:]+", re.sub(r"(?m)^ *//.*", "", head[head.index("    requires ") :])))
+    uses = re.findall(r"(?m)^ghost use (Rattle\.lnt_\w+\.specs\.[\w.]+)\.\{(.*)\};", text)
+    named = [(place, name.strip()) for place, names in uses for name in names.split(",")]
+    return [(place, name) for place, name in named if ".declared." not in place and name in words]
+
+
+def closure(starts):
+    """The files that some definitions lead to, each with the number of its lines that they need, and with the files that these name."""
+    texts, seen, left, lines, needs = {}, set(), list(starts), {}, {}
     while left:
         module, name = left.pop()
         if (module, name) in seen or ".declared." in module:
@@ -55,25 +70,44 @@ def closure():
         brought, defined = texts[module]
         if name not in defined:
             sys.exit("%s has no definition of %s" % (file_of(module), name))
-        files[file_of(module)] = files.get(file_of(module), 0) + len(defined[name])
+        place = file_of(module)
+        lines[place] = lines.get(place, 0) + len(defined[name])
         words = set(re.split(r"[\s(){},;:]+", " ".join(defined[name])))
         words |= {word.partition(".")[0] for word in words}
-        left += [(module, other) for other in defined if other != name and is_named(other, words)]
-        left += [place for other, place in brought.items() if is_named(other, words)]
-    return files
+        others = [place_of for other, place_of in brought.items() if is_named(other, words)]
+        needs.setdefault(place, set()).update(file_of(other) for other, _ in others if ".declared." not in other)
+        left += others + [(module, other) for other in defined if other != name and is_named(other, words)]
+    return lines, needs
+
+
+def said(page, pattern, lines):
+    """What is wrong with the numbers that the page has."""
+    found = re.search(pattern, page)
+    true = [str(sum(lines.values())), str(len(lines))]
+    return [] if found and list(found.groups()) == true else ["it has to say %s lines in %s files: %s" % (*true, pattern)]
 
 
 def main():
-    files = closure()
+    starts = contract()
+    if HEADLINE[0] not in [place for place, _ in starts]:
+        sys.exit("failed: %s names nothing of %s" % (CONTRACT[0], HEADLINE[0]))
+    lines, needs = closure(starts)
+    of_yes, _ = closure([HEADLINE])
     with open(os.path.join(TOP, "docs", "TRUSTED.md"), encoding="utf-8") as file:
-        listed = re.findall(r"(?m)^\| `(crates/\S+\.antt)` \|", file.read())
-    passed = sum(listed.count(name) == 1 for name in files)
-    wrong = ["%s isn't listed, or twice" % name for name in files if listed.count(name) != 1]
-    wrong += ["%s is listed, and nothing leads to it" % name for name in listed if name not in files]
+        page = file.read()
+    listed = re.findall(r"(?m)^\| `(crates/\S+\.antt)` \|", page)
+    passed = sum(listed.count(name) == 1 for name in lines)
+    wrong = ["%s isn't listed, or twice" % name for name in lines if listed.count(name) != 1]
+    wrong += ["%s is listed, and nothing leads to it" % name for name in listed if name not in lines]
+    for at, name in enumerate(listed):
+        late = [other for other in needs.get(name, ()) if other != name and other not in listed[:at]]
+        wrong += ["%s stands before %s, which it needs" % (name, other) for other in sorted(late)]
+    wrong += said(page, COUNTS, lines) + said(page, COUNTS_OF_YES, of_yes)
     for text in wrong:
         print("failed: docs/TRUSTED.md: " + text)
-    crates = {name.split("/")[1] for name in files}
-    print("the headline leads to %d lines in %d files of %d crates" % (sum(files.values()), len(files), len(crates)))
+    crates = {name.split("/")[1] for name in lines}
+    told = ", ".join(name for _, name in starts)
+    print("%s lead to %d lines in %d files of %d crates" % (told, sum(lines.values()), len(lines), len(crates)))
     print("%d passed, %d failed" % (passed, len(wrong)))
     sys.exit(1 if wrong else 0)
 

@@ -1,3 +1,3 @@
 #!/usr/bin/env bash
-# docs/TRUSTED.md lists the files of definitions that the headline leads to, and no other.
+# docs/TRUSTED.md lists the files of definitions that the contract of lnt_table::check leads to, in order, and no other.
 cd "$(dirname "$0")/.." && exec python3 tests/trusted.py
