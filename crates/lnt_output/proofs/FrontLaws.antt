@@ -1,6 +1,6 @@
 -- Fronts of what is written, which the proofs of the crates above cite.
 use Rattle.std.proofs.Common.{◌≡◌, ◌∙◌, ℕ, ◌+◌, ◌<◌, List, [], ◌∷◌, ◌++◌, append-nil, append_assoc, length, get_or, take, drop}
-use Rattle.std.proofs.Common.{Option, None, Some, ap, subst, sym, take-append-drop, refl}
+use Rattle.std.proofs.Common.{Option, None, Some, Result, Ok, Err, OnErr, ap, subst, sym, take-append-drop, refl}
 use Rattle.std.specs.List.{flat_map}
 use Rattle.std.specs.Io.KnownBytes.{Appends, Keeps, append_known}
 use Rattle.std.proofs.KnownBytes.{Appends-nil, Appends-trans}
@@ -43,6 +43,10 @@ front_after old now new first second a f = record {
   gained = Appends-trans old now new first f.front a f.gained;
 }
 
+-- a front of bytes that were written where the writer had kept what it held
+pub front_since : (old now new : Option (List ℕ)) (bytes : List ℕ) → Keeps old now → AppendsFront now new bytes → AppendsFront old new bytes
+front_since old now new bytes k f = front_after old now new [] bytes (Appends_kept old now k) f
+
 -- the same bytes, said otherwise
 pub front_same : (old new : Option (List ℕ)) (bytes other : List ℕ) → bytes ≡ other → AppendsFront old new bytes
     → AppendsFront old new other
@@ -72,3 +76,8 @@ front_in_items f head items i d a b c lt before here =
 pub appends_known : (old : Option (List ℕ)) (bytes : List ℕ) → Appends old (append_known old bytes) bytes
 appends_known None bytes = tt
 appends_known (Some xs) bytes = refl
+
+-- what is so anyway is so where work stops
+pub so_stopped : {T E : Type 0} (result : Result T E) (IsSo : Type 0) → IsSo → OnErr result IsSo
+so_stopped (Ok value) IsSo so = tt
+so_stopped (Err fault) IsSo so = so

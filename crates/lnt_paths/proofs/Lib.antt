@@ -12,6 +12,7 @@ pub mod PassingLemmas
 pub mod PathSpanLemmas
 pub mod ReadingLemmas
 pub mod StepLemmas
+pub mod StretchLaws
 pub mod StretchingLemmas
 pub mod UniqueLemmas
 pub mod WriteLemmas

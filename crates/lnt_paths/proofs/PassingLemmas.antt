@@ -15,7 +15,7 @@ use Rattle.csv.specs.declared.parser.State.TheVariants as st
 use Rattle.csv.proofs.RoundTrip.{read-write}
 use Rattle.lnt_digits.specs.Digits.{IsAddress, IsDecimal}
 use Rattle.lnt_digits.proofs.TextLaws.{address_from_zero, decimal_from_zero}
-use Rattle.lnt_records.proofs.ReadingLemmas.{no_record}
+use Rattle.lnt_records.proofs.ReadingLaws.{no_record}
 use Rattle.lnt_records.specs.Lines.{Begins}
 use Rattle.lnt_records.specs.Progress.{BytesReader, HasRead}
 use Rattle.lnt_records.specs.Table.{BeginsWith, Fields, RecordsOf}

@@ -4,9 +4,11 @@ use Rattle.std.specs.Io.KnownBytes.{Appends, Keeps}
 use Rattle.std.specs.List.{AllByRecursion, AllZip}
 use Rattle.std.specs.Option.{option_map}
 use Rattle.std.proofs.KnownBytes.{Appends-trans}
-use Rattle.std.proofs.lemmas.List.{append-nil}
+use Rattle.std.proofs.lemmas.List.{append-nil, map-append}
 use Rattle.csv.specs.Writing.{default_writer, row_text}
 use Rattle.lnt_digits.specs.Digits.{IsPlainAddress, IsPlainDecimal}
+use Rattle.lnt_output.specs.Fronts.{AppendsFront}
+use Rattle.lnt_output.proofs.FrontLaws.{front_after, front_all, front_none, front_same}
 use Rattle.lnt_records.specs.Table.{Fields}
 use Rattle.lnt_spans.specs.declared.answer.Answer.{Answer}
 use Rattle.lnt_spans.specs.declared.position.Position.{Position}
@@ -14,11 +16,11 @@ use Rattle.lnt_spans.specs.declared.span.Span.{Span}
 use Rattle.lnt_spans.specs.Spans.{AreInOrder, span_answer}
 use Rattle.lnt_paths.specs.declared.version.PathVersion.{PathVersion}
 use Rattle.lnt_paths.specs.Borders.{HasNoOperation}
-use Rattle.lnt_paths.specs.Joining.{AddsPathLine, AllJoinTo, HasWritten, IsFirstOperation, JoinsTo, grown, tell_span}
+use Rattle.lnt_paths.specs.Joining.{AddsPathLine, AllJoinTo, AreFirstOf, HasBegunLines, HasWritten, IsFirstOperation, JoinsTo, grown, tell_span}
 use Rattle.lnt_paths.specs.PathAnswers.{PathAnswer}
 use Rattle.lnt_paths.specs.PathSpans.{AreCanonicalOf, PathSpan}
 use Rattle.lnt_paths.specs.PathTables.{SaysPath, path_column_names}
-use Rattle.lnt_paths.specs.Written.{HasOperationIndex, IsCanonicalPathTable, IsPlainPathRecord, records_text}
+use Rattle.lnt_paths.specs.Written.{BeginsPathTable, HasOperationIndex, IsCanonicalPathTable, IsPlainPathRecord, records_text}
 use Rattle.lnt_paths.proofs.BorderLemmas.{first_least}
 use Rattle.lnt_paths.proofs.JoiningLemmas.{all_join, joined_canonical}
 use Rattle.lnt_paths.proofs.LineLemmas.{table_of}
@@ -54,19 +56,59 @@ zip_more R (a ∷ xs) (b ∷ ys) x y z r = (z.0, zip_more R xs ys x y z.1 r)
 abbrev Says : (Answer → PathAnswer) → PathVersion → Fields → Span → Type 0
 Says tell version fields span = SaysPath IsPlainAddress IsPlainDecimal version fields span.low.address span.high.address (tell span.answer)
 
+-- a line after those that stand there
+line_text : (tell : Answer → PathAnswer) (version : PathVersion) (before : List Fields) (span : Span) (empty line : List ℕ) → empty ≡ []
+    → (adds : AddsPathLine tell version span empty line) → records_text before ++ line ≡ records_text (before ++ adds.fields ∷ [])
+line_text tell version before span empty line none adds =
+    let text : line ≡ row_text default_writer adds.fields =
+    adds.joined ∙ ap (λ (t : List ℕ). t ++ row_text default_writer adds.fields) none in
+    ap (λ (t : List ℕ). records_text before ++ t) (text ∙ sym (append-nil (row_text default_writer adds.fields)))
+    ∙ sym (records_append before (adds.fields ∷ []))
+
 pub one_written : (tell : Answer → PathAnswer) (version : PathVersion) (old now new : Option (List ℕ)) (given : List Span) (span : Span)
     (empty line : List ℕ) → HasWritten tell version old now given → empty ≡ []
     → AddsPathLine tell version span empty line → Appends now new line → HasWritten tell version old new (given ++ span ∷ [])
 one_written tell version old now new given span empty line w none adds more =
     let before : List Fields = path_column_names version ∷ w.records in
-    let text : line ≡ row_text default_writer adds.fields =
-    adds.joined ∙ ap (λ (t : List ℕ). t ++ row_text default_writer adds.fields) none in
-    let grown : records_text before ++ line ≡ records_text (before ++ adds.fields ∷ []) =
-    ap (λ (t : List ℕ). records_text before ++ t) (text ∙ sym (append-nil (row_text default_writer adds.fields)))
-    ∙ sym (records_append before (adds.fields ∷ [])) in
     record {
       records = w.records ++ adds.fields ∷ [];
-      written = subst (Appends old new) grown (Appends-trans old now new (records_text before) line w.written more);
+      written = subst (Appends old new) (line_text tell version before span empty line none adds)
+          (Appends-trans old now new (records_text before) line w.written more);
+      each = zip_more (Says tell version) w.records given adds.fields span w.each adds.says;
+    }
+
+-- ---- where lines were stopped
+
+-- before any byte
+pub no_lines_begun : (tell : Answer → PathAnswer) (version : PathVersion) (old : Option (List ℕ)) → HasBegunLines tell version old old []
+no_lines_begun tell version old = record { records = []; front = front_none old (records_text (path_column_names version ∷ [])); each = tt }
+
+-- in the names of the columns
+pub names_begun : (tell : Answer → PathAnswer) (version : PathVersion) (old new : Option (List ℕ)) (header : List ℕ)
+    → header ≡ row_text default_writer (path_column_names version) → AppendsFront old new header
+    → HasBegunLines tell version old new []
+names_begun tell version old new header e front = record {
+  records = [];
+  front = front_same old new header _ (e ∙ sym (append-nil (row_text default_writer (path_column_names version)))) front;
+  each = tt;
+}
+
+-- between two lines
+pub lines_so_far : (tell : Answer → PathAnswer) (version : PathVersion) (old now : Option (List ℕ)) (given : List Span)
+    → HasWritten tell version old now given → HasBegunLines tell version old now given
+lines_so_far tell version old now given w =
+    record { records = w.records; front = front_all old now (records_text (path_column_names version ∷ w.records)) w.written; each = w.each }
+
+-- in a line
+pub line_begun : (tell : Answer → PathAnswer) (version : PathVersion) (old now new : Option (List ℕ)) (given : List Span) (span : Span)
+    (empty line : List ℕ) → HasWritten tell version old now given → empty ≡ []
+    → AddsPathLine tell version span empty line → AppendsFront now new line → HasBegunLines tell version old new (given ++ span ∷ [])
+line_begun tell version old now new given span empty line w none adds front =
+    let before : List Fields = path_column_names version ∷ w.records in
+    record {
+      records = w.records ++ adds.fields ∷ [];
+      front = front_same old new (records_text before ++ line) _ (line_text tell version before span empty line none adds)
+          (front_after old now new (records_text before) line w.written front);
       each = zip_more (Says tell version) w.records given adds.fields span w.each adds.says;
     }
 
@@ -115,22 +157,29 @@ operation_found tell other list p alike first =
       least = first_least tell joined.0 p all.canonical.in_order (first joined.0 joined.1);
     }
 
+-- what is judged of one list holds of the other
+whole_instructions : (tell : Answer → PathAnswer) (other list joined : List Span) → AnswerAlike other list
+    → ((whole : List Span) → AllJoinTo tell other whole → AllByRecursion HasNoOperation whole) → AllJoinTo tell list joined
+    → AllByRecursion HasNone (map (tell_span tell) joined)
+whole_instructions tell other list joined alike none joins =
+    let judged = all_join tell other in
+    let one = canonical_of tell other list judged.0 alike judged.1 in
+    let two = joined_canonical tell list joined alike.second joins in
+    let equal : map (tell_span tell) judged.0 ≡ map (tell_span tell) joined =
+    one_list (map (tell_span tell) judged.0) (map (tell_span tell) joined) one.canonical two.canonical
+    (λ p. one.same p ∙ sym (two.same p)) in
+    subst (AllByRecursion HasNone) equal (none_by_path tell judged.0 (none judged.0 judged.1))
+
 pub table_written : (tell : Answer → PathAnswer) (version : PathVersion) (old new : Option (List ℕ)) (other list joined : List Span)
     → AnswerAlike other list
     → ((whole : List Span) → AllJoinTo tell other whole → AllByRecursion HasNoOperation whole)
     → ((all : List Span) → AllJoinTo tell list all → all ≡ joined) → HasWritten tell version old new joined
     → (bytes : List ℕ) × Appends old new bytes × IsCanonicalPathTable version (By tell list) bytes
 table_written tell version old new other list joined alike none are w =
-    let judged = all_join tell other in
     let all = all_join tell list in
     let joins : AllJoinTo tell list joined = subst (AllJoinTo tell list) (are all.0 all.1) all.1 in
-    let one = canonical_of tell other list judged.0 alike judged.1 in
     let two = joined_canonical tell list joined alike.second joins in
-    let equal : map (tell_span tell) judged.0 ≡ map (tell_span tell) joined =
-    one_list (map (tell_span tell) judged.0) (map (tell_span tell) joined) one.canonical two.canonical
-    (λ p. one.same p ∙ sym (two.same p)) in
-    let whole : AllByRecursion HasNone (map (tell_span tell) joined) =
-    subst (AllByRecursion HasNone) equal (none_by_path tell judged.0 (none judged.0 judged.1)) in
+    let whole = whole_instructions tell other list joined alike none joins in
     let each = plain_records tell version w.records joined w.each whole in
     let bytes : List ℕ = records_text (path_column_names version ∷ w.records) in (
       bytes,
@@ -164,3 +213,56 @@ pub instructions_written : (tell : Answer → PathAnswer) (version : PathVersion
 instructions_written tell version old new list joined order none are w =
     table_written tell version old new list list joined (record { first = order; second = order; same = λ p. refl })
     (λ whole joins. all_join_none tell list whole none joins) are w
+
+-- ---- a table that was stopped
+
+-- before any byte
+pub table_begun_none : (tell : Answer → PathAnswer) (version : PathVersion) (old : Option (List ℕ)) (list : List Span) → AreInOrder list
+    → BeginsPathTable version (By tell list) old old
+table_begun_none tell version old list order =
+    let all = all_join tell list in
+    record {
+      spans = map (tell_span tell) all.0;
+      canonical = joined_canonical tell list all.0 order all.1;
+      first = [];
+      rest = map (tell_span tell) all.0;
+      joined = refl;
+      records = [];
+      each = tt;
+      front = front_none old (records_text (path_column_names version ∷ []));
+    }
+
+all_left : (xs ys : List PathSpan) → AllByRecursion HasNone (xs ++ ys) → AllByRecursion HasNone xs
+all_left [] ys h = tt
+all_left (x ∷ xs) ys h = (h.0, all_left xs ys h.1)
+
+pub table_begun : (tell : Answer → PathAnswer) (version : PathVersion) (old new : Option (List ℕ)) (other list first : List Span)
+    → AnswerAlike other list
+    → ((whole : List Span) → AllJoinTo tell other whole → AllByRecursion HasNoOperation whole)
+    → AreFirstOf tell list first → HasBegunLines tell version old new first
+    → BeginsPathTable version (By tell list) old new
+table_begun tell version old new other list first alike none are begun =
+    let all = all_join tell list in
+    let left = are all.0 all.1 in
+    let split : map (tell_span tell) all.0 ≡ map (tell_span tell) first ++ map (tell_span tell) left.0 =
+    ap (map (tell_span tell)) left.1 ∙ map-append (tell_span tell) first left.0 in
+    let whole : AllByRecursion HasNone (map (tell_span tell) first ++ map (tell_span tell) left.0) =
+    subst (AllByRecursion HasNone) split (whole_instructions tell other list all.0 alike none all.1) in
+    record {
+      spans = map (tell_span tell) all.0;
+      canonical = joined_canonical tell list all.0 alike.second all.1;
+      first = map (tell_span tell) first;
+      rest = map (tell_span tell) left.0;
+      joined = sym split;
+      records = begun.records;
+      each = plain_records tell version begun.records first begun.each (all_left (map (tell_span tell) first)
+          (map (tell_span tell) left.0) whole);
+      front = begun.front;
+    }
+
+pub instructions_begun : (tell : Answer → PathAnswer) (version : PathVersion) (old new : Option (List ℕ)) (list first : List Span)
+    → AreInOrder list → AllByRecursion HasNoOperation list → AreFirstOf tell list first → HasBegunLines tell version old new first
+    → BeginsPathTable version (By tell list) old new
+instructions_begun tell version old new list first order none are begun =
+    table_begun tell version old new list list first (record { first = order; second = order; same = λ p. refl })
+    (λ whole joins. all_join_none tell list whole none joins) are begun

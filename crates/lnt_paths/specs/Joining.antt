@@ -5,6 +5,7 @@ use Rattle.std.specs.Io.KnownBytes.{Appends}
 use Rattle.std.specs.List.{All, AllZip}
 use Rattle.csv.specs.Writing.{default_writer, field_text, needs_byte, row_text}
 use Rattle.lnt_digits.specs.Digits.{IsPlainAddress, IsPlainDecimal}
+use Rattle.lnt_output.specs.Fronts.{AppendsFront}
 use Rattle.lnt_records.specs.Table.{Fields}
 use Rattle.lnt_spans.specs.declared.answer.Answer.{Answer}
 use Rattle.lnt_spans.specs.declared.position.Position.{Position}
@@ -104,3 +105,14 @@ pub record HasWritten (tell : Answer → PathAnswer) (version : PathVersion) (ol
   pub written : Appends old new (records_text (path_column_names version ∷ records))
   pub each : AllZip (λ fields span. SaysPath IsPlainAddress IsPlainDecimal version fields span.low.address span.high.address
       (tell span.answer)) records joined
+
+-- The same of a writer that was stopped: it has gained a front of that.
+pub record HasBegunLines (tell : Answer → PathAnswer) (version : PathVersion) (old new : Option (List ℕ)) (joined : List Span) : Type 0 where
+  pub records : List Fields
+  pub front : AppendsFront old new (records_text (path_column_names version ∷ records))
+  pub each : AllZip (λ fields span. SaysPath IsPlainAddress IsPlainDecimal version fields span.low.address span.high.address
+      (tell span.answer)) records joined
+
+-- These are the first of the spans that are left where those of a list are joined.
+abbrev pub AreFirstOf : (Answer → PathAnswer) → List Span → List Span → Type 0
+AreFirstOf tell list first = (all : List Span) → AllJoinTo tell list all → (rest : List Span) × (all ≡ first ++ rest)

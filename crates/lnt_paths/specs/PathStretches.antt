@@ -59,6 +59,14 @@ pub record AreStretches {X : Type 0} (by_section by_table : Position → Option 
   pub rising : AreRising stretches
   pub all : (p : Position) → (by_section p ≡ by_table p) ⊎ IsInOne by_section by_table stretches p
 
+-- These are the first of the stretches, in rising order: each is one, and at every position below where one of them begins that none of
+-- them holds the two answer alike. So no other stretch begins below the last one.
+pub record AreFirstStretches {X : Type 0} (by_section by_table : Position → Option X) (stretches : List (Stretch X)) : Type 0 where
+  pub each : AllByRecursion (BeginsStretch by_section by_table) stretches
+  pub rising : AreRising stretches
+  pub below : AllByRecursion (λ stretch. (p : Position) → IsBelow p stretch.position
+      → (by_section p ≡ by_table p) ⊎ IsInOne by_section by_table stretches p) stretches
+
 -- ---- answers by path
 
 -- a difference as a stretch
@@ -75,3 +83,7 @@ stretches_of differences = map stretch_of differences
 -- The differences tell exactly the stretches, in rising order.
 abbrev pub ArePathStretches : (Position → Option PathAnswer) → (Position → Option PathAnswer) → List DifferenceByPath → Type 0
 ArePathStretches by_section by_table differences = AreStretches by_section by_table (stretches_of differences)
+
+-- The differences tell the first of the stretches, in rising order.
+abbrev pub AreFirstPathStretches : (Position → Option PathAnswer) → (Position → Option PathAnswer) → List DifferenceByPath → Type 0
+AreFirstPathStretches by_section by_table differences = AreFirstStretches by_section by_table (stretches_of differences)

@@ -4,6 +4,7 @@ use Rattle.std.specs.Io.KnownBytes.{Appends, Keeps}
 use Rattle.std.specs.List.{AllZip}
 use Rattle.csv.specs.Writing.{default_writer, row_text}
 use Rattle.lnt_digits.specs.Digits.{IsPlainAddress, IsPlainDecimal}
+use Rattle.lnt_output.specs.Fronts.{AppendsFront}
 use Rattle.lnt_spans.specs.declared.position.Position.{Position}
 use Rattle.lnt_records.specs.Table.{Fields}
 use Rattle.lnt_paths.specs.declared.version.PathTable.{PathTable}
@@ -42,6 +43,17 @@ pub record HasOperationIndex (answers : Position → Option PathAnswer) (positio
   pub spans : List PathSpan
   pub canonical : AreCanonicalOf answers spans
   pub least : IsLeastOperation spans position
+
+-- The writer has gained a front of the names of the columns and the lines of the first of the canonical spans that answer so.
+pub record BeginsPathTable (version : PathVersion) (answers : Position → Option PathAnswer) (old new : Option (List ℕ)) : Type 0 where
+  pub spans : List PathSpan
+  pub canonical : AreCanonicalOf answers spans
+  pub first : List PathSpan
+  pub rest : List PathSpan
+  pub joined : first ++ rest ≡ spans
+  pub records : List Fields
+  pub each : AllZip (IsPlainPathRecord version) records first
+  pub front : AppendsFront old new (records_text (path_column_names version ∷ records))
 
 -- What became of the table of what is answered so, and what a writer that held some bytes holds then: it has gained exactly
 -- the bytes of the table, or nothing, where there can't be one.

@@ -1,14 +1,15 @@
 //! Tables by path written.
-ghost use Rattle.std.specs.Prelude.{◌≡◌, ℕ, List, IfOk, OnOk};
+ghost use Rattle.std.specs.Prelude.{◌≡◌, ℕ, List, IfOk, OnErr, OnOk};
 ghost use Rattle.std.specs.Io.KnownBytes.{Appends};
 ghost use Rattle.std.specs.List.{AllByRecursion};
+ghost use Rattle.lnt_output.specs.Fronts.{AppendsFront};
 ghost use Rattle.lnt_spans.specs.declared.position.Position as position;
 ghost use Rattle.lnt_spans.specs.declared.span.Span as spec;
 ghost use Rattle.lnt_spans.specs.Spans.{AreInOrder, span_answer};
 ghost use Rattle.lnt_paths.specs.Borders.{HasNoOperation};
-ghost use Rattle.lnt_paths.specs.Joining.{AllJoinTo, HasWritten};
+ghost use Rattle.lnt_paths.specs.Joining.{AllJoinTo, AreFirstOf, HasBegunLines, HasWritten};
 ghost use Rattle.lnt_paths.specs.PathAnswers.{path_answer, spans_by_path};
-ghost use Rattle.lnt_paths.specs.Written.{HasBecome, IsCanonicalPathTable};
+ghost use Rattle.lnt_paths.specs.Written.{BeginsPathTable, HasBecome, IsCanonicalPathTable};
 
 use crate::border::first_operation;
 use crate::field::PathFields;
@@ -16,6 +17,7 @@ use crate::joined::Joined;
 use crate::line::{header_line, put_line};
 use crate::paths::Paths;
 use crate::version::{PathTable, PathVersion};
+use lnt_output::write_whole;
 use lnt_records::WriteStop;
 use lnt_spans::SpanSource;
 use std::alloc::Global;
@@ -32,9 +34,9 @@ use std::io::Write;
 /// It answers `OperationIndex` (43) exactly where one of these canonical spans begins or ends at an operation index other
 /// than 0, and then nothing was written.
 ///
-/// It stops by `Memory` (33) where memory ran out, and by `Write` (42) where the writer refused some bytes; then nothing
-/// is said of what the writer gained. No contract of a writer tells when it refuses, so no clause says that `Write`
-/// comes only then.
+/// It stops by `Memory` (33) where memory ran out, and by `Write` (42) where the writer refused some bytes; then it has
+/// gained a front of the names of the columns and the lines of the first canonical spans. No contract of a writer tells
+/// when it refuses, so no clause says that `Write` comes only then.
 pub fn write_by_path<S: SpanSource + Drop, P: Paths, W: Write>(
     alloc: Global,
     judged: S,
@@ -43,10 +45,14 @@ pub fn write_by_path<S: SpanSource + Drop, P: Paths, W: Write>(
     version: PathVersion,
     out: &mut W,
 ) -> Result<PathTable, WriteStop>
-    ensures { IfOk result (λ table. (list other : List spec.Span) → S.to_come judged other → S.to_come spans list → AreInOrder other
+    ensures table { IfOk result (λ table. (list other : List spec.Span) → S.to_come judged other → S.to_come spans list → AreInOrder other
         → AreInOrder list
         → ((p : position.Position) → span_answer other p ≡ span_answer list p)
         → HasBecome version (spans_by_path version (P.bytes_of paths.now) list) (W.contents out.old) (W.contents out.new) table) }
+    ensures begun { OnErr result ((list other : List spec.Span) → S.to_come judged other → S.to_come spans list → AreInOrder other
+        → AreInOrder list
+        → ((p : position.Position) → span_answer other p ≡ span_answer list p)
+        → BeginsPathTable version (spans_by_path version (P.bytes_of paths.now) list) (W.contents out.old) (W.contents out.new)) }
 {
     if let Some(position) = first_operation(alloc, judged, paths, version)? {
         return Ok(PathTable::OperationIndex(position));
@@ -66,9 +72,11 @@ pub fn write_instructions_by_path<S: SpanSource + Drop, P: Paths, W: Write>(
     version: PathVersion,
     out: &mut W,
 ) -> Result<(), WriteStop>
-    ensures { OnOk result ((list : List spec.Span) → S.to_come spans list → AreInOrder list → AllByRecursion HasNoOperation list
+    ensures table { OnOk result ((list : List spec.Span) → S.to_come spans list → AreInOrder list → AllByRecursion HasNoOperation list
         → (bytes : List ℕ) × Appends (W.contents out.old) (W.contents out.new) bytes
         × IsCanonicalPathTable version (spans_by_path version (P.bytes_of paths.now) list) bytes) }
+    ensures begun { OnErr result ((list : List spec.Span) → S.to_come spans list → AreInOrder list → AllByRecursion HasNoOperation list
+        → BeginsPathTable version (spans_by_path version (P.bytes_of paths.now) list) (W.contents out.old) (W.contents out.new)) }
 {
     write_lines(alloc, spans, paths, version, out)
 }
@@ -81,10 +89,13 @@ fn write_lines<S: SpanSource + Drop, P: Paths, W: Write>(
     version: PathVersion,
     out: &mut W,
 ) -> Result<(), WriteStop>
-    ensures { OnOk result ((joined : List spec.Span)
+    ensures lines { OnOk result ((joined : List spec.Span)
         × HasWritten (path_answer version (P.bytes_of paths.now)) version (W.contents out.old) (W.contents out.new) joined
         × ((list all : List spec.Span) → S.to_come spans list → AllJoinTo (path_answer version (P.bytes_of paths.now)) list all
         → all ≡ joined)) }
+    ensures begun { OnErr result ((first : List spec.Span)
+        × HasBegunLines (path_answer version (P.bytes_of paths.now)) version (W.contents out.old) (W.contents out.new) first
+        × ((list : List spec.Span) → S.to_come spans list → AreFirstOf (path_answer version (P.bytes_of paths.now)) list first)) }
 {
     let mut joined = Joined::of(spans);
     let mut fields = PathFields::new(alloc)?;
@@ -100,9 +111,10 @@ fn write_lines<S: SpanSource + Drop, P: Paths, W: Write>(
 
 // Hands a line to the writer.
 fn send<W: Write>(line: &[u8], out: &mut W) -> Result<(), WriteStop>
-    ensures { OnOk result (Appends (W.contents out.old) (W.contents out.new) line.now) }
+    ensures sent { OnOk result (Appends (W.contents out.old) (W.contents out.new) line.now) }
+    ensures front { OnErr result (AppendsFront (W.contents out.old) (W.contents out.new) line.now) }
 {
-    if out.write_all(line).is_err() {
+    if write_whole(out, line).is_err() {
         return Err(WriteStop::Write);
     }
     Ok(())

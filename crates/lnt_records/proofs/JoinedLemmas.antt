@@ -1,20 +1,22 @@
 -- Spans that come one by one, joined and written.
-use Rattle.std.proofs.Common.{◌≡◌, ◌∙◌, ℕ, List, [], ◌∷◌, ◌++◌, Option, Some, None, sym, ap, subst}
+use Rattle.std.proofs.Common.{◌≡◌, ◌∙◌, ℕ, List, [], ◌∷◌, ◌++◌, Option, Some, None, refl, sym, ap, subst}
 use Rattle.std.specs.Prelude.{IfSome}
 use Rattle.std.specs.List.{All, AllByRecursion, cons_option}
 use Rattle.std.specs.Io.KnownBytes.{Appends}
 use Rattle.std.proofs.lemmas.List.{append-nil}
 use Rattle.std.proofs.lemmas.List.Elements.{All-cons, All-head, All-nil, All-tail}
+use Rattle.lnt_output.specs.Fronts.{AppendsFront}
 use Rattle.lnt_spans.specs.declared.answer.Version.{Version}
 use Rattle.lnt_spans.specs.declared.position.Position.{Position}
 use Rattle.lnt_spans.specs.declared.span.Span.{Span}
 use Rattle.lnt_spans.specs.Joined.{HasJoined}
 use Rattle.lnt_spans.proofs.AnsweringLaws.{front_in_order}
 use Rattle.lnt_spans.proofs.ComingLaws.{HasGiven}
+use Rattle.lnt_spans.proofs.JoinedLaws.{BeginCanonical, joined_rest}
 use Rattle.lnt_spans.specs.Spans.{AreInOrder, IsCanonical, span_answer, version_answer}
 use Rattle.lnt_records.proofs.VersionLaws.{answers_of_version}
-use Rattle.lnt_records.specs.Written.{IsCanonicalTable, IsOfVersion, TellsAll}
-use Rattle.lnt_records.proofs.WriteLemmas.{Lines, lines_done}
+use Rattle.lnt_records.specs.Written.{BeginsCanonicalTable, BeginsTable, IsCanonicalTable, IsOfVersion, TellsAll}
+use Rattle.lnt_records.proofs.WriteLemmas.{Lines, begun_sending, begun_so_far, lines_done}
 
 -- ---- answers of the version
 
@@ -106,3 +108,41 @@ canonical_written version old now new block written known IsGiven given order ca
         written = all.2;
       },
     )
+
+-- ---- the first of them
+
+-- what a joiner gave, whatever is still to come
+pub given_begun : (version : Version) (list pushed given : List Span) (last : Option Span) (AreLeft : List Span → Type 0)
+    → HasJoined version pushed given last → HasGiven list pushed AreLeft → AreInOrder list → BeginCanonical version list given
+given_begun version list pushed given last AreLeft joined h order =
+    subst (λ (all : List Span). BeginCanonical version all given) (sym h.list_is)
+    (joined_rest version h.rest pushed given last joined (subst AreInOrder h.list_is order))
+
+-- all that it gave
+pub all_begun : (version : Version) (list given : List Span) → AreGiven version list given → BeginCanonical version list given
+all_begun version list given all = record {
+  more = [];
+  canonical = subst IsCanonical (sym (append-nil given)) all.0;
+  same = λ p. ap (λ (spans : List Span). span_answer spans p) (append-nil given) ∙ all.1 p;
+}
+
+pub canonical_begun : (version : Version) (list given : List Span) (old new : Option (List ℕ)) → (begins : BeginCanonical version list given)
+    → BeginsTable version (given ++ begins.more) old new → BeginsCanonicalTable version list old new
+canonical_begun version list given old new begins begun = record {
+  spans = given ++ begins.more;
+  canonical = begins.canonical;
+  same = begins.same;
+  begun = begun;
+}
+
+-- stopped while the block is filled, and while it is handed on
+pub canonical_so_far : (version : Version) (list given : List Span) (old now : Option (List ℕ)) (block : List ℕ)
+    → BeginCanonical version list given → Lines version old now block given → BeginsCanonicalTable version list old now
+canonical_so_far version list given old now block begins l =
+    canonical_begun version list given old now begins (begun_so_far version old now block given begins.more _ l refl)
+
+pub canonical_sending : (version : Version) (list given : List Span) (old now new : Option (List ℕ)) (block : List ℕ)
+    → BeginCanonical version list given → Lines version old now block given → AppendsFront now new block
+    → BeginsCanonicalTable version list old new
+canonical_sending version list given old now new block begins l f =
+    canonical_begun version list given old new begins (begun_sending version old now new block given begins.more _ l refl f)

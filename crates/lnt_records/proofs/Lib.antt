@@ -3,13 +3,13 @@ pub mod ColumnLemmas
 pub mod ComparisonLemmas
 pub mod FrontLemmas
 pub mod GatherLemmas
-pub mod HeaderLemmas
+pub mod HeaderLaws
 pub mod JoinedLemmas
 pub mod LawLemmas
 pub mod LineLemmas
 pub mod OneFaultLemmas
 pub mod PassingLemmas
-pub mod ReadingLemmas
+pub mod ReadingLaws
 pub mod RecordLaws
 pub mod RecordLemmas
 pub mod SaidLemmas

@@ -1,6 +1,6 @@
 -- Lines that are written, and that `csv` reads them as a table.
 use Rattle.std.proofs.Common.{◌≡◌, ◌∙◌, ℕ, suc, ◌+◌, ◌<◌, ◌≤◌, Bool, true, false, List, [], ◌∷◌, ◌++◌, Option, Some, None, length, get_or}
-use Rattle.std.proofs.Common.{take, refl, sym, ap, subst, append_assoc, arith}
+use Rattle.std.proofs.Common.{take, drop, take-append-drop, refl, sym, ap, subst, append_assoc, arith}
 use Rattle.std.proofs.KnownBytes.{Appends-nil, Appends-trans}
 use Rattle.std.proofs.lemmas.Bool.{ne_eqb}
 use Rattle.std.proofs.lemmas.List.{append-nil, take_more, take_all}
@@ -11,6 +11,8 @@ use Rattle.csv.specs.Reading.{Reached, default_config, strip_bom}
 use Rattle.csv.specs.Writing.{default_writer, field_text, fields_text, is_blank, needs_byte, read_back, row_text}
 use Rattle.csv.specs.declared.parser.State.TheVariants as st
 use Rattle.csv.proofs.RoundTrip.{read-write, rows_text}
+use Rattle.lnt_output.specs.Fronts.{AppendsFront}
+use Rattle.lnt_output.proofs.FrontLaws.{front_after, front_none, front_same}
 use Rattle.lnt_digits.specs.Digits.{IsPlainAddress, IsPlainDecimal}
 use Rattle.lnt_digits.proofs.TextLaws.{FromZero, address_from_zero, decimal_from_zero, plain_address}
 use Rattle.lnt_spans.specs.declared.answer.Version.{Version}
@@ -19,7 +21,7 @@ use Rattle.lnt_spans.specs.declared.span.Span.{Span}
 use Rattle.lnt_spans.specs.Spans.{AreInOrder}
 use Rattle.lnt_records.specs.Table.{Fields, IsFlag, Kind, RecordsOf, column_count, column_names}
 use Rattle.lnt_records.specs.Lines.{IsPlainLine}
-use Rattle.lnt_records.specs.Written.{AddsRecord, AddsRecords, IsPlainRecord, IsWrittenTable, following, line_text, lines_text}
+use Rattle.lnt_records.specs.Written.{AddsRecord, AddsRecords, BeginsTable, IsPlainRecord, IsWrittenTable, following, line_text, lines_text}
 use Rattle.lnt_records.proofs.SaidLemmas.{each_holds, records_plain}
 
 -- ---- a line
@@ -275,3 +277,63 @@ pub all_lines : (version : Version) (old now new : Option (List ℕ)) (block : L
     → (bytes : List ℕ) × Appends old new bytes × IsWrittenTable version bytes spans
 all_lines version old now new block spans i le o l more =
     lines_done version old now new block spans o (subst (λ (xs : List Span). Lines version old now block xs) (take_all i spans le) l) more
+
+-- ---- a loop that is stopped
+
+-- before anything was written
+pub begun_none : (version : Version) (spans : List Span) (old : Option (List ℕ)) → BeginsTable version spans old old
+begun_none version spans old = record {
+  first = [];
+  rest = spans;
+  joined = refl;
+  records = [];
+  each = tt;
+  front = front_none old (lines_text (column_names version ∷ []));
+}
+
+-- while the block is filled
+pub begun_so_far : (version : Version) (old now : Option (List ℕ)) (block : List ℕ) (first rest spans : List Span)
+    → Lines version old now block first → first ++ rest ≡ spans → BeginsTable version spans old now
+begun_so_far version old now block first rest spans l e = record {
+  first = first;
+  rest = rest;
+  joined = e;
+  records = l.records;
+  each = l.each;
+  front = record { front = l.sent; rest = block; joined = l.lines; gained = l.handed };
+}
+
+-- while the block is handed on
+pub begun_sending : (version : Version) (old now new : Option (List ℕ)) (block : List ℕ) (first rest spans : List Span)
+    → Lines version old now block first → first ++ rest ≡ spans → AppendsFront now new block → BeginsTable version spans old new
+begun_sending version old now new block first rest spans l e f = record {
+  first = first;
+  rest = rest;
+  joined = e;
+  records = l.records;
+  each = l.each;
+  front = front_same old new (l.sent ++ block) _ l.lines (front_after old now new l.sent block l.handed f);
+}
+
+-- with the lines of the first i spans, and of one more
+pub begun_until : (version : Version) (old now : Option (List ℕ)) (block : List ℕ) (spans : List Span) (i : ℕ)
+    → Lines version old now block (take i spans) → BeginsTable version spans old now
+begun_until version old now block spans i l =
+    begun_so_far version old now block (take i spans) (drop i spans) spans l (take-append-drop i spans)
+
+pub begun_more : (version : Version) (old now new : Option (List ℕ)) (block grown : List ℕ) (spans : List Span) (i : ℕ) (d : Span)
+    → i < length spans
+    → Lines version old now block (take i spans) → AddsRecord version (get_or spans i d) block grown → AppendsFront now new grown
+    → BeginsTable version spans old new
+begun_more version old now new block grown spans i d lt l r f =
+    begun_sending version old now new grown (take i spans ++ get_or spans i d ∷ []) (drop (i + 1) spans) spans
+    (lines_put version old now block grown (take i spans) (get_or spans i d ∷ []) l
+    (one_record version (get_or spans i d) block grown r))
+    (ap (λ (xs : List Span). xs ++ drop (i + 1) spans) (sym (take_more spans i d lt)) ∙ take-append-drop (i + 1) spans) f
+
+-- with the lines of all
+pub begun_all : (version : Version) (old now new : Option (List ℕ)) (block : List ℕ) (spans : List Span) (i : ℕ) → length spans ≤ i
+    → Lines version old now block (take i spans) → AppendsFront now new block → BeginsTable version spans old new
+begun_all version old now new block spans i le l f =
+    begun_sending version old now new block spans [] spans (subst (λ (xs : List Span). Lines version old now block xs) (take_all i spans le) l)
+    (append-nil spans) f

@@ -1,7 +1,8 @@
 -- A table as it is written.
-use Rattle.std.specs.Prelude.{◌≡◌, ℕ, List, [], ◌∷◌, ◌++◌, Some, None}
+use Rattle.std.specs.Prelude.{◌≡◌, ℕ, List, [], ◌∷◌, ◌++◌, Option, Some, None}
 use Rattle.std.specs.List.{AllZip}
 use Rattle.lnt_digits.specs.Digits.{IsPlainAddress, IsPlainDecimal}
+use Rattle.lnt_output.specs.Fronts.{AppendsFront}
 use Rattle.lnt_spans.specs.declared.answer.Answer.{Answer}
 use Rattle.lnt_spans.specs.declared.answer.More.{More}
 use Rattle.lnt_spans.specs.declared.answer.Version.{Version}
@@ -55,6 +56,25 @@ pub record IsCanonicalTable (version : Version) (given : List Span) (bytes : Lis
   pub canonical : IsCanonical spans
   pub same : (p : Position) → span_answer spans p ≡ version_answer version given p
   pub written : IsWrittenTable version bytes spans
+
+-- ---- tables whose writing was stopped
+--     old, new    the known bytes that the writer holds before and afterwards
+
+-- The writer has gained a front of the names of the columns and the lines of the first of these spans.
+pub record BeginsTable (version : Version) (spans : List Span) (old new : Option (List ℕ)) : Type 0 where
+  pub first : List Span
+  pub rest : List Span
+  pub joined : first ++ rest ≡ spans
+  pub records : List Fields
+  pub each : AllZip (IsPlainRecord version) records first
+  pub front : AppendsFront old new (lines_text (column_names version ∷ records))
+
+-- It has gained such a front of the canonical spans that answer as these do, as the version tells answers.
+pub record BeginsCanonicalTable (version : Version) (given : List Span) (old new : Option (List ℕ)) : Type 0 where
+  pub spans : List Span
+  pub canonical : IsCanonical spans
+  pub same : (p : Position) → span_answer spans p ≡ version_answer version given p
+  pub begun : BeginsTable version spans old new
 
 -- ---- lines that are added. The bodies of this crate use them among themselves.
 

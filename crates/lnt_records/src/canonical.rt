@@ -1,11 +1,11 @@
 //! The table of canonical spans, written as the spans come.
-ghost use Rattle.std.specs.Prelude.{ℕ, List, [], IfSome, OnOk};
+ghost use Rattle.std.specs.Prelude.{ℕ, List, [], IfSome, OnErr, OnOk};
 ghost use Rattle.std.specs.Io.KnownBytes.{Appends};
 ghost use Rattle.std.specs.List.{AllByRecursion, cons_option};
 ghost use Rattle.lnt_spans.specs.declared.answer.Version.{Version};
 ghost use Rattle.lnt_spans.specs.declared.span.Span as spec;
 ghost use Rattle.lnt_spans.specs.Spans.{AreInOrder};
-ghost use Rattle.lnt_records.specs.Written.{AddsRecords, IsCanonicalTable, IsOfVersion, TellsAll};
+ghost use Rattle.lnt_records.specs.Written.{AddsRecords, BeginsCanonicalTable, IsCanonicalTable, IsOfVersion, TellsAll};
 
 use crate::fault::WriteStop;
 use crate::text::ROOM;
@@ -22,7 +22,8 @@ use std::io::Write;
 /// `write_spans` writes it. No span is kept but one.
 ///
 /// The caller sees to it that the spans are in order, that none is empty, and that each answer tells an instruction set
-/// and a discriminator. It stops as `write_spans`.
+/// and a discriminator. It stops as `write_spans`: then the writer has gained a front of the names of the columns and the
+/// lines of the first canonical spans.
 pub fn write_canonical<S: SpanSource + Drop, W: Write>(
     alloc: Global,
     spans: S,
@@ -30,8 +31,10 @@ pub fn write_canonical<S: SpanSource + Drop, W: Write>(
     out: &mut W,
 ) -> Result<(), WriteStop>
     requires { (list : List spec.Span) × S.to_come spans list × AreInOrder list × AllByRecursion TellsAll list }
-    ensures { OnOk result ((bytes : List ℕ) × Appends (W.contents out.old) (W.contents out.new) bytes
+    ensures table { OnOk result ((bytes : List ℕ) × Appends (W.contents out.old) (W.contents out.new) bytes
         × ((list : List spec.Span) → S.to_come spans list → AreInOrder list → IsCanonicalTable version list bytes)) }
+    ensures begun { OnErr result ((list : List spec.Span) → S.to_come spans list → AreInOrder list
+        → BeginsCanonicalTable version list (W.contents out.old) (W.contents out.new)) }
 {
     let mut spans = spans;
     let mut joiner = Joiner::new(version);

@@ -35,7 +35,7 @@ pub(crate) fn header_line(version: Version) -> &'static [u8]
 }
 
 // The version whose columns a record names.
-#[tactic(auto, using(crate::proofs::HeaderLemmas::names_none))]
+#[tactic(auto, using(crate::proofs::HeaderLaws::names_none))]
 pub(crate) fn version_of(row: &ByteRecord) -> Option<Version>
     ensures { MatchOption result ((v : Version) → fields_of row.now ≢ column_names v)
         (λ v. fields_of row.now ≡ column_names v) }
@@ -49,14 +49,14 @@ pub(crate) fn version_of(row: &ByteRecord) -> Option<Version>
     }
 }
 
-#[tactic(auto, using(crate::proofs::HeaderLemmas::names_one, crate::proofs::HeaderLemmas::not_one))]
+#[tactic(auto, using(crate::proofs::HeaderLaws::names_one, crate::proofs::HeaderLaws::not_one))]
 fn names_version_one(row: &ByteRecord) -> bool
     ensures { MatchBool result (fields_of row.now ≡ column_names version.One) (fields_of row.now ≢ column_names version.One) }
 {
     row.len() == 9 && names_common_columns(row)
 }
 
-#[tactic(auto, using(crate::proofs::HeaderLemmas::names_two, crate::proofs::HeaderLemmas::not_two))]
+#[tactic(auto, using(crate::proofs::HeaderLaws::names_two, crate::proofs::HeaderLaws::not_two))]
 fn names_version_two(row: &ByteRecord) -> bool
     ensures { MatchBool result (fields_of row.now ≡ column_names version.Two) (fields_of row.now ≢ column_names version.Two) }
 {

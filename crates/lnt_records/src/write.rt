@@ -1,15 +1,17 @@
 //! Tables written.
-ghost use Rattle.std.specs.Prelude.{◌≡◌, ◌++◌, ℕ, List, [], OnOk};
+ghost use Rattle.std.specs.Prelude.{◌≡◌, ◌++◌, ℕ, List, [], OnErr, OnOk};
 ghost use Rattle.std.specs.Io.KnownBytes.{Appends};
 ghost use Rattle.std.specs.List.{All};
+ghost use Rattle.lnt_output.specs.Fronts.{AppendsFront};
 ghost use Rattle.lnt_spans.specs.declared.answer.Version.{Version};
 ghost use Rattle.lnt_spans.specs.Spans.{AreInOrder};
 ghost use Rattle.lnt_records.specs.Table.{column_names};
-ghost use Rattle.lnt_records.specs.Written.{AddsRecord, IsOfVersion, IsWrittenTable, line_text};
+ghost use Rattle.lnt_records.specs.Written.{AddsRecord, BeginsTable, IsOfVersion, IsWrittenTable, line_text};
 
 use crate::fault::WriteStop;
 use crate::header::header_line;
 use crate::text::{ROOM, line_of};
+use lnt_output::write_whole;
 use lnt_spans::{Span, Version};
 use std::alloc::{AllocError, Global};
 use std::io::Write;
@@ -24,8 +26,9 @@ const BLOCK: usize = 1 << 16;
 ///
 /// The caller sees to it that the spans are in order, that none is empty, and that each answer tells what the version
 /// tells: an instruction set and a discriminator in version 2, and none in version 1. It stops by `Memory` where memory
-/// ran out, and by `Write` where the writer refused some bytes; then nothing is said of what the writer gained. No
-/// contract of a writer tells when it refuses, so no clause says that `Write` comes only then.
+/// ran out, and by `Write` where the writer refused some bytes; then it has gained a front of the names of the columns and
+/// the lines of the first spans, and nothing else. No contract of a writer tells when it refuses, so no clause says that
+/// `Write` comes only then.
 pub fn write_spans<W: Write>(
     alloc: Global,
     spans: &[Span],
@@ -34,8 +37,9 @@ pub fn write_spans<W: Write>(
 ) -> Result<(), WriteStop>
     requires order { AreInOrder spans.now }
     requires version { All (λ span. IsOfVersion version span.answer) spans.now }
-    ensures { OnOk result ((bytes : List ℕ) × Appends (W.contents out.old) (W.contents out.new) bytes
+    ensures table { OnOk result ((bytes : List ℕ) × Appends (W.contents out.old) (W.contents out.new) bytes
         × IsWrittenTable version bytes spans.now) }
+    ensures begun { OnErr result (BeginsTable version spans.now (W.contents out.old) (W.contents out.new)) }
 {
     let mut block = Vec::new(alloc);
     put_header(&mut block, version)?;
@@ -49,8 +53,9 @@ pub fn write_spans<W: Write>(
 
 // Hands a block to the writer, if it is full.
 pub(crate) fn send_full<W: Write>(block: &mut Vec<u8>, out: &mut W) -> Result<(), WriteStop>
-    ensures { OnOk result ((sent : List ℕ) × Appends (W.contents out.old) (W.contents out.new) sent
+    ensures handed { OnOk result ((sent : List ℕ) × Appends (W.contents out.old) (W.contents out.new) sent
         × (block.old.items ≡ sent ++ block.new.items)) }
+    ensures front { OnErr result (AppendsFront (W.contents out.old) (W.contents out.new) block.old.items) }
 {
     if block.len() < BLOCK {
         return Ok(());
@@ -62,8 +67,9 @@ pub(crate) fn send_full<W: Write>(block: &mut Vec<u8>, out: &mut W) -> Result<()
 pub(crate) fn send<W: Write>(block: &mut Vec<u8>, out: &mut W) -> Result<(), WriteStop>
     ensures handed { OnOk result (Appends (W.contents out.old) (W.contents out.new) block.old.items) }
     ensures empty { OnOk result (block.new.items ≡ []) }
+    ensures front { OnErr result (AppendsFront (W.contents out.old) (W.contents out.new) block.old.items) }
 {
-    if out.write_all(block.as_slice()).is_err() {
+    if write_whole(out, block.as_slice()).is_err() {
         return Err(WriteStop::Write);
     }
     block.clear();

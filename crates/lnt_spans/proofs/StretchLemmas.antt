@@ -32,7 +32,7 @@ pub run_none : (version : Version) (next : Option Span) (spans : List Span) (at 
     → IsRun (version_answer version spans) at None None
 run_none version next spans at e b = rw (no_first next spans e b) (record { past = tt; says = λ p h k. refl })
 
-gap_run : (version : Version) (span : Span) (more : List Span) (at : Position) → AreInOrder (span ∷ more) → IsBelow at span.low
+pub gap_run : (version : Version) (span : Span) (more : List Span) (at : Position) → AreInOrder (span ∷ more) → IsBelow at span.low
     → IsRun (version_answer version (span ∷ more)) at None (Some span.low)
 gap_run version span more at o gap = record {
   past = gap;
@@ -46,7 +46,7 @@ run_gap version next spans span at is b o gap =
     let first = first_is next span spans is b in
     rw first.1 (gap_run version span first.0 at (subst AreInOrder first.1 o) gap)
 
-inside_run : (version : Version) (span : Span) (more : List Span) (at : Position) → IsAtMost span.low at → IsBelow at span.high
+pub inside_run : (version : Version) (span : Span) (more : List Span) (at : Position) → IsAtMost span.low at → IsBelow at span.high
     → IsRun (version_answer version (span ∷ more)) at (Some (in_version version span.answer)) (Some span.high)
 inside_run version span more at le past = record {
   past = past;

@@ -5,7 +5,7 @@ use Rattle.lnt_paths.specs.declared.version.PathTable.TheVariants.{OperationInde
 use Rattle.lnt_paths.specs.declared.version.PathVersion.{PathVersion}
 use Rattle.lnt_paths.specs.PathAnswers.{PathAnswer}
 use Rattle.lnt_paths.specs.PathSpans.{AreCanonicalOf, PathSpan}
-use Rattle.lnt_paths.specs.Written.{HasBecome}
+use Rattle.lnt_paths.specs.Written.{BeginsPathTable, HasBecome}
 use Rattle.lnt_spans.specs.declared.position.Position.{Position}
 
 canonical_so : (f g : Position → Option PathAnswer) (spans : List PathSpan) → ((p : Position) → f p ≡ g p) → AreCanonicalOf f spans
@@ -19,3 +19,16 @@ becomes_so version f g old new Written e h =
     (h.0, h.1, record { spans = h.2.spans; canonical = canonical_so f g h.2.spans e h.2.canonical; table = h.2.table; plain = h.2.plain })
 becomes_so version f g old new (OperationIndex position) e h =
     (h.0, record { spans = h.1.spans; canonical = canonical_so f g h.1.spans e h.1.canonical; least = h.1.least })
+
+pub begins_so : (version : PathVersion) (f g : Position → Option PathAnswer) (old new : Option (List ℕ)) → ((p : Position) → f p ≡ g p)
+    → BeginsPathTable version f old new → BeginsPathTable version g old new
+begins_so version f g old new e h = record {
+  spans = h.spans;
+  canonical = canonical_so f g h.spans e h.canonical;
+  first = h.first;
+  rest = h.rest;
+  joined = h.joined;
+  records = h.records;
+  each = h.each;
+  front = h.front;
+}

@@ -5,7 +5,7 @@ use Rattle.lnt_spans.specs.declared.answer.Version.{Version}
 use Rattle.lnt_spans.specs.declared.position.Position.{Position}
 use Rattle.lnt_spans.specs.declared.span.Span.{Span}
 use Rattle.lnt_spans.specs.Spans.{IsCanonical, span_answer, version_answer}
-use Rattle.lnt_records.specs.Written.{IsWrittenTable}
+use Rattle.lnt_records.specs.Written.{BeginsTable, IsWrittenTable}
 use Rattle.lnt_table.specs.Headline.{told_answer}
 
 -- The bytes are a table of this version, on plain lines, of the canonical spans that answer as the section's spans do,
@@ -22,3 +22,11 @@ pub record IsTableOfUnits (version : Version) (dead : Option ℕ) (skip : Bool) 
   pub canonical : IsCanonical spans
   pub same : (p : Position) → span_answer spans p ≡ told_answer version dead skip units p
   pub written : IsWrittenTable version bytes spans
+
+-- A writer that held some bytes has gained a front of the names of the columns and the lines of the first of these spans.
+pub record BeginsTableOfUnits (version : Version) (dead : Option ℕ) (skip : Bool) (units : List (ℕ × Parts)) (old new : Option (List ℕ))
+    : Type 0 where
+  pub spans : List Span
+  pub canonical : IsCanonical spans
+  pub same : (p : Position) → span_answer spans p ≡ told_answer version dead skip units p
+  pub begun : BeginsTable version spans old new

@@ -1,8 +1,8 @@
 //! The table by path of a section's units, written.
-ghost use Rattle.std.specs.Prelude.{◌≡◌, Bool, ℕ, List, Option, IfOk};
+ghost use Rattle.std.specs.Prelude.{◌≡◌, Bool, ℕ, List, Option, IfOk, OnErr};
 ghost use Rattle.lnt_unit.specs.declared.unit.Parts.{Parts};
 ghost use Rattle.lnt_lines.specs.Indexed.{IsIndexOf};
-ghost use Rattle.lnt_paths.specs.Written.{HasBecome};
+ghost use Rattle.lnt_paths.specs.Written.{BeginsPathTable, HasBecome};
 ghost use Rattle.lnt_table.specs.ByPath.{path_at, told_path};
 
 use lnt_lines::Index;
@@ -46,16 +46,18 @@ impl<'i, 'a> Paths for IndexPaths<'i, 'a> {
 /// begins or ends at an operation index other than 0, it answers `OperationIndex` (43) with the least such position, and
 /// nothing was written.
 ///
-/// It stops by `Memory` (33) where memory ran out, and by `Write` (42) where the writer refused some bytes; then nothing
-/// is said of what the writer gained.
+/// It stops by `Memory` (33) where memory ran out, and by `Write` (42) where the writer refused some bytes; then it has
+/// gained a front of the names of the columns and the lines of the first canonical spans.
 pub fn write_paths<W: Write>(
     alloc: Global,
     index: &Index<'_>,
     version: PathVersion,
     out: &mut W,
 ) -> Result<PathTable, WriteStop>
-    ensures { IfOk result (λ table. (dead : Option ℕ) (skip : Bool) (units : List (ℕ × Parts)) → IsIndexOf dead skip units index.now
+    ensures table { IfOk result (λ table. (dead : Option ℕ) (skip : Bool) (units : List (ℕ × Parts)) → IsIndexOf dead skip units index.now
         → HasBecome version (told_path version index.now dead skip units) (W.contents out.old) (W.contents out.new) table) }
+    ensures begun { OnErr result ((dead : Option ℕ) (skip : Bool) (units : List (ℕ × Parts)) → IsIndexOf dead skip units index.now
+        → BeginsPathTable version (told_path version index.now dead skip units) (W.contents out.old) (W.contents out.new)) }
 {
     let paths = IndexPaths { index };
     if index.has_single_operations() {

@@ -1,9 +1,10 @@
 //! The table of a section's lines, written.
-ghost use Rattle.std.specs.Prelude.{Bool, ℕ, List, Option, OnOk};
-ghost use Rattle.std.specs.Io.KnownBytes.{Appends};
+ghost use Rattle.std.specs.Prelude.{◌⊎◌, Bool, ℕ, List, Option, OnErr, OnOk};
+ghost use Rattle.std.specs.Io.KnownBytes.{Appends, Keeps};
 ghost use Rattle.lnt_unit.specs.declared.unit.Parts.{Parts};
 ghost use Rattle.lnt_lines.specs.Indexed.{IsIndexOf};
-ghost use Rattle.lnt_table.specs.Written.{IsTableOfLines, IsTableOfUnits};
+ghost use Rattle.lnt_records.specs.Written.{BeginsCanonicalTable};
+ghost use Rattle.lnt_table.specs.Written.{BeginsTableOfUnits, IsTableOfLines, IsTableOfUnits};
 
 use lnt_lines::{Index, Lines};
 use lnt_records::{WriteStop, write_canonical, write_spans};
@@ -17,17 +18,19 @@ use std::io::Write;
 /// is the one shortest table that answers as the lines do, as far as the version tells. Each record is on a line of its
 /// own.
 ///
-/// It stops by `Memory` (33) where memory ran out, and by `Write` (42) where the writer refused some bytes; then nothing
-/// is said of what the writer gained. No contract of a writer tells when it refuses, so no clause says that `Write`
-/// comes only then.
+/// It stops by `Memory` (33) where memory ran out, and by `Write` (42) where the writer refused some bytes; then it has
+/// gained nothing, or a front of the names of the columns and the lines of the first canonical spans. No contract of a
+/// writer tells when it refuses, so no clause says that `Write` comes only then.
 pub fn write_table<W: Write>(
     alloc: Global,
     lines: &Lines,
     version: Version,
     out: &mut W,
 ) -> Result<(), WriteStop>
-    ensures { OnOk result ((bytes : List ℕ) × Appends (W.contents out.old) (W.contents out.new) bytes
+    ensures table { OnOk result ((bytes : List ℕ) × Appends (W.contents out.old) (W.contents out.new) bytes
         × IsTableOfLines version lines.now.spans bytes) }
+    ensures begun { OnErr result (Keeps (W.contents out.old) (W.contents out.new)
+        ⊎ BeginsCanonicalTable version lines.now.spans (W.contents out.old) (W.contents out.new)) }
 {
     let Ok(spans) = lines.canonical(alloc, version) else {
         return Err(WriteStop::Memory);
@@ -47,9 +50,11 @@ pub fn write_index<W: Write>(
     version: Version,
     out: &mut W,
 ) -> Result<(), WriteStop>
-    ensures { OnOk result ((bytes : List ℕ) × Appends (W.contents out.old) (W.contents out.new) bytes
+    ensures table { OnOk result ((bytes : List ℕ) × Appends (W.contents out.old) (W.contents out.new) bytes
         × ((dead : Option ℕ) (skip : Bool) (units : List (ℕ × Parts)) → IsIndexOf dead skip units index.now
         → IsTableOfUnits version dead skip units bytes)) }
+    ensures begun { OnErr result ((dead : Option ℕ) (skip : Bool) (units : List (ℕ × Parts)) → IsIndexOf dead skip units index.now
+        → BeginsTableOfUnits version dead skip units (W.contents out.old) (W.contents out.new)) }
 {
     write_canonical(alloc, index.spans(), version, out)
 }

@@ -6,11 +6,12 @@ use Rattle.lnt_spans.specs.declared.position.Position.{Position}
 use Rattle.lnt_paths.specs.Borders.{HasNoOperation}
 use Rattle.lnt_paths.specs.Joining.{IsFirstOperation}
 use Rattle.lnt_paths.specs.PathAnswers.{PathAnswer, path_answer}
-use Rattle.lnt_paths.proofs.WriteLemmas.{keeps_same, operation_found, table_written}
+use Rattle.lnt_paths.proofs.WriteLemmas.{keeps_same, operation_found, table_begun, table_begun_none, table_written}
+use Rattle.lnt_output.proofs.FrontLaws.{so_stopped}
 use Rattle.lnt_paths.proofs.write.write_by_path.Goals as goal
 
-pub returns-in-Some : goal.returns-in-Some
-returns-in-Some g c list other come come' o o' same =
+pub returns-in-Some-clause-table : goal.returns-in-Some-clause-table
+returns-in-Some-clause-table g c list other come come' o o' same =
     let tell : Answer → PathAnswer = path_answer c.args.version (g.P.Paths.bytes_of c.args.paths.now) in (
       keeps_same (g.W.Write.contents c.args.out.now),
       operation_found tell other list c.in-Some.position (record { first = o; second = o'; same = same })
@@ -20,10 +21,10 @@ returns-in-Some g c list other come come' o o' same =
           (c.in_ok-position.ensures other joined come joins)),
     )
 
-pub returns : goal.returns
-returns g c list other come come' o o' same =
+pub returns-clause-table : goal.returns-clause-table
+returns-clause-table g c list other come come' o o' same =
     let tell : Answer → PathAnswer = path_answer c.args.version (g.P.Paths.bytes_of c.args.paths.now) in
-    let written = c.in_ok-write_lines.ensures in
+    let written = c.in_ok-write_lines.ensures.lines in
     table_written tell c.args.version (g.W.Write.contents c.args.out.now) (g.W.Write.contents c.write_lines.new.out) other list written.0
     (record { first = o; second = o'; same = same })
     (λ whole joins.
@@ -31,3 +32,23 @@ returns g c list other come come' o o' same =
     c.in_default.is
     (c.in_ok-position.ensures other whole come joins))
     (λ all joins. written.2 list all come' joins) written.1
+
+pub returns-in_err-position-clause-begun : goal.returns-in_err-position-clause-begun
+returns-in_err-position-clause-begun g c =
+    so_stopped c.from_residual.result _
+    (λ list other come come' o o' same.
+    table_begun_none (path_answer c.args.version (g.P.Paths.bytes_of c.args.paths.now)) c.args.version _ list o')
+
+pub returns-in_err-write_lines-clause-begun : goal.returns-in_err-write_lines-clause-begun
+returns-in_err-write_lines-clause-begun g c =
+    let tell : Answer → PathAnswer = path_answer c.args.version (g.P.Paths.bytes_of c.args.paths.now) in
+    let begun = c.in_err-write_lines.ensures.begun in
+    so_stopped c.from_residual-in_err-write_lines.result _
+    (λ list other come come' o o' same.
+    table_begun tell c.args.version (g.W.Write.contents c.args.out.now) (g.W.Write.contents c.write_lines.new.out) other list begun.0
+    (record { first = o; second = o'; same = same })
+    (λ whole joins.
+    subst (λ (f : Option Position). MatchOption f (AllByRecursion HasNoOperation whole) (λ position. IsFirstOperation position whole))
+    c.in_default.is
+    (c.in_ok-position.ensures other whole come joins))
+    (begun.2 list come') begun.1)

@@ -1,7 +1,7 @@
 use Rattle.std.proofs.Common.{[]}
 use Rattle.std.proofs.lemmas.Result.{IfOk-weaker}
 use Rattle.csv.specs.Records.{fields_of}
-use Rattle.lnt_records.proofs.ReadingLemmas.{header_passed}
+use Rattle.lnt_records.proofs.ReadingLaws.{header_passed}
 use Rattle.lnt_records.proofs.comparison.compare_after.Goals as goal
 
 pub compare_rest-requires-clause-read : goal.compare_rest-requires-clause-read

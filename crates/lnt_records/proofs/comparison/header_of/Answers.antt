@@ -1,5 +1,5 @@
 use Rattle.std.proofs.lemmas.Result.{IfOk-weaker}
-use Rattle.lnt_records.proofs.ReadingLemmas.{begins_found}
+use Rattle.lnt_records.proofs.ReadingLaws.{begins_found}
 use Rattle.lnt_records.proofs.comparison.header_of.Goals as goal
 
 pub returns : goal.returns

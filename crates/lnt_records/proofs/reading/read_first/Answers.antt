@@ -1,7 +1,7 @@
 use Rattle.std.proofs.Common.{[]}
 use Rattle.std.proofs.lemmas.Result.{IfOk-weaker}
 use Rattle.csv.specs.Records.{fields_of}
-use Rattle.lnt_records.proofs.ReadingLemmas.{first_read}
+use Rattle.lnt_records.proofs.ReadingLaws.{first_read}
 use Rattle.lnt_records.proofs.reading.read_first.Goals as goal
 
 pub returns : goal.returns

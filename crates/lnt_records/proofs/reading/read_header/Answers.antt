@@ -1,6 +1,6 @@
 use Rattle.std.proofs.Common.{[]}
 use Rattle.lnt_records.specs.Table.{column_names}
-use Rattle.lnt_records.proofs.ReadingLemmas.{header_read, no_record}
+use Rattle.lnt_records.proofs.ReadingLaws.{header_read, no_record}
 use Rattle.lnt_records.proofs.reading.read_header.Goals as goal
 
 pub returns-then-not-branch : goal.returns-then-not-branch

@@ -1,5 +1,5 @@
 use Rattle.csv.specs.Records.{fields_of}
-use Rattle.lnt_records.proofs.ReadingLemmas.{less_left, more_read}
+use Rattle.lnt_records.proofs.ReadingLaws.{less_left, more_read}
 use Rattle.lnt_records.proofs.reading.read_next.Goals as goal
 
 pub returns-clause-read : goal.returns-clause-read

@@ -1,6 +1,6 @@
 use Rattle.std.proofs.Common.{◌∙◌, refl, sym, inr, arith}
 use Rattle.csv.specs.Reading.{Reached, strip_bom}
-use Rattle.lnt_records.proofs.ReadingLemmas.{mark_stripped}
+use Rattle.lnt_records.proofs.ReadingLaws.{mark_stripped}
 use Rattle.lnt_records.proofs.reading.reader_of.Goals as goal
 
 pub returns : goal.returns

@@ -1,14 +1,15 @@
 use Rattle.std.proofs.Common.{◌∙◌, ap, sym}
 use Rattle.std.specs.Option.{option_map}
-use Rattle.std.proofs.lemmas.Result.{IfOk-weaker}
+use Rattle.std.proofs.lemmas.Result.{IfOk-weaker, on_err_weaker}
 use Rattle.lnt_paths.specs.declared.version.PathTable.TheVariants.{Written}
 use Rattle.lnt_paths.specs.PathAnswers.{path_answer, spans_by_path}
 use Rattle.lnt_table.specs.ByPath.{path_at, told_path}
-use Rattle.lnt_table.proofs.PathLemmas.{becomes_so}
+use Rattle.lnt_table.proofs.PathLemmas.{becomes_so, begins_so}
+use Rattle.lnt_output.proofs.FrontLaws.{so_stopped}
 use Rattle.lnt_table.proofs.paths.write_paths.Goals as goal
 
-pub returns : goal.returns
-returns g c = IfOk-weaker c.write_by_path.result _ _
+pub returns-clause-table : goal.returns-clause-table
+returns-clause-table g c = IfOk-weaker c.write_by_path.result _ _
     (λ table become dead skip units is.
     let judged = c.spans-2.ensures.gives dead skip units is in
     let all = c.spans-3.ensures.gives dead skip units is in
@@ -17,14 +18,39 @@ returns g c = IfOk-weaker c.write_by_path.result _ _
     (g.W.Write.contents c.args.out.now) (g.W.Write.contents c.write_by_path.new.out) table
     (λ p. ap (option_map (path_answer c.args.version (path_at c.args.index.now))) (all.answers p))
     (become all.spans judged.spans judged.to_come all.to_come judged.in_order all.in_order (λ p. judged.answers p ∙ sym (all.answers p))))
-    c.write_by_path.ensures
+    c.write_by_path.ensures.table
 
-pub returns-then-has_single_operations : goal.returns-then-has_single_operations
-returns-then-has_single_operations g c dead skip units is =
+pub returns-then-has_single_operations-clause-table : goal.returns-then-has_single_operations-clause-table
+returns-then-has_single_operations-clause-table g c dead skip units is =
     let all = c.spans.ensures.gives dead skip units is in
     let single = c.has_single_operations.ensures c.if-has_single_operations.true dead skip units all.spans is all.spans_are in
     becomes_so c.args.version (spans_by_path c.args.version (path_at c.args.index.now) all.spans)
     (told_path c.args.version c.args.index.now dead skip units)
     (g.W.Write.contents c.args.out.now) (g.W.Write.contents c.write_instructions_by_path.new.out) Written
     (λ p. ap (option_map (path_answer c.args.version (path_at c.args.index.now))) (all.answers p))
-    (c.in_ok-write_instructions_by_path.ensures all.spans all.to_come all.in_order single)
+    (c.in_ok-write_instructions_by_path.ensures.table all.spans all.to_come all.in_order single)
+
+pub returns-clause-begun : goal.returns-clause-begun
+returns-clause-begun g c =
+    on_err_weaker c.write_by_path.result
+    (λ begun dead skip units is.
+    let judged = c.spans-2.ensures.gives dead skip units is in
+    let all = c.spans-3.ensures.gives dead skip units is in
+    begins_so c.args.version (spans_by_path c.args.version (path_at c.args.index.now) all.spans)
+    (told_path c.args.version c.args.index.now dead skip units)
+    (g.W.Write.contents c.args.out.now) (g.W.Write.contents c.write_by_path.new.out)
+    (λ p. ap (option_map (path_answer c.args.version (path_at c.args.index.now))) (all.answers p))
+    (begun all.spans judged.spans judged.to_come all.to_come judged.in_order all.in_order (λ p. judged.answers p ∙ sym (all.answers p))))
+    c.write_by_path.ensures.begun
+
+pub returns-in_err-write_instructions_by_path-clause-begun : goal.returns-in_err-write_instructions_by_path-clause-begun
+returns-in_err-write_instructions_by_path-clause-begun g c =
+    so_stopped c.from_residual.result _
+    (λ dead skip units is.
+    let all = c.spans.ensures.gives dead skip units is in
+    let single = c.has_single_operations.ensures c.if-has_single_operations.true dead skip units all.spans is all.spans_are in
+    begins_so c.args.version (spans_by_path c.args.version (path_at c.args.index.now) all.spans)
+    (told_path c.args.version c.args.index.now dead skip units)
+    (g.W.Write.contents c.args.out.now) (g.W.Write.contents c.write_instructions_by_path.new.out)
+    (λ p. ap (option_map (path_answer c.args.version (path_at c.args.index.now))) (all.answers p))
+    (c.in_err-write_instructions_by_path.ensures.begun all.spans all.to_come all.in_order single))

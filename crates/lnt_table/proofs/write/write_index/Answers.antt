@@ -1,5 +1,5 @@
 use Rattle.std.proofs.Common.{◌∙◌}
-use Rattle.std.proofs.lemmas.Result.{on_ok_weaker}
+use Rattle.std.proofs.lemmas.Result.{on_err_weaker, on_ok_weaker}
 use Rattle.lnt_table.proofs.CheckLemmas.{told_so}
 use Rattle.lnt_table.proofs.write.write_index.Goals as goal
 
@@ -9,8 +9,8 @@ write_canonical-requires g c =
     let all = c.spans.ensures.gives known.dead known.skip known.units known.index_is in
     (all.spans, all.to_come, all.in_order, all.whole)
 
-pub returns : goal.returns
-returns g c =
+pub returns-clause-table : goal.returns-clause-table
+returns-clause-table g c =
     on_ok_weaker c.write_canonical.result
     (λ done. (
       done.0,
@@ -25,4 +25,18 @@ returns g c =
             written = table.written;
           },
     ))
-    c.write_canonical.ensures
+    c.write_canonical.ensures.table
+
+pub returns-clause-begun : goal.returns-clause-begun
+returns-clause-begun g c =
+    on_err_weaker c.write_canonical.result
+    (λ done dead skip units is.
+    let all = c.spans.ensures.gives dead skip units is in
+    let table = done all.spans all.to_come all.in_order in
+    record {
+      spans = table.spans;
+      canonical = table.canonical;
+      same = λ p. table.same p ∙ told_so c.args.version dead skip units all.spans all.answers p;
+      begun = table.begun;
+    })
+    c.write_canonical.ensures.begun
