@@ -1,9 +1,13 @@
 -- What is printed where a table answers otherwise than a section.
-use Rattle.std.specs.Prelude.{ℕ, List, [], ◌∷◌, ◌++◌, codes}
+use Rattle.std.specs.Prelude.{ℕ, List, [], ◌∷◌, ◌++◌, Option, codes}
 use Rattle.std.specs.List.{flat_map}
+use Rattle.lnt_output.specs.Fronts.{AppendsFront}
 use Rattle.lnt_sources.specs.declared.status.Status.{Status}
 use Rattle.lnt_sources.specs.declared.status.Status.TheVariants.{Done, No}
+use Rattle.lnt_spans.specs.declared.answer.Answer.{Answer}
 use Rattle.lnt_spans.specs.declared.difference.Difference.{Difference}
+use Rattle.lnt_spans.specs.declared.position.Position.{Position}
+use Rattle.lnt_spans.specs.Stretches.{AreStretches}
 use Rattle.lnt_text.specs.Texts.{answer_text, position_text}
 
 -- that it does so at a position, with both answers
@@ -24,3 +28,12 @@ stretches_text (first ∷ differences) = flat_map difference_line (first ∷ dif
 abbrev pub stretches_status : List Difference → Status
 stretches_status [] = Done
 stretches_status (first ∷ differences) = No
+
+-- ---- where the writer was stopped
+
+-- A writer that held these bytes (old) has gained a front of the lines of exactly the stretches, also of those that weren't told yet,
+-- or of the line that there is none, and nothing else.
+pub record AreDifferencesBegun (by_section by_table : Position → Option Answer) (old new : Option (List ℕ)) : Type 0 where
+  pub differences : List Difference
+  pub are_all : AreStretches by_section by_table differences
+  pub front : AppendsFront old new (stretches_text differences)

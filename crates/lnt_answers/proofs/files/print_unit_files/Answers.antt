@@ -1,7 +1,7 @@
 use Rattle.std.proofs.Common.{arith}
+use Rattle.lnt_output.proofs.FrontLaws.{so_stopped}
 use Rattle.lnt_lines.specs.Indexed.{file_count_in}
 use Rattle.lnt_answers.proofs.FileLemmas.{records_stopped}
-use Rattle.lnt_answers.proofs.RoomLemmas.{so_stopped}
 use Rattle.lnt_answers.proofs.files.print_unit_files.Goals as goal
 
 pub returns-in_err-print_file-clause-front : goal.returns-in_err-print_file-clause-front

@@ -1,7 +1,7 @@
 use Rattle.std.proofs.Common.{subst}
 use Rattle.std.specs.Io.KnownBytes.{Appends}
-use Rattle.lnt_output.proofs.FrontLaws.{front_none, front_same}
-use Rattle.lnt_answers.proofs.RoomLemmas.{so_stopped, text_in_room}
+use Rattle.lnt_output.proofs.FrontLaws.{front_none, front_same, so_stopped}
+use Rattle.lnt_answers.proofs.RoomLaws.{text_in_room}
 use Rattle.lnt_answers.specs.Lines.{lookup_line}
 use Rattle.lnt_answers.proofs.lookup.print_lookup.Goals as goal
 

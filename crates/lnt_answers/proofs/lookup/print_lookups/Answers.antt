@@ -1,8 +1,7 @@
 use Rattle.std.proofs.Common.{[]}
-use Rattle.lnt_output.proofs.FrontLaws.{front_in_items}
+use Rattle.lnt_output.proofs.FrontLaws.{front_in_items, so_stopped}
 use Rattle.lnt_answers.proofs.FileLemmas.{gained_more}
 use Rattle.lnt_answers.specs.Lines.{lookup_line}
-use Rattle.lnt_answers.proofs.RoomLemmas.{so_stopped}
 use Rattle.lnt_answers.proofs.lookup.print_lookups.Goals as goal
 
 pub loop-position-preserved : goal.loop-position-preserved

@@ -1,8 +1,8 @@
 use Rattle.std.proofs.Common.{arith}
+use Rattle.lnt_output.proofs.FrontLaws.{so_stopped}
 use Rattle.lnt_lines.specs.Indexed.{file_count_in}
 use Rattle.lnt_answers.proofs.SumFronts.{sums_stopped}
 use Rattle.lnt_answers.proofs.SumLemmas.{sums_more}
-use Rattle.lnt_answers.proofs.RoomLemmas.{so_stopped}
 use Rattle.lnt_answers.proofs.sums.print_unit_sums.Goals as goal
 
 pub loop-file-preserved : goal.loop-file-preserved
