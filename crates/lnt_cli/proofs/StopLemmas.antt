@@ -1,24 +1,29 @@
 -- Answers that were stopped.
-use Rattle.std.proofs.Common.{ℕ, List, ◌⊎◌, Option, IfSome, IsErr, Result, Ok, Err, OnErr, inl, inr, refl}
+use Rattle.std.proofs.Common.{ℕ, List, ◌⊎◌, Option, IfSome, IsErr, Result, Ok, Err, OnErr, inl, inr, refl, true, false}
+use Rattle.std.proofs.Common.{◌≡◌, Bool, ◌++◌, codes, subst}
 use Rattle.std.proofs.lemmas.Bool.{false≢true}
 use Rattle.std.specs.Io.KnownBytes.{Appends, Keeps, append_known}
 use Rattle.lnt_output.specs.Fronts.{AppendsFront, HasBegun}
 use Rattle.lnt_output.proofs.FrontLaws.{appends_known}
 use Rattle.lnt_sources.specs.Files.{TellsNoMore}
+use Rattle.lnt_unit.specs.declared.unit.Parts.{Parts}
+use Rattle.lnt_lines.specs.declared.no.No.{No}
 use Rattle.lnt_lines.specs.declared.options.Options.{Options}
 use Rattle.lnt_lines.specs.declared.section.JudgedIndex.{JudgedIndex}
 use Rattle.lnt_lines.specs.declared.section.JudgedIndex.TheVariants.{Good, Bad}
 use Rattle.lnt_lines.specs.Drafts.{IsJudgedIndex}
-use Rattle.lnt_lines.specs.Indexed.{Indexed}
+use Rattle.lnt_lines.specs.Indexed.{Indexed, IsIndexOf}
 use Rattle.lnt_words.specs.declared.request.Judging.{Judging}
 use Rattle.lnt_words.specs.declared.request.Question.{Question}
 use Rattle.lnt_words.specs.declared.request.Question.TheVariants.{Verify, Lookup, Files, Table, TableByPath, Md5}
 use Rattle.lnt_table.specs.declared.by_path.Checked.{Checked}
 use Rattle.lnt_answers.specs.Lines.{HasBegunLine}
 use Rattle.lnt_answers.specs.SumLines.{listed_files}
+use Rattle.lnt_answers.specs.Texts.{no_text}
 use Rattle.lnt_answers.proofs.SumLaws.{sums_later}
 use Rattle.lnt_cli.specs.Answered.{AnswersCheck, AreTextsOf, IsChecked, options_in}
-use Rattle.lnt_cli.specs.Stopped.{BeginsAddresses, BeginsAddressesJudged, BeginsGood, BeginsJudged, BeginsQuestion}
+use Rattle.lnt_cli.specs.Stopped.{ArePlacesBegun, BeginsGood, BeginsJudged, BeginsOfFile, BeginsPlaces, BeginsQuestion}
+use Rattle.lnt_cli.specs.Stretches.{AreStretchesBegun}
 use Rattle.lnt_cli.specs.Verdicts.{checked_status, checked_text}
 
 -- a front of the line of what a check answers, where that is the answer once its line is printed
@@ -47,7 +52,7 @@ check_stopped tells from table checked old new (Err stop) so front = inr (check_
 -- ---- sections that are read
 
 -- what is so where the work on a file was stopped is so where the run was stopped for it
-pub file_stopped : {T S E : Type 0} (Gained : Type 0) (worked : Result T E) (ended : Result T S) → OnErr ended (IsErr worked)
+pub file_stopped : {R T S E : Type 0} (Gained : Type 0) (worked : Result R E) (ended : Result T S) → OnErr ended (IsErr worked)
     → OnErr worked Gained → OnErr ended Gained
 file_stopped Gained worked (Ok value) is gained = tt
 file_stopped Gained (Ok value) (Err stop) is gained = absurd (false≢true is)
@@ -81,7 +86,8 @@ good_begun_later tells tells' options Verify index old new later begun = begun
 good_begun_later tells tells' options (Lookup positions) index old new later begun = begun
 good_begun_later tells tells' options Files index old new later begun = begun
 good_begun_later tells tells' options (Table version) index old new later begun = begun
-good_begun_later tells tells' options (TableByPath columns) index old new later begun = begun
+good_begun_later tells tells' options (TableByPath true) index old new later begun = begun
+good_begun_later tells tells' options (TableByPath false) index old new later begun = begun
 good_begun_later tells tells' options Md5 index old new later begun = record {
   whole = begun.whole;
   ending = begun.ending;
@@ -118,30 +124,31 @@ question_stopped tells tells' from question old new line general section (Err st
       begun = judged_begun_later tells tells' (options_in from) question begun.0 old new later begun.2;
     })
 
--- ---- lines of a file
+-- ---- a section and another file
 
--- A section was judged so, and a front of the answer to the text was gained.
-abbrev pub BeginsLines : (JudgedIndex → Type 0) → ℕ → Option (List ℕ) → Option (List ℕ) → Option (List ℕ) → Type 0
-BeginsLines IsSo op text old new =
-    Keeps old new ⊎ ((judged : JudgedIndex) × IsSo judged × BeginsAddressesJudged judged op text old new)
+-- A section was judged so, and so much of the answer has begun.
+abbrev pub BeginsOf : (JudgedIndex → Type 0) → (JudgedIndex → Type 0) → Option (List ℕ) → Option (List ℕ) → Type 0
+BeginsOf IsSo HasBegunOf old new = Keeps old new ⊎ ((judged : JudgedIndex) × IsSo judged × HasBegunOf judged)
 
 -- a front of the line of a section that isn't good
-pub lines_not_begun : {T E : Type 0} (IsSo : JudgedIndex → Type 0) (op : ℕ) (text old new : Option (List ℕ)) (ended : Result T E)
-    → Keeps old new ⊎ HasBegunLine IsSo old new → OnErr ended (BeginsLines IsSo op text old new)
-lines_not_begun IsSo op text old new (Ok answered) begun = tt
-lines_not_begun IsSo op text old new (Err stop) (inl kept) = inl kept
-lines_not_begun IsSo op text old new (Err stop) (inr line) = inr (Bad line.reason, line.is_so, line.front)
+pub begins_bad : {T E : Type 0} (IsSo HasBegunOf : JudgedIndex → Type 0) (old new : Option (List ℕ)) (ended : Result T E)
+    → ((reason : No) → AppendsFront old new (no_text reason ++ codes "\n") → HasBegunOf (Bad reason))
+    → Keeps old new ⊎ HasBegunLine IsSo old new → OnErr ended (BeginsOf IsSo HasBegunOf old new)
+begins_bad IsSo HasBegunOf old new (Ok answered) of_bad begun = tt
+begins_bad IsSo HasBegunOf old new (Err stop) of_bad (inl kept) = inl kept
+begins_bad IsSo HasBegunOf old new (Err stop) of_bad (inr line) = inr (Bad line.reason, line.is_so, of_bad line.reason line.front)
 
--- What was gained of the answer to the text of a file is so of that file.
-pub addresses_stopped : {T E : Type 0} (tells : List ℕ → Option (List ℕ) → Type 0) (from : Judging) (file : List ℕ) (op : ℕ)
-    (old new : Option (List ℕ)) (line general : List ℕ) (section text : Option (List ℕ)) (ended : Result T E)
+-- What has begun as the bytes of a file were told is so of that file.
+pub of_file_stopped : {T E : Type 0} (tells : List ℕ → Option (List ℕ) → Type 0) (from : Judging) (file : List ℕ)
+    (HasBegunOf : JudgedIndex → Option (List ℕ) → Type 0) (old new : Option (List ℕ)) (line general : List ℕ)
+    (section text : Option (List ℕ)) (ended : Result T E)
     → AreTextsOf tells from line general → tells from.section.now section → tells file text
-    → OnErr ended (BeginsLines (λ judged. IfSome section (λ bytes. IsJudgedIndex line general (options_in from) bytes judged)) op text
-    old new)
-    → OnErr ended (Keeps old new ⊎ BeginsAddresses tells from file op old new)
-addresses_stopped tells from file op old new line general section text (Ok answered) texts of_section of_text begun = tt
-addresses_stopped tells from file op old new line general section text (Err stop) texts of_section of_text (inl kept) = inl kept
-addresses_stopped tells from file op old new line general section text (Err stop) texts of_section of_text (inr begun) =
+    → OnErr ended (BeginsOf (λ judged. IfSome section (λ bytes. IsJudgedIndex line general (options_in from) bytes judged))
+    (λ judged. HasBegunOf judged text) old new)
+    → OnErr ended (Keeps old new ⊎ BeginsOfFile tells from file HasBegunOf)
+of_file_stopped tells from file HasBegunOf old new line general section text (Ok answered) texts of_section of_text begun = tt
+of_file_stopped tells from file HasBegunOf old new line general section text (Err stop) texts of_section of_text (inl kept) = inl kept
+of_file_stopped tells from file HasBegunOf old new line general section text (Err stop) texts of_section of_text (inr begun) =
     inr (record {
       line = line;
       general = general;
@@ -150,7 +157,50 @@ addresses_stopped tells from file op old new line general section text (Err stop
       of_section = of_section;
       judged = begun.0;
       is_true = begun.1;
-      text_bytes = text;
-      of_text = of_text;
+      file_bytes = text;
+      of_file = of_text;
       begun = begun.2;
     })
+
+-- ---- all places
+
+-- what has begun of the places at which a table answers otherwise than the units that an index is of, whatever they are
+abbrev pub BeginsStretches : Indexed → Option (List ℕ) → Option (List ℕ) → Option (List ℕ) → Type 0
+BeginsStretches index table old new = Keeps old new ⊎ ((dead : Option ℕ) (skip : Bool) (units : List (ℕ × Parts))
+    → IsIndexOf dead skip units index → IfSome table (λ text. AreStretchesBegun index dead skip units text old new))
+
+-- That, of the units of a section that was judged.
+places_begun : {T E : Type 0} (IsSo : JudgedIndex → Type 0) (options : Options) (index : Indexed) (table old new : Option (List ℕ))
+    (ended : Result T E) → IsSo (Good index) → OnErr ended (BeginsStretches index table old new)
+    → OnErr ended (BeginsOf IsSo (λ judged. ArePlacesBegun options judged table old new) old new)
+places_begun IsSo options index table old new (Ok told) so begun = tt
+places_begun IsSo options index table old new (Err halt) so (inl kept) = inl kept
+places_begun IsSo options index table old new (Err halt) so (inr begun) =
+    inr (Good index, so, λ units of_index. begun options.dead options.skip_copies units of_index)
+
+-- What has begun of a good section's places is so of the table of this name; nothing was written before.
+pub places_stopped : {R T S E : Type 0} (tells : List ℕ → Option (List ℕ) → Type 0) (from : Judging) (file : List ℕ)
+    (old now new : Option (List ℕ)) (line general : List ℕ) (section table : Option (List ℕ)) (index : Indexed) (worked : Result R E)
+    (ended : Result T S)
+    → AreTextsOf tells from line general → tells from.section.now section → tells file table
+    → IfSome section (λ bytes. IsJudgedIndex line general (options_in from) bytes (Good index)) → now ≡ old → OnErr ended (IsErr worked)
+    → OnErr worked (BeginsStretches index table now new) → OnErr ended (Keeps old new ⊎ BeginsPlaces tells from file old new)
+places_stopped tells from file old now new line general section table index worked ended texts of_section of_table good same is begun =
+    let gained = subst (λ (o : Option (List ℕ)). OnErr worked (BeginsStretches index table o new)) same begun in
+    of_file_stopped tells from file (λ judged text. ArePlacesBegun (options_in from) judged text old new) old new line general section table
+    ended texts of_section of_table
+    (places_begun (λ judged. IfSome section (λ bytes. IsJudgedIndex line general (options_in from) bytes judged)) (options_in from) index
+    table old new ended good (file_stopped (BeginsStretches index table old new) worked ended is gained))
+
+-- The section isn't good: a front of its line.
+pub places_unjudged : {T E : Type 0} (tells : List ℕ → Option (List ℕ) → Type 0) (from : Judging) (file : List ℕ)
+    (old new : Option (List ℕ)) (line general : List ℕ) (section table : Option (List ℕ)) (ended : Result T E)
+    → AreTextsOf tells from line general → tells from.section.now section → tells file table
+    → Keeps old new
+    ⊎ HasBegunLine (λ judged. IfSome section (λ bytes. IsJudgedIndex line general (options_in from) bytes judged)) old new
+    → OnErr ended (Keeps old new ⊎ BeginsPlaces tells from file old new)
+places_unjudged tells from file old new line general section table ended texts of_section of_table begun =
+    of_file_stopped tells from file (λ judged text. ArePlacesBegun (options_in from) judged text old new) old new line general section table
+    ended texts of_section of_table
+    (begins_bad (λ judged. IfSome section (λ bytes. IsJudgedIndex line general (options_in from) bytes judged))
+    (λ judged. ArePlacesBegun (options_in from) judged table old new) old new ended (λ reason front. front) begun)

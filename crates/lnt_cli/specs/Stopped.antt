@@ -11,9 +11,13 @@ use Rattle.lnt_lines.specs.declared.section.JudgedIndex.{JudgedIndex}
 use Rattle.lnt_lines.specs.declared.section.JudgedIndex.TheVariants.{Good, Bad}
 use Rattle.lnt_lines.specs.Drafts.{IsJudgedIndex}
 use Rattle.lnt_lines.specs.Indexed.{Indexed}
+use Rattle.lnt_paths.specs.declared.version.PathVersion.{PathVersion}
+use Rattle.lnt_paths.specs.declared.version.PathVersion.TheVariants.{Three, Four}
+use Rattle.lnt_table.specs.ByPath.{told_path}
+use Rattle.lnt_table.specs.Written.{BeginsTableOfUnits}
 use Rattle.lnt_words.specs.declared.request.Judging.{Judging}
 use Rattle.lnt_words.specs.declared.request.Question.{Question}
-use Rattle.lnt_words.specs.declared.request.Question.TheVariants.{Verify, Lookup, Files, Md5}
+use Rattle.lnt_words.specs.declared.request.Question.TheVariants.{Verify, Lookup, Files, Table, TableByPath, Md5}
 use Rattle.lnt_words.specs.declared.request.Reading.{Reading}
 use Rattle.lnt_words.specs.declared.request.Request.{Request}
 use Rattle.lnt_words.specs.declared.request.Request.TheVariants.{Help, Read, Judge, Addresses, Check}
@@ -23,12 +27,19 @@ use Rattle.lnt_answers.specs.Lines.{lookup_line}
 use Rattle.lnt_answers.specs.SumLines.{AreSumsTold, listed_files}
 use Rattle.lnt_answers.specs.Texts.{no_text}
 use Rattle.lnt_cli.specs.Answered.{AnswersCheck, AreTextsOf, options_in}
+use Rattle.lnt_cli.specs.PathTables.{BeginsPrintedTable}
 use Rattle.lnt_cli.specs.Questions.{ForUnitsOf}
 use Rattle.lnt_cli.specs.Readings.{BeginsReading}
+use Rattle.lnt_cli.specs.Stretches.{AreStretchesBegun}
 
 -- ---- sections that are judged
 
--- A front of what is answered of a good section with this index. Of its table nothing is said.
+-- a front of the table by path of what the units answer, or of the line that there can't be one
+abbrev pub BeginsTableByPath : PathVersion → Options → Indexed → Option (List ℕ) → Option (List ℕ) → Type 0
+BeginsTableByPath version options index old new =
+    ForUnitsOf options index (λ units. BeginsPrintedTable version (told_path version index options.dead options.skip_copies units) old new)
+
+-- A front of what is answered of a good section with this index: of a table, one of the names of its columns and its first lines.
 abbrev pub BeginsGood : (List ℕ → Option (List ℕ) → Type 0) → Options → Question → Indexed → Option (List ℕ) → Option (List ℕ) → Type 0
 BeginsGood tells options Verify index old new = AppendsFront old new (codes "yes\n")
 BeginsGood tells options (Lookup positions) index old new =
@@ -36,7 +47,10 @@ BeginsGood tells options (Lookup positions) index old new =
     (λ units. AppendsFront old new (flat_map (lookup_line index options.dead options.skip_copies units) positions.items))
 BeginsGood tells options Files index old new = AppendsFront old new (files_text index)
 BeginsGood tells options Md5 index old new = HasBegun (AreSumsTold tells index (listed_files index) old) old new
-BeginsGood tells options other index old new = Unit {0}
+BeginsGood tells options (Table version) index old new =
+    ForUnitsOf options index (λ units. BeginsTableOfUnits version options.dead options.skip_copies units old new)
+BeginsGood tells options (TableByPath true) index old new = BeginsTableByPath Three options index old new
+BeginsGood tells options (TableByPath false) index old new = BeginsTableByPath Four options index old new
 
 -- A front of what is answered of a section that was judged so.
 abbrev pub BeginsJudged : (List ℕ → Option (List ℕ) → Type 0) → Options → Question → JudgedIndex → Option (List ℕ) → Option (List ℕ)
@@ -61,10 +75,17 @@ abbrev pub BeginsAddressesJudged : JudgedIndex → ℕ → Option (List ℕ) →
 BeginsAddressesJudged (Good index) op text old new = AreAddressesBegun index op text old new
 BeginsAddressesJudged (Bad reason) op text old new = AppendsFront old new (no_text reason ++ codes "\n")
 
--- What is told of the section whose file is named is so, and the writer has gained a front of the answer to the text of the file of
--- this name, whose lines tell positions.
-pub record BeginsAddresses (tells : List ℕ → Option (List ℕ) → Type 0) (from : Judging) (file : List ℕ) (op : ℕ)
-    (old new : Option (List ℕ)) : Type 0 where
+-- A front of what is told of all places at which a table answers otherwise than a section that was judged so.
+abbrev pub ArePlacesBegun : Options → JudgedIndex → Option (List ℕ) → Option (List ℕ) → Option (List ℕ) → Type 0
+ArePlacesBegun options (Good index) table old new = ForUnitsOf options index (λ units. IfSome table
+    (λ text. AreStretchesBegun index options.dead options.skip_copies units text old new))
+ArePlacesBegun options (Bad reason) table old new = AppendsFront old new (no_text reason ++ codes "\n")
+
+-- What is told of the section whose file is named is so, and so much of the answer has begun of it, and of the bytes that are told of
+-- another file.
+--     HasBegunOf    what has begun of a section that was judged so, and of the other file's bytes
+pub record BeginsOfFile (tells : List ℕ → Option (List ℕ) → Type 0) (from : Judging) (file : List ℕ)
+    (HasBegunOf : JudgedIndex → Option (List ℕ) → Type 0) : Type 0 where
   pub line : List ℕ
   pub general : List ℕ
   pub texts : AreTextsOf tells from line general
@@ -72,9 +93,17 @@ pub record BeginsAddresses (tells : List ℕ → Option (List ℕ) → Type 0) (
   pub of_section : tells from.section.now section_bytes
   pub judged : JudgedIndex
   pub is_true : IfSome section_bytes (λ section. IsJudgedIndex line general (options_in from) section judged)
-  pub text_bytes : Option (List ℕ)
-  pub of_text : tells file text_bytes
-  pub begun : BeginsAddressesJudged judged op text_bytes old new
+  pub file_bytes : Option (List ℕ)
+  pub of_file : tells file file_bytes
+  pub begun : HasBegunOf judged file_bytes
+
+-- The writer has gained a front of the answer to the text of the file of this name, whose lines tell positions.
+abbrev pub BeginsAddresses : (List ℕ → Option (List ℕ) → Type 0) → Judging → List ℕ → ℕ → Option (List ℕ) → Option (List ℕ) → Type 0
+BeginsAddresses tells from file op old new = BeginsOfFile tells from file (λ judged text. BeginsAddressesJudged judged op text old new)
+
+-- It has gained a front of what is told of all places at which the table of this name answers otherwise.
+abbrev pub BeginsPlaces : (List ℕ → Option (List ℕ) → Type 0) → Judging → List ℕ → Option (List ℕ) → Option (List ℕ) → Type 0
+BeginsPlaces tells from table old new = BeginsOfFile tells from table (λ judged text. ArePlacesBegun (options_in from) judged text old new)
 
 -- ---- sections that are read
 
@@ -87,11 +116,11 @@ pub record StopsRead (tells : List ℕ → Option (List ℕ) → Type 0) (sectio
 
 -- ---- requests
 
--- Where the answer to a request was stopped. Nothing is said of dumps, of tables that are written, and of a check of all places.
+-- Where the answer to a request was stopped. Nothing is said of dumps.
 abbrev pub IsStopped : (List ℕ → Option (List ℕ) → Type 0) → Request → Option (List ℕ) → Option (List ℕ) → Type 0
 IsStopped tells (Help text) old new = AppendsFront old new (string_bytes text)
 IsStopped tells (Read section order reading) old new = Keeps old new ⊎ StopsRead tells section.now order reading old new
 IsStopped tells (Judge from question) old new = Keeps old new ⊎ BeginsQuestion tells from question old new
 IsStopped tells (Addresses from file op) old new = Keeps old new ⊎ BeginsAddresses tells from file.now op old new
 IsStopped tells (Check from table false) old new = Keeps old new ⊎ HasBegun (AnswersCheck tells from table.now old) old new
-IsStopped tells (Check from table true) old new = Unit {0}
+IsStopped tells (Check from table true) old new = Keeps old new ⊎ BeginsPlaces tells from table.now old new

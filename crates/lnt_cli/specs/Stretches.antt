@@ -1,9 +1,12 @@
 -- What `check` prints where it tells all places at which a table answers otherwise than a good section.
-use Rattle.std.specs.Prelude.{◌≡◌, ◌≢◌, ◌++◌, Bool, ℕ, List, [], ◌∷◌, Option, IfSome, codes}
+use Rattle.std.specs.Prelude.{◌≡◌, ◌≢◌, ◌++◌, ◌⊎◌, Bool, ℕ, List, [], ◌∷◌, Option, IfSome, codes}
+use Rattle.std.specs.List.{flat_map}
 use Rattle.std.specs.Io.KnownBytes.{Appends}
+use Rattle.lnt_output.specs.Fronts.{AppendsFront}
 use Rattle.lnt_unit.specs.declared.unit.Parts.{Parts}
 use Rattle.lnt_spans.specs.declared.answer.Version.{Version}
 use Rattle.lnt_spans.specs.declared.difference.Difference.{Difference}
+use Rattle.lnt_spans.specs.declared.position.Position.{Position}
 use Rattle.lnt_spans.specs.declared.span.Span.{Span}
 use Rattle.lnt_spans.specs.Spans.{span_answer}
 use Rattle.lnt_spans.specs.Stretches.{AreStretches}
@@ -13,20 +16,21 @@ use Rattle.lnt_records.specs.Faults.{IsFault}
 use Rattle.lnt_records.specs.Table.{BeginsWith, IsTableOf, column_names}
 use Rattle.lnt_paths.specs.declared.answer.DifferenceByPath.{DifferenceByPath}
 use Rattle.lnt_paths.specs.declared.version.PathVersion.{PathVersion}
+use Rattle.lnt_paths.specs.PathAnswers.{PathAnswer}
 use Rattle.lnt_paths.specs.PathFaults.{IsPathFault}
 use Rattle.lnt_paths.specs.PathSpans.{PathSpan, path_span_answer}
-use Rattle.lnt_paths.specs.PathStretches.{ArePathStretches}
+use Rattle.lnt_paths.specs.PathStretches.{AreFirstPathStretches, ArePathStretches}
 use Rattle.lnt_paths.specs.PathTables.{IsPathTableOf}
 use Rattle.lnt_table.specs.ByPath.{told_path}
 use Rattle.lnt_table.specs.Headline.{told_answer}
-use Rattle.lnt_answers.specs.DifferenceLines.{stretches_status, stretches_text}
+use Rattle.lnt_answers.specs.DifferenceLines.{AreDifferencesBegun, stretches_status, stretches_text}
 use Rattle.lnt_cli.specs.declared.stretches.Stretches.{Stretches}
 use Rattle.lnt_cli.specs.declared.stretches.Stretches.TheVariants.{Faulty, FaultyByPath, Told, ToldByPath}
 use Rattle.lnt_cli.specs.declared.stretches.Places.{Places}
 use Rattle.lnt_cli.specs.declared.stretches.Places.TheVariants.{Section, Table}
 use Rattle.lnt_cli.specs.Questions.{ForUnitsOf, IsNoTold}
 use Rattle.lnt_table.specs.Verdicts.{no_of_fault}
-use Rattle.lnt_cli.specs.Verdicts.{path_stretches_status, path_stretches_text, table_no_text}
+use Rattle.lnt_cli.specs.Verdicts.{path_difference_line, path_stretches_status, path_stretches_text, table_no_text}
 use Rattle.lnt_lines.specs.declared.options.Options.{Options}
 use Rattle.lnt_lines.specs.Indexed.{Indexed}
 use Rattle.lnt_lines.specs.declared.section.JudgedIndex.{JudgedIndex}
@@ -102,3 +106,51 @@ pub record AreTableTold (options : Options) (index : Indexed) (table old new : O
 abbrev pub ArePlacesTold : Options → JudgedIndex → Option (List ℕ) → Option (List ℕ) → Option (List ℕ) → Status → Type 0
 ArePlacesTold options (Good index) table old new status = AreTableTold options index table old new status
 ArePlacesTold options (Bad reason) table old new status = IsNoTold reason old new status
+
+-- ---- where the writer was stopped
+--     old, new    what it holds before and afterwards
+
+-- These are the first stretches at which a table by path answers otherwise, and the writer has gained a front of their lines: the
+-- last of these may be cut.
+pub record ArePathLinesBegun (by_section by_table : Position → Option PathAnswer) (old new : Option (List ℕ)) : Type 0 where
+  pub told : List DifferenceByPath
+  pub are_first : AreFirstPathStretches by_section by_table told
+  pub front : AppendsFront old new (flat_map path_difference_line told)
+
+-- That, or there is no stretch, and the writer has gained a front of the line that says so.
+abbrev pub ArePathDifferencesBegun : (Position → Option PathAnswer) → (Position → Option PathAnswer) → Option (List ℕ)
+    → Option (List ℕ) → Type 0
+ArePathDifferencesBegun by_section by_table old new =
+    (ArePathStretches by_section by_table [] × AppendsFront old new (path_stretches_text [])) ⊎ ArePathLinesBegun by_section by_table old new
+
+-- Something that is so wrong with the table, and a front of its line.
+--     IsSo    that it is wrong with the table
+pub record IsFaultBegun (IsSo : TableFault → Type 0) (old new : Option (List ℕ)) : Type 0 where
+  pub told : TableFault
+  pub is_so : IsSo told
+  pub front : AppendsFront old new (table_no_text (no_of_fault told) ++ codes "\n")
+
+-- The bytes are a table, and a front of the lines of the stretches at which it answers otherwise than the rows of the units was
+-- gained.
+pub record AreBegunOf (dead : Option ℕ) (skip : Bool) (units : List (ℕ × Parts)) (table : List ℕ) (old new : Option (List ℕ)) : Type 0
+  where
+    pub version : Version
+    pub spans : List Span
+    pub is_table : IsTableOf version table spans
+    pub begun : AreDifferencesBegun (told_answer version dead skip units) (span_answer spans) old new
+
+-- The same of a table by path, and of what the rows answer with the whole path of each file.
+pub record AreBegunByPath (index : Indexed) (dead : Option ℕ) (skip : Bool) (units : List (ℕ × Parts)) (table : List ℕ)
+    (old new : Option (List ℕ)) : Type 0 where
+  pub version : PathVersion
+  pub spans : List PathSpan
+  pub is_table : IsPathTableOf version table spans
+  pub begun : ArePathDifferencesBegun (told_path version index dead skip units) (path_span_answer spans) old new
+
+-- The writer has gained a front of what is told of the table, by its version: of the line of its first fault, or of the lines of the
+-- stretches.
+abbrev pub AreStretchesBegun : Indexed → Option ℕ → Bool → List (ℕ × Parts) → List ℕ → Option (List ℕ) → Option (List ℕ) → Type 0
+AreStretchesBegun index dead skip units table old new =
+    IsFaultBegun (λ told. IsFault table told × (told ≢ fault.Header)) old new
+    ⊎ (AreBegunOf dead skip units table old new
+    ⊎ (IsFaultBegun (IsFaultByPath table) old new ⊎ AreBegunByPath index dead skip units table old new))

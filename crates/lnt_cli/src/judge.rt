@@ -3,6 +3,7 @@ ghost use Rattle.std.specs.Prelude.{◌≡◌, ◌⊎◌, ℕ, List, Option, IfE
 ghost use Rattle.std.specs.Io.KnownBytes.{Appends, Keeps};
 ghost use Rattle.lnt_output.specs.Fronts.{HasBegun};
 ghost use Rattle.lnt_cli.specs.Answered.{AnswersCheck, AnswersPlaces, IsChecked, options_in};
+ghost use Rattle.lnt_cli.specs.Stopped.{BeginsPlaces};
 ghost use Rattle.lnt_cli.specs.Stops.{IsUsage};
 ghost use Rattle.lnt_cli.specs.Stretches.{places_status};
 ghost use Rattle.lnt_cli.specs.Verdicts.{checked_status, checked_text, compared_status, verdict_status};
@@ -104,6 +105,9 @@ impl<O: Opener, W: Write, N: Write> Session<'_, '_, '_, O, W, N> {
         ensures usage { IfErr result (λ stop. IsUsage stop → ⊥) }
         ensures answer { IfOk result (λ status. AnswersPlaces (O.tells self.old.opener.now) from.now table.now
             (W.contents self.old.out.now) (W.contents self.new.out.now) status) }
+        ensures stopped { OnErr result (Keeps (W.contents self.old.out.now) (W.contents self.new.out.now)
+            ⊎ BeginsPlaces (O.tells self.old.opener.now) from.now table.now
+            (W.contents self.old.out.now) (W.contents self.new.out.now)) }
         ensures same_reference { self.new.out.ghost_name ≡ self.old.out.ghost_name }
     {
         let seen = Cell::new(Seen::nothing());
@@ -139,6 +143,8 @@ fn judge_places<O: Opener, W: Write>(
     ensures usage { IfErr result (λ stop. IsUsage stop → ⊥) }
     ensures answer { IfOk result (λ places. AnswersPlaces (O.tells opener.old) from.now table.now
         (W.contents out.old) (W.contents out.new) (places_status places)) }
+    ensures stopped { OnErr result (Keeps (W.contents out.old) (W.contents out.new)
+        ⊎ BeginsPlaces (O.tells opener.old) from.now table.now (W.contents out.old) (W.contents out.new)) }
 {
     let opened = open_both(alloc, opener, from, table, seen)?;
     let (texts, mut section, mut records) = (opened.texts, opened.section, opened.file);

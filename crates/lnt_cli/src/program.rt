@@ -62,11 +62,12 @@ pub fn run<O: Opener, W: Write, N: Write>(
 /// of them (`AnswersAddresses`).
 ///
 /// Where it stops and was to print help, to list the units of a section, to convert it, to tell whether a table answers as a
-/// section does, to answer a question about a section other than for its table, or to answer the lines of a file, `out` has
-/// gained a front of an answer, and nothing else (`IsStopped`); of a file, a front of the answers to its first lines. It stops
-/// as `run` does, and never by `Usage`.
+/// section does, or all places where it doesn't, to answer a question about a section, or to answer the lines of a file,
+/// `out` has gained a front of an answer, and nothing else (`IsStopped`): of a file, a front of the answers to its first
+/// lines, of a table, one of the names of its columns and its first lines, and of the places of a table by path, one of the
+/// lines of the first ones. It stops as `run` does, and never by `Usage`.
 ///
-/// Nothing is said of what dumps print, nor of `out` where another answer is stopped.
+/// Nothing is said of what dumps print.
 pub fn answer<O: Opener, W: Write, N: Write>(
     alloc: Global,
     asked: &Asked<'_>,

@@ -8,7 +8,7 @@ ghost use Rattle.lnt_cli.specs.Stops.{IsUsage};
 
 use crate::inputs::{of_file, open_section};
 use crate::stop::CliStop;
-use lnt_dump::{Shown, print_converted, print_dump, print_units};
+use lnt_dump::{DumpParts, print_converted, print_dump, print_units};
 use lnt_notes::{Seen, tell_refused};
 use lnt_output::write_whole;
 use lnt_sources::{Halt, Opener, Status};
@@ -132,7 +132,13 @@ fn print_reading<R: Source, W: Write>(
 {
     match reading {
         Reading::Units => print_units(alloc, source, order, out),
-        Reading::Dump { ops, rows } => print_dump(alloc, source, order, Shown { ops, rows }, out),
+        Reading::Dump { ops, rows } => print_dump(
+            alloc,
+            source,
+            order,
+            DumpParts { ops, rows },
+            out,
+        ),
         Reading::Convert { format, to } => print_converted(alloc, source, order, format, to, out),
     }
 }

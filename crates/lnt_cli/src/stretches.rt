@@ -1,21 +1,25 @@
 //! The subcommand `check` where it tells all places.
-ghost use Rattle.std.specs.Prelude.{◌≡◌, ◌-◌, ◌^◌, ◌<◌, ◌+◌, [], Bool, ℕ, List, Option, IfErr, IfOk, IfSome, IsErrOf};
-ghost use Rattle.std.specs.Io.KnownBytes.{Appends};
-ghost use Rattle.lnt_cli.specs.Stretches.{AreStretchesOf, IsFaultTold};
-ghost use Rattle.lnt_cli.specs.Verdicts.{path_stretches_status, path_stretches_text};
+ghost use Rattle.std.specs.Prelude.{◌≡◌, ◌-◌, ◌^◌, ◌<◌, ◌+◌, ◌++◌, ◌⊎◌, [], Bool, ℕ, List, Option, IfErr, IfOk, IfSome, IsErrOf};
+ghost use Rattle.std.specs.Prelude.{OnErr, OnOk, codes, string_bytes};
+ghost use Rattle.std.specs.Io.KnownBytes.{Appends, Keeps};
+ghost use Rattle.lnt_cli.specs.Stretches.{ArePathDifferencesBegun, AreStretchesBegun, AreStretchesOf, IsFaultTold};
+ghost use Rattle.lnt_cli.specs.Verdicts.{path_difference_line, path_stretches_status, path_stretches_text, table_no_text};
 ghost use Rattle.lnt_lines.specs.Indexed.{IsIndexOf};
 ghost use Rattle.lnt_paths.specs.declared.answer.DifferenceByPath.{DifferenceByPath as Spec};
 ghost use Rattle.lnt_paths.specs.PathAnswers.{PathAnswer};
 ghost use Rattle.lnt_paths.specs.PathStretches.{ArePathStretches};
 ghost use Rattle.lnt_paths.specs.Stretching.{HasToldByPath};
+ghost use Rattle.lnt_output.specs.Fronts.{AppendsFront};
 ghost use Rattle.lnt_sources.specs.Halts.{IsPrinting};
 ghost use Rattle.lnt_spans.specs.declared.position.Position.{Position};
+ghost use Rattle.lnt_table.specs.Verdicts.{no_of_fault};
 ghost use Rattle.lnt_unit.specs.declared.unit.Parts.{Parts};
 
 use crate::verdict::{PathDifferenceLine, TableNoLine};
 use lnt_answers::print_differences;
 use lnt_lines::{Index, No};
-use lnt_paths::{DifferencesByPath, HeldTable, Paths};
+use lnt_output::write_whole;
+use lnt_paths::{DifferenceByPath, DifferencesByPath, HeldTable, Paths};
 use lnt_records::TableFault;
 use lnt_sources::{Halt, Status};
 use lnt_spans::SpanSource;
@@ -23,7 +27,7 @@ use lnt_table::{
     AnyDiffering, Differing, IndexPaths, TableNo, differences_any, differences_by_path,
 };
 use lnt_wire::Source;
-use std::alloc::Global;
+use std::alloc::{AllocError, Global};
 use std::io::Write;
 
 // What was told of a table that is compared with a good section at every position.
@@ -49,8 +53,8 @@ pub(crate) enum Places {
 }
 
 // Prints the No line of each stretch at which the table, of any version, answers otherwise than a good section, in rising order, or `yes`
-// where there is none; or the line of what is wrong with the table. It holds much, and the stack is short: no other word's
-// frame holds it too.
+// where there is none; or the line of what is wrong with the table. Where it stops, the writer has gained nothing, or a front of
+// these. It holds much, and the stack is short: no other word's frame holds it too.
 #[inline(never)]
 pub(crate) fn print_stretches<T: Source, W: Write>(
     alloc: Global,
@@ -64,14 +68,18 @@ pub(crate) fn print_stretches<T: Source, W: Write>(
         (W.contents out.old) (W.contents out.new) told)) }
     ensures faulty { IfOk result (λ told. IsFaultTold told (W.contents out.old) (W.contents out.new)) }
     ensures read { IsErrOf result Halt.Read → T.failures table.new ≡ T.failures table.old + 1 }
+    ensures begun { OnErr result (Keeps (W.contents out.old) (W.contents out.new)
+        ⊎ ((dead : Option ℕ) (skip : Bool) (units : List (ℕ × Parts)) → IsIndexOf dead skip units index.now
+        → IfSome (T.remaining table.old) (λ text. AreStretchesBegun index.now dead skip units text
+        (W.contents out.old) (W.contents out.new)))) }
 {
     match differences_any(alloc, table, index) {
         Ok(AnyDiffering::Numbered(Differing::Table(differences))) => {
-            let status = print_differences(differences, out)?;
+            let status = print_differences(alloc, differences, out)?;
             Ok(Stretches::Told(status))
         }
         Ok(AnyDiffering::Numbered(Differing::Fault(fault))) => {
-            writeln!(out, "{}", TableNoLine(TableNo::from(fault)))?;
+            print_fault(alloc, fault, out)?;
             Ok(Stretches::Faulty(fault))
         }
         Ok(AnyDiffering::ByPath(HeldTable::Table(version, spans))) => {
@@ -80,15 +88,34 @@ pub(crate) fn print_stretches<T: Source, W: Write>(
             Ok(Stretches::ToldByPath(status))
         }
         Ok(AnyDiffering::ByPath(HeldTable::Fault(fault))) => {
-            writeln!(out, "{}", TableNoLine(TableNo::from(fault)))?;
+            print_fault(alloc, fault, out)?;
             Ok(Stretches::FaultyByPath(fault))
         }
         Err(stop) => Err(Halt::from(stop)),
     }
 }
 
+// Prints the line of what is wrong with a table; where it stops, a front of it.
+fn print_fault<W: Write>(alloc: Global, fault: TableFault, out: &mut W) -> Result<(), Halt>
+    ensures err { IfErr result IsPrinting }
+    ensures line { OnOk result (Appends (W.contents out.old) (W.contents out.new) (table_no_text (no_of_fault fault) ++ codes "\n")) }
+    ensures front { OnErr result (AppendsFront (W.contents out.old) (W.contents out.new)
+        (table_no_text (no_of_fault fault) ++ codes "\n")) }
+{
+    let line = fault_line(alloc, fault)?;
+    write_whole(out, line.as_bytes())?;
+    Ok(())
+}
+
+// That line.
+fn fault_line(alloc: Global, fault: TableFault) -> Result<String, AllocError>
+    ensures { IfOk result (λ line. string_bytes line ≡ table_no_text (no_of_fault fault) ++ codes "\n") }
+{
+    format!(in alloc; "{}\n", TableNoLine(TableNo::from(fault)))
+}
+
 // Prints a line for each stretch of positions at which a table by path answers otherwise than a section, in rising order, or
-// `yes` where there is none. It stops where memory ran out or the writer failed; what was printed before stays.
+// `yes` where there is none. It stops where memory ran out or the writer failed, which has then gained a front of these lines.
 #[inline(never)]
 fn print_path_differences<S: SpanSource + Drop, P: Paths, W: Write>(
     alloc: Global,
@@ -103,15 +130,38 @@ fn print_path_differences<S: SpanSource + Drop, P: Paths, W: Write>(
         → HasToldByPath S.to_come (P.bytes_of paths.now) differences.entry by_section by_table []
         → (list : List Spec) × ArePathStretches by_section by_table list
         × Appends (W.contents out.old) (W.contents out.new) (path_stretches_text list) × (status ≡ path_stretches_status list)) }
+    ensures begun { OnErr result ((by_section by_table : Position → Option PathAnswer)
+        → HasToldByPath S.to_come (P.bytes_of paths.now) differences.entry by_section by_table []
+        → ArePathDifferencesBegun by_section by_table (W.contents out.old) (W.contents out.new)) }
 {
     let mut differences = differences;
     let Some(first) = differences.next_difference(alloc, paths)? else {
-        writeln!(out, "yes")?;
+        write_whole(out, b"yes\n")?;
         return Ok(Status::Done);
     };
-    writeln!(out, "{}", PathDifferenceLine(&first))?;
+    let mut room = Vec::new(alloc);
+    print_path_difference(&first, &mut room, out)?;
     while let Some(difference) = differences.next_difference(alloc, paths)? {
-        writeln!(out, "{}", PathDifferenceLine(&difference))?;
+        print_path_difference(&difference, &mut room, out)?;
     }
     Ok(Status::No)
+}
+
+// Prints the line of a stretch. The line is made in the room first, whatever that held.
+fn print_path_difference<W: Write>(
+    difference: &DifferenceByPath,
+    room: &mut Vec<u8>,
+    out: &mut W,
+) -> Result<(), Halt>
+    ensures err { IfErr result IsPrinting }
+    ensures line { OnOk result (Appends (W.contents out.old) (W.contents out.new) (path_difference_line difference.now)) }
+    ensures front { OnErr result (AppendsFront (W.contents out.old) (W.contents out.new) (path_difference_line difference.now)) }
+{
+    room.clear();
+    // A vector refuses a piece of the line only for want of memory.
+    let Ok(()) = writeln!(room, "{}", PathDifferenceLine(difference)) else {
+        return Err(Halt::Memory);
+    };
+    write_whole(out, room.as_slice())?;
+    Ok(())
 }

@@ -5,7 +5,7 @@ ghost use Rattle.lnt_output.specs.Fronts.{AppendsFront};
 ghost use Rattle.lnt_sources.specs.declared.status.Status.TheVariants.{Done};
 ghost use Rattle.lnt_unit.specs.declared.unit.Parts.{Parts};
 ghost use Rattle.lnt_lines.specs.Indexed.{IsIndexOf};
-ghost use Rattle.lnt_table.specs.Written.{IsTableOfUnits};
+ghost use Rattle.lnt_table.specs.Written.{BeginsTableOfUnits, IsTableOfUnits};
 ghost use Rattle.lnt_cli.specs.Stops.{IsUsage};
 ghost use Rattle.lnt_cli.specs.Verdicts.{checked_text, compared_text, verdict_text};
 
@@ -19,7 +19,7 @@ use lnt_table::{Checked, ComparedByPath, TableNo, Verdict, write_index};
 use std::alloc::{AllocError, Global};
 use std::io::Write;
 
-// Prints the address table of a good section.
+// Prints the address table of a good section; where it stops, a front of its names and first lines.
 pub(crate) fn print_table<W: Write>(
     alloc: Global,
     index: &Index<'_>,
@@ -30,6 +30,8 @@ pub(crate) fn print_table<W: Write>(
     ensures table { OnOk result ((bytes : List ℕ) × Appends (W.contents out.old) (W.contents out.new) bytes
         × ((dead : Option ℕ) (skip : Bool) (units : List (ℕ × Parts)) → IsIndexOf dead skip units index.now
         → IsTableOfUnits version dead skip units bytes)) }
+    ensures begun { OnErr result ((dead : Option ℕ) (skip : Bool) (units : List (ℕ × Parts)) → IsIndexOf dead skip units index.now
+        → BeginsTableOfUnits version dead skip units (W.contents out.old) (W.contents out.new)) }
 {
     match write_index(alloc, index, version, out) {
         Ok(()) => Ok(Status::Done),

@@ -1,9 +1,12 @@
-use Rattle.lnt_cli.proofs.StopLemmas.{addresses_stopped}
+use Rattle.lnt_cli.specs.Stopped.{BeginsAddressesJudged}
+use Rattle.lnt_cli.proofs.StopLemmas.{of_file_stopped}
 use Rattle.lnt_cli.proofs.question.answer_lines.Goals as goal
 
 pub returns-clause-stopped : goal.returns-clause-stopped
 returns-clause-stopped g c =
-    addresses_stopped (g.O.Opener.tells c.args.opener.now) c.args.from.now c.args.file.now c.args.op
-    (g.W.Write.contents c.args.out.now) (g.W.Write.contents c.answer_lines_of.new.out) c.in_ok-opened.opened.texts.line.items
+    let old = g.W.Write.contents c.args.out.now in
+    let new = g.W.Write.contents c.answer_lines_of.new.out in
+    of_file_stopped (g.O.Opener.tells c.args.opener.now) c.args.from.now c.args.file.now
+    (λ judged text. BeginsAddressesJudged judged c.args.op text old new) old new c.in_ok-opened.opened.texts.line.items
     c.in_ok-opened.opened.texts.general.items _ _ c.answer_lines_of.result c.in_ok-opened.ensures.texts
     c.in_ok-opened.ensures.section_told c.in_ok-opened.ensures.file_told c.answer_lines_of.ensures.stopped

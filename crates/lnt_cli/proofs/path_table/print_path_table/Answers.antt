@@ -1,0 +1,17 @@
+use Rattle.std.proofs.Common.{inl, inr}
+use Rattle.lnt_output.proofs.FrontLaws.{front_since, so_stopped}
+use Rattle.lnt_cli.specs.PathTables.{operation_line}
+use Rattle.lnt_cli.proofs.path_table.print_path_table.Goals as goal
+
+pub returns-in_err-print_operation-in-Ok-OperationIndex-clause-begun : goal.returns-in_err-print_operation-in-Ok-OperationIndex-clause-begun
+returns-in_err-print_operation-in-Ok-OperationIndex-clause-begun g c =
+    so_stopped c.from_residual.result _
+    (λ dead skip units is.
+    let position = c.in-Ok-OperationIndex.position in
+    let none = rw c.in-Ok-OperationIndex.field-0-is at c.in-Ok-OperationIndex.ensures.table dead skip units is in
+    inr (
+      position,
+      front_since (g.W.Write.contents c.args.out.now) (g.W.Write.contents c.write_paths.new.out)
+          (g.W.Write.contents c.print_operation.new.out) (operation_line position) none.0 c.in_err-print_operation-in-Ok-OperationIndex.ensures.front,
+      none.1,
+    ))
