@@ -1,4 +1,4 @@
--- What the process ends with.
+-- The exit status with which the process ends.
 use Rattle.std.specs.Prelude.{ℕ, Result, Ok, Err}
 use Rattle.lnt_sources.specs.declared.status.Status.{Status}
 use Rattle.lnt_sources.specs.declared.status.Status.TheVariants.{Done, No}

@@ -2,7 +2,7 @@
 use std::cell::Cell;
 use std::io::{self, ErrorKind, Write};
 
-// A writer, and where it is kept that it is a pipe that nobody reads any more.
+// A writer. `is_unread` is set where a write fails since the writer is a pipe that nobody reads any more.
 #[derive(Drop)]
 pub(crate) struct Output<'a, W> {
     writer: W,

@@ -5,7 +5,7 @@ use std::cell::Cell;
 use std::fs::{self, File};
 use std::io::{self, Read, Stdin};
 
-// What holds the places of standard input and of both outputs, where the process was started without them.
+// Files that hold the places of standard input, standard output and standard error, where the process was started without them.
 #[derive(Drop)]
 pub(crate) struct Held(Option<File>, Option<File>, Option<File>);
 
@@ -27,7 +27,7 @@ enum Input {
     Standard(Stdin),
 }
 
-// A file that is read, and where it is kept why a read failed.
+// A file that is read. `reason` keeps why the last read that failed did.
 #[derive(Drop)]
 pub(crate) struct Reader<'a> {
     input: Input,

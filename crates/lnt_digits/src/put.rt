@@ -6,7 +6,7 @@ ghost use Rattle.lnt_digits.specs.Digits.{IsPlain, IsPlainAddress, IsPlainDecima
 use crate::radix::{Radix, decimal_byte, digit_byte};
 use std::alloc::AllocError;
 
-// As many digits as a number below 2^64 may have.
+// The most decimal digits that a number below 2^64 has.
 const MOST_DIGITS: usize = 20;
 
 /// Adds the decimal digits of a number, with no leading zeros. They are read back as that number.
@@ -36,8 +36,9 @@ pub fn put_address(out: &mut Vec<u8>, n: u64) -> Result<(), AllocError>
     out.extend_from_slice(&digits[start..])
 }
 
-/// Writes the decimal digits of a number, with no leading zeros, into a text, so that they end before the place `end`,
-/// and says where they begin. What stands before and after them stays. The caller sees to it that 20 digits have room.
+/// Writes the decimal digits of a number, with no leading zeros, into a text, so that they end before index `end`, and
+/// gives the index of the first. The text before and after them stays as it is. The caller sees to it that `end` is at
+/// least 20 and not past the text's end.
 #[inline(always)]
 pub fn decimal_before(text: &mut [u8], end: usize, n: u64) -> usize
     requires { (20 ≤ end) × (end ≤ length text.old) }
@@ -50,8 +51,8 @@ pub fn decimal_before(text: &mut [u8], end: usize, n: u64) -> usize
 }
 
 /// Writes `0x` and the hexadecimal digits of a number, in lower case and with no leading zeros, into a text, so that they
-/// end before the place `end`, and says where they begin. What stands before and after them stays. The caller sees to it
-/// that 18 characters have room.
+/// end before index `end`, and gives the index of the first character. The text before and after them stays as it is. The
+/// caller sees to it that `end` is at least 18 and not past the text's end.
 #[inline(always)]
 pub fn address_before(text: &mut [u8], end: usize, n: u64) -> usize
     requires { (18 ≤ end) × (end ≤ length text.old) }
@@ -66,7 +67,7 @@ pub fn address_before(text: &mut [u8], end: usize, n: u64) -> usize
     start - 2
 }
 
-// Writes the digits of a number one after another, up to the place `end` of a text, and says where they begin.
+// Writes the digits of a number into a text, so that they end before index `end`, and gives the index of the first.
 #[inline(always)]
 fn digits_before(text: &mut [u8], end: usize, n: u64, radix: Radix) -> usize
     requires { (most_digits radix ≤ end) × (end ≤ length text.old) }
@@ -82,7 +83,7 @@ fn digits_before(text: &mut [u8], end: usize, n: u64, radix: Radix) -> usize
     }
 }
 
-// The same of decimal digits: two for each division after the first, since each division waits for the one before it.
+// The same for decimal digits. Each division after the first gives two of them, since it has to wait for the one before it.
 #[inline(always)]
 fn decimal_digits_before(text: &mut [u8], end: usize, n: u64) -> usize
     requires { (20 ≤ end) × (end ≤ length text.old) }
@@ -109,7 +110,7 @@ fn decimal_digits_before(text: &mut [u8], end: usize, n: u64) -> usize
     start - 1
 }
 
-// The same of hexadecimal digits.
+// The same for hexadecimal digits.
 #[inline(always)]
 fn hexadecimal_digits_before(text: &mut [u8], end: usize, n: u64) -> usize
     requires { (16 ≤ end) × (end ≤ length text.old) }

@@ -1,9 +1,9 @@
-//! Digits, and what they are worth.
+//! Digits and their values.
 ghost use Rattle.std.specs.Prelude.{◌≡◌, ◌+◌, ◌<◌, ◌≤◌, MatchOption};
 ghost use Rattle.std.specs.Bool.{MatchBool};
 ghost use Rattle.lnt_digits.specs.Digits.{IsDecimalDigit, IsDigit, IsHexadecimalDigit, base, digit_code, digit_value, most_digits};
 
-/// Which digits a number has.
+/// The digits that a number is written in.
 #[derive(Clone, Copy)]
 pub enum Radix {
     /// Decimal ones.
@@ -13,7 +13,7 @@ pub enum Radix {
 }
 
 impl Radix {
-    // How much more a digit is worth than the one after it.
+    // The base: 10 or 16.
     #[inline(always)]
     pub(crate) fn base(self) -> u64
         ensures value { result ≡ base self }
@@ -36,7 +36,7 @@ impl Radix {
         }
     }
 
-    // What a digit is worth. None for what is no digit.
+    // The value of a digit of this base. None where the byte is no such digit.
     #[inline(always)]
     pub(crate) fn value_of(self, byte: u8) -> Option<u64>
         ensures { MatchOption result (IsDigit self byte → ⊥) (λ d. IsDigit self byte × (d ≡ digit_value byte) × (d < base self)) }
@@ -48,7 +48,7 @@ impl Radix {
     }
 }
 
-/// What a decimal digit is worth. None for what is no such digit.
+/// The value of a decimal digit. None where the byte is no such digit.
 #[inline(always)]
 pub fn decimal_value(byte: u8) -> Option<u64>
     ensures { MatchOption result (IsDecimalDigit byte → ⊥) (λ d. IsDecimalDigit byte × (d ≡ digit_value byte) × (d < 10)) }
@@ -59,7 +59,7 @@ pub fn decimal_value(byte: u8) -> Option<u64>
     }
 }
 
-// What a hexadecimal digit of either case is worth. None for what is no such digit.
+// The value of a hexadecimal digit of either case. None where the byte is no such digit.
 #[inline(always)]
 fn hexadecimal_value(byte: u8) -> Option<u64>
     ensures { MatchOption result (IsHexadecimalDigit byte → ⊥) (λ d. IsHexadecimalDigit byte × (d ≡ digit_value byte) × (d < 16)) }
@@ -79,8 +79,9 @@ pub fn is_hexadecimal(byte: u8) -> bool
     is_between(byte, b'0', b'9') | is_between(byte, b'A', b'F') | is_between(byte, b'a', b'f')
 }
 
-/// What a hexadecimal digit of either case is worth: its low half, and 9 more where it is a letter. Which of them it is
-/// can't be foretold, so nothing branches on that. Of a byte that is no such digit it says nothing but a number below 64.
+/// The value of a hexadecimal digit of either case: its low half, and 9 more where it is a letter. It doesn't branch on
+/// that, since a processor can't predict which of the two comes. For a byte that is no such digit it gives some number
+/// below 64.
 #[inline(always)]
 pub fn letter_or_digit_value(byte: u8) -> u64
     ensures value { IsHexadecimalDigit byte → (result ≡ digit_value byte) × (result < 16) }
@@ -97,7 +98,7 @@ fn is_between(byte: u8, first: u8, last: u8) -> bool
     (first <= byte) & (byte <= last)
 }
 
-// The digit that is worth so much, a letter in lower case.
+// The hexadecimal digit of this value, with letters in lower case.
 #[inline(always)]
 pub(crate) fn digit_byte(digit: u64) -> u8
     requires { digit < 16 }
@@ -106,7 +107,7 @@ pub(crate) fn digit_byte(digit: u64) -> u8
     b"0123456789abcdef"[digit as usize]
 }
 
-// The decimal digit that is worth so much.
+// The decimal digit of this value.
 #[inline(always)]
 pub(crate) fn decimal_byte(digit: u64) -> u8
     requires { digit < 10 }

@@ -12,7 +12,7 @@ use Rattle.lnt_wire.specs.Pulling.{Pulls}
 use Rattle.lnt_wire.specs.declared.fault.Fault.{Fault}
 use Rattle.lnt_wire.specs.declared.format.Order.{Order}
 use Rattle.lnt_wire.specs.declared.frame.Frame.{Frame}
-use Rattle.lnt_wire.proofs.FrameListLemmas.{FramesSoFar, no_frames, one_more_frame}
+use Rattle.lnt_wire.proofs.FrameListLaws.{FramesSoFar, no_frames, one_more_frame}
 use Rattle.lnt_wire.proofs.PullLaws.{pulls_none, pulls_append}
 use Rattle.lnt_stream.specs.Units.{IsNextUnit, SectionEndsBy, UnitBytes}
 use Rattle.lnt_sources.specs.declared.halt.Halt.{Halt}

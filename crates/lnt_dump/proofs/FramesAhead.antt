@@ -23,9 +23,9 @@ use Rattle.lnt_wire.specs.declared.format.Format.{Format}
 use Rattle.lnt_wire.specs.declared.format.Format.TheVariants.{D32, D64}
 use Rattle.lnt_wire.specs.declared.format.Order.{Order}
 use Rattle.lnt_wire.specs.declared.frame.Frame.{Frame}
-use Rattle.lnt_wire.proofs.FrameLemmas.{reads_frame, refuses_initial, refuses_version}
-use Rattle.lnt_wire.proofs.FrameListLemmas.{frame_long}
-use Rattle.lnt_wire.proofs.NumberLemmas.{AreBytes as AreItems, number_in, number_read_2, number_read_4, number_read_8}
+use Rattle.lnt_wire.proofs.FrameReadingLaws.{reads_frame, refuses_initial, refuses_version}
+use Rattle.lnt_wire.proofs.FrameListLaws.{frame_long}
+use Rattle.lnt_wire.proofs.NumberLaws.{AreBytes as AreItems, number_in, number_read_2, number_read_4, number_read_8}
 use Rattle.lnt_dump.specs.Units.{AreBytes}
 
 -- ---- bytes

@@ -99,11 +99,6 @@ has_rest order section format to at bytes p c =
 
 -- ---- a section that is printed
 
--- however it is told that the work was stopped
-pub so_stopped : {A E : Type 0} (stopped : Result A E) (P : Type 0) → P → OnErr stopped P
-so_stopped (Ok done) P p = tt
-so_stopped (Err halt) P p = p
-
 -- nothing more is written
 pub section_stopped : (order : Order) (section : List ℕ) (format : Format) (to : Order) (at : At) (old now : Option (List ℕ))
     (page : List ℕ) → PrintedTo order section format to at old now page → Converts order section format to

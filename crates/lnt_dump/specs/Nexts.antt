@@ -1,4 +1,4 @@
--- What comes next in a section.
+-- What a reader of a section gives next: a unit, a fault, or the end of the section.
 use Rattle.std.specs.Prelude.{◌≡◌, ℕ, ◌+◌, List, length, Option, Some, None}
 use Rattle.lnt_wire.specs.declared.format.Order.{Order}
 use Rattle.lnt_stream.specs.Units.{IsNextUnit, SectionEndsBy}

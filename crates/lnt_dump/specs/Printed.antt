@@ -1,4 +1,4 @@
--- What is printed.
+-- What a writer has gained where a section was converted, or wasn't, and where that was stopped.
 use Rattle.std.specs.Prelude.{◌⊎◌, ℕ, List, [], ◌++◌, Option, codes}
 use Rattle.std.specs.Io.KnownBytes.{Appends, Keeps}
 use Rattle.lnt_output.specs.Fronts.{AppendsFront, HasBegun}

@@ -16,16 +16,16 @@ use std::io::Write;
 
 /// What is printed of a unit after its header.
 #[derive(Clone, Copy, Debug, PartialEq, Eq)]
-pub struct Shown {
-    /// A line for each operation.
+pub struct DumpParts {
+    /// Whether a line is printed for each operation.
     pub ops: bool,
-    /// After these a line for each row, and a line of refusal for a program that doesn't run.
+    /// Whether after these a line is printed for each row. Then a program that doesn't run is refused, with a line that says so.
     pub rows: bool,
 }
 
 // Why a unit isn't printed, or not whole.
 #[derive(Clone, Copy)]
-pub(crate) enum Stop {
+pub(crate) enum PrintStop {
     // Its bytes are those of no unit.
     Malformed(Fault),
     // Its program doesn't run.
@@ -34,21 +34,21 @@ pub(crate) enum Stop {
     Halt(Halt),
 }
 
-impl From<Fault> for Stop {
-    fn from(fault: Fault) -> Stop {
-        Stop::Malformed(fault)
+impl From<Fault> for PrintStop {
+    fn from(fault: Fault) -> PrintStop {
+        PrintStop::Malformed(fault)
     }
 }
 
-impl From<Halt> for Stop {
-    fn from(halt: Halt) -> Stop {
-        Stop::Halt(halt)
+impl From<Halt> for PrintStop {
+    fn from(halt: Halt) -> PrintStop {
+        PrintStop::Halt(halt)
     }
 }
 
-impl From<AllocError> for Stop {
-    fn from(error: AllocError) -> Stop {
-        Stop::Halt(Halt::from(error))
+impl From<AllocError> for PrintStop {
+    fn from(error: AllocError) -> PrintStop {
+        PrintStop::Halt(Halt::from(error))
     }
 }
 
@@ -62,7 +62,7 @@ pub fn print_dump<R: Source, W: Write>(
     alloc: Global,
     source: &mut R,
     order: Order,
-    shown: Shown,
+    shown: DumpParts,
     out: &mut W,
 ) -> Result<Status, Halt>
     requires { R.failures source.old < 2 ^ 64 - 1 }
@@ -87,7 +87,7 @@ pub fn print_dump<R: Source, W: Write>(
 fn print_unit<W: Write>(
     alloc: Global,
     buffer: &UnitBuffer,
-    shown: Shown,
+    shown: DumpParts,
     page: &mut Page,
     out: &mut W,
 ) -> Result<Status, Halt> {
@@ -110,15 +110,15 @@ fn print_judged<W: Write>(sheet: &Sheet<'_>, page: &mut Page, out: &mut W) -> Re
     page.begin();
     match print_sheet(sheet, page, out) {
         Ok(()) => Ok(Status::Done),
-        Err(Stop::Malformed(fault)) => print_fault(sheet.alloc, fault, out),
-        Err(Stop::NotRun(fault)) => print_run_fault(sheet.buffer.offset(), fault, out),
-        Err(Stop::Halt(halt)) => Err(halt),
+        Err(PrintStop::Malformed(fault)) => print_fault(sheet.alloc, fault, out),
+        Err(PrintStop::NotRun(fault)) => print_run_fault(sheet.buffer.offset(), fault, out),
+        Err(PrintStop::Halt(halt)) => Err(halt),
     }
 }
 
 // Prints a unit, if it is sound, and else nothing of it. The first walk over its program judges it.
-fn print_sheet<W: Write>(sheet: &Sheet<'_>, page: &mut Page, out: &mut W) -> Result<(), Stop> {
-    let Shown { ops, rows } = sheet.shown;
+fn print_sheet<W: Write>(sheet: &Sheet<'_>, page: &mut Page, out: &mut W) -> Result<(), PrintStop> {
+    let DumpParts { ops, rows } = sheet.shown;
     if ops {
         print_ops(sheet, page, out)?;
         hand_on(sheet, page, out)?;

@@ -17,5 +17,5 @@ mod units;
 mod width;
 
 pub use convert::print_converted;
-pub use dump::{Shown, print_dump};
+pub use dump::{DumpParts, print_dump};
 pub use units::print_units;

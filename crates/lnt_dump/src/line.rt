@@ -8,7 +8,7 @@ use lnt_machine::Row;
 // More bytes than the line of a row has.
 pub(crate) const MOST: usize = 192;
 
-// Writes the line of a row, the `index`th of its unit, so that it ends where the room does, and says where it begins.
+// Writes the line of a row, the `index`th of its unit, so that it ends where the room does, and gives the index at which it begins.
 #[inline(always)]
 pub(crate) fn row_line(room: &mut [u8; MOST], index: u64, row: &Row) -> usize
     ensures within { result < 192 }
@@ -32,7 +32,7 @@ pub(crate) fn row_line(room: &mut [u8; MOST], index: u64, row: &Row) -> usize
     mark_before(room, at, true, b'r')
 }
 
-// Writes a number and the byte after it, so that they end before `end`.
+// Writes a number and the byte after it, so that they end before index `end`, and gives the index of the first digit.
 #[inline(always)]
 fn number_before(room: &mut [u8; MOST], end: usize, n: u64, after: u8) -> usize
     requires { (21 ≤ end) × (end ≤ 192) }
@@ -43,7 +43,8 @@ fn number_before(room: &mut [u8; MOST], end: usize, n: u64, after: u8) -> usize
     decimal_before(room, end - 1, n)
 }
 
-// Writes the letters of the marks that are set, or a dash, and a space, so that they end before `end`.
+// Writes the letters of the marks that are set, or a dash, and a space, so that they end before index `end`, and gives the
+// index of the first.
 #[inline(always)]
 fn marks_before(room: &mut [u8; MOST], end: usize, row: &Row) -> usize
     requires { (5 ≤ end) × (end ≤ 192) }
@@ -61,7 +62,7 @@ fn marks_before(room: &mut [u8; MOST], end: usize, row: &Row) -> usize
     mark_before(room, at, row.basic_block, b'b')
 }
 
-// Writes a byte before `end`, if it is set.
+// Writes the letter `byte` of a mark before index `end`, if the mark is set, and gives the index at which the text then begins.
 #[inline(always)]
 fn mark_before(room: &mut [u8; MOST], end: usize, is_set: bool, byte: u8) -> usize
     requires { (1 ≤ end) × (end ≤ 192) }

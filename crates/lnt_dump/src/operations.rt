@@ -1,5 +1,5 @@
 //! How operations are printed.
-use crate::dump::Stop;
+use crate::dump::PrintStop;
 use crate::page::{Page, Sheet, turn_full};
 use crate::run::{ended, not_run};
 use lnt_digits::{put_address, put_decimal};
@@ -16,7 +16,7 @@ pub(crate) fn print_ops<W: Write>(
     sheet: &Sheet<'_>,
     page: &mut Page,
     out: &mut W,
-) -> Result<(), Stop> {
+) -> Result<(), PrintStop> {
     let (unit, runs) = (sheet.unit, sheet.shown.rows);
     let mut machine = Machine::new(unit.numbers());
     let (mut index, mut open) = (0, false);
@@ -43,7 +43,7 @@ fn print_op<W: Write>(
     op: &OpView<'_>,
     page: &mut Page,
     out: &mut W,
-) -> Result<(), Stop> {
+) -> Result<(), PrintStop> {
     put_start(&mut page.text, index)?;
     if let OpView::UnknownExtended(code, bytes) = op {
         print_extended(sheet, *code, bytes, page, out)?;
@@ -54,7 +54,7 @@ fn print_op<W: Write>(
     turn_full(sheet, page, out)
 }
 
-// Adds what the line of the `index`th operation begins with.
+// Adds what stands before the name in the line of the `index`th operation.
 #[inline(always)]
 fn put_start(text: &mut Vec<u8>, index: u64) -> Result<(), AllocError> {
     text.extend_from_slice(b"op ")?;
@@ -147,7 +147,7 @@ fn print_extended<W: Write>(
     bytes: &[u8],
     page: &mut Page,
     out: &mut W,
-) -> Result<(), Stop> {
+) -> Result<(), PrintStop> {
     put_named(&mut page.text, b"unknown_extended ", u64::from(code))?;
     if !bytes.is_empty() {
         put_one(&mut page.text, b' ')?;

@@ -1,5 +1,5 @@
 //! The text of a unit on its way to the writer.
-use crate::dump::{Shown, Stop};
+use crate::dump::{DumpParts, PrintStop};
 use crate::header::print_header;
 use crate::run::run;
 use lnt_sources::Halt;
@@ -17,7 +17,7 @@ pub(crate) struct Sheet<'a> {
     pub(crate) alloc: Global,
     pub(crate) buffer: &'a UnitBuffer,
     pub(crate) unit: &'a UnitInPlace<'a>,
-    pub(crate) shown: Shown,
+    pub(crate) shown: DumpParts,
 }
 
 // The text of a unit that isn't written yet. It is held back until the unit is known to be sound: then its header is
@@ -56,7 +56,7 @@ pub(crate) fn turn_full<W: Write>(
     sheet: &Sheet<'_>,
     page: &mut Page,
     out: &mut W,
-) -> Result<(), Stop> {
+) -> Result<(), PrintStop> {
     if page.is_full() {
         return turn(sheet, page, out);
     }
@@ -64,7 +64,7 @@ pub(crate) fn turn_full<W: Write>(
 }
 
 // Hands a full page to the writer, once the unit is known to be sound.
-fn turn<W: Write>(sheet: &Sheet<'_>, page: &mut Page, out: &mut W) -> Result<(), Stop> {
+fn turn<W: Write>(sheet: &Sheet<'_>, page: &mut Page, out: &mut W) -> Result<(), PrintStop> {
     if !page.is_begun {
         judge(sheet)?;
     }
@@ -73,7 +73,7 @@ fn turn<W: Write>(sheet: &Sheet<'_>, page: &mut Page, out: &mut W) -> Result<(),
 }
 
 // Judges the program of a unit without printing anything.
-pub(crate) fn judge(sheet: &Sheet<'_>) -> Result<(), Stop> {
+pub(crate) fn judge(sheet: &Sheet<'_>) -> Result<(), PrintStop> {
     if sheet.shown.rows {
         run(sheet.unit)
     } else {

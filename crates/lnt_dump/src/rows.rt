@@ -1,5 +1,5 @@
 //! How rows are printed.
-use crate::dump::Stop;
+use crate::dump::PrintStop;
 use crate::line::{MOST, row_line};
 use crate::page::{Page, Sheet, turn_full};
 use crate::run::{ended, not_run};
@@ -12,7 +12,7 @@ pub(crate) fn print_rows<W: Write>(
     sheet: &Sheet<'_>,
     page: &mut Page,
     out: &mut W,
-) -> Result<(), Stop> {
+) -> Result<(), PrintStop> {
     let unit = sheet.unit;
     let mut machine = Machine::new(unit.numbers());
     let mut room = [0; MOST];
@@ -39,7 +39,7 @@ fn print_row<W: Write>(
     room: &mut [u8; MOST],
     page: &mut Page,
     out: &mut W,
-) -> Result<(), Stop> {
+) -> Result<(), PrintStop> {
     let start = row_line(room, index, row);
     page.text.extend_from_slice(&room[start..])?;
     turn_full(sheet, page, out)

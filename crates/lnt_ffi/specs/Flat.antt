@@ -1,4 +1,4 @@
--- Sections, answers and spans as C sees them, and what they are.
+-- Sections, answers and spans as C sees them, and what they stand for.
 use Rattle.std.specs.Prelude.{◌≡◌, if◌then◌else◌, true, false, None, Option, Some}
 use Rattle.lnt_wire.specs.declared.format.Order.TheVariants.{Big, Little}
 use Rattle.lnt_lines.specs.declared.options.Options.{Options}

@@ -87,7 +87,7 @@ pub(crate) fn table_path(found: &Checked) -> &[u8]
     }
 }
 
-// The same of the section.
+// The path that the section answers where the two differ; no bytes where it answers none.
 pub(crate) fn section_path(found: &Checked) -> &[u8]
     ensures { result.now ≡ section_path found.now }
 {

@@ -32,11 +32,11 @@ pub struct FlatAnswer {
 pub struct FlatSpan {
     /// The address of the first position that it holds.
     pub low: u64,
-    /// The operation of it.
+    /// Its operation index.
     pub low_op: u64,
     /// The address of the first position after it.
     pub high: u64,
-    /// The operation of it.
+    /// Its operation index.
     pub high_op: u64,
     /// The answer at each position that it holds.
     pub answer: FlatAnswer,

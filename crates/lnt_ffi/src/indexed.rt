@@ -10,8 +10,8 @@ use crate::flat::{FlatAnswer, FlatSpan};
 use crate::looking::linetab_lookup;
 use lnt_spans::Position;
 
-/// The same as `linetab_lookup` gives, sooner where `index` is what `linetab_index` made of these spans. Whatever else it is,
-/// as that of other spans, costs time alone, and no more than about twice that of `linetab_lookup`.
+/// Gives the same as `linetab_lookup`, and sooner where `index` is what `linetab_index` made of these spans. Any other
+/// index, such as that of other spans, costs time alone: no more than about twice that of `linetab_lookup`.
 ///
 /// It takes no memory, calls nothing, and writes nothing but the answer. It always returns, whatever the spans are.
 #[unsafe(no_mangle)]
@@ -44,8 +44,9 @@ pub extern "C" fn linetab_lookup_indexed(
     linetab_lookup(spans, address, op, answer)
 }
 
-// From which span on, and up to which, an index says that the one lies which holds the address, if any does. Of the index of
-// these spans that is so, but where they span half of all addresses, and it has at most three entries.
+// The places between which the index puts the span that holds the address, if any does: from the first up to the second,
+// which is not among them. An index that was made of these spans is right there, unless they span half of all addresses or
+// more and it has at most three entries.
 #[inline(always)]
 fn bracket_of(spans: &[FlatSpan], index: &[u32], address: u64) -> (usize, usize)
     ensures upto { result.0 ≤ result.1 }
@@ -66,7 +67,8 @@ fn bracket_of(spans: &[FlatSpan], index: &[u32], address: u64) -> (usize, usize)
     (low, high)
 }
 
-// The first of the spans from `low` up to `high` that ends above the position, or `high`; of spans out of order some place.
+// The place of the first span, from `low` on and before `high`, that ends above the position; `high` where none does. Where
+// the spans are out of order it is some place.
 #[inline(always)]
 fn first_ending_above(spans: &[FlatSpan], position: Position, low: usize, high: usize) -> usize
     requires upto { low ≤ high }
@@ -86,8 +88,8 @@ fn first_ending_above(spans: &[FlatSpan], position: Position, low: usize, high: 
     low
 }
 
-// Whether no span holds the position, as those at the place tell: the one before it, if there is one, ends at the position or
-// below, and the one at it begins above.
+// Whether the spans on both sides of a place show that none holds the position: the one before the place, if there is one,
+// ends at the position or below, and the one at the place, if there is one, begins above it.
 #[inline(always)]
 fn is_between(spans: &[FlatSpan], position: Position, place: usize) -> bool
     requires { place ≤ length spans.now }

@@ -49,8 +49,8 @@ fn last_low(spans: &[FlatSpan]) -> u64
     }
 }
 
-// The least shift under which the last of the addresses is in a bucket that an index of so many entries has, with the one
-// after it; or 63.
+// The least shift, up to 63, by which an index of `len` entries has one for the bucket of the last address and one for the
+// bucket after it. `range` is how far the last address is above the first.
 fn shift_of(range: u64, len: usize) -> u32
     ensures small { result < 64 }
     ensures has_room { result < 63 → range / 2 ^ result + 2 < len }
@@ -64,7 +64,8 @@ fn shift_of(range: u64, len: usize) -> u32
     shift
 }
 
-// The first place, from one on below which all spans begin below the bucket, where a span doesn't.
+// The place of the first span that doesn't begin below the bucket with this number, or the number of spans where all do.
+// The caller knows that all spans before `from` begin below it.
 fn first_of_bucket(spans: &[FlatSpan], first: u64, shift: u32, number: usize, from: usize) -> usize
     requires first { first ≡ first_low spans.now }
     requires shift { shift < 64 }
@@ -87,7 +88,7 @@ fn begins_below(span: &FlatSpan, first: u64, shift: u32, number: usize) -> bool
     (span.low.saturating_sub(first) >> shift) < number as u64
 }
 
-// A place as an entry, which is the greatest number where it is greater.
+// The place as an entry of an index: at most 2^32 - 1, which stands for all greater ones.
 fn entry_of(place: usize) -> u32
     ensures { result ≡ min place (2 ^ 32 - 1) }
 {

@@ -69,8 +69,8 @@ fn put_units(index: &Index<'_>, room: &mut [FlatUnit]) -> usize
     count
 }
 
-/// Whether the file is there of the unit at an offset of a good section. Where it is, its whole path is put into the
-/// front of `path`, where there is room for all of it, and `count` is how many bytes it has; else that is 0.
+/// Whether the unit at this offset of a good section has this file. Where it does, the file's whole path is put into the
+/// front of `path`, where there is room for all of it, and `count` is how many bytes the path has; else that is 0.
 ///
 /// Where they are more than there is room for, nothing is put there, and the caller may ask again with more room. Where
 /// the section isn't good, or memory ran out, the file isn't there, and `verdict` says why; else that is yes. The section

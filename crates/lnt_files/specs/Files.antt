@@ -1,4 +1,4 @@
--- What is kept of the files of a header.
+-- What is kept of the files of a header: of each its whole path, and its sum where one is listed.
 use Rattle.std.specs.Prelude.{◌≡◌, ℕ, List, length, Option}
 use Rattle.std.specs.List.{slice_get}
 use Rattle.std.specs.Option.{option_map, option_and_then}

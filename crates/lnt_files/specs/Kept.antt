@@ -1,4 +1,4 @@
--- How files are kept: their paths stand one after the other.
+-- How the files of a header are kept: the paths of all in one list of bytes, one after the other, and of each where its path ends.
 use Rattle.std.specs.Prelude.{◌≡◌, ℕ, zero, suc, ◌≤◌, List, [], ◌∷◌, length, Some}
 use Rattle.std.specs.List.{AllZip, slice_range}
 use Rattle.lnt_header.specs.declared.header.Entry.{Entry}

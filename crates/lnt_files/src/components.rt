@@ -200,7 +200,7 @@ fn read_values<'a>(
     Ok(entry)
 }
 
-// The entry with one more value, which stands at the place.
+// The entry with one more of its values read, the one of index `place`: it is kept where it is one of the components that matter.
 fn with_value<'a>(
     entry: EntryView<'a>,
     places: Places,
@@ -217,7 +217,8 @@ fn with_value<'a>(
     }
 }
 
-// The component that stands at the first place, once the value at the second one is read.
+// What is known of the component of index `wanted`, once the value of index `place` is read: this value where the two are
+// the same, and else what was known before.
 #[inline(always)]
 #[tactic(auto, using(crate::proofs::EntryLemmas::kept_here, crate::proofs::EntryLemmas::kept_earlier))]
 fn kept<'a>(

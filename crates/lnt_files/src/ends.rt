@@ -61,7 +61,7 @@ impl<'a> StringEnds<'a> {
     }
 }
 
-// How many bytes of the section stand up to its last zero byte.
+// How many bytes the section has up to and with its last zero byte; 0 where it has none.
 #[tactic(auto, using(crate::proofs::EndLemmas::none_past, crate::proofs::EndLemmas::none_before, crate::proofs::EndLemmas::last_zero, crate::proofs::EndLemmas::no_zero))]
 fn texts_end(section: &[u8]) -> usize
     ensures { TextsEndAt result section.now }

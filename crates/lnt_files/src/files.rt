@@ -74,14 +74,14 @@ impl Files {
         self.kept.len() as u64
     }
 
-    /// The whole path of the file, as `path_of` gives it. None exactly where the file isn't there.
+    /// The whole path of the file, as `in_place::path_of` gives it. None exactly where the file isn't there.
     pub fn path(&self, file: u64) -> Option<&[u8]>
         ensures { option_map (λ path. path.now) result ≡ kept_path self.now file }
     {
         path_at(&self.paths, &self.kept, file)
     }
 
-    /// The MD5 sum that is listed of the file, as `listed` gives it. None where it lists none, or isn't there.
+    /// The MD5 sum that is listed of the file, as `in_place::listed` gives it. None where it lists none, or isn't there.
     #[tactic(auto, using(crate::proofs::KeptLemmas::kept_sum_is))]
     pub fn listed(&self, file: u64) -> Option<[u8; 16]>
         ensures { result ≡ kept_sum self.now file }

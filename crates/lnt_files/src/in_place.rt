@@ -1,5 +1,5 @@
-//! The directories and files of a header whose entries stay where they lie. The functions are those of the crate's root,
-//! over such a header; none of them takes memory, but for the path that is asked for.
+//! The directories and files of a header whose entries stay where they lie. No function takes memory, but for the
+//! path that is asked for.
 
 mod judged;
 mod paths;

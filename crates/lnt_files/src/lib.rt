@@ -14,6 +14,5 @@ mod walk;
 
 pub use ends::StringEnds;
 pub use files::Files;
-pub use paths::{file_count, listed, path_of};
 pub use tables::EntryTableFault;
 pub use walk::{Entries, EntryView};

@@ -1,62 +1,13 @@
-//! The paths and MD5 sums of the files of a header (DWARF 5, section 6.2.4.1).
-ghost use Rattle.std.specs.Prelude.{◌≡◌, ◌<◌, ◌≤◌, ◌↔◌, ◌++◌, length, take, drop, IfOk, OnOk, IsSome};
-ghost use Rattle.std.specs.List.{slice_get};
-ghost use Rattle.std.specs.Option.{option_copied, option_map};
-ghost use Rattle.lnt_files.specs.Paths.{begins_with_slash, ends_with_slash, join, directory_text, directory_path, file_path, path_bytes};
-ghost use Rattle.lnt_files.specs.Paths.{listed_sum};
+//! The paths of the files of a header (DWARF 5, section 6.2.4.1).
+ghost use Rattle.std.specs.Prelude.{◌≡◌, ◌≤◌, ◌++◌, length, take, drop, OnOk, IsSome};
+ghost use Rattle.std.specs.Option.{option_map};
+ghost use Rattle.lnt_files.specs.Paths.{begins_with_slash, ends_with_slash, join, directory_text, directory_path, file_path};
 ghost use Rattle.lnt_files.specs.Pieces.{whole_path};
-ghost use Rattle.lnt_files.specs.Tables.{AreUsableTables};
 
-use crate::contents::{directory_number, path_text, sum_of};
+use crate::contents::{directory_number, path_text};
 use lnt_header::{Entry, Header};
 use lnt_wire::Strings;
-use std::alloc::{AllocError, Global};
-
-/// How many files the header has. It takes no memory.
-pub fn file_count(header: &Header) -> u64
-    ensures { result ≡ length header.now.files }
-{
-    header.files().len() as u64
-}
-
-/// The MD5 sum that is listed of the file, in the form `data16`. None where it lists none, or isn't there. Files count
-/// from 0. It takes no memory.
-pub fn listed(header: &Header, file: u64) -> Option<[u8; 16]>
-    ensures { result ≡ listed_sum header.now file }
-{
-    sum_of(header.file_format(), file_at(header, file)?)
-}
-
-/// The path of the file: its text, below the path of its directory unless it begins with `/`. The path of a directory
-/// is its text, below directory 0 unless it is directory 0 or begins with `/`. A `/` stands between the two, unless
-/// the first is empty or ends with one. None exactly where the file isn't there. Files count from 0.
-///
-/// The caller sees to it that the header's tables are usable, which `tables_fault` tests. It refuses only where memory
-/// runs out.
-pub fn path_of(
-    alloc: Global,
-    header: &Header,
-    strings: &Strings<'_>,
-    file: u64,
-) -> Result<Option<Vec<u8>>, AllocError>
-    requires { AreUsableTables strings.now.line.now strings.now.general.now header.now }
-    ensures path { IfOk result (λ path. option_map (λ path. path.items) path
-        ≡ path_bytes strings.now.line.now strings.now.general.now header.now file) }
-    ensures there { IfOk result (λ path. IsSome path ↔ (file < length header.now.files)) }
-{
-    let Some(entry) = file_at(header, file) else {
-        return Ok(None);
-    };
-    let mut path = Vec::new(alloc);
-    add_path(&mut path, header, strings, entry)?;
-    Ok(Some(path))
-}
-
-fn file_at(header: &Header, file: u64) -> Option<&Entry>
-    ensures { option_copied result ≡ slice_get header.now.files file }
-{
-    header.files().get(file as usize)
-}
+use std::alloc::AllocError;
 
 /// What a path is joined from: directory 0, the file's directory and the file's name. The first two are empty where the
 /// path does without them.
@@ -156,7 +107,8 @@ pub(crate) fn add_pieces(out: &mut Vec<u8>, pieces: &Pieces<'_>) -> Result<(), A
     add_below(out, start, pieces.name)
 }
 
-// Adds a name below the directory that stands from the start on.
+// Adds a name to the directory that `out` holds from index `start` on. A `/` comes between them, unless the directory is
+// empty or ends with one.
 fn add_below(out: &mut Vec<u8>, start: usize, name: &[u8]) -> Result<(), AllocError>
     requires { start ≤ length out.old.items }
     ensures { OnOk result (out.new.items ≡ take start out.old.items ++ join (drop start out.old.items) name.now) }

@@ -6,14 +6,14 @@ use Rattle.std.specs.Prelude.{◌≡◌, ℕ, ◌<◌, List, ◌++◌, length}
 use Rattle.lnt_wire.specs.declared.fault.Reason.{Reason}
 use Rattle.lnt_header.specs.Joins.{Each}
 
--- of a value, and then one whose kind it decides
+-- the first fault of a value and one after it, whose kind of spelling the first value decides
 pub data FirstOf {X : Type 0} (First : X → List ℕ → Type 0) (OfFirst : Reason → List ℕ → List ℕ → Type 0)
     (OfSecond : X → Reason → List ℕ → List ℕ → Type 0) (reason : Reason) (before left : List ℕ) : Type 0 where
   first : OfFirst reason before left → FirstOf First OfFirst OfSecond reason before left
   second : (x : X) (front past : List ℕ) → First x front → before ≡ front ++ past → OfSecond x reason past left
       → FirstOf First OfFirst OfSecond reason before left
 
--- of as many values as a count says
+-- the first fault of n values, one after another
 pub data FirstOfSeveral {X : Type 0} (n : ℕ) (Spells : X → List ℕ → Type 0) (OfOne : Reason → List ℕ → List ℕ → Type 0) (reason : Reason)
     (before left : List ℕ) : Type 0 where
   next : (xs : List X) (front past : List ℕ) → length xs < n → Each Spells xs front → before ≡ front ++ past → OfOne reason past left

@@ -7,10 +7,10 @@ abbrev pub Each : {X : Type 0} → (X → List ℕ → Type 0) → List X → Li
 Each Spells [] bytes = bytes ≡ []
 Each Spells (x ∷ xs) bytes = Then (Spells x) (Each Spells xs) bytes
 
--- as many values as a count says
+-- spellings of n values, one after the other
 abbrev pub Several : {X : Type 0} → ℕ → (X → List ℕ → Type 0) → List X → List ℕ → Type 0
 Several n Spells xs bytes = (length xs ≡ n) × Each Spells xs bytes
 
--- a value, and then one whose kind it decides
+-- a spelling of a value, and after it one of another, whose kind the first value decides
 abbrev pub Both : {X Y : Type 0} → (X → List ℕ → Type 0) → (X → Y → List ℕ → Type 0) → X × Y → List ℕ → Type 0
 Both First Second v bytes = Then (First v.0) (Second v.0 v.1) bytes

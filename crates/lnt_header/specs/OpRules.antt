@@ -1,5 +1,5 @@
--- The opcode and the operand of each operation, which operations a header admits, and such whose unknown operands are borrowed (DWARF 5,
--- sections 6.2.5 and 7.22).
+-- The opcode and the operand of each operation; which operations a header admits; and views of operations, in which the
+-- operands of unknown ones are borrowed (DWARF 5, sections 6.2.5 and 7.22).
 use Rattle.std.specs.Prelude.{◌≡◌, ◌≢◌, ℕ, ◌-◌, ◌^◌, ◌<◌, ◌≤◌, ℤ, List, [], ◌∷◌, length, slice_index}
 use Rattle.lnt_wire.specs.Leb128.{UnsignedLeb}
 use Rattle.lnt_header.specs.declared.header.HeaderParts.{HeaderParts}

@@ -6,19 +6,19 @@ use crate::header::EntryTable;
 use std::error::Error;
 use std::fmt;
 
-/// Why no unit has the parts that are given. Indices count from 0.
+/// Why no unit has the parts that are given. Each reason has a number, from 16 to 19. Indices count from 0.
 #[derive(Clone, Copy, Debug, PartialEq, Eq)]
 pub enum UnitFault {
-    /// A number of the header, its standard lengths or a format that no header has: an address size other than 2, 4
-    /// and 8; a zero; lengths that don't fit `opcode_base` or those of the known opcodes; more than 255 pairs;
-    /// entries without a pair.
+    /// 18: a number of the header, its standard lengths or a format that no header has: an address size other than 2, 4 and
+    /// 8; a zero; lengths that don't fit `opcode_base` or those of the known opcodes; more than 255 pairs; entries without
+    /// a pair.
     HeaderNumber,
-    /// The first entry that hasn't one value for each pair of its format, in the pair's form, or that has a block
-    /// of more bytes than its length can count.
+    /// 17: the first entry that hasn't one value for each pair of its format, in the pair's form, or that has a block of
+    /// more bytes than its length can count.
     EntryNotOfFormat(EntryTable, u64),
-    /// The first entry that has a text with a zero byte in it.
+    /// 19: the first entry that has a text with a zero byte in it.
     TextHoldsZero(EntryTable, u64),
-    /// The first operation that the header doesn't admit.
+    /// 16: the first operation that the header doesn't admit.
     OpNotOfUnit(u64),
 }
 

@@ -59,9 +59,9 @@ pub struct HeaderParts {
     pub max_ops: u8,
     /// Whether a row begins a statement by default: where it isn't 0.
     pub default_is_stmt: u8,
-    /// The least increment of the line of a special opcode.
+    /// The least number that a special opcode adds to the line.
     pub line_base: i8,
-    /// How many increments of the line special opcodes have.
+    /// How many different numbers the special opcodes add to the line, from `line_base` on.
     pub line_range: u8,
     /// The first special opcode.
     pub opcode_base: u8,
@@ -82,7 +82,8 @@ pub struct HeaderParts {
 impl HeaderParts {
     ghost use Rattle.lnt_header.specs.HeaderRules.{six_bytes};
 
-    /// The fields of one byte before the standard lengths, in the order of a unit (DWARF 5, section 6.2.4).
+    /// The six numbers of one byte before the standard opcode lengths, in the order in which they stand in a unit (DWARF 5,
+    /// section 6.2.4).
     pub fn single_fields(&self) -> [u8; 6]
         ensures { result ≡ six_bytes self.now }
     {
@@ -97,7 +98,7 @@ impl HeaderParts {
     }
 }
 
-/// A header that a reader can have read. Contracts see its parts.
+/// A header as a reader may have read it from some bytes. Contracts see its parts.
 #[derive(Debug, Drop)]
 pub struct Header {
     parts: HeaderParts,
@@ -159,7 +160,7 @@ impl Header {
         }
     }
 
-    /// The header of parts that a reader can have read. It takes no memory, and tests nothing again.
+    /// The header of these parts, which the caller knows to be those of a header. They aren't tested again. It takes no memory.
     pub fn of(parts: HeaderParts) -> Header
         requires { IsHeader parts }
         ensures { result ≡ parts }
@@ -227,7 +228,7 @@ impl Header {
         self.parts.default_is_stmt
     }
 
-    /// The least increment of the line of a special opcode.
+    /// The least number that a special opcode adds to the line.
     #[inline(always)]
     pub fn line_base(&self) -> i8
         ensures { result ≡ self.now.line_base }
@@ -235,7 +236,7 @@ impl Header {
         self.parts.line_base
     }
 
-    /// How many increments of the line special opcodes have. It isn't 0.
+    /// How many different numbers the special opcodes add to the line, from `line_base` on. It isn't 0.
     #[inline(always)]
     pub fn line_range(&self) -> u8
         ensures value { result ≡ self.now.line_range }

@@ -26,35 +26,35 @@ pub enum Op {
     Special(u8),
     /// Opcode 1: it appends a row.
     Copy,
-    /// Opcode 2: an operation advance.
+    /// Opcode 2: advances address and operation index by this many operations.
     AdvancePc(u64),
-    /// Opcode 3: it is added to the line.
+    /// Opcode 3: adds this number to the line.
     AdvanceLine(i64),
-    /// Opcode 4.
+    /// Opcode 4: sets the source file, by its index.
     SetFile(u64),
-    /// Opcode 5.
+    /// Opcode 5: sets the column.
     SetColumn(u64),
-    /// Opcode 6.
+    /// Opcode 6: inverts whether a row begins a statement.
     NegateStmt,
-    /// Opcode 7.
+    /// Opcode 7: marks the next row as the beginning of a basic block.
     SetBasicBlock,
-    /// Opcode 8: the operation advance of special opcode 255.
+    /// Opcode 8: advances address and operation index as special opcode 255 does, and appends no row.
     ConstAddPc,
-    /// Opcode 9: it is added to the address as it stands.
+    /// Opcode 9: adds this number of bytes to the address, and sets the operation index to 0.
     FixedAdvancePc(u16),
-    /// Opcode 10.
+    /// Opcode 10: marks the next row as the end of a function's prologue.
     SetPrologueEnd,
-    /// Opcode 11.
+    /// Opcode 11: marks the next row as the beginning of a function's epilogue.
     SetEpilogueBegin,
-    /// Opcode 12.
+    /// Opcode 12: sets the instruction set.
     SetIsa(u64),
     /// A standard opcode from 13 on, and as many operands as the header says. It changes nothing.
     UnknownStandard(u8, Items<u64>),
     /// Extended opcode 1: it ends a sequence, and appends a row.
     EndSequence,
-    /// Extended opcode 2.
+    /// Extended opcode 2: sets the address, and the operation index to 0.
     SetAddress(u64),
-    /// Extended opcode 4.
+    /// Extended opcode 4: sets the discriminator, up to the next row.
     SetDiscriminator(u64),
     /// Any other extended opcode, and its bytes. It changes nothing.
     UnknownExtended(u8, Items<u8>),
@@ -155,7 +155,7 @@ impl Header {
         }
     }
 
-    // Whether the opcode is an unknown standard one with as many operands.
+    // Whether the opcode is a standard one that DWARF 5 doesn't know, from 13 on, and the header gives it `count` operands.
     fn admits_unknown(&self, opcode: u8, count: usize) -> bool
         ensures { IsTrue result ↔ IsUnknownOf self.now opcode count }
     {
@@ -167,7 +167,7 @@ impl Header {
     }
 }
 
-// Whether the address fits as many bytes.
+// Whether the address fits `size` bytes.
 fn fits_address(address: u64, size: u8) -> bool
     requires { IsAddressSize size }
     ensures { IsTrue result ↔ (address < 256 ^ size) }

@@ -55,14 +55,14 @@ fn has_numbers(parts: &HeaderParts) -> bool
         && are_standard_lengths(lengths)
 }
 
-/// Whether addresses may have so many bytes: 2, 4 or 8.
+/// Whether an address may have `size` bytes: 2, 4 or 8.
 pub fn is_address_size(size: u8) -> bool
     ensures { IsTrue result ↔ IsAddressSize size }
 {
     size == 2 || size == 4 || size == 8
 }
 
-// Whether max_ops and line_range aren't 0, among these fields.
+// Whether `max_ops` and `line_range`, numbers 1 and 4 of the six fields of one byte, aren't 0.
 fn has_no_zero_number(fields: &[u8], line_base: i8) -> bool
     requires { length fields.now ≡ 6 }
     ensures numbers { IsTrue result ↔ (0 < slice_index fields.now 1) × (0 < slice_index fields.now 4) }
@@ -72,7 +72,8 @@ fn has_no_zero_number(fields: &[u8], line_base: i8) -> bool
     fields[1] != 0 && fields[4] != 0
 }
 
-// Whether the known opcodes among these have as many operands as they have; those from 13 on may have any number.
+// Whether the listed lengths of the opcodes 1 to 12 are the numbers of operands that DWARF 5 gives them. Those from 13 on
+// may be any.
 fn are_standard_lengths(lengths: &[u8]) -> bool
     ensures bytes { AllByRecursion (λ byte. byte < 256) lengths.now }
     ensures known { IsTrue result ↔ AreStandardLengths lengths.now }

@@ -1,4 +1,5 @@
--- What is wrong where the fields of one byte of a header aren't read.
+-- What is wrong with the fields of a header that have one byte each, where one of them isn't there or has a value that none may
+-- have.
 use Rattle.std.specs.Prelude.{◌≡◌, ◌≢◌, ℕ, ◌+◌, ◌<◌, ◌≤◌, List, [], ◌∷◌, length, slice_index}
 use Rattle.lnt_wire.specs.declared.fault.Reason.{Reason}
 use Rattle.lnt_wire.specs.declared.fault.Reason.TheVariants.{Truncated, MaxOpsZero, LineRangeZero, OpcodeBaseZero, StandardLength}

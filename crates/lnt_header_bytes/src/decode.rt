@@ -29,7 +29,7 @@ pub fn decode_header<'a>(
     with_program(header.view().to_header(alloc), program, frame.offset)
 }
 
-// A header and its program, if there was memory for the header; this is its unit's place.
+// The header with its program. Where there was no memory for the header, the fault `Memory` at the unit's offset `place`.
 fn with_program<'a>(
     header: Result<Header, AllocError>,
     program: &'a [u8],

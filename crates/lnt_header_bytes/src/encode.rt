@@ -20,9 +20,9 @@ use lnt_wire::{
 };
 use std::alloc::Global;
 
-/// The bytes of a unit with this header and this program, each LEB128 in its shortest spelling (DWARF 5, section
-/// 6.2.4). `TooLarge` where nothing spells them in the header's format: an offset of the tables is 2^32 or more in the
-/// 32-bit format, or the unit is longer than the format can say. And else `Memory`.
+/// The bytes of a unit with this header and this program, each LEB128 in its shortest spelling (DWARF 5, section 6.2.4). It
+/// refuses with `TooLarge` where nothing spells them in the header's format: an offset of the tables is 2^32 or more in the
+/// 32-bit format, or the unit is longer than the format can say; and else only with `Memory`.
 pub fn encode_header(alloc: Global, header: &Header, program: &[u8]) -> Result<Vec<u8>, EncodeFault>
     ensures ok { IfOk result (λ bytes. IsShortest (HeaderBytesIn header.now.order) (header.now, program.now) bytes.items) }
     ensures err { IfErr result (λ fault. RefusedPut (HeaderBytesIn header.now.order) (header.now, program.now) fault) }

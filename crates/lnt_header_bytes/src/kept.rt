@@ -24,12 +24,12 @@ pub struct KeptHeader {
     entries: KeptEntries,
 }
 
-// The rest of a kept header.
+// The directories and files of a kept header, as bytes, and the bytes after them.
 #[derive(Drop)]
 struct KeptEntries {
     directories: u64,
     files: u64,
-    // Those of the directories, those of the files, and those between the file table and the program.
+    // The bytes of the directories, then those of the files, then those between the file table and the program.
     bytes: Vec<u8>,
     directory_size: usize,
     file_size: usize,

@@ -9,7 +9,7 @@ use lnt_header::{Header, Pair};
 use lnt_wire::Cursor;
 use std::alloc::{AllocError, Global};
 
-// One of so many entries is marked.
+// Every entry whose number is a multiple of this is marked, but for entry 0.
 const STRIDE: u64 = 64;
 
 /// The marks of a header's tables: where in the bytes of a table's entries its entries 64, 128 and so on begin. A table
@@ -60,8 +60,8 @@ pub(crate) fn marks_of(
     Ok(marks)
 }
 
-/// The last marked entry that isn't after the one of this number: its own number, and where it begins. None where no
-/// such entry is marked.
+/// The last marked entry up to the one of this number: its own number, and the index of its first byte among those of the
+/// entries. None where no entry up to that one is marked.
 pub(crate) fn marked_before(marks: &[usize], number: u64) -> Option<(u64, usize)>
     ensures before { IfSome result (λ found. found.0 ≤ number) }
     ensures begins { IfSome result (λ found. (table : BorrowedTable) (bytes : List ℕ) → AreMarks table bytes marks.now

@@ -7,7 +7,7 @@ ghost use Rattle.lnt_header_bytes.specs.HeaderFaults.{SinglesBytes, IsSinglesFau
 use lnt_header::known_length;
 use lnt_wire::{Cursor, Fault, Reason};
 
-/// The fields of one byte up to the standard opcode lengths.
+/// The six fields of one byte each that stand before the standard opcode lengths.
 #[derive(Clone, Copy)]
 pub(crate) struct Singles {
     pub minimum_instruction_length: u8,

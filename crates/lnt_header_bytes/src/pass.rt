@@ -11,7 +11,7 @@ use crate::table::{Layout, layout_of};
 use lnt_header::Pair;
 use lnt_wire::{Cursor, Fault, Form, Format};
 
-/// The bytes of as many entries as the count says. It takes no memory.
+/// Moves the cursor past `count` entries, and gives their bytes. It takes no memory.
 #[tactic(auto, using(crate::proofs::PassLemmas::none_passed, crate::proofs::PassLemmas::one_more_passed, crate::proofs::PassLemmas::all_passed, crate::proofs::PassLemmas::refuses_passed))]
 pub(crate) fn pass_entries<'a>(
     cursor: &mut Cursor<'a>,
@@ -32,7 +32,7 @@ pub(crate) fn pass_entries<'a>(
     Ok(bytes)
 }
 
-// Passes the next entry.
+// Moves past the next entry.
 #[inline(always)]
 fn pass_entry(
     cursor: &mut Cursor<'_>,
@@ -53,7 +53,7 @@ fn pass_entry(
     }
 }
 
-// Passes the next path.
+// Moves past the next path.
 #[inline(always)]
 #[tactic(auto, using(crate::proofs::PassLemmas::path_passed, crate::proofs::ShortLemmas::first_refused))]
 fn pass_path(cursor: &mut Cursor<'_>, format: Format, pairs: &[Pair]) -> Result<(), Fault>
@@ -66,7 +66,7 @@ fn pass_path(cursor: &mut Cursor<'_>, format: Format, pairs: &[Pair]) -> Result<
     Ok(())
 }
 
-// Passes the next path and the index of its directory.
+// Moves past the next path and the index of its directory.
 #[inline(always)]
 #[tactic(auto, using(crate::proofs::PassLemmas::indexed_path_passed, crate::proofs::ShortLemmas::first_refused, crate::proofs::ShortLemmas::second_refused))]
 fn pass_indexed_path(cursor: &mut Cursor<'_>, format: Format, pairs: &[Pair]) -> Result<(), Fault>
@@ -80,7 +80,7 @@ fn pass_indexed_path(cursor: &mut Cursor<'_>, format: Format, pairs: &[Pair]) ->
     Ok(())
 }
 
-// Passes the next path, the index of its directory and its MD5 sum.
+// Moves past the next path, the index of its directory and its MD5 sum.
 #[inline(always)]
 #[tactic(auto, using(crate::proofs::PassLemmas::summed_path_passed, crate::proofs::ShortLemmas::first_refused, crate::proofs::ShortLemmas::second_refused, crate::proofs::ShortLemmas::third_refused))]
 fn pass_summed_path(cursor: &mut Cursor<'_>, format: Format, pairs: &[Pair]) -> Result<(), Fault>
@@ -95,7 +95,7 @@ fn pass_summed_path(cursor: &mut Cursor<'_>, format: Format, pairs: &[Pair]) -> 
     Ok(())
 }
 
-// Passes the next entry, whatever its forms.
+// Moves past the next entry, whatever its forms.
 #[inline(never)]
 #[tactic(auto, using(crate::proofs::PassLemmas::values_begun, crate::proofs::PassLemmas::values_next_passed, crate::proofs::PassLemmas::values_passed, crate::proofs::PassLemmas::refuses_value_passed))]
 fn pass_values(cursor: &mut Cursor<'_>, format: Format, pairs: &[Pair]) -> Result<(), Fault>

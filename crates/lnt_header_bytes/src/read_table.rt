@@ -27,7 +27,7 @@ pub(crate) struct TableRead<'a> {
     pub entries: EntriesInPlace<'a>,
 }
 
-/// A format, and its entries, which are passed.
+/// Reads the format of a table and the number of its entries, and moves past these, which stay where they lie.
 #[tactic(auto, using(crate::proofs::TableReaders::refuses_count, crate::proofs::TableReaders::refuses_kinds, crate::proofs::TableReaders::refuses_size, crate::proofs::TableReaders::refuses_empty, crate::proofs::TableReaders::refuses_rest, crate::proofs::ViewLemmas::table_read))]
 pub(crate) fn read_table<'a>(
     alloc: Global,

@@ -11,7 +11,7 @@ use lnt_lists::ShortList;
 use lnt_wire::{Cursor, Fault, Form, FormValue, Format, Reason};
 use std::alloc::Global;
 
-// A content type and a form code.
+// Reads a pair of a format: a content type and the code of a form.
 #[tactic(auto, using(crate::proofs::TableReaders::reads_pair, crate::proofs::TableReaders::refuses_pair_content, crate::proofs::TableReaders::refuses_pair_form, crate::proofs::TableReaders::refuses_unknown))]
 fn read_pair(cursor: &mut Cursor<'_>) -> Result<Pair, Fault>
     ensures ok { IfOk result (λ pair. Reads PairBytes pair cursor.old cursor.new) }
@@ -29,7 +29,7 @@ fn read_pair(cursor: &mut Cursor<'_>) -> Result<Pair, Fault>
     }
 }
 
-/// As many pairs as the count says.
+/// Reads `count` pairs of a format.
 #[tactic(auto, using(crate::proofs::TableReaders::pairs_none, crate::proofs::TableReaders::pairs_more, crate::proofs::TableReaders::refuses_pairs))]
 pub(crate) fn read_pairs(
     alloc: Global,
@@ -51,7 +51,7 @@ pub(crate) fn read_pairs(
     Ok(pairs)
 }
 
-// One value for each pair.
+// Reads the values of an entry, one for each pair.
 #[tactic(auto, using(crate::proofs::ValueLaws::values_none, crate::proofs::ValueLaws::values_next, crate::proofs::TableReaders::refuses_values_at))]
 fn read_values(
     alloc: Global,
@@ -73,7 +73,7 @@ fn read_values(
     Ok(values)
 }
 
-/// As many entries as the count says.
+/// Reads `count` entries, each of which has a value for each pair.
 #[tactic(auto, using(crate::proofs::TableReaders::entries_none, crate::proofs::TableReaders::refuses_entries))]
 pub(crate) fn read_entries(
     alloc: Global,
@@ -97,13 +97,14 @@ pub(crate) fn read_entries(
     Ok(entries)
 }
 
-// How many of so many entries get room before they are read: a few, and no more than there are bytes left.
+// For how many of `count` entries room is reserved before they are read: at most 32, and no more than there are bytes left.
+// So a count that the bytes don't hold reserves little.
 fn first_room(cursor: &Cursor<'_>, count: u64) -> usize {
     cursor.rest().len().min(count.min(32) as usize)
 }
 
-// What the values of an entry are. For those that compilers write there are functions that make the entry where it
-// stays.
+// Which values the entries of a table have. Each of the layouts that compilers write is read by a function of its own,
+// which makes the entry right in the list.
 #[derive(Clone, Copy)]
 pub(crate) enum Layout {
     // A path in `.debug_line_str`.
@@ -154,7 +155,7 @@ pub(crate) fn layout_of(pairs: &[Pair]) -> Layout
     }
 }
 
-// The next entry, which is put after those before it.
+// Reads the next entry, and adds it to `entries`.
 #[inline(always)]
 fn read_entry(
     alloc: Global,
@@ -178,7 +179,7 @@ fn read_entry(
     }
 }
 
-// The next path, which is put after those before it.
+// Reads the next path, and adds it to `entries` as an entry.
 #[inline(always)]
 #[tactic(auto, using(crate::proofs::ShortLemmas::path_entry, crate::proofs::ShortLemmas::first_refused))]
 fn read_path(
@@ -198,7 +199,7 @@ fn read_path(
     push_entry(cursor, entries, ShortList::one(path))
 }
 
-// The next path and the index of its directory, which are put after those before them.
+// Reads the next path and the index of its directory, and adds them to `entries` as an entry.
 #[inline(always)]
 #[tactic(auto, using(crate::proofs::ShortLemmas::indexed_path_entry, crate::proofs::ShortLemmas::first_refused, crate::proofs::ShortLemmas::second_refused))]
 fn read_indexed_path(
@@ -219,7 +220,7 @@ fn read_indexed_path(
     push_entry(cursor, entries, ShortList::two(path, directory))
 }
 
-// The next path, the index of its directory and its MD5 sum, which are put after those before them.
+// Reads the next path, the index of its directory and its MD5 sum, and adds them to `entries` as an entry.
 #[inline(always)]
 #[tactic(auto, using(crate::proofs::ShortLemmas::summed_path_entry, crate::proofs::ShortLemmas::first_refused, crate::proofs::ShortLemmas::second_refused, crate::proofs::ShortLemmas::third_refused))]
 fn read_summed_path(
@@ -241,7 +242,7 @@ fn read_summed_path(
     push_entry(cursor, entries, ShortList::three(path, directory, sum))
 }
 
-// The next entry, whatever its forms, which is put after those before it.
+// Reads the next entry, whatever its forms, and adds it to `entries`.
 #[inline(never)]
 fn read_other_entry(
     alloc: Global,
@@ -259,7 +260,7 @@ fn read_other_entry(
     push_entry(cursor, entries, values)
 }
 
-// Puts an entry of the values after those before it.
+// Adds an entry of these values to `entries`. The only error is `Memory`.
 #[inline(always)]
 fn push_entry(
     cursor: &Cursor<'_>,
@@ -275,7 +276,7 @@ fn push_entry(
     Ok(())
 }
 
-// That memory ran out where the cursor stands.
+// The fault `Memory`, at the place where the cursor stands.
 fn no_memory(cursor: &Cursor<'_>) -> Fault
     ensures { result.reason ≡ Reason.Memory }
 {

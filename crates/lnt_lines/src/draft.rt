@@ -77,8 +77,8 @@ impl Draft {
         Ok(())
     }
 
-    /// The index, after the last unit, or the first overlap, of the live sequences or of all of them but copies. The strings
-    /// are those that the units were judged by.
+    /// The index of the section, once its last unit was added; or the first overlap of two live sequences, without the
+    /// copies where these are skipped. The strings are those that the units were judged by.
     pub(crate) fn index<'a>(
         self,
         strings: &Strings<'a>,
@@ -104,10 +104,10 @@ impl Draft {
     }
 }
 
-// How many bytes of a program are kept where they are, and not copied.
+// A program of so many bytes or more is kept where it is, and not copied.
 const LARGE: usize = 1 << 16;
 
-// A program, which goes to the end of some bytes and begins after so many, and memory for others.
+// A program, which is `bytes` from index `start` on, and in `room` memory for the bytes of another unit.
 #[derive(Drop)]
 struct Taken {
     bytes: Vec<u8>,
@@ -115,8 +115,8 @@ struct Taken {
     room: Vec<u8>,
 }
 
-// The program that goes to the end of these bytes, and begins after so many. A small one is copied, so that the memory of
-// the bytes is free for others.
+// The program that is these bytes from index `start` on. A small one is copied, so that the memory of the bytes is free for
+// another unit.
 fn take_program(alloc: Global, bytes: Vec<u8>, start: usize) -> Result<Taken, AllocError>
     requires { start ≤ length bytes.items }
     ensures program { IfOk result (λ taken. drop taken.start taken.bytes.items ≡ drop start bytes.items) }

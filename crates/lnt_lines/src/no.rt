@@ -16,27 +16,27 @@ pub enum No {
     Malformed(Fault),
     /// 26: the program of the unit at this offset doesn't run, for this fault, which isn't `Memory` (section 6.2.5).
     Run(u64, RunFault),
-    /// 27: the unit at this offset has such a table, with entries, whose format has no path, or a path, a directory
+    /// 27: in the unit at this offset, this table has entries, and its format has no path, or has a path, a directory
     /// number or an MD5 sum in a form that it may not have (section 6.2.4.1).
     EntryFormat(u64, EntryTable),
-    /// 28: the unit at this offset has such a table, and in it this entry, the first whose path has no text.
+    /// 28: in the unit at this offset, this entry of this table is the first whose path has no text.
     StringOutside(u64, EntryTable, u64),
-    /// 29: the unit at this offset has this file, the first one whose directory isn't there.
+    /// 29: in the unit at this offset, this file is the first whose directory isn't there.
     DirectoryNumber(u64, u64),
     /// 30: the first row of a live sequence that names a file which isn't there. End rows name none.
     FileNumber {
-        /// The offset of its unit.
+        /// The offset of the row's unit in the section.
         unit: u64,
-        /// Its index.
+        /// The row's index in the unit.
         row: u64,
-        /// The file.
+        /// The file that the row names.
         file: u64,
     },
     /// 31: the first row whose position is below that of the row before it, in the same live sequence.
     Falls {
-        /// The offset of its unit.
+        /// The offset of the row's unit in the section.
         unit: u64,
-        /// Its index.
+        /// The row's index in the unit.
         row: u64,
     },
     /// 32: the first two kept sequences, by their first positions and then by their places in the section, that hold one
@@ -46,7 +46,7 @@ pub enum No {
         first: SeqId,
         /// The other one.
         second: SeqId,
-        /// The position.
+        /// The least position that both hold.
         position: Position,
     },
 }

@@ -38,12 +38,11 @@ pub enum JudgedIndex<'a> {
 /// Judges the section that the source has to give, a section `.debug_line` (DWARF 5, section 6.2), whose strings may
 /// lie in these string sections.
 ///
-/// It is good where its bytes are those of units one after another, and nothing else, whose programs run, whose tables
-/// are usable and whose live sequences name files that are there, never fall, and share no position, but for copies where
-/// these are skipped. Its lines answer
-/// at each position what the last row says that isn't after the position, in the live sequence that holds it. Else the
-/// first thing that is wrong is told (`No`). Units are taken from the source one at a time, so what is wrong with one is
-/// told before later bytes are asked for.
+/// It is good where its bytes are those of units one after another, and nothing else, whose programs run, whose tables are
+/// usable and whose live sequences name files that are there, never fall, and share no position, but for copies where these
+/// are skipped. Its lines answer at each position what the last row says that isn't after the position, in the live
+/// sequence that holds it. Else the first thing that is wrong is told (`No`). Units are taken from the source one at a
+/// time, so what is wrong with one is told before later bytes are asked for.
 ///
 /// It stops with `Memory`; with `Read` only where the source failed; and with `TooLong` only where the source has more
 /// bytes than it may give. A stop judges nothing. Nothing is said of how far the source was read. The caller sees to it

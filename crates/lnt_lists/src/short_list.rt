@@ -103,7 +103,7 @@ impl<T: Drop> ShortList<T> {
     }
 }
 
-// The values, and this one at the end. After an error they are gone.
+// Adds the value after these, and gives them all. After an error all of them are lost.
 fn pushed<T: Drop>(alloc: Global, kept: Kept<T>, value: T) -> Result<Kept<T>, AllocError>
     requires { IsKept kept }
     ensures ok { IfOk result (λ more. listed more ≡ listed kept ++ value ∷ []) }
@@ -122,7 +122,7 @@ fn pushed<T: Drop>(alloc: Global, kept: Kept<T>, value: T) -> Result<Kept<T>, Al
     }
 }
 
-// The vector of three values, and this one at the end.
+// A vector of these three values with this one after them. After an error all of them are lost.
 fn four<T: Drop>(alloc: Global, three: [T; 3], value: T) -> Result<Vec<T>, AllocError>
     ensures { IfOk result (λ values. values.items ≡ three ++ value ∷ []) }
 {

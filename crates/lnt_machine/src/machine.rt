@@ -21,7 +21,7 @@ use std::marker::Model;
 pub struct Machine<'a> {
     header: &'a Header,
     registers: Row,
-    // of the line range
+    // 2^16 divided by `line_range`, rounded down, plus 1 (`reciprocal_of`)
     reciprocal: u32,
     count: u64,
 }

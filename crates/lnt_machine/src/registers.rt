@@ -78,7 +78,7 @@ pub(crate) fn change(
     }
 }
 
-// Does an operation that appends no row and doesn't move the line. Any other changes nothing here.
+// Does an operation that appends no row and doesn't move the line. Of any other it does nothing.
 #[inline(always)]
 fn set(registers: &mut Row, header: &Header, view: &OpView<'_>)
     requires bounded { IsBounded header.now registers.old }
@@ -107,7 +107,7 @@ fn set(registers: &mut Row, header: &Header, view: &OpView<'_>)
     }
 }
 
-// 2^16 divided by the line range, rounded down, and 1: `divided` multiplies by it in place of dividing by the line range.
+// 2^16 divided by `line_range`, rounded down, plus 1. `divided` multiplies by it, which is sooner done than a division.
 #[inline(always)]
 pub(crate) fn reciprocal_of(header: &Header) -> u32
     ensures { result ≡ 65536 / header.now.line_range + 1 }
@@ -141,8 +141,8 @@ fn special(
     Ok(row)
 }
 
-// The quotient and the rest of two bytes, by a multiplication: the reciprocal in units of 2^-16, rounded up, gives both
-// exactly.
+// The quotient and the remainder of two bytes, by a multiplication with `reciprocal`, which is 2^16 / `divisor` + 1. For
+// bytes both are exact.
 #[inline(always)]
 #[tactic(auto, using(crate::proofs::DivisionLemmas::quotient, crate::proofs::DivisionLemmas::rest, crate::proofs::DivisionLemmas::quotient_fits, crate::proofs::DivisionLemmas::product_fits, crate::proofs::DivisionLemmas::product_within, crate::proofs::DivisionLemmas::multiple_fits))]
 fn divided(dividend: u8, divisor: u8, reciprocal: u32) -> (u8, u8)
@@ -217,7 +217,7 @@ fn within(header: &Header, address: u64) -> u64
     }
 }
 
-// The line so far from `from`, if it is at least 0 and below 2^32.
+// The line that is `by` lines after `from`, if it is at least 0 and below 2^32.
 #[inline(always)]
 fn moved_line(from: u64, by: i64) -> Result<u64, OutOfRange>
     requires { from < 2 ^ 32 }

@@ -117,8 +117,8 @@ fn any_row(machine: &mut Machine<'_>, ops: &mut Ops<'_>) -> Option<Row>
     None
 }
 
-// The row that the machine makes of the next operations, where all of them up to it are short. None may come after some
-// that make none.
+// The row that the machine makes of the next operations, where all of them up to it are short. Else none; operations that
+// make no row may then be done already.
 #[tactic(auto, using(crate::proofs::WalkingLemmas::may_step))]
 #[inline(always)]
 fn short_row(machine: &mut Machine<'_>, ops: &mut Ops<'_>) -> Option<Row>

@@ -22,7 +22,8 @@ pub(crate) fn line_of<R: Read + Drop>(
     Ok(row.position().map(|position| position.line()))
 }
 
-// Reads the records of a table up to this one into `row`, and says whether it is there.
+// Reads the records of a table up to the one with the index `record`, counted from 0, which `row` then holds. Gives false
+// where there are fewer.
 fn reads<R: Read>(
     reader: &mut Reader<R>,
     row: &mut ByteRecord,

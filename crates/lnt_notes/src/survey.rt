@@ -30,7 +30,7 @@ impl Survey {
         }
     }
 
-    // Sees the first row of a sequence, in a unit with such addresses.
+    // Takes note of the first row of a sequence, in a unit whose addresses have `address_size` bytes.
     fn see(&mut self, row: &Row, address_size: u8) {
         let address = row.address;
         if self.dead == Some(address) {
@@ -45,7 +45,7 @@ impl Survey {
         }
     }
 
-    // Sees the sequences of a unit. None where its program doesn't run.
+    // Takes note of the sequences of a unit. None where its program doesn't run.
     #[tactic(auto, using(lnt_machine::proofs::WalkLaws::step_allowed))]
     fn see_unit(&mut self, unit: &UnitInPlace<'_>) -> Option<()> {
         let numbers = unit.numbers();

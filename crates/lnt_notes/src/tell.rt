@@ -38,7 +38,7 @@ pub struct Given<'a> {
     pub has_strings: bool,
 }
 
-/// What a good section gives notes occasion for.
+/// What of a good section may be worth a note.
 #[derive(Clone, Copy)]
 pub struct Hints {
     /// No sequence holds a position.
@@ -49,7 +49,7 @@ pub struct Hints {
     pub lists_no_sum: bool,
 }
 
-/// What a good section with this index gives notes occasion for, where sums weren't asked for.
+/// What of a good section with this index may be worth a note, where sums weren't asked for.
 pub fn hints_of(index: &Index<'_>) -> Hints {
     let first = index.spans().next_span();
     let mark = match &first {

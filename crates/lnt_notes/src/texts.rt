@@ -45,7 +45,8 @@ fn format_of(header: &Header, which: EntryTable) -> &[Pair] {
     }
 }
 
-// The first component of a content type counts.
+// The section of strings in which the paths of a table with this format lie. None where they lie in neither. The first path
+// of the format counts.
 fn strings_by(format: &[Pair]) -> Option<StringSection> {
     for pair in format {
         if pair.content == PATH {

@@ -1,4 +1,4 @@
--- Views of operations, written.
+-- What is written of views of operations.
 use Rattle.std.specs.Prelude.{◌≡◌, ℕ, List}
 use Rattle.lnt_wire.specs.Bytes.{Appends}
 use Rattle.lnt_wire.specs.Leb128.{UnsignedLeb}

@@ -1,4 +1,4 @@
--- The operation that bytes begin with.
+-- The frequent operation with a short operand that bytes begin with.
 use Rattle.std.specs.Prelude.{◌≡◌, ◌⊎◌, ℕ, ◌<◌, ◌≤◌, ℤ, pos, neg_ℤ, ◌≤ℤ◌, ◌<ℤ◌, List, [], ◌∷◌, get_or, length, take}
 use Rattle.lnt_wire.specs.Leb128.{signed_groups}
 use Rattle.lnt_header.specs.declared.header.HeaderParts.{HeaderParts}

@@ -9,7 +9,7 @@ ghost use Rattle.lnt_ops.specs.OpSteps.{BytesAfter, IsFaultAfter, GivesAfter, Is
 use lnt_header::{Header, OpView};
 use lnt_wire::{Cursor, Fault, Reason};
 
-/// An extended operation after its zero byte: a length, and as many bytes, which are a code and its operand.
+/// Reads an extended operation after its zero byte: a length, and so many bytes, which are a code and its operand.
 #[inline(never)]
 #[tactic(auto, using(crate::proofs::ExtendedReaders::gives_extended, crate::proofs::ExtendedReaders::refuses_length, crate::proofs::ExtendedReaders::refuses_cut, crate::proofs::ExtendedReaders::refuses_counted))]
 pub(crate) fn read_extended<'a>(
@@ -27,7 +27,8 @@ pub(crate) fn read_extended<'a>(
     read_counted(counted, length_place, start, header)
 }
 
-// The operation that these bytes are, which stand at the place `start`.
+// The operation of these bytes, a code and its operand, which stand at the offset `start` of the section. `length_place` is
+// that of their length.
 #[tactic(auto, using(crate::proofs::ExtendedReaders::address_whole, crate::proofs::ExtendedReaders::gives_end, crate::proofs::ExtendedReaders::gives_address, crate::proofs::ExtendedReaders::gives_discriminator, crate::proofs::ExtendedReaders::gives_other, crate::proofs::ExtendedReaders::refuses_discriminator))]
 fn read_counted<'a>(
     bytes: &'a [u8],
@@ -85,7 +86,7 @@ fn is_leb(bytes: &[u8]) -> bool
     false
 }
 
-// An address that is there whole.
+// Reads an address. The cursor has just as many bytes left as an address has.
 fn read_address(cursor: &mut Cursor<'_>, header: &Header) -> Result<u64, Fault>
     requires size { length cursor.old.rest ≡ header.now.address_size }
     requires order { cursor.old.order ≡ header.now.order }

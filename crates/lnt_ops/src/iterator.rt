@@ -64,7 +64,8 @@ impl<'a> Ops<'a> {
         }
     }
 
-    /// The operations of a program from a byte of it on: that after so many.
+    /// The operations of a program from its byte `skipped` on. The program's first byte stands at the offset `place` of the
+    /// section.
     pub fn after(header: &'a Header, program: &'a [u8], place: u64, skipped: usize) -> Ops<'a>
         requires room { place + length program.now < 2 ^ 64 }
         requires within { skipped ≤ length program.now }

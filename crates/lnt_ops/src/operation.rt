@@ -42,7 +42,7 @@ pub fn read_op<'a>(cursor: &mut Cursor<'a>, header: &Header) -> Result<OpView<'a
     Ok(view)
 }
 
-// What follows an opcode below the first special one, which was read.
+// Reads what follows a standard opcode, or the 0 of an extended one. The opcode itself was read.
 #[inline(always)]
 #[tactic(auto, using(crate::proofs::StandardReaders::gives_copy, crate::proofs::StandardReaders::gives_advance_pc, crate::proofs::StandardReaders::gives_advance_line, crate::proofs::StandardReaders::gives_set_file, crate::proofs::StandardReaders::gives_set_column, crate::proofs::StandardReaders::gives_negate_stmt, crate::proofs::StandardReaders::gives_set_basic_block, crate::proofs::StandardReaders::gives_const_add_pc, crate::proofs::StandardReaders::gives_fixed_advance_pc, crate::proofs::StandardReaders::gives_set_prologue_end, crate::proofs::StandardReaders::gives_set_epilogue_begin, crate::proofs::StandardReaders::gives_set_isa, crate::proofs::StandardReaders::refuses_advance_pc, crate::proofs::StandardReaders::refuses_advance_line, crate::proofs::StandardReaders::refuses_set_file, crate::proofs::StandardReaders::refuses_set_column, crate::proofs::StandardReaders::refuses_fixed_advance_pc, crate::proofs::StandardReaders::refuses_set_isa))]
 fn read_operand<'a>(
@@ -73,8 +73,8 @@ fn read_operand<'a>(
     }
 }
 
-// What follows an extended opcode, or one that DWARF 5 doesn't know: the slow path for rare ones. They are read by a copy of the
-// cursor, which isn't lent to the call, so that it stays in registers.
+// Reads what follows the 0 of an extended opcode, or a standard opcode that DWARF 5 doesn't know: the slow path for rare
+// ones. They are read by a copy of the cursor, which isn't lent to the call, so that it stays in registers.
 #[inline(always)]
 fn read_apart<'a>(cursor: &mut Cursor<'a>, header: &Header, opcode: u8) -> Result<OpView<'a>, Fault>
     requires standard { opcode < header.now.opcode_base }

@@ -195,7 +195,8 @@ fn add_extended(out: &mut Vec<u8>, code: u8, operand: &[u8]) -> Result<(), Encod
     Ok(())
 }
 
-// Adds what stands before the operand of an extended operation, of which as many bytes as count follow the length.
+// Adds what stands before the operand of an extended operation: a zero byte, the length `count`, which counts the code and
+// the operand, and the code.
 #[tactic(auto, using(crate::proofs::OpPutLemmas::start_put))]
 fn start_extended(out: &mut Vec<u8>, count: u64, code: u8) -> Result<(), EncodeFault>
     ensures ok { OnOk result (Appends (ExtendedStart code) count out.old.items out.new.items) }
@@ -221,7 +222,7 @@ fn add_address(out: &mut Vec<u8>, address: u64, size: u8, order: Order) -> Resul
     add_sized(out, address, size, order)
 }
 
-// Adds a number in as many bytes as an address has.
+// Adds a number in `size` bytes, which are those of an address: 2, 4 or 8.
 fn add_sized(out: &mut Vec<u8>, n: u64, size: u8, order: Order) -> Result<(), EncodeFault>
     requires size { IsAddressSize size }
     requires fits { n < 256 ^ size }

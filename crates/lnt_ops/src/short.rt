@@ -37,7 +37,7 @@ pub(crate) fn short_op<'a>(bytes: &'a [u8], header: &Header) -> Option<(OpView<'
     }
 }
 
-// The number at the front, where one byte spells it; none where it is longer, or cut.
+// The unsigned number that the first byte alone spells. None where there is no byte, or the number has more.
 #[inline(always)]
 #[tactic(auto, using(crate::proofs::ShortLemmas::one_unsigned))]
 fn short_number(bytes: &[u8]) -> Option<u64>

@@ -28,7 +28,7 @@ pub(crate) fn read_unknown<'a>(
     Ok(OpView::UnknownStandard(opcode, Operands::Spelled(operands)))
 }
 
-// Moves past as many numbers as the count says.
+// Moves past `count` unsigned LEB128 numbers.
 #[tactic(auto, using(crate::proofs::UnknownReaders::operands_none, crate::proofs::UnknownReaders::operands_more, crate::proofs::UnknownReaders::refuses_operands))]
 fn pass_operands(cursor: &mut Cursor<'_>, count: u8) -> Result<(), Fault>
     ensures ok { OnOk result (PassesOperands count cursor.old cursor.new) }

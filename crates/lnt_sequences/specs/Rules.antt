@@ -1,4 +1,4 @@
--- What the sequences of a good section keep to.
+-- The rules that the sequences of a good section keep to.
 use Rattle.std.specs.Prelude.{◌≡◌, ◌≢◌, ◌<◌, ℕ, false, List}
 use Rattle.std.specs.List.{AllByRecursion, AllPairs}
 use Rattle.lnt_machine.specs.declared.row.Row.{Row}

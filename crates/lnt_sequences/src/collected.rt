@@ -23,7 +23,7 @@ pub struct Collected {
 }
 
 impl Collected {
-    /// What no sequences hold. It takes no memory.
+    /// An empty collection, in which there is no sequence. It takes no memory.
     pub fn new(alloc: Global) -> Collected
         ensures { Collects result [] }
     {

@@ -58,7 +58,7 @@ fn gathered(mut extents: Vec<Extent>) -> Vec<Extent>
     extents
 }
 
-// Sorts extents in this order.
+// Sorts extents by first position, then by last position, and then by place in the section.
 fn gather(extents: &mut [Extent])
     ensures permutation { IsPermutation extents.old extents.new }
     ensures gathered { AreGathered extents.new }
@@ -110,7 +110,7 @@ fn sort(extents: &mut [Extent])
     });
 }
 
-// The index of the first extent that goes on above the first position of the next.
+// The index of the first extent that ends above the first position of the next one, and so overlaps it. None where there is none.
 fn first_crossed(extents: &[Extent]) -> Option<usize>
     ensures { MatchOption result (AreApartUpTo (length extents.now - 1) extents.now)
         (λ k. (k + 1 < length extents.now) × AreApartUpTo k extents.now

@@ -21,7 +21,7 @@ pub fn holder(extents: &[Extent], position: Position, probes: &mut Probes) -> Op
     requires count { probes.old ≤ 2 ^ 63 }
     ensures found { MatchOption result (NoneHolds extents.now position) (IsHolder extents.now position) }
 
-    // The count rises. However many binary digits the number of extents is written in, it rises by no more.
+    // The count never falls, and rises by at most as many as the number of extents has binary digits.
     ensures rises { probes.old ≤ probes.new }
     ensures counted { (digits : ℕ) → length extents.now < 2 ^ digits → probes.new ≤ probes.old + digits }
 {

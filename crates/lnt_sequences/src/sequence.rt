@@ -1,6 +1,7 @@
-//! Which sequence of a section it is.
+//! The names of sequences, by which they are told apart.
 
-/// A sequence of a section. Ids are in dictionary order, which is that of the sequences in the section.
+/// Names a sequence of a section. Ordered by `unit` and then by `index`, as dictionaries are, ids are in the order of the
+/// sequences in the section.
 #[derive(Clone, Copy, Debug, PartialEq, Eq)]
 pub struct SeqId {
     /// The offset of its unit in the section.

@@ -181,7 +181,7 @@ fn grown(dead: Option<u64>, current: Option<Current>, row: &Row) -> Current
     }
 }
 
-// Whether a sequence is live that begins with a row.
+// Whether the sequence that begins with this row is live.
 #[inline(always)]
 fn begins_live(dead: Option<u64>, row: &Row) -> bool
     ensures { result ≡ spec.begins_live dead row.now }

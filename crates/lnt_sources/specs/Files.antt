@@ -1,4 +1,4 @@
--- Which bytes the files of names have. What is told of a file is all its bytes; or None, and then nothing is said of them.
+-- Which bytes files have, by their names. What is told of a file is all its bytes; or None, and then nothing is said of them.
 use Rattle.std.specs.Prelude.{◌≡◌, ℕ, List, Option, IfSome}
 
 -- Of no file more is told afterwards (new) than before (old).

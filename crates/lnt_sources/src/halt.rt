@@ -57,7 +57,7 @@ impl From<AllocError> for Halt {
     }
 }
 
-// Only writes fail so: a failed read is told by its source.
+// An `io::Error` that comes here is a writer's: a failed read is told by its source.
 impl From<io::Error> for Halt {
     ghost from_gives = { λ _ halt. halt ≡ Write };
 

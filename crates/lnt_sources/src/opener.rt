@@ -1,4 +1,4 @@
-//! The files of names.
+//! Files by their names.
 ghost use Rattle.std.specs.Prelude.{◌≡◌, ◌≢◌, ◌^◌, ℕ, List, Option, IfOk, IfErr, IfSome, ⊤, false};
 ghost use Rattle.lnt_sources.specs.Files.{AreBytesOf, TellsNoMore};
 ghost use Rattle.lnt_sources.specs.Halts.{IsOpening};

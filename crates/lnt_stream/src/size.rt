@@ -5,7 +5,7 @@ ghost use Rattle.lnt_stream.specs.Sizes.{IsLeastSize};
 
 use lnt_wire::{Cursor, Order};
 
-// How many bytes after these surely belong to the frame that begins with these: those up to the end of its initial length,
+// How many more bytes surely belong to the frame that begins with these bytes: those up to the end of its initial length,
 // and once that is whole, those up to the end of the frame. It is 0 where the frame is whole, or its initial length is a
 // reserved one.
 pub(crate) fn missing_size(bytes: &[u8], order: Order) -> u64
@@ -15,7 +15,7 @@ pub(crate) fn missing_size(bytes: &[u8], order: Order) -> u64
     missing_at(&mut Cursor::new(bytes, 0, order))
 }
 
-// The same, of the bytes that a cursor has left. Nothing is said of where the cursor then stands.
+// The same for the bytes that a cursor has left. Nothing is said of where the cursor then stands.
 #[tactic(auto, using(crate::proofs::SizeLemmas::sizes))]
 fn missing_at(cursor: &mut Cursor<'_>) -> u64
     ensures least { 0 < result → IsLeastSize cursor.old.order cursor.old.rest (length cursor.old.rest + result) }

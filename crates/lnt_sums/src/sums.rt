@@ -16,7 +16,7 @@ pub enum Agreement {
     Differs([u8; 16]),
 }
 
-// How many bytes are asked of a source at once. They are kept in the frame of `sum_of`, so no memory is asked for.
+// How many bytes are asked of a source at once. They lie on the stack, so no memory is asked for.
 const BLOCK: usize = 1 << 14;
 
 /// The MD5 sum of all bytes that the source has to give, from where it stands to its end. It takes no memory.

@@ -53,7 +53,7 @@ fn has_spans(lines: &Lines) -> bool {
     lines.spans() == [first, span(0x1004, 0x1006, wide(4, 0))].as_slice()
 }
 
-// Whether version 1 tells them so.
+// Whether the lines, which are those of `PLAIN`, have its spans as version 1 of a table tells them.
 fn has_narrow_spans(alloc: Global, lines: &Lines) -> bool {
     let first = span(0x1000, 0x1004, narrow(3));
     let spans = [first, span(0x1004, 0x1006, narrow(4))];

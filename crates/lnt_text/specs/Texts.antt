@@ -1,4 +1,4 @@
--- The texts that are printed.
+-- The texts of positions and answers, and the lines of malformed bytes (25) and of programs that don't run (26).
 use Rattle.std.specs.Prelude.{ℕ, List, [], ◌++◌, Option, Some, None, if◌then◌else◌, codes, decimal}
 use Rattle.lnt_wire.specs.declared.fault.Fault.{Fault}
 use Rattle.lnt_wire.specs.FaultTexts.{fault_text, hexadecimal}

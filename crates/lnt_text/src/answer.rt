@@ -23,7 +23,7 @@ impl fmt::Display for AnswerText {
     }
 }
 
-// What version 2 of the address table tells above version 1, each after a comma.
+// The two fields that version 2 of the address table has more than version 1, each after a comma; nothing where they aren't told.
 #[derive(Clone, Copy)]
 struct MoreText(Option<More>);
 

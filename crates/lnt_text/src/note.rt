@@ -11,7 +11,7 @@ use std::fmt;
 pub enum Note {
     /// A word isn't what this argument has to be.
     Word(Argument),
-    /// The section isn't the raw bytes of one: it looks so.
+    /// The file of the section isn't the raw bytes of one: it looks like this.
     NotRaw(Look),
     /// The text of an entry lies in a section that wasn't given.
     NoStrings(StringSection),
@@ -31,7 +31,7 @@ pub enum Note {
     TableRecord(Option<u64>, RecordRule),
 }
 
-/// An argument that not every word can be.
+/// An argument that takes words of a certain kind alone.
 #[derive(Clone, Copy, Debug, PartialEq, Eq)]
 pub enum Argument {
     /// An address to look up.
@@ -272,7 +272,7 @@ impl fmt::Display for StringsText {
     }
 }
 
-// How many they are, where that is known.
+// How many sequences begin there, where that is known.
 #[derive(Clone, Copy)]
 struct CountText(Option<u64>);
 
@@ -287,7 +287,7 @@ impl fmt::Display for CountText {
     }
 }
 
-// How sequences that begin at an address are left out.
+// The option by which sequences that begin at this address are left out.
 #[derive(Clone, Copy)]
 struct AdviceText(u64);
 
@@ -300,7 +300,7 @@ impl fmt::Display for AdviceText {
     }
 }
 
-// Where a record begins.
+// The line of the text in which a record begins, where that is known.
 #[derive(Clone, Copy)]
 struct LineText(Option<u64>);
 

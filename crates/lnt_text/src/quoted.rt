@@ -4,7 +4,8 @@ ghost use Rattle.lnt_text.specs.Quotes.{quoted_byte, quoted_text};
 
 use std::fmt;
 
-/// A text between quotes. Each byte that isn't printable, and each quote and backslash, is written by its digits.
+/// A text between quotes. Each byte that isn't printable ASCII, and each quote and backslash, is written as `\x` and its
+/// two hexadecimal digits.
 #[derive(Clone, Copy)]
 pub struct Quoted<'a>(pub &'a [u8]);
 
@@ -20,7 +21,7 @@ impl fmt::Display for Quoted<'_> {
     }
 }
 
-// A byte of such a text.
+// A byte between the quotes.
 #[derive(Clone, Copy)]
 struct QuotedByte(u8);
 

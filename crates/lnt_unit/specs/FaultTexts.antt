@@ -1,4 +1,4 @@
--- The texts of why a section isn't converted.
+-- The texts that say why a section isn't converted.
 use Rattle.std.specs.Prelude.{ℕ, List, ◌++◌, codes}
 use Rattle.lnt_wire.specs.FaultTexts.{fault_text, hexadecimal}
 use Rattle.lnt_unit.specs.declared.convert.ConvertFault.{ConvertFault}

@@ -18,7 +18,7 @@ pub struct Parts {
     pub ops: Items<Op>,
 }
 
-/// A unit that a reader can have read. Contracts see its parts.
+/// A unit as a reader may have read it from some bytes. Contracts see its parts.
 #[derive(Debug, Drop)]
 pub struct Unit {
     header: Header,

@@ -62,8 +62,8 @@ fn units_in_pieces(rt: HostRuntime) {
     assert!(rt; are_units(alloc, &PLAIN, &SHORT, 5) == Some(true));
 }
 
-// Why no unit comes of the bytes, under this limit and from a reader that fails after so many reads; where each
-// further call is refused, and a failure of the reader is counted.
+// Why no unit comes of the bytes, under this limit and from a reader that fails after `sound` reads. None where a later
+// call isn't refused as it should be, or the source counts other failures than there were.
 fn stop_of(alloc: Global, bytes: &[u8], sound: u64, limit: u64) -> Option<SectionStop> {
     let mut source = Counted::new(Pieces::new(alloc, bytes, 100, sound), limit);
     let mut reader = SectionReader::new(&mut source, Order::Little);
@@ -93,7 +93,7 @@ fn stops_of_the_first_unit(rt: HostRuntime) {
     assert!(rt; stop_of(alloc, &PLAIN, 100, 0) == Some(SectionStop::TooLong));
 }
 
-// Why no unit comes after `PLAIN`, of a section that goes on with a reserved length.
+// Why no unit comes after `PLAIN` in a section that goes on with a reserved length.
 fn stop_after(alloc: Global, sound: u64, limit: u64) -> Option<SectionStop> {
     let bytes = joined(alloc, &PLAIN, &[0xf0, 0xff, 0xff, 0xff])?;
     let mut source = Counted::new(Pieces::new(alloc, bytes.as_slice(), 100, sound), limit);
@@ -149,7 +149,8 @@ fn long_unit(alloc: Global) -> Result<Vec<u8>, AllocError> {
     Ok(long)
 }
 
-// The next unit, read into this memory, where it is these bytes and the memory still that.
+// Reads the next unit into this memory, and gives the memory back, where the unit has the bytes that are wanted and the
+// memory hasn't grown.
 fn read_into(
     reader: &mut SectionReader<'_, Counted<Pieces<'_>>>,
     room: Vec<u8>,

@@ -5,7 +5,7 @@ use std::test::Fail;
 
 const BYTES: [u8; 70] = [7; 70];
 
-// Whether all bytes come, in pieces of this size, and so many might come still.
+// Whether all bytes come in pieces of this size, and the source may then still give `left` bytes.
 fn come_whole(alloc: Global, piece: usize, limit: u64, left: u64) -> bool {
     let reader = Pieces::new(alloc, &BYTES, piece, u64::MAX);
     let mut source = Counted::new(reader, limit);
@@ -23,7 +23,7 @@ fn all_bytes_come(rt: HostRuntime) {
     assert!(rt; come_whole(alloc, 100, u64::MAX, (1 << 40) - 70));
 }
 
-// Whether the bytes don't come, for this reason, and the source says the same.
+// Whether reading the bytes stops for the reason that is wanted, and the source says the same.
 fn are_stopped(alloc: Global, piece: usize, sound: u64, limit: u64, want: Stop) -> bool {
     let mut source = Counted::new(Pieces::new(alloc, &BYTES, piece, sound), limit);
     let stop = read_all(alloc, &mut source).err();
@@ -43,7 +43,7 @@ fn sources_that_stop(rt: HostRuntime) {
     assert!(rt; are_stopped(alloc, 100, 100, 0, Stop::TooLong));
 }
 
-// Whether so many bytes are asked for in reads of these sizes.
+// Whether `count` bytes are read by reads of these sizes.
 fn are_asked(alloc: Global, count: usize, want: &[usize]) -> Result<bool, AllocError> {
     let bytes = vec![in alloc; 9; count]?;
     let mut reader = Pieces::new(alloc, bytes.as_slice(), usize::MAX, u64::MAX);

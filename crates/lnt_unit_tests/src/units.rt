@@ -15,7 +15,7 @@ fn are_two(units: &[(u64, Unit)]) -> bool {
     }
 }
 
-// Whether the bytes twice are two units.
+// Whether these bytes, written twice, are read as two units.
 fn are_units(alloc: Global, bytes: &[u8]) -> bool {
     let Some(twice) = joined(alloc, bytes, bytes) else {
         return false;
@@ -34,7 +34,7 @@ fn is_encoded(alloc: Global, unit: &Unit, bytes: &[u8]) -> bool {
     }
 }
 
-// Whether the unit that the bytes are is written as they are.
+// Whether the unit that is read from these bytes is written as the same bytes.
 fn is_kept(alloc: Global, bytes: &[u8]) -> bool {
     match unit_of(alloc, bytes) {
         Some(unit) => is_encoded(alloc, &unit, bytes),

@@ -3,11 +3,11 @@ pub mod FieldFaultLaws
 pub mod FirstValueLaws
 pub mod FrameFaultLaws
 pub mod FrameLaws
-pub mod FrameLemmas
-pub mod FrameListLemmas
+pub mod FrameReadingLaws
+pub mod FrameListLaws
 pub mod LebLemmas
 pub mod LengthLaws
-pub mod NumberLemmas
+pub mod NumberLaws
 pub mod PullLaws
 pub mod PutLemmas
 pub mod ReadLemmas

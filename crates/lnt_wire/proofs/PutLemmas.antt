@@ -12,7 +12,7 @@ use Rattle.lnt_wire.specs.Bytes.{Appends, Extends}
 use Rattle.lnt_wire.specs.Leb128.{IsLeb, signed_groups, UnsignedLeb, SignedLeb}
 use Rattle.lnt_wire.specs.Numbers.{NumberBytes}
 use Rattle.lnt_wire.proofs.LebLemmas.{signed_more, one_low, one_high}
-use Rattle.lnt_wire.proofs.NumberLemmas.{one_byte}
+use Rattle.lnt_wire.proofs.NumberLaws.{one_byte}
 use Rattle.lnt_wire.proofs.LengthLaws.{length-number_bytes}
 
 -- ---- groups put one after another

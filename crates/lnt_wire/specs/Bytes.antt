@@ -6,7 +6,7 @@ use Rattle.std.specs.Prelude.{◌≡◌, ℕ, ◌≤◌, List, ◌++◌, length}
 abbrev pub Exactly : List ℕ → List ℕ → Type 0
 Exactly expected bytes = bytes ≡ expected
 
--- The bytes are as many as the count says, and stand for themselves.
+-- These are `count` bytes, and they stand for themselves.
 pub record TakenBytes (count : ℕ) (taken bytes : List ℕ) : Type 0 where
   pub count_is : length bytes ≡ count
   pub taken_is : taken ≡ bytes

@@ -14,7 +14,7 @@ use Rattle.lnt_wire.specs.declared.form.FormValue.TheVariants.{Block, Block1, Bl
 use Rattle.lnt_wire.specs.Leb128.{groups}
 use Rattle.lnt_wire.specs.Numbers.{offset_size}
 
--- the number that the first bytes spell, as many as size says
+-- the number that the first `size` bytes spell
 abbrev pub first_number : Order → ℕ → List ℕ → ℕ
 first_number Little size bytes = little_number size bytes
 first_number Big size bytes = big_number size bytes

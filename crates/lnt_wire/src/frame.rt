@@ -30,7 +30,7 @@ pub struct Frame<'a> {
 /// the cursor, `Truncated` where the initial length is cut or counts more bytes than are left, and `ReservedLength`; and
 /// at the place of the version, the body's first byte, `Truncated` where the body has fewer than 2 bytes, and
 /// `VersionNotFive`.
-#[tactic(auto, using(crate::proofs::FrameLemmas::frame_exits))]
+#[tactic(auto, using(crate::proofs::FrameReadingLaws::frame_exits))]
 pub fn take_frame<'a>(cursor: &mut Cursor<'a>) -> Result<Frame<'a>, Fault>
     ensures ok { IfOk result (λ frame. Reads (IsFrame cursor.old.order) frame cursor.old cursor.new) }
     ensures offset { IfOk result (λ frame. frame.offset ≡ cursor.old.place) }
@@ -78,7 +78,7 @@ pub struct Framed<'a> {
 ///
 /// The bytes of the frames one after another are the section, or, where there is a fault, the part of it before the bytes
 /// that no frame begins. A fault is an answer, and the frames before it stand. The only error is `Memory`.
-#[tactic(auto, using(crate::proofs::FrameListLemmas::frame_walk))]
+#[tactic(auto, using(crate::proofs::FrameListLaws::frame_walk))]
 pub fn frames<'a>(alloc: Global, bytes: &'a [u8], order: Order) -> Result<Framed<'a>, Fault>
     ensures ok { IfOk result (λ framed. AreFrames order bytes.entry.now framed.frames.items framed.fault) }
     ensures err { IfErr result (λ fault. fault.reason ≡ Reason.Memory) }

@@ -71,7 +71,7 @@ struct ShortLeb {
     size: usize,
     // The number that the groups say, unsigned.
     sum: u64,
-    // One more than the greatest number of as many groups: 128 to the size.
+    // 128 to the power of `size`: one more than the greatest number that so many groups can say.
     scale: u64,
 }
 

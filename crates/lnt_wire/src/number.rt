@@ -11,7 +11,7 @@ use byteorder::{BigEndian, ByteOrder, LittleEndian};
 impl<'a> Cursor<'a> {
     /// The next byte as an unsigned number. It refuses with `Truncated` where none is left.
     #[inline(always)]
-    #[tactic(auto, using(crate::proofs::NumberLemmas::one_byte, crate::proofs::ReadLemmas::number_exits))]
+    #[tactic(auto, using(crate::proofs::NumberLaws::one_byte, crate::proofs::ReadLemmas::number_exits))]
     pub fn u8(&mut self) -> Result<u8, Fault>
         ensures ok { IfOk result (λ v. Reads (NumberBytes self.old.order 1) v self.old self.new) }
         ensures err { IfErr result (λ fault. RefusesField (IsCutShort 1) (NumberBytes self.old.order 1) self.old fault) }
@@ -77,7 +77,7 @@ impl<'a> Cursor<'a> {
 }
 
 // The number that these 2 bytes spell in the order.
-#[tactic(auto, using(crate::proofs::NumberLemmas::number_read_2))]
+#[tactic(auto, using(crate::proofs::NumberLaws::number_read_2))]
 fn u16_of(order: Order, bytes: &[u8]) -> u16
     requires { length bytes.now ≡ 2 }
     ensures { NumberBytes order 2 result bytes.now }
@@ -89,7 +89,7 @@ fn u16_of(order: Order, bytes: &[u8]) -> u16
 }
 
 // The number that these 4 bytes spell in the order.
-#[tactic(auto, using(crate::proofs::NumberLemmas::number_read_4))]
+#[tactic(auto, using(crate::proofs::NumberLaws::number_read_4))]
 fn u32_of(order: Order, bytes: &[u8]) -> u32
     requires { length bytes.now ≡ 4 }
     ensures { NumberBytes order 4 result bytes.now }
@@ -101,7 +101,7 @@ fn u32_of(order: Order, bytes: &[u8]) -> u32
 }
 
 // The number that these 8 bytes spell in the order.
-#[tactic(auto, using(crate::proofs::NumberLemmas::number_read_8))]
+#[tactic(auto, using(crate::proofs::NumberLaws::number_read_8))]
 fn u64_of(order: Order, bytes: &[u8]) -> u64
     requires { length bytes.now ≡ 8 }
     ensures { NumberBytes order 8 result bytes.now }

@@ -175,7 +175,7 @@ pub fn put_offset(
     }
 }
 
-// What a call ended with, after its bytes were taken back if it was refused: those from index `start` on.
+// Hands on how a call ended that added bytes to `out` from index `start` on. Where it was refused, these bytes are removed first.
 fn cut_back(
     out: &mut Vec<u8>,
     start: usize,

@@ -8,7 +8,7 @@ use std::alloc::Global;
 use std::error::Error;
 use std::fmt;
 
-/// A source failed to give its next bytes (refusal 34): what stands under it, as a file, answered an error.
+/// A source failed to give its next bytes (stop 34): what it reads from, such as a file, answered with an error.
 #[derive(Clone, Copy, Debug, PartialEq, Eq)]
 pub struct ReadFault;
 

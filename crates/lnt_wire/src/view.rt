@@ -16,7 +16,7 @@ pub enum ValueView<'a> {
     LineStrp(u64),
     /// An offset in bytes into the section `.debug_str`.
     Strp(u64),
-    /// The number, here and to `Data8`.
+    /// The number. It is the same for the next variants, up to `Data8`.
     Udata(u64),
     Data1(u8),
     Data2(u16),
@@ -24,7 +24,7 @@ pub enum ValueView<'a> {
     Data8(u64),
     /// The bytes, in the order in which they stand in the section.
     Data16([u8; 16]),
-    /// The bytes after the length, here and below. The length is their number.
+    /// The bytes after the length, which says how many they are. It is the same for the other blocks below.
     Block(&'a [u8]),
     Block1(&'a [u8]),
     Block2(&'a [u8]),

@@ -103,7 +103,7 @@ fn argument_of<'a>(alloc: Global, argument: &Argument) -> Result<Arg<'a>, AllocE
     of_kind(made, argument.name, argument.kind)
 }
 
-// The argument of this name takes such words.
+// The argument of this name, made to take words of this kind.
 fn of_kind<'a>(argument: Arg<'a>, name: &'a str, kind: Kind) -> Result<Arg<'a>, AllocError>
     ensures { IfOk result (λ made. IsArgument (new_rule name.now) argument.entry → IsArgument (rule_of_kind name.now kind) made) }
 {
@@ -118,56 +118,56 @@ fn of_kind<'a>(argument: Arg<'a>, name: &'a str, kind: Kind) -> Result<Arg<'a>, 
     }
 }
 
-// The argument has to be there.
+// The argument, made a required one.
 fn required<'a>(argument: Arg<'a>) -> Arg<'a>
     ensures { (rule : Rule) → IsArgument rule argument.entry → IsArgument (required_in rule) result }
 {
     argument.required(true)
 }
 
-// The argument takes a word.
+// The argument, made to take one word.
 fn word<'a>(argument: Arg<'a>) -> Arg<'a>
     ensures { (rule : Rule) → IsArgument rule argument.entry → IsArgument (taking rule) result }
 {
     argument.action(ArgAction::Set)
 }
 
-// The argument is `--name`.
+// The argument, made the flag `--name`.
 fn flag<'a>(argument: Arg<'a>, name: &'a str) -> Arg<'a>
     ensures { (rule : Rule) → IsArgument rule argument.entry → IsArgument (flagged rule name.now) result }
 {
     argument.long(name).action(ArgAction::SetTrue)
 }
 
-// The argument is `--name VALUE`, with what help calls the value.
+// The argument, made the option `--name VALUE`. `value` is what help calls the value.
 fn valued<'a>(argument: Arg<'a>, name: &'a str, value: &'a str) -> Arg<'a>
     ensures { (rule : Rule) → IsArgument rule argument.entry → IsArgument (valued_in rule name.now) result }
 {
     argument.long(name).value_name(value).action(ArgAction::Set)
 }
 
-// The argument takes words, at least one.
+// The argument, made to take one or more words.
 fn several<'a>(argument: Arg<'a>) -> Arg<'a>
     ensures { (rule : Rule) → IsArgument rule argument.entry → IsArgument (several_in rule) result }
 {
     argument.num_args(1..).action(ArgAction::Append)
 }
 
-// The argument has to be there unless the other is; both can't be.
+// The argument, required unless the other one is given, and refused beside it.
 fn unless<'a>(argument: Arg<'a>, other: &'a str) -> Result<Arg<'a>, AllocError>
     ensures { IfOk result (λ made. (rule : Rule) → IsArgument rule argument.entry → IsArgument (bound rule) made) }
 {
     excluding(argument.required_unless_present(other)?, other)
 }
 
-// The argument can't be there with the other.
+// The argument, refused where the other one is given.
 fn excluding<'a>(argument: Arg<'a>, other: &'a str) -> Result<Arg<'a>, AllocError>
     ensures { IfOk result (λ made. (rule : Rule) → IsArgument rule argument.entry → IsArgument (bound rule) made) }
 {
     argument.conflicts_with(other)
 }
 
-// The argument can't be there with either.
+// The argument, refused where either of the two is given.
 fn excluding_both<'a>(
     argument: Arg<'a>,
     one: &'a str,

@@ -27,19 +27,19 @@ pub(crate) struct Argument {
 /// What words an argument takes.
 #[derive(Clone, Copy)]
 pub(crate) enum Kind {
-    /// A word that has to be there.
+    /// One word, which is required.
     Word,
-    /// Words, of which one at least has to be there, unless this option is; both can't be.
+    /// One or more words, required unless this option is given, and refused beside it.
     WordsUnless(&'static str),
     /// `--name`.
     Flag,
-    /// `--name`, which can't be there with this argument.
+    /// The flag `--name`, which is refused beside this argument.
     FlagWithout(&'static str),
-    /// `--name`, which can't be there with these two.
+    /// The flag `--name`, which is refused beside either of these two.
     FlagWithoutBoth(&'static str, &'static str),
-    /// `--name VALUE`, with what help calls the value.
+    /// The option `--name VALUE`; this is what help calls the value.
     Valued(&'static str),
-    /// The same, and it has to be there.
+    /// The same, and it is required.
     Required(&'static str),
 }
 

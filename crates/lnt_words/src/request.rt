@@ -76,16 +76,16 @@ pub enum Reading {
     Units,
     /// The units with their headers.
     Dump {
-        /// And with their operations.
+        /// Whether their operations are printed too.
         ops: bool,
-        /// And with their rows.
+        /// Whether their rows are printed too.
         rows: bool,
     },
     /// The section in another format and byte order.
     Convert {
-        /// That format.
+        /// The format that the section is to have.
         format: Format,
-        /// That byte order.
+        /// The byte order that its numbers are to have.
         to: Order,
     },
 }

@@ -141,7 +141,8 @@ fn judge_in<'a>(
     })
 }
 
-// The addresses are judged before the operation index, and in their order.
+// What the words of `lookup` ask for. The addresses are parsed first, in their order, and then the operation index: so the
+// first bad word is told.
 fn lookup_in<'a>(alloc: Global, words: &ArgMatches<'a>) -> Result<Request<'a>, WordsStop>
     ensures { IfOk result (λ request. IsAskedIn (codes "lookup") (rows_in words.now) request) }
 {
@@ -224,7 +225,7 @@ fn judging_in<'a>(alloc: Global, words: &ArgMatches<'a>) -> Result<Judging<'a>, 
     })
 }
 
-// A word that is required.
+// The word of a required argument.
 fn word_in<'a>(words: &ArgMatches<'a>, name: &str) -> Result<&'a str, WordsStop>
     ensures { IfOk result (λ word. IsWord (rows_in words.now) name.now word.now) }
 {

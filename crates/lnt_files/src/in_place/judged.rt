@@ -63,7 +63,7 @@ fn first_without_path(table: &TableView<'_>, ends: &StringEnds<'_>) -> Option<u6
     None
 }
 
-// What is wrong with the files, of which the format is usable, where so many directories are there.
+// What is wrong with the files of a header with so many directories, once the format of the files is known to be usable.
 #[tactic(auto, using(crate::proofs::JudgedLemmas::files_begun, crate::proofs::JudgedLemmas::files_stepped, crate::proofs::JudgedLemmas::files_never_end, crate::proofs::JudgedLemmas::files_but, crate::proofs::JudgedLemmas::files_sound, crate::proofs::JudgedLemmas::files_missing))]
 fn files_fault(
     files: &TableView<'_>,
@@ -91,7 +91,7 @@ fn files_fault(
     }
 }
 
-// The first index that is missing, once it is told whether this one is there.
+// The first index that is missing, of those before `index` and of this one. `missing` is the first of those before it.
 #[inline(always)]
 fn first_missing(missing: Option<u64>, index: u64, is_there: bool) -> Option<u64>
     ensures { result ≡ first_missing missing index is_there }

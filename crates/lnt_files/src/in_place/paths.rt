@@ -33,7 +33,10 @@ pub fn listed(header: &HeaderView<'_>, file: u64) -> Option<[u8; 16]>
     entry_at(files, file)?.listed()
 }
 
-/// The path of the file, as the crate's `path_of` gives it. None exactly where the file isn't there. Files count from 0.
+/// The path of the file: its text, below the path of its directory unless it begins with `/`. The path of a directory
+/// is its text, below directory 0 unless it is directory 0 or begins with `/`. A `/` stands between the two, unless
+/// the first is empty or ends with one. None exactly where the file isn't there. Files count from 0.
+///
 /// It passes the files before it, and the directories before its own; of a kept header fewer than 64 of each.
 ///
 /// The caller sees to it that the header's tables are usable, which `tables_fault` tests. It refuses only where memory
@@ -77,7 +80,7 @@ fn entry_at<'t>(table: &'t TableView<'t>, number: u64) -> Option<EntryView<'t>>
     entries.next_entry()
 }
 
-// The pieces of the path of a file, which says this. None where a text isn't there.
+// The pieces of the path of the file whose entry says this. None where a text isn't there.
 fn pieces_of<'s>(
     header: &'s HeaderView<'s>,
     strings: Strings<'s>,

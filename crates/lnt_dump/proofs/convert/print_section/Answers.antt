@@ -2,7 +2,8 @@ use Rattle.std.proofs.Common.{◌≡◌, ℕ, List, length, sym, ap, subst, ◌�
 use Rattle.std.proofs.lemmas.Bool.{eqb-true}
 use Rattle.std.specs.Io.KnownBytes.{Appends}
 use Rattle.lnt_output.specs.Fronts.{AppendsFront}
-use Rattle.lnt_dump.proofs.SectionFronts.{section_cut, section_stopped, so_stopped}
+use Rattle.lnt_output.proofs.FrontLaws.{so_stopped}
+use Rattle.lnt_dump.proofs.SectionFronts.{section_cut, section_stopped}
 use Rattle.lnt_dump.proofs.Sections.{section_more, section_handed_on, section_printed}
 use Rattle.lnt_dump.proofs.convert.print_section.Goals as goal
 

@@ -1,6 +1,6 @@
 use Rattle.std.proofs.Common.{ap, rules}
+use Rattle.lnt_output.proofs.FrontLaws.{so_stopped}
 use Rattle.lnt_dump.proofs.FrameFronts.{fault_cut, units_cut, units_stopped}
-use Rattle.lnt_dump.proofs.SectionFronts.{so_stopped}
 use Rattle.lnt_dump.proofs.Frames.{frames_faulty, frames_more, frames_none}
 use Rattle.lnt_dump.proofs.units.print_units.Goals as goal
 

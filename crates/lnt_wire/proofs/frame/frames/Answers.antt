@@ -1,5 +1,5 @@
 use Rattle.std.proofs.Common.{rules}
-use Rattle.lnt_wire.proofs.FrameListLemmas.{frame_walk}
+use Rattle.lnt_wire.proofs.FrameListLaws.{frame_walk}
 use Rattle.lnt_wire.proofs.frame.frames.Goals as goal
 
 pub returns-in-Err-clause-ok : goal.returns-in-Err-clause-ok

@@ -1,5 +1,5 @@
 use Rattle.std.proofs.Common.{length}
-use Rattle.lnt_wire.proofs.FrameListLemmas.{FramesSoFar}
+use Rattle.lnt_wire.proofs.FrameListLaws.{FramesSoFar}
 use Rattle.lnt_wire.proofs.frame.frames.Given as goal
 
 abbrev pub invariant-loop-cursor : goal.invariant-loop-cursor

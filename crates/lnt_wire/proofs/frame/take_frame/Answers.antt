@@ -3,7 +3,7 @@ use Rattle.lnt_wire.specs.At.{At}
 use Rattle.lnt_wire.specs.InitialFaults.{IsInitialFault}
 use Rattle.lnt_wire.specs.InitialLength.{InitialBytes}
 use Rattle.lnt_wire.specs.Reading.{Reads}
-use Rattle.lnt_wire.proofs.FrameLemmas.{refuses_initial, refuses_long}
+use Rattle.lnt_wire.proofs.FrameReadingLaws.{refuses_initial, refuses_long}
 use Rattle.lnt_wire.proofs.frame.take_frame.Goals as goal
 
 pub returns-in-Err-clause-err : goal.returns-in-Err-clause-err

@@ -1,4 +1,4 @@
-use Rattle.lnt_wire.proofs.FrameLemmas.{cut_wide}
+use Rattle.lnt_wire.proofs.FrameReadingLaws.{cut_wide}
 use Rattle.lnt_wire.proofs.initial.initial_length.Goals as goal
 
 pub returns-in-Err-clause-err : goal.returns-in-Err-clause-err
