@@ -44,7 +44,7 @@ pub(crate) enum Kind {
 }
 
 // The version of the program, and the toolchain that it is proved with, as `rt version` prints it.
-pub(crate) const VERSION: &str = "0.9.0 (rattle-kit-13b logic dac8208d650f15bf)";
+pub(crate) const VERSION: &str = "0.9.0 (rattle-kit-13f logic dac8208d650f15bf)";
 
 /// The subcommands, in the order in which help lists them.
 pub(crate) const SUBCOMMANDS: &[Subcommand] = &[
