@@ -234,6 +234,7 @@ sections() {
   text=$'unit 0x0 32 67\n'$fields$tables$'unit 0x47 32 73\nheader 8 1 1 1 -5 14 15\n'$tables$'unit 0x94 32 67\n'$fields$tables
   prints 'three units' 0 "$plain$base$plain" "$text" dump
   comes_back 'three units' "$plain$base$plain"
+  comes_back 'bytes after the tables of a header' "$(unit "$header beef" "$at 14 0202 $end")"
   for asked in --ops --rows; do
     prints "no units, $asked" 0 '' '' dump "$asked"
   done
