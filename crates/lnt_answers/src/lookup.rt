@@ -76,7 +76,7 @@ fn print_answered<W: Write>(
     match index.path_of(alloc, answer.unit, answer.file) {
         Ok(Some(path)) => writeln!(out, " path {}", Quoted(&path))?,
         Ok(None) => writeln!(out)?,
-        Err(stop) => return Err(Halt::from(stop)),
+        Err(_) => return Err(Halt::Memory),
     }
     Ok(())
 }

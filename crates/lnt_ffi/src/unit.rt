@@ -8,6 +8,7 @@ use crate::room::put_bytes;
 use crate::section::FlatSection;
 use crate::verdict::{FlatVerdict, YES, verdict_of_stop};
 use lnt_lines::Index;
+use lnt_wire::Stop;
 use std::alloc::Global;
 
 /// A unit: `struct linetab_unit`.
@@ -106,8 +107,8 @@ pub extern "C" fn linetab_path(
             *verdict = YES;
             false
         }
-        Err(stop) => {
-            *verdict = verdict_of_stop(stop);
+        Err(_) => {
+            *verdict = verdict_of_stop(Stop::Memory);
             false
         }
     }

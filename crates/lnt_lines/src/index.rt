@@ -1,5 +1,5 @@
 //! What a good section answers, with its rows decoded again where they are asked for.
-ghost use Rattle.std.specs.Prelude.{◌≡◌, ◌+◌, ◌-◌, ◌^◌, ◌<◌, ◌≤◌, Bool, ℕ, List, length, Option, IfNone, IfOk, IfErr, IfSome};
+ghost use Rattle.std.specs.Prelude.{◌≡◌, ◌+◌, ◌-◌, ◌^◌, ◌<◌, ◌≤◌, Bool, ℕ, List, length, Option, IfNone, IfOk, IfSome};
 ghost use Rattle.std.specs.Prelude.{IsSomeAnd, IsTrue};
 ghost use Rattle.std.specs.List.{All, AllByRecursion, AllZip};
 ghost use Rattle.std.specs.List.Sorted.{IsPermutation};
@@ -13,7 +13,6 @@ ghost use Rattle.lnt_sequences.specs.RowSpans.{spans_of};
 ghost use Rattle.lnt_sequences.specs.Sequences.{kept_sequences, line_answer};
 ghost use Rattle.lnt_sequences.specs.Spanning.{rows_left};
 ghost use Rattle.lnt_spans.specs.declared.span.Span.{Span};
-ghost use Rattle.lnt_wire.specs.declared.stop.Stop.TheVariants.{Memory};
 ghost use Rattle.lnt_lines.specs.Contents.{AreRising, TellsOf};
 ghost use Rattle.lnt_lines.specs.Cursors.{GivesAllOf, room_of};
 ghost use Rattle.lnt_lines.specs.Indexed.{IsIndex, IsIndexOf, IsSequenceIn, file_count_in, file_path_in, file_sum_in, header_in};
@@ -29,7 +28,7 @@ use lnt_machine::{Program, SequenceRows};
 use lnt_sequences::laws::holder_answers;
 use lnt_sequences::{Extent, SeqId, answer_at, holder};
 use lnt_spans::{Answer, Position, Probes};
-use lnt_wire::{Stop, Strings};
+use lnt_wire::Strings;
 use std::alloc::{AllocError, Global};
 use std::marker::Model;
 
@@ -171,33 +170,30 @@ impl<'a> Index<'a> {
 
     /// The whole path of the file of the unit at this offset, made of its texts. None exactly where the file or the unit
     /// isn't there. It refuses only where memory runs out.
-    pub fn path_of(&self, alloc: Global, unit: u64, file: u64) -> Result<Option<Vec<u8>>, Stop>
+    pub fn path_of(
+        &self,
+        alloc: Global,
+        unit: u64,
+        file: u64,
+    ) -> Result<Option<Vec<u8>>, AllocError>
         ensures path { IfOk result (λ path. option_map (λ path. path.items) path ≡ file_path_in self.now unit file) }
-        ensures err { IfErr result (λ stop. stop ≡ Memory) }
     {
         let Some(header) = self.header_of(unit) else {
             return Ok(None);
         };
-        match path_of(alloc, &header, self.strings, file) {
-            Ok(path) => Ok(path),
-            Err(_) => Err(Stop::Memory),
-        }
+        path_of(alloc, &header, self.strings, file)
     }
 
     /// The header of the unit at this offset, with its directories and files at hand, for a caller that goes through many
     /// of them. None exactly where no unit stands there. It refuses only where memory runs out.
-    pub fn header(&self, alloc: Global, unit: u64) -> Result<Option<Header>, Stop>
+    pub fn header(&self, alloc: Global, unit: u64) -> Result<Option<Header>, AllocError>
         ensures header { IfOk result (λ header. header ≡ header_in self.now unit) }
         ensures usable { IfOk result (λ found. IfSome found (λ header. AreUsableTables self.now.line self.now.general header)) }
-        ensures err { IfErr result (λ stop. stop ≡ Memory) }
     {
         let Some(header) = self.header_of(unit) else {
             return Ok(None);
         };
-        match header.to_header(alloc) {
-            Ok(header) => Ok(Some(header)),
-            Err(_) => Err(Stop::Memory),
-        }
+        Ok(Some(header.to_header(alloc)?))
     }
 
     /// The string sections that the texts of files are in.

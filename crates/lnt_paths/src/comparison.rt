@@ -25,7 +25,7 @@ use crate::paths::Paths;
 use crate::record::{PathRecord, record_after};
 use crate::version::PathVersion;
 use csv::{ByteRecord, Reader};
-use lnt_records::{TableFault, TableStop, read_next, reader_of};
+use lnt_records::{TableFault, read_next, reader_of};
 use lnt_spans::{Answer, SpanSource};
 use std::alloc::{AllocError, Global};
 
@@ -44,7 +44,7 @@ pub fn compare_by_path<S: SpanSource + Drop, P: Paths>(
     table: &[u8],
     spans: S,
     paths: &P,
-) -> Result<ComparedByPath, TableStop>
+) -> Result<ComparedByPath, AllocError>
     ensures { IfOk result (λ compared. (list : List spec.Span) → S.to_come spans list → AreInOrder list
         → IsPathComparison table.now (λ version. spans_by_path version (P.bytes_of paths.now) list) compared) }
 {
@@ -52,10 +52,10 @@ pub fn compare_by_path<S: SpanSource + Drop, P: Paths>(
         return Ok(ComparedByPath::Fault(TableFault::Header));
     };
     let Ok(mut comparison) = PathComparison::new(alloc, spans) else {
-        return Err(TableStop::Memory);
+        return Err(AllocError);
     };
     let Ok(at) = comparison.pass_lines(alloc, paths, version, table) else {
-        return Err(TableStop::Memory);
+        return Err(AllocError);
     };
     compare_after(alloc, &table[at..], version, comparison, paths)
 }
@@ -63,7 +63,7 @@ pub fn compare_by_path<S: SpanSource + Drop, P: Paths>(
 // The version whose columns record 0 names, if it is a header. The reader of records is large, and the stack is short: it has
 // a function of its own, so that no caller holds it beside its own values.
 #[inline(never)]
-fn header_of(alloc: Global, table: &[u8]) -> Result<Option<PathVersion>, TableStop>
+fn header_of(alloc: Global, table: &[u8]) -> Result<Option<PathVersion>, AllocError>
     ensures { IfOk result (λ found. MatchOption found ((v : PathVersion) → BeginsWith table.now (path_column_names v ∷ []) → ⊥)
         (λ v. BeginsWith table.now (path_column_names v ∷ []))) }
 {
@@ -81,7 +81,7 @@ fn compare_after<S: SpanSource + Drop, P: Paths>(
     version: PathVersion,
     comparison: PathComparison<S>,
     paths: &P,
-) -> Result<ComparedByPath, TableStop>
+) -> Result<ComparedByPath, AllocError>
     requires known { AreKnownOf (P.bytes_of paths.now) comparison.known.slots.items }
     requires past { (bytes : List ℕ) × (records : List Fields) × IsAfter bytes text.now records }
     requires few { comparison.count + length text.now < 2 ^ 64 + 1 }
@@ -103,7 +103,7 @@ fn compare_records<S: SpanSource + Drop, P: Paths>(
     version: PathVersion,
     mut comparison: PathComparison<S>,
     paths: &P,
-) -> Result<ComparedByPath, TableStop>
+) -> Result<ComparedByPath, AllocError>
     requires known { AreKnownOf (P.bytes_of paths.now) comparison.known.slots.items }
     requires read { (text : List ℕ) × (first : Fields) × HasRead reader.old text (first ∷ [])
         × (comparison.count + length text < 2 ^ 64 + 1) }
@@ -114,7 +114,7 @@ fn compare_records<S: SpanSource + Drop, P: Paths>(
 {
     while read_next(reader, row)? {
         let Ok(found) = comparison.take_record(alloc, paths, version, row) else {
-            return Err(TableStop::Memory);
+            return Err(AllocError);
         };
         if let Some(fault) = found {
             return Ok(ComparedByPath::Fault(fault));
@@ -123,7 +123,7 @@ fn compare_records<S: SpanSource + Drop, P: Paths>(
     match comparison.finish(alloc, paths, version) {
         Ok(Some(difference)) => Ok(ComparedByPath::Differs(difference)),
         Ok(None) => Ok(ComparedByPath::Same),
-        Err(_) => Err(TableStop::Memory),
+        Err(_) => Err(AllocError),
     }
 }
 

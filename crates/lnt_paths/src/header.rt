@@ -11,13 +11,14 @@ ghost use Rattle.lnt_paths.specs.Reading.{place_names};
 
 use crate::version::PathVersion;
 use csv::{ByteRecord, Reader};
-use lnt_records::{TableStop, is_field, read_first};
+use lnt_records::{is_field, read_first};
+use std::alloc::AllocError;
 
 // Reads record 0 into `row`, and gives the version whose columns it names, if it is a header. The reader has read nothing.
 pub(crate) fn read_header(
     reader: &mut Reader<&[u8]>,
     row: &mut ByteRecord,
-) -> Result<Option<PathVersion>, TableStop>
+) -> Result<Option<PathVersion>, AllocError>
     requires { (bytes : List ℕ) × HasRead reader.old bytes [] }
     ensures { IfOk result (λ found. (bytes : List ℕ) → HasRead reader.old bytes []
         → MatchOption found ((v : PathVersion) → BeginsWith bytes (path_column_names v ∷ []) → ⊥)

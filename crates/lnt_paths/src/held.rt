@@ -15,7 +15,7 @@ use crate::header::read_header;
 use crate::record::record_after;
 use crate::version::PathVersion;
 use csv::{ByteRecord, Reader};
-use lnt_records::{TableFault, TableStop, read_next, reader_of};
+use lnt_records::{TableFault, read_next, reader_of};
 use std::alloc::{AllocError, Global};
 
 /// A span of a table by path, held with its answer.
@@ -43,7 +43,7 @@ pub enum HeldTable {
 /// and the first faulty record is told, as `compare_by_path` tells it. All records are read by `csv`. The spans that are held
 /// stand in order. The one error is that memory ran out; then nothing is held.
 #[inline(never)]
-pub fn hold_table(alloc: Global, table: &[u8]) -> Result<HeldTable, TableStop>
+pub fn hold_table(alloc: Global, table: &[u8]) -> Result<HeldTable, AllocError>
     ensures held { IfOk result (λ held. IsHeld table.now held) }
     ensures in_order { IfOk result HoldsInOrder }
 {
@@ -58,7 +58,7 @@ fn hold_read(
     alloc: Global,
     reader: &mut Reader<&[u8]>,
     row: &mut ByteRecord,
-) -> Result<HeldTable, TableStop>
+) -> Result<HeldTable, AllocError>
     requires { (bytes : List ℕ) × HasRead reader.old bytes [] }
     ensures { IfOk result (λ held. (bytes : List ℕ) → HasRead reader.old bytes [] → IsHeld bytes held) }
 {
@@ -74,14 +74,14 @@ fn hold_records(
     reader: &mut Reader<&[u8]>,
     row: &mut ByteRecord,
     version: PathVersion,
-) -> Result<HeldTable, TableStop>
+) -> Result<HeldTable, AllocError>
     requires { (text : List ℕ) × HasRead reader.old text (path_column_names version ∷ []) }
     ensures { IfOk result (λ held. (text : List ℕ) → HasRead reader.old text (path_column_names version ∷ []) → IsHeld text held) }
 {
     let mut spans = Vec::new(alloc);
     while read_next(reader, row)? {
         let Ok(found) = hold_record(alloc, &mut spans, version, row) else {
-            return Err(TableStop::Memory);
+            return Err(AllocError);
         };
         if let Some(fault) = found {
             return Ok(HeldTable::Fault(fault));

@@ -17,7 +17,7 @@ use Rattle.lnt_spans.specs.declared.listed.SpanList.{SpanList}
 use Rattle.lnt_records.specs.declared.differing.Differing.{Differing}
 use Rattle.lnt_records.specs.declared.differing.Differing.TheVariants.{Fault, Table}
 use Rattle.lnt_records.specs.declared.fault.TableFault.TheVariants as fault
-use Rattle.lnt_records.specs.declared.fault.TableStop.{TableStop}
+use Rattle.std.specs.declared.alloc.AllocError.{AllocError}
 use Rattle.lnt_records.specs.declared.gather.Gathered.{Gathered}
 use Rattle.lnt_records.specs.declared.remaining.Remaining.{Remaining}
 use Rattle.lnt_records.specs.Differing.{GoesOn, IsDiffering, IsGathered, IsStarted}
@@ -148,7 +148,7 @@ order_alone table rest o = subst AreInOrder (sym (append-nil table)) (front_in_o
 
 -- what is gathered after the records of some spans
 pub gathered_is : {S : Type 0} (to_come : S → List Span → Type 0) (comparison : Comparison S) (list table : List Span)
-    (passed : List Fields) (bytes : List ℕ) (version : Version) (text : List ℕ) (gathered : Result Gathered TableStop)
+    (passed : List Fields) (bytes : List ℕ) (version : Version) (text : List ℕ) (gathered : Result Gathered AllocError)
     → (j : Judges to_come comparison list (column_names version ∷ passed)) → j.table ≡ table → IsCut version text bytes passed
     → IfOk gathered (λ it. (list : List Span) (passed : List Fields) (bytes : List ℕ)
     → (j : Judges to_come comparison list (column_names version ∷ passed)) → IsCut version text bytes passed

@@ -9,12 +9,12 @@ ghost use Rattle.lnt_records.specs.Passing.{IsCut};
 ghost use Rattle.lnt_records.specs.Progress.{HasRead, Judges};
 ghost use Rattle.lnt_records.specs.Table.{BeginsWith, Fields, IsSpanRecord, IsTable, column_names};
 
-use crate::fault::{TableFault, TableStop};
+use crate::fault::TableFault;
 use crate::reading::{read_header, read_next, reader_of};
 use crate::record::{RecordFault, span_of};
 use csv::{ByteRecord, Reader};
 use lnt_spans::{Difference, Merge, Span, SpanSlice, SpanSource, Version};
-use std::alloc::Global;
+use std::alloc::{AllocError, Global};
 
 /// What a comparison found.
 #[derive(Clone, Copy, Debug, PartialEq, Eq)]
@@ -35,7 +35,7 @@ pub enum Compared {
 /// records are well formed, and at no lower position do the answers differ; both are told in the table's version.
 ///
 /// The caller sees to it that the spans are in order and none is empty. The one error is that memory ran out.
-pub fn compare(alloc: Global, table: &[u8], spans: &[Span]) -> Result<Compared, TableStop>
+pub fn compare(alloc: Global, table: &[u8], spans: &[Span]) -> Result<Compared, AllocError>
     requires { AreInOrder spans.now }
     ensures { IfOk result (λ compared. IsComparison table.now spans.now compared) }
 {
@@ -47,7 +47,7 @@ pub(crate) fn compare_records<S: SpanSource + Drop>(
     alloc: Global,
     table: &[u8],
     spans: S,
-) -> Result<Compared, TableStop>
+) -> Result<Compared, AllocError>
     requires { (list : List Span) × S.to_come spans list × AreInOrder list }
     ensures { IfOk result (λ compared. (list : List Span) → S.to_come spans list → AreInOrder list → IsComparison table.now list compared) }
 {
@@ -59,7 +59,7 @@ pub(crate) fn compare_records<S: SpanSource + Drop>(
 
 // The version whose columns record 0 names, if it is a header. It holds a reader of records, which no caller does beside it.
 #[inline(never)]
-pub(crate) fn header_of(alloc: Global, table: &[u8]) -> Result<Option<Version>, TableStop>
+pub(crate) fn header_of(alloc: Global, table: &[u8]) -> Result<Option<Version>, AllocError>
     ensures { IfOk result (λ found. MatchOption found ((v : Version) → BeginsWith table.now (column_names v ∷ []) → ⊥)
         (λ v. BeginsWith table.now (column_names v ∷ []))) }
 {
@@ -76,7 +76,7 @@ pub(crate) fn compare_after<S: SpanSource + Drop>(
     merge: Merge<S>,
     version: Version,
     count: u64,
-) -> Result<Compared, TableStop>
+) -> Result<Compared, AllocError>
     requires begins { BeginsWith text.now (column_names version ∷ []) }
     requires few { count + length text.now < 2 ^ 64 + 1 }
     requires judged { (list : List Span) × (passed : List Fields)
@@ -102,7 +102,7 @@ fn compare_rest<S: SpanSource + Drop>(
     reader: &mut Reader<&[u8]>,
     row: &mut ByteRecord,
     mut comparison: Comparison<S>,
-) -> Result<Compared, TableStop>
+) -> Result<Compared, AllocError>
     requires read { (text : List ℕ) × HasRead reader.old text (column_names comparison.version ∷ [])
         × (comparison.count + length text < 2 ^ 64 + 1) }
     requires judged { (list : List Span) × (passed : List Fields)

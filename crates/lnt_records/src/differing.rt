@@ -9,7 +9,7 @@ ghost use Rattle.lnt_records.specs.Differing.{GoesOn, IsDiffering, IsDifferingRe
 ghost use Rattle.lnt_records.specs.Table.{BeginsWith, column_names};
 
 use crate::comparison::header_of;
-use crate::fault::{TableFault, TableStop, told};
+use crate::fault::{TableFault, told};
 use crate::gather::{Gathered, gather_after};
 use crate::header::header_line;
 use crate::lines::pass_header;
@@ -18,7 +18,7 @@ use crate::remaining::Remaining;
 use crate::window::Window;
 use lnt_spans::{Differences, Merge, Position, SpanList, SpanSlice, SpanSource, Version};
 use lnt_wire::{Source, Stop};
-use std::alloc::Global;
+use std::alloc::{AllocError, Global};
 
 /// What a comparison at every position found.
 #[derive(Drop)]
@@ -130,7 +130,7 @@ fn differ_taken<S: SpanSource + Drop>(
             Ok(DifferingRead::Differing(differing))
         }
         Ok(None) => Ok(DifferingRead::Other(text)),
-        Err(TableStop::Memory) => Err(Stop::Memory),
+        Err(AllocError) => Err(Stop::Memory),
     }
 }
 
@@ -140,7 +140,7 @@ fn differ_text<S: SpanSource + Drop>(
     text: &[u8],
     spans: S,
     version: Version,
-) -> Result<Differing<S>, TableStop>
+) -> Result<Differing<S>, AllocError>
     requires begins { BeginsWith text.now (column_names version ∷ []) }
     requires spans { (list : List Span) × S.to_come spans list × AreInOrder list }
     ensures started { IfOk result (λ differing. IsStarted ⟦<Remaining<S> as SpanSource>⟧.to_come ⟦<SpanList as SpanSource>⟧.to_come
@@ -163,11 +163,11 @@ fn differ_text<S: SpanSource + Drop>(
 
 // What was gathered of a table's records, compared with the spans that come after those that both begin with.
 fn differ_after<S: SpanSource + Drop>(
-    gathered: Result<Gathered, TableStop>,
+    gathered: Result<Gathered, AllocError>,
     spans: Remaining<S>,
     version: Version,
     at: Position,
-) -> Result<Differing<S>, TableStop>
+) -> Result<Differing<S>, AllocError>
     ensures { IfOk result (λ differing. (bytes : List ℕ) (section : Place → Option Answer) (table rest : List Span)
         → IfOk gathered (IsGathered bytes version table) → GoesOn version section table rest at
         → ⟦<Remaining<S> as SpanSource>⟧.to_come spans rest

@@ -17,13 +17,6 @@ pub enum TableFault {
     Order(u64),
 }
 
-/// Why a table wasn't compared.
-#[derive(Clone, Copy, Debug, PartialEq, Eq)]
-pub enum TableStop {
-    /// Memory ran out.
-    Memory,
-}
-
 /// Why a table wasn't written, or not whole.
 #[derive(Clone, Copy, Debug, PartialEq, Eq)]
 pub enum WriteStop {
@@ -44,13 +37,13 @@ impl From<AllocError> for WriteStop {
 }
 
 // What a call tells of bytes in memory, as one tells it that takes them of a source.
-pub(crate) fn told<C>(found: Result<C, TableStop>) -> Result<C, Stop>
+pub(crate) fn told<C>(found: Result<C, AllocError>) -> Result<C, Stop>
     ensures ok { IfOk result (λ it. found ≡ Ok it) }
     ensures not_read { IsErrOf result Stop.Read → ⊥ }
     ensures not_long { IsErrOf result Stop.TooLong → ⊥ }
 {
     match found {
         Ok(found) => Ok(found),
-        Err(TableStop::Memory) => Err(Stop::Memory),
+        Err(AllocError) => Err(Stop::Memory),
     }
 }

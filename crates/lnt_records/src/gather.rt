@@ -8,11 +8,11 @@ ghost use Rattle.lnt_records.specs.Progress.{HasRead, Judges};
 ghost use Rattle.lnt_records.specs.Table.{BeginsWith, Fields, column_names};
 
 use crate::comparison::Comparison;
-use crate::fault::{TableFault, TableStop};
+use crate::fault::TableFault;
 use crate::reading::{read_next, reader_of};
 use csv::{ByteRecord, Reader};
 use lnt_spans::{Merge, Span, SpanSource, Version};
-use std::alloc::Global;
+use std::alloc::{AllocError, Global};
 
 // What the records of a table are.
 #[derive(Drop)]
@@ -32,7 +32,7 @@ pub(crate) fn gather_after<S: SpanSource + Drop>(
     merge: Merge<S>,
     version: Version,
     count: u64,
-) -> Result<Gathered, TableStop>
+) -> Result<Gathered, AllocError>
     requires begins { BeginsWith text.now (column_names version ∷ []) }
     requires few { count + length text.now < 2 ^ 64 + 1 }
     requires judged { (list : List Span) × (passed : List Fields)
@@ -58,7 +58,7 @@ fn gather_rest<S: SpanSource + Drop>(
     reader: &mut Reader<&[u8]>,
     row: &mut ByteRecord,
     comparison: &mut Comparison<S>,
-) -> Result<Gathered, TableStop>
+) -> Result<Gathered, AllocError>
     requires read { (text : List ℕ) × HasRead reader.old text (column_names comparison.old.version ∷ [])
         × (comparison.old.count + length text < 2 ^ 64 + 1) }
     requires judged { (list : List Span) × (passed : List Fields)
@@ -75,7 +75,7 @@ fn gather_rest<S: SpanSource + Drop>(
             Err(fault) => return Ok(Gathered::Fault(fault)),
         };
         let Ok(()) = spans.push(span) else {
-            return Err(TableStop::Memory);
+            return Err(AllocError);
         };
     }
     Ok(Gathered::Spans(spans))

@@ -30,7 +30,7 @@ pub use canonical::write_canonical;
 pub use column::{field, is_field};
 pub use comparison::{Compared, compare};
 pub use differing::{Differing, DifferingRead, compare_all, differ_or_take};
-pub use fault::{TableFault, TableStop, WriteStop};
+pub use fault::{TableFault, WriteStop};
 pub use front::{address_before, decimal_before, past};
 pub use reading::{read_first, read_next, reader_of};
 pub use remaining::Remaining;

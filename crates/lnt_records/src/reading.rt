@@ -6,11 +6,10 @@ ghost use Rattle.lnt_spans.specs.declared.answer.Version.{Version};
 ghost use Rattle.lnt_records.specs.Progress.{HasRead, bytes_left, known_length};
 ghost use Rattle.lnt_records.specs.Table.{BeginsWith, Fields, RecordsOf, column_names};
 
-use crate::fault::TableStop;
 use crate::header::version_of;
 use csv::{ByteRecord, Reader, ReaderBuilder};
 use lnt_spans::Version;
-use std::alloc::Global;
+use std::alloc::{AllocError, Global};
 
 /// A reader of the records of some bytes: no record is a header of the reader's own, and each may have any number of
 /// fields.
@@ -24,22 +23,22 @@ pub fn reader_of<'a>(alloc: Global, bytes: &'a [u8]) -> Reader<&'a [u8]>
 }
 
 /// The next record into `row`, and whether there was one. The reader is one that `reader_of` gave. An error of the reader
-/// over bytes in memory is answered as `Memory`.
-pub fn read_next(reader: &mut Reader<&[u8]>, row: &mut ByteRecord) -> Result<bool, TableStop>
+/// over bytes in memory is answered as want of memory.
+pub fn read_next(reader: &mut Reader<&[u8]>, row: &mut ByteRecord) -> Result<bool, AllocError>
     requires { (bytes : List ℕ) × (records : List Fields) × HasRead reader.old bytes records }
     ensures read { IfOk result (λ found. (bytes : List ℕ) (records : List Fields) → HasRead reader.old bytes records
         → MatchBool found (HasRead reader.new bytes (records ++ fields_of row.new ∷ [])) (RecordsOf bytes records)) }
     ensures less { IfOk result (λ found. found ≡ true → known_length (bytes_left reader.new) < known_length (bytes_left reader.old)) }
 {
     let Ok(found) = reader.read_byte_record(row) else {
-        return Err(TableStop::Memory);
+        return Err(AllocError);
     };
     Ok(found)
 }
 
 /// Record 0 into `row`, and whether there is one. The reader is one that `reader_of` gave, and no record was read of it. The
-/// bytes begin with no other record than that. An error of the reader over bytes in memory is answered as `Memory`.
-pub fn read_first(reader: &mut Reader<&[u8]>, row: &mut ByteRecord) -> Result<bool, TableStop>
+/// bytes begin with no other record than that. An error of the reader over bytes in memory is answered as want of memory.
+pub fn read_first(reader: &mut Reader<&[u8]>, row: &mut ByteRecord) -> Result<bool, AllocError>
     requires { (bytes : List ℕ) × HasRead reader.old bytes [] }
     ensures { IfOk result (λ found. (bytes : List ℕ) → HasRead reader.old bytes [] → MatchBool found
         (HasRead reader.new bytes (fields_of row.new ∷ []) × ((other : Fields) → BeginsWith bytes (other ∷ []) → other ≡ fields_of row.new))
@@ -52,7 +51,7 @@ pub fn read_first(reader: &mut Reader<&[u8]>, row: &mut ByteRecord) -> Result<bo
 pub(crate) fn read_header(
     reader: &mut Reader<&[u8]>,
     row: &mut ByteRecord,
-) -> Result<Option<Version>, TableStop>
+) -> Result<Option<Version>, AllocError>
     requires { (bytes : List ℕ) × HasRead reader.old bytes [] }
     ensures { IfOk result (λ found. (bytes : List ℕ) → HasRead reader.old bytes []
         → MatchOption found ((v : Version) → BeginsWith bytes (column_names v ∷ []) → ⊥)

@@ -6,14 +6,14 @@ ghost use Rattle.lnt_wire.specs.Pulling.{HasMoreThan};
 ghost use Rattle.lnt_records.specs.Faults.{IsComparison, IsTableRead};
 
 use crate::comparison::{Compared, compare_after, compare_records, header_of};
-use crate::fault::{TableFault, TableStop, told};
+use crate::fault::{TableFault, told};
 use crate::header::header_line;
 use crate::lines::{pass_header, push_lines};
 use crate::passing::pass_spans;
 use crate::window::Window;
 use lnt_spans::{Merge, SpanSource};
 use lnt_wire::{Source, Stop};
-use std::alloc::Global;
+use std::alloc::{AllocError, Global};
 
 /// Compares the table that a source has to give with the spans of a section, as both come.
 ///
@@ -109,6 +109,6 @@ fn compare_taken<S: SpanSource + Drop>(
             Ok(TableRead::Compared(compared))
         }
         Ok(None) => Ok(TableRead::Other(text)),
-        Err(TableStop::Memory) => Err(Stop::Memory),
+        Err(AllocError) => Err(Stop::Memory),
     }
 }

@@ -11,9 +11,9 @@ use crate::paths::IndexPaths;
 use crate::verdict::{TableNo, Verdict, verdict_of};
 use lnt_lines::{Index, JudgedIndex, Options, index_section};
 use lnt_paths::{ComparedByPath, compare_by_path};
-use lnt_records::{TableRead, TableStop, compare_or_take};
+use lnt_records::{TableRead, compare_or_take};
 use lnt_wire::{Source, Stop, Strings};
-use std::alloc::Global;
+use std::alloc::{AllocError, Global};
 
 /// What a check of a table of any version answers.
 #[derive(Drop)]
@@ -81,6 +81,6 @@ fn check_index<T: Source>(alloc: Global, table: &mut T, index: &Index<'_>) -> Re
     let paths = IndexPaths { index };
     match compare_by_path(alloc, &text, index.spans(), &paths) {
         Ok(compared) => Ok(Checked::ByPath(compared)),
-        Err(TableStop::Memory) => Err(Stop::Memory),
+        Err(AllocError) => Err(Stop::Memory),
     }
 }

@@ -30,10 +30,9 @@ impl<'i, 'a> Paths for IndexPaths<'i, 'a> {
     ghost bytes_of = { λ paths unit file. path_at paths.index.now unit file };
 
     fn path_of(&self, alloc: Global, unit: u64, file: u64) -> Result<Vec<u8>, AllocError> {
-        match self.index.path_of(alloc, unit, file) {
-            Ok(Some(path)) => Ok(path),
-            Ok(None) => Ok(Vec::new(alloc)),
-            Err(_) => Err(AllocError),
+        match self.index.path_of(alloc, unit, file)? {
+            Some(path) => Ok(path),
+            None => Ok(Vec::new(alloc)),
         }
     }
 }

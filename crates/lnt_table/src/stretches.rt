@@ -15,10 +15,10 @@ ghost use Rattle.lnt_unit.specs.declared.unit.Parts.{Parts};
 
 use lnt_lines::{Index, Spans};
 use lnt_paths::{DifferencesByPath, HeldSpan, HeldTable, PathVersion, hold_table};
-use lnt_records::{Differing, DifferingRead, Remaining, TableStop, compare_all, differ_or_take};
+use lnt_records::{Differing, DifferingRead, Remaining, compare_all, differ_or_take};
 use lnt_spans::{SpanList, SpanSource};
 use lnt_wire::{Source, Stop};
-use std::alloc::Global;
+use std::alloc::{AllocError, Global};
 
 /// Compares the address table that a source has to give with the units that an index is of, at every position.
 ///
@@ -87,7 +87,7 @@ pub fn differences_any<'i, T: Source>(
     };
     match hold_table(alloc, &text) {
         Ok(held) => Ok(AnyDiffering::ByPath(held)),
-        Err(TableStop::Memory) => Err(Stop::Memory),
+        Err(AllocError) => Err(Stop::Memory),
     }
 }
 
