@@ -1,3 +1,4 @@
+pub mod DelimitedLemmas
 pub mod DigitLemmas
 pub mod OneTextLemmas
 pub mod PutLemmas

@@ -1,2 +1,3 @@
+pub mod Delimited
 pub mod Digits
 pub mod Laws

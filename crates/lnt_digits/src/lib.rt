@@ -5,11 +5,13 @@
 //! text.
 #![tactic(auto)]
 
+mod delimited;
 pub mod laws;
 mod put;
 mod radix;
 mod read;
 
+pub use delimited::{address_until, decimal_until, past};
 pub use put::{address_before, decimal_before, put_address, put_decimal};
-pub use radix::{Radix, decimal_value, is_hexadecimal, letter_or_digit_value};
+pub use radix::Radix;
 pub use read::{address, decimal};

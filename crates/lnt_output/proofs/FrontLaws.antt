@@ -1,4 +1,4 @@
--- Fronts of what is written, which the proofs of the crates above cite.
+-- Prefixes of what is written: laws that the proofs of the crates above cite.
 use Rattle.std.proofs.Common.{◌≡◌, ◌∙◌, ℕ, ◌+◌, ◌<◌, List, [], ◌∷◌, ◌++◌, append-nil, append_assoc, length, get_or, take, drop}
 use Rattle.std.proofs.Common.{Option, None, Some, Result, Ok, Err, OnErr, ap, subst, sym, take-append-drop, refl}
 use Rattle.std.specs.List.{flat_map}
@@ -8,7 +8,7 @@ use Rattle.std.proofs.lemmas.List.{take_more}
 use Rattle.std.proofs.lemmas.List.Concat.{flat_map-append}
 use Rattle.lnt_output.specs.Fronts.{AppendsFront}
 
--- nothing was written
+-- nothing was written: the empty prefix
 pub front_none : (old : Option (List ℕ)) (bytes : List ℕ) → AppendsFront old old bytes
 front_none old bytes = record { front = []; rest = bytes; joined = refl; gained = Appends-nil old }
 
@@ -20,11 +20,11 @@ Appends_kept (Some xs) (Some ys) k = k ∙ sym (append-nil xs)
 pub front_kept : (old new : Option (List ℕ)) (bytes : List ℕ) → Keeps old new → AppendsFront old new bytes
 front_kept old new bytes k = record { front = []; rest = bytes; joined = refl; gained = Appends_kept old new k }
 
--- all of it was
+-- everything was written: the whole prefix
 pub front_all : (old new : Option (List ℕ)) (bytes : List ℕ) → Appends old new bytes → AppendsFront old new bytes
 front_all old new bytes a = record { front = bytes; rest = []; joined = append-nil bytes; gained = a }
 
--- a front is one too of what has more at its end
+-- a prefix stays one when more bytes follow
 pub front_before : (old new : Option (List ℕ)) (bytes more : List ℕ) → AppendsFront old new bytes → AppendsFront old new (bytes ++ more)
 front_before old new bytes more f = record {
   front = f.front;
@@ -33,7 +33,7 @@ front_before old new bytes more f = record {
   gained = f.gained;
 }
 
--- some bytes, and then a front of others
+-- some bytes, and then a prefix of others
 pub front_after : (old now new : Option (List ℕ)) (first second : List ℕ) → Appends old now first → AppendsFront now new second
     → AppendsFront old new (first ++ second)
 front_after old now new first second a f = record {
@@ -43,16 +43,16 @@ front_after old now new first second a f = record {
   gained = Appends-trans old now new first f.front a f.gained;
 }
 
--- a front of bytes that were written where the writer had kept what it held
+-- a prefix of the bytes, where the writer first kept what it held
 pub front_since : (old now new : Option (List ℕ)) (bytes : List ℕ) → Keeps old now → AppendsFront now new bytes → AppendsFront old new bytes
 front_since old now new bytes k f = front_after old now new [] bytes (Appends_kept old now k) f
 
--- the same bytes, said otherwise
+-- replacing the bytes by equal ones
 pub front_same : (old new : Option (List ℕ)) (bytes other : List ℕ) → bytes ≡ other → AppendsFront old new bytes
     → AppendsFront old new other
 front_same old new bytes other same f = subst (AppendsFront old new) same f
 
--- a head and the texts of the first items, and then a front of the next item's text
+-- a header and the texts of the first items, and then a prefix of the next item's text
 pub front_in_items : {X : Type 0} (f : X → List ℕ) (head : List ℕ) (items : List X) (i : ℕ) (d : X) (a b c : Option (List ℕ))
     → i < length items
     → Appends a b (head ++ flat_map f (take i items)) → AppendsFront b c (f (get_or items i d))
@@ -72,12 +72,12 @@ front_in_items f head items i d a b c lt before here =
     ∙ ap (λ (l : List ℕ). head ++ l) (sym all) in
     front_same a c _ _ joined (front_before a c ((head ++ texts) ++ now) more (front_after a b c (head ++ texts) now before here))
 
--- what is appended to known bytes
+-- appending to known bytes gives what `append_known` says
 pub appends_known : (old : Option (List ℕ)) (bytes : List ℕ) → Appends old (append_known old bytes) bytes
 appends_known None bytes = tt
 appends_known (Some xs) bytes = refl
 
--- what is so anyway is so where work stops
+-- what holds in any case holds on an error too
 pub so_stopped : {T E : Type 0} (result : Result T E) (IsSo : Type 0) → IsSo → OnErr result IsSo
 so_stopped (Ok value) IsSo so = tt
 so_stopped (Err fault) IsSo so = so

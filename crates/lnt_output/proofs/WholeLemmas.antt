@@ -6,7 +6,7 @@ use Rattle.std.specs.Io.KnownBytes.{Appends, Keeps}
 use Rattle.std.proofs.KnownBytes.{Appends-nil, Appends-trans}
 use Rattle.lnt_output.specs.Fronts.{AppendsFront}
 
--- All of the bytes but the rest were written.
+-- All of the bytes but `rest` were written.
 pub record HasWritten (old now : Option (List ℕ)) (bytes rest : List ℕ) : Type 0 where
   pub front : List ℕ
   pub joined : front ++ rest ≡ bytes
@@ -15,7 +15,7 @@ pub record HasWritten (old now : Option (List ℕ)) (bytes rest : List ℕ) : Ty
 pub none_written : (old : Option (List ℕ)) (bytes : List ℕ) → HasWritten old old bytes bytes
 none_written old bytes = record { front = []; joined = refl; gained = Appends-nil old }
 
--- what is left of a slice from a place on
+-- the part of a slice from an index on
 pub left_from : (rest : List ℕ) (count : ℕ) → drop count rest ≡ take (length rest - count) (drop count rest)
 left_from rest count = sym (take_all (length rest - count) (drop count rest) (omega (arith, length-drop count rest)))
 

@@ -1,17 +1,17 @@
--- What a writer holds that was stopped.
+-- What a writer holds after writing stopped.
 --     old, new    the known bytes that it holds before and afterwards
 use Rattle.std.specs.Prelude.{◌≡◌, ℕ, List, ◌++◌, Option}
 use Rattle.std.specs.Io.KnownBytes.{Appends, append_known}
 
--- known bytes grow by a front of these
+-- The known bytes grow by a prefix of these bytes.
 pub record AppendsFront (old new : Option (List ℕ)) (bytes : List ℕ) : Type 0 where
   pub front : List ℕ
   pub rest : List ℕ
   pub joined : front ++ rest ≡ bytes
   pub gained : Appends old new front
 
--- Known bytes grow by a front of some bytes, with all of which the work might have ended so.
---     Ends    what a writer holds afterwards, and how the work ends
+-- The known bytes grow by a prefix of bytes that a complete run might have written.
+--     Ends    relates what the writer holds after a complete run to how the run ends
 pub record HasBegun {Ending : Type 0} (Ends : Option (List ℕ) → Ending → Type 0) (old new : Option (List ℕ)) : Type 0 where
   pub whole : List ℕ
   pub ending : Ending

@@ -1,14 +1,14 @@
-//! Bytes written to a writer whole, or a front of them.
+//! Writes bytes whole, or a prefix of them.
 ghost use Rattle.std.specs.Prelude.{OnErr, OnOk};
 ghost use Rattle.std.specs.Io.KnownBytes.{Appends};
 ghost use Rattle.lnt_output.specs.Fronts.{AppendsFront};
 
 use std::io::{self, ErrorKind, Write};
 
-/// Writes all of these bytes, in their order, as `write_all` does.
+/// Writes all of these bytes, in order, as `write_all` does.
 ///
-/// Where the writer fails, or takes nothing, it has gained a front of them, and nothing else. A write that was interrupted is
-/// made again.
+/// On an error, because the writer failed or took nothing, it has gained a prefix of the bytes, and nothing else. A write
+/// that was interrupted is tried again.
 pub fn write_whole<W: Write>(out: &mut W, bytes: &[u8]) -> io::Result<()>
     ensures whole { OnOk result (Appends (W.contents out.old) (W.contents out.new) bytes.now) }
     ensures front { OnErr result (AppendsFront (W.contents out.old) (W.contents out.new) bytes.now) }

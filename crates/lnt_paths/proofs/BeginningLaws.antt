@@ -8,7 +8,7 @@ use Rattle.lnt_paths.specs.PathFaults.{HasFaultyPathRecord}
 use Rattle.lnt_paths.specs.PathSpans.{PathSpan}
 use Rattle.lnt_paths.specs.PathTables.{IsPathTable, IsPathTableOf, path_column_names}
 
--- A table begins with the names of its version's columns.
+-- A table begins with the header of its version.
 pub path_table_begins : (bytes : List ℕ) (version : PathVersion) (spans : List PathSpan) → IsPathTableOf version bytes spans
     → BeginsWith bytes (path_column_names version ∷ [])
 path_table_begins bytes version spans table = by table.0 table.1 table.2
@@ -18,7 +18,7 @@ path_table_begins bytes version spans table = by table.0 table.1 table.2
     by [] r t = absurd t
     by (first ∷ records) r t = subst (λ (f : Fields). BeginsWith bytes (f ∷ [])) t.0 (records_begin bytes first records r)
 
--- So do bytes with a faulty record.
+-- Bytes with a faulty record begin with a header too.
 pub faulty_path_begins : (bytes : List ℕ) (told : TableFault) → (h : HasFaultyPathRecord bytes told)
     → BeginsWith bytes (path_column_names h.version ∷ [])
 faulty_path_begins bytes told h = by h.records h.begins h.table

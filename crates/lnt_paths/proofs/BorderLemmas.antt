@@ -1,4 +1,4 @@
--- Where joined spans begin and end inside of an instruction.
+-- Joined spans that begin or end inside an instruction.
 use Rattle.std.proofs.Common.{◌≡◌, ◌≢◌, suc, List, [], ◌∷◌, ◌++◌, map, inl, inr, Some, sym, subst, arith}
 use Rattle.std.specs.List.{AllByRecursion, Contains}
 use Rattle.lnt_spans.specs.declared.answer.Answer.{Answer}

@@ -1,4 +1,4 @@
--- The records of a table by path, compared with a section one after another.
+-- The records of a table by path are compared with a section one after another.
 use Rattle.std.proofs.Common.{◌≡◌, ℕ, ◌+◌, ◌<◌, ◌≤◌, List, [], ◌∷◌, ◌++◌, None, length, length-append, refl, subst, sym, arith, ⊎_elim}
 use Rattle.std.specs.List.{AllZip}
 use Rattle.std.proofs.lemmas.Bool.{cases_lt}
@@ -95,7 +95,7 @@ record_taken to_come tell version old new section records fields said j says le 
       merged = step section j.table j.merged;
     }
 
--- it begins too early, or holds nothing
+-- the record begins too early, or is empty
 pub order_fault : (version : PathVersion) (table : List PathSpan) (at number : ℕ) (fields : Fields) (said : PathRecord)
     → whole at ≡ path_end table → SaysPath IsAddress IsDecimal version fields said.low said.high (record_answer said)
     → (at ≤ said.low → said.low < said.high → ⊥) → IsFaultyRecord version table number fields (fault.Order number)
@@ -128,7 +128,7 @@ fault_told bytes version records fields table (fault.Order k) h t f =
 pub begins : (reader : BytesReader) (bytes : List ℕ) (records : List Fields) → HasRead reader bytes records → BeginsWith bytes records
 begins reader bytes records h = (reader_state reader, h.rest, h.reached)
 
--- the header alone
+-- after the header alone
 pub judges_none : {S : Type 0} (to_come : S → List Span → Type 0) (tell : Answer → PathAnswer) (version : PathVersion)
     (comparison : PathComparison S)
     (list : List Span) → IsLeft to_come comparison.section.next comparison.section.spans list → AreInOrder list

@@ -1,4 +1,4 @@
--- The spans of a table by path, held one after another.
+-- The spans of a table by path are held one after another.
 use Rattle.std.proofs.Common.{◌≡◌, ◌∙◌, ℕ, ◌+◌, ◌-◌, ◌<◌, ◌≤◌, List, [], ◌∷◌, ◌++◌, Some, ap, length, map, refl, suc}
 use Rattle.std.proofs.Common.{subst, sym, arith}
 use Rattle.std.proofs.lemmas.List.{length-map, map-append}
@@ -46,7 +46,7 @@ zip_length R [] (y ∷ ys) z = absurd z
 zip_length R (x ∷ xs) [] z = absurd z
 zip_length R (x ∷ xs) (y ∷ ys) z = ap suc (zip_length R xs ys z.1)
 
--- a record for each span, after the header
+-- the header, and as many records as spans
 pub table_length : (version : PathVersion) (records : List Fields) (spans : List HeldSpan)
     → IsPathTable version records (map held_span spans) → length records ≡ length spans + 1
 table_length version [] spans t = absurd t
@@ -75,7 +75,7 @@ record_held version records fields spans new said at answer table says end past 
     ∙ ap (λ (s : PathSpan). map held_span spans ++ s ∷ []) same in
     subst (λ (t : List PathSpan). IsPathTable version (records ++ fields ∷ []) t) (sym items) push
 
--- its number is told of a fault
+-- the record's number, counted by the spans held, is the one that its fault gives
 pub record_fault : (version : PathVersion) (records : List Fields) (fields : Fields) (spans : List HeldSpan) (number : ℕ)
     (fault : TableFault) → IsPathTable version records (map held_span spans) → number ≡ length spans + 1
     → IsFaultyRecord version (map held_span spans) number fields fault

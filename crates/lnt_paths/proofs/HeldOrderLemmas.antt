@@ -1,4 +1,4 @@
--- The spans of a table that is held stand in order.
+-- The spans of a table that is held are in order.
 use Rattle.std.proofs.Common.{ℕ, List, [], ◌∷◌}
 use Rattle.lnt_records.specs.Table.{Fields}
 use Rattle.lnt_paths.specs.declared.held.HeldTable.{HeldTable}

@@ -1,4 +1,4 @@
--- What joined spans are: in order, none of them goes on with the one before it, and told by path they answer as all do.
+-- What joined spans are: in order, none extends the one before it, and told by path they answer as all the spans do.
 use Rattle.std.proofs.Common.{◌≡◌, ◌∙◌, ◌⊎◌, ◌==◌, ℕ, Bool, true, false, cond, List, [], ◌∷◌, map, inl, inr, Option, Some, None, refl, sym}
 use Rattle.std.proofs.Common.{ap, subst, eq-eqb}
 use Rattle.std.specs.List.{find}
@@ -94,7 +94,7 @@ all_join tell (first ∷ rest) = joins_some tell first rest
 
 -- ---- the first of them
 
--- The list begins with a span that begins and answers like this one.
+-- The list begins with a span that begins where this one does, with the same answer.
 record BeginsLike (span : Span) (list : List Span) : Type 0 where
   first : Span
   more : List Span
@@ -168,7 +168,7 @@ grown_answer tell last next rest p goes o =
       ]
     ]
 
--- one more in front of lists that agree
+-- prepending a span to two lists that agree at p
 same_after : (tell : Answer → PathAnswer) (last : Span) (xs ys : List Span) (p : Position) → by_path tell xs p ≡ by_path tell ys p
     → by_path tell (last ∷ xs) p ≡ by_path tell (last ∷ ys) p
 same_after tell last xs ys p e =
@@ -192,7 +192,7 @@ joined_same tell last (next ∷ rest) joined p h (inr j) =
     ap (λ (list : List Span). by_path tell list p) j.2
     ∙ same_after tell last j.1 (next ∷ rest) p (joined_same tell next rest j.1 p h.2 j.3)
 
--- ---- none goes on with the one before it
+-- ---- none extends the one before it
 
 abbrev by_paths : (Answer → PathAnswer) → List Span → List PathSpan
 by_paths tell list = map (tell_span tell) list

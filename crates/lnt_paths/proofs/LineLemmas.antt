@@ -1,4 +1,4 @@
--- Lines that are written, and that `csv` reads them as a table.
+-- Lines that are written are read as a table by `csv`.
 use Rattle.std.proofs.Common.{◌≡◌, ◌∙◌, ℕ, ◌+◌, ◌-◌, ◌≤◌, false, List, [], ◌∷◌, ◌++◌, Option, Some, None, length, get_or, take, refl, sym}
 use Rattle.std.proofs.Common.{ap, subst, append_assoc, arith, length-append}
 use Rattle.std.proofs.lemmas.Bool.{ne_eqb}
@@ -70,7 +70,7 @@ quiet_by_recursion (c ∷ text) h = rw (h.0.needs_none, quiet_by_recursion text 
 pub plain_byte : (byte : ℕ) → needs_byte default_writer byte ≡ false → IsPlainByte byte
 plain_byte byte h = record { needs_none = h }
 
--- A path without such bytes stands as it is.
+-- A path without bytes that need quotes is written as it is.
 plain_field : (path : List ℕ) → All IsPlainByte path → path ++ 44 ∷ [] ≡ field_with_comma path
 plain_field path h =
     ap (λ (t : List ℕ). t ++ 44 ∷ []) (sym (quiet_text path (quiet_by_recursion path (recursion_from_All IsPlainByte path h))))
@@ -80,7 +80,7 @@ pub plain_made : (path made seen new : List ℕ) → made ≡ path → seen ≡ 
 plain_made path made seen new e f h more =
     more ∙ ap (λ (t : List ℕ). t ++ 44 ∷ []) e ∙ plain_field path (subst (All IsPlainByte) (f ∙ e) h)
 
--- a record of a path and an empty field, less its line feed
+-- a record of a path and an empty field is the field with a comma, and a line feed
 pair_text : (path : List ℕ) → row_text default_writer (path ∷ [] ∷ []) ≡ field_with_comma path ++ 10 ∷ []
 unfolding is_blank fields_text
 pair_text path = refl
@@ -97,7 +97,7 @@ field_made path text new n e l f =
 
 -- ---- a line
 
--- what stands in a line after the two addresses and the path
+-- the text of a line whose addresses and line number need no quotes
 pub line_fields : (low high path line : List ℕ) (more : Fields) → field_text default_writer low ≡ low
     → field_text default_writer high ≡ high
     → field_text default_writer line ≡ line
@@ -106,7 +106,7 @@ pub line_fields : (low high path line : List ℕ) (more : Fields) → field_text
 unfolding is_blank fields_text
 line_fields low high path line more a b c = rw (a, b, c) (simp append_assoc)
 
--- what the fields after the line say
+-- what the fields after the line in the file are
 abbrev EndSays : PathVersion → Fields → Answer → Type 0
 EndSays Three fields answer = (text : List ℕ) × (fields ≡ text ∷ []) × IsPlainDecimal text answer.column
 EndSays Four fields answer = fields ≡ []
@@ -141,7 +141,7 @@ line_join : (old b1 b2 b3 b4 b5 new low high file place more : List ℕ) → b1 
     → b5 ≡ b4 ++ (file ++ 44 ∷ []) → new ≡ b5 ++ (place ++ more) → new ≡ old ++ (low ++ (44 ∷ high ++ (44 ∷ file ++ (44 ∷ place ++ more))))
 line_join old b1 b2 b3 b4 b5 new low high file place more e1 e2 e3 e4 e5 e6 = rw (e6, e5, e4, e3, e2, e1) (simp append_assoc)
 
--- what a line's parts add, one after another
+-- the parts of a line, added one after another, are the line
 pub line_put : (version : PathVersion) (path : ℕ → ℕ → List ℕ) (span : Span) (old b1 b2 b3 b4 b5 new : List ℕ)
     → Puts IsPlainAddress span.low.address old b1 → b2 ≡ b1 ++ 44 ∷ []
     → Puts IsPlainAddress span.high.address b2 b3 → b4 ≡ b3 ++ 44 ∷ []
@@ -188,7 +188,7 @@ none_left : next_record default_config st.StartRecord [] [] [] ≡ None
 unfolding next_record
 none_left = refl
 
--- a table begins with no byte order mark
+-- a table doesn't begin with a byte order mark
 no_mark : (version : PathVersion) (records : List Fields)
     → strip_bom (records_text (path_column_names version ∷ records)) ≡ records_text (path_column_names version ∷ records)
 unfolding strip_bom is_blank fields_text
@@ -218,7 +218,7 @@ records_of_lines version records some =
     let all : AreSome (path_column_names version ∷ records) = (names_some version, some) in
     (st.StartRecord, [], rw (no_mark version records) (lines_read (path_column_names version ∷ records) all), none_left)
 
--- ---- what is plain is a record
+-- ---- plain records are records
 
 column_said : (version : PathVersion) (fields : Fields) (column : Option ℕ) → SaysColumn IsPlainDecimal version fields column
     → SaysColumn IsDecimal version fields column

@@ -1,4 +1,4 @@
--- A section's spans compared with one record of a table by path after another.
+-- A section's spans are compared with the records of a table by path, one after another.
 use Rattle.std.proofs.Common.{◌≡◌, ◌≢◌, ◌∙◌, ℕ, ◌<◌, ◌≤◌, true, false, List, [], ◌∷◌, ◌++◌, inl, inr, refl, ap, sym, subst, Some, None}
 use Rattle.std.proofs.Common.{Option, arith}
 use Rattle.std.specs.Option.{is_some, option_map}
@@ -27,7 +27,7 @@ use Rattle.lnt_paths.proofs.PathSpanLemmas.{answer_before, answer_after, answer_
 
 -- ---- the spans that are left
 
--- the first one, where there is one
+-- the next span is the first one left
 pub left_first : {S : Type 0} (to_come : S → List Span → Type 0) (next : Option Span) (spans : S) (rest : List Span) (span : Span)
     → next ≡ Some span → IsLeft to_come next spans rest → (more : List Span) × (rest ≡ span ∷ more) × to_come spans more
 left_first to_come next spans [] span e l = absurd (let h : None ≡ Some span = sym l ∙ e in cc h)
@@ -39,7 +39,7 @@ pub left_none : {S : Type 0} (to_come : S → List Span → Type 0) (next : Opti
 left_none to_come next spans [] e l = refl
 left_none to_come next spans (first ∷ more) e l = absurd (let h : None ≡ Some first = sym e ∙ l.0 in cc h)
 
--- before the first nothing is answered
+-- before the first span there is no answer
 none_from : (rest : List Span) (p at : Position) → AreInOrder rest → BeginFrom at rest → IsBelow p at → span_answer rest p ≡ None
 none_from [] p at o f h = refl
 none_from (span ∷ more) p at o f h = answering.none_before span more p o (below_at_most h f)
@@ -50,7 +50,7 @@ after_first span (next ∷ more) o = o.1
 
 -- ---- one stretch after another
 
--- up to where the spans begin, and the record
+-- both sides answer nothing below `to`, where neither the spans nor the record have begun
 pub passed_none : (tell : Answer → PathAnswer) (list : List Span) (said : PathSpan) (to : Position) (AreLeft : List Span → Type 0)
     → AreLeft list → AreInOrder list → BeginFrom to list → IsAtMost to said.low
     → ArePassed tell list (path_span_answer (said ∷ [])) to AreLeft
@@ -63,7 +63,7 @@ passed_none tell list said to AreLeft left order from le = record {
   same = λ p h. refl;
 }
 
--- the two answer differently where it goes on
+-- the two sides answer differently at this position
 pub differs_at : (tell : Answer → PathAnswer) (list : List Span) (by_table : Position → Option PathAnswer) (at : Position)
     (AreLeft : List Span → Type 0) (table section : Option PathAnswer) (passed : ArePassed tell list by_table at AreLeft)
     → section ≡ answer_told tell passed.rest at → table ≡ by_table at → table ≢ section
@@ -75,7 +75,7 @@ differs_at tell list by_table at AreLeft table section passed s t ne = record {
   before = passed.agree;
 }
 
--- what the span that is next answers from a position in it on
+-- the next span's answer from a position in it up to `end` is the table's
 record Answers (tell : Answer → PathAnswer) (by_table : Position → Option PathAnswer) (at end : Position) (span : Span) : Type 0 where
   within : IsAtMost end span.high
   from : IsAtMost span.low at
@@ -91,7 +91,7 @@ agree_more tell list by_table at end AreLeft span more passed e h p lt = elim (o
       ∙ answering.answer_in span more p (at_most_trans h.from late) (below_at_most lt h.within)) ∙ sym (h.agree p late lt)
 ]
 
--- the next span to its end
+-- passing the next span as a whole
 passed_span : (tell : Answer → PathAnswer) (list : List Span) (by_table : Position → Option PathAnswer) (at : Position)
     (AreLeft AreLeft' : List Span → Type 0) (span : Span) (more : List Span) (passed : ArePassed tell list by_table at AreLeft)
     → passed.rest ≡ span ∷ more → IsAtMost at span.high → Answers tell by_table at span.high span → AreLeft' more
@@ -108,7 +108,7 @@ passed_span tell list by_table at AreLeft AreLeft' span more passed e le h left 
           λ p k. passed.same p (at_most_trans le k) ∙ ap (λ (xs : List Span). span_answer xs p) e ∙ answering.answer_after span more p k;
     }
 
--- the next span up to a position in it
+-- passing the next span up to a position in it
 passed_part : (tell : Answer → PathAnswer) (list : List Span) (by_table : Position → Option PathAnswer) (at end : Position)
     (AreLeft AreLeft' : List Span → Type 0) (span : Span) (more : List Span) (passed : ArePassed tell list by_table at AreLeft)
     → passed.rest ≡ span ∷ more → IsAtMost at end → IsBelow end span.high → Answers tell by_table at end span
@@ -138,7 +138,7 @@ passed_part tell list by_table at end AreLeft AreLeft' span more passed e le lt 
 
 -- ---- one record
 
--- what a table of this record alone answers
+-- the answers of a table with this record alone
 abbrev pub alone : PathRecord → Position → Option PathAnswer
 alone said = path_span_answer (record_span said ∷ [])
 
@@ -168,7 +168,7 @@ apart_before to_come tell list said next spans span holds is lt left order =
       below = below_at_most lt (below_is_at_most (low_high said holds));
     }
 
--- it begins at the record or after, or has no span
+-- the section's first span begins at or after the record, or there is none
 pub begun : {S : Type 0} (to_come : S → List Span → Type 0) (tell : Answer → PathAnswer) (list : List Span) (said : PathRecord)
     (next : Option Span) (spans : S) → IfSome next (λ span. IsAtMost (whole said.low) span.low) → IsLeft to_come next spans list
     → AreInOrder list
@@ -182,7 +182,7 @@ begun to_come tell list said next spans past left order =
     from [] first h l = tt
     from (span ∷ xs) first h l = subst (λ (o : Option Span). IfSome o (λ span. IsAtMost (whole said.low) span.low)) l.0 h
 
--- the next span begins further on
+-- the next span begins later: a gap
 pub apart_gap : {S : Type 0} (to_come : S → List Span → Type 0) (tell : Answer → PathAnswer) (list : List Span) (said : PathRecord)
     (at : Position) (next : Option Span) (spans : S) (span : Span) → next ≡ Some span → IsBelow at span.low → IsAtMost (whole said.low) at
     → IsBelow at (whole said.high) → ArePassed tell list (alone said) at (IsLeft to_come next spans)
@@ -197,7 +197,7 @@ apart_gap to_come tell list said at next spans span is gap le lt passed =
       below = lt;
     }
 
--- the next span answers otherwise
+-- the next span answers differently
 pub apart_other : {S : Type 0} (to_come : S → List Span → Type 0) (tell : Answer → PathAnswer) (list : List Span) (said : PathRecord)
     (at : Position) (next : Option Span) (spans : S) (span : Span) → next ≡ Some span → IsAtMost span.low at
     → tell span.answer ≢ record_answer said
@@ -224,7 +224,7 @@ answers tell said at end span same within from le ge = record {
   agree = λ p h k. alone_in said p (at_most_trans le h) (below_at_most k ge) ∙ ap Some (sym same);
 }
 
--- it answers alike beyond the record
+-- the next span answers alike, and ends beyond the record
 pub passed_within : {S : Type 0} (to_come : S → List Span → Type 0) (tell : Answer → PathAnswer) (list : List Span) (said : PathRecord)
     (at : Position) (next : Option Span) (spans : S) (span : Span) → next ≡ Some span → IsAtMost span.low at
     → tell span.answer ≡ record_answer said
@@ -246,7 +246,7 @@ given_left to_come (Some given) spans [] g = absurd g
 given_left to_come None spans (span ∷ list) g = absurd g
 given_left to_come (Some given) spans (span ∷ list) g = (ap Some g.0, g.1)
 
--- it answers alike up to its end
+-- the next span answers alike, and ends within the record
 pub passed_whole : {S : Type 0} (to_come : S → List Span → Type 0) (tell : Answer → PathAnswer) (list : List Span) (said : PathRecord)
     (at : Position) (next given : Option Span) (spans spans' : S) (span : Span) → next ≡ Some span → IsAtMost span.low at
     → tell span.answer ≡ record_answer said
@@ -263,7 +263,7 @@ passed_whole to_come tell list said at next given spans spans' span is from same
     (answers tell said at span.high span same (at_most_itself span.high) from le over)
     (given_left to_come given spans' first.0 (gives first.0 first.2))
 
--- and the record begins before that
+-- the record doesn't begin above the end of the next span
 pub low_after : {S : Type 0} (to_come : S → List Span → Type 0) (tell : Answer → PathAnswer) (list : List Span) (said : PathRecord)
     (at : Position) (next : Option Span) (spans : S) (span : Span) → next ≡ Some span → IsAtMost (whole said.low) at
     → ArePassed tell list (alone said) at (IsLeft to_come next spans) → IsAtMost (whole said.low) span.high
@@ -298,7 +298,7 @@ merged_none to_come tell list next spans left order = record {
     from [] = tt
     from (span ∷ xs) = origin_first span.low
 
--- a record after those that say nothing
+-- a record after those that give no answer at p
 answer_push_none : (table more : List PathSpan) (p : Position) → path_span_answer table p ≡ None
     → path_span_answer (table ++ more) p ≡ path_span_answer more p
 answer_push_none [] more p e = refl
@@ -310,7 +310,7 @@ answer_push_none (r ∷ table) more p e = elim (order_cases p r.low) [
   ]
 ]
 
--- a record after p
+-- a record that begins after p
 answer_push_before : (table : List PathSpan) (span : PathSpan) (p : Position) → IsBelow p span.low
     → path_span_answer (table ++ span ∷ []) p ≡ path_span_answer table p
 answer_push_before [] span p h = answer_before span [] p h
@@ -327,7 +327,7 @@ end_pushed [] span = refl
 end_pushed (r ∷ []) span = refl
 end_pushed (r ∷ next ∷ table) span = end_pushed (next ∷ table) span
 
--- a record after the end of those that were compared
+-- the record isn't empty, and begins at or after the end of those that were compared
 pub record Follows (at : Position) (said : PathRecord) : Type 0 where
   pub past : IsAtMost at (whole said.low)
   pub holds : IsBelow (whole said.low) (whole said.high)
@@ -342,7 +342,7 @@ ended_on at table said f ended p h =
     answer_push_none table (record_span said ∷ []) p (ended p (at_most_trans f.past (at_most_trans (below_is_at_most f.holds) h)))
     ∙ answer_after (record_span said) [] p h
 
--- what both answer up to p, where the section is as the records so far and what is left of it as the record
+-- both sides agree up to p, where the section answers as the records so far, and its rest as the new record
 agree_on : (tell : Answer → PathAnswer) (section : List Span) (table : List PathSpan) (said : PathRecord) (at : Position)
     (AreLeft : List Span → Type 0)
     (m : ArePassed tell section (path_span_answer table) at AreLeft) → Follows at said
@@ -376,7 +376,7 @@ merged_on tell section table said at None AreLeft AreLeft' f e step c =
     }
 merged_on tell section table said at (Some difference) AreLeft AreLeft' f e step c = absurd (cc e)
 
--- what differs first from the record alone differs first
+-- the first difference from the new record alone is the first of all
 differ_on : (tell : Answer → PathAnswer) (section : List Span) (table : List PathSpan) (said : PathRecord) (at position : Position)
     (one other : Option PathAnswer)
     (AreLeft : List Span → Type 0) (m : ArePassed tell section (path_span_answer table) at AreLeft) → Follows at said
@@ -420,7 +420,7 @@ merged_apart tell section table said at None AreLeft AreLeft' apart difference f
     }
 merged_apart tell section table said at (Some was) AreLeft AreLeft' apart difference f e step position one other c = absurd (cc e)
 
--- there was a difference before
+-- a difference was found before
 pub merged_still : (tell : Answer → PathAnswer) (section : List Span) (table : List PathSpan) (said : PathRecord) (at : Position)
     (first : Option DifferenceByPath)
     (AreLeft AreLeft' : List Span → Type 0) → Follows at said → true ≡ is_some first

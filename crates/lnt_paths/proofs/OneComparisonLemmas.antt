@@ -1,4 +1,4 @@
--- Of bytes one fault is the first, and a comparison with what a section answers tells one thing.
+-- At most one fault is the first of some bytes, and a comparison with a section's answers has only one possible result.
 use Rattle.std.proofs.Common.{◌≡◌, ◌∙◌, ℕ, ◌<◌, List, [], ◌∷◌, Option, length, refl, sym, ap, subst, inl, inr}
 use Rattle.std.specs.Option.{option_map}
 use Rattle.lnt_spans.specs.declared.position.Position.{Position}
@@ -49,7 +49,7 @@ one_faulty version spans number fields (fault.Order k) (fault.Order l) f g = ap 
 
 -- ---- all records
 
--- none of an earlier number is faulty
+-- a record with a lower number isn't faulty
 not_earlier : (bytes : List ℕ) (told other : TableFault) → (f : HasFaultyPathRecord bytes told) → (g : HasFaultyPathRecord bytes other)
     → length f.records < length g.records → ⊥
 not_earlier bytes told other f g lt =

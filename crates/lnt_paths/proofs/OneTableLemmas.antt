@@ -1,4 +1,4 @@
--- Bytes are one table by path, and no fault is told of it.
+-- Bytes are at most one table by path, and a table has no fault.
 use Rattle.std.proofs.Common.{◌≡◌, ◌∙◌, ℕ, zero, suc, ◌<◌, List, [], ◌∷◌, ◌++◌, Option, Some, None, get_or, length, refl}
 use Rattle.std.proofs.Common.{sym, ap, subst, arith}
 use Rattle.std.specs.List.{AllZip}
@@ -16,7 +16,7 @@ use Rattle.lnt_paths.specs.PathFaults.{HasFaultyPathRecord, IsFaultyRecord, IsSo
 use Rattle.lnt_paths.specs.PathSpans.{PathSpan, StandInOrder}
 use Rattle.lnt_paths.specs.PathTables.{IsPathRecord, IsPathTable, SaysColumn, path_column_count, path_column_names}
 
--- ---- a record says one span
+-- ---- a record is of one span
 
 one_column : (version : PathVersion) (fields : Fields) (m n : Option ℕ) → SaysColumn IsDecimal version fields m
     → SaysColumn IsDecimal version fields n → m ≡ n
@@ -112,7 +112,7 @@ front_in_order (x ∷ []) [] h = h
 front_in_order (x ∷ []) (y ∷ ys) h = h.0
 front_in_order (x ∷ next ∷ xs) ys h = (h.0, h.1, front_in_order (next ∷ xs) ys h.2)
 
--- the spans of the records up to one of them
+-- the spans of the records before a certain one
 record Parted (version : PathVersion) (records : List Fields) (fields : Fields) (spans : List PathSpan) : Type 0 where
   front : List PathSpan
   span : PathSpan
@@ -148,7 +148,7 @@ not_faulty version records fields spans number (fault.Order k) p o f =
     let front = front_in_order (p.front ++ p.span ∷ []) p.past (rw p.joined at o) in
     f.3 (subst (λ (s : PathSpan). StandInOrder (p.front ++ s ∷ [])) (sym same) front)
 
--- a faulty record among those of a table
+-- a record of a table isn't faulty
 pub faulty_none : (v version : PathVersion) (records past : List Fields) (fields : Fields) (before spans : List PathSpan)
     (told : TableFault)
     → IsPathTable v records before → IsFaultyRecord v before (length records) fields told

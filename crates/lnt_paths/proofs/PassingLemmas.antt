@@ -1,4 +1,4 @@
--- Lines of a table by path that are passed, and that `csv` reads them as these records.
+-- The lines of a table by path that are passed are the records that `csv` reads.
 use Rattle.std.proofs.Common.{◌≡◌, ◌≢◌, ◌∙◌, ℕ, ◌+◌, ◌-◌, ◌<◌, ◌≤◌, Bool, true, false, List, [], ◌∷◌, ◌++◌, Option, Some}
 use Rattle.std.proofs.Common.{None, length, length-append, length-drop, get_or, drop, take, if◌then◌else◌}
 use Rattle.std.proofs.Common.{refl, sym, ap, subst, append_assoc, append-nil, arith}
@@ -16,7 +16,7 @@ use Rattle.csv.proofs.RoundTrip.{read-write}
 use Rattle.lnt_digits.specs.Digits.{IsAddress, IsDecimal}
 use Rattle.lnt_digits.proofs.TextLaws.{address_from_zero, decimal_from_zero}
 use Rattle.lnt_records.proofs.ReadingLaws.{no_record}
-use Rattle.lnt_records.specs.Lines.{Begins}
+use Rattle.lnt_digits.specs.Delimited.{Begins}
 use Rattle.lnt_records.specs.Progress.{BytesReader, HasRead}
 use Rattle.lnt_records.specs.Table.{BeginsWith, Fields, RecordsOf}
 use Rattle.lnt_spans.specs.declared.answer.Answer.{Answer}
@@ -46,11 +46,11 @@ decimal_quiet text n h = quiet_text text (quiet_bytes text (decimal_from_zero te
 path_quiet : (path : List ℕ) → All IsPlainByte path → field_text default_writer path ≡ path
 path_quiet path h = quiet_text path (quiet_by_recursion path (recursion_from_All IsPlainByte path h))
 
--- what is after a place, as a slice
+-- the part of a slice from an index on
 pub rest_whole : (table : List ℕ) (at : ℕ) → take (length table - at) (drop at table) ≡ drop at table
 rest_whole table at = take_all (length table - at) (drop at table) (omega (arith, length-drop at table))
 
--- the path of the line before, once more
+-- the path of the line before is here again
 pub path_again : (table path rest : List ℕ) (at next : ℕ) → rest ≡ drop at table → rest ≡ path ++ drop (length path) rest
     → drop (at + length path) table ≡ 44 ∷ drop next table → All IsPlainByte path → IsPathBefore path (drop at table) (drop next table)
 path_again table path rest at next e f g plain = record {
@@ -60,7 +60,7 @@ path_again table path rest at next e f g plain = record {
   plain = plain;
 }
 
--- a field of so many bytes, and a comma
+-- a field of i bytes, and a comma
 pub path_found : (text : List ℕ) (i : ℕ) → i < length text → All IsPlainByte (take i text) → get_or text i 0 ≡ 44
     → IsPathBefore (take i text) text (drop (i + 1) text)
 path_found text i lt plain comma = record {
@@ -70,7 +70,7 @@ path_found text i lt plain comma = record {
   plain = plain;
 }
 
--- the same from a place on
+-- the same from an index on
 pub path_at : (table path rest : List ℕ) (at more : ℕ) → rest ≡ drop at table → IsPathBefore path rest (drop more rest)
     → IsPathBefore path (drop at table) (drop (at + more) table)
 path_at table path rest at more e b = record {
@@ -82,16 +82,16 @@ path_at table path rest at more e b = record {
 
 -- ---- a line
 
--- a field before what ends alike
+-- a field before others
 field_before : (front b s0 s1 s4 : List ℕ) → s0 ≡ front ++ 44 ∷ s1 → s1 ≡ b ++ s4 → s0 ≡ (front ++ 44 ∷ b) ++ s4
 field_before front b s0 s1 s4 e f = e ∙ ap (λ (t : List ℕ). front ++ 44 ∷ t) f ∙ sym (append_assoc front (44 ∷ b) s4)
 
--- the line in the file, what is after it, and the end
+-- the line in the file, what follows it, and the line feed
 last_before : (line more s3 s4 : List ℕ) → s3 ≡ line ++ (more ++ 10 ∷ s4) → s3 ≡ (line ++ (more ++ 10 ∷ [])) ++ s4
 last_before line more s3 s4 e =
     e ∙ ap (λ (t : List ℕ). line ++ t) (sym (append_assoc more (10 ∷ []) s4)) ∙ sym (append_assoc line (more ++ 10 ∷ []) s4)
 
--- its text
+-- the text of the line
 line_start : (low high path line : List ℕ) (more : Fields) (s0 s1 s2 s3 s4 : List ℕ) → field_text default_writer low ≡ low
     → field_text default_writer high ≡ high → field_text default_writer path ≡ path → field_text default_writer line ≡ line
     → s0 ≡ low ++ 44 ∷ s1 → s1 ≡ high ++ 44 ∷ s2 → s2 ≡ path ++ 44 ∷ s3 → s3 ≡ line ++ (fields_text default_writer more ++ 10 ∷ s4)
@@ -107,7 +107,7 @@ line_start low high path line more s0 s1 s2 s3 s4 a b p c e0 e1 e2 e3 =
     line_fields low high path line more a b c ∙ ap (λ (t : List ℕ). low ++ 44 ∷ (high ++ 44 ∷ (t ++ 44 ∷ end))) p in
     all ∙ ap (λ (t : List ℕ). t ++ s4) (sym text)
 
--- the column and the end of the line
+-- the column and the line feed
 column_end : (column : List ℕ) (rest : List ℕ) → field_text default_writer column ≡ column
     → 44 ∷ (column ++ 10 ∷ rest) ≡ fields_text default_writer (column ∷ []) ++ 10 ∷ rest
 unfolding fields_text
@@ -170,14 +170,14 @@ line_read version said bytes rest l =
     ∙ ap (λ (r : Fields). Some (r, st.StartRecord, rest))
     (sym (same_back l.fields (some_fields version l.fields said.low said.high (record_answer said) l.says)))
 
--- it begins with a zero, and with no byte order mark
+-- a line that begins with a zero doesn't begin with a byte order mark
 zero_mark : (rest : List ℕ) → strip_bom (48 ∷ rest) ≡ 48 ∷ rest
 unfolding strip_bom
 zero_mark [] = refl
 zero_mark (b ∷ []) = refl
 zero_mark (b ∷ c ∷ rest) = refl
 
--- what a record ends in
+-- the end of a record's text: quotes if the record is blank, and a line feed
 abbrev row_end : Fields → List ℕ
 row_end fields = (if is_blank default_writer fields then 34 ∷ 34 ∷ [] else []) ++ 10 ∷ []
 
@@ -233,7 +233,7 @@ reached_both s mid after bytes rest left [] more a b =
 reached_both s mid after bytes rest left (f ∷ records) more a b =
     (a.0, a.1, a.2, reached_both a.0.1 mid after a.0.2 rest left records more a.3 b)
 
--- what is reached after the first record
+-- the state after several records was reached through the first of them
 after_first : (s mid after : State) (text rest left : List ℕ) (last first : Fields) (more : List Fields)
     → Reached default_config s text (last ∷ []) mid rest → Reached default_config s text (first ∷ more) after left
     → Reached default_config mid rest more after left
@@ -245,7 +245,7 @@ after_first s mid after text rest left last first more a b =
     subst (λ (x : State). Reached default_config x rest more after left) a.3.0
     (subst (λ (t : List ℕ). Reached default_config a.0.1 t more after left) a.3.1 from)
 
--- what `csv` reads of the text past its first record it reads of the bytes
+-- the records that `csv` reads from the text after its first one, it also reads from the bytes
 pub reached_on : (bytes text : List ℕ) (records more : List Fields) (first : Fields) (after : State) (left : List ℕ)
     → IsAfter bytes text records → Reached default_config st.StartRecord (strip_bom text) (first ∷ more) after left
     → Reached default_config st.StartRecord (strip_bom bytes) (records ++ more) after left
@@ -279,7 +279,7 @@ one_reached : (bytes rest : List ℕ) (fields : Fields)
 unfolding Reached
 one_reached bytes rest fields e = ((fields, st.StartRecord, rest), e, refl, (refl, refl))
 
--- the line with the names of the columns
+-- the header was passed
 pub header_passed : (version : PathVersion) (bytes header rest : List ℕ) → header ≡ row_text default_writer (path_column_names version)
     → bytes ≡ header ++ rest → GoesOnAs bytes bytes (path_column_names version ∷ []) st.StartRecord rest
 header_passed version bytes header rest e f =
@@ -292,7 +292,7 @@ header_passed version bytes header rest e f =
     let reached = one_reached (strip_bom bytes) rest names read in
     record { last = names; reached = reached; text_reached = reached }
 
--- one more line
+-- one more line was passed
 pub line_passed : (version : PathVersion) (said : PathRecord) (bytes text next rest : List ℕ) (records : List Fields)
     → GoesOnAs bytes text records st.StartRecord next
     → (l : IsPathLine version said next rest) → GoesOnAs bytes next (records ++ l.fields ∷ []) st.StartRecord rest
@@ -326,7 +326,7 @@ begins_more reader bytes text records more first fields past read =
     subst (λ (r : List Fields). BeginsWith bytes r) (sym (append_assoc records more (fields ∷ [])))
     (begins_on bytes text records (more ++ fields ∷ []) first past (begins reader text (first ∷ (more ++ fields ∷ [])) read))
 
--- there is a first one
+-- the text has a first record
 pub first_there : (reader : BytesReader) (bytes text : List ℕ) (records : List Fields) (fields : Fields) (found : Bool)
     → IsAfter bytes text records
     → MatchBool found (HasRead reader text (fields ∷ [])) (RecordsOf text []) → HasRead reader text (fields ∷ [])
@@ -334,14 +334,14 @@ first_there reader bytes text records fields true b h = h
 first_there reader bytes text records fields false b h =
     absurd (no_record text b.goes_on.last h (b.after, b.rest, b.goes_on.text_reached))
 
--- the text as a slice of the bytes
+-- the text is a slice of the bytes
 pub after_slice : (bytes : List ℕ) (at : ℕ) (records : List Fields) → IsAfter bytes (drop at bytes) records
     → IsAfter bytes (take (length bytes - at) (drop at bytes)) records
 after_slice bytes at records h = subst (λ (t : List ℕ). IsAfter bytes t records) (sym (rest_whole bytes at)) h
 
 -- ---- the loop over lines
 
--- Lines were passed up to a place, and the last of them begins at another.
+-- Lines were passed up to one index, and the last of them begins at another.
 pub record Stands {S : Type 0} (to_come : S → List Span → Type 0) (tell : Answer → PathAnswer) (version : PathVersion)
     (old now : PathComparison S) (table : List ℕ) (before at : ℕ) (last : List ℕ) : Type 0 where
   pub records : List Fields
@@ -364,7 +364,7 @@ stands_first to_come tell version old table header last count e f plain = record
   plain = plain;
 }
 
--- what a record that was taken does to the comparison
+-- the effect on the comparison of taking a record
 abbrev pub TakesRecord : {S : Type 0} → (S → List Span → Type 0) → (Answer → PathAnswer) → PathComparison S → PathComparison S → PathRecord
     → Type 0
 TakesRecord to_come tell old new said = (list : List Span) (table : List PathSpan)

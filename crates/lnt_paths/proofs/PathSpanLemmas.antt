@@ -1,4 +1,4 @@
--- What a list of spans by path answers, by its first span.
+-- What a list of spans by path answers, in terms of its first span.
 use Rattle.std.proofs.Common.{◌≡◌, ◌∙◌, true, false, Bool, List, [], ◌∷◌, refl, Some, None}
 use Rattle.std.specs.Prelude.{◌&&◌}
 use Rattle.lnt_spans.specs.declared.position.Position.{Position}
@@ -11,7 +11,7 @@ pub answer_in : (s : PathSpan) (rest : List PathSpan) (p : Position) → IsAtMos
     → path_span_answer (s ∷ rest) p ≡ Some s.answer
 answer_in s rest p h k = rw (test_at_most s.low p h, test_below p s.high k) refl
 
--- p is before it, or after
+-- p is outside the first span: the rest answers
 pub answer_before : (s : PathSpan) (rest : List PathSpan) (p : Position) → IsBelow p s.low
     → path_span_answer (s ∷ rest) p ≡ path_span_answer rest p
 answer_before s rest p h = rw (test_not_at_most s.low p h) refl
@@ -32,14 +32,14 @@ pub rest_in_order : (s : PathSpan) (rest : List PathSpan) → StandInOrder (s �
 rest_in_order s [] h = tt
 rest_in_order s (t ∷ rest) h = h.2
 
--- before the first span nothing answers
+-- before the first span there is no answer
 pub none_before : (s : PathSpan) (rest : List PathSpan) (p : Position) → StandInOrder (s ∷ rest) → IsBelow p s.low
     → path_span_answer (s ∷ rest) p ≡ None
 none_before s [] p h k = answer_before s [] p k
 none_before s (t ∷ rest) p h k =
     answer_before s (t ∷ rest) p k ∙ none_before t rest p h.2 (below_at_most (below_at_most k (below_is_at_most h.0)) h.1)
 
--- up to the end of the first span the rest doesn't answer
+-- below the end of the first span the rest answers nothing
 pub rest_none : (s : PathSpan) (rest : List PathSpan) (p : Position) → StandInOrder (s ∷ rest) → IsBelow p s.high
     → path_span_answer rest p ≡ None
 rest_none s [] p h k = refl

@@ -1,4 +1,4 @@
--- Spans that come, joined one by one.
+-- Spans are joined one by one, as they come.
 use Rattle.std.proofs.Common.{◌≡◌, List, [], ◌∷◌, inl, inr, Option, Some, None, refl, sym, subst}
 use Rattle.lnt_spans.specs.declared.answer.Answer.{Answer}
 use Rattle.lnt_spans.specs.declared.span.Span.{Span}
@@ -6,7 +6,7 @@ use Rattle.lnt_spans.specs.Coming.{GivesFirst}
 use Rattle.lnt_paths.specs.Joining.{AllJoinTo, GoesOn, GrowsTo, JoinsTo, WillGive, grown}
 use Rattle.lnt_paths.specs.PathAnswers.{PathAnswer}
 
--- what a source gave, and that the others are to come
+-- the source gave the first span, if there was one, and the others are to come
 abbrev Gives : (List Span → Type 0) → (List Span → Type 0) → Option Span → Type 0
 Gives old new result = (spans : List Span) → old spans → GivesFirst new spans result
 
@@ -22,7 +22,7 @@ begins tell list joined old new next gives left joins = by list next (gives list
     by (span ∷ rest) None g j = absurd g
     by (span ∷ rest) (Some given) g j = (rest, g.1, subst (λ (s : Span). JoinsTo tell s rest joined) (sym g.0) j)
 
--- one more goes on
+-- the next span extends the last one
 pub goes_on : (tell : Answer → PathAnswer) (last span : Span) (old new : List Span → Type 0) (joined : List Span)
     → Gives old new (Some span) → GoesOn tell last span
     → GrowsTo tell last old joined → GrowsTo tell (grown last span.high) new joined
@@ -34,7 +34,7 @@ goes_on tell last span old new joined gives goes grows = by grows.0 (gives grows
     by (next ∷ rest) g (inl j) = (rest, g.1, subst (λ (s : Span). JoinsTo tell (grown last s.high) rest joined) (sym g.0) j.1)
     by (next ∷ rest) g (inr j) = absurd (j.0 (subst (λ (s : Span). GoesOn tell last s) g.0 goes))
 
--- one more doesn't
+-- the next span doesn't extend the last one
 pub stays : (tell : Answer → PathAnswer) (last span : Span) (old new : List Span → Type 0) (joined : List Span) → Gives old new (Some span)
     → (GoesOn tell last span → ⊥)
     → GrowsTo tell last old joined → GivesFirst (WillGive tell (Some span) new) joined (Some last)
@@ -48,7 +48,7 @@ stays tell last span old new joined gives other grows = by grows.0 (gives grows.
         subst (λ (list : List Span). GivesFirst (WillGive tell (Some span) new) list (Some last)) (sym j.2)
         (refl, (rest, g.1, subst (λ (s : Span). JoinsTo tell s rest j.1) (sym g.0) j.3))
 
--- no more comes
+-- no span follows
 pub ends : (tell : Answer → PathAnswer) (last : Span) (old new left : List Span → Type 0) (joined : List Span) → Gives old new None
     → GrowsTo tell last old joined → GivesFirst (WillGive tell None left) joined (Some last)
 ends tell last old new left joined gives grows = by grows.0 (gives grows.0 grows.1) grows.2
@@ -58,7 +58,7 @@ ends tell last old new left joined gives grows = by grows.0 (gives grows.0 grows
     by [] g j = subst (λ (list : List Span). GivesFirst (WillGive tell None left) list (Some last)) (sym j) (refl, refl)
     by (next ∷ rest) g j = absurd g
 
--- none is at hand
+-- no span is at hand
 pub none_left : (tell : Answer → PathAnswer) (next : Option Span) (left new : List Span → Type 0) (joined : List Span) → next ≡ None
     → WillGive tell next left joined → GivesFirst new joined None
 none_left tell next left new joined none will =

@@ -1,4 +1,4 @@
--- Stretches that are told so far, which the proofs of the crates above cite.
+-- Stretches given so far: laws that the proofs of the crates above cite.
 use Rattle.std.proofs.Common.{ℕ, List, [], ◌∷◌, Option}
 use Rattle.std.specs.List.{AllByRecursion}
 use Rattle.lnt_spans.specs.declared.position.Position.{Position}
@@ -10,7 +10,7 @@ use Rattle.lnt_paths.specs.PathAnswers.{PathAnswer}
 use Rattle.lnt_paths.specs.PathStretches.{AreFirstStretches, Stretch}
 use Rattle.lnt_paths.specs.Stretching.{HasToldByPath}
 
--- what is so at each position below one is so at each below where a stretch begins that is below it
+-- what holds at each position below `at` holds at each position below the beginning of a stretch that begins below `at`
 below_each : {X : Type 0} (IsSo : Position → Type 0) (at : Position) (stretches : List (Stretch X))
     → ((p : Position) → IsBelow p at → IsSo p) → AllByRecursion (λ stretch. IsBelow stretch.position at) stretches
     → AllByRecursion (λ stretch. (p : Position) → IsBelow p stretch.position → IsSo p) stretches
@@ -18,7 +18,7 @@ below_each IsSo at [] so below = tt
 below_each IsSo at (stretch ∷ stretches) so below =
     (λ p h. so p (below_at_most h (below_is_at_most below.0)), below_each IsSo at stretches so below.1)
 
--- The stretches that are told are the first ones.
+-- The stretches given so far are the first ones.
 pub first_stretches : {S : Type 0} (to_come : S → List Span → Type 0) (path : ℕ → ℕ → List ℕ) (differences : DifferencesByPath S)
     (by_section by_table : Position → Option PathAnswer) (told : List (Stretch PathAnswer))
     → HasToldByPath to_come path differences by_section by_table told → AreFirstStretches by_section by_table told

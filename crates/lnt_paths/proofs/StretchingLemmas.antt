@@ -1,4 +1,4 @@
--- Stretches of a section and a table by path, told one after another as their spans come.
+-- The stretches of a section and a table by path, given one after another as their spans come.
 use Rattle.std.proofs.Common.{◌≡◌, ◌≢◌, ◌∙◌, ℕ, ◌+◌, ◌<◌, ◌≤◌, List, [], ◌∷◌, ◌++◌, ◌⊎◌, inl, inr, refl, ap, sym, subst, Some, None}
 use Rattle.std.proofs.Common.{Option, arith, map}
 use Rattle.std.specs.List.{AllByRecursion}
@@ -68,7 +68,7 @@ after_high : (span : Span) (more : List Span) (end : Position) → AreInOrder (s
 after_high span [] end o le = tt
 after_high span (next ∷ more) end o le = at_most_below (at_most_trans le o.1) (answering.first_holds next more o.2)
 
--- the section goes on past its next span
+-- the section drops its next span
 pub section_passed : {S : Type 0} (to_come : S → List Span → Type 0) (tell : Answer → PathAnswer) (old : Section S) (next : Option Span)
     (spans : S) (span : Span) (at end : Position) (answers : Position → Option PathAnswer) → old.next ≡ Some span → IsAtMost span.high end
     → ((list : List Span) → to_come old.spans list → GivesFirst (to_come spans) list next)
@@ -105,7 +105,7 @@ gap_of_table : (span : PathSpan) (more : List PathSpan) (at : Position) → Stan
     → IsRun (path_span_answer (span ∷ more)) at None (Some span.low)
 gap_of_table span more at o gap = record { past = gap; says = λ p h k. none_before span more p o k }
 
--- the first span of a table begins further on
+-- the first span of the table begins later
 pub table_gap : (table : List HeldSpan) (held : HeldSpan) (rest : List HeldSpan) (at low : Position) → table ≡ held ∷ rest
     → low ≡ whole held.low → IsBelow at low → StandInOrder (map held_span table)
     → IsRun (path_span_answer (map held_span table)) at None (Some low)
@@ -164,7 +164,7 @@ stay_on : {X : Type 0} (f g : Position → Option X) (s t : Option X) (at end p 
     → Stay f g s t at p
 stay_on f g s t at end p one two q h k = elim (order_cases q end) [ inl early ↦ one q h early | inr late ↦ two q late k ]
 
--- a position of the run, where the last stretch goes on
+-- at a position in the run: the last stretch still holds it
 told_on : {X : Type 0} (f g : Position → Option X) (at end : Position) (s t : Option X) (told : List (Stretch X))
     → AreToldBelow f g at s t told → IsBelow at end → Stay f g s t at end
     → AreToldBelow f g end s t told
@@ -185,7 +185,7 @@ told_on {X} f g at end s t told b lt stay = record {
     later (inl same) = inl same
     later (inr going) = inr (λ p h more is. going p (at_most_trans (below_is_at_most lt) h) (stay_on f g s t at end p stay more) is)
 
--- where the two answer alike
+-- both sides answer alike up to the end: no stretch
 told_alike : {X : Type 0} (f g : Position → Option X) (at end : Position) (s t s' t' : Option X) (told : List (Stretch X))
     → AreToldBelow f g at s t told → IsBelow at end → Stay f g s' t' at end → s' ≡ t'
     → AreToldBelow f g end s' t' told
@@ -199,7 +199,7 @@ told_alike f g at end s t s' t' told b lt stay same = record {
   last = last_answers f g at end s' t' lt stay;
 }
 
--- where a stretch begins
+-- a new stretch begins
 pub told_new : {X : Type 0} (f g : Position → Option X) (at end : Position) (s t s' t' : Option X) (told : List (Stretch X))
     → AreToldBelow f g at s t told → IsBelow at end → Stay f g s' t' at end
     → t' ≢ s' → (s' ≡ s → t' ≡ t → ⊥) → AreToldBelow f g end s' t' (told ++ (record { position = at; by_section = s'; by_table = t' }) ∷ [])
@@ -235,7 +235,7 @@ before_end : (p q : Position) (end : Option Position) → IsBelow p q → IsUpTo
 before_end p q None lt up = tt
 before_end p q (Some end) lt up = below_at_most lt up
 
--- From a position on up to the end both answers are these.
+-- From `at` up to `end` both answers stay these two.
 pub record Moves {X : Type 0} (f g : Position → Option X) (at end : Position) (s t : Option X) : Type 0 where
   pub below : IsBelow at end
   pub stay : Stay f g s t at end
@@ -248,7 +248,7 @@ moves f g at end s t one other a b up up' is = record {
   stay = λ p h k. record { section = a.says p h (before_end p end one k up); table = b.says p h (before_end p end other k up') };
 }
 
--- The same of a section and a table, where their answers end so.
+-- Both answers of a section and a table stay up to the earlier of their ends.
 pub both_move : {S : Type 0} (to_come : S → List Span → Type 0) (tell : Answer → PathAnswer) (section : Section S) (table : List HeldSpan)
     (at end : Position) (f g : Position → Option PathAnswer) (s t : Option PathAnswer) (one other : Option Position)
     → IsSectionAt to_come tell section at f → IsTableAt table at g

@@ -12,7 +12,7 @@ rest_differ : (s : PathSpan) (rest : List PathSpan) → PathsDifferWhereTheyTouc
 rest_differ s [] h = tt
 rest_differ s (t ∷ rest) h = h.1
 
--- a list whose first span begins first answers where the other doesn't
+-- of two lists, the one whose first span begins earlier answers where the other doesn't
 not_earlier : (x y : PathSpan) (xs ys : List PathSpan) → StandInOrder (x ∷ xs) → StandInOrder (y ∷ ys) → AgreeByPath (x ∷ xs) (y ∷ ys)
     → IsBelow x.low y.low → ⊥
 not_earlier x y xs ys ox oy same lt =
@@ -37,7 +37,7 @@ same_answer x y xs ys ox oy same low =
     let e = same x.low in
     cc
 
--- at its end a canonical list doesn't answer as in its first span
+-- at the end of its first span a canonical list doesn't give that span's answer
 answers_other : (x : PathSpan) (xs : List PathSpan) → StandInOrder (x ∷ xs) → PathsDifferWhereTheyTouch (x ∷ xs)
     → path_span_answer (x ∷ xs) x.high ≡ Some x.answer → ⊥
 answers_other x [] o d e = let none = answer_after x [] x.high (at_most_itself x.high) in cc

@@ -1,4 +1,4 @@
--- What was written, and what becomes of a table.
+-- What was written, and what came of a table.
 use Rattle.std.proofs.Common.{◌≡◌, ◌∙◌, ℕ, List, [], ◌∷◌, ◌++◌, map, inl, inr, Option, Some, None, refl, sym, ap, subst, append_assoc}
 use Rattle.std.specs.Io.KnownBytes.{Appends, Keeps}
 use Rattle.std.specs.List.{AllByRecursion, AllZip}
@@ -56,7 +56,7 @@ zip_more R (a ∷ xs) (b ∷ ys) x y z r = (z.0, zip_more R xs ys x y z.1 r)
 abbrev Says : (Answer → PathAnswer) → PathVersion → Fields → Span → Type 0
 Says tell version fields span = SaysPath IsPlainAddress IsPlainDecimal version fields span.low.address span.high.address (tell span.answer)
 
--- a line after those that stand there
+-- one more line
 line_text : (tell : Answer → PathAnswer) (version : PathVersion) (before : List Fields) (span : Span) (empty line : List ℕ) → empty ≡ []
     → (adds : AddsPathLine tell version span empty line) → records_text before ++ line ≡ records_text (before ++ adds.fields ∷ [])
 line_text tell version before span empty line none adds =
@@ -77,13 +77,13 @@ one_written tell version old now new given span empty line w none adds more =
       each = zip_more (Says tell version) w.records given adds.fields span w.each adds.says;
     }
 
--- ---- where lines were stopped
+-- ---- where writing was stopped
 
--- before any byte
+-- before anything was written
 pub no_lines_begun : (tell : Answer → PathAnswer) (version : PathVersion) (old : Option (List ℕ)) → HasBegunLines tell version old old []
 no_lines_begun tell version old = record { records = []; front = front_none old (records_text (path_column_names version ∷ [])); each = tt }
 
--- in the names of the columns
+-- in the header
 pub names_begun : (tell : Answer → PathAnswer) (version : PathVersion) (old new : Option (List ℕ)) (header : List ℕ)
     → header ≡ row_text default_writer (path_column_names version) → AppendsFront old new header
     → HasBegunLines tell version old new []
@@ -99,7 +99,7 @@ pub lines_so_far : (tell : Answer → PathAnswer) (version : PathVersion) (old n
 lines_so_far tell version old now given w =
     record { records = w.records; front = front_all old now (records_text (path_column_names version ∷ w.records)) w.written; each = w.each }
 
--- in a line
+-- within a line
 pub line_begun : (tell : Answer → PathAnswer) (version : PathVersion) (old now new : Option (List ℕ)) (given : List Span) (span : Span)
     (empty line : List ℕ) → HasWritten tell version old now given → empty ≡ []
     → AddsPathLine tell version span empty line → AppendsFront now new line → HasBegunLines tell version old new (given ++ span ∷ [])
@@ -134,7 +134,7 @@ plain_records tell version (r ∷ records) (s ∷ joined) z h =
 abbrev By : (Answer → PathAnswer) → List Span → Position → Option PathAnswer
 By tell list p = option_map tell (span_answer list p)
 
--- What is known of both lists: they are in order and answer alike.
+-- What is known of two lists of spans: they are in order and answer alike.
 pub record AnswerAlike (other list : List Span) : Type 0 where
   pub first : AreInOrder other
   pub second : AreInOrder list
@@ -157,7 +157,7 @@ operation_found tell other list p alike first =
       least = first_least tell joined.0 p all.canonical.in_order (first joined.0 joined.1);
     }
 
--- what is judged of one list holds of the other
+-- if the joined spans of one list are of whole instructions, so are those of the other
 whole_instructions : (tell : Answer → PathAnswer) (other list joined : List Span) → AnswerAlike other list
     → ((whole : List Span) → AllJoinTo tell other whole → AllByRecursion HasNoOperation whole) → AllJoinTo tell list joined
     → AllByRecursion HasNone (map (tell_span tell) joined)
@@ -214,9 +214,9 @@ instructions_written tell version old new list joined order none are w =
     table_written tell version old new list list joined (record { first = order; second = order; same = λ p. refl })
     (λ whole joins. all_join_none tell list whole none joins) are w
 
--- ---- a table that was stopped
+-- ---- a table whose writing was stopped
 
--- before any byte
+-- before anything was written
 pub table_begun_none : (tell : Answer → PathAnswer) (version : PathVersion) (old : Option (List ℕ)) (list : List Span) → AreInOrder list
     → BeginsPathTable version (By tell list) old old
 table_begun_none tell version old list order =

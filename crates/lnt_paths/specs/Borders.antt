@@ -1,4 +1,4 @@
--- Where spans begin and end inside of an instruction, which a table by path can't say.
+-- Spans that begin or end inside an instruction, which a table by path can't say.
 use Rattle.std.specs.Prelude.{◌≡◌, ◌≢◌, List, [], ◌∷◌}
 use Rattle.std.specs.List.{AllByRecursion, Contains}
 use Rattle.lnt_spans.specs.declared.position.Position.{Position}
@@ -10,12 +10,12 @@ use Rattle.lnt_paths.specs.PathSpans.{PathSpan}
 abbrev pub HasNoOperation : Span → Type 0
 HasNoOperation span = (span.low.op ≡ 0) × (span.high.op ≡ 0)
 
--- where the spans begin and end
+-- all positions where a span begins or ends
 abbrev pub path_borders : List PathSpan → List Position
 path_borders [] = []
 path_borders (span ∷ spans) = span.low ∷ span.high ∷ path_borders spans
 
--- Of the positions where they begin or end at an operation index other than 0, this is the least.
+-- This is the least position where a span begins or ends with an operation index other than 0.
 pub record IsLeastOperation (spans : List PathSpan) (position : Position) : Type 0 where
   pub border : Contains (path_borders spans) position
   pub op : position.op ≢ 0

@@ -1,4 +1,4 @@
--- A table by path, read and held.
+-- A table by path that was read and is held.
 use Rattle.std.specs.Prelude.{ℕ, List, map}
 use Rattle.lnt_paths.specs.declared.held.HeldSpan.{HeldSpan}
 use Rattle.lnt_paths.specs.declared.held.HeldTable.{HeldTable}
@@ -9,16 +9,16 @@ use Rattle.lnt_paths.specs.PathSpans.{PathSpan, StandInOrder}
 use Rattle.lnt_paths.specs.PathTables.{IsPathTableOf}
 use Rattle.lnt_paths.specs.Reading.{whole}
 
--- a span that is held: it begins and ends at operation index 0
+-- the span of a held span, which begins and ends at operation index 0
 abbrev pub held_span : HeldSpan → PathSpan
 held_span span = record { low = whole span.low; high = whole span.high; answer = told_path_answer span.answer }
 
--- The bytes are a table by path of the version, and these are its spans; or they are none, and this is their first fault.
+-- Either the bytes are a table by path of this version with these spans, or this is their first fault.
 abbrev pub IsHeld : List ℕ → HeldTable → Type 0
 IsHeld bytes (held.Fault told) = IsPathFault bytes told
 IsHeld bytes (held.Table version spans) = IsPathTableOf version bytes (map held_span spans.items)
 
--- Spans that are held stand in order, and none is empty.
+-- The held spans are in order, and none is empty.
 abbrev pub HoldsInOrder : HeldTable → Type 0
 HoldsInOrder (held.Fault told) = Unit {0}
 HoldsInOrder (held.Table version spans) = StandInOrder (map held_span spans.items)

@@ -21,30 +21,30 @@ OneCanonicalOfPaths = (xs ys : List PathSpan) → AreCanonicalPaths xs → AreCa
 
 -- ---- bytes
 
--- Bytes are a table by path of one version and of one list of spans.
+-- Bytes are a table by path of at most one version and one list of spans.
 abbrev pub OnePathTable : Type 0
 OnePathTable = (bytes : List ℕ) (v w : PathVersion) (xs ys : List PathSpan) → IsPathTableOf v bytes xs → IsPathTableOf w bytes ys
     → (v ≡ w) × (xs ≡ ys)
 
--- No fault is told of a table by path.
+-- Bytes that are a table by path have no fault.
 abbrev pub NoPathFault : Type 0
 NoPathFault = (bytes : List ℕ) (version : PathVersion) (spans : List PathSpan) (told : TableFault) → IsPathTableOf version bytes spans
     → IsPathFault bytes told → ⊥
 
--- At most one fault is the first one of the bytes.
+-- At most one fault is the first of the bytes.
 abbrev pub OnePathFault : Type 0
 OnePathFault = (bytes : List ℕ) (told other : TableFault) → IsPathFault bytes told → IsPathFault bytes other → told ≡ other
 
 -- ---- a comparison
 
--- Two answer differently first at one position, where each has its answer.
+-- Two ways to answer have at most one first difference: one position, with one answer of each.
 abbrev pub OneLeastPathDifference : Type 0
 OneLeastPathDifference =
     (by_section by_table : Position → Option PathAnswer) (p q : Position) (table section table' section' : Option PathAnswer)
     → DifferFirst by_section by_table p table section → DifferFirst by_section by_table q table' section'
     → (p ≡ q) × (table ≡ table') × (section ≡ section')
 
--- What a comparison tells: of a path the bytes, wherever they are held.
+-- The result of a comparison, with paths as bytes, wherever they are held.
 pub data ToldByPath : Type 0 where
   tells_same : ToldByPath
   tells_fault : TableFault → ToldByPath
@@ -56,7 +56,7 @@ told_by_path (Fault told) = tells_fault told
 told_by_path (Differs difference) = tells_difference difference.position (option_map told_path_answer difference.by_table)
     (option_map told_path_answer difference.by_section)
 
--- Of bytes, and of what a section answers, a comparison tells one thing.
+-- For given bytes, and what a section answers, a comparison has only one possible result.
 abbrev pub OnePathComparison : Type 0
 OnePathComparison = (bytes : List ℕ) (section : PathVersion → Position → Option PathAnswer) (one other : ComparedByPath)
     → IsPathComparison bytes section one → IsPathComparison bytes section other → told_by_path one ≡ told_by_path other

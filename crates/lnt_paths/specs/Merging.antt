@@ -1,5 +1,5 @@
--- A section's spans compared with the records of a table by path, as far as these have come. The bodies of this crate use it
--- among themselves. What is told of an answer is `tell`.
+-- A section's spans compared with the records of a table by path, as far as these have come. Only the bodies of this crate
+-- use this. `tell` tells an answer by path.
 use Rattle.std.specs.Prelude.{◌≡◌, ℕ, Bool, true, false, List, [], ◌∷◌, Option, Some, None, IfSome, length}
 use Rattle.std.specs.List.{All}
 use Rattle.std.specs.Option.{option_map}
@@ -21,27 +21,27 @@ use Rattle.lnt_paths.specs.PathSpans.{PathSpan, path_span_answer}
 use Rattle.lnt_paths.specs.PathTables.{IsPathTable}
 use Rattle.lnt_paths.specs.Reading.{record_answer, record_span, whole}
 
--- Each path that is kept is that of its file.
+-- Every cached path is that of its file.
 abbrev pub AreKnownOf : (ℕ → ℕ → List ℕ) → List (Option KnownPath) → Type 0
 AreKnownOf path slots = All (λ slot. IfSome slot (λ kept. kept.path.items ≡ path kept.unit kept.file)) slots
 
 -- ---- the section
 
--- This span is next, if there is one, and these are to come with it.
+-- These spans are left: the next one is at hand, if there is one, and the others are to come.
 abbrev pub IsLeft : {S : Type 0} → (S → List Span → Type 0) → Option Span → S → List Span → Type 0
 IsLeft to_come next spans [] = next ≡ None
 IsLeft to_come next spans (first ∷ rest) = (next ≡ Some first) × to_come spans rest
 
--- The first span, if there is one, doesn't begin below p.
+-- The first span, if there is one, begins at or above p.
 abbrev pub BeginFrom : Position → List Span → Type 0
 BeginFrom p [] = Unit {0}
 BeginFrom p (span ∷ spans) = IsAtMost p span.low
 
--- what spans answer, as it is told
+-- what spans answer, told by path
 abbrev pub answer_told : (Answer → PathAnswer) → List Span → Position → Option PathAnswer
 answer_told tell spans p = option_map tell (span_answer spans p)
 
--- Below `to` the spans answer as the table. Those are left that answer from there on.
+-- Below `to` the spans answer as the table does, and those that are left answer as they do from there on.
 pub record ArePassed (tell : Answer → PathAnswer) (spans : List Span) (by_table : Position → Option PathAnswer) (to : Position)
     (AreLeft : List Span → Type 0) : Type 0 where
   pub rest : List Span
@@ -53,12 +53,12 @@ pub record ArePassed (tell : Answer → PathAnswer) (spans : List Span) (by_tabl
 
 -- ---- one record
 
--- the table's answer, where it has one
+-- the table's answer, if it has one
 abbrev pub table_side : Bool → PathAnswer → Option PathAnswer
 table_side true answer = Some answer
 table_side false answer = None
 
--- Below the end of the record alone, this is where the spans differ from it first.
+-- Below the end of the record, this is the first difference between the spans and a table with that record alone.
 pub record AreApart (tell : Answer → PathAnswer) (spans : List Span) (said : PathRecord) (apart : Apart) : Type 0 where
   pub first : DifferFirst (answer_told tell spans) (path_span_answer (record_span said ∷ [])) apart.position
       (table_side apart.by_table (record_answer said)) (option_map tell apart.by_section)
@@ -66,27 +66,27 @@ pub record AreApart (tell : Answer → PathAnswer) (spans : List Span) (said : P
 
 -- ---- all records so far
 
--- where spans end
+-- where the last span ends
 abbrev pub path_end : List PathSpan → Position
 path_end [] = whole 0
 path_end (first ∷ []) = first.high
 path_end (first ∷ next ∷ spans) = path_end (next ∷ spans)
 
--- Nothing differs below the end of the records, or this is what differs first.
+-- Either the two sides agree below the end of the records, or this is their first difference.
 abbrev pub IsMergedBy : Option DifferenceByPath → (Answer → PathAnswer) → (List Span → Type 0) → Position → List Span → List PathSpan
     → Type 0
 IsMergedBy None tell AreLeft at section table = ArePassed tell section (path_span_answer table) at AreLeft
 IsMergedBy (Some difference) tell AreLeft at section table =
     IsLeastPathDifference (answer_told tell section) (path_span_answer table) difference × IsBelow difference.position at
 
--- The section is compared with these spans of a table.
+-- The section was compared with these spans of a table.
 pub record IsMerged (tell : Answer → PathAnswer) (AreLeft : List Span → Type 0) (at : Position) (first : Option DifferenceByPath)
     (section : List Span) (table : List PathSpan) : Type 0 where
   pub at_is : at ≡ path_end table
   pub ended : (p : Position) → IsAtMost at p → path_span_answer table p ≡ None
   pub merged : IsMergedBy first tell AreLeft at section table
 
--- These records are a table so far, and compared with the section.
+-- These records are a table so far, and were compared with the section.
 pub record JudgesByPath {S : Type 0} (to_come : S → List Span → Type 0) (tell : Answer → PathAnswer) (version : PathVersion)
     (comparison : PathComparison S) (section : List Span) (records : List Fields) : Type 0 where
   pub table : List PathSpan

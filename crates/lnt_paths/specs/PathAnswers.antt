@@ -1,4 +1,4 @@
--- What is answered at a position by path: the bytes of the whole path of the file, the line, and in version 3 the column.
+-- The answer at a position by path: the bytes of the whole path of the file, the line, and in version 3 the column.
 use Rattle.std.specs.Prelude.{ℕ, List, Option, None, Some}
 use Rattle.std.specs.Option.{option_map}
 use Rattle.lnt_spans.specs.declared.answer.Answer.{Answer}
@@ -13,12 +13,12 @@ pub record PathAnswer : Type 0 where
   pub line : ℕ
   pub column : Option ℕ
 
--- the column, where the version tells it
+-- the column, if the version tells it
 abbrev pub told_column : PathVersion → ℕ → Option ℕ
 told_column Three column = Some column
 told_column Four column = None
 
--- an answer told by path, where the files of units have these paths
+-- an answer told by path, where these are the paths of the files of units
 abbrev pub path_answer : PathVersion → (ℕ → ℕ → List ℕ) → Answer → PathAnswer
 path_answer version path answer =
     record { path = path answer.unit answer.file; line = answer.line; column = told_column version answer.column }

@@ -1,4 +1,4 @@
--- Where a section and a table by path answer differently first, and what a comparison tells.
+-- Where a section and a table by path first answer differently, and the result of a comparison.
 use Rattle.std.specs.Prelude.{◌≡◌, ◌≢◌, ℕ, List, Option}
 use Rattle.std.specs.Option.{option_map}
 use Rattle.lnt_spans.specs.declared.position.Position.{Position}
@@ -13,11 +13,11 @@ use Rattle.lnt_paths.specs.PathFaults.{IsPathFault}
 use Rattle.lnt_paths.specs.PathSpans.{PathSpan, path_span_answer}
 use Rattle.lnt_paths.specs.PathTables.{IsPathTableOf}
 
--- an answer that is held, as it is told
+-- the value of an answer that is held
 abbrev pub told_path_answer : AnswerByPath → PathAnswer
 told_path_answer answer = record { path = answer.path.items; line = answer.line; column = answer.column }
 
--- At the position the two answer as told, and differently, and alike at every lower one.
+-- At this position the two sides give these answers, which differ, and at every lower one they answer alike.
 pub record DifferFirst (by_section by_table : Position → Option PathAnswer) (position : Position) (table section : Option PathAnswer) : Type
     0 where
   pub section_is : section ≡ by_section position
@@ -25,22 +25,22 @@ pub record DifferFirst (by_section by_table : Position → Option PathAnswer) (p
   pub differ : table ≢ section
   pub before : (p : Position) → IsBelow p position → by_section p ≡ by_table p
 
--- The difference tells the least position at which the two answer differently, and both answers there.
+-- This is the least position at which the two sides answer differently, with both answers there.
 abbrev pub IsLeastPathDifference : (Position → Option PathAnswer) → (Position → Option PathAnswer) → DifferenceByPath → Type 0
 IsLeastPathDifference by_section by_table difference =
     DifferFirst by_section by_table difference.position (option_map told_path_answer difference.by_table)
     (option_map told_path_answer difference.by_section)
 
--- ---- a comparison of bytes with what a section answers, as each version tells answers
+-- ---- a comparison of bytes with a section's answers in each version
 
--- The bytes are a table by path that answers at every position as the section does.
+-- The bytes are a table by path that answers as the section does at every position.
 pub record AnswersByPath (bytes : List ℕ) (section : PathVersion → Position → Option PathAnswer) : Type 0 where
   pub version : PathVersion
   pub table : List PathSpan
   pub is_table : IsPathTableOf version bytes table
   pub agree : (p : Position) → section version p ≡ path_span_answer table p
 
--- The bytes are a table by path, and this is where it differs from the section first.
+-- The bytes are a table by path, and this is its first difference from the section.
 pub record DiffersByPath (bytes : List ℕ) (section : PathVersion → Position → Option PathAnswer) (difference : DifferenceByPath) : Type
     0 where
   pub version : PathVersion

@@ -10,7 +10,7 @@ use Rattle.lnt_paths.specs.PathTables.{IsPathRecord, IsPathTable, path_column_co
 
 -- ---- one record
 
--- what a column holds
+-- the kinds of columns
 pub data PathKind : Type 0 where
   address : PathKind
   text : PathKind
@@ -24,17 +24,17 @@ IsOfPathKind address field = (n : ℕ) × IsAddress field n
 IsOfPathKind text field = Unit {0}
 IsOfPathKind decimal field = (n : ℕ) × IsDecimal field n
 
--- the field in a column is of the column's kind
+-- the field in column i is of the column's kind
 abbrev pub IsSoundField : Fields → ℕ → Type 0
 IsSoundField fields i = IsOfPathKind (get_or path_kinds i text) (get_or fields i [])
 
--- each column before this one is of its kind, and this one isn't
+-- column i is the first whose field isn't of its kind
 pub record IsFaultyField (fields : Fields) (i : ℕ) : Type 0 where
   pub there : i < length fields
   pub before : (k : ℕ) → k < i → IsSoundField fields k
   pub faulty : IsSoundField fields i → ⊥
 
--- After the records of these spans this record, which has that number, is faulty so.
+-- After the records of these spans, the record with this number and these fields has this fault.
 abbrev pub IsFaultyRecord : PathVersion → List PathSpan → ℕ → Fields → TableFault → Type 0
 IsFaultyRecord version spans number fields fault.Header = ⊥
 IsFaultyRecord version spans number fields (fault.Fields k) = (k ≡ number) × (length fields ≢ path_column_count version)
@@ -55,7 +55,7 @@ pub record HasFaultyPathRecord (bytes : List ℕ) (told : TableFault) : Type 0 w
   pub table : IsPathTable version records spans
   pub faulty : IsFaultyRecord version spans (length records) fields told
 
--- The fault that is told is the first one of the bytes.
+-- This is the first fault of the bytes.
 abbrev pub IsPathFault : List ℕ → TableFault → Type 0
 IsPathFault bytes fault.Header = (version : PathVersion) → BeginsWith bytes (path_column_names version ∷ []) → ⊥
 IsPathFault bytes (fault.Fields k) = HasFaultyPathRecord bytes (fault.Fields k)

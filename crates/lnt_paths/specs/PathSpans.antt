@@ -1,4 +1,4 @@
--- Spans of positions with an answer by path: what a list of them answers, and the one list for each way to answer.
+-- Spans of positions with answers by path: what a list of them answers, and the canonical list for each way to answer.
 use Rattle.std.specs.Prelude.{◌≡◌, ◌≢◌, Bool, ◌&&◌, List, [], ◌∷◌, Option}
 use Rattle.std.specs.List.{find}
 use Rattle.std.specs.Option.{option_map}
@@ -6,7 +6,7 @@ use Rattle.lnt_spans.specs.declared.position.Position.{Position}
 use Rattle.lnt_spans.specs.Positions.{IsBelow, IsAtMost, is_below, is_at_most}
 use Rattle.lnt_paths.specs.PathAnswers.{PathAnswer}
 
--- the positions from `low` up to `high`, which is not among them, with one answer
+-- the half-open range of positions from `low` up to `high`, with one answer
 pub record PathSpan : Type 0 where
   pub low : Position
   pub high : Position
@@ -18,19 +18,19 @@ pub record PathSpan : Type 0 where
 abbrev pub is_in_path_span : Position → PathSpan → Bool
 is_in_path_span p span = is_at_most span.low p && is_below p span.high
 
--- the answer of the span that holds p, else none
+-- the answer of the span that holds p, else None
 abbrev pub path_span_answer : List PathSpan → Position → Option PathAnswer
 path_span_answer spans p = option_map (λ span. span.answer) (find (is_in_path_span p) spans)
 
 -- ---- canonical spans
 
--- Each span holds something, and none begins below the end of the one before it.
+-- Each span holds a position, and none begins below the end of the one before it.
 abbrev pub StandInOrder : List PathSpan → Type 0
 StandInOrder [] = Unit {0}
 StandInOrder (span ∷ []) = IsBelow span.low span.high
 StandInOrder (span ∷ next ∷ spans) = IsBelow span.low span.high × IsAtMost span.high next.low × StandInOrder (next ∷ spans)
 
--- No span that ends where the next one begins has its answer.
+-- No two spans that touch have the same answer.
 abbrev pub PathsDifferWhereTheyTouch : List PathSpan → Type 0
 PathsDifferWhereTheyTouch [] = Unit {0}
 PathsDifferWhereTheyTouch (span ∷ []) = Unit {0}
@@ -42,7 +42,7 @@ pub record AreCanonicalPaths (spans : List PathSpan) : Type 0 where
   pub in_order : StandInOrder spans
   pub differ : PathsDifferWhereTheyTouch spans
 
--- They are the canonical spans that answer so.
+-- These are the canonical spans with these answers.
 pub record AreCanonicalOf (answers : Position → Option PathAnswer) (spans : List PathSpan) : Type 0 where
   pub canonical : AreCanonicalPaths spans
   pub same : (p : Position) → path_span_answer spans p ≡ answers p

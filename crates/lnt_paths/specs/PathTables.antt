@@ -1,4 +1,4 @@
--- An address table by path, as `csv` reads its records from the bytes.
+-- An address table by path, in terms of the records that `csv` reads from its bytes.
 use Rattle.std.specs.Prelude.{◌≡◌, ℕ, List, [], ◌∷◌, Option, Some, None, length, get_or, codes}
 use Rattle.std.specs.List.{AllZip}
 use Rattle.lnt_digits.specs.Digits.{IsAddress, IsDecimal}
@@ -8,7 +8,7 @@ use Rattle.lnt_paths.specs.declared.version.PathVersion.TheVariants.{Three, Four
 use Rattle.lnt_paths.specs.PathAnswers.{PathAnswer}
 use Rattle.lnt_paths.specs.PathSpans.{PathSpan, StandInOrder}
 
--- record 0
+-- the header, record 0
 abbrev pub path_column_names : PathVersion → Fields
 path_column_names Three = codes "low" ∷ codes "high" ∷ codes "path" ∷ codes "line" ∷ codes "column" ∷ []
 path_column_names Four = codes "low" ∷ codes "high" ∷ codes "path" ∷ codes "line" ∷ []
@@ -17,13 +17,13 @@ abbrev pub path_column_count : PathVersion → ℕ
 path_column_count Three = 5
 path_column_count Four = 4
 
--- the column that version 3 has more
+-- the column, which only version 3 has
 abbrev pub SaysColumn : (List ℕ → ℕ → Type 0) → PathVersion → Fields → Option ℕ → Type 0
 SaysColumn Number Three fields None = ⊥
 SaysColumn Number Three fields (Some column) = Number (get_or fields 4 []) column
 SaysColumn Number Four fields column = column ≡ None
 
--- A record that says two addresses and an answer, where addresses and numbers are written in these ways.
+-- A record of two addresses and an answer, in these spellings of addresses and numbers.
 pub record SaysPath (Address Number : List ℕ → ℕ → Type 0) (version : PathVersion) (fields : Fields) (low high : ℕ)
     (answer : PathAnswer) : Type 0 where
   pub count : length fields ≡ path_column_count version
@@ -33,7 +33,7 @@ pub record SaysPath (Address Number : List ℕ → ℕ → Type 0) (version : Pa
   pub line : Number (get_or fields 3 []) answer.line
   pub column : SaysColumn Number version fields answer.column
 
--- A record that says the span: it begins and ends at operation index 0.
+-- A record of the span, which begins and ends at operation index 0.
 pub record SaysPathSpan (Address Number : List ℕ → ℕ → Type 0) (version : PathVersion) (fields : Fields) (span : PathSpan) : Type 0 where
   pub says : SaysPath Address Number version fields span.low.address span.high.address span.answer
   pub low_op : span.low.op ≡ 0
@@ -44,12 +44,12 @@ IsPathRecord version fields span = SaysPathSpan IsAddress IsDecimal version fiel
 
 -- ---- a table
 
--- each record says a span, and the spans are in order, none empty
+-- each record is that of its span, and the spans are in order, none empty
 pub record ArePathSpans (version : PathVersion) (records : List Fields) (spans : List PathSpan) : Type 0 where
   pub each : AllZip (IsPathRecord version) records spans
   pub in_order : StandInOrder spans
 
--- the names of the columns, and a record for each span
+-- the header, and a record for each span
 abbrev pub IsPathTable : PathVersion → List Fields → List PathSpan → Type 0
 IsPathTable version [] spans = ⊥
 IsPathTable version (first ∷ records) spans = (first ≡ path_column_names version) × ArePathSpans version records spans

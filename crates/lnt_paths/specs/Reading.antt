@@ -1,4 +1,4 @@
--- One record of a table by path, as it is read. The bodies of this crate use it among themselves.
+-- Reading one record of a table by path. Only the bodies of this crate use this.
 use Rattle.std.specs.Prelude.{◌≡◌, ◌≢◌, ℕ, ◌<◌, [], ◌∷◌, length, get_or, codes}
 use Rattle.lnt_records.specs.Table.{Fields}
 use Rattle.lnt_spans.specs.declared.position.Position.{Position}
@@ -11,23 +11,23 @@ use Rattle.lnt_paths.specs.PathFaults.{IsFaultyField, IsSoundField, PathKind, pa
 use Rattle.lnt_paths.specs.PathSpans.{PathSpan}
 use Rattle.lnt_paths.specs.PathTables.{path_column_count}
 
--- the columns of both versions
+-- the columns that both versions have
 abbrev pub place_names : Fields
 place_names = codes "low" ∷ codes "high" ∷ codes "path" ∷ codes "line" ∷ []
 
 abbrev pub IsFieldOfKind : PathKind → ℕ → Type 0
 IsFieldOfKind kind i = get_or path_kinds i text ≡ kind
 
--- each column before this one is of its kind
+-- each field before column i is of its column's kind
 abbrev pub AreSoundUpTo : Fields → ℕ → Type 0
 AreSoundUpTo fields i = (k : ℕ) → k < i → IsSoundField fields k
 
--- a column is the first that isn't of its kind
+-- the fault names the first column whose field isn't of its kind
 abbrev pub IsFieldFault : Fields → FieldFault → Type 0
 IsFieldFault fields field_fault.Count = ⊥
 IsFieldFault fields (field_fault.Number i) = IsFaultyField fields i
 
--- the same, or the record hasn't the columns of the version
+-- either that, or the record hasn't as many fields as the version has columns
 abbrev pub IsPathRecordFault : PathVersion → Fields → FieldFault → Type 0
 IsPathRecordFault version fields field_fault.Count = length fields ≢ path_column_count version
 IsPathRecordFault version fields (field_fault.Number i) = (length fields ≡ path_column_count version) × IsFaultyField fields i
@@ -36,10 +36,10 @@ IsPathRecordFault version fields (field_fault.Number i) = (length fields ≡ pat
 abbrev pub whole : ℕ → Position
 whole address = record { address = address; op = 0 }
 
--- what a record answers
+-- the answer of a record
 abbrev pub record_answer : PathRecord → PathAnswer
 record_answer said = record { path = said.path.now; line = said.line; column = said.column }
 
--- the span that it says
+-- the span of a record
 abbrev pub record_span : PathRecord → PathSpan
 record_span said = record { low = whole said.low; high = whole said.high; answer = record_answer said }

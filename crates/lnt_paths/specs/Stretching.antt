@@ -1,4 +1,4 @@
--- How far the stretches of a section and a table by path are told.
+-- How far the stretches of a section and a table by path were given.
 use Rattle.std.specs.Prelude.{◌≡◌, ◌⊎◌, ℕ, ◌+◌, List, [], ◌∷◌, ◌++◌, Option, Some, None, cond, length, map}
 use Rattle.std.specs.List.{AllByRecursion}
 use Rattle.std.specs.Option.{option_copied, option_map}
@@ -25,12 +25,12 @@ use Rattle.lnt_paths.specs.Reading.{whole}
 
 -- ---- one side
 
--- From a position on up to the end, which is after it, or at all of them, this is answered.
+-- From `at` up to the end, which lies after it, this is the answer at every position; without an end, at all from `at` on.
 pub record IsRun {X : Type 0} (answers : Position → Option X) (at : Position) (answer : Option X) (end : Option Position) : Type 0 where
   pub past : IsBefore at end
   pub says : (p : Position) → IsAtMost at p → IsBefore p end → answers p ≡ answer
 
--- These spans of a section are still to come, and from the position on they answer as the function does.
+-- These spans of a section are still to come, and from `at` on they answer as the function does.
 pub record IsSectionAt {S : Type 0} (to_come : S → List Span → Type 0) (tell : Answer → PathAnswer) (section : Section S) (at : Position)
     (answers : Position → Option PathAnswer) : Type 0 where
   pub rest : List Span
@@ -44,7 +44,7 @@ abbrev pub PathsEndAfter : Position → List PathSpan → Type 0
 PathsEndAfter p [] = Unit {0}
 PathsEndAfter p (span ∷ spans) = IsBelow p span.high
 
--- The same of what is left of a table.
+-- The spans that a table has left answer as the function does from `at` on.
 pub record IsTableAt (table : List HeldSpan) (at : Position) (answers : Position → Option PathAnswer) : Type 0 where
   pub order : StandInOrder (map held_span table)
   pub past : PathsEndAfter at (map held_span table)
@@ -55,38 +55,39 @@ abbrev pub held_end : Position → List HeldSpan → Option Position
 held_end at [] = None
 held_end at (held ∷ table) = Some (cond (is_below at (whole held.low)) (whole held.low) (whole held.high))
 
--- whether a gap is before the first span
+-- 1 if a gap lies between the position and the first span, else 0
 abbrev pub held_gap : Position → List HeldSpan → ℕ
 held_gap at [] = 0
 held_gap at (held ∷ table) = cond (is_below at (whole held.low)) 1 0
 
--- so many runs are left at most
+-- an upper bound on the runs of one answer that are left
 abbrev pub held_runs : Position → List HeldSpan → ℕ
 held_runs at table = length table + length table + held_gap at table
 
 -- ---- both sides
 
--- From the position on, as long as these two answers stay, one of the stretches holds them.
+-- The positions from `at` on, for as long as both sides keep these two answers, all lie in one of the stretches given.
 abbrev pub IsOpen : {X : Type 0} → (Position → Option X) → (Position → Option X) → Position → Option X → Option X → List (Stretch X)
     → Type 0
 IsOpen by_section by_table at section table told =
     (p : Position) → IsAtMost at p → Stay by_section by_table section table at p → AreAnswers by_section by_table section table p
     → IsInOne by_section by_table told p
 
--- What is told so far of the stretches below a position.
+-- The stretches given so far are exactly those that begin below `at`.
 pub record AreToldBelow {X : Type 0} (by_section by_table : Position → Option X) (at : Position) (section table : Option X)
     (told : List (Stretch X)) : Type 0 where
   pub each : AllByRecursion (BeginsStretch by_section by_table) told
   pub rising : AreRising told
   pub below : AllByRecursion (λ stretch. IsBelow stretch.position at) told
   pub all : (p : Position) → IsBelow p at → (by_section p ≡ by_table p) ⊎ IsInOne by_section by_table told p
-  -- these two were the last answers: if they differ, the last stretch goes on as long as they stay
+  -- `section` and `table` were the last answers: if they differ, the last stretch lasts as long as they stay
   pub going : (section ≡ table) ⊎ IsOpen by_section by_table at section table told
-  -- right below the position the two answer so, or alike
+  -- right below `at` both sides have these answers, or answer alike
   pub last : (p : Position) → IsBelow p at
       → (q : Position) × IsAtMost p q × IsBelow q at × ((by_section q ≡ by_table q) ⊎ AreAnswers by_section by_table section table q)
 
--- Of the stretches these are told, and the spans to come from there on are at hand. Files of units have these paths.
+-- These stretches were given, and the spans from there on are still to come, where these are the paths of the files of
+-- units.
 pub record HasToldByPath {S : Type 0} (to_come : S → List Span → Type 0) (path : ℕ → ℕ → List ℕ) (differences : DifferencesByPath S)
     (by_section by_table : Position → Option PathAnswer) (told : List (Stretch PathAnswer)) : Type 0 where
   pub section : IsSectionAt to_come (path_answer differences.version path) differences.section differences.at by_section
@@ -94,14 +95,14 @@ pub record HasToldByPath {S : Type 0} (to_come : S → List Span → Type 0) (pa
   pub below : AreToldBelow by_section by_table differences.at (option_map (path_answer differences.version path) differences.by_section)
       (option_map told_path_answer (option_copied differences.by_table)) told
 
--- At most so many stretches are left to tell, where the section's source has no more spans left than the function says. Each begins
--- where a run of one side does, so the runs that both have left are counted.
+-- An upper bound on the stretches that are left to give, where the function bounds the spans that are left in the section's
+-- source. Each stretch begins where a run of one side does, so the runs left on both sides are added up.
 abbrev pub path_stretches_left : {S : Type 0} → (S → ℕ) → DifferencesByPath S → ℕ
 path_stretches_left of_section differences =
     runs_left differences.at differences.section.next (of_section differences.section.spans)
     + held_runs differences.at differences.table.now
 
--- a stretch that was found, as it is told
+-- a stretch that was found, told by path
 abbrev pub stretch_begun : (Answer → PathAnswer) → Begun → Stretch PathAnswer
 stretch_begun tell begun = record {
   position = begun.position;
@@ -109,7 +110,7 @@ stretch_begun tell begun = record {
   by_table = option_map told_path_answer (option_copied begun.by_table);
 }
 
--- what one step brings
+-- what holds after one step, by what the step found
 abbrev pub Steps : {S : Type 0} → (S → List Span → Type 0) → (ℕ → ℕ → List ℕ) → DifferencesByPath S → (Position → Option PathAnswer)
     → (Position → Option PathAnswer) → List (Stretch PathAnswer) → Step → Type 0
 Steps to_come path differences by_section by_table told Ended = AreStretches by_section by_table told

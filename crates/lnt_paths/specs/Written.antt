@@ -1,4 +1,4 @@
--- An address table by path as it is written.
+-- An address table by path, in the form in which it is written.
 use Rattle.std.specs.Prelude.{◌≡◌, ℕ, List, [], ◌∷◌, ◌++◌, Option}
 use Rattle.std.specs.Io.KnownBytes.{Appends, Keeps}
 use Rattle.std.specs.List.{AllZip}
@@ -15,36 +15,36 @@ use Rattle.lnt_paths.specs.PathAnswers.{PathAnswer}
 use Rattle.lnt_paths.specs.PathSpans.{AreCanonicalOf, PathSpan}
 use Rattle.lnt_paths.specs.PathTables.{IsPathTableOf, path_column_names, SaysPathSpan}
 
--- A record that says the span, its numbers without leading zeros and its letters in lower case.
+-- A record of the span without leading zeros and with letters in lower case.
 abbrev pub IsPlainPathRecord : PathVersion → Fields → PathSpan → Type 0
 IsPlainPathRecord version fields span = SaysPathSpan IsPlainAddress IsPlainDecimal version fields span
 
--- records, each on a line, with a field in quotes only where it needs them
+-- records as lines, with a field in quotes only if it needs them
 abbrev pub records_text : List Fields → List ℕ
 records_text [] = []
 records_text (fields ∷ records) = row_text default_writer fields ++ records_text records
 
--- a line with the names of the columns, and a line for each span
+-- the header as a line, and a line for each span
 pub record IsPlainPathTable (version : PathVersion) (bytes : List ℕ) (spans : List PathSpan) : Type 0 where
   pub records : List Fields
   pub lines : bytes ≡ records_text (path_column_names version ∷ records)
   pub each : AllZip (IsPlainPathRecord version) records spans
 
--- The bytes are a table of this version, on plain lines, of the canonical spans that answer so.
+-- The bytes are a table of this version, on plain lines, of the canonical spans with these answers.
 pub record IsCanonicalPathTable (version : PathVersion) (answers : Position → Option PathAnswer) (bytes : List ℕ) : Type 0 where
   pub spans : List PathSpan
   pub canonical : AreCanonicalOf answers spans
   pub table : IsPathTableOf version bytes spans
   pub plain : IsPlainPathTable version bytes spans
 
--- The canonical spans that answer so can't be told: this is the least position at which one begins or ends at an operation
--- index other than 0.
+-- No table can tell the canonical spans with these answers: this is the least position at which one begins or ends with an
+-- operation index other than 0.
 pub record HasOperationIndex (answers : Position → Option PathAnswer) (position : Position) : Type 0 where
   pub spans : List PathSpan
   pub canonical : AreCanonicalOf answers spans
   pub least : IsLeastOperation spans position
 
--- The writer has gained a front of the names of the columns and the lines of the first of the canonical spans that answer so.
+-- The writer has gained a prefix of the header and the lines of the first canonical spans with these answers.
 pub record BeginsPathTable (version : PathVersion) (answers : Position → Option PathAnswer) (old new : Option (List ℕ)) : Type 0 where
   pub spans : List PathSpan
   pub canonical : AreCanonicalOf answers spans
@@ -55,8 +55,8 @@ pub record BeginsPathTable (version : PathVersion) (answers : Position → Optio
   pub each : AllZip (IsPlainPathRecord version) records first
   pub front : AppendsFront old new (records_text (path_column_names version ∷ records))
 
--- What became of the table of what is answered so, and what a writer that held some bytes holds then: it has gained exactly
--- the bytes of the table, or nothing, where there can't be one.
+-- What came of writing the table of these answers, and what the writer has gained: exactly the bytes of the table, or
+-- nothing where there can't be one.
 abbrev pub HasBecome : PathVersion → (Position → Option PathAnswer) → Option (List ℕ) → Option (List ℕ) → PathTable → Type 0
 HasBecome version answers old new Written = (bytes : List ℕ) × Appends old new bytes × IsCanonicalPathTable version answers bytes
 HasBecome version answers old new (OperationIndex position) = Keeps old new × HasOperationIndex answers position

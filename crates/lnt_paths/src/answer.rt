@@ -1,20 +1,20 @@
-//! What is answered by path, and what a comparison of a table by path tells.
+//! Answers by path, and the result of comparing a table by path.
 use lnt_records::TableFault;
 use lnt_spans::Position;
 
-/// What is answered at a position, as a table by path tells it.
+/// The answer at a position, as a table by path tells it.
 #[derive(Drop)]
 pub struct AnswerByPath {
-    /// The bytes of the whole path of the file.
+    /// The whole path of the file, as bytes.
     pub path: Vec<u8>,
-    /// The line in it.
+    /// The line in the file.
     pub line: u64,
-    /// The column in the line, where the version tells it.
+    /// The column in the line; None where the version doesn't tell it.
     pub column: Option<u64>,
 }
 
 /// A position at which a table by path and a section answer differently, with both answers as the table's version tells
-/// them. None says that no span holds the position.
+/// them. An answer is None where no span holds the position.
 #[derive(Drop)]
 pub struct DifferenceByPath {
     /// The position.
@@ -28,10 +28,10 @@ pub struct DifferenceByPath {
 /// What a comparison of a table by path with a section found.
 #[derive(Drop)]
 pub enum ComparedByPath {
-    /// The table answers as the section at every position.
+    /// The table answers as the section does at every position.
     Same,
-    /// The bytes are no table by path: this is the first fault.
+    /// The bytes are not a table by path: this is the first fault.
     Fault(TableFault),
-    /// The bytes are a table by path, and this is the least position at which the two answer differently.
+    /// The bytes are a table by path, and this is the least position at which it and the section answer differently.
     Differs(DifferenceByPath),
 }

@@ -1,4 +1,4 @@
-//! Whether spans joined by path begin and end at whole instructions.
+//! Checks whether spans joined by path begin and end at whole instructions.
 ghost use Rattle.std.specs.Prelude.{List, IfOk, MatchOption};
 ghost use Rattle.std.specs.List.{AllByRecursion};
 ghost use Rattle.lnt_spans.specs.declared.span.Span as spec;
@@ -13,7 +13,7 @@ use lnt_records::WriteStop;
 use lnt_spans::{Position, SpanSource};
 use std::alloc::Global;
 
-// The first position where one of the joined spans begins or ends at an operation index other than 0, if there is one.
+// The first position at which a joined span begins or ends with an operation index other than 0, if there is one.
 pub(crate) fn first_operation<S: SpanSource + Drop, P: Paths>(
     alloc: Global,
     spans: S,

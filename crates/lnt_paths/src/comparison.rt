@@ -1,4 +1,4 @@
-//! A table by path compared with the spans of a section, record by record.
+//! Compares a table by path with the spans of a section, record by record.
 ghost use Rattle.std.specs.Prelude.{◌≡◌, ◌+◌, ◌^◌, ◌<◌, ◌≤◌, List, [], ◌∷◌, ◌++◌, length, IfOk, MatchOption, None, OnOk, ℕ};
 ghost use Rattle.std.specs.Option.{option_map};
 ghost use Rattle.csv.specs.Records.{fields_of};
@@ -29,16 +29,16 @@ use lnt_records::{TableFault, read_next, reader_of};
 use lnt_spans::{Answer, SpanSource};
 use std::alloc::{AllocError, Global};
 
-/// Compares the table by path in some bytes with the spans of a section, which come from a source.
+/// Compares the table by path in these bytes with the spans of a section, which come from a source.
 ///
-/// As long as the table's lines have nothing in quotes they are read in one pass over their bytes, and the records after
-/// these one by one, as `csv` reads them; none is kept. `Same`: the bytes are a table by path that answers
-/// at every position as the spans do, told by path as the table's version tells: paths are compared byte for byte. `Fault`:
-/// they are no such table. The first faulty record is told, whatever was different before it. `Differs`: all records are
-/// well formed, and at no lower position do the answers differ; both are told in the table's version.
+/// As long as the table's lines have nothing in quotes, they are parsed in one pass over their bytes; the records after
+/// these are read one by one by `csv`. None is kept. `Same`: the bytes are a table by path that answers at every position as
+/// the spans do, told by path as the table's version tells: paths are compared byte for byte. `Fault`: the bytes are not
+/// such a table. The first faulty record is reported, even if answers differed before it. `Differs`: all records are well
+/// formed, and the answers differ at this position and at no lower one; both are told in the table's version.
 ///
-/// No list of the spans is made, and a path is made again only where it was asked for long ago. The caller sees to it that the
-/// spans are in order and none is empty. The one error is that memory ran out.
+/// No list of the spans is made, and a path is made again only after another file took its slot in a cache. The caller makes
+/// sure that the spans are in order and none is empty. The one error is that memory ran out.
 pub fn compare_by_path<S: SpanSource + Drop, P: Paths>(
     alloc: Global,
     table: &[u8],
@@ -60,8 +60,8 @@ pub fn compare_by_path<S: SpanSource + Drop, P: Paths>(
     compare_after(alloc, &table[at..], version, comparison, paths)
 }
 
-// The version whose columns record 0 names, if it is a header. The reader of records is large, and the stack is short: it has
-// a function of its own, so that no caller holds it beside its own values.
+// The version whose columns record 0 names, if it is a header. A function of its own, never inlined: a reader of records is
+// large, the stack is short, and no caller should hold it beside its own values.
 #[inline(never)]
 fn header_of(alloc: Global, table: &[u8]) -> Result<Option<PathVersion>, AllocError>
     ensures { IfOk result (λ found. MatchOption found ((v : PathVersion) → BeginsWith table.now (path_column_names v ∷ []) → ⊥)
@@ -72,8 +72,8 @@ fn header_of(alloc: Global, table: &[u8]) -> Result<Option<PathVersion>, AllocEr
     read_header(&mut reader, &mut row)
 }
 
-// Compares the records of a text after its first one with what is left of a section, as `csv` reads them. It holds a reader
-// of records, as `header_of` does.
+// Compares the records of a text after its first one, as `csv` reads them, with the spans that a section has left. Not
+// inlined, since it holds a reader, as `header_of` does.
 #[inline(never)]
 fn compare_after<S: SpanSource + Drop, P: Paths>(
     alloc: Global,
@@ -95,7 +95,7 @@ fn compare_after<S: SpanSource + Drop, P: Paths>(
     compare_records(alloc, &mut reader, &mut row, version, comparison, paths)
 }
 
-// The same of the records that a reader has to give, which has read the first record of a text, into `row`.
+// Compares the records that the reader has left after the first one, each read into `row`.
 fn compare_records<S: SpanSource + Drop, P: Paths>(
     alloc: Global,
     reader: &mut Reader<&[u8]>,
@@ -127,21 +127,21 @@ fn compare_records<S: SpanSource + Drop, P: Paths>(
     }
 }
 
-// The spans of a section, compared with the records of a table by path so far.
+// The state of a comparison: the spans of a section, and the records of a table by path so far.
 #[derive(Drop)]
 pub(crate) struct PathComparison<S> {
     pub(crate) section: Section<S>,
     pub(crate) known: KnownPaths,
-    // where the records end
+    // the address where the last record ends; 0 where there is none
     pub(crate) at: u64,
-    // what differs first below that
+    // the first difference below `at`
     pub(crate) first: Option<DifferenceByPath>,
-    // how many records there were, with the header
+    // the number of records so far, the header included, which is the number of the next record
     pub(crate) count: u64,
 }
 
 impl<S: SpanSource + Drop> PathComparison<S> {
-    // With the header alone.
+    // The state after the header alone.
     fn new(alloc: Global, spans: S) -> Result<PathComparison<S>, AllocError>
         ensures known { IfOk result (λ comparison. (path : ℕ → ℕ → List ℕ) → AreKnownOf path comparison.known.slots.items) }
         ensures left { IfOk result (λ comparison. (list : List spec.Span) → S.to_come spans list
@@ -158,7 +158,7 @@ impl<S: SpanSource + Drop> PathComparison<S> {
         })
     }
 
-    // Compares one more record, which holds something and begins where the records end or after that.
+    // Compares one more record, which isn't empty and begins at or after the end of the one before it.
     pub(crate) fn push<P: Paths>(
         &mut self,
         alloc: Global,
@@ -196,7 +196,7 @@ impl<S: SpanSource + Drop> PathComparison<S> {
         Ok(())
     }
 
-    // Takes the next record, if it isn't faulty.
+    // Compares the next record, or gives its fault.
     fn take_record<P: Paths>(
         &mut self,
         alloc: Global,
@@ -224,7 +224,8 @@ impl<S: SpanSource + Drop> PathComparison<S> {
         Ok(None)
     }
 
-    // The least position at which the section and the table answer differently, where no record follows.
+    // The least position at which the section and the table answer differently, once no record follows. None where they
+    // answer alike at every position.
     fn finish<P: Paths>(
         self,
         alloc: Global,
@@ -254,7 +255,7 @@ impl<S: SpanSource + Drop> PathComparison<S> {
     }
 }
 
-// What a section answers, as it is told.
+// An answer of a section, told by path.
 pub(crate) fn told_of<P: Paths>(
     alloc: Global,
     paths: &P,
@@ -271,7 +272,7 @@ pub(crate) fn told_of<P: Paths>(
     })
 }
 
-// What a record answers, as it is told.
+// The answer of a record, with a path of its own.
 pub(crate) fn said_of(alloc: Global, said: &PathRecord<'_>) -> Result<AnswerByPath, AllocError>
     ensures { IfOk result (λ told. told_path_answer told ≡ record_answer said.now) }
 {
@@ -283,7 +284,7 @@ pub(crate) fn said_of(alloc: Global, said: &PathRecord<'_>) -> Result<AnswerByPa
     })
 }
 
-// Where a section and a record answer differently, with both answers as they are told.
+// A difference between a section and a record, with both answers told by path.
 fn difference_of<P: Paths>(
     alloc: Global,
     paths: &P,

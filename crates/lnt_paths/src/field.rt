@@ -1,4 +1,4 @@
-//! Paths as fields of a record, and those of the files that were used lately.
+//! Caches the paths of files as fields of a record.
 ghost use Rattle.std.specs.Prelude.{◌≡◌, ◌++◌, ◌∷◌, ℕ, List, [], IfOk, IsTrue, OnOk};
 ghost use Rattle.std.specs.Bool.{MatchBool};
 ghost use Rattle.std.specs.List.{All};
@@ -10,10 +10,10 @@ use csv::Writer;
 use lnt_records::WriteStop;
 use std::alloc::{AllocError, Global};
 
-// As many files are kept at most.
+// The number of fields kept at most.
 const SLOTS: u64 = 256;
 
-// The path of a file as a field of a record, with a comma after it.
+// The path of a file as a field of a record, with the comma after it.
 #[derive(Drop)]
 pub(crate) struct PathField {
     unit: u64,
@@ -21,14 +21,14 @@ pub(crate) struct PathField {
     text: Vec<u8>,
 }
 
-// Fields of the files that were used lately, each in the place that its number gives: code goes to and fro between files.
+// A cache of fields, one in each slot, which the file number selects. It pays since code goes back and forth between files.
 #[derive(Drop)]
 pub(crate) struct PathFields {
     slots: Vec<Option<PathField>>,
 }
 
 impl PathFields {
-    // None is kept.
+    // An empty cache.
     pub(crate) fn new(alloc: Global) -> Result<PathFields, AllocError>
         ensures { IfOk result (λ fields. (path : ℕ → ℕ → List ℕ) → AreFieldsOf path fields.slots.items) }
     {
@@ -39,7 +39,7 @@ impl PathFields {
         Ok(PathFields { slots })
     }
 
-    // Adds the path of a file to a line, with a comma after it.
+    // Adds the path of a file to a line, with the comma after it.
     pub(crate) fn put<P: Paths>(
         &mut self,
         alloc: Global,
@@ -68,7 +68,7 @@ impl PathFields {
     }
 }
 
-// The path of a file as a field of a record, with a comma after it.
+// The path of a file as a field of a record, with the comma after it.
 fn field_of<P: Paths>(alloc: Global, paths: &P, unit: u64, file: u64) -> Result<Vec<u8>, WriteStop>
     ensures { IfOk result (λ text. text.items ≡ field_with_comma (P.bytes_of paths.now unit file)) }
 {
@@ -82,7 +82,7 @@ fn field_of<P: Paths>(alloc: Global, paths: &P, unit: u64, file: u64) -> Result<
     Ok(text)
 }
 
-// Whether no byte of a field calls for quotes.
+// Whether a field can stand without quotes.
 fn is_plain(field: &[u8]) -> bool
     ensures { IsTrue result → All IsPlainByte field.now }
 {
@@ -94,7 +94,7 @@ fn is_plain(field: &[u8]) -> bool
     true
 }
 
-// Whether a field with this byte is put in quotes.
+// Whether a field with this byte needs quotes.
 #[inline(always)]
 #[tactic(auto, using(crate::proofs::LineLemmas::plain_byte))]
 pub(crate) fn calls_for_quotes(byte: u8) -> bool
@@ -103,7 +103,7 @@ pub(crate) fn calls_for_quotes(byte: u8) -> bool
     byte == b',' || byte == b'"' || byte == b'\r' || byte == b'\n'
 }
 
-// A record of a path and an empty field: the first one as it is to be, a comma and a line feed.
+// A record of the path and an empty field: less its line feed, that is the field with a comma.
 fn record_of(alloc: Global, path: &[u8]) -> Result<Vec<u8>, WriteStop>
     ensures { IfOk result (λ text. text.items ≡ row_text default_writer (path.now ∷ [] ∷ [])) }
 {

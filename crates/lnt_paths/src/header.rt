@@ -14,7 +14,8 @@ use csv::{ByteRecord, Reader};
 use lnt_records::{is_field, read_first};
 use std::alloc::AllocError;
 
-// Reads record 0 into `row`, and gives the version whose columns it names, if it is a header. The reader has read nothing.
+// Reads record 0 into `row`, and gives the version whose columns it names, if it is a header. The reader must have read
+// nothing yet.
 pub(crate) fn read_header(
     reader: &mut Reader<&[u8]>,
     row: &mut ByteRecord,
@@ -30,7 +31,7 @@ pub(crate) fn read_header(
     Ok(version_of(row))
 }
 
-// How many columns a table of the version has.
+// The number of columns in a table of this version.
 pub(crate) fn columns(version: PathVersion) -> usize
     ensures { result ≡ path_column_count version }
 {
@@ -40,7 +41,7 @@ pub(crate) fn columns(version: PathVersion) -> usize
     }
 }
 
-// The version whose columns a record names.
+// The version whose columns a record names, if it is a header.
 #[tactic(auto, using(crate::proofs::ReadingLemmas::names_none))]
 fn version_of(row: &ByteRecord) -> Option<PathVersion>
     ensures { MatchOption result ((v : PathVersion) → fields_of row.now ≢ path_column_names v)

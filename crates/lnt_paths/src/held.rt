@@ -1,4 +1,4 @@
-//! A table by path, read and held: what its records say, all at once.
+//! Reads a table by path and holds its spans.
 ghost use Rattle.std.specs.Prelude.{◌≡◌, ℕ, List, [], ◌∷◌, ◌++◌, length, map, IfOk, MatchOption};
 ghost use Rattle.csv.specs.Records.{fields_of};
 ghost use Rattle.lnt_records.specs.Progress.{HasRead};
@@ -18,42 +18,42 @@ use csv::{ByteRecord, Reader};
 use lnt_records::{TableFault, read_next, reader_of};
 use std::alloc::{AllocError, Global};
 
-/// A span of a table by path, held with its answer.
+/// A span of a table by path, held in memory with its answer.
 #[derive(Drop)]
 pub struct HeldSpan {
-    // the address at which it begins
+    // the address where it begins
     pub(crate) low: u64,
     // the first address after it
     pub(crate) high: u64,
     pub(crate) answer: AnswerByPath,
 }
 
-/// What the bytes of a table by path say.
+/// What the bytes of a table by path came to.
 #[derive(Drop)]
 pub enum HeldTable {
-    /// They are no table by path: this is the first fault.
+    /// They are not a table by path: this is the first fault.
     Fault(TableFault),
-    /// They are one of this version, of these spans, in order.
+    /// They are a table of this version with these spans, in order.
     Table(PathVersion, Vec<HeldSpan>),
 }
 
-/// Reads the table by path in some bytes, and holds its spans with the paths of their files.
+/// Reads the table by path in these bytes, and holds its spans with the paths of their files.
 ///
-/// `Table`: the bytes are a table by path of that version, and these are all of its spans. `Fault`: they are no such table,
-/// and the first faulty record is told, as `compare_by_path` tells it. All records are read by `csv`. The spans that are held
-/// stand in order. The one error is that memory ran out; then nothing is held.
+/// `Table`: the bytes are a table by path of that version, and these are all of its spans. `Fault`: the bytes are not such a
+/// table; the first faulty record is reported, as `compare_by_path` reports it. All records are read by `csv`. The spans
+/// held are in order. The one error is that memory ran out; then nothing is held.
 #[inline(never)]
 pub fn hold_table(alloc: Global, table: &[u8]) -> Result<HeldTable, AllocError>
     ensures held { IfOk result (λ held. IsHeld table.now held) }
     ensures in_order { IfOk result HoldsInOrder }
 {
-    // The reader is large, and the stack is short: so no caller holds it beside its own values.
+    // The reader is large and the stack is short: no caller should hold it beside its own values.
     let mut reader = reader_of(alloc, table);
     let mut row = ByteRecord::new(alloc);
     hold_read(alloc, &mut reader, &mut row)
 }
 
-// What is held of the bytes of a reader that has read nothing yet, each record into `row`.
+// Holds the table of a reader that has read nothing yet, each record read into `row`.
 fn hold_read(
     alloc: Global,
     reader: &mut Reader<&[u8]>,
@@ -68,7 +68,7 @@ fn hold_read(
     hold_records(alloc, reader, row, version)
 }
 
-// The same where it has read the header of a text.
+// Holds the records that the reader has left after the header.
 fn hold_records(
     alloc: Global,
     reader: &mut Reader<&[u8]>,
@@ -90,7 +90,7 @@ fn hold_records(
     Ok(HeldTable::Table(version, spans))
 }
 
-// Holds the span of the next record after those of some spans, if it isn't faulty.
+// Holds the span of the next record after those of these spans, or gives its fault.
 fn hold_record(
     alloc: Global,
     spans: &mut Vec<HeldSpan>,
@@ -115,7 +115,7 @@ fn hold_record(
     Ok(None)
 }
 
-// The address at which some spans end; 0 where there is none.
+// The address where the last span ends; 0 where there is none.
 fn end_of(spans: &[HeldSpan]) -> u64
     ensures { whole result ≡ path_end (map held_span spans.now) }
 {

@@ -1,4 +1,4 @@
-//! Spans that come, with those joined that touch and answer the same by path.
+//! Joins spans, as they come, where they touch and have the same answer by path.
 ghost use Rattle.std.specs.Prelude.{◌≡◌, ◌≢◌, ◌<◌, List, IfOk, IfSome};
 ghost use Rattle.std.specs.Bool.{MatchBool};
 ghost use Rattle.lnt_spans.specs.declared.answer.Answer as answer;
@@ -14,7 +14,7 @@ use lnt_records::WriteStop;
 use lnt_spans::{Answer, Span, SpanSource};
 use std::alloc::Global;
 
-// Spans that come, and the first of them at hand. They are given joined, each with the answer of its first part.
+// A source of spans, with its next span already taken out. They are given joined, each with the answer of its first part.
 #[derive(Drop)]
 pub(crate) struct Joined<S> {
     next: Option<Span>,
@@ -22,7 +22,7 @@ pub(crate) struct Joined<S> {
 }
 
 impl<S: SpanSource> Joined<S> {
-    // All spans of the source.
+    // Takes the first span out of the source.
     pub(crate) fn of(mut spans: S) -> Joined<S>
         ensures { (tell : answer.Answer → PathAnswer) (list joined : List spec.Span) → S.to_come spans list → AllJoinTo tell list joined
             → WillGive tell result.next (S.to_come result.spans) joined }
@@ -31,7 +31,7 @@ impl<S: SpanSource> Joined<S> {
         Joined { next, spans }
     }
 
-    // The next one, with all that go on with it.
+    // Gives the next joined span: the next span with all those that extend it.
     pub(crate) fn next_joined<P: Paths>(
         &mut self,
         alloc: Global,
@@ -75,7 +75,7 @@ fn goes_on<P: Paths>(
     Ok(same_path(alloc, paths, &last.answer, &span.answer)?)
 }
 
-// Whether two answers have the same line, and the same column where the version tells it.
+// Whether two answers have the same line, and the same column if the version tells it.
 pub(crate) fn same_place(version: PathVersion, one: &Answer, other: &Answer) -> bool
     ensures { MatchBool result ((one.now.line ≡ other.now.line)
         × (told_column version one.now.column ≡ told_column version other.now.column))

@@ -1,4 +1,4 @@
-//! The paths of the files that were asked for lately.
+//! Caches the paths of files.
 ghost use Rattle.std.specs.Prelude.{◌≡◌, ◌≢◌, ℕ, List, IfOk, OnOk};
 ghost use Rattle.std.specs.Bool.{MatchBool};
 ghost use Rattle.lnt_paths.specs.Merging.{AreKnownOf};
@@ -7,10 +7,10 @@ use crate::paths::Paths;
 use lnt_spans::Answer;
 use std::alloc::{AllocError, Global};
 
-// As many paths are kept at most.
+// The number of paths kept at most.
 const SLOTS: u64 = 4096;
 
-// The path of a file.
+// The path of a file, with its unit and file number.
 #[derive(Drop)]
 pub(crate) struct KnownPath {
     unit: u64,
@@ -18,15 +18,15 @@ pub(crate) struct KnownPath {
     path: Vec<u8>,
 }
 
-// Paths of files, each in the place that the numbers of its unit and file give: a path is made again only where another
-// file that has the same place was asked for in between.
+// A cache of paths, one in each slot, which the sum of the unit and the file number selects: a path is made again only after
+// another file with the same slot was asked for.
 #[derive(Drop)]
 pub(crate) struct KnownPaths {
     slots: Vec<Option<KnownPath>>,
 }
 
 impl KnownPaths {
-    // None is kept.
+    // An empty cache.
     pub(crate) fn new(alloc: Global) -> Result<KnownPaths, AllocError>
         ensures { IfOk result (λ known. (path : ℕ → ℕ → List ℕ) → AreKnownOf path known.slots.items) }
     {

@@ -9,28 +9,29 @@ pub fn one_canonical()
     ensures { OneCanonicalOfPaths }
 {}
 
-/// Bytes are a table by path of one version and of one list of spans.
+/// Bytes are a table by path of at most one version and one list of spans.
 pub fn one_table()
     ensures { OnePathTable }
 {}
 
-/// No fault is told of bytes that are a table by path.
+/// Bytes that are a table by path have no fault.
 pub fn no_fault()
     ensures { NoPathFault }
 {}
 
-/// Of bytes at most one fault of a table by path is the first one.
+/// At most one fault of a table by path is the first of some bytes.
 pub fn one_fault()
     ensures { OnePathFault }
 {}
 
-/// Two ways to answer differ first at one position at most, and there is one answer of each there.
+/// Two ways to answer have at most one first difference: one position, with one answer of each.
 pub fn one_difference()
     ensures { OneLeastPathDifference }
 {}
 
-/// Of bytes, and of what a section answers, [`compare_by_path`](crate::compare_by_path) has one thing to tell: that both answer the
-/// same, one fault, or one position with two answers, of whose paths the bytes count and not where they are held.
+/// For given bytes, and what a section answers, [`compare_by_path`](crate::compare_by_path) has only one possible result:
+/// that both answer the same, one fault, or one position with two answers. Paths count by their bytes, not by where they are
+/// held.
 pub fn one_comparison()
     ensures { OnePathComparison }
 {

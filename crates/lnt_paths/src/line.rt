@@ -1,4 +1,4 @@
-//! The line of a span.
+//! Writes the line of a span.
 ghost use Rattle.std.specs.Prelude.{◌≡◌, ◌++◌, OnOk};
 ghost use Rattle.csv.specs.Writing.{default_writer, row_text};
 ghost use Rattle.lnt_paths.specs.Joining.{AddsPathLine, AddsPlace, AreFieldsOf};
@@ -13,7 +13,7 @@ use lnt_records::WriteStop;
 use lnt_spans::{Answer, Span};
 use std::alloc::{AllocError, Global};
 
-// The line with the names of the columns.
+// The header as a line.
 pub(crate) fn header_line(version: PathVersion) -> &'static [u8]
     ensures { result.now ≡ row_text default_writer (path_column_names version) }
 {
@@ -23,7 +23,7 @@ pub(crate) fn header_line(version: PathVersion) -> &'static [u8]
     }
 }
 
-// Adds the line of a span, of which the addresses alone are told.
+// Adds the line of a span; of its positions only the addresses are written.
 pub(crate) fn put_line<P: Paths>(
     alloc: Global,
     paths: &P,
@@ -45,7 +45,7 @@ pub(crate) fn put_line<P: Paths>(
     Ok(())
 }
 
-// Adds the line in the file, in version 3 the column, and the end of the line.
+// Adds the line in the file, in version 3 the column, and the line feed.
 fn put_place(version: PathVersion, answer: &Answer, line: &mut Vec<u8>) -> Result<(), AllocError>
     ensures { OnOk result (AddsPlace version answer.now line.old.items line.new.items) }
 {

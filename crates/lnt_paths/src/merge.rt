@@ -1,4 +1,4 @@
-//! The spans of a section compared with one record of a table by path.
+//! Compares the spans of a section with one record of a table by path.
 ghost use Rattle.std.specs.Prelude.{◌≡◌, ◌≢◌, ◌<◌, true, List, [], ◌∷◌, IfOk, IfSome, MatchOption, None, OnOk, Some};
 ghost use Rattle.std.specs.Bool.{MatchBool};
 ghost use Rattle.lnt_spans.specs.declared.answer.Answer as spec_answer;
@@ -17,26 +17,26 @@ use crate::version::PathVersion;
 use lnt_spans::{Answer, Position, Span, SpanSource};
 use std::alloc::{AllocError, Global};
 
-// The spans of a section that may matter from some position on: the next one, of which the part before that position was cut
-// off, and those after it.
+// The spans of a section that still matter from some position on: the next one, cut to begin no lower than that position,
+// and those after it.
 #[derive(Drop)]
 pub(crate) struct Section<S> {
     pub(crate) next: Option<Span>,
     pub(crate) spans: S,
 }
 
-// Where a section and a record answer differently.
+// A position at which a section and a record answer differently.
 #[derive(Clone, Copy)]
 pub(crate) struct Apart {
     pub(crate) position: Position,
     // whether the record holds the position
     pub(crate) by_table: bool,
-    // what the section answers there
+    // the section's answer at the position
     pub(crate) by_section: Option<Answer>,
 }
 
 impl<S: SpanSource> Section<S> {
-    // All spans of the source.
+    // Takes the first span out of the source.
     pub(crate) fn of(mut spans: S) -> Section<S>
         ensures { (list : List spec.Span) → S.to_come spans list → IsLeft S.to_come result.next result.spans list }
     {
@@ -52,8 +52,8 @@ pub(crate) fn whole(address: u64) -> Position
     Position { address, op: 0 }
 }
 
-// Where a section differs first from a table that has this record alone, up to the record's end. Where it doesn't, the
-// section goes on with what is left of it from there on.
+// The first position below the record's end at which a section differs from a table with this record alone. If there is
+// none, `section` is left with the spans that matter from that end on.
 pub(crate) fn first_apart<S: SpanSource, P: Paths>(
     alloc: Global,
     paths: &P,
@@ -104,7 +104,7 @@ pub(crate) fn first_apart<S: SpanSource, P: Paths>(
     Ok(None)
 }
 
-// A span, if it begins below a position.
+// The span, if there is one and it begins below a position.
 fn begun_below(next: Option<Span>, at: Position) -> Option<Span>
     ensures { MatchOption result (IfSome next (λ span. IsAtMost at span.low)) (λ span. (next ≡ Some span) × IsBelow span.low at) }
 {
@@ -117,7 +117,7 @@ fn begun_below(next: Option<Span>, at: Position) -> Option<Span>
 }
 
 impl Apart {
-    // The record answers at the position, and the section doesn't.
+    // The record answers at this position, but the section doesn't.
     fn none_at(position: Position) -> Apart
         ensures { result ≡ (record { position = position; by_table = true; by_section = None }) }
     {
@@ -129,7 +129,7 @@ impl Apart {
     }
 }
 
-// Whether an answer of a section is that of a record.
+// Whether the answer of a section, told by path, is that of a record.
 fn answers_so<P: Paths>(
     alloc: Global,
     paths: &P,
@@ -149,7 +149,7 @@ fn answers_so<P: Paths>(
     known.has_path(alloc, paths, answer, said.path)
 }
 
-// The column, where the version tells it.
+// The column, if the version tells it.
 pub(crate) fn column_in(version: PathVersion, column: u64) -> Option<u64>
     ensures { result ≡ told_column version column }
 {

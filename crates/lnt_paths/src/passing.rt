@@ -1,4 +1,4 @@
-//! The records of a table by path that are read line by line, before `csv` reads the others.
+//! Parses the records of a table by path line by line, as long as that works, before `csv` reads the others.
 ghost use Rattle.std.specs.Prelude.{◌≡◌, ◌≤◌, List, [], ◌∷◌, drop, length, IfOk, OnOk};
 ghost use Rattle.lnt_records.specs.Table.{BeginsWith, Fields};
 ghost use Rattle.lnt_paths.specs.Merging.{AreKnownOf};
@@ -15,9 +15,9 @@ use lnt_spans::SpanSource;
 use std::alloc::{AllocError, Global};
 
 impl<S: SpanSource + Drop> PathComparison<S> {
-    // Takes the records after the header of a table, up to the first that is no sound record on a line of its own with nothing
-    // in quotes and no number of more than 18 digits, or that begins too early or holds nothing. Gives the place where the last
-    // line that was passed begins: `csv` may read on there, with that line once more.
+    // Parses and compares the records after the header, up to the first line that isn't well formed, has quotes or a number
+    // of more than 18 digits, or has a record that begins too early or is empty. Gives the index of the last line that was
+    // passed: from there `csv` may read on, with that line once more.
     pub(crate) fn pass_lines<P: Paths>(
         &mut self,
         alloc: Global,

@@ -1,4 +1,4 @@
-//! Lines of a table by path that have nothing in quotes, each read in one pass over its bytes.
+//! Parses lines of a table by path that have nothing in quotes, each in one pass over its bytes.
 ghost use Rattle.std.specs.Prelude.{◌≡◌, ◌≤◌, ◌∷◌, ◌++◌, drop, length, IfSome};
 ghost use Rattle.std.specs.List.{All};
 ghost use Rattle.lnt_paths.specs.Joining.{IsPlainByte};
@@ -7,10 +7,10 @@ ghost use Rattle.lnt_paths.specs.Passing.{IsPathBefore, IsPathLine, IsPlace};
 use crate::field::calls_for_quotes;
 use crate::record::PathRecord;
 use crate::version::PathVersion;
-use lnt_records::{address_before, decimal_before, past};
+use lnt_digits::{address_until, decimal_until, past};
 
-// What the line at a place says, and the place after that line. None says nothing of the line: it is left to `csv`. `last` is
-// the path that is tried first, that of the line before: most paths of a table are.
+// Parses the line at `at`; gives its record and the index of the next line. None leaves the line to `csv`. `last` is the
+// path of the line before; it is tried first, since most lines repeat it.
 #[inline(always)]
 pub(crate) fn line_at<'t>(
     table: &'t [u8],
@@ -22,8 +22,8 @@ pub(crate) fn line_at<'t>(
     ensures line { IfSome result (λ found. IsPathLine version found.0 (drop at table.now) (drop found.1 table.now)) }
     ensures plain { IfSome result (λ found. All IsPlainByte found.0.path.now) }
 {
-    let (low, at) = address_before(table, at, b',')?;
-    let (high, at) = address_before(table, at, b',')?;
+    let (low, at) = address_until(table, at, b',')?;
+    let (high, at) = address_until(table, at, b',')?;
     let (path, at) = path_before(table, at, last)?;
     let ((line, column), at) = place_at(table, at, version)?;
     let said = PathRecord {
@@ -36,7 +36,7 @@ pub(crate) fn line_at<'t>(
     Some((said, at))
 }
 
-// The path from a place on, up to a comma, and the place after that.
+// Parses the path at `at`, then a comma; gives the next index.
 #[inline(always)]
 fn path_before<'t>(table: &'t [u8], at: usize, last: &'t [u8]) -> Option<(&'t [u8], usize)>
     requires { All IsPlainByte last.now }
@@ -55,7 +55,7 @@ fn path_before<'t>(table: &'t [u8], at: usize, last: &'t [u8]) -> Option<(&'t [u
     Some((path, at + length))
 }
 
-// The first field of a text, where nothing in it calls for quotes, and how long it is with the comma after it.
+// The first field of a text, if it needs no quotes, and its length with the comma after it.
 #[inline(never)]
 fn plain_field<'t>(text: &'t [u8]) -> Option<(&'t [u8], usize)>
     ensures within { IfSome result (λ found. found.1 ≤ length text.now) }
@@ -73,19 +73,19 @@ fn plain_field<'t>(text: &'t [u8]) -> Option<(&'t [u8], usize)>
     None
 }
 
-// The line in the file, and the column where the version tells it, up to the end of the line.
+// Parses the line in the file, the column if the version tells it, and the line feed; gives the next index.
 #[inline(always)]
 fn place_at(table: &[u8], at: usize, version: PathVersion) -> Option<((u64, Option<u64>), usize)>
     ensures { IfSome result (λ found. IsPlace version found.0.0 found.0.1 (drop at table.now) (drop found.1 table.now)) }
 {
     match version {
         PathVersion::Three => {
-            let (line, at) = decimal_before(table, at, b',')?;
-            let (column, at) = decimal_before(table, at, b'\n')?;
+            let (line, at) = decimal_until(table, at, b',')?;
+            let (column, at) = decimal_until(table, at, b'\n')?;
             Some(((line, Some(column)), at))
         }
         PathVersion::Four => {
-            let (line, at) = decimal_before(table, at, b'\n')?;
+            let (line, at) = decimal_until(table, at, b'\n')?;
             Some(((line, None), at))
         }
     }

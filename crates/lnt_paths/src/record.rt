@@ -1,4 +1,4 @@
-//! The span that a record of a table by path says.
+//! Reads the span of a record of a table by path.
 ghost use Rattle.std.specs.Prelude.{◌≡◌, ◌+◌, ◌<◌, ◌≤◌, List, [], length, get_or, IfOk, IfErr, OnOk};
 ghost use Rattle.std.specs.Bool.{MatchBool};
 ghost use Rattle.csv.specs.Records.{fields_of};
@@ -15,19 +15,19 @@ use crate::version::PathVersion;
 use csv::ByteRecord;
 use lnt_records::{TableFault, field};
 
-// What a record says, its path where the record has it.
+// The fields of a record, as values; the path is borrowed from the record.
 #[derive(Clone, Copy)]
 pub(crate) struct PathRecord<'r> {
     pub(crate) low: u64,
     pub(crate) high: u64,
     pub(crate) path: &'r [u8],
     pub(crate) line: u64,
-    // where the version tells it
+    // None where the version doesn't tell it
     pub(crate) column: Option<u64>,
 }
 
 impl PathRecord<'_> {
-    // Whether it begins at this address or after that, and holds something.
+    // Whether the record begins at or above this address, and isn't empty.
     pub(crate) fn holds_from(&self, at: u64) -> bool
         ensures { MatchBool result ((at ≤ self.now.low) × (self.now.low < self.now.high))
             (at ≤ self.now.low → self.now.low < self.now.high → ⊥) }
@@ -36,16 +36,16 @@ impl PathRecord<'_> {
     }
 }
 
-// Why a record says no span.
+// Why a record has no span.
 #[derive(Clone, Copy)]
 pub(crate) enum FieldFault {
-    // It hasn't as many fields as the table has columns.
+    // The number of its fields isn't the number of columns.
     Count,
-    // This column is the first that isn't of its kind.
+    // This column is the first whose field isn't of its kind.
     Number(u64),
 }
 
-// What the record with this number says, if it isn't faulty, where those before it end at this address.
+// The values of the record with this number, or its fault, if the records before it end at this address.
 pub(crate) fn record_after<'r>(
     row: &'r ByteRecord,
     version: PathVersion,
@@ -68,7 +68,7 @@ pub(crate) fn record_after<'r>(
     Ok(said)
 }
 
-// What a record says.
+// The values of a record, or why it has none.
 fn record_of<'r>(row: &'r ByteRecord, version: PathVersion) -> Result<PathRecord<'r>, FieldFault>
     ensures ok { IfOk result (λ said. SaysPath IsAddress IsDecimal version (fields_of row.now) said.low said.high (record_answer said)) }
     ensures err { IfErr result (λ fault. IsPathRecordFault version (fields_of row.now) fault) }
@@ -99,7 +99,7 @@ fn record_in<'r>(row: &'r ByteRecord, version: PathVersion) -> Result<PathRecord
     })
 }
 
-// The column that version 3 tells.
+// The column, which only version 3 tells.
 fn column_in(row: &ByteRecord, version: PathVersion) -> Result<Option<u64>, FieldFault>
     requires count { length (fields_of row.now) ≡ path_column_count version }
     requires before { AreSoundUpTo (fields_of row.now) 4 }
@@ -115,7 +115,8 @@ fn column_in(row: &ByteRecord, version: PathVersion) -> Result<Option<u64>, Fiel
     }
 }
 
-// The address in a column, where each column before it is of its kind.
+// Reads the address in a column. The caller makes sure that the fields before it are of their columns' kinds, so that a
+// fault here is the first.
 #[tactic(auto, using(crate::proofs::ReadingLemmas::sound_address, crate::proofs::ReadingLemmas::no_address))]
 fn address_at(row: &ByteRecord, i: usize) -> Result<u64, FieldFault>
     requires there { i < length (fields_of row.now) }
@@ -131,7 +132,7 @@ fn address_at(row: &ByteRecord, i: usize) -> Result<u64, FieldFault>
     }
 }
 
-// The same of a decimal number.
+// Reads the decimal number in a column, as `address_at` reads an address.
 #[tactic(auto, using(crate::proofs::ReadingLemmas::sound_decimal, crate::proofs::ReadingLemmas::no_decimal))]
 fn decimal_at(row: &ByteRecord, i: usize) -> Result<u64, FieldFault>
     requires there { i < length (fields_of row.now) }

@@ -1,4 +1,4 @@
-//! All stretches of positions at which a section and a table by path answer differently, one after another.
+//! Lists all stretches of positions at which a section and a table by path answer differently, one after another.
 ghost use Rattle.std.specs.Prelude.{◌≡◌, ◌≢◌, ◌⊎◌, ◌<◌, ◌≤◌, ℕ, List, [], ◌∷◌, ◌++◌, map, None, Option, Some, IfOk, IfSome};
 ghost use Rattle.std.specs.Prelude.{MatchOption};
 ghost use Rattle.std.specs.Bool.{MatchBool};
@@ -32,31 +32,32 @@ use crate::version::PathVersion;
 use lnt_spans::{Answer, Position, Span, SpanSource};
 use std::alloc::{AllocError, Global};
 
-/// The stretches of positions at which a section and a table by path answer differently and stay the same two. The section's
-/// spans come from a source, and the table's are held.
+/// Gives the stretches: the longest ranges of positions at which a section and a table by path answer differently and both
+/// answers stay the same. The section's spans come from a source, and the table's are held.
 ///
-/// Contracts see which of the stretches were told (`HasToldByPath`), and how many are left at most (`path_stretches_left`). No list
-/// of them is held: only the next span of the section, the spans of the table that are left, and the last two answers.
+/// Contracts see which stretches were given (`HasToldByPath`), and an upper bound on the number left
+/// (`path_stretches_left`). No list of them is held: only the next span of the section, the spans that the table has left,
+/// and the last two answers.
 #[derive(Drop)]
 pub struct DifferencesByPath<'t, S> {
     version: PathVersion,
     section: Section<S>,
     table: &'t [HeldSpan],
-    // all stretches that begin below it are told
+    // every stretch that begins below `at` was given
     at: Position,
-    // what was answered up to there
+    // both answers right below `at`
     by_section: Option<Answer>,
     by_table: Option<&'t AnswerByPath>,
 }
 
-// What is answered up to an end, if there is one.
+// One side's answer, and where it may end; no end where it never does.
 #[derive(Clone, Copy)]
 struct Run<A> {
     answer: Option<A>,
     end: Option<Position>,
 }
 
-// Where a stretch begins, and what is answered from there on.
+// The first position of a stretch, and both answers there.
 #[derive(Clone, Copy)]
 struct Begun<'t> {
     position: Position,
@@ -64,20 +65,21 @@ struct Begun<'t> {
     by_table: Option<&'t AnswerByPath>,
 }
 
-// What is known where both answers were followed to where one of them ends.
+// What one step found, having followed both answers to the first end of either.
 #[derive(Clone, Copy)]
 enum Step<'t> {
-    // They never end: both sides are through.
+    // Neither answer ends: both sides are exhausted.
     Ended,
-    // No stretch begins there.
+    // No new stretch begins.
     Known,
-    // This one does.
+    // This stretch begins.
     Told(Begun<'t>),
 }
 
 impl<'t, S: SpanSource> DifferencesByPath<'t, S> {
-    /// No stretch is told yet of a section, whose spans the source has, and a table of these spans. The section may be known by
-    /// any function that answers as its spans do. The caller sees to it that the spans of both are in order, and none is empty.
+    /// Starts with no stretch given yet, for a section with the spans of the source and a table with these spans. In
+    /// contracts the section may be any function that answers as its spans do. The caller makes sure that the spans of both
+    /// are in order, and none is empty.
     pub fn of(section: S, table: &'t [HeldSpan], version: PathVersion) -> DifferencesByPath<'t, S>
         ensures { (path : ℕ → ℕ → List ℕ) (list : List spec.Span) (by_section : spec_position.Position → Option PathAnswer)
             → S.to_come section list → AreInOrder list
@@ -95,8 +97,8 @@ impl<'t, S: SpanSource> DifferencesByPath<'t, S> {
         }
     }
 
-    /// The next stretch: its first position, and the two answers. None where all are told, and these are then exactly the
-    /// stretches, in rising order. The one error is that memory ran out: nothing is known of the state then.
+    /// Gives the next stretch: its first position and the two answers. None once all were given; those are then exactly the
+    /// stretches, in rising order. The one error is that memory ran out: then nothing is known of the state.
     pub fn next_difference<P: Paths>(
         &mut self,
         alloc: Global,
@@ -126,7 +128,7 @@ impl<'t, S: SpanSource> DifferencesByPath<'t, S> {
         }
     }
 
-    // Goes on to where one of the two answers ends.
+    // Steps to the next position at which one of the two answers may end.
     fn step<P: Paths>(&mut self, alloc: Global, paths: &P) -> Result<Step<'t>, AllocError>
         requires { (by_section : spec_position.Position → Option PathAnswer) × (by_table : spec_position.Position → Option PathAnswer)
             × (told : List (Stretch PathAnswer))
@@ -170,7 +172,7 @@ impl<'t, S: SpanSource> DifferencesByPath<'t, S> {
     }
 }
 
-// What a section answers from a position on, and where that ends, if it does.
+// The section's answer at `at`, and where it may end; no end where it never does.
 fn section_run(next: Option<Span>, at: Position) -> Run<Answer>
     ensures end { result.end ≡ run_end at next }
     ensures run { (tell : spec_answer.Answer → PathAnswer) (spans : List spec.Span) → BeginsWith next spans → AreInOrder spans
@@ -194,7 +196,7 @@ fn section_run(next: Option<Span>, at: Position) -> Run<Answer>
     }
 }
 
-// What a table answers from a position on, and where that ends, if it does.
+// The table's answer at `at`, and where it may end; no end where it never does.
 fn table_run<'t>(table: &'t [HeldSpan], at: Position) -> Run<&'t AnswerByPath>
     ensures end { result.end ≡ held_end at table.now }
     ensures run { StandInOrder (map held_span table.now) → PathsEndAfter at (map held_span table.now)
@@ -219,7 +221,7 @@ fn table_run<'t>(table: &'t [HeldSpan], at: Position) -> Run<&'t AnswerByPath>
     }
 }
 
-// The earlier of two ends, where there is one.
+// The earlier of two ends; None where both are.
 fn earlier_end(one: Option<Position>, other: Option<Position>) -> Option<Position>
     ensures { MatchOption result ((one ≡ None) × (other ≡ None))
         (λ end. IsUpTo end one × IsUpTo end other × ((one ≡ Some end) ⊎ (other ≡ Some end))) }
@@ -233,7 +235,7 @@ fn earlier_end(one: Option<Position>, other: Option<Position>) -> Option<Positio
     if second.is_below(first) { other } else { one }
 }
 
-// Goes on past the next span of a section, if it ends there.
+// Drops the next span of a section if it ends at or below `end`.
 fn pass_section<S: SpanSource>(section: &mut Section<S>, end: Position)
     ensures side { (tell : spec_answer.Answer → PathAnswer) (at : spec_position.Position)
         (answers : spec_position.Position → Option PathAnswer) → IsSectionAt S.to_come tell section.old at answers → IsAtMost at end
@@ -251,7 +253,7 @@ fn pass_section<S: SpanSource>(section: &mut Section<S>, end: Position)
     }
 }
 
-// The spans of a table without the first, if that ends there.
+// The spans of a table, without the first if that ends at or below `end`.
 fn past_end<'t>(table: &'t [HeldSpan], end: Position) -> &'t [HeldSpan]
     ensures side { (at : spec_position.Position) (answers : spec_position.Position → Option PathAnswer) → IsTableAt table.now at answers
         → IsAtMost at end → IsUpTo end (held_end at table.now) → IsTableAt result.now end answers }
@@ -268,7 +270,7 @@ fn past_end<'t>(table: &'t [HeldSpan], end: Position) -> &'t [HeldSpan]
     rest
 }
 
-// Whether two answers are told alike, or both as they were.
+// Whether no new stretch begins: both sides answer alike by path, or each answers as it did before.
 fn is_known<P: Paths>(
     alloc: Global,
     paths: &P,
@@ -297,7 +299,7 @@ fn is_known<P: Paths>(
     is_as_before(alloc, paths, version, section, section_before)
 }
 
-// Whether a section's answer is told as a table's.
+// Whether a section's answer, told by path, is the table's.
 fn are_alike<P: Paths>(
     alloc: Global,
     paths: &P,
@@ -316,7 +318,7 @@ fn are_alike<P: Paths>(
     }
 }
 
-// Whether an answer of a section is told so.
+// Whether an answer of a section, told by path, is this one.
 fn is_told_so<P: Paths>(
     alloc: Global,
     paths: &P,
@@ -334,7 +336,7 @@ fn is_told_so<P: Paths>(
     Ok(path.as_slice() == told.path.as_slice())
 }
 
-// Whether a table answers as before.
+// Whether two answers of a table are the same.
 fn is_as_held(one: Option<&AnswerByPath>, other: Option<&AnswerByPath>) -> bool
     ensures { MatchBool result
         (option_map told_path_answer (option_copied one.entry) ≡ option_map told_path_answer (option_copied other.entry))
@@ -351,7 +353,7 @@ fn is_as_held(one: Option<&AnswerByPath>, other: Option<&AnswerByPath>) -> bool
     }
 }
 
-// Whether what a section answers is told as before. Units may name one file by different numbers.
+// Whether two answers of a section are told alike. Two units may name the same file by different numbers.
 fn is_as_before<P: Paths>(
     alloc: Global,
     paths: &P,
@@ -375,7 +377,7 @@ fn is_as_before<P: Paths>(
     }
 }
 
-// A stretch that begins, with both answers as they are told.
+// The difference at which a stretch begins, with both answers told by path.
 fn difference_at<P: Paths>(
     alloc: Global,
     paths: &P,

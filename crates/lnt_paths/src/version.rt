@@ -1,4 +1,4 @@
-//! Which tables by path there are, and what becomes of one that is to be written.
+//! The versions of tables by path, and what came of writing one.
 use lnt_spans::Position;
 
 /// How much an address table by path tells of an answer.
@@ -10,12 +10,12 @@ pub enum PathVersion {
     Four,
 }
 
-/// What became of a table that was to be written.
+/// What came of writing a table.
 #[derive(Clone, Copy, Debug, PartialEq, Eq)]
 pub enum PathTable {
     /// It was written.
     Written,
-    /// 43: one of its spans begins or ends at this position, whose operation index isn't 0, and at none below it with such
-    /// an index. A table by path can't say this, and nothing was written.
+    /// 43: one of its spans begins or ends at this position, whose operation index isn't 0, and none does so at a lower
+    /// position. A table by path can't say this, and nothing was written.
     OperationIndex(Position),
 }

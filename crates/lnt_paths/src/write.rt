@@ -1,4 +1,4 @@
-//! Tables by path written.
+//! Writes tables by path.
 ghost use Rattle.std.specs.Prelude.{◌≡◌, ℕ, List, IfOk, OnErr, OnOk};
 ghost use Rattle.std.specs.Io.KnownBytes.{Appends};
 ghost use Rattle.std.specs.List.{AllByRecursion};
@@ -23,20 +23,21 @@ use lnt_spans::SpanSource;
 use std::alloc::Global;
 use std::io::Write;
 
-/// Writes the table by path of spans that come from a source, line by line, as they come. Another source gives spans that
-/// answer the same, by which it is judged first whether there is such a table. Each keeps no span but one, and a writer that
-/// gathers what it is given, as `BufWriter` does, makes it fast.
+/// Writes the table by path of the spans of a source, line by line, as they come. Another source gives spans that answer the
+/// same; by these it is decided first whether there is such a table. The spans of both must be in order, and none empty.
+/// Only one span of each source is kept at a time. The writer should gather what it is given, as `BufWriter` does, to make
+/// this fast.
 ///
-/// Where it answers `Written`, the writer has gained bytes that are a table of exactly the canonical spans that answer as
-/// the spans do, told by path: the one shortest table that does. Spans that touch are one where their path, line and, in
-/// version 3, column are the same, whatever units they are of.
+/// On `Written`, the writer has gained bytes that are a table of exactly the canonical spans that answer as the spans do,
+/// told by path: the one shortest table that does. Spans that touch are joined if their path, line and, in version 3, column
+/// are the same, whatever units they are of.
 ///
-/// It answers `OperationIndex` (43) exactly where one of these canonical spans begins or ends at an operation index other
-/// than 0, and then nothing was written.
+/// It gives `OperationIndex` (43) exactly where one of these canonical spans begins or ends at an operation index other than
+/// 0; then nothing was written.
 ///
-/// It stops by `Memory` (33) where memory ran out, and by `Write` (42) where the writer refused some bytes; then it has
-/// gained a front of the names of the columns and the lines of the first canonical spans. No contract of a writer tells
-/// when it refuses, so no clause says that `Write` comes only then.
+/// It stops with `Memory` (33) where memory ran out, and with `Write` (42) where the writer refused some bytes; then the
+/// writer has gained a prefix of the header and the lines of the first canonical spans. No contract of a writer says when it
+/// refuses, so no clause says that `Write` comes only then.
 pub fn write_by_path<S: SpanSource + Drop, P: Paths, W: Write>(
     alloc: Global,
     judged: S,
@@ -61,10 +62,10 @@ pub fn write_by_path<S: SpanSource + Drop, P: Paths, W: Write>(
     Ok(PathTable::Written)
 }
 
-/// The same of spans that begin and end at operation index 0 all: then there is a table, and nothing is judged first, so they
-/// come once.
+/// Does the same for spans that all begin and end at operation index 0: then there always is a table, nothing is decided
+/// first, and one source is enough.
 ///
-/// The caller sees to it that they do, that they are in order and that none is empty. It stops as `write_by_path`.
+/// The caller makes sure that they do, that they are in order and that none is empty. It stops as `write_by_path` does.
 pub fn write_instructions_by_path<S: SpanSource + Drop, P: Paths, W: Write>(
     alloc: Global,
     spans: S,
@@ -81,7 +82,7 @@ pub fn write_instructions_by_path<S: SpanSource + Drop, P: Paths, W: Write>(
     write_lines(alloc, spans, paths, version, out)
 }
 
-// Writes the names of the columns, and a line for each of the joined spans, of which the addresses alone are told.
+// Writes the header, and a line for each joined span; of its positions only the addresses are written.
 fn write_lines<S: SpanSource + Drop, P: Paths, W: Write>(
     alloc: Global,
     spans: S,
@@ -109,7 +110,7 @@ fn write_lines<S: SpanSource + Drop, P: Paths, W: Write>(
     Ok(())
 }
 
-// Hands a line to the writer.
+// Sends a line to the writer.
 fn send<W: Write>(line: &[u8], out: &mut W) -> Result<(), WriteStop>
     ensures sent { OnOk result (Appends (W.contents out.old) (W.contents out.new) line.now) }
     ensures front { OnErr result (AppendsFront (W.contents out.old) (W.contents out.new) line.now) }

@@ -10,7 +10,7 @@ use Rattle.lnt_records.specs.declared.fault.TableFault.{TableFault}
 use Rattle.lnt_records.specs.Faults.{HasFaultyRecord}
 use Rattle.lnt_records.specs.Table.{BeginsWith, Fields, IsTable, IsTableOf, RecordsOf, column_names}
 
--- what is read of one record is read of the first of several
+-- a state reached after several records was reached through the first of them
 first_reached : (bytes : List ℕ) (first : Fields) (more : List Fields) (after : State) (left : List ℕ)
     → Reached default_config state.StartRecord bytes (first ∷ more) after left
     → (after' : State) × (left' : List ℕ) × Reached default_config state.StartRecord bytes (first ∷ []) after' left'
@@ -33,11 +33,11 @@ same_first bytes one other s1 s2 y1 y2 h k =
     let same : h.0 ≡ k.0 = cc in
     h.2 ∙ ap (λ (p : Read). p.0) same ∙ sym k.2
 
--- There is one record 0.
+-- Bytes have at most one record 0.
 pub one_beginning : (bytes : List ℕ) (one other : Fields) → BeginsWith bytes (one ∷ []) → BeginsWith bytes (other ∷ []) → one ≡ other
 one_beginning bytes one other h k = same_first (strip_bom bytes) one other h.0 k.0 h.1 k.1 h.2 k.2
 
--- A table begins with the names of its version's columns.
+-- A table begins with the header of its version.
 pub table_begins : (bytes : List ℕ) (version : Version) (spans : List Span) → IsTableOf version bytes spans
     → BeginsWith bytes (column_names version ∷ [])
 table_begins bytes version spans table = by table.0 table.1 table.2
@@ -46,7 +46,7 @@ table_begins bytes version spans table = by table.0 table.1 table.2
     by [] r t = absurd t
     by (first ∷ records) r t = subst (λ (f : Fields). BeginsWith bytes (f ∷ [])) t.0 (records_begin bytes first records r)
 
--- So do bytes with a faulty record.
+-- Bytes with a faulty record begin with a header too.
 pub faulty_begins : (bytes : List ℕ) (told : TableFault) → (h : HasFaultyRecord bytes told) → BeginsWith bytes (column_names h.version ∷ [])
 faulty_begins bytes told h = by h.records h.begins h.table
   where

@@ -1,4 +1,4 @@
--- What a comparison knows after one more record, and what it tells.
+-- What a comparison knows after one more record, and its result.
 use Rattle.std.proofs.Common.{◌≡◌, ◌∙◌, ℕ, ◌+◌, ◌^◌, ◌<◌, List, [], ◌∷◌, ◌++◌, append-nil, append_assoc, length, length-append, refl, subst}
 use Rattle.std.proofs.Common.{sym, arith}
 use Rattle.std.specs.List.{AllZip}
@@ -34,7 +34,7 @@ table_push version [] table fields span t s o = absurd t
 table_push version (first ∷ records) table fields span t s o =
     (t.0, record { each = zip_push (IsSpanRecord version) records table fields span t.1.each s; in_order = o })
 
--- the header alone
+-- after the header alone
 pub judges_header : {S : Type 0} (to_come : S → List Span → Type 0) (comparison : Comparison S) (section : List Span) → comparison.count ≡ 1
     → comparison.merge.version ≡ comparison.version → Compares to_come comparison.merge section []
     → Judges to_come comparison section (column_names comparison.version ∷ [])
@@ -60,7 +60,7 @@ record_taken to_come old new section records fields span j s o same count versio
   compares = step section j.table j.compares;
 }
 
--- a record that is faulty after a table
+-- a record with this fault, after records that are a table
 pub record Stops (version : Version) (records : List Fields) (fields : Fields) (told : TableFault) : Type 0 where
   pub table : List Span
   pub is_table : IsTable version records table
@@ -79,7 +79,7 @@ fault_told bytes version records fields table (fault.Number k i) h t f =
 fault_told bytes version records fields table (fault.Order k) h t f =
     record { version = version; records = records; spans = table; fields = fields; begins = h; table = t; faulty = f }
 
--- a section that answers as the compared spans do, as far as the version tells
+-- the section answers as the compared spans do, as far as the version tells
 abbrev pub AnswersSo : Version → List Span → List Span → Type 0
 AnswersSo version list section = (p : Position) → version_answer version list p ≡ version_answer version section p
 
@@ -116,7 +116,7 @@ difference_told to_come bytes comparison list section records difference j all s
 
 -- ---- records after lines that were cut out
 
--- From one state of a comparison to another these records were read after the header of a text.
+-- These records were read after the header of a text, and took the comparison from one state to another.
 pub record HasCompared {S : Type 0} (to_come : S → List Span → Type 0) (reader : BytesReader) (text : List ℕ) (version : Version)
     (old new : Comparison S) : Type 0 where
   pub more : List Fields
@@ -136,7 +136,7 @@ compared_none to_come reader text version comparison read same = record {
       (sym (append-nil passed)) j;
 }
 
--- what is known of one more record
+-- the state after one more record
 abbrev pub Judged : {S : Type 0} → (S → List Span → Type 0) → Comparison S → Comparison S → Fields → Type 0
 Judged to_come old new fields =
     (section : List Span) (records : List Fields) → Judges to_come old section records → Judges to_come new section (records ++ fields ∷ [])
@@ -154,7 +154,7 @@ compared_more to_come before after text version first old new fields h read same
       (step list (column_names version ∷ (passed ++ h.more)) (h.judged list passed j));
 }
 
--- there is room to count one more
+-- one more record can be counted
 pub compared_few : {S : Type 0} (to_come : S → List Span → Type 0) (before after : BytesReader) (text : List ℕ) (version : Version)
     (first now : Comparison S) (fields : Fields) (list : List Span) (passed : List Fields)
     → (h : HasCompared to_come before text version first now) → HasRead after text (column_names version ∷ (h.more ++ fields ∷ []))

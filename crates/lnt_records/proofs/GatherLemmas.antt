@@ -1,4 +1,4 @@
--- Records of a table whose spans are gathered.
+-- The spans of a table's records are gathered.
 use Rattle.std.proofs.Common.{◌≡◌, ◌≢◌, ◌∙◌, ℕ, List, [], ◌∷◌, ◌++◌, append-nil, append_assoc, ap, map, Option, refl, subst, sym, arith}
 use Rattle.std.specs.List.{AllByRecursion, AllZip}
 use Rattle.std.specs.Prelude.{IfOk, Result}
@@ -36,7 +36,7 @@ zip_both R [] xs' (b ∷ ys) ys' z h = absurd z
 zip_both R (a ∷ xs) xs' [] ys' z h = absurd z
 zip_both R (a ∷ xs) xs' (b ∷ ys) ys' z h = (z.0, zip_both R xs xs' ys ys' z.1 h)
 
--- the spans of the records that were read after the header
+-- the spans of the records read after the header
 pub record HasGathered {S : Type 0} (to_come : S → List Span → Type 0) (reader : BytesReader) (text : List ℕ) (version : Version)
     (old new : Comparison S) (spans : List Span) : Type 0 where
   pub compared : HasCompared to_come reader text version old new
@@ -94,7 +94,7 @@ gathered_none to_come reader text version comparison spans read same none = rw n
   each = tt;
 })
 
--- ---- the stretches after the records that a table has in common with a section
+-- ---- the stretches after the records that both sides begin with
 
 pub version_told : (version : Version) (bytes : List ℕ) (table : List Span) → IsTableOf version bytes table
     → AllByRecursion (IsTold version) table
@@ -111,7 +111,7 @@ version_order version bytes table t = by_records t.0 t.2
     by_records [] t = absurd t
     by_records (first ∷ records) t = t.1.in_order
 
--- A merge that has compared no spans but those of the first lines.
+-- A merge that was given only the spans of the first lines has judged the records of these lines.
 pub judges_off : {S : Type 0} (to_come : S → List Span → Type 0) (P : List Span → Type 0) (merge : Merging S) (version : Version)
     (section : List Span) (text : List ℕ) (count : ℕ) (end : Position)
     → (off : LeavesOff P version section text count end) → merge.version ≡ version → Compares to_come merge (off.table ++ []) off.table
@@ -142,11 +142,11 @@ judges_none to_come merge version same compares = (
   refl,
 )
 
--- the order of the first spans alone
+-- the first spans alone are in order
 pub order_alone : (table rest : List Span) → AreInOrder (table ++ rest) → AreInOrder (table ++ [])
 order_alone table rest o = subst AreInOrder (sym (append-nil table)) (front_in_order table rest o)
 
--- what is gathered after the records of some spans
+-- the spans gathered after the records of other spans
 pub gathered_is : {S : Type 0} (to_come : S → List Span → Type 0) (comparison : Comparison S) (list table : List Span)
     (passed : List Fields) (bytes : List ℕ) (version : Version) (text : List ℕ) (gathered : Result Gathered AllocError)
     → (j : Judges to_come comparison list (column_names version ∷ passed)) → j.table ≡ table → IsCut version text bytes passed
@@ -157,14 +157,14 @@ pub gathered_is : {S : Type 0} (to_come : S → List Span → Type 0) (compariso
 gathered_is to_come comparison list table passed bytes version text gathered j same cut h =
     IfOk-weaker gathered _ _ (λ it so. subst (λ (spans : List Span). IsGathered bytes version spans it) same (so list passed bytes j cut)) h
 
--- a section that answers as spans do
+-- the section answers as these spans do
 pub goes_on : (version : Version) (list table rest : List Span) (section : Position → Option Answer) (at : Position)
     → AreInOrder (table ++ rest) → ((p : Position) → version_answer version (table ++ rest) p ≡ version_answer version list p)
     → at ≡ end_of table → ((p : Position) → span_answer list p ≡ section p) → GoesOn version section table rest at
 goes_on version list table rest section at order same end answers =
     record { order = order; same = λ p. same p ∙ ap (option_map (in_version version)) (answers p); end_is = end }
 
--- all its spans, where a table has none that were passed
+-- without passed lines, all spans of the section are to come
 pub all_to_come : (version : Version) (list : List Span) (section : Position → Option Answer) → AreInOrder list
     → ((p : Position) → span_answer list p ≡ section p)
     → GoesOn version section [] (map (span_in_version version) list) (record { address = 0; op = 0 })
@@ -172,14 +172,14 @@ all_to_come version list section order answers =
     goes_on version list [] (told version list) section (record { address = 0; op = 0 }) (told_order version list order)
     (λ p. version_same version (told version list) list p (told_answer version list p)) refl answers
 
--- no stretch is told of a table
+-- no stretch of a table was given yet
 pub started : {S : Type 0} (of_section : Remaining S → List Span → Type 0) (of_table : SpanList → List Span → Type 0) (bytes : List ℕ)
     (section : Position → Option Answer) (differing : Differing S)
     → IsDiffering of_section of_table bytes section differing → IsStarted of_section of_table differing
 started of_section of_table bytes section (Fault told) h = tt
 started of_section of_table bytes section (Table differences) h = (_, _, h.told)
 
--- the header's fault isn't told of bytes that begin with the header of a version
+-- bytes that begin with a header don't have the header's fault
 pub no_header_fault : {S : Type 0} (of_section : Remaining S → List Span → Type 0) (of_table : SpanList → List Span → Type 0)
     (bytes : List ℕ) (version : Version) (section : Position → Option Answer) (differing : Differing S)
     → BeginsWith bytes (column_names version ∷ []) → IsDiffering of_section of_table bytes section differing

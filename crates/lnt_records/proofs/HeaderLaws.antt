@@ -1,4 +1,4 @@
--- Records that name the columns.
+-- Records that are headers.
 use Rattle.std.proofs.Common.{◌≡◌, ◌≢◌, ℕ, suc, List, [], ◌∷◌, length, get_or, refl, sym, subst, arith}
 use Rattle.std.specs.Prelude.{codes}
 use Rattle.lnt_spans.specs.declared.answer.Version.{Version}
@@ -11,7 +11,7 @@ named_after : (i : ℕ) (names : Fields) (field : List ℕ) (fields : Fields) �
 named_after i [] field fields h = tt
 named_after i (name ∷ names) field fields h = (h.0, named_after (suc i) names field fields h.1)
 
--- fields that are the names one by one
+-- fields that equal the names one by one are the names
 pub all_named : (names fields : Fields) → length fields ≡ length names → AreNamed 0 names fields → fields ≡ names
 all_named [] [] e h = refl
 all_named [] (field ∷ fields) e h = absurd (omega (arith, e))

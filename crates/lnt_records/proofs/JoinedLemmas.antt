@@ -1,4 +1,4 @@
--- Spans that come one by one, joined and written.
+-- Spans that come one by one are joined and written.
 use Rattle.std.proofs.Common.{◌≡◌, ◌∙◌, ℕ, List, [], ◌∷◌, ◌++◌, Option, Some, None, refl, sym, ap, subst}
 use Rattle.std.specs.Prelude.{IfSome}
 use Rattle.std.specs.List.{All, AllByRecursion, cons_option}
@@ -55,11 +55,11 @@ last_of_version : (version : Version) (given : List Span) (one : Option Span)
 last_of_version version given None h = tt
 last_of_version version given (Some one) h = (all_right (HasVersion version) given (one ∷ []) h).0
 
--- what the end of a joiner says
+-- at a joiner's end: the spans given are canonical and answer as the pushed ones do
 abbrev pub AreGiven : Version → List Span → List Span → Type 0
 AreGiven version pushed given = IsCanonical given × ((p : Position) → span_answer given p ≡ version_answer version pushed p)
 
--- What is known of the spans to come, so that each that is joined may be written.
+-- What is known of the spans to come, so that every joined span can be written.
 pub record AreTold (list : List Span) : Type 0 where
   pub order : AreInOrder list
   pub tells : AllByRecursion TellsAll list
@@ -70,7 +70,7 @@ front_told list pushed AreLeft told h = record {
   tells = all_left TellsAll pushed h.rest (subst (AllByRecursion TellsAll) h.list_is told.tells);
 }
 
--- the one that a push gives
+-- a span given by a push
 pub given_of_version : (version : Version) (list pushed given : List Span) (one last : Option Span) (AreLeft : List Span → Type 0)
     → AreTold list → HasGiven list pushed AreLeft
     → HasJoined version pushed (given ++ cons_option one []) last → IfSome one (HasVersion version)
@@ -80,7 +80,7 @@ given_of_version version list pushed given one last AreLeft told h joined =
     (all_left (HasVersion version) (given ++ cons_option one []) (cons_option last [])
     (joined_of_version version pushed (given ++ cons_option one []) last joined front.order front.tells))
 
--- the last one
+-- the span given at the end
 pub rest_of_version : (version : Version) (list pushed given : List Span) (last : Option Span) (AreLeft : List Span → Type 0) → AreTold list
     → HasGiven list pushed AreLeft
     → AreGiven version pushed (given ++ cons_option last []) → IfSome last (HasVersion version)
@@ -111,14 +111,14 @@ canonical_written version old now new block written known IsGiven given order ca
 
 -- ---- the first of them
 
--- what a joiner gave, whatever is still to come
+-- the spans given so far begin the canonical list, whatever is to come
 pub given_begun : (version : Version) (list pushed given : List Span) (last : Option Span) (AreLeft : List Span → Type 0)
     → HasJoined version pushed given last → HasGiven list pushed AreLeft → AreInOrder list → BeginCanonical version list given
 given_begun version list pushed given last AreLeft joined h order =
     subst (λ (all : List Span). BeginCanonical version all given) (sym h.list_is)
     (joined_rest version h.rest pushed given last joined (subst AreInOrder h.list_is order))
 
--- all that it gave
+-- all spans given begin the canonical list
 pub all_begun : (version : Version) (list given : List Span) → AreGiven version list given → BeginCanonical version list given
 all_begun version list given all = record {
   more = [];
@@ -135,7 +135,7 @@ canonical_begun version list given old new begins begun = record {
   begun = begun;
 }
 
--- stopped while the block is filled, and while it is handed on
+-- writing stopped: first while the block was filled, then while it was sent
 pub canonical_so_far : (version : Version) (list given : List Span) (old now : Option (List ℕ)) (block : List ℕ)
     → BeginCanonical version list given → Lines version old now block given → BeginsCanonicalTable version list old now
 canonical_so_far version list given old now block begins l =

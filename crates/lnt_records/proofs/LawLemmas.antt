@@ -1,4 +1,4 @@
--- Bytes are one table, and no fault is told of a table.
+-- Bytes are at most one table, and a table has no fault.
 use Rattle.std.proofs.Common.{◌≡◌, ◌∙◌, ℕ, List, [], ◌∷◌, ◌++◌, length, refl, sym, ap, subst, arith}
 use Rattle.std.specs.List.{AllZip}
 use Rattle.lnt_spans.specs.declared.answer.Version.{Version}
@@ -51,7 +51,7 @@ one_table bytes v w xs ys a b =
 
 -- ---- no fault of a table
 
--- the spans of the records up to one of them
+-- the spans of the records before a certain one
 record Parted (version : Version) (records : List Fields) (fields : Fields) (spans : List Span) : Type 0 where
   front : List Span
   span : Span
@@ -89,7 +89,7 @@ not_faulty version records fields spans number (fault.Order k) p o f =
     let front = front_in_order (p.front ++ p.span ∷ []) p.past (rw p.joined at o) in
     f.3 (subst (λ (s : Span). AreInOrder (p.front ++ s ∷ [])) (sym same) front)
 
--- a faulty record among those of a table
+-- a record of a table isn't faulty
 pub faulty_none : (v version : Version) (records past : List Fields) (fields : Fields) (before spans : List Span) (told : TableFault)
     → IsTable v records before → IsFaulty v before (length records) fields told → IsTable version ((records ++ fields ∷ []) ++ past) spans
     → ⊥
@@ -117,7 +117,7 @@ no_fault bytes version spans (fault.Fields k) t f = record_none bytes version sp
 no_fault bytes version spans (fault.Number k i) t f = record_none bytes version spans t.0 (fault.Number k i) t.1 t.2 f
 no_fault bytes version spans (fault.Order k) t f = record_none bytes version spans t.0 (fault.Order k) t.1 t.2 f
 
--- ---- one answer where the table agrees
+-- ---- one result where the table agrees
 
 no_difference : (bytes : List ℕ) (version : Version) (section table : List Span) (difference : Difference) → IsTableOf version bytes table
     → Agree (version_answer version section) (span_answer table) → DiffersSo bytes section difference → ⊥

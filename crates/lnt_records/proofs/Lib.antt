@@ -1,7 +1,6 @@
 pub mod BeginningLaws
 pub mod ColumnLemmas
 pub mod ComparisonLemmas
-pub mod FrontLemmas
 pub mod GatherLemmas
 pub mod HeaderLaws
 pub mod JoinedLemmas

@@ -1,4 +1,4 @@
--- Lines that are read, and that they are the records that `csv` reads.
+-- Lines that are parsed are the records that `csv` reads.
 use Rattle.std.proofs.Common.{◌≡◌, ◌∙◌, ℕ, ◌<◌, ◌≤◌, List, [], ◌∷◌, ◌++◌, Option, Some, None, length, length-append, refl, sym, ap, subst}
 use Rattle.std.proofs.Common.{append_assoc, arith}
 use Rattle.std.proofs.lemmas.List.{append-nil}
@@ -15,7 +15,8 @@ use Rattle.lnt_spans.specs.declared.answer.Version.{Version}
 use Rattle.lnt_spans.specs.declared.answer.Version.TheVariants.{One, Two}
 use Rattle.lnt_spans.specs.declared.position.Position.{Position}
 use Rattle.lnt_spans.specs.declared.span.Span.{Span}
-use Rattle.lnt_records.specs.Lines.{Begins, AreMoreFields, IsAnswer, IsFlagBefore, IsMore, IsPosition, SaysLine}
+use Rattle.lnt_digits.specs.Delimited.{Begins}
+use Rattle.lnt_records.specs.Lines.{AreMoreFields, IsAnswer, IsFlagBefore, IsMore, IsPosition, SaysLine}
 use Rattle.lnt_records.specs.Table.{AreMore, Fields, IsSpanRecord, Kind, column_count, column_names}
 use Rattle.lnt_records.specs.Written.{following, line_text}
 use Rattle.lnt_records.proofs.SaidLemmas.{each_holds}
@@ -24,7 +25,7 @@ use Rattle.lnt_records.proofs.WriteLemmas.{quiet_names, same_back}
 
 -- ---- parts of a line
 
--- one more field before others
+-- one field before others
 past : (field bytes next tail : List ℕ) (fields : Fields) → bytes ≡ field ++ 44 ∷ next → 44 ∷ next ≡ following fields ++ tail
     → 44 ∷ bytes ≡ following (field ∷ fields) ++ tail
 past field bytes next tail fields e f =
@@ -167,7 +168,7 @@ names_read version rest =
     let some : 2 ≤ length (column_names version) = subst (λ (n : ℕ). 2 ≤ n) (sym (names_count version)) (count_some version) in
     line_read (column_names version) rest some (quiet_names version)
 
--- a header is no byte order mark
+-- a header doesn't begin with a byte order mark
 pub no_mark : (version : Version) (rest : List ℕ) → strip_bom (line_text (column_names version) ++ rest) ≡ line_text (column_names version)
     ++ rest
 unfolding strip_bom

@@ -1,4 +1,4 @@
--- Of bytes one fault is the first.
+-- At most one fault is the first of some bytes.
 use Rattle.std.proofs.Common.{◌≡◌, ℕ, ◌<◌, List, [], ◌∷◌, length, refl, sym, ap, subst, ◌∙◌}
 use Rattle.lnt_spans.specs.declared.answer.Version.{Version}
 use Rattle.lnt_spans.specs.declared.span.Span.{Span}
@@ -40,7 +40,7 @@ one_faulty version spans number fields (fault.Order k) (fault.Order l) f g = ap 
 
 -- ---- all records
 
--- none of an earlier number is faulty
+-- a record with a lower number isn't faulty
 not_earlier : (bytes : List ℕ) (told other : TableFault) → (f : HasFaultyRecord bytes told) → (g : HasFaultyRecord bytes other)
     → length f.records < length g.records → ⊥
 not_earlier bytes told other f g lt =

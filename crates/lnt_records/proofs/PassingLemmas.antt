@@ -1,4 +1,4 @@
--- Bytes of a table that are taken and passed.
+-- The bytes of a table are taken from a source and passed.
 use Rattle.std.proofs.Common.{◌≡◌, ◌∙◌, ℕ, ◌+◌, ◌≤◌, Bool, true, false, List, [], ◌∷◌, ◌++◌, Option, Some, None, IfSome, map, subst}
 use Rattle.std.proofs.Common.{append-nil, append_assoc, drop, length, length-append, refl, ap, sym, arith}
 use Rattle.std.proofs.lemmas.List.{drop-drop}
@@ -31,7 +31,7 @@ use Rattle.lnt_records.proofs.WriteLemmas.{lines_append}
 pub passes_none : (a : Option (List ℕ)) (l : ℕ) (window : List ℕ) → Passes a a l l window window []
 passes_none a l window = record { given = []; joined = append-nil window; pulls = pulls_none a; count = omega arith }
 
--- what was passed and taken so far, and then
+-- bytes passed in two steps
 pub passes_both : (a b c : Option (List ℕ)) (la lb lc : ℕ) (w0 w1 w2 one two : List ℕ) → Passes a b la lb w0 w1 one
     → Passes b c lb lc w1 w2 two → Passes a c la lc w0 w2 (one ++ two)
 passes_both a b c la lb lc w0 w1 w2 one two p q = record {
@@ -43,14 +43,14 @@ passes_both a b c la lb lc w0 w1 w2 one two p q = record {
   count = omega (arith, p.count, q.count, length-append p.given q.given);
 }
 
--- one more block
+-- one more block was taken
 pub passes_block : (a b c : Option (List ℕ)) (la lb lc : ℕ) (w0 w1 w2 : List ℕ) (k : ℕ) → Passes a b la lb w0 w1 [] → GivesMore b c w1 w2 k
     → lc + k ≡ lb → Passes a c la lc w0 w2 []
 passes_block a b c la lb lc w0 w1 w2 k p more count =
     passes_both a b c la lb lc w0 w1 w2 [] [] p (record
     { given = more.given; joined = sym more.joined; pulls = more.pulls; count = omega (arith, count, more.count) })
 
--- one more line
+-- one more line was passed
 pub passes_line : (a b : Option (List ℕ)) (la lb : ℕ) (w0 w1 w2 text line : List ℕ) → Passes a b la lb w0 w1 text → w1 ≡ line ++ w2
     → Passes a b la lb w0 w2 (text ++ line)
 passes_line a b la lb w0 w1 w2 text line p e = record {
@@ -69,12 +69,12 @@ passes_all a b la lb w0 w1 p none = record {
   few = omega (arith, p.count);
 }
 
--- where a source that gave some bytes has more than it may give, it had more from the start
+-- a source that now has more bytes than it may give had more from the start
 pub longer_from_start : (a b : Option (List ℕ)) (la lb : ℕ) (w0 w1 text : List ℕ) → Passes a b la lb w0 w1 text → HasMoreThan b lb
     → HasMoreThan a la
 longer_from_start a b la lb w0 w1 text p more = more_from_start a b p.given la lb p.pulls p.count more
 
--- the bytes after a text at a place
+-- the bytes after a text that is at an index
 pub text_passed : (block text window : List ℕ) (at : ℕ) → window ≡ drop at block → window ≡ text ++ drop (length text) window
     → window ≡ text ++ drop (at + length text) block
 text_passed block text window at e f =
@@ -109,7 +109,7 @@ lines_more version text table count fields span a says = record {
   count_is = omega (arith, a.count_is, length-append a.records (fields ∷ []));
 }
 
--- no record has less than one byte
+-- each record has at least one byte
 lines_long : (records : List Fields) → length records ≤ length (lines_text records)
 lines_long [] = omega arith
 lines_long (fields ∷ records) = omega (arith, line_some fields, lines_long records, length-append (line_text fields) (lines_text records))
@@ -150,7 +150,7 @@ version_same version xs ys p e = ap (option_map (in_version version)) e ∙ told
 
 -- ---- canonical spans whose lines were passed
 
--- So far the lines of canonical spans were passed, as the spans came.
+-- The lines of canonical spans were passed so far, as the spans came.
 pub record Stands {S : Type 0} (to_come : S → List Span → Type 0) (first now : S) (version : Version) (last : Option Span)
     (a b : Option (List ℕ)) (la lb : ℕ) (w0 w1 : List ℕ) (count : ℕ) (end : Position) : Type 0 where
   pub pushed : List Span
@@ -176,7 +176,7 @@ stands_first to_come first version last a la w j = record {
   given = λ list coming. none_given list (to_come first) coming;
 }
 
--- what a push of the next span makes of it
+-- the state after the next span was pushed
 pub record Pushes {S : Type 0} (to_come : S → List Span → Type 0) (now next : S) (version : Version) (span : Span)
     (one old new : Option Span) : Type 0 where
   pub gives : (spans : List Span) → to_come now spans → GivesFirst (to_come next) spans (Some span)
@@ -272,7 +272,7 @@ left_off P version list pushed table one last text count end given joined lines 
       end_is = end_is;
     }
 
--- what the passing of lines says at its end
+-- what holds once the passing of lines has ended
 abbrev pub LeftOff : {S : Type 0} → (S → List Span → Type 0) → S → S → Bool → Version → Option Span → Option Span → Option (List ℕ)
     → Option (List ℕ) → ℕ → ℕ → List ℕ → List ℕ → ℕ → Position → Type 0
 LeftOff {S} to_come first now is_ended version one last a b la lb w0 w1 count end =
@@ -281,7 +281,7 @@ LeftOff {S} to_come first now is_ended version one last a b la lb w0 w1 count en
     → LeavesOff (λ (xs : List Span). (rest : List Span) × AreLeft is_ended (to_come now) rest
     × (xs ≡ cons_option one (cons_option last (map (span_in_version version) rest)))) version list text count end)
 
--- where the next span's line wasn't there
+-- the next span's line isn't there
 pub leaves_off_at : {S : Type 0} (to_come : S → List Span → Type 0) (first now next : S) (version : Version) (old new one : Option Span)
     (a b c : Option (List ℕ)) (la lb lc : ℕ) (w0 w1 w2 w3 : List ℕ) (count : ℕ) (end : Position) (span joined : Span)
     → Stands to_come first now version old a b la lb w0 w1 count end → Pushes to_come now next version span one old new → one ≡ Some joined
@@ -300,7 +300,7 @@ leaves_off_at to_come first now next version old new one a b c la lb lc w0 w1 w2
           (one_given list s.pushed span (to_come now) (to_come next) (s.given list coming) p.gives) grown s.lines s.end_is order,
     )
 
--- where no span was left
+-- the source has no span left
 pub leaves_off : {S : Type 0} (to_come : S → List Span → Type 0) (first now next : S) (version : Version) (last : Option Span)
     (a b : Option (List ℕ)) (la lb : ℕ) (w0 w1 : List ℕ) (count : ℕ) (end : Position)
     → Stands to_come first now version last a b la lb w0 w1 count end
@@ -319,9 +319,9 @@ leaves_off to_come first now next version last a b la lb w0 w1 count end s gives
       order,
 )
 
--- ---- spans that are left, as they come
+-- ---- the spans that are left, as they come
 
--- a source that gives one more, where nothing stands before it
+-- the source gives the next span, once the spans before it are given
 pub gives_told : (version : Version) (old new : List Span → Type 0) (first second first' second' : Option Span) (is_ended : Bool)
     (span : Span) → first ≡ None → second ≡ None → first' ≡ None → second' ≡ None → is_ended ≡ false
     → ((spans : List Span) → old spans → GivesFirst new spans (Some span)) → (spans : List Span)
@@ -340,7 +340,7 @@ gives_told version old new None None None None true span e1 e2 e3 e4 e5 gives sp
 
 -- ---- lines that are read and pushed
 
--- From one state of a merge to another lines were passed, whatever was before them.
+-- Lines were passed and took the merge from one state to another, whatever came before them.
 pub record Reads {S : Type 0} (to_come : S → List Span → Type 0) (old new : Merging S) (version : Version) (before_count count : ℕ)
     (a b : Option (List ℕ)) (la lb : ℕ) (w0 w1 : List ℕ) : Type 0 where
   pub text : List ℕ
@@ -379,7 +379,7 @@ reads_filled to_come old new version n count a b c la lb lc w0 w1 w2 r p = recor
   few = r.few;
 }
 
--- what a push of a span that comes next makes of a merge
+-- the effect on a merge of pushing a span that comes next
 pub record Takes {S : Type 0} (to_come : S → List Span → Type 0) (old new : Merging S) (span : Span) : Type 0 where
   pub order : (spans records : List Span) → Compares to_come old spans records → AreInOrder (records ++ span ∷ [])
   pub version : new.version ≡ old.version

@@ -1,4 +1,4 @@
--- Records read one by one from bytes in memory.
+-- Records are read one by one from bytes in memory.
 use Rattle.std.proofs.Common.{Bor, ◌≡◌, ◌≢◌, ◌∙◌, ℕ, ◌<◌, ◌≤◌, Bool, true, false, List, [], ◌∷◌, ◌++◌, Option, Some, None, length}
 use Rattle.std.proofs.Common.{length-append, refl, sym, ap, subst, arith, inl}
 use Rattle.std.specs.Bool.{MatchBool}
@@ -17,9 +17,9 @@ use Rattle.lnt_spans.specs.declared.answer.Version.{Version}
 use Rattle.lnt_records.specs.Progress.{BytesReader, HasRead, bytes_left, known_length}
 use Rattle.lnt_records.specs.Table.{BeginsWith, Fields, RecordsOf, column_names}
 
--- ---- a record takes some bytes
+-- ---- a record takes at least one byte
 
--- Where a byte ends a record, the next one stands between two records.
+-- If this byte ends a record, the next state is between two records.
 abbrev EndsBetween : State × Action → Type 0
 EndsBetween p = is_end p.1 ≡ true → ends_at_end p.0 ≡ false
 
@@ -57,7 +57,7 @@ step_ends st.InComment c = by_test (c == 10) (st.StartRecord, act.Skip) (st.InCo
 step_ends st.AfterCr c =
     by_test (c == 10) (st.StartRecord, act.Skip) (start_record default_config c) (λ e. absurd (cc e)) (start_record_ends c)
 
--- what is left after a record
+-- the bytes that are left after a record
 record Left (s : State) (bytes : List ℕ) (p : Read) : Type 0 where
   between : ends_at_end p.1 ≡ false
   no_more : length p.2 ≤ length bytes
@@ -98,7 +98,7 @@ record_left s fields field (c ∷ bytes) p e =
 
 -- ---- a reader's next record
 
--- what a read does
+-- the effect of one read
 pub record Step (old new : BytesReader) (rest : List ℕ) : Type 0 where
   pub after : List ℕ
   pub left : bytes_left new ≡ Some after
@@ -118,7 +118,7 @@ next_left s after fields rest bytes h e = by (next_record default_config s [] []
 abbrev known : Bor (List ℕ) → Option (List ℕ)
 known s = Some s.now
 
--- the reads so far, with one more record
+-- one more record after those read so far
 read_step : (old new : BytesReader) (fields : Fields) (bytes : List ℕ) (records : List Fields) → (h : HasRead old bytes records)
     → ReadRecord known old new true fields
     → (z : List ℕ) → bytes_left new ≡ Some z → (length z < length h.rest) × (ends_at_end (reader_state new) ≡ false)
@@ -174,7 +174,7 @@ mark_stripped (a ∷ b ∷ c ∷ rest) = by (is_bom a b c)
 begins : (reader : BytesReader) (bytes : List ℕ) (records : List Fields) → HasRead reader bytes records → BeginsWith bytes records
 begins reader bytes records h = (reader_state reader, h.rest, h.reached)
 
--- records of the same bytes begin alike
+-- the same bytes have the same first record
 first_same : (bytes : List ℕ) (a b : Fields) → BeginsWith bytes (a ∷ []) → BeginsWith bytes (b ∷ []) → a ≡ b
 unfolding Reached
 first_same bytes a b x y =
@@ -192,7 +192,7 @@ no_record bytes fields none x =
     let some = first.1 in
     cc (last, some)
 
--- record 0, and that there is no other
+-- record 0, and that it is the only one
 pub first_read : (found : Bool) (reader : BytesReader) (bytes : List ℕ) (fields : Fields)
     → MatchBool found (HasRead reader bytes (fields ∷ [])) (RecordsOf bytes [])
     → MatchBool found (HasRead reader bytes (fields ∷ []) × ((other : Fields) → BeginsWith bytes (other ∷ []) → other ≡ fields))
@@ -206,7 +206,7 @@ pub no_header : (reader : BytesReader) (bytes : List ℕ) (fields : Fields) → 
 no_header reader bytes fields h other version x =
     other version (first_same bytes fields (column_names version) (begins reader bytes (fields ∷ []) h) x)
 
--- the version whose columns record 0 names, if it does
+-- the version whose columns record 0 names, if it is a header
 pub header_read : (found : Option Version) (reader : BytesReader) (bytes : List ℕ) (fields : Fields) → HasRead reader bytes (fields ∷ [])
     → MatchOption found ((v : Version) → fields ≢ column_names v) (λ v. fields ≡ column_names v)
     → MatchOption found ((v : Version) → BeginsWith bytes (column_names v ∷ []) → ⊥) (λ v. HasRead reader bytes (column_names v ∷ []))
@@ -219,7 +219,7 @@ pub begins_found : (found : Option Version) (reader : BytesReader) (bytes : List
 begins_found None reader bytes h = h
 begins_found (Some v) reader bytes h = begins reader bytes (column_names v ∷ []) h
 
--- the header of a text that begins with one
+-- reading the header of a text that begins with one
 pub header_passed : (reader : BytesReader) (text : List ℕ) (fields : Fields) (found : Bool) (version : Version)
     → BeginsWith text (column_names version ∷ [])
     → MatchBool found (HasRead reader text (fields ∷ [])) (RecordsOf text []) → HasRead reader text (column_names version ∷ [])

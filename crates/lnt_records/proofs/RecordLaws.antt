@@ -1,5 +1,5 @@
--- The records that are read from bytes: there is one list of them, and of two that were read from the front the shorter one begins
--- the longer one.
+-- The records of bytes: there is one list of all of them, and of two lists read from the start, the shorter is a prefix of
+-- the longer.
 use Rattle.std.proofs.Common.{◌≡◌, ◌∙◌, ℕ, ◌<◌, ◌≤◌, List, [], ◌∷◌, ◌++◌, length, refl, sym, ap, subst, None, arith, append_assoc}
 use Rattle.std.proofs.Common.{⊎_elim}
 use Rattle.std.proofs.lemmas.Bool.{cases_lt}
@@ -10,7 +10,7 @@ use Rattle.csv.specs.declared.parser.Config.{Config}
 use Rattle.csv.specs.declared.parser.State.{State}
 use Rattle.lnt_records.specs.Table.{BeginsWith, Fields, RecordsOf}
 
--- of two least numbers
+-- two least numbers are equal
 pub same_least : (i j : ℕ) → (i < j → ⊥) → (j < i → ⊥) → i ≡ j
 same_least i j below above =
     ⊎_elim (λ (lt : i < j). absurd (below lt)) (λ (le : j ≤ i). ⊎_elim (λ (lt : j < i). absurd (above lt)) (λ (ge : i ≤ j). omega arith)
@@ -18,7 +18,7 @@ same_least i j below above =
 
 -- ---- one list of records
 
--- The records begin with any that are read first.
+-- The list of all records begins with whatever records were read first.
 read_front : (cfg : Config) (s s1 s2 : State) (xs y1 y2 : List ℕ) (front records : List Fields) → Reached cfg s xs front s1 y1
     → Reached cfg s xs records s2 y2
     → next_record cfg s2 [] [] y2 ≡ None → (past : List Fields) × (records ≡ front ++ past)
@@ -84,7 +84,7 @@ both_begin : (bytes : List ℕ) (front records : List Fields) → BeginsWith byt
     → length front ≤ length records → (past : List Fields) × (records ≡ front ++ past)
 both_begin bytes front records h k le = read_both _ _ _ _ _ _ _ front records h.2 k.2 le
 
--- The record after the fewer of them is one of the others.
+-- The shorter list and the record after it begin the longer list.
 pub stands_before : (bytes : List ℕ) (xs ys : List Fields) (x y : Fields) → BeginsWith bytes (xs ++ x ∷ [])
     → BeginsWith bytes (ys ++ y ∷ []) → length xs < length ys → (past : List Fields) × (ys ≡ (xs ++ x ∷ []) ++ past)
 stands_before bytes xs ys x y h k lt =
@@ -104,7 +104,7 @@ stands_before bytes xs ys x y h k lt =
         let found = rest.1 in
         (rest.0, cc)
 
--- As many of them are the same, and so is the record after them.
+-- Two lists of the same length are equal, and so are the records after them.
 pub one_end : (bytes : List ℕ) (xs ys : List Fields) (x y : Fields) → BeginsWith bytes (xs ++ x ∷ [])
     → BeginsWith bytes (ys ++ y ∷ []) → length xs ≡ length ys → (xs ≡ ys) × (x ≡ y)
 one_end bytes xs ys x y h k number =

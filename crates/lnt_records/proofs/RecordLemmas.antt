@@ -1,4 +1,4 @@
--- What the columns of a record say together.
+-- What the columns of a record say when taken together.
 use Rattle.std.proofs.Common.{◌≡◌, ◌≤◌, length, arith}
 use Rattle.lnt_spans.specs.declared.answer.Answer.{Answer}
 use Rattle.lnt_spans.specs.declared.answer.Version.{Version}

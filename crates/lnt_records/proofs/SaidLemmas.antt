@@ -1,4 +1,4 @@
--- What each column of a span's record holds, and that it says one span.
+-- What each column of a span's record holds, and that it is the record of one span only.
 use Rattle.std.proofs.Common.{◌≡◌, ◌∙◌, ℕ, zero, suc, ◌<◌, Bool, true, false, List, [], ◌∷◌, Option, Some, None, get_or, refl, sym, ap}
 use Rattle.std.proofs.Common.{arith}
 use Rattle.std.specs.List.{AllZip}
@@ -14,7 +14,7 @@ use Rattle.lnt_records.specs.Written.{IsPlainRecord}
 
 -- ---- each column
 
--- What holds of each address, number and flag holds of the field in each column.
+-- The property `Is` holds of every address, number and flag, by kind.
 pub record Holds (Address Number : List ℕ → ℕ → Type 0) (Is : Kind → List ℕ → Type 0) : Type 0 where
   pub of_address : (text : List ℕ) (n : ℕ) → Address text n → Is address text
   pub of_number : (text : List ℕ) (n : ℕ) → Number text n → Is decimal text
@@ -56,7 +56,7 @@ sound_column version fields span s i lt =
     each_holds IsAddress IsDecimal IsOfKind version fields span
     (record { of_address = λ text n h. (n, h); of_number = λ text n h. (n, h); of_flag = λ text on h. (on, h) }) s i lt
 
--- ---- a record says one span
+-- ---- a record is of one span
 
 one_flag : (t : List ℕ) (m n : Bool) → IsFlag t m → IsFlag t n → m ≡ n
 one_flag t true true a b = refl
@@ -112,7 +112,7 @@ one_span version fields s t a b =
     let right = made t in
     cc
 
--- ---- what is plain is said
+-- ---- plain records are records
 
 more_plain : (version : Version) (fields : Fields) (more : Option More) → AreMore IsPlainDecimal version fields more
     → AreMore IsDecimal version fields more

@@ -1,4 +1,4 @@
--- A table of which lines were passed, and the rest was read after its header.
+-- A table of which some lines were passed, and the rest was read after its header.
 use Rattle.std.proofs.Common.{◌≡◌, ◌≢◌, ◌∙◌, ℕ, ◌+◌, ◌^◌, ◌<◌, List, [], ◌∷◌, ◌++◌, Option, Some, None, IfSome, append_assoc, length}
 use Rattle.std.proofs.Common.{length-append, refl, ap, subst, sym, arith}
 use Rattle.std.specs.List.{AllByRecursion, AllZip}
@@ -48,7 +48,7 @@ lines_reached version (f ∷ records) (s ∷ table) rest more after left z r =
 same_some : (p q : Read) → Some p ≡ Some q → p ≡ q
 same_some p q e = cc
 
--- what is read after the header
+-- the records after the header
 after_header : (version : Version) (rest : List ℕ) (more : List Fields) (after : State) (left : List ℕ)
     → Reached default_config st.StartRecord (strip_bom (line_text (column_names version) ++ rest)) (column_names version ∷ more) after left
     → Reached default_config st.StartRecord rest more after left
@@ -124,7 +124,7 @@ judges_passed to_come merge version section text count h = record {
 
 -- ---- the rest
 
--- The text of the rest, after the names of the columns.
+-- The text of the rest: the header, the window, and what the source gave.
 record IsRest (version : Version) (window given all : List ℕ) : Type 0 where
   joined : all ≡ line_text (column_names version) ++ (window ++ given)
 
@@ -171,20 +171,20 @@ told_bytes (Some all) bytes P e h = subst P e h
 
 -- ---- the header's fault
 
--- It isn't told of bytes that begin with the header of a version.
+-- Bytes that begin with a header don't have the header's fault.
 pub not_header : (bytes : List ℕ) (version : Version) (section : List Span) (compared : Compared)
     → BeginsWith bytes (column_names version ∷ [])
     → IsComparison bytes section compared → compared ≢ Fault fault.Header
 not_header bytes version section compared begins h e = subst (IsComparison bytes section) e h version begins
 
--- A text with lines cut out begins with the header that its bytes begin with.
+-- If a text with lines cut out begins with a header, the bytes begin with the same one.
 pub cut_begins : (version : Version) (text bytes : List ℕ) (passed : List Fields) → IsCut version text bytes passed
     → BeginsWith text (column_names version ∷ [])
     → BeginsWith bytes (column_names version ∷ [])
 cut_begins version text bytes passed cut b =
     first_begins bytes (column_names version) (passed ++ []) (b.0, b.1, cut [] b.0 b.1 b.2)
 
--- what the comparison of the rest tells of the whole
+-- the result for the rest is the result for the whole table
 pub whole_told : {S : Type 0} (to_come : S → List Span → Type 0) (merge : Merging S) (version : Version) (section : List Span)
     (a d : Option (List ℕ)) (la ld : ℕ) (names window text all : List ℕ) (count : ℕ) (compared : Compared)
     → names ≡ line_text (column_names version) → Passes a d la ld [] window (line_text (column_names version) ++ text)
@@ -213,7 +213,7 @@ whole_told to_come merge version section a d la ld names window text all count c
     (whole_bytes a d p.given ends.given p.pulls ends.whole)
     (told, not_header (p.given ++ ends.given) version section compared begins told)
 
--- the bytes of which the rest, after the names of the columns, is a text with lines cut out
+-- the bytes from which the rest was cut
 pub rest_cut : (version : Version) (a d : Option (List ℕ)) (la ld : ℕ) (names window text all : List ℕ) (table : List Span) (count : ℕ)
     → names ≡ line_text (column_names version)
     → (p : Passes a d la ld [] window (line_text (column_names version) ++ text)) → (ends : Ends d ld (names ++ window) all)
@@ -231,7 +231,7 @@ rest_cut version a d la ld names window text all table count e p ends lines =
     (sym (rest_is version names window ends.given all e ends.joined).joined) cut in
     subst (λ (t : List ℕ). IsCut version all t lines.records) (sym given) cut_all
 
--- what is so of them
+-- what holds of those bytes
 pub whole_cut : (version : Version) (a d : Option (List ℕ)) (la ld : ℕ) (names window text all : List ℕ) (table : List Span) (count : ℕ)
     (P : List ℕ → Type 0)
     → names ≡ line_text (column_names version) → Passes a d la ld [] window (line_text (column_names version) ++ text)
@@ -241,7 +241,7 @@ whole_cut version a d la ld names window text all table count P e p ends lines h
     told_bytes a (p.given ++ ends.given) P (whole_bytes a d p.given ends.given p.pulls ends.whole)
     (h (p.given ++ ends.given) (rest_cut version a d la ld names window text all table count e p ends lines))
 
--- what is so of a text that is all bytes
+-- what holds of a text that is all of the bytes
 pub all_bytes : (a b : Option (List ℕ)) (la lb : ℕ) (w0 w1 w2 all : List ℕ) (P : List ℕ → Type 0) → w0 ≡ [] → Passes a b la lb w0 w1 []
     → w2 ≡ w1 → Ends b lb w2 all → P all → IfSome a P
 all_bytes a b la lb w0 w1 w2 all P none p same ends h =

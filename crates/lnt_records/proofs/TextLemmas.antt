@@ -1,4 +1,4 @@
--- A line that is written from its end on.
+-- A line is written backwards, from its end.
 use Rattle.std.proofs.Common.{◌≡◌, ◌∙◌, ℕ, ◌+◌, ◌-◌, ◌<◌, ◌≤◌, Bool, true, false, List, [], ◌∷◌, ◌++◌, Some, None, drop, length}
 use Rattle.std.proofs.Common.{length-drop, slice_set, take, refl, ap, sym, arith}
 use Rattle.std.proofs.lemmas.List.{drop-append-le, drop-set, drop_all, length-take-le, take-append-drop, take_all}
@@ -9,7 +9,8 @@ use Rattle.lnt_spans.specs.declared.answer.More.{More}
 use Rattle.lnt_spans.specs.declared.answer.Version.{Version}
 use Rattle.lnt_spans.specs.declared.answer.Version.TheVariants.{One, Two}
 use Rattle.lnt_spans.specs.declared.span.Span.{Span}
-use Rattle.lnt_records.specs.Lines.{Begins, IsFlagBefore, IsLine, IsMore, IsPlainLine}
+use Rattle.lnt_digits.specs.Delimited.{Begins}
+use Rattle.lnt_records.specs.Lines.{IsFlagBefore, IsLine, IsMore, IsPlainLine}
 use Rattle.lnt_records.specs.Written.{IsOfVersion}
 use Rattle.lnt_records.proofs.LineLemmas.{more_taken, no_more_taken}
 use Rattle.lnt_records.proofs.SaidLemmas.{record_plain}
@@ -26,7 +27,7 @@ set_before text end c some long =
     let back : end - 1 + 1 ≡ end = omega (arith, some) in
     drop-set text (end - 1) c within ∙ ap (λ (k : ℕ). c ∷ drop k text) back
 
--- a number, and a byte after it
+-- a number and the byte after it
 pub put_before : (Spells : List ℕ → ℕ → Type 0) (room new : List ℕ) (start end n past : ℕ) → length room ≡ 256 → length new ≡ 256
     → start < end - 1 → end ≤ 256
     → Spells (drop start (take (end - 1) new)) n → drop (end - 1) new ≡ drop (end - 1) (slice_set room (end - 1) past)
@@ -59,19 +60,19 @@ flag_put false room end k e some long = record {
 pub room_ends : (room : List ℕ) → length room ≡ 256 → drop 256 room ≡ []
 room_ends room long = drop_all 256 room (omega (arith, long))
 
--- what the room has from a place on
+-- the bytes of the room from an index on
 pub room_from : (room : List ℕ) (start : ℕ) → length room ≡ 256 → take (256 - start) (drop start room) ≡ drop start room
 room_from room start long = take_all (256 - start) (drop start room) (omega (arith, length-drop start room, long))
 
--- ---- what an answer tells more
+-- ---- what only version 2 has
 
--- which is nothing
+-- nothing more, in version 1
 pub no_more_put : (version : Version) (answer : Answer) (bytes : List ℕ) → answer.more ≡ None → bytes ≡ 10 ∷ [] → IsOfVersion version answer
     → IsMore IsPlainDecimal version answer.more bytes []
 no_more_put One answer bytes none e is = rw none (no_more_taken IsPlainDecimal bytes [] e)
 no_more_put Two answer bytes none e is = let some : None ≡ Some is.0 = sym none ∙ is.1 in absurd cc
 
--- or both
+-- both, in version 2
 pub more_put : (version : Version) (answer : Answer) (more : More) (bytes s1 s2 : List ℕ) → answer.more ≡ Some more → bytes ≡ 44 ∷ s1
     → Begins IsPlainDecimal s1 more.isa 44 s2 → Begins IsPlainDecimal s2 more.discriminator 10 [] → IsOfVersion version answer
     → IsMore IsPlainDecimal version answer.more bytes []

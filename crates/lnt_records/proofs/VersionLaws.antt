@@ -22,7 +22,7 @@ abbrev IsAnswer : Version → Option Answer → Type 0
 IsAnswer version None = Unit {0}
 IsAnswer version (Some answer) = IsOfVersion version answer
 
--- what spans answer is the answer of one of them
+-- the answer of a list is that of one of its spans, so it is of the version too
 answer_of : (version : Version) (spans : List Span) (p : Position) → All (HasVersion version) spans → IsAnswer version (span_answer spans p)
 answer_of version [] p h = tt
 answer_of version (span ∷ spans) p h = by (is_in_span p span) (answer_of version spans p (All-tail (HasVersion version) span spans h))
@@ -43,7 +43,7 @@ first_has : (version : Version) (span : Span) (spans : List Span) (answers : Pos
 first_has version span spans answers o h same =
     subst (IsAnswer version) (sym same ∙ answer_in span spans span.low (at_most_itself span.low) (first_holds span spans o)) (h span.low)
 
--- Each span's answer is that at its beginning.
+-- Each span's answer is the one at its first position.
 each_has : (version : Version) (span : Span) (spans : List Span) (answers : Position → Option Answer) → AreInOrder (span ∷ spans)
     → ((p : Position) → IsAnswer version (answers p)) → ((p : Position) → IsAtMost span.low p → span_answer (span ∷ spans) p ≡ answers p)
     → All (HasVersion version) (span ∷ spans)

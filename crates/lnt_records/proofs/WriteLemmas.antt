@@ -1,4 +1,4 @@
--- Lines that are written, and that `csv` reads them as a table.
+-- Lines that are written are read as a table by `csv`.
 use Rattle.std.proofs.Common.{◌≡◌, ◌∙◌, ℕ, suc, ◌+◌, ◌<◌, ◌≤◌, Bool, true, false, List, [], ◌∷◌, ◌++◌, Option, Some, None, length, get_or}
 use Rattle.std.proofs.Common.{take, drop, take-append-drop, refl, sym, ap, subst, append_assoc, arith}
 use Rattle.std.proofs.KnownBytes.{Appends-nil, Appends-trans}
@@ -26,7 +26,7 @@ use Rattle.lnt_records.proofs.SaidLemmas.{each_holds, records_plain}
 
 -- ---- a line
 
--- what was added is a line
+-- the bytes added are a line
 pub line_put : (version : Version) (span : Span) (old new line : List ℕ) → new ≡ old ++ line → IsPlainLine version span line []
     → AddsRecord version span old new
 line_put version span old new line e is = record {
@@ -107,7 +107,7 @@ names_count Two = refl
 
 -- ---- lines are read back
 
--- records that are no single field, and need no quotes
+-- records of more than one field that need no quotes
 abbrev AreQuiet : List Fields → Type 0
 AreQuiet records = AllByRecursion (λ fields. (2 ≤ length fields) × AllByRecursion IsQuiet fields) records
 
@@ -135,7 +135,7 @@ pub none_left : next_record default_config st.StartRecord [] [] [] ≡ None
 unfolding next_record
 none_left = refl
 
--- a table begins with no byte order mark
+-- a table doesn't begin with a byte order mark
 no_mark : (version : Version) (records : List Fields)
     → strip_bom (lines_text (column_names version ∷ records)) ≡ lines_text (column_names version ∷ records)
 unfolding strip_bom
@@ -178,7 +178,7 @@ lines_append [] ys = refl
 lines_append (x ∷ xs) ys =
     ap (λ (t : List ℕ). line_text x ++ t) (lines_append xs ys) ∙ sym (append_assoc (line_text x) (lines_text xs) (lines_text ys))
 
--- These bytes are the lines of the spans. A front of them was handed on.
+-- The header and the lines of these spans: a prefix went to the writer, and the block has the others.
 pub record Lines (version : Version) (old now : Option (List ℕ)) (block : List ℕ) (spans : List Span) : Type 0 where
   pub sent : List ℕ
   pub handed : Appends old now sent
@@ -225,7 +225,7 @@ some_put version span one old new e r = rw e (one_record version one old new r)
 pub none_put : (version : Version) (span : Option Span) (old : List ℕ) → span ≡ None → AddsRecords version (cons_option span []) old old
 none_put version span old e = rw e (record { records = []; joined = sym (append-nil old); each = tt })
 
--- some more were put into the block
+-- more lines were put into the block
 pub lines_put : (version : Version) (old now : Option (List ℕ)) (block grown : List ℕ) (spans more : List Span)
     → Lines version old now block spans → AddsRecords version more block grown
     → Lines version old now grown (spans ++ more)
@@ -240,7 +240,7 @@ lines_put version old now block grown spans more l r = record {
   each = zip_join (IsPlainRecord version) l.records r.records spans more l.each r.each;
 }
 
--- a front of the block was handed on
+-- a prefix of the block went to the writer
 pub lines_sent : (version : Version) (old now new : Option (List ℕ)) (block left sent : List ℕ) (spans : List Span)
     → Lines version old now block spans → Appends now new sent → block ≡ sent ++ left
     → Lines version old new left spans
@@ -291,7 +291,7 @@ begun_none version spans old = record {
   front = front_none old (lines_text (column_names version ∷ []));
 }
 
--- while the block is filled
+-- while the block was filled
 pub begun_so_far : (version : Version) (old now : Option (List ℕ)) (block : List ℕ) (first rest spans : List Span)
     → Lines version old now block first → first ++ rest ≡ spans → BeginsTable version spans old now
 begun_so_far version old now block first rest spans l e = record {
@@ -303,7 +303,7 @@ begun_so_far version old now block first rest spans l e = record {
   front = record { front = l.sent; rest = block; joined = l.lines; gained = l.handed };
 }
 
--- while the block is handed on
+-- while the block was sent
 pub begun_sending : (version : Version) (old now new : Option (List ℕ)) (block : List ℕ) (first rest spans : List Span)
     → Lines version old now block first → first ++ rest ≡ spans → AppendsFront now new block → BeginsTable version spans old new
 begun_sending version old now new block first rest spans l e f = record {
@@ -315,7 +315,7 @@ begun_sending version old now new block first rest spans l e f = record {
   front = front_same old new (l.sent ++ block) _ l.lines (front_after old now new l.sent block l.handed f);
 }
 
--- with the lines of the first i spans, and of one more
+-- after the lines of the first i spans and of one more
 pub begun_until : (version : Version) (old now : Option (List ℕ)) (block : List ℕ) (spans : List Span) (i : ℕ)
     → Lines version old now block (take i spans) → BeginsTable version spans old now
 begun_until version old now block spans i l =
@@ -331,7 +331,7 @@ begun_more version old now new block grown spans i d lt l r f =
     (one_record version (get_or spans i d) block grown r))
     (ap (λ (xs : List Span). xs ++ drop (i + 1) spans) (sym (take_more spans i d lt)) ∙ take-append-drop (i + 1) spans) f
 
--- with the lines of all
+-- after the lines of all spans
 pub begun_all : (version : Version) (old now new : Option (List ℕ)) (block : List ℕ) (spans : List Span) (i : ℕ) → length spans ≤ i
     → Lines version old now block (take i spans) → AppendsFront now new block → BeginsTable version spans old new
 begun_all version old now new block spans i le l f =

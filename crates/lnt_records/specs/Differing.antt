@@ -22,8 +22,8 @@ use Rattle.lnt_records.specs.declared.gather.Gathered.TheVariants as gathered
 use Rattle.lnt_records.specs.Faults.{IsFault}
 use Rattle.lnt_records.specs.Table.{BeginsWith, IsTableOf, column_names}
 
--- The bytes are a table, and the stretches at which it answers otherwise than a section, as far as its version tells, come
--- one after another.
+-- The bytes are a table, and `differences` is about to give the stretches at which it and the section answer differently, as
+-- far as the table's version tells; none was given yet.
 pub record DiffersAlong {S T : Type 0} (of_section : S → List Span → Type 0) (of_table : T → List Span → Type 0) (bytes : List ℕ)
     (section : Position → Option Answer) (differences : Differences S T) : Type 0 where
   pub version : Version
@@ -31,21 +31,21 @@ pub record DiffersAlong {S T : Type 0} (of_section : S → List Span → Type 0)
   pub is_table : IsTableOf version bytes table
   pub told : HasTold of_section of_table differences (λ p. option_map (in_version version) (section p)) (span_answer table) []
 
--- That, or the first fault of the bytes.
+-- Either that, or the first fault of the bytes.
 abbrev pub IsDiffering : {S : Type 0} → (Remaining S → List Span → Type 0) → (SpanList → List Span → Type 0) → List ℕ
     → (Position → Option Answer) → Differing S → Type 0
 IsDiffering of_section of_table bytes section (differing.Fault told) = IsFault bytes told
 IsDiffering of_section of_table bytes section (differing.Table differences) = DiffersAlong of_section of_table bytes section differences
 
--- Where it is a table, no stretch is told yet.
+-- If the result is a table, no stretch was given yet.
 abbrev pub IsStarted : {S : Type 0} → (Remaining S → List Span → Type 0) → (SpanList → List Span → Type 0) → Differing S → Type 0
 IsStarted of_section of_table (differing.Fault told) = Unit {0}
 IsStarted of_section of_table (differing.Table differences) =
     (by_section : Position → Option Answer) × (by_table : Position → Option Answer)
     × HasTold of_section of_table differences by_section by_table []
 
--- The table was compared, which only one is that begins with the header of a version: the fault that is told isn't the
--- header's. Or the bytes begin with the header of neither version, and they were given.
+-- Either the table was compared, which happens only if it begins with the header of a version, so the fault isn't the
+-- header's; or the bytes begin with the header of neither version and were given back.
 abbrev pub IsDifferingRead : {S : Type 0} → (Remaining S → List Span → Type 0) → (SpanList → List Span → Type 0) → List ℕ
     → (Position → Option Answer) → DifferingRead S → Type 0
 IsDifferingRead of_section of_table bytes section (read.Differing told) =
@@ -53,19 +53,19 @@ IsDifferingRead of_section of_table bytes section (read.Differing told) =
 IsDifferingRead of_section of_table bytes section (read.Other text) =
     (text.items ≡ bytes) × ((version : Version) → BeginsWith bytes (column_names version ∷ []) → ⊥)
 
--- Where it was compared, no stretch is told yet.
+-- If the table was compared, no stretch was given yet.
 abbrev pub IsStartedRead : {S : Type 0} → (Remaining S → List Span → Type 0) → (SpanList → List Span → Type 0) → DifferingRead S → Type 0
 IsStartedRead of_section of_table (read.Differing told) = IsStarted of_section of_table told
 IsStartedRead of_section of_table (read.Other text) = Unit {0}
 
--- After the records of these spans the bytes have records of these others, or a fault. The bodies of this crate use it
--- among themselves.
+-- After the records of the spans in `table`, the bytes have the records of the gathered spans, or a fault. Only the bodies
+-- of this crate use this.
 abbrev pub IsGathered : List ℕ → Version → List Span → Gathered → Type 0
 IsGathered bytes version table (gathered.Fault told) = IsFault bytes told
 IsGathered bytes version table (gathered.Spans spans) = IsTableOf version bytes (table ++ spans.items)
 
--- After these first spans of a list in order, which end at the position, the others are to come, and it answers as the
--- section does, as the version tells answers.
+-- The spans in `table` and then `rest` are in order and answer as the section does, as the version tells answers; the ones
+-- in `table` end at `at`.
 pub record GoesOn (version : Version) (section : Position → Option Answer) (table rest : List Span) (at : Position) : Type 0 where
   pub order : AreInOrder (table ++ rest)
   pub same : (p : Position) → version_answer version (table ++ rest) p ≡ option_map (in_version version) (section p)

@@ -1,4 +1,4 @@
--- What is wrong with a table, and what a comparison with a section's spans tells.
+-- What is wrong with a table, and the result of comparing it with a section's spans.
 use Rattle.std.specs.Prelude.{◌≡◌, ◌≢◌, ℕ, ◌<◌, List, [], ◌∷◌, ◌++◌, length}
 use Rattle.lnt_spans.specs.declared.answer.Version.{Version}
 use Rattle.lnt_spans.specs.declared.difference.Difference.{Difference}
@@ -15,13 +15,13 @@ use Rattle.lnt_records.specs.Table.{BeginsWith, Fields, IsSound, IsSpanRecord, I
 
 -- ---- one record
 
--- each column before this one is of its kind, and this one isn't
+-- column i is the first whose field isn't of its kind
 pub record IsFaultyColumn (fields : Fields) (i : ℕ) : Type 0 where
   pub there : i < length fields
   pub before : (k : ℕ) → k < i → IsSound fields k
   pub faulty : IsSound fields i → ⊥
 
--- After the records of these spans this record, which has that number, is faulty so.
+-- After the records of these spans, the record with this number and these fields has this fault.
 abbrev pub IsFaulty : Version → List Span → ℕ → Fields → TableFault → Type 0
 IsFaulty version spans number fields fault.Header = ⊥
 IsFaulty version spans number fields (fault.Fields k) = (k ≡ number) × (length fields ≢ column_count version)
@@ -41,7 +41,7 @@ pub record HasFaultyRecord (bytes : List ℕ) (told : TableFault) : Type 0 where
   pub table : IsTable version records spans
   pub faulty : IsFaulty version spans (length records) fields told
 
--- The fault that is told is the first one of the bytes.
+-- This is the first fault of the bytes.
 abbrev pub IsFault : List ℕ → TableFault → Type 0
 IsFault bytes fault.Header = (version : Version) → BeginsWith bytes (column_names version ∷ []) → ⊥
 IsFault bytes (fault.Fields k) = HasFaultyRecord bytes (fault.Fields k)
@@ -50,7 +50,7 @@ IsFault bytes (fault.Order k) = HasFaultyRecord bytes (fault.Order k)
 
 -- ---- a comparison
 
--- The bytes are a table, and where it differs from the section first is told in the table's version.
+-- The bytes are a table, and this is the least difference from the section, as the table's version tells answers.
 pub record DiffersSo (bytes : List ℕ) (section : List Span) (difference : Difference) : Type 0 where
   pub version : Version
   pub table : List Span
@@ -69,8 +69,8 @@ IsComparison bytes section Same = AnswersAs bytes section
 IsComparison bytes section (Fault told) = IsFault bytes told
 IsComparison bytes section (Differs difference) = DiffersSo bytes section difference
 
--- The table was compared, which only one is that begins with the header of a version: the fault that is told isn't the
--- header's. Or the bytes begin with the header of neither version, and they were given.
+-- Either the table was compared, which happens only if it begins with the header of a version, so the fault isn't the
+-- header's; or the bytes begin with the header of neither version and were given back.
 abbrev pub IsTableRead : List ℕ → List Span → TableRead → Type 0
 IsTableRead bytes section (Read told) = IsComparison bytes section told × (told ≢ Fault fault.Header)
 IsTableRead bytes section (Other text) = (text.items ≡ bytes) × ((version : Version) → BeginsWith bytes (column_names version ∷ []) → ⊥)

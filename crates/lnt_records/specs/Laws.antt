@@ -10,20 +10,20 @@ use Rattle.lnt_records.specs.declared.fault.TableFault.{TableFault}
 use Rattle.lnt_records.specs.Faults.{IsComparison, IsFault}
 use Rattle.lnt_records.specs.Table.{IsTableOf}
 
--- Bytes are a table of one version and of one list of spans.
+-- Bytes are a table of at most one version and one list of spans.
 abbrev pub OneTable : Type 0
 OneTable = (bytes : List ℕ) (v w : Version) (xs ys : List Span) → IsTableOf v bytes xs → IsTableOf w bytes ys → (v ≡ w) × (xs ≡ ys)
 
--- No fault is told of a table.
+-- Bytes that are a table have no fault.
 abbrev pub NoFault : Type 0
 NoFault =
     (bytes : List ℕ) (version : Version) (spans : List Span) (told : TableFault) → IsTableOf version bytes spans → IsFault bytes told → ⊥
 
--- At most one fault is the first one of the bytes.
+-- At most one fault is the first of the bytes.
 abbrev pub OneFault : Type 0
 OneFault = (bytes : List ℕ) (told other : TableFault) → IsFault bytes told → IsFault bytes other → told ≡ other
 
--- Of a table that answers as the section does a comparison tells nothing but that.
+-- Comparing a section with a table that answers as it does has no other result.
 abbrev pub Agreement : Type 0
 Agreement = (bytes : List ℕ) (version : Version) (section table : List Span) (compared : Compared) → IsTableOf version bytes table
     → Agree (version_answer version section) (span_answer table) → IsComparison bytes section compared → compared ≡ Same

@@ -1,5 +1,5 @@
--- A table that is read line by line. The bodies of this crate use it among themselves, and those of the crate of tables by
--- path what the bytes begin with.
+-- A table that is parsed line by line. Only the bodies of this crate use this, and those of the crate of tables by path use
+-- what is said about the beginning of the bytes.
 use Rattle.std.specs.Prelude.{◌≡◌, ℕ, Bool, List, [], ◌∷◌, ◌++◌, Option, Some, None}
 use Rattle.lnt_digits.specs.Digits.{IsAddress, IsDecimal, IsPlainAddress, IsPlainDecimal}
 use Rattle.lnt_spans.specs.declared.answer.Answer.{Answer}
@@ -13,13 +13,7 @@ use Rattle.lnt_records.specs.Written.{following, line_text}
 
 -- ---- what the bytes begin with, and what is after it
 
--- The text begins with one that spells n, up to a byte, and this is what is after that byte.
-pub record Begins (Spells : List ℕ → ℕ → Type 0) (text : List ℕ) (n end : ℕ) (rest : List ℕ) : Type 0 where
-  pub front : List ℕ
-  pub joined : text ≡ front ++ end ∷ rest
-  pub spells : Spells front n
-
--- two fields that say a position, each with a comma after it, where addresses and numbers are written in these ways
+-- the two fields of a position, each with a comma after it, in these spellings of addresses and numbers; then `rest`
 pub record IsPosition (Address Number : List ℕ → ℕ → Type 0) (position : Position) (bytes rest : List ℕ) : Type 0 where
   pub address : List ℕ
   pub op : List ℕ
@@ -27,13 +21,13 @@ pub record IsPosition (Address Number : List ℕ → ℕ → Type 0) (position :
   pub address_is : Address address position.address
   pub op_is : Number op position.op
 
--- 0 or 1
+-- 0 or 1, then `rest`
 pub record IsFlagBefore (on : Bool) (bytes rest : List ℕ) : Type 0 where
   pub text : List ℕ
   pub joined : bytes ≡ text ++ rest
   pub text_is : IsFlag text on
 
--- the fields that say what a version has more
+-- the fields for what only version 2 has
 abbrev pub AreMoreFields : (List ℕ → ℕ → Type 0) → Version → Fields → Option More → Type 0
 AreMoreFields Number One fields more = (fields ≡ []) × (more ≡ None)
 AreMoreFields Number Two fields None = ⊥
@@ -41,13 +35,13 @@ AreMoreFields Number Two fields (Some more) =
     (isa : List ℕ) × (discriminator : List ℕ) × (fields ≡ isa ∷ discriminator ∷ []) × Number isa more.isa
     × Number discriminator more.discriminator
 
--- those fields, each with a comma before it, and the end of the line
+-- those fields, each with a comma before it, and a line feed; then `rest`
 pub record IsMore (Number : List ℕ → ℕ → Type 0) (version : Version) (more : Option More) (bytes rest : List ℕ) : Type 0 where
   pub fields : Fields
   pub joined : bytes ≡ following fields ++ 10 ∷ rest
   pub fields_are : AreMoreFields Number version fields more
 
--- the fields that say an answer, with a comma between them, and the end of the line
+-- the fields of an answer, separated by commas, and a line feed; then `rest`
 pub record IsAnswer (Number : List ℕ → ℕ → Type 0) (version : Version) (answer : Answer) (bytes rest : List ℕ) : Type 0 where
   pub unit : List ℕ
   pub file : List ℕ
@@ -63,16 +57,16 @@ pub record IsAnswer (Number : List ℕ → ℕ → Type 0) (version : Version) (
   pub is_stmt_is : IsFlag is_stmt answer.is_stmt
   pub more_are : AreMoreFields Number version more answer.more
 
--- a line that says a span, in these ways
+-- the line of a span in these spellings, then `rest`
 pub record SaysLine (Address Number : List ℕ → ℕ → Type 0) (version : Version) (span : Span) (bytes rest : List ℕ) : Type 0 where
   pub fields : Fields
   pub joined : bytes ≡ line_text fields ++ rest
   pub says : SaysSpan Address Number version fields span
 
--- a line that says a span
+-- the line of a span in any spelling, then `rest`
 abbrev pub IsLine : Version → Span → List ℕ → List ℕ → Type 0
 IsLine version span bytes rest = SaysLine IsAddress IsDecimal version span bytes rest
 
--- the same, its numbers without leading zeros and its letters in lower case
+-- the line of a span without leading zeros and with letters in lower case, then `rest`
 abbrev pub IsPlainLine : Version → Span → List ℕ → List ℕ → Type 0
 IsPlainLine version span bytes rest = SaysLine IsPlainAddress IsPlainDecimal version span bytes rest

@@ -1,4 +1,4 @@
--- A table that comes from a source, as far as its lines were passed. The bodies of this crate use it among themselves.
+-- How far the lines of a table from a source were passed. Only the bodies of this crate use this.
 use Rattle.std.specs.Prelude.{◌≡◌, ℕ, ◌+◌, ◌≤◌, Bool, true, false, List, [], ◌∷◌, ◌++◌, Option, IfSome, length}
 use Rattle.std.specs.List.{AllByRecursion, AllZip}
 use Rattle.csv.specs.Reading.{Reached, default_config, strip_bom}
@@ -15,15 +15,15 @@ use Rattle.lnt_records.specs.Written.{lines_text}
 
 -- ---- the bytes
 
--- Of the bytes that were at hand and those that the source gave, these were passed, and the others are at hand. The
--- source has `old` to give, then `new`; and it may give so many, then so many.
+-- Bytes were taken from a source into a window, and the ones in `passed` were passed: the window had `before` and has
+-- `after`, the source had `old` to give and has `new`, and it may give `may_still` bytes of the `may_give` before.
 pub record Passes (old new : Option (List ℕ)) (may_give may_still : ℕ) (before after passed : List ℕ) : Type 0 where
   pub given : List ℕ
   pub joined : before ++ given ≡ passed ++ after
   pub pulls : Pulls old new given
   pub count : may_still + length given ≡ may_give
 
--- After these bytes stands all that the source has to give.
+-- `all` consists of the bytes before and all that the source has to give.
 pub record Ends (old : Option (List ℕ)) (may_give : ℕ) (before all : List ℕ) : Type 0 where
   pub given : List ℕ
   pub joined : all ≡ before ++ given
@@ -32,15 +32,14 @@ pub record Ends (old : Option (List ℕ)) (may_give : ℕ) (before all : List �
 
 -- ---- the lines
 
--- These lines say these spans, and so many records were passed with them, if `first` were before.
+-- These lines are the records of the spans in `table`, and `count` is their number with the header.
 pub record AreLines (version : Version) (text : List ℕ) (table : List Span) (count : ℕ) : Type 0 where
   pub records : List Fields
   pub text_is : text ≡ lines_text records
   pub each : AllZip (IsSpanRecord version) records table
   pub count_is : count ≡ length records + 1
 
--- The spans of a list in order answer as the section does, as far as the version tells. The merge has compared them with
--- these records.
+-- The merge has compared spans that answer as the section does, as far as the version tells, with the records in `table`.
 pub record Follows {S : Type 0} (to_come : S → List Span → Type 0) (merge : Merging S) (version : Version)
     (section table : List Span) : Type 0 where
   pub spans : List Span
@@ -48,7 +47,7 @@ pub record Follows {S : Type 0} (to_come : S → List Span → Type 0) (merge : 
   pub version_is : merge.version ≡ version
   pub compares : Compares to_come merge spans table
 
--- After the line with the names of the columns these lines were passed, which say records that the merge has compared.
+-- After the header these lines were passed, and the merge has compared their records.
 pub record HasPassed {S : Type 0} (to_come : S → List Span → Type 0) (merge : Merging S) (version : Version) (section : List Span)
     (text : List ℕ) (count : ℕ) : Type 0 where
   pub table : List Span
@@ -58,13 +57,13 @@ pub record HasPassed {S : Type 0} (to_come : S → List Span → Type 0) (merge 
 
 -- ---- where canonical spans leave off
 
--- The source has these spans to come, or it is known to have none.
+-- These spans are left: those that the source has to come, or none if it is known to have ended.
 abbrev pub AreLeft : Bool → (List Span → Type 0) → List Span → Type 0
 AreLeft true to_come rest = rest ≡ []
 AreLeft false to_come rest = to_come rest
 
--- The lines of a text say the first spans of a list in order, which answers as the section does, as far as the version
--- tells. The spans after them are to come, and the text's last span ends at `end`.
+-- The lines in `text` are the first spans of a list in order that answers as the section does, as far as the version tells.
+-- The list's other spans are to come, and the last span of the lines ends at `end`.
 pub record LeavesOff (ToCome : List Span → Type 0) (version : Version) (section : List Span) (text : List ℕ) (count : ℕ)
     (end : Position) : Type 0 where
   pub table : List Span
@@ -78,8 +77,8 @@ pub record LeavesOff (ToCome : List Span → Type 0) (version : Version) (sectio
 
 -- ---- a text with the lines that were passed cut out
 
--- What `csv` reads of the text after the line with the names of the columns it reads of the bytes too, after these
--- records.
+-- Whatever records `csv` reads from the text after the header, it also reads from the bytes, after the header and the
+-- records in `passed`.
 abbrev pub IsCut : Version → List ℕ → List ℕ → List Fields → Type 0
 IsCut version text bytes passed = (more : List Fields) (after : State) (rest : List ℕ)
     → Reached default_config state.StartRecord (strip_bom text) (column_names version ∷ more) after rest

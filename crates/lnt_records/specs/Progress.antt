@@ -1,5 +1,4 @@
--- How far a table is read and compared. The bodies of this crate use it among themselves, and those of the crate of tables by
--- path.
+-- How far a table was read and compared. Only the bodies of this crate and of the crate of tables by path use this.
 use Rattle.std.specs.Prelude.{◌≡◌, ◌≢◌, ℕ, ◌+◌, ◌<◌, ◌≤◌, true, false, List, [], ◌∷◌, Option, Some, None, length, get_or, suc}
 use Rattle.std.proofs.Common.{Bor}
 use Rattle.csv.specs.Machine.{ends_at_end}
@@ -21,7 +20,7 @@ use Rattle.lnt_records.specs.Table.{AreMore, Fields, IsFlag, IsSound, IsTable, K
 
 -- ---- one record
 
--- these fields, from this column on, are the names
+-- the fields from column i on are these names
 abbrev pub AreNamed : ℕ → Fields → Fields → Type 0
 AreNamed i [] fields = Unit {0}
 AreNamed i (name ∷ names) fields = (get_or fields i [] ≡ name) × AreNamed (suc i) names fields
@@ -29,26 +28,26 @@ AreNamed i (name ∷ names) fields = (get_or fields i [] ≡ name) × AreNamed (
 abbrev pub IsColumnOf : Kind → ℕ → Type 0
 IsColumnOf kind i = get_or kinds i decimal ≡ kind
 
--- each column before this one is of its kind
+-- each field before column i is of its column's kind
 abbrev pub AreSoundBefore : Fields → ℕ → Type 0
 AreSoundBefore fields i = (k : ℕ) → k < i → IsSound fields k
 
--- a column is the first that isn't of its kind
+-- the fault names the first column whose field isn't of its kind
 abbrev pub IsColumnFault : Fields → RecordFault → Type 0
 IsColumnFault fields record_fault.Fields = ⊥
 IsColumnFault fields (record_fault.Number i) = IsFaultyColumn fields i
 
--- the same, or the record hasn't the columns of the version
+-- either that, or the record hasn't as many fields as the version has columns
 abbrev pub IsRecordFault : Version → Fields → RecordFault → Type 0
 IsRecordFault version fields record_fault.Fields = length fields ≢ column_count version
 IsRecordFault version fields (record_fault.Number i) = (length fields ≡ column_count version) × IsFaultyColumn fields i
 
--- what two columns say
+-- the position in columns i and i + 1
 pub record SaysPosition (fields : Fields) (i : ℕ) (position : Position) : Type 0 where
   pub address : IsAddress (get_or fields i []) position.address
   pub op : IsDecimal (get_or fields (i + 1) []) position.op
 
--- what the columns after the positions say
+-- the answer in the columns after the positions
 pub record SaysAnswer (version : Version) (fields : Fields) (answer : Answer) : Type 0 where
   pub unit : IsDecimal (get_or fields 4 []) answer.unit
   pub file : IsDecimal (get_or fields 5 []) answer.file
@@ -70,8 +69,8 @@ abbrev pub known_length : Option (List ℕ) → ℕ
 known_length None = 0
 known_length (Some bytes) = length bytes
 
--- The reader has read these records, the first ones of the bytes, and stands between two records. It takes records of any
--- length, so that only memory can fail it.
+-- The reader has read these records, the first ones of the bytes, and is between two records. It takes records with any
+-- number of fields, so only a lack of memory can make it fail.
 pub record HasRead (reader : BytesReader) (bytes : List ℕ) (records : List Fields) : Type 0 where
   pub config : reader_config reader ≡ default_config
   pub flexible : is_flexible reader ≡ true
@@ -83,7 +82,7 @@ pub record HasRead (reader : BytesReader) (bytes : List ℕ) (records : List Fie
   pub reached : Reached default_config state.StartRecord (strip_bom bytes) records (reader_state reader) rest
   pub few : length records + length rest ≤ length bytes
 
--- These records are a table so far, and compared with the spans of a section.
+-- These records are a table so far, and were compared with the spans of a section.
 pub record Judges {S : Type 0} (to_come : S → List Span → Type 0) (comparison : Comparison S) (section : List Span)
     (records : List Fields) : Type 0 where
   pub table : List Span

@@ -1,4 +1,4 @@
--- An address table, as `csv` reads its records from the bytes.
+-- An address table, in terms of the records that `csv` reads from its bytes.
 use Rattle.std.specs.Prelude.{◌≡◌, ℕ, Bool, true, false, List, [], ◌∷◌, ◌++◌, Option, Some, None, length, get_or, codes}
 use Rattle.std.specs.List.{AllZip}
 use Rattle.csv.specs.Reading.{AreRecords, Reached, default_config, strip_bom}
@@ -22,7 +22,7 @@ common_names =
     codes "low" ∷ codes "low_op" ∷ codes "high" ∷ codes "high_op" ∷ codes "unit" ∷ codes "file" ∷ codes "line" ∷ codes "column"
     ∷ codes "is_stmt" ∷ []
 
--- record 0
+-- the header, record 0
 abbrev pub column_names : Version → Fields
 column_names One = common_names
 column_names Two = common_names ++ codes "isa" ∷ codes "discriminator" ∷ []
@@ -31,7 +31,7 @@ abbrev pub column_count : Version → ℕ
 column_count One = 9
 column_count Two = 11
 
--- what a column holds
+-- the kinds of columns
 pub data Kind : Type 0 where
   address : Kind
   decimal : Kind
@@ -50,19 +50,19 @@ IsOfKind address text = (n : ℕ) × IsAddress text n
 IsOfKind decimal text = (n : ℕ) × IsDecimal text n
 IsOfKind flag text = (on : Bool) × IsFlag text on
 
--- the field in a column is of the column's kind
+-- the field in column i is of the column's kind
 abbrev pub IsSound : Fields → ℕ → Type 0
 IsSound fields i = IsOfKind (get_or kinds i decimal) (get_or fields i [])
 
 -- ---- a span's record
 
--- the two columns that version 2 has more
+-- the two columns that only version 2 has
 abbrev pub AreMore : (List ℕ → ℕ → Type 0) → Version → Fields → Option More → Type 0
 AreMore Number One fields more = more ≡ None
 AreMore Number Two fields None = ⊥
 AreMore Number Two fields (Some more) = Number (get_or fields 9 []) more.isa × Number (get_or fields 10 []) more.discriminator
 
--- A record that says the span, where addresses and numbers are written in these ways.
+-- A record of the span, in these spellings of addresses and numbers.
 pub record SaysSpan (Address Number : List ℕ → ℕ → Type 0) (version : Version) (fields : Fields) (span : Span) : Type 0 where
   pub count : length fields ≡ column_count version
   pub low : Address (get_or fields 0 []) span.low.address
@@ -76,25 +76,25 @@ pub record SaysSpan (Address Number : List ℕ → ℕ → Type 0) (version : Ve
   pub is_stmt : IsFlag (get_or fields 8 []) span.answer.is_stmt
   pub more : AreMore Number version fields span.answer.more
 
--- A record that says the span.
+-- A record of the span in any spelling.
 abbrev pub IsSpanRecord : Version → Fields → Span → Type 0
 IsSpanRecord version fields span = SaysSpan IsAddress IsDecimal version fields span
 
 -- ---- a table
 
--- each record says a span, and the spans are in order, none empty
+-- each record is that of its span, and the spans are in order, none empty
 pub record AreSpans (version : Version) (records : List Fields) (spans : List Span) : Type 0 where
   pub each : AllZip (IsSpanRecord version) records spans
   pub in_order : AreInOrder spans
 
--- the names of the columns, and a record for each span
+-- the header, and a record for each span
 abbrev pub IsTable : Version → List Fields → List Span → Type 0
 IsTable version [] spans = ⊥
 IsTable version (first ∷ records) spans = (first ≡ column_names version) × AreSpans version records spans
 
 -- ---- the bytes of a table
 
--- all records of the bytes
+-- these are all records of the bytes
 abbrev pub RecordsOf : List ℕ → List Fields → Type 0
 RecordsOf bytes records = AreRecords default_config state.StartRecord (strip_bom bytes) records
 

@@ -1,4 +1,4 @@
--- A table as it is written.
+-- A table in the form in which it is written.
 use Rattle.std.specs.Prelude.{◌≡◌, ℕ, List, [], ◌∷◌, ◌++◌, Option, Some, None}
 use Rattle.std.specs.List.{AllZip}
 use Rattle.lnt_digits.specs.Digits.{IsPlainAddress, IsPlainDecimal}
@@ -12,12 +12,12 @@ use Rattle.lnt_spans.specs.declared.span.Span.{Span}
 use Rattle.lnt_spans.specs.Spans.{IsCanonical, span_answer, version_answer}
 use Rattle.lnt_records.specs.Table.{Fields, IsTableOf, SaysSpan, column_names}
 
--- The answer tells what the version tells, and no more.
+-- The answer has exactly what the version tells.
 abbrev pub IsOfVersion : Version → Answer → Type 0
 IsOfVersion One answer = answer.more ≡ None
 IsOfVersion Two answer = (more : More) × (answer.more ≡ Some more)
 
--- A record that says the span, its numbers without leading zeros and its letters in lower case.
+-- A record of the span without leading zeros and with letters in lower case.
 abbrev pub IsPlainRecord : Version → Fields → Span → Type 0
 IsPlainRecord version fields span = SaysSpan IsPlainAddress IsPlainDecimal version fields span
 
@@ -26,7 +26,7 @@ abbrev pub following : Fields → List ℕ
 following [] = []
 following (field ∷ fields) = 44 ∷ field ++ following fields
 
--- a record on a line
+-- a record as a line
 abbrev pub line_text : Fields → List ℕ
 line_text [] = 10 ∷ []
 line_text (field ∷ fields) = field ++ following fields ++ 10 ∷ []
@@ -35,7 +35,7 @@ abbrev pub lines_text : List Fields → List ℕ
 lines_text [] = []
 lines_text (fields ∷ records) = line_text fields ++ lines_text records
 
--- a line with the names of the columns, and a line for each span
+-- the header as a line, and a line for each span
 pub record IsPlainTable (version : Version) (bytes : List ℕ) (spans : List Span) : Type 0 where
   pub records : List Fields
   pub lines : bytes ≡ lines_text (column_names version ∷ records)
@@ -46,11 +46,12 @@ pub record IsWrittenTable (version : Version) (bytes : List ℕ) (spans : List S
   pub table : IsTableOf version bytes spans
   pub plain : IsPlainTable version bytes spans
 
--- The answer tells an instruction set and a discriminator too.
+-- The answer has an instruction set and a discriminator.
 abbrev pub TellsAll : Span → Type 0
 TellsAll span = IsOfVersion Two span.answer
 
--- The bytes are a table, on plain lines, of the canonical spans that answer as these do, as the version tells answers.
+-- The bytes are a table, on plain lines, of the canonical spans that answer as the given ones do, as the version tells
+-- answers.
 pub record IsCanonicalTable (version : Version) (given : List Span) (bytes : List ℕ) : Type 0 where
   pub spans : List Span
   pub canonical : IsCanonical spans
@@ -60,7 +61,7 @@ pub record IsCanonicalTable (version : Version) (given : List Span) (bytes : Lis
 -- ---- tables whose writing was stopped
 --     old, new    the known bytes that the writer holds before and afterwards
 
--- The writer has gained a front of the names of the columns and the lines of the first of these spans.
+-- The writer has gained a prefix of the header and the lines of the first of these spans.
 pub record BeginsTable (version : Version) (spans : List Span) (old new : Option (List ℕ)) : Type 0 where
   pub first : List Span
   pub rest : List Span
@@ -69,7 +70,7 @@ pub record BeginsTable (version : Version) (spans : List Span) (old new : Option
   pub each : AllZip (IsPlainRecord version) records first
   pub front : AppendsFront old new (lines_text (column_names version ∷ records))
 
--- It has gained such a front of the canonical spans that answer as these do, as the version tells answers.
+-- The same for the canonical spans that answer as the given ones do, as the version tells answers.
 pub record BeginsCanonicalTable (version : Version) (given : List Span) (old new : Option (List ℕ)) : Type 0 where
   pub spans : List Span
   pub canonical : IsCanonical spans
@@ -78,13 +79,13 @@ pub record BeginsCanonicalTable (version : Version) (given : List Span) (old new
 
 -- ---- lines that are added. The bodies of this crate use them among themselves.
 
--- a line
+-- The line of the span was added.
 pub record AddsRecord (version : Version) (span : Span) (old new : List ℕ) : Type 0 where
   pub fields : Fields
   pub joined : new ≡ old ++ line_text fields
   pub plain : IsPlainRecord version fields span
 
--- a line for each span
+-- A line for each of the spans was added.
 pub record AddsRecords (version : Version) (spans : List Span) (old new : List ℕ) : Type 0 where
   pub records : List Fields
   pub joined : new ≡ old ++ lines_text records

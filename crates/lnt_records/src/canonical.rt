@@ -1,4 +1,4 @@
-//! The table of canonical spans, written as the spans come.
+//! Writes the table of the canonical spans, as the spans come.
 ghost use Rattle.std.specs.Prelude.{ℕ, List, [], IfSome, OnErr, OnOk};
 ghost use Rattle.std.specs.Io.KnownBytes.{Appends};
 ghost use Rattle.std.specs.List.{AllByRecursion, cons_option};
@@ -14,16 +14,16 @@ use lnt_spans::{Joiner, Span, SpanSource, Version};
 use std::alloc::{AllocError, Global};
 use std::io::Write;
 
-/// Writes the table of spans that come from a source, block by block, as they come. Those that touch and answer the same,
-/// as the version tells answers, are joined first.
+/// Writes the table of the spans of a source, block by block, as they come. Spans that touch and have the same answer, as
+/// the version tells answers, are joined first.
 ///
-/// Where it answers Ok, the writer has gained bytes that are a table of exactly the canonical spans, which is the one
-/// shortest table that answers as the spans do, as far as the version tells. Each record is on a line of its own, as
-/// `write_spans` writes it. No span is kept but one.
+/// On Ok, the writer has gained bytes that are a table of exactly the canonical spans: the one shortest table that answers
+/// as the spans do, as far as the version tells. Each record is on a line of its own, as `write_spans` writes it. Only one
+/// span is kept at a time.
 ///
-/// The caller sees to it that the spans are in order, that none is empty, and that each answer tells an instruction set
-/// and a discriminator. It stops as `write_spans`: then the writer has gained a front of the names of the columns and the
-/// lines of the first canonical spans.
+/// The caller makes sure that the spans are in order, that none is empty, and that each answer has an instruction set and a
+/// discriminator. It stops as `write_spans` does: then the writer has gained a prefix of the header and the lines of the
+/// first canonical spans.
 pub fn write_canonical<S: SpanSource + Drop, W: Write>(
     alloc: Global,
     spans: S,
@@ -50,7 +50,7 @@ pub fn write_canonical<S: SpanSource + Drop, W: Write>(
     send(&mut block, out)
 }
 
-// Adds the line of a span, if there is one.
+// Adds the line of the span, if there is one.
 #[inline(always)]
 fn put_some(
     block: &mut Vec<u8>,

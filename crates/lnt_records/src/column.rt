@@ -1,4 +1,4 @@
-//! The fields of a record, by their columns.
+//! The fields of a record, by column.
 ghost use Rattle.std.specs.Prelude.{◌≡◌, ◌≢◌, ◌+◌, ◌<◌, [], length, get_or, IfOk, IfErr, OnOk, MatchOption, Bool};
 ghost use Rattle.std.specs.Bool.{MatchBool};
 ghost use Rattle.csv.specs.Records.{fields_of};
@@ -10,7 +10,7 @@ ghost use Rattle.lnt_records.specs.Table as table;
 use crate::record::RecordFault;
 use csv::ByteRecord;
 
-/// The field in a column of a record. The caller sees to it that there is one.
+/// The field in column `i` of a record. The caller makes sure that the record has that column.
 #[tactic(auto, using(crate::proofs::ColumnLemmas::field_is, crate::proofs::ColumnLemmas::field_there))]
 pub fn field(row: &ByteRecord, i: usize) -> &[u8]
     requires { i < length (fields_of row.now) }
@@ -19,7 +19,7 @@ pub fn field(row: &ByteRecord, i: usize) -> &[u8]
     row.get(i).unwrap_or(&[])
 }
 
-/// Whether the field in a column of a record is this text. The caller sees to it that there is one.
+/// Whether the field in column `i` of a record is this text. The caller makes sure that the record has that column.
 pub fn is_field(row: &ByteRecord, i: usize, text: &[u8]) -> bool
     requires { i < length (fields_of row.now) }
     ensures { MatchBool result (get_or (fields_of row.now) i [] ≡ text.now) (get_or (fields_of row.now) i [] ≢ text.now) }
@@ -27,7 +27,8 @@ pub fn is_field(row: &ByteRecord, i: usize, text: &[u8]) -> bool
     field(row, i) == text
 }
 
-// The address in a column, where each column before it is of its kind.
+// Reads the address in column `i`. The caller makes sure that the fields before it are of their columns' kinds, so that a
+// fault here is the first.
 #[tactic(auto, using(crate::proofs::ColumnLemmas::sound_address, crate::proofs::ColumnLemmas::no_address))]
 pub(crate) fn address_at(row: &ByteRecord, i: usize) -> Result<u64, RecordFault>
     requires there { i < length (fields_of row.now) }
@@ -43,7 +44,7 @@ pub(crate) fn address_at(row: &ByteRecord, i: usize) -> Result<u64, RecordFault>
     }
 }
 
-// The same of a decimal number.
+// Reads the decimal number in column `i`, as `address_at` reads an address.
 #[tactic(auto, using(crate::proofs::ColumnLemmas::sound_decimal, crate::proofs::ColumnLemmas::no_decimal))]
 pub(crate) fn decimal_at(row: &ByteRecord, i: usize) -> Result<u64, RecordFault>
     requires there { i < length (fields_of row.now) }
@@ -59,7 +60,7 @@ pub(crate) fn decimal_at(row: &ByteRecord, i: usize) -> Result<u64, RecordFault>
     }
 }
 
-// The same of `0` or `1`.
+// Reads the flag in column `i`, as `address_at` reads an address.
 #[tactic(auto, using(crate::proofs::ColumnLemmas::sound_flag, crate::proofs::ColumnLemmas::no_flag))]
 pub(crate) fn flag_at(row: &ByteRecord, i: usize) -> Result<bool, RecordFault>
     requires there { i < length (fields_of row.now) }
@@ -75,7 +76,7 @@ pub(crate) fn flag_at(row: &ByteRecord, i: usize) -> Result<bool, RecordFault>
     }
 }
 
-// A lone `0` or `1`.
+// Reads a field that is `0` or `1`.
 fn flag(text: &[u8]) -> Option<bool>
     ensures { MatchOption result ((on : Bool) → IsFlag text.now on → ⊥) (λ on. IsFlag text.now on) }
 {

@@ -1,4 +1,4 @@
-//! A table compared with the spans of a section, record by record.
+//! Compares a table with the spans of a section, record by record.
 ghost use Rattle.std.specs.Prelude.{◌≡◌, ◌+◌, ◌^◌, ◌<◌, ℕ, List, [], ◌∷◌, ◌++◌, length, IfErr, IfOk, MatchOption, OnOk};
 ghost use Rattle.csv.specs.Records.{fields_of};
 ghost use Rattle.lnt_spans.specs.declared.span.Span.{Span};
@@ -19,22 +19,23 @@ use std::alloc::{AllocError, Global};
 /// What a comparison found.
 #[derive(Clone, Copy, Debug, PartialEq, Eq)]
 pub enum Compared {
-    /// The table answers as the section at every position.
+    /// The table answers as the section does at every position.
     Same,
-    /// The bytes are no table: this is the first fault.
+    /// The bytes are not a table: this is the first fault.
     Fault(TableFault),
-    /// The bytes are a table, and this is the least position at which the two answer differently.
+    /// The bytes are a table, and this is the least position at which it and the section answer differently.
     Differs(Difference),
 }
 
-/// Compares the table in some bytes with the spans of a section.
+/// Compares the table in these bytes with the spans of a section.
 ///
-/// The records are read one by one, as `csv` reads them, and none is kept. `Same`: the bytes are a table that answers at every position as
-/// the spans do, as far as the table's version tells: in version 1 the spans' instruction sets and discriminators don't
-/// count. `Fault`: they are no table. The first faulty record is told, whatever was different before it. `Differs`: all
-/// records are well formed, and at no lower position do the answers differ; both are told in the table's version.
+/// The records are read one by one, as `csv` reads them, and none is kept. `Same`: the bytes are a table that answers at
+/// every position as the spans do, as far as the table's version tells: in version 1 the spans' instruction sets and
+/// discriminators don't count. `Fault`: the bytes are not a table. The first faulty record is reported, even if answers
+/// differed before it. `Differs`: all records are well formed, and the answers differ at this position and at no lower one;
+/// both are told in the table's version.
 ///
-/// The caller sees to it that the spans are in order and none is empty. The one error is that memory ran out.
+/// The caller makes sure that the spans are in order and none is empty. The one error is that memory ran out.
 pub fn compare(alloc: Global, table: &[u8], spans: &[Span]) -> Result<Compared, AllocError>
     requires { AreInOrder spans.now }
     ensures { IfOk result (λ compared. IsComparison table.now spans.now compared) }
@@ -42,7 +43,7 @@ pub fn compare(alloc: Global, table: &[u8], spans: &[Span]) -> Result<Compared, 
     compare_records(alloc, table, SpanSlice::of(spans))
 }
 
-// The same with spans that come from a source.
+// Does the same with the spans of a source.
 pub(crate) fn compare_records<S: SpanSource + Drop>(
     alloc: Global,
     table: &[u8],
@@ -57,7 +58,8 @@ pub(crate) fn compare_records<S: SpanSource + Drop>(
     compare_after(alloc, table, Merge::new(spans, version), version, 1)
 }
 
-// The version whose columns record 0 names, if it is a header. It holds a reader of records, which no caller does beside it.
+// The version whose columns record 0 names, if it is a header. A function of its own, never inlined: a reader of records is
+// large, and no caller should hold it on the stack.
 #[inline(never)]
 pub(crate) fn header_of(alloc: Global, table: &[u8]) -> Result<Option<Version>, AllocError>
     ensures { IfOk result (λ found. MatchOption found ((v : Version) → BeginsWith table.now (column_names v ∷ []) → ⊥)
@@ -68,8 +70,8 @@ pub(crate) fn header_of(alloc: Global, table: &[u8]) -> Result<Option<Version>, 
     read_header(&mut reader, &mut row)
 }
 
-// The same of a text that begins with a header, and from which records after that were cut out, so many with the header,
-// which the merge has compared with the spans.
+// Compares the rest of a table. `text` is the table's header with the records after it, less some that the merge has already
+// compared with the spans; `count` is the number of these, the header included.
 pub(crate) fn compare_after<S: SpanSource + Drop>(
     alloc: Global,
     text: &[u8],
@@ -97,7 +99,7 @@ pub(crate) fn compare_after<S: SpanSource + Drop>(
     compare_rest(&mut reader, &mut row, comparison)
 }
 
-// The same of the records that a reader has to give, which has read the header of a text, each into `row`.
+// Compares the records that the reader has left after the header, each read into `row`.
 fn compare_rest<S: SpanSource + Drop>(
     reader: &mut Reader<&[u8]>,
     row: &mut ByteRecord,
@@ -124,17 +126,17 @@ fn compare_rest<S: SpanSource + Drop>(
     }
 }
 
-// The spans of a section, compared with the records of a table so far.
+// The state of a comparison: the spans of a section, and the records of a table so far.
 #[derive(Drop)]
 pub(crate) struct Comparison<S> {
     pub(crate) merge: Merge<S>,
     pub(crate) version: Version,
-    // how many records there were, with the header
+    // the number of records so far, the header included, which is the number of the next record
     pub(crate) count: u64,
 }
 
 impl<S: SpanSource + Drop> Comparison<S> {
-    // Takes the next record, if it isn't faulty.
+    // Compares the next record, or gives its fault.
     fn take_record(&mut self, row: &ByteRecord) -> Option<TableFault>
         requires { (section : List Span) × (records : List Fields) × Judges S.to_come self.old section records
             × (length records + 1 < 2 ^ 64) }
@@ -150,7 +152,7 @@ impl<S: SpanSource + Drop> Comparison<S> {
         }
     }
 
-    // The same, and the span that it says.
+    // Compares the next record and gives its span, or its fault.
     pub(crate) fn take_span(&mut self, row: &ByteRecord) -> Result<Span, TableFault>
         requires { (section : List Span) × (records : List Fields) × Judges S.to_come self.old section records
             × (length records + 1 < 2 ^ 64) }

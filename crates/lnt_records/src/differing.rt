@@ -1,4 +1,4 @@
-//! A table compared with the spans of a section at every position.
+//! Compares a table with the spans of a section at every position.
 ghost use Rattle.std.specs.Prelude.{◌≡◌, ◌≢◌, ◌+◌, ◌-◌, ◌^◌, ◌<◌, ℕ, List, [], ◌∷◌, Option, IfOk, IfSome, IsErrOf, IsTrue};
 ghost use Rattle.lnt_spans.specs.declared.span.Span.{Span};
 ghost use Rattle.lnt_spans.specs.declared.answer.Answer.{Answer};
@@ -23,22 +23,22 @@ use std::alloc::{AllocError, Global};
 /// What a comparison at every position found.
 #[derive(Drop)]
 pub enum Differing<S> {
-    /// The bytes are no table: this is the first fault.
+    /// The bytes are not a table: this is the first fault.
     Fault(TableFault),
-    /// The bytes are a table, and the stretches at which it answers otherwise than the spans come one after another.
+    /// The bytes are a table; this gives the stretches at which it and the section answer differently, one after another.
     Table(Differences<Remaining<S>, SpanList>),
 }
 
-/// Compares the table that a source has to give with the spans of a section, at every position.
+/// Compares the table of a source with the spans of a section, at every position.
 ///
-/// `Fault`: the bytes are no table, as `compare_table` tells. `Table`: they are one, and the stretches at which the two
-/// answer otherwise, as the table's version tells answers, come one after another.
+/// `Fault`: the bytes are not a table, as in `compare_table`. `Table`: they are one, and it gives the stretches at which the
+/// two answer differently, one after another, as the table's version tells answers.
 ///
-/// As long as the table's lines are those that `write_canonical` writes of the spans, they are compared as text, and
-/// neither read nor held, as `compare_table` does. The records from there on are read by `csv`, of bytes held at once, and
-/// their spans are held: whether all records are well formed is known only at the end of the table.
+/// As long as the table's lines are those that `write_canonical` writes for the spans, they are compared as text, neither
+/// parsed nor held, as in `compare_table`. The records from there on are read by `csv` from bytes that are held all at once,
+/// and their spans are held: whether all records are well formed is known only at the end of the table.
 ///
-/// The caller sees to it that the spans are in order and none is empty, and that the number of the source's failures is
+/// The caller makes sure that the spans are in order and none is empty, and that the number of the source's failures is
 /// below `u64::MAX`. It stops as `compare_table` does.
 pub fn compare_all<S: SpanSource + Drop, T: Source>(
     alloc: Global,
@@ -64,17 +64,17 @@ pub fn compare_all<S: SpanSource + Drop, T: Source>(
     }
 }
 
-/// What became of a table.
+/// The outcome for a table that may be of another kind.
 #[derive(Drop)]
 pub enum DifferingRead<S> {
-    /// It was compared, and this was found.
+    /// It was compared, with this result.
     Differing(Differing<S>),
-    /// Record 0 names the columns of neither version. These are all of its bytes.
+    /// Record 0 names the columns of neither version. These are all bytes of the table.
     Other(Vec<u8>),
 }
 
-/// Compares a table as `compare_all` does, but for one that names the columns of neither version: its bytes are given, and
-/// nothing is said of them. So the fault of a header is never told. It stops as `compare_table` does.
+/// Compares a table as `compare_all` does, except one that names the columns of neither version: its bytes are given back,
+/// and nothing is said about them. So `Fault` is never the fault of a header. It stops as `compare_table` does.
 pub fn differ_or_take<S: SpanSource + Drop, T: Source>(
     alloc: Global,
     table: &mut T,
@@ -93,7 +93,7 @@ pub fn differ_or_take<S: SpanSource + Drop, T: Source>(
     ensures too_long { IsErrOf result Stop.TooLong → IsTrue (T.too_long table.new) }
     ensures more { IsErrOf result Stop.TooLong → HasMoreThan (T.remaining table.old) (T.left table.old) }
 {
-    // A table has no more records than its source may give bytes, and their number fits.
+    // For the proofs: a table has no more records than its source may give bytes, so their number fits.
     let _may_give = table.left();
     let mut window = Window::new(alloc);
     window.fill(alloc, table)?;
@@ -109,7 +109,7 @@ pub fn differ_or_take<S: SpanSource + Drop, T: Source>(
     Ok(DifferingRead::Differing(differing))
 }
 
-// The same of all bytes.
+// Does the same for a table whose bytes are all in memory.
 fn differ_taken<S: SpanSource + Drop>(
     alloc: Global,
     text: Vec<u8>,
@@ -134,7 +134,7 @@ fn differ_taken<S: SpanSource + Drop>(
     }
 }
 
-// The same of a text that begins with a header.
+// Does the same for bytes that begin with the header of this version.
 fn differ_text<S: SpanSource + Drop>(
     alloc: Global,
     text: &[u8],
@@ -161,7 +161,8 @@ fn differ_text<S: SpanSource + Drop>(
     differ_after(gathered, all, version, Position { address: 0, op: 0 })
 }
 
-// What was gathered of a table's records, compared with the spans that come after those that both begin with.
+// Starts the comparison after the spans with which both sides begin: the spans gathered from the table's other records, with
+// the section's other spans.
 fn differ_after<S: SpanSource + Drop>(
     gathered: Result<Gathered, AllocError>,
     spans: Remaining<S>,

@@ -4,20 +4,21 @@ ghost use Rattle.std.specs.Prelude.{◌≡◌, IfOk, IsErrOf};
 use lnt_wire::Stop;
 use std::alloc::AllocError;
 
-/// The first fault of a table. In one record `Fields` comes before `Number`, and `Number` before `Order`.
+/// The first fault of a table. In one record `Fields` comes before `Number`, and `Number` before `Order`. Records and
+/// columns are counted from 0.
 #[derive(Clone, Copy, Debug, PartialEq, Eq)]
 pub enum TableFault {
-    /// The records begin with no header: there is no record 0, or it names other columns.
+    /// Record 0 is not a header: it is missing, or names other columns.
     Header,
-    /// This record hasn't as many fields as the table has columns.
+    /// The number of fields in this record isn't the number of columns.
     Fields(u64),
-    /// In this record, this column is the first that holds no number of its kind.
+    /// In this record, this column is the first that holds no value of its kind.
     Number(u64, u64),
     /// The span of this record is empty, or begins below the end of the span before it.
     Order(u64),
 }
 
-/// Why a table wasn't written, or not whole.
+/// Why a table wasn't written, or not as a whole.
 #[derive(Clone, Copy, Debug, PartialEq, Eq)]
 pub enum WriteStop {
     /// Memory ran out.
@@ -36,7 +37,7 @@ impl From<AllocError> for WriteStop {
     }
 }
 
-// What a call tells of bytes in memory, as one tells it that takes them of a source.
+// Turns a result for bytes in memory into one for bytes of a source.
 pub(crate) fn told<C>(found: Result<C, AllocError>) -> Result<C, Stop>
     ensures ok { IfOk result (λ it. found ≡ Ok it) }
     ensures not_read { IsErrOf result Stop.Read → ⊥ }

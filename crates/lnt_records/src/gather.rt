@@ -1,4 +1,4 @@
-//! The spans of a table's records, held where all of them are compared.
+//! Gathers the spans of a table's records, to compare them at every position.
 ghost use Rattle.std.specs.Prelude.{◌≡◌, ◌+◌, ◌^◌, ◌<◌, ℕ, List, [], ◌∷◌, ◌++◌, length, IfOk};
 ghost use Rattle.csv.specs.Records.{fields_of};
 ghost use Rattle.lnt_spans.specs.declared.span.Span.{Span};
@@ -14,17 +14,18 @@ use csv::{ByteRecord, Reader};
 use lnt_spans::{Merge, Span, SpanSource, Version};
 use std::alloc::{AllocError, Global};
 
-// What the records of a table are.
+// What the records of a table came to.
 #[derive(Drop)]
 pub(crate) enum Gathered {
-    // One of them is faulty, and this is the first fault.
+    // One of them is faulty: this is the first fault.
     Fault(TableFault),
-    // They say these spans.
+    // All are well formed, and these are their spans.
     Spans(Vec<Span>),
 }
 
-// The spans of a text that begins with a header, and from which records after that were cut out, so many with the header,
-// which the merge has compared with some spans. The reader of records is large, and the stack is short: no caller holds it.
+// Gathers the spans of the rest of a table. `text` is the table's header with the records after it, less some that the merge
+// has already compared with spans; `count` is the number of these, the header included. Not inlined: a reader of records is
+// large, the stack is short, and no caller should hold it.
 #[inline(never)]
 pub(crate) fn gather_after<S: SpanSource + Drop>(
     alloc: Global,
@@ -52,7 +53,7 @@ pub(crate) fn gather_after<S: SpanSource + Drop>(
     gather_rest(alloc, &mut reader, &mut row, &mut comparison)
 }
 
-// The same of the records that a reader has to give, which has read the header of the text, each into `row`.
+// Gathers the spans of the records that the reader has left after the header, each read into `row`.
 fn gather_rest<S: SpanSource + Drop>(
     alloc: Global,
     reader: &mut Reader<&[u8]>,

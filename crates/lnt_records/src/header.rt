@@ -12,7 +12,7 @@ use crate::column::is_field;
 use csv::ByteRecord;
 use lnt_spans::Version;
 
-// How many columns a table of the version has.
+// The number of columns in a table of this version.
 #[inline(always)]
 pub(crate) fn columns(version: Version) -> usize
     ensures { result ≡ column_count version }
@@ -23,7 +23,7 @@ pub(crate) fn columns(version: Version) -> usize
     }
 }
 
-// The line with the names of the columns.
+// The header as a line.
 pub(crate) fn header_line(version: Version) -> &'static [u8]
     ensures { result.now ≡ line_text (column_names version) }
 {
@@ -34,7 +34,7 @@ pub(crate) fn header_line(version: Version) -> &'static [u8]
     }
 }
 
-// The version whose columns a record names.
+// The version whose columns a record names, if it is a header.
 #[tactic(auto, using(crate::proofs::HeaderLaws::names_none))]
 pub(crate) fn version_of(row: &ByteRecord) -> Option<Version>
     ensures { MatchOption result ((v : Version) → fields_of row.now ≢ column_names v)

@@ -1,10 +1,10 @@
-//! Address tables: records of comma-separated values, each a span of positions with its answer, read and compared with
-//! the spans of a section, and written.
+//! Address tables: comma-separated values, each record a span of positions with its answer. They are read, compared with the
+//! spans of a section, and written.
 //!
-//! Record 0 names the columns: `low,low_op,high,high_op,unit,file,line,column,is_stmt` in version 1, and the same with
-//! `,isa,discriminator` in version 2. Each later record is a span: `low` and `high` are addresses, `is_stmt` is `0` or
-//! `1`, and the other fields are decimal numbers. The spans are in order, and none is empty. Records are counted from 0,
-//! so the first span is record 1, and columns too.
+//! Record 0 is the header: `low,low_op,high,high_op,unit,file,line,column,is_stmt` in version 1, and the same with
+//! `,isa,discriminator` in version 2. Each later record is a span: `low` and `high` are addresses, `is_stmt` is `0` or `1`,
+//! and the other fields are decimal numbers. The spans are in order, and none is empty. Records are counted from 0, so the
+//! first span is record 1; columns are counted from 0 too.
 #![tactic(auto)]
 
 mod canonical;
@@ -12,7 +12,6 @@ mod column;
 mod comparison;
 mod differing;
 mod fault;
-mod front;
 mod gather;
 mod header;
 pub mod laws;
@@ -31,7 +30,6 @@ pub use column::{field, is_field};
 pub use comparison::{Compared, compare};
 pub use differing::{Differing, DifferingRead, compare_all, differ_or_take};
 pub use fault::{TableFault, WriteStop};
-pub use front::{address_before, decimal_before, past};
 pub use reading::{read_first, read_next, reader_of};
 pub use remaining::Remaining;
 pub use stream::{TableRead, compare_or_take, compare_table};

@@ -1,5 +1,5 @@
-//! Tables read line by line: each record on a line of its own that ends in a line feed, and nothing in quotes, as
-//! `write_spans` writes them. Each record is read in one pass over its bytes.
+//! Reads tables line by line: each record on a line of its own that ends in a line feed, with nothing in quotes, as
+//! `write_spans` writes them. Each record is parsed in one pass over its bytes.
 ghost use Rattle.std.specs.Prelude.{◌≡◌, ◌≢◌, ◌+◌, ◌-◌, ◌^◌, ◌<◌, ◌++◌, ℕ, List, drop, length, IfSome, IsErrOf, MatchOption, OnOk};
 ghost use Rattle.lnt_digits.specs.Digits.{IsAddress, IsDecimal};
 ghost use Rattle.lnt_spans.specs.declared.span.Span as spec;
@@ -9,15 +9,15 @@ ghost use Rattle.lnt_records.specs.Passing.{HasPassed, Passes};
 ghost use Rattle.lnt_records.specs.Table.{column_names};
 ghost use Rattle.lnt_records.specs.Written.{line_text};
 
-use crate::front::{address_before, decimal_before, past};
 use crate::header::header_line;
 use crate::window::Window;
+use lnt_digits::{address_until, decimal_until, past};
 use lnt_spans::{Answer, Merge, More, Position, Span, SpanSource, Version};
 use lnt_wire::{Source, Stop};
 use std::alloc::Global;
 
-// Reads the lines of a table, up to the first that is no sound record on a line of its own, with nothing in quotes and no
-// number of more than 18 digits, or whose span isn't after that of the record before it; and pushes the others.
+// Parses the lines of a table and pushes their spans, up to the first line that isn't well formed, has quotes or a number of
+// more than 18 digits, or has a span that is empty or begins below the end of the record before it.
 pub(crate) fn push_lines<S: SpanSource + Drop, T: Source>(
     alloc: Global,
     merge: &mut Merge<S>,
@@ -51,7 +51,7 @@ pub(crate) fn push_lines<S: SpanSource + Drop, T: Source>(
     }
 }
 
-// Goes on past the line with the names of the columns, if it is next, and says which version's they are.
+// Moves past the header, if it is next, and gives its version.
 pub(crate) fn pass_header(window: &mut Window) -> Option<Version>
     ensures { MatchOption result (window.new ≡ window.old) (λ version. window.old ≡ line_text (column_names version) ++ window.new) }
 {
@@ -64,7 +64,7 @@ pub(crate) fn pass_header(window: &mut Window) -> Option<Version>
     None
 }
 
-// The span that the line at a place says, and the place after that line.
+// Parses the line at `at`; gives its span and the index of the next line. None leaves the line to `csv`.
 #[inline(always)]
 fn span_at(table: &[u8], at: usize, version: Version) -> Option<(Span, usize)>
     ensures { IfSome result (λ found. IsLine version found.0 (drop at table.now) (drop found.1 table.now)) }
@@ -75,25 +75,25 @@ fn span_at(table: &[u8], at: usize, version: Version) -> Option<(Span, usize)>
     Some((Span { low, high, answer }, at))
 }
 
-// The position that two fields from a place on say.
+// Parses the two fields of a position, each with the comma after it; gives the next index.
 #[inline(always)]
 fn position_at(table: &[u8], at: usize) -> Option<(Position, usize)>
     ensures { IfSome result (λ found. IsPosition IsAddress IsDecimal found.0 (drop at table.now) (drop found.1 table.now)) }
 {
-    let (address, at) = address_before(table, at, b',')?;
-    let (op, at) = decimal_before(table, at, b',')?;
+    let (address, at) = address_until(table, at, b',')?;
+    let (op, at) = decimal_until(table, at, b',')?;
     Some((Position { address, op }, at))
 }
 
-// The answer that the fields from a place on say, up to the end of the line.
+// Parses the fields of an answer, up to and including the line feed; gives the next index.
 #[inline(always)]
 fn answer_at(table: &[u8], at: usize, version: Version) -> Option<(Answer, usize)>
     ensures { IfSome result (λ found. IsAnswer IsDecimal version found.0 (drop at table.now) (drop found.1 table.now)) }
 {
-    let (unit, at) = decimal_before(table, at, b',')?;
-    let (file, at) = decimal_before(table, at, b',')?;
-    let (line, at) = decimal_before(table, at, b',')?;
-    let (column, at) = decimal_before(table, at, b',')?;
+    let (unit, at) = decimal_until(table, at, b',')?;
+    let (file, at) = decimal_until(table, at, b',')?;
+    let (line, at) = decimal_until(table, at, b',')?;
+    let (column, at) = decimal_until(table, at, b',')?;
     let (is_stmt, at) = flag_at(table, at)?;
     let (more, at) = more_at(table, at, version)?;
     let answer = Answer {
@@ -107,7 +107,7 @@ fn answer_at(table: &[u8], at: usize, version: Version) -> Option<(Answer, usize
     Some((answer, at))
 }
 
-// The flag at a place.
+// Parses a flag; gives the next index.
 #[inline(always)]
 fn flag_at(table: &[u8], at: usize) -> Option<(bool, usize)>
     ensures { IfSome result (λ found. IsFlagBefore found.0 (drop at table.now) (drop found.1 table.now)) }
@@ -119,7 +119,7 @@ fn flag_at(table: &[u8], at: usize) -> Option<(bool, usize)>
     Some((false, at))
 }
 
-// What version 2 has more, up to the end of the line.
+// Parses what only version 2 has, up to and including the line feed; gives the next index.
 #[inline(always)]
 #[tactic(auto, using(crate::proofs::LineLemmas::no_more_taken))]
 fn more_at(table: &[u8], at: usize, version: Version) -> Option<(Option<More>, usize)>
@@ -132,8 +132,8 @@ fn more_at(table: &[u8], at: usize, version: Version) -> Option<(Option<More>, u
         }
         Version::Two => {
             let at = past(table, at, b',')?;
-            let (isa, at) = decimal_before(table, at, b',')?;
-            let (discriminator, at) = decimal_before(table, at, b'\n')?;
+            let (isa, at) = decimal_until(table, at, b',')?;
+            let (discriminator, at) = decimal_until(table, at, b'\n')?;
             Some((Some(More { isa, discriminator }), at))
         }
     }

@@ -1,4 +1,4 @@
-//! The lines of a table that are those of the canonical spans of a section, passed without being read.
+//! Moves past the lines of a table that are the lines of a section's canonical spans, without parsing them.
 ghost use Rattle.std.specs.Prelude.{◌≡◌, ◌≢◌, ◌+◌, ◌-◌, ◌^◌, ◌<◌, ℕ, List, length, IfOk, IsErrOf};
 ghost use Rattle.std.specs.Bool.{MatchBool};
 ghost use Rattle.lnt_spans.specs.declared.span.Span as spec;
@@ -14,8 +14,8 @@ use lnt_spans::{Answer, Joiner, Merge, Position, Span, SpanSource, Version};
 use lnt_wire::{Source, Stop};
 use std::alloc::Global;
 
-// How far a table was passed: the spans after those that it says so far, how many records it has with them, and where
-// the last one ends.
+// The state after these lines: the spans after those of the lines, the number of records so far, the header included, and
+// the end of the last record.
 #[derive(Drop)]
 pub(crate) struct Passed<S> {
     pub(crate) spans: Remaining<S>,
@@ -23,11 +23,11 @@ pub(crate) struct Passed<S> {
     pub(crate) end: Position,
 }
 
-// Goes on past the lines of a table that are those of the canonical spans, as these come, up to the first that isn't. The
-// number of its records stays below 2^64, since none has less than one byte.
+// Moves past the lines of a table that are the lines of the canonical spans, as these come, up to the first line that isn't.
+// The number of records stays below 2^64, since each has at least one byte.
 //
-// `C` is what the caller finds. Each has a copy of its own in line, with the walk over the spans in registers: one that two
-// callers share takes twice the time.
+// `C` is the caller's result. It gives each caller a copy of its own, inlined, with the walk over the spans in registers:
+// one copy shared by two callers takes twice the time.
 pub(crate) fn pass_spans<S: SpanSource + Drop, T: Source, C>(
     alloc: Global,
     spans: S,
@@ -67,7 +67,7 @@ pub(crate) fn pass_spans<S: SpanSource + Drop, T: Source, C>(
     Ok(Passed { spans, count, end })
 }
 
-// Goes on past the line of a span, if it is next.
+// Moves past the line of this span, if it is next.
 #[inline(always)]
 fn pass_line(window: &mut Window, room: &mut [u8; ROOM], span: &Span, version: Version) -> bool
     ensures { MatchBool result (IsLine version span.now window.old window.new) (window.new ≡ window.old) }
@@ -79,7 +79,7 @@ fn pass_line(window: &mut Window, room: &mut [u8; ROOM], span: &Span, version: V
     window.pass_text(&room[start..])
 }
 
-// Whether an answer tells what a version tells, and no more.
+// Whether an answer has exactly what the version tells.
 #[inline(always)]
 fn tells(answer: &Answer, version: Version) -> bool
     ensures { MatchBool result (IsOfVersion version answer.now) (IsOfVersion version answer.now → ⊥) }

@@ -1,4 +1,4 @@
-//! The records of a table, read one by one.
+//! Reads the records of a table one by one.
 ghost use Rattle.std.specs.Prelude.{◌≡◌, ◌<◌, ℕ, true, List, [], ◌∷◌, ◌++◌, IfOk, MatchOption};
 ghost use Rattle.std.specs.Bool.{MatchBool};
 ghost use Rattle.csv.specs.Records.{fields_of};
@@ -11,8 +11,7 @@ use csv::{ByteRecord, Reader, ReaderBuilder};
 use lnt_spans::Version;
 use std::alloc::{AllocError, Global};
 
-/// A reader of the records of some bytes: no record is a header of the reader's own, and each may have any number of
-/// fields.
+/// A reader of the records in some bytes. It treats no record as a header, and a record may have any number of fields.
 pub fn reader_of<'a>(alloc: Global, bytes: &'a [u8]) -> Reader<&'a [u8]>
     ensures { HasRead result bytes.now [] }
 {
@@ -22,8 +21,8 @@ pub fn reader_of<'a>(alloc: Global, bytes: &'a [u8]) -> Reader<&'a [u8]>
         .from_reader(alloc, bytes)
 }
 
-/// The next record into `row`, and whether there was one. The reader is one that `reader_of` gave. An error of the reader
-/// over bytes in memory is answered as want of memory.
+/// Reads the next record into `row`, and gives whether there was one. The reader must come from `reader_of`. Any error of
+/// the reader, which reads bytes in memory, is given as want of memory.
 pub fn read_next(reader: &mut Reader<&[u8]>, row: &mut ByteRecord) -> Result<bool, AllocError>
     requires { (bytes : List ℕ) × (records : List Fields) × HasRead reader.old bytes records }
     ensures read { IfOk result (λ found. (bytes : List ℕ) (records : List Fields) → HasRead reader.old bytes records
@@ -36,8 +35,9 @@ pub fn read_next(reader: &mut Reader<&[u8]>, row: &mut ByteRecord) -> Result<boo
     Ok(found)
 }
 
-/// Record 0 into `row`, and whether there is one. The reader is one that `reader_of` gave, and no record was read of it. The
-/// bytes begin with no other record than that. An error of the reader over bytes in memory is answered as want of memory.
+/// Reads record 0 into `row`, and gives whether there is one. The reader must come from `reader_of` and have read nothing
+/// yet. The bytes begin with no other record than that. Any error of the reader, which reads bytes in memory, is given as
+/// want of memory.
 pub fn read_first(reader: &mut Reader<&[u8]>, row: &mut ByteRecord) -> Result<bool, AllocError>
     requires { (bytes : List ℕ) × HasRead reader.old bytes [] }
     ensures { IfOk result (λ found. (bytes : List ℕ) → HasRead reader.old bytes [] → MatchBool found
@@ -47,7 +47,7 @@ pub fn read_first(reader: &mut Reader<&[u8]>, row: &mut ByteRecord) -> Result<bo
     read_next(reader, row)
 }
 
-// The version that record 0 names, if it is a header.
+// The version whose columns record 0 names, if it is a header.
 pub(crate) fn read_header(
     reader: &mut Reader<&[u8]>,
     row: &mut ByteRecord,

@@ -1,4 +1,4 @@
-//! The span that a record says.
+//! Reads the span of a record.
 ghost use Rattle.std.specs.Prelude.{◌≡◌, ◌+◌, ◌<◌, length, IfOk, IfErr, OnOk};
 ghost use Rattle.csv.specs.Records.{fields_of};
 ghost use Rattle.lnt_digits.specs.Digits.{IsDecimal};
@@ -11,16 +11,16 @@ use crate::header::columns;
 use csv::ByteRecord;
 use lnt_spans::{Answer, More, Position, Span, Version};
 
-/// Why a record says no span.
+/// Why a record has no span.
 #[derive(Clone, Copy)]
 pub(crate) enum RecordFault {
-    /// It hasn't as many fields as the table has columns.
+    /// The number of its fields isn't the number of columns.
     Fields,
-    /// This column is the first that isn't of its kind.
+    /// This column is the first whose field isn't of its kind.
     Number(u64),
 }
 
-// The span that a record says.
+// The span of a record, or why it has none.
 pub(crate) fn span_of(row: &ByteRecord, version: Version) -> Result<Span, RecordFault>
     ensures ok { IfOk result (λ span. IsSpanRecord version (fields_of row.now) span) }
     ensures err { IfErr result (λ fault. IsRecordFault version (fields_of row.now) fault) }
@@ -43,7 +43,7 @@ fn span_in(row: &ByteRecord, version: Version) -> Result<Span, RecordFault>
     Ok(Span { low, high, answer })
 }
 
-// The position in two columns, where each column before them is of its kind.
+// The position in columns `i` and `i + 1`. The caller makes sure that the fields before them are of their kinds.
 fn position_at(row: &ByteRecord, i: usize) -> Result<Position, RecordFault>
     requires there { i + 1 < length (fields_of row.now) }
     requires address { IsColumnOf table.address i }
@@ -58,7 +58,7 @@ fn position_at(row: &ByteRecord, i: usize) -> Result<Position, RecordFault>
     Ok(Position { address, op })
 }
 
-// The answer in the columns after the positions, where those before it are of their kinds.
+// The answer in the columns from 4 on. The caller makes sure that the fields before them are of their kinds.
 #[tactic(auto, using(crate::proofs::RecordLemmas::common_columns))]
 fn answer_in(row: &ByteRecord, version: Version) -> Result<Answer, RecordFault>
     requires count { length (fields_of row.now) ≡ column_count version }
@@ -82,7 +82,7 @@ fn answer_in(row: &ByteRecord, version: Version) -> Result<Answer, RecordFault>
     })
 }
 
-// What version 2 has more.
+// What only version 2 has: the instruction set and the discriminator.
 fn more_in(row: &ByteRecord, version: Version) -> Result<Option<More>, RecordFault>
     requires count { length (fields_of row.now) ≡ column_count version }
     requires before { AreSoundBefore (fields_of row.now) 9 }

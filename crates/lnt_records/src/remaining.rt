@@ -1,4 +1,4 @@
-//! The spans that are left of a section, where some were joined before.
+//! The spans that a section has left after some of them were joined.
 ghost use Rattle.std.specs.Prelude.{◌≡◌, ◌+◌, List, [], true, false, Some, None, length, map};
 ghost use Rattle.std.specs.List.{cons_option};
 ghost use Rattle.lnt_spans.specs.declared.span.Span.{Span};
@@ -7,7 +7,8 @@ ghost use Rattle.lnt_records.specs.Passing.{AreLeft};
 
 use lnt_spans::{Span, SpanSource, Version};
 
-/// Up to two spans, and after them those of a source as a version tells them, unless it was found to have none left.
+/// Gives up to two spans held here, then those of a source as the version tells them, unless that is known to have none
+/// left.
 #[derive(Drop)]
 pub struct Remaining<S> {
     pub(crate) first: Option<Span>,
@@ -18,7 +19,7 @@ pub struct Remaining<S> {
 }
 
 impl<S: SpanSource + Drop> Remaining<S> {
-    // A span, one more if it is there, and all that the source has left.
+    // One span, perhaps another, and all that the source has left.
     #[inline(always)]
     pub(crate) fn past(
         first: Span,
@@ -37,7 +38,7 @@ impl<S: SpanSource + Drop> Remaining<S> {
         }
     }
 
-    // A span, if it is there. The source was found to have none left.
+    // Perhaps one span, and a source that has none left.
     #[inline(always)]
     pub(crate) fn ended(second: Option<Span>, spans: S, version: Version) -> Remaining<S>
         ensures { result ≡ record { first = None; second = second; spans = spans; is_ended = true; version = version } }

@@ -1,4 +1,4 @@
-//! A table compared with the spans of a section, both as they come.
+//! Compares a table with the spans of a section, both as they come.
 ghost use Rattle.std.specs.Prelude.{◌≡◌, ◌≢◌, ◌+◌, ◌-◌, ◌^◌, ◌<◌, List, IfOk, IfSome, IsErrOf, IsTrue};
 ghost use Rattle.lnt_spans.specs.declared.span.Span.{Span};
 ghost use Rattle.lnt_spans.specs.Spans.{AreInOrder};
@@ -15,21 +15,21 @@ use lnt_spans::{Merge, SpanSource};
 use lnt_wire::{Source, Stop};
 use std::alloc::{AllocError, Global};
 
-/// Compares the table that a source has to give with the spans of a section, as both come.
+/// Compares the table of a source with the spans of a section, as both come.
 ///
 /// `Same`: the bytes are a table that answers at every position as the spans do, as far as the table's version tells: in
-/// version 1 the spans' instruction sets and discriminators don't count. `Fault`: they are no table. The first faulty
-/// record is told, whatever was different before it. `Differs`: all records are well formed, and at no lower position do
-/// the answers differ; both are told in the table's version.
+/// version 1 the spans' instruction sets and discriminators don't count. `Fault`: the bytes are not a table. The first
+/// faulty record is reported, even if answers differed before it. `Differs`: all records are well formed, and the answers
+/// differ at this position and at no lower one; both are told in the table's version.
 ///
-/// As long as the table's lines are those that `write_canonical` writes of the spans, they are compared as text and not
-/// read. The lines from there on are read one by one, as long as each is a sound record on a line of its own with nothing
-/// in quotes, and the records after these are read by `csv`, of bytes held at once. So neither a table that is written
-/// so nor the spans are held: the memory that it takes is one block.
+/// As long as the table's lines are those that `write_canonical` writes for the spans, they are compared as text and not
+/// parsed. The lines from there on are parsed one by one, as long as each is a well-formed record on a line of its own with
+/// nothing in quotes; the records after these are read by `csv`, from bytes that are held all at once. So for a table on
+/// such lines neither the table nor the spans are held: it takes one block of memory.
 ///
-/// The caller sees to it that the spans are in order and none is empty, and that the number of the source's failures is
-/// below `u64::MAX`. It stops with `Memory`; with `Read` only where the source failed; and with `TooLong` only where it
-/// has more bytes than it may give. The table is read to its end before it is said what is wrong with it.
+/// The caller makes sure that the spans are in order and none is empty, and that the number of the source's failures is
+/// below `u64::MAX`. It stops with `Memory`; with `Read` only where the source failed; and with `TooLong` only where the
+/// source has more bytes than it may give. The table is read to its end before a fault is reported.
 pub fn compare_table<S: SpanSource + Drop, T: Source>(
     alloc: Global,
     table: &mut T,
@@ -50,17 +50,17 @@ pub fn compare_table<S: SpanSource + Drop, T: Source>(
     }
 }
 
-/// What became of a table.
+/// The outcome for a table that may be of another kind.
 #[derive(Drop)]
 pub enum TableRead {
-    /// It was compared, and this was found.
+    /// It was compared, with this result.
     Compared(Compared),
-    /// Record 0 names the columns of neither version. These are all of its bytes.
+    /// Record 0 names the columns of neither version. These are all bytes of the table.
     Other(Vec<u8>),
 }
 
-/// The same, but for a table that names the columns of neither version: its bytes are given, and nothing is said of them.
-/// It stops as `compare_table` does.
+/// Compares a table as `compare_table` does, except one that names the columns of neither version: its bytes are given back,
+/// and nothing is said about them. It stops as `compare_table` does.
 pub fn compare_or_take<S: SpanSource + Drop, T: Source>(
     alloc: Global,
     table: &mut T,
@@ -75,7 +75,7 @@ pub fn compare_or_take<S: SpanSource + Drop, T: Source>(
     ensures too_long { IsErrOf result Stop.TooLong → IsTrue (T.too_long table.new) }
     ensures more { IsErrOf result Stop.TooLong → HasMoreThan (T.remaining table.old) (T.left table.old) }
 {
-    // A table has no more records than its source may give bytes, and their number fits.
+    // For the proofs: a table has no more records than its source may give bytes, so their number fits.
     let _may_give = table.left();
     let mut window = Window::new(alloc);
     window.fill(alloc, table)?;
@@ -92,7 +92,7 @@ pub fn compare_or_take<S: SpanSource + Drop, T: Source>(
     Ok(TableRead::Compared(compared))
 }
 
-// The same of all bytes.
+// Does the same for a table whose bytes are all in memory.
 fn compare_taken<S: SpanSource + Drop>(
     alloc: Global,
     text: Vec<u8>,

@@ -1,18 +1,18 @@
-//! The line of a record, written from its end on, so that no digits have to be counted or moved.
+//! Writes the line of a record backwards, from its end, so that no digits have to be counted or moved.
 ghost use Rattle.std.specs.Prelude.{◌≡◌, ◌+◌, ◌<◌, ◌≤◌, [], drop};
 ghost use Rattle.lnt_digits.specs.Digits.{IsPlainAddress, IsPlainDecimal};
 ghost use Rattle.lnt_spans.specs.declared.answer.Version.{Version};
-ghost use Rattle.lnt_records.specs.Lines.{Begins, IsAnswer, IsFlagBefore, IsMore, IsPlainLine, IsPosition};
+ghost use Rattle.lnt_digits.specs.Delimited.{Begins};
+ghost use Rattle.lnt_records.specs.Lines.{IsAnswer, IsFlagBefore, IsMore, IsPlainLine, IsPosition};
 ghost use Rattle.lnt_records.specs.Written.{IsOfVersion};
 
 use lnt_digits::{address_before, decimal_before};
 use lnt_spans::{Answer, Position, Span};
 
-// As many bytes as no line of a record has.
+// More bytes than there are in any line that is written here or parsed as a line.
 pub(crate) const ROOM: usize = 256;
 
-// Writes the line that says a span, with no number that has leading zeros, so that it ends where the room does, and says
-// where it begins.
+// Writes the line of a span, without leading zeros, so that it ends where `room` does; gives the index at which it begins.
 #[inline(always)]
 pub(crate) fn line_of(room: &mut [u8; ROOM], span: &Span) -> usize
     ensures begins { result < 256 }
@@ -23,7 +23,7 @@ pub(crate) fn line_of(room: &mut [u8; ROOM], span: &Span) -> usize
     position_before(room, at, span.low)
 }
 
-// Writes two fields that say a position, each with a comma after it, so that they end before `end`.
+// Writes the two fields of a position, each with a comma after it, so that they end before `end`; gives their index.
 #[inline(always)]
 fn position_before(room: &mut [u8; ROOM], end: usize, position: Position) -> usize
     requires { (40 ≤ end) × (end ≤ 256) }
@@ -35,7 +35,8 @@ fn position_before(room: &mut [u8; ROOM], end: usize, position: Position) -> usi
     address_before(room, at - 1, position.address)
 }
 
-// Writes the fields of an answer, with a comma between them, and the end of the line, so that they end where the room does.
+// Writes the fields of an answer, separated by commas, and the line feed, so that they end where `room` does; gives their
+// index.
 #[inline(always)]
 fn answer_before(room: &mut [u8; ROOM], answer: &Answer) -> usize
     ensures begins { (80 ≤ result) × (result < 256) }
@@ -50,8 +51,8 @@ fn answer_before(room: &mut [u8; ROOM], answer: &Answer) -> usize
     number_before(room, at, answer.unit, b',')
 }
 
-// Writes what an answer of version 2 tells more, each with a comma before it, and the end of the line, so that they end
-// where the room does.
+// Writes what only version 2 has, each field with a comma before it, and the line feed, so that they end where `room` does;
+// gives their index.
 #[inline(always)]
 fn more_before(room: &mut [u8; ROOM], answer: &Answer) -> usize
     ensures begins { (212 ≤ result) × (result < 256) }
@@ -72,7 +73,7 @@ fn more_before(room: &mut [u8; ROOM], answer: &Answer) -> usize
     }
 }
 
-// Writes `0` or `1`, so that it ends before `end`.
+// Writes `0` or `1` so that it ends before `end`; gives its index.
 #[inline(always)]
 fn flag_before(room: &mut [u8; ROOM], end: usize, on: bool) -> usize
     requires { (1 ≤ end) × (end ≤ 256) }
@@ -83,7 +84,7 @@ fn flag_before(room: &mut [u8; ROOM], end: usize, on: bool) -> usize
     end - 1
 }
 
-// Writes a decimal number and the byte after it, so that they end before `end`.
+// Writes a decimal number and the byte after it so that they end before `end`; gives their index.
 #[inline(always)]
 fn number_before(room: &mut [u8; ROOM], end: usize, n: u64, past: u8) -> usize
     requires { (21 ≤ end) × (end ≤ 256) }

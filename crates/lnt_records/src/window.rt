@@ -1,4 +1,4 @@
-//! The bytes of a table that were taken from its source and not read yet.
+//! The bytes of a table that were taken from its source but not parsed yet.
 ghost use Rattle.std.specs.Prelude.{◌≡◌, ◌≢◌, ◌+◌, ◌-◌, ◌^◌, ◌<◌, ◌≤◌, ◌++◌, [], drop, length, IfOk, IsErrOf, IsTrue, OnOk};
 ghost use Rattle.std.specs.Bool.{MatchBool};
 ghost use Rattle.lnt_wire.specs.Pulling.{HasMoreThan};
@@ -9,7 +9,7 @@ use lnt_wire::{BLOCK, Source, Stop, take_block};
 use std::alloc::{AllocError, Global};
 use std::marker::Model;
 
-// The bytes at hand: those of a block from a place on. Contracts see the list of them.
+// The bytes at hand: a block from index `at` on. Contracts see them as a list.
 #[derive(Drop)]
 pub(crate) struct Window {
     block: Vec<u8>,
@@ -27,7 +27,7 @@ impl Model for Window {
 }
 
 impl Window {
-    // No bytes.
+    // A window with no bytes.
     pub(crate) fn new(alloc: Global) -> Window
         ensures { result ≡ [] }
     {
@@ -45,7 +45,7 @@ impl Window {
         &self.block[self.at..]
     }
 
-    // Goes on past so many bytes, or all.
+    // Moves past `count` bytes, or to the end if there are fewer.
     #[inline(always)]
     pub(crate) fn pass(&mut self, count: usize)
         ensures { self.new ≡ drop count self.old }
@@ -53,7 +53,7 @@ impl Window {
         self.at += count.min(self.block.len() - self.at);
     }
 
-    // Goes on past a text, if it is next.
+    // Moves past this text, if it is next; gives whether it was.
     #[inline(always)]
     pub(crate) fn pass_text(&mut self, text: &[u8]) -> bool
         ensures { MatchBool result (self.old ≡ text.now ++ self.new) (self.new ≡ self.old) }
@@ -65,7 +65,7 @@ impl Window {
         is_next
     }
 
-    // Takes more bytes, unless there are as many as a line may have, or the source has none left.
+    // Takes more bytes until `ROOM` are at hand, which hold a whole line, or the source has none left.
     #[inline(always)]
     pub(crate) fn fill<T: Source>(&mut self, alloc: Global, source: &mut T) -> Result<(), Stop>
         requires { T.failures source.old < 2 ^ 64 - 1 }
@@ -81,7 +81,7 @@ impl Window {
         self.refill(alloc, source)
     }
 
-    // The same where there are fewer.
+    // The slow path of `fill`, not inlined: a new block begins with the bytes at hand.
     #[inline(never)]
     fn refill<T: Source>(&mut self, alloc: Global, source: &mut T) -> Result<(), Stop>
         requires { T.failures source.old < 2 ^ 64 - 1 }
@@ -99,7 +99,7 @@ impl Window {
         Ok(())
     }
 
-    // A text with the bytes at hand after it, and all that the source has left.
+    // The text, the bytes at hand, and all that the source has left, as one.
     pub(crate) fn rest_after<T: Source>(
         self,
         alloc: Global,
@@ -130,7 +130,7 @@ fn joined(alloc: Global, first: &[u8], second: &[u8]) -> Result<Vec<u8>, AllocEr
     Ok(all)
 }
 
-// Takes bytes of a source after those in a block, until there are as many as a line may have, or no more come.
+// Appends bytes of a source to a block until it has `ROOM`, or no more come.
 #[tactic(auto, using(crate::proofs::PassingLemmas::passes_none, crate::proofs::PassingLemmas::passes_block))]
 fn fill_block<T: Source>(source: &mut T, block: &mut Vec<u8>) -> Result<(), Stop>
     requires { T.failures source.old < 2 ^ 64 - 1 }
@@ -148,7 +148,7 @@ fn fill_block<T: Source>(source: &mut T, block: &mut Vec<u8>) -> Result<(), Stop
     Ok(())
 }
 
-// Takes all bytes that a source has left, after those that were taken.
+// Appends all bytes that a source has left.
 #[tactic(auto, using(crate::proofs::PassingLemmas::passes_none, crate::proofs::PassingLemmas::passes_block, crate::proofs::PassingLemmas::passes_all, crate::proofs::PassingLemmas::longer_from_start))]
 fn read_rest<T: Source>(source: &mut T, all: &mut Vec<u8>) -> Result<(), Stop>
     requires { T.failures source.old < 2 ^ 64 - 1 }

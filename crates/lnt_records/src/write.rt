@@ -1,4 +1,4 @@
-//! Tables written.
+//! Writes tables.
 ghost use Rattle.std.specs.Prelude.{◌≡◌, ◌++◌, ℕ, List, [], OnErr, OnOk};
 ghost use Rattle.std.specs.Io.KnownBytes.{Appends};
 ghost use Rattle.std.specs.List.{All};
@@ -16,19 +16,19 @@ use lnt_spans::{Span, Version};
 use std::alloc::{AllocError, Global};
 use std::io::Write;
 
-// A block of lines is handed to the writer once it has so many bytes.
+// A block of lines goes to the writer once it has this many bytes.
 const BLOCK: usize = 1 << 16;
 
 /// Writes the table of some spans, block by block.
 ///
-/// Where it answers Ok, the writer has gained bytes that are a table of exactly these spans. Each record is on a line of
-/// its own that ends in a line feed, the addresses in lower case, no number with leading zeros.
+/// On Ok, the writer has gained bytes that are a table of exactly these spans. Each record is on a line of its own that ends
+/// in a line feed, with addresses in lower case and no leading zeros.
 ///
-/// The caller sees to it that the spans are in order, that none is empty, and that each answer tells what the version
-/// tells: an instruction set and a discriminator in version 2, and none in version 1. It stops by `Memory` where memory
-/// ran out, and by `Write` where the writer refused some bytes; then it has gained a front of the names of the columns and
-/// the lines of the first spans, and nothing else. No contract of a writer tells when it refuses, so no clause says that
-/// `Write` comes only then.
+/// The caller makes sure that the spans are in order, that none is empty, and that each answer has exactly what the version
+/// tells: an instruction set and a discriminator in version 2, and neither in version 1. It stops with `Memory` where memory
+/// ran out, and with `Write` where the writer refused some bytes; then the writer has gained a prefix of the header and the
+/// lines of the first spans, and nothing else. No contract of a writer says when it refuses, so no clause says that `Write`
+/// comes only then.
 pub fn write_spans<W: Write>(
     alloc: Global,
     spans: &[Span],
@@ -51,7 +51,7 @@ pub fn write_spans<W: Write>(
     send(&mut block, out)
 }
 
-// Hands a block to the writer, if it is full.
+// Sends the block to the writer if it is full.
 pub(crate) fn send_full<W: Write>(block: &mut Vec<u8>, out: &mut W) -> Result<(), WriteStop>
     ensures handed { OnOk result ((sent : List ℕ) × Appends (W.contents out.old) (W.contents out.new) sent
         × (block.old.items ≡ sent ++ block.new.items)) }
@@ -63,7 +63,7 @@ pub(crate) fn send_full<W: Write>(block: &mut Vec<u8>, out: &mut W) -> Result<()
     send(block, out)
 }
 
-// Hands a block to the writer, and begins the next one.
+// Sends the block to the writer and empties it.
 pub(crate) fn send<W: Write>(block: &mut Vec<u8>, out: &mut W) -> Result<(), WriteStop>
     ensures handed { OnOk result (Appends (W.contents out.old) (W.contents out.new) block.old.items) }
     ensures empty { OnOk result (block.new.items ≡ []) }
@@ -76,14 +76,14 @@ pub(crate) fn send<W: Write>(block: &mut Vec<u8>, out: &mut W) -> Result<(), Wri
     Ok(())
 }
 
-// Adds the line with the names of the columns.
+// Adds the header.
 pub(crate) fn put_header(block: &mut Vec<u8>, version: Version) -> Result<(), AllocError>
     ensures { OnOk result (block.new.items ≡ block.old.items ++ line_text (column_names version)) }
 {
     block.extend_from_slice(header_line(version))
 }
 
-// Adds the line of a span, which is written in the room first.
+// Adds the line of a span, which is written into `room` first.
 #[inline(always)]
 pub(crate) fn put_span(
     block: &mut Vec<u8>,

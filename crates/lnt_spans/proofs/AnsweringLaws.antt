@@ -1,4 +1,4 @@
--- What a list of spans answers, by its first span.
+-- What a list of spans answers, in terms of its first span.
 use Rattle.std.proofs.Common.{◌≡◌, ◌∙◌, true, false, Bool, List, [], ◌∷◌, ◌++◌, inl, inr, refl, sym, Some, None}
 use Rattle.std.specs.Prelude.{◌&&◌}
 use Rattle.lnt_spans.specs.declared.position.Position.{Position}
@@ -13,7 +13,7 @@ pub answer_in : (s : Span) (rest : List Span) (p : Position) → IsAtMost s.low 
     → span_answer (s ∷ rest) p ≡ Some s.answer
 answer_in s rest p h k = rw (test_at_most s.low p h, test_below p s.high k) refl
 
--- p is before it, or after
+-- p is outside the first span: the rest answers
 pub answer_before : (s : Span) (rest : List Span) (p : Position) → IsBelow p s.low → span_answer (s ∷ rest) p ≡ span_answer rest p
 answer_before s rest p h = rw (test_not_at_most s.low p h) refl
 
@@ -24,7 +24,7 @@ false-and false = refl
 pub answer_after : (s : Span) (rest : List Span) (p : Position) → IsAtMost s.high p → span_answer (s ∷ rest) p ≡ span_answer rest p
 answer_after s rest p h = rw (test_not_below p s.high h, false-and) refl
 
--- one more span in front of lists that agree
+-- prepending a span to two lists that agree at p
 pub answer_same : (s : Span) (xs ys : List Span) (p : Position) → span_answer xs p ≡ span_answer ys p
     → span_answer (s ∷ xs) p ≡ span_answer (s ∷ ys) p
 answer_same s xs ys p e = elim (order_cases p s.low) [
@@ -43,7 +43,7 @@ pub rest_in_order : (s : Span) (rest : List Span) → AreInOrder (s ∷ rest) �
 rest_in_order s [] h = tt
 rest_in_order s (t ∷ rest) h = h.2
 
--- spans in order, cut in two
+-- both parts of a list of spans in order are in order
 pub front_in_order : (xs ys : List Span) → AreInOrder (xs ++ ys) → AreInOrder xs
 front_in_order [] ys h = tt
 front_in_order (x ∷ []) [] h = h
@@ -60,7 +60,7 @@ none_before s [] p h k = answer_before s [] p k
 none_before s (t ∷ rest) p h k =
     answer_before s (t ∷ rest) p k ∙ none_before t rest p h.2 (below_at_most (below_at_most k (below_is_at_most h.0)) h.1)
 
--- up to the end of the first span the rest doesn't answer
+-- below the end of the first span the rest answers nothing
 pub rest_none : (s : Span) (rest : List Span) (p : Position) → AreInOrder (s ∷ rest) → IsBelow p s.high → span_answer rest p ≡ None
 rest_none s [] p h k = refl
 rest_none s (t ∷ rest) p h k = none_before t rest p h.2 (below_at_most k h.1)

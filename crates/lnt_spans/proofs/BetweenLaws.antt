@@ -1,4 +1,4 @@
--- Spans in order, told by where they begin and end.
+-- Spans in order, described by where they begin and end.
 use Rattle.std.proofs.Common.{◌≡◌, Bool, true, false, ◌&&◌, ◌∙◌, List, [], ◌∷◌, ◌++◌, None, refl}
 use Rattle.std.specs.List.{AllPairs, All}
 use Rattle.std.proofs.lemmas.List.Elements.{All-cons, All-nil, All-weaker}
@@ -32,8 +32,8 @@ test_in_span p span h = rw (test_at_most span.low p h.from, test_below p span.hi
 
 -- ---- spans from one position up to another
 
--- In order, none empty, none that begins below the end of the one before it, the first not below `low`, the last not
--- beyond `high`.
+-- Spans in order within two bounds: none is empty, none begins below the end of the one before it, the first begins at or
+-- above `low`, and the last ends at or below `high`.
 abbrev pub AreBetween : Position → List Span → Position → Type 0
 AreBetween low [] high = IsAtMost low high
 AreBetween low (span ∷ spans) high = IsAtMost low span.low × IsBelow span.low span.high × AreBetween span.high spans high
@@ -62,14 +62,14 @@ between_from_order span (next ∷ spans) h =
     let rest = between_from_order next spans h.2 in
     (rest.0, (at_most_itself span.low, h.0, between_from span.high next.low rest.0 (next ∷ spans) h.1 rest.1))
 
--- what stands below all of them is held by none
+-- no span holds a position below the lower bound
 pub none_below : (a b : Position) (spans : List Span) (p : Position) → AreBetween a spans b → IsBelow p a → span_answer spans p ≡ None
 none_below a b [] p h k = refl
 none_below a b (span ∷ spans) p h k =
     answer_before span spans p (below_at_most k h.0)
     ∙ none_below span.high b spans p h.2 (below_at_most k (at_most_trans h.0 (below_is_at_most h.1)))
 
--- each of them lies between the two positions
+-- each span lies within the two bounds
 pub record Within (a b : Position) (span : Span) : Type 0 where
   pub from : IsAtMost a span.low
   pub some : IsBelow span.low span.high
@@ -101,7 +101,7 @@ pub ends_before : (spans : List Span) → AreInOrder spans → AllPairs EndsBefo
 ends_before [] h = pairs_nil EndsBefore
 ends_before (span ∷ spans) h = let b = between_from_order span spans h in between_pairs span.low b.0 (span ∷ spans) b.1
 
--- none is empty
+-- no span is empty
 pub none_empty : (spans : List Span) → AreInOrder spans → All (λ (s : Span). IsBelow s.low s.high) spans
 none_empty [] h = All-nil (λ (s : Span). IsBelow s.low s.high)
 none_empty (span ∷ spans) h =

@@ -1,8 +1,9 @@
--- How many comparisons a bisection has left.
+-- How many comparisons a bisection still has to make.
 use Rattle.std.proofs.Common.{◌≡◌, ℕ, zero, suc, ◌+◌, ◌*◌, ◌^◌, ◌<◌, ◌≤◌, arith, refl}
 use Rattle.std.proofs.Math.Nat.{pow-suc}
 
--- From a count on, with so many places left, the count comes to no more than it was with each of the binary digits of n
+-- The count has risen from `start`, and with the comparisons that `left` spans may still take it rises by no more than the
+-- number of binary digits of n.
 pub record IsBounded (n start count left : ℕ) : Type 0 where
   pub rises : start ≤ count
   pub bound : (digits : ℕ) → n < 2 ^ digits → (more : ℕ) × (left < 2 ^ more) × (count + more ≤ start + digits)

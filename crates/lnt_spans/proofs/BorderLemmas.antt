@@ -1,4 +1,4 @@
--- Between two borders nothing changes.
+-- Between two neighbouring borders the answer doesn't change.
 use Rattle.std.proofs.Common.{◌≡◌, ◌∙◌, List, [], ◌∷◌, ◌++◌, ◌⊎◌, inl, inr, refl, sym, None}
 use Rattle.std.specs.List.{AllByRecursion}
 use Rattle.lnt_spans.specs.declared.position.Position.{Position}
@@ -9,11 +9,11 @@ use Rattle.lnt_spans.specs.Laws.{Borders, AgreeAt, borders}
 use Rattle.lnt_spans.proofs.PositionLaws.{order_cases, at_most_below, at_most_trans, at_most_itself, below_is_at_most}
 use Rattle.lnt_spans.proofs.AnsweringLaws.{answer_in, answer_before, answer_after}
 
--- the border c isn't after b, or is after p
+-- the border c is at or before b, or after p
 abbrev IsOutside : Position → Position → Position → Type 0
 IsOutside b p c = IsAtMost c b ⊎ IsBelow p c
 
--- where no border lies between, p is answered as b is
+-- with no border after b and up to p, both have the same answer
 same_since : (spans : List Span) (b p : Position) → IsAtMost b p → AllByRecursion (IsOutside b p) (borders spans)
     → span_answer spans b ≡ span_answer spans p
 same_since [] b p le h = refl
@@ -25,12 +25,12 @@ same_since (s ∷ rest) b p le h = elim h.0 [
   | inr low ↦ answer_before s rest b (at_most_below le low) ∙ same_since rest b p le h.1.1 ∙ sym (answer_before s rest p low)
 ]
 
--- where every border is after p, nothing answers
+-- where every border is after p, there is no answer at p
 none_yet : (spans : List Span) (p : Position) → AllByRecursion (IsBelow p) (borders spans) → span_answer spans p ≡ None
 none_yet [] p h = refl
 none_yet (s ∷ rest) p h = answer_before s rest p h.0 ∙ none_yet rest p h.1.1
 
--- the last of some borders that isn't after p, with what holds of each
+-- the last of these borders that is at or before p, with the property that every border has
 record LastBorder (Q : Position → Type 0) (bs : List Position) (p : Position) : Type 0 where
   border : Position
   before : IsAtMost border p

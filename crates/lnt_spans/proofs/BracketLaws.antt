@@ -1,4 +1,4 @@
--- What a bisection of spans in order knows of those that it has passed.
+-- What a bisection of spans in order knows of the spans that it has ruled out.
 use Rattle.std.proofs.Common.{◌≡◌, ℕ, ◌+◌, ◌<◌, ◌≤◌, Bool, true, false, List, Option, Some, None, refl, sym, ap, subst}
 use Rattle.std.proofs.Common.{arith, length, get_or, ⊎_elim}
 use Rattle.std.specs.Option.{option_map}

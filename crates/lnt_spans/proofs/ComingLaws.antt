@@ -4,7 +4,7 @@ use Rattle.std.proofs.lemmas.List.{append-nil}
 use Rattle.lnt_spans.specs.declared.span.Span.{Span}
 use Rattle.lnt_spans.specs.Coming.{GivesFirst}
 
--- Of the spans that were to come, these were given, and the rest is still to come.
+-- Of the spans in the list these were given, and the rest is still to come.
 pub record HasGiven (list given : List Span) (AreLeft : List Span → Type 0) : Type 0 where
   pub rest : List Span
   pub list_is : list ≡ given ++ rest

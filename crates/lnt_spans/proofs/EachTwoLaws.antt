@@ -1,4 +1,4 @@
--- What holds of each two elements of a list, and of the only one that passes a test.
+-- What holds of any two elements of a list, and of the only element that passes a test.
 use Rattle.std.proofs.Common.{◌≡◌, ◌≢◌, ℕ, zero, suc, ◌<◌, ◌≤◌, Bool, true, false, cond, List, [], ◌∷◌, ◌++◌, Option}
 use Rattle.std.proofs.Common.{Some, None, refl, sym, ap, ◌∙◌, subst, arith, length, get_or, ⊎_elim}
 use Rattle.std.specs.List.{find, AllPairs, All, Contains, swap}
@@ -35,7 +35,7 @@ pairs_append R (x ∷ xs) ys h k c =
     (All-append (R x) xs ys (pairs_head R x xs h) (All-head (λ z. All (R z) ys) x xs c))
     (pairs_append R xs ys (pairs_tail R x xs h) k (All-tail (λ z. All (R z) ys) x xs c))
 
--- ---- each two, in whichever order they stand
+-- ---- any two elements, in either order
 
 abbrev pub EachTwo : {X : Type 0} → (X → X → Type 0) → List X → Type 0
 EachTwo {X} R xs = (i j : ℕ) (d : X) → i ≢ j → i < length xs → j < length xs → R (get_or xs i d) (get_or xs j d)
@@ -47,7 +47,7 @@ each_two_from_pairs R back xs h i j d ne li lj =
 pub pairs_from_each_two : {X : Type 0} (R : X → X → Type 0) (xs : List X) → EachTwo R xs → AllPairs R xs
 pairs_from_each_two R xs h i j d lt lj = h i j d (omega arith) (omega arith) lj
 
--- where an element stood before two were swapped
+-- the index at which an element stood before two were swapped
 record Origin {X : Type 0} (f g : ℕ → X) (a b m : ℕ) : Type 0 where
   place : ℕ
   is : g m ≡ f place
@@ -130,7 +130,7 @@ found {X} test (y ∷ xs) x h = by_test (test y) refl h (λ f. found test xs x f
     by_test true e f rest = let same : y ≡ x = same_Some y x f in ((0, omega arith, same), ap test (sym same) ∙ e)
     by_test false e f rest = let k = rest f in ((suc k.0.0, omega (arith, k.0.1), k.0.2), k.1)
 
--- the only one that passes is found
+-- the only element that passes the test is found
 pub find_only : {X : Type 0} (test : X → Bool) (xs : List X) (x : X) → EachTwo (λ a b. test a ≡ true → test b ≡ true → ⊥) xs → Contains xs x
     → test x ≡ true
     → find test xs ≡ Some x

@@ -9,7 +9,7 @@ use Rattle.lnt_spans.proofs.AnsweringLaws.{answer_in, answer_before, answer_afte
 use Rattle.lnt_spans.proofs.PositionLaws.{order_cases, below_at_most, below_is_at_most}
 use Rattle.lnt_spans.proofs.ToldLaws.{told, told_answer, told_order}
 
--- what stands for an element past a list's end
+-- a default for list indices out of bounds
 abbrev pub no_span : Span
 no_span = record {
   low = record { address = 0; op = 0 };
@@ -19,7 +19,7 @@ no_span = record {
 
 -- ---- two spans joined, after others
 
--- a span that goes on to another end
+-- the first span, extended to another end
 abbrev pub joined_span : Span → Position → Span
 joined_span first high = record first { high = high }
 
@@ -82,7 +82,7 @@ join_answer (d ∷ done) first next more p touch same h =
 
 -- ---- the loop
 
--- what is joined so far, the span that may still grow, and the spans after it
+-- the loop's state: the spans joined so far, the span that may still grow, and the spans not looked at yet
 pub record Joining (spans done : List Span) (first : Span) (rest : List Span) : Type 0 where
   pub order : AreInOrder (done ++ first ∷ rest)
   pub differ : DifferWhereTheyTouch (done ++ first ∷ [])

@@ -1,4 +1,4 @@
--- What has been given of spans that are joined as they come: it begins the canonical spans, whatever comes after.
+-- The spans that a joiner has given begin the list of canonical spans, whatever is pushed later.
 use Rattle.std.proofs.Common.{◌≡◌, ◌≢◌, ◌∙◌, List, [], ◌∷◌, ◌++◌, ◌⊎◌, inl, inr, Option, Some, None, refl, sym, ap, subst}
 use Rattle.std.proofs.Common.{append_assoc, ⊎_elim}
 use Rattle.std.proofs.lemmas.List.{append-nil}
@@ -23,13 +23,13 @@ joins_or_not last next = elim (same_positions last.high next.low) [
 
 -- ---- what was given begins the canonical spans
 
--- These begin the canonical spans that answer as all of those do.
+-- These spans begin the canonical list that answers as all of the spans do.
 pub record BeginCanonical (version : Version) (all given : List Span) : Type 0 where
   pub more : List Span
   pub canonical : IsCanonical (given ++ more)
   pub same : (p : Position) → span_answer (given ++ more) p ≡ version_answer version all p
 
--- fewer of them do too, and the list of all said otherwise
+-- the same holds for a prefix of them, and for an equal list
 given_before : (version : Version) (all other given next : List Span) → all ≡ other → BeginCanonical version all (given ++ next)
     → BeginCanonical version other given
 given_before version all other given next e b = record {
@@ -39,7 +39,7 @@ given_before version all other given next e b = record {
       ∙ ap (λ (list : List Span). version_answer version list p) e;
 }
 
--- whatever spans are still to come in order
+-- any spans may still come, as long as they are in order
 pub joined_rest : (version : Version) (rest pushed given : List Span) (last : Option Span) → HasJoined version pushed given last
     → AreInOrder (pushed ++ rest) → BeginCanonical version (pushed ++ rest) given
 joined_rest version [] pushed given last joined order =

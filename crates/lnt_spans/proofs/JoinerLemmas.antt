@@ -13,7 +13,7 @@ use Rattle.lnt_spans.proofs.ToldLaws.{told, told_answer, told_order}
 regrouped : (pushed rest : List Span) (span : Span) → AreInOrder ((pushed ++ span ∷ []) ++ rest) → AreInOrder (pushed ++ span ∷ rest)
 regrouped pushed rest span o = subst AreInOrder (append_assoc pushed (span ∷ []) rest) o
 
--- as the loop over all spans has it
+-- one more step, in the form of the loop of `canonical`
 joining : (version : Version) (pushed given : List Span) (last span : Span) (rest : List Span) → IsJoined version pushed given last
     → AreInOrder ((pushed ++ span ∷ []) ++ rest)
     → Joining (told version (pushed ++ span ∷ rest)) given last (span_in_version version span ∷ told version rest)
@@ -33,7 +33,7 @@ from_joining version pushed given last span rest p j =
     j.same p ∙ told_answer version (pushed ++ span ∷ rest) p
     ∙ ap (λ (list : List Span). version_answer version list p) (sym (append_assoc pushed (span ∷ []) rest))
 
--- the first span
+-- pushing the first span
 pub joined_first : (version : Version) (pushed given : List Span) (old : Option Span) (span : Span) → HasJoined version pushed given old
     → old ≡ None
     → HasJoined version (pushed ++ span ∷ []) (given ++ cons_option None []) (Some (span_in_version version span))
@@ -45,7 +45,7 @@ joined_first version pushed given None span j e =
       same = λ rest o p. told_answer version (span ∷ rest) p;
     })
 
--- one that goes on
+-- pushing a span that extends the last one
 pub joined_more : (version : Version) (pushed given : List Span) (old : Option Span) (last span : Span) → HasJoined version pushed given old
     → old ≡ Some last
     → (last.high ≡ (span_in_version version span).low) × (last.answer ≡ (span_in_version version span).answer)
@@ -64,7 +64,7 @@ joined_more version pushed given old last span j is e =
       same = λ rest o p. from_joining version pushed given (joined_span last next.high) span rest p (grown rest o);
     })
 
--- one that doesn't
+-- pushing a span that doesn't extend the last one, which is given
 pub joined_given : (version : Version) (pushed given : List Span) (old : Option Span) (last span : Span)
     → HasJoined version pushed given old → old ≡ Some last
     → (last.high ≡ (span_in_version version span).low → last.answer ≢ (span_in_version version span).answer)
@@ -82,7 +82,7 @@ joined_given version pushed given old last span j is e =
       same = λ rest o p. from_joining version pushed (given ++ last ∷ []) next span rest p (pushed_on rest o);
     }
 
--- no span follows
+-- the end: no span follows
 pub joined_all : (version : Version) (pushed given : List Span) (last : Option Span) → HasJoined version pushed given last
     → AreInOrder pushed
     → IsCanonical (given ++ cons_option last [])
@@ -95,7 +95,7 @@ joined_all version pushed given (Some last) j o =
           ∙ ap (λ (list : List Span). version_answer version list p) (append-nil pushed),
     )
 
--- what was given and what is kept, as a call tells them
+-- the same, for results that are only known to be equal to these
 pub joined_so : (version : Version) (pushed given : List Span) (one result last kept : Option Span) → result ≡ one → last ≡ kept
     → HasJoined version pushed (given ++ cons_option one []) kept
     → HasJoined version pushed (given ++ cons_option result []) last

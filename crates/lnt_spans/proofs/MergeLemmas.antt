@@ -62,7 +62,7 @@ takes_one state spans records span true le h c =
     order_push records span c.order (record { past = subst (λ (p : Position). IsAtMost p span.low) c.at le; holds = h })
 takes_one state spans records span false le h c = λ o. not_both (order_pushed records span o).holds h
 
--- what `push` asks for, in positions
+-- what `push` requires, in terms of positions
 pub record Comes (at : Position) (span : Span) : Type 0 where
   pub past : IsAtMost at span.low
   pub holds : IsBelow span.low span.high
@@ -77,7 +77,7 @@ comes to_come merge span h =
 
 -- ---- one more record, and what the table answers
 
--- a record after those that say nothing
+-- a record after those that give no answer at p
 answer_push_none : (records more : List Span) (p : Position) → span_answer records p ≡ None
     → span_answer (records ++ more) p ≡ span_answer more p
 answer_push_none [] more p e = refl
@@ -89,13 +89,13 @@ answer_push_none (r ∷ records) more p e = elim (order_cases p r.low) [
   ]
 ]
 
--- a record after p
+-- a record that begins after p
 answer_push_before : (records : List Span) (span : Span) (p : Position) → IsBelow p span.low
     → span_answer (records ++ span ∷ []) p ≡ span_answer records p
 answer_push_before [] span p h = answer_before span [] p h
 answer_push_before (r ∷ records) span p h = answer_same r (records ++ span ∷ []) records p (answer_push_before records span p h)
 
--- tables that agree below `at`
+-- two tables that agree below `at` are interchangeable
 compared_same : (first : Option Difference) (state : State) (spans : List Span) (f g : Position → Option Answer)
     → ((p : Position) → IsBelow p state.at → f p ≡ g p) → IsComparedBy first state spans f → IsComparedBy first state spans g
 compared_same None state spans f g e c = record { rest_same = c.rest_same; agree = λ p h. c.agree p h ∙ e p h }
@@ -143,7 +143,7 @@ agree_before : (state : State) (spans : List Span) (by_table : Position → Opti
     → IsCompared state spans by_table → AgreeBefore state spans by_table
 agree_before state spans by_table e c = subst (λ (first : Option Difference). IsComparedBy first state spans by_table) e c
 
--- what is known where the answers are the same up to `to`, or differ first
+-- the outcome of a scan up to `to`: the answers are alike up to there, or this is where they first differ
 abbrev pub Found : State → Position → Option Answer → List Span → Option Difference → Type 0
 Found old to answer rest first =
     MatchOption first (Says old.version old.rest old.at to answer rest)
@@ -189,7 +189,7 @@ pushed to_come old middle new span h low high gap over spans records c =
           two.advances spans records c.compared;
     }
 
--- the spans were scanned
+-- advancing by a scan of the spans
 pub scanned_on : {S : Type 0} (to_come : S → List Span → Type 0) (old : Merging S) (spans : Ahead S) (to : Position)
     (answer : Option Answer) (first : Option Difference) → old.first ≡ None → IsAtMost old.at to
     → ((list : List Span) → IsAhead to_come old.spans list → AreInOrder list → EndsAfter old.at list
@@ -210,7 +210,7 @@ scanned_on to_come old spans to answer first none le scan rest ahead sound =
     ends_above all more None e says = says.past
     ends_above all more (Some difference) e says = absurd cc
 
--- there was a difference before
+-- advancing once a difference was found
 pub differed_on : {S : Type 0} (to_come : S → List Span → Type 0) (old : Merging S) (to : Position) (answer : Option Answer)
     → true ≡ is_some old.first → IsAtMost old.at to
     → (rest : List Span) → GoesOn to_come old (record { version = old.version; spans = old.spans; at = to; first = old.first }) rest to
@@ -287,7 +287,7 @@ next_pushed {S} to_come old spans said n h passed given records c =
 
 -- ---- the end of the table
 
--- the first position from `at` on that the first span holds
+-- the first position at or above `at` in the first span
 record IsStart (at : Position) (span : Span) (start : Position) : Type 0 where
   past : IsAtMost at start
   from : IsAtMost span.low start
@@ -318,7 +318,7 @@ first_differs state spans records more span start o s same agree ended = record 
   ];
 }
 
--- a section that still answers
+-- the section still has a span: it differs there
 pub finish_first : {S : Type 0} (to_come : S → List Span → Type 0) (merge : Merging S) (spans records : List Span) (span : Span)
     (start : Position) → merge.spans.next ≡ Some span → merge.first ≡ None
     → (IsBelow merge.at span.low × (start ≡ span.low)) ⊎ (IsAtMost span.low merge.at × (start ≡ merge.at))
@@ -335,7 +335,7 @@ finish_first to_come merge spans records span start next none h c =
     (subst (λ (list : List Span). (p : Position) → IsAtMost merge.at p → span_answer list p ≡ span_answer spans p) first.1 agree.rest_same)
     agree c.compared.ended
 
--- one that doesn't
+-- the section has no span left: both agree
 pub finish_none : {S : Type 0} (to_come : S → List Span → Type 0) (merge : Merging S) (spans records : List Span) → merge.spans.next ≡ None
     → merge.first ≡ None → Compares to_come merge spans records
     → Agree (version_answer merge.version spans) (span_answer records)
@@ -349,7 +349,7 @@ finish_none to_come merge spans records next none c p =
           ∙ sym (c.compared.ended p late)
     ]
 
--- a difference that was found
+-- a difference was found before
 pub finish_found : {S : Type 0} (to_come : S → List Span → Type 0) (merge : Merging S) (spans records : List Span) (difference : Difference)
     → merge.first ≡ Some difference → Compares to_come merge spans records
     → IsLeastDifference (version_answer merge.version spans) (span_answer records) difference

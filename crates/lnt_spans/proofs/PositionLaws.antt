@@ -63,7 +63,7 @@ made : (p : Position) → make p.address p.op ≡ p
 unfolding make
 made p = refl
 
--- positions none of which comes before the other are one
+-- positions of which neither comes before the other are equal
 pub same_position : (p q : Position) → IsAtMost q p → IsAtMost p q → p ≡ q
 same_position p q h k =
     let a : p.address ≡ q.address = omega (arith, h.address, k.address) in

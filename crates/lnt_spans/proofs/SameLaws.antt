@@ -1,4 +1,4 @@
--- Whether two answers are the same, and whether two positions are.
+-- Deciding whether two answers are the same, and whether two positions are.
 use Rattle.std.proofs.Common.{◌≡◌, ◌≢◌, ◌∙◌, ℕ, Bool, true, false, ◌⊎◌, inl, inr, refl, ap, sym, Some, None, Option}
 use Rattle.std.proofs.lemmas.Bool.{cases_eq}
 use Rattle.std.proofs.lemmas.Option.{same_Some}

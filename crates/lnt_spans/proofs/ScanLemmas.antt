@@ -1,4 +1,4 @@
--- What spans answer from a position on, a stretch at a time.
+-- What spans answer from a position on, one stretch at a time.
 use Rattle.std.proofs.Common.{◌≡◌, ◌∙◌, ◌<◌, ◌≤◌, Bool, true, false, cond, List, [], ◌∷◌, ◌⊎◌, inl, inr}
 use Rattle.std.proofs.Common.{refl, ap, sym, subst, Some, None, Option, arith}
 use Rattle.std.specs.Prelude.{IsSome}
@@ -19,7 +19,7 @@ use Rattle.lnt_spans.proofs.AnsweringLaws.{answer_after, answer_in, first_holds,
 use Rattle.lnt_spans.proofs.PositionLaws.{at_most_itself, at_most_trans, at_most_below, below_at_most}
 use Rattle.lnt_spans.proofs.PositionLaws.{below_is_at_most, order_cases, test_below, test_not_below}
 
--- answers as a version tells them
+-- equal answers stay equal as a version tells them
 told : (version : Version) {a b : Option Answer} → a ≡ b → option_map (in_version version) a ≡ option_map (in_version version) b
 told version e = ap (option_map (in_version version)) e
 
@@ -48,7 +48,7 @@ pub stretch_empty : (version : Version) (next : Option Span) (spans : List Span)
     → IsStretch version spans at to None to (rest_of false spans)
 stretch_empty version next spans at to e b lt = rw (no_first next spans e b) (empty_stretch version at to lt)
 
--- before the first span, up to `end`
+-- before the first span there is no answer, up to `end`
 pub gap_says : (version : Version) (span : Span) (more : List Span) (at end : Position) → AreInOrder (span ∷ more) → IsAtMost end span.low
     → Says version (span ∷ more) at end None (span ∷ more)
 gap_says version span more at end o le = record {
@@ -81,7 +81,7 @@ stretch_gap version next spans span at to end is b o lt gap h =
     let first = first_is next span spans is b in
     rw first.1 (gap_stretch version span first.0 at to end (subst AreInOrder first.1 o) lt gap h)
 
--- in the first span, which ends above `to`
+-- inside the first span, which ends above `to`
 inside_stretch : (version : Version) (span : Span) (more : List Span) (at to : Position) → AreInOrder (span ∷ more) → IsBelow at to
     → IsAtMost span.low at → IsBelow to span.high
     → IsStretch version (span ∷ more) at to (Some (in_version version span.answer)) to (span ∷ more)
@@ -108,7 +108,7 @@ pub next_after : (span : Span) (more : List Span) → AreInOrder (span ∷ more)
 next_after span [] o = tt
 next_after span (next ∷ more) o = at_most_below o.1 (first_holds next more o.2)
 
--- all of the first span
+-- the whole first span
 pub first_says : (version : Version) (span : Span) (more : List Span) → AreInOrder (span ∷ more)
     → Says version (span ∷ more) span.low span.high (Some (in_version version span.answer)) more
 first_says version span more o = record {
@@ -118,7 +118,7 @@ first_says version span more o = record {
   says = λ p h l. told version (answer_in span more p h l);
 }
 
--- in the first span, up to its end
+-- the first span from a position in it to its end
 whole_stretch : (version : Version) (span : Span) (more : List Span) (at to : Position) → AreInOrder (span ∷ more) → IsBelow at span.high
     → IsAtMost span.low at → IsAtMost span.high to
     → IsStretch version (span ∷ more) at to (Some (in_version version span.answer)) span.high more
@@ -177,7 +177,7 @@ fewer_inside next span at to e lt le =
 
 -- ---- stretch after stretch
 
--- up to `at` the spans answer so, and the rest is still to come
+-- up to `at` the spans give this answer, and the rest is still to come
 pub record SoFar (version : Version) (spans : List Span) (from at to : Position) (answer : Option Answer)
     (AreLeft : List Span → Type 0) : Type 0 where
   pub rest : List Span
@@ -204,7 +204,7 @@ pub begins_with : {S : Type 0} (to_come : S → List Span → Type 0) (ahead : A
 begins_with to_come ahead [] a = a
 begins_with to_come ahead (span ∷ spans) a = a.0
 
--- the next stretch is answered the same
+-- the next stretch has the same answer
 pub so_far_more : (version : Version) (spans : List Span) (from at end to : Position) (answer own : Option Answer) (t : Bool)
     (AreLeft AreLeft' : List Span → Type 0) (f : SoFar version spans from at to answer AreLeft)
     → IsStretch version f.rest at to own end (rest_of t f.rest) → answer ≡ own → AreLeft' (rest_of t f.rest)
@@ -217,7 +217,7 @@ so_far_more version spans from at end to answer own t AreLeft AreLeft' f stretch
   within = stretch.within;
 }
 
--- the first span was passed
+-- the first span was dropped
 pub passed_left : {S : Type 0} (to_come : S → List Span → Type 0) (old new : Ahead S) (rest : List Span) → IsSome old.next
     → IsAhead to_come old rest
     → ((span : Span) (more : List Span) → IsAhead to_come old (span ∷ more) → IsAhead to_come new more)

@@ -1,4 +1,4 @@
--- Stretches that are told so far: others come after them, up to all of them.
+-- The stretches given so far are a prefix of the list of all stretches.
 use Rattle.std.proofs.Common.{◌≡◌, ◌≢◌, ◌∙◌, ℕ, zero, suc, ◌+◌, ◌≤◌, Bool, true, false, List, [], ◌∷◌, ◌++◌, ◌⊎◌, inl}
 use Rattle.std.proofs.Common.{inr, refl, ap, sym, subst, Some, None, Option, arith, length, append-nil, append_assoc}
 use Rattle.std.specs.Option.{option_map}
@@ -23,7 +23,7 @@ use Rattle.lnt_spans.proofs.StretchLemmas.{gap_run, inside_run, told_alike, told
 
 -- ---- one side, run by run
 
--- From the position on, each of these is answered up to its end, one after another, and then nothing.
+-- From the position on, each of these answers lasts up to its end, one after another, and after the last there is none.
 abbrev AreRuns : (Position → Option Answer) → Position → List (Option Answer × Position) → Type 0
 AreRuns answers at [] = (p : Position) → IsAtMost at p → answers p ≡ None
 AreRuns answers at (run ∷ runs) = IsRun answers at run.0 (Some run.1) × AreRuns answers run.1 runs
@@ -32,7 +32,7 @@ same_run : (one other : Position → Option Answer) (at : Position) (answer : Op
     → ((p : Position) → IsAtMost at p → one p ≡ other p) → IsRun one at answer end → IsRun other at answer end
 same_run one other at answer end same run = record { past = run.past; says = λ p h k. sym (same p h) ∙ run.says p h k }
 
--- the first span and what comes after it
+-- the runs of the first span, and of the spans after it
 first_runs : (version : Version) (span : Span) (more : List Span) (at : Position) (answers : Position → Option Answer)
     → AreInOrder (span ∷ more) → IsBelow at span.high
     → ((p : Position) → IsAtMost at p → version_answer version (span ∷ more) p ≡ answers p)
@@ -70,14 +70,14 @@ has_runs version (span ∷ more) at answers o past same =
     (has_runs version more span.high answers (rest_in_order span more o) (next_after span more o)
     (λ p h. sym (ap (option_map (in_version version)) (answer_after span more p h)) ∙ same p (at_most_trans (below_is_at_most past) h)))
 
--- what is left of a run from a position within it on
+-- the part of a run from a position in it on
 later_run : (answers : Position → Option Answer) (at from end : Position) (answer : Option Answer) → IsAtMost at from → IsBelow from end
     → IsRun answers at answer (Some end) → IsRun answers from answer (Some end)
 later_run answers at from end answer le lt run = record { past = lt; says = λ p h k. run.says p (at_most_trans le h) k }
 
 -- ---- both sides
 
--- The stretches that are told, and others after them.
+-- The stretches given so far, with others after them that complete the list.
 abbrev ToldTo : (Position → Option Answer) → (Position → Option Answer) → Position → Option Answer → Option Answer → List Difference
     → Type 0
 ToldTo f g end s t told = (more : List Difference) × AreToldBelow f g end s t (told ++ more)
@@ -88,7 +88,7 @@ ToldOn f g told = (more : List Difference) × AreStretches f g (told ++ more)
 same_list : (P : List Difference → Type 0) (list : List Difference) → P list → P (list ++ [])
 same_list P list h = subst P (sym (append-nil list)) h
 
--- both answers stay up to an end
+-- both answers stay the same up to an end
 to_end : (f g : Position → Option Answer) (at end : Position) (s t s' t' : Option Answer) (told : List Difference)
     → AreToldBelow f g at s t told → IsBelow at end → Stay f g s' t' at end → ToldTo f g end s' t' told
 to_end f g at end s t s' t' told b lt stay =
@@ -116,7 +116,7 @@ to_end f g at end s t s' t' told b lt stay =
 joined_on : (f g : Position → Option Answer) (told more : List Difference) → ToldOn f g (told ++ more) → ToldOn f g told
 joined_on f g told more next = (more ++ next.0, subst (AreStretches f g) (append_assoc told more next.0) next.1)
 
--- Nothing is answered any more.
+-- Neither side has an answer any more.
 none_on : (f g : Position → Option Answer) (at : Position) (s t : Option Answer) (told : List Difference) → AreToldBelow f g at s t told
     → ((p : Position) → IsAtMost at p → f p ≡ None) → ((p : Position) → IsAtMost at p → g p ≡ None)
     → ToldOn f g told
@@ -174,7 +174,7 @@ side_runs : {S : Type 0} (to_come : S → List Span → Type 0) (version : Versi
     → (runs : List (Option Answer × Position)) × AreRuns answers at runs
 side_runs to_come version at answers side = has_runs version side.rest at answers side.order side.past side.same
 
--- The stretches that are told begin the list of all of them.
+-- The stretches given so far begin the list of all of them.
 pub stretches_on : {S T : Type 0} (of_section : S → List Span → Type 0) (of_table : T → List Span → Type 0) (differences : Differences S T)
     (by_section by_table : Position → Option Answer) (told : List Difference)
     → HasTold of_section of_table differences by_section by_table told

@@ -1,4 +1,4 @@
--- Stretches, told one after another as the spans of both sides come.
+-- The stretches, given one after another as the spans of both sides come.
 use Rattle.std.proofs.Common.{◌≡◌, ◌≢◌, ◌∙◌, ℕ, ◌+◌, ◌<◌, ◌≤◌, Bool, true, false, cond, List, [], ◌∷◌, ◌++◌, ◌⊎◌, inl}
 use Rattle.std.proofs.Common.{inr, refl, ap, sym, subst, Some, None, Option, arith}
 use Rattle.std.specs.List.{AllByRecursion}
@@ -156,7 +156,7 @@ stay_on : (f g : Position → Option Answer) (s t : Option Answer) (at end p : P
     → Stay f g s t at p
 stay_on f g s t at end p one two q h k = elim (order_cases q end) [ inl early ↦ one q h early | inr late ↦ two q late k ]
 
--- a position of the run, where the last stretch goes on
+-- at a position in the run: the last stretch still holds it
 pub told_on : (f g : Position → Option Answer) (at end : Position) (s t : Option Answer) (told : List Difference)
     → AreToldBelow f g at s t told → IsBelow at end → Stay f g s t at end
     → AreToldBelow f g end s t told
@@ -177,7 +177,7 @@ told_on f g at end s t told b lt stay = record {
     later (inl same) = inl same
     later (inr going) = inr (λ p h more is. going p (at_most_trans (below_is_at_most lt) h) (stay_on f g s t at end p stay more) is)
 
--- where the two answer alike
+-- both sides answer alike up to the end: no stretch
 pub told_alike : (f g : Position → Option Answer) (at end : Position) (s t s' t' : Option Answer) (told : List Difference)
     → AreToldBelow f g at s t told → IsBelow at end → Stay f g s' t' at end → s' ≡ t'
     → AreToldBelow f g end s' t' told
@@ -191,7 +191,7 @@ told_alike f g at end s t s' t' told b lt stay same = record {
   last = last_answers f g at end s' t' lt stay;
 }
 
--- where a stretch begins
+-- a new stretch begins
 pub told_new : (f g : Position → Option Answer) (at end : Position) (s t s' t' : Option Answer) (told : List Difference)
     → AreToldBelow f g at s t told → IsBelow at end → Stay f g s' t' at end
     → t' ≢ s' → (s' ≡ s → t' ≡ t → ⊥) → AreToldBelow f g end s' t' (told ++ (record { position = at; by_table = t'; by_section = s' }) ∷ [])
@@ -221,7 +221,7 @@ told_new f g at end s t s' t' told b lt stay differ other =
           | inr old ↦ other (sym a.section ∙ old.section) (sym a.table ∙ old.table)
         ]
 
--- where both answer alike up to there
+-- at the start: both sides answer alike up to there
 pub told_none : (f g : Position → Option Answer) (at : Position) → ((p : Position) → IsBelow p at → f p ≡ g p)
     → AreToldBelow f g at None None []
 told_none f g at same = record {
@@ -235,7 +235,7 @@ told_none f g at same = record {
 
 -- ---- a step
 
--- what is answered of a side
+-- the answer of one side, and its end
 abbrev pub Runs : Version → Option Span → Position → Option Answer → Option Position → Type 0
 Runs version next at answer end =
     (spans : List Span) → BeginsWith next spans → AreInOrder spans → EndsAfter at spans
@@ -252,7 +252,7 @@ before_end : (p q : Position) (end : Option Position) → IsBelow p q → IsUpTo
 before_end p q None lt up = tt
 before_end p q (Some end) lt up = below_at_most lt up
 
--- From a position on up to the end both answers are these.
+-- From `at` up to `end` both answers stay these two.
 pub record Moves (f g : Position → Option Answer) (at end : Position) (s t : Option Answer) : Type 0 where
   pub below : IsBelow at end
   pub stay : Stay f g s t at end
@@ -281,7 +281,7 @@ both_fewer a b a' b' h k (inr q) = omega (arith, h.0, k.1 q)
 origin_first : (p : Position) → IsAtMost (record { address = 0; op = 0 }) p
 origin_first p = record { address = omega arith; op = λ e. omega arith }
 
--- what comes after some spans ends after them
+-- the spans after some others end after them
 ends_after : (passed more : List Span) → AreInOrder (passed ++ more) → EndsAfter (end_of passed) more
 ends_after [] [] o = tt
 ends_after [] (span ∷ more) o = at_most_below (origin_first span.low) (first_holds span more o)

@@ -1,38 +1,37 @@
--- Spans that come one after another, the first of which was asked for already. The bodies of this crate use it among
--- themselves.
+-- Spans that come one after another, with one span of lookahead. Only the bodies of this crate use this.
 use Rattle.std.specs.Prelude.{◌≡◌, ℕ, ◌+◌, Bool, true, cond, List, [], ◌∷◌, Option, Some, None}
 use Rattle.lnt_spans.specs.declared.position.Position.{Position}
 use Rattle.lnt_spans.specs.declared.span.Span.{Span}
 use Rattle.lnt_spans.specs.declared.ahead.Ahead.{Ahead}
 use Rattle.lnt_spans.specs.Positions.{is_below}
 
--- These spans are still to come.
+-- These spans, the one at hand included, are still to come.
 abbrev pub IsAhead : {S : Type 0} → (S → List Span → Type 0) → Ahead S → List Span → Type 0
 IsAhead to_come ahead [] = ahead.next ≡ None
 IsAhead to_come ahead (span ∷ spans) = (ahead.next ≡ Some span) × to_come ahead.spans spans
 
--- This is the first of the spans, if there is one.
+-- The span at hand is the first of these; there is one unless they are empty.
 abbrev pub BeginsWith : Option Span → List Span → Type 0
 BeginsWith next [] = next ≡ None
 BeginsWith next (span ∷ spans) = next ≡ Some span
 
--- those that are left where the first is passed, or isn't
+-- the spans that are left once the first was dropped, or wasn't
 abbrev pub rest_of : Bool → List Span → List Span
 rest_of true (span ∷ spans) = spans
 rest_of _ spans = spans
 
 -- ---- how many there are at most
 
--- where the source has at most `left`
+-- an upper bound on the spans to come, where the source has at most `left` of them
 abbrev pub count_ahead : Option Span → ℕ → ℕ
 count_ahead None left = 0
 count_ahead (Some span) left = left + 1
 
--- whether a gap is before the first of them
+-- 1 if a gap lies between the position and the next span, else 0
 abbrev pub gap_before : Position → Option Span → ℕ
 gap_before at None = 0
 gap_before at (Some span) = cond (is_below at span.low) 1 0
 
--- at most so many stretches are left up to `to` before the first span is passed
+-- an upper bound on the stretches up to `to` before the next span is dropped
 abbrev pub steps_left : Option Span → Position → Position → ℕ
 steps_left next at to = gap_before at next + cond (is_below at to) 1 0

@@ -1,10 +1,10 @@
--- What a bisection of spans in order has still to look at.
+-- The state of a bisection over spans in order: which spans may still hold the position.
 use Rattle.std.specs.Prelude.{ℕ, ◌<◌, ◌≤◌, List, get_or, length}
 use Rattle.lnt_spans.specs.declared.position.Position.{Position}
 use Rattle.lnt_spans.specs.declared.span.Span.{Span}
 use Rattle.lnt_spans.specs.Positions.{IsBelow, IsAtMost}
 
--- The places before low end at or before p, and those from high on begin above it.
+-- The spans at indices below `low` end at or before p, and those from `high` on begin above it.
 pub record IsBracket (spans : List Span) (p : Position) (low high : ℕ) : Type 0 where
   pub upto : low ≤ high
   pub within : high ≤ length spans

@@ -12,15 +12,15 @@ use Rattle.lnt_spans.specs.Positions.{IsBelow, IsAtMost}
 use Rattle.lnt_spans.specs.Scanning.{EndsAfter}
 use Rattle.lnt_spans.specs.Spans.{AreInOrder, span_answer, span_in_version, version_answer}
 
--- what contracts see of a merge: the version of the table, the spans that may matter from `at` on, the end of the
--- records so far, and the first difference below it
+-- what contracts see of a merge: the version of the table, the spans that still matter from `at` on, the end of the records
+-- so far, and the first difference below it
 pub record Merging (S : Type 0) : Type 0 where
   pub version : Version
   pub spans : Ahead S
   pub at : Position
   pub first : Option Difference
 
--- the same with the list of the spans that are to come
+-- the same state, with the spans to come as a list
 pub record State : Type 0 where
   pub version : Version
   pub rest : List Span
@@ -30,22 +30,22 @@ pub record State : Type 0 where
 abbrev pub state_of : {S : Type 0} → Merging S → List Span → State
 state_of merge rest = record { version = merge.version; rest = rest; at = merge.at; first = merge.first }
 
--- While there is no difference, the first span that is left ends after `at`.
+-- As long as no difference was found, the first span that is left ends after `at`.
 pub record IsSound (rest : List Span) (at : Position) (first : Option Difference) : Type 0 where
   pub order : AreInOrder rest
   pub past : first ≡ None → EndsAfter at rest
 
--- No difference is below `at`.
+-- The two sides answer alike below `at`.
 pub record AgreeBefore (state : State) (spans : List Span) (by_table : Position → Option Answer) : Type 0 where
   pub rest_same : (p : Position) → IsAtMost state.at p → span_answer state.rest p ≡ span_answer spans p
   pub agree : (p : Position) → IsBelow p state.at → version_answer state.version spans p ≡ by_table p
 
--- The least difference is below `at`.
+-- The least difference lies below `at`, and was found.
 pub record DifferBefore (state : State) (spans : List Span) (by_table : Position → Option Answer) (difference : Difference) : Type 0 where
   pub below : IsBelow difference.position state.at
   pub least : IsLeastDifference (version_answer state.version spans) by_table difference
 
--- One of the two, as `first` tells.
+-- The one of these two that `first` selects.
 abbrev pub IsComparedBy : Option Difference → State → List Span → (Position → Option Answer) → Type 0
 IsComparedBy None state spans by_table = AgreeBefore state spans by_table
 IsComparedBy (Some difference) state spans by_table = DifferBefore state spans by_table difference
@@ -53,24 +53,24 @@ IsComparedBy (Some difference) state spans by_table = DifferBefore state spans b
 abbrev pub IsCompared : State → List Span → (Position → Option Answer) → Type 0
 IsCompared state spans by_table = IsComparedBy state.first state spans by_table
 
--- where the records end
+-- the end of the last record, or the origin where there is none
 abbrev pub end_of : List Span → Position
 end_of [] = record { address = 0; op = 0 }
 end_of (first ∷ []) = first.high
 end_of (first ∷ next ∷ records) = end_of (next ∷ records)
 
--- The span tells its answer as the version tells answers.
+-- The span's answer tells no more than the version does.
 abbrev pub IsTold : Version → Span → Type 0
 IsTold version span = span_in_version version span ≡ span
 
--- A merge that stands so has compared the spans with these records, which are in order.
+-- In this state the spans were compared with these records, which are in order.
 pub record HasCompared (state : State) (spans records : List Span) : Type 0 where
   pub order : AreInOrder records
   pub at : state.at ≡ end_of records
   pub ended : (p : Position) → IsAtMost state.at p → span_answer records p ≡ None
   pub compared : IsCompared state spans (span_answer records)
 
--- The merge has compared the spans with these records, which are in order. Its source has the rest of the spans to come.
+-- The merge has compared the spans with these records, which are in order, and its source gives the rest of the spans.
 pub record Compares {S : Type 0} (to_come : S → List Span → Type 0) (merge : Merging S) (spans records : List Span) : Type 0 where
   pub rest : List Span
   pub ahead : IsAhead to_come merge.spans rest
@@ -79,20 +79,20 @@ pub record Compares {S : Type 0} (to_come : S → List Span → Type 0) (merge :
 
 -- ---- a step of a merge
 
--- Nothing was different so far, and the record is the first span that is left, as the table's version tells it.
+-- No difference was found so far, and the record is the first span that is left, as the table's version tells it.
 pub record IsNext {S : Type 0} (merge : Merging S) (said : Span) : Type 0 where
   pub span : Span
   pub next : merge.spans.next ≡ Some span
   pub told : said ≡ span_in_version merge.version span
   pub none : merge.first ≡ None
 
--- what going on to `to` does, whatever the table says, where it answers `answer` up to there
+-- the effect of an advance to `to` on any table that answers `answer` up to there
 abbrev pub Advances : State → State → Position → Option Answer → Type 0
 Advances old new to answer =
     (spans : List Span) (by_table : Position → Option Answer) → IsCompared old spans by_table
     → ((p : Position) → IsAtMost old.at p → IsBelow p to → by_table p ≡ answer) → IsCompared new spans by_table
 
--- it goes on so, with these spans to come
+-- the merge has advanced, and these spans are still to come
 pub record HasGoneOn {S : Type 0} (to_come : S → List Span → Type 0) (old : State) (new : Merging S) (to : Position)
     (answer : Option Answer) : Type 0 where
   pub rest : List Span

@@ -1,4 +1,4 @@
--- How far the stretches of a section and a table are told.
+-- How far the stretches of a section and a table were given.
 use Rattle.std.specs.Prelude.{◌≡◌, ◌⊎◌, ℕ, ◌+◌, List, [], ◌∷◌, ◌++◌, Option, Some, None, cond}
 use Rattle.std.specs.List.{AllByRecursion}
 use Rattle.lnt_spans.specs.declared.answer.Answer.{Answer}
@@ -18,7 +18,7 @@ use Rattle.lnt_spans.specs.Stretches.{AreAnswers, AreRising, AreStretches, Begin
 
 -- ---- one side
 
--- These spans are still to come, and from the position on they answer as the function does, as the version tells answers.
+-- These spans are still to come, and from `at` on they answer as the function does, as the version tells answers.
 pub record IsSide {S : Type 0} (to_come : S → List Span → Type 0) (version : Version) (ahead : Ahead S) (at : Position)
     (answers : Position → Option Answer) : Type 0 where
   pub rest : List Span
@@ -27,67 +27,67 @@ pub record IsSide {S : Type 0} (to_come : S → List Span → Type 0) (version :
   pub past : EndsAfter at rest
   pub same : (p : Position) → IsAtMost at p → version_answer version rest p ≡ answers p
 
--- The position isn't after the end, where there is one.
+-- The position is at or below the end, if there is one.
 abbrev pub IsUpTo : Position → Option Position → Type 0
 IsUpTo p None = Unit {0}
 IsUpTo p (Some end) = IsAtMost p end
 
--- It is below the end, where there is one.
+-- The position is below the end, if there is one.
 abbrev pub IsBefore : Position → Option Position → Type 0
 IsBefore p None = Unit {0}
 IsBefore p (Some end) = IsBelow p end
 
--- From a position on up to the end, which is after it, or at all of them, this is answered.
+-- From `at` up to the end, which lies after it, this is the answer at every position; without an end, at all from `at` on.
 pub record IsRun (answers : Position → Option Answer) (at : Position) (answer : Option Answer) (end : Option Position) : Type 0 where
   pub past : IsBefore at end
   pub says : (p : Position) → IsAtMost at p → IsBefore p end → answers p ≡ answer
 
--- where the answer at a position may end, if this span is next
+-- where the answer at a position may end, if `next` is the next span
 abbrev pub run_end : Position → Option Span → Option Position
 run_end at None = None
 run_end at (Some span) = Some (cond (is_below at span.low) span.low span.high)
 
--- so many runs are left at most, where the source has at most `left` spans
+-- an upper bound on the runs of one answer that are left, where the source has at most `left` spans
 abbrev pub runs_left : Position → Option Span → ℕ → ℕ
 runs_left at next left = count_ahead next left + count_ahead next left + gap_before at next
 
 -- ---- both sides
 
--- From the position on, as long as these two answers stay, one of the stretches holds them.
+-- The positions from `at` on, for as long as both sides keep these two answers, all lie in one of the stretches given.
 abbrev pub IsOpen : (Position → Option Answer) → (Position → Option Answer) → Position → Option Answer → Option Answer → List Difference
     → Type 0
 IsOpen by_section by_table at section table told =
     (p : Position) → IsAtMost at p → Stay by_section by_table section table at p → AreAnswers by_section by_table section table p
     → IsInOne by_section by_table told p
 
--- What is told so far of the stretches below a position.
+-- The stretches given so far are exactly those that begin below `at`.
 pub record AreToldBelow (by_section by_table : Position → Option Answer) (at : Position) (section table : Option Answer)
     (told : List Difference) : Type 0 where
   pub each : AllByRecursion (BeginsStretch by_section by_table) told
   pub rising : AreRising told
   pub below : AllByRecursion (λ difference. IsBelow difference.position at) told
   pub all : (p : Position) → IsBelow p at → (by_section p ≡ by_table p) ⊎ IsInOne by_section by_table told p
-  -- these two were the last answers: if they differ, the last stretch goes on as long as they stay
+  -- `section` and `table` were the last answers: if they differ, the last stretch lasts as long as they stay
   pub going : (section ≡ table) ⊎ IsOpen by_section by_table at section table told
-  -- right below the position the two answer so, or alike
+  -- right below `at` both sides have these answers, or answer alike
   pub last : (p : Position) → IsBelow p at
       → (q : Position) × IsAtMost p q × IsBelow q at × ((by_section q ≡ by_table q) ⊎ AreAnswers by_section by_table section table q)
 
--- Of the stretches these are told, and the sources have the spans to come from there on.
+-- These stretches were given, and the sources have the spans from there on still to come.
 pub record HasTold {S T : Type 0} (of_section : S → List Span → Type 0) (of_table : T → List Span → Type 0) (differences : Differences S T)
     (by_section by_table : Position → Option Answer) (told : List Difference) : Type 0 where
   pub section : IsSide of_section differences.version differences.section differences.at by_section
   pub table : IsSide of_table differences.version differences.table differences.at by_table
   pub below : AreToldBelow by_section by_table differences.at differences.by_section differences.by_table told
 
--- At most so many stretches are left to tell, where the sources have no more spans left than these functions say. Each begins where a
--- run of one side does, so the runs that both have left are counted.
+-- An upper bound on the stretches that are left to give, where the two functions bound the spans that are left in the
+-- sources. Each stretch begins where a run of one side does, so the runs left on both sides are added up.
 abbrev pub stretches_left : {S T : Type 0} → (S → ℕ) → (T → ℕ) → Differences S T → ℕ
 stretches_left of_section of_table differences =
     runs_left differences.at differences.section.next (of_section differences.section.spans)
     + runs_left differences.at differences.table.next (of_table differences.table.spans)
 
--- what one step brings
+-- what holds after one step, by what the step found
 abbrev pub Steps : {S T : Type 0} → (S → List Span → Type 0) → (T → List Span → Type 0) → Differences S T → (Position → Option Answer)
     → (Position → Option Answer) → List Difference → Step → Type 0
 Steps of_section of_table differences by_section by_table told Ended = AreStretches by_section by_table told

@@ -1,4 +1,4 @@
--- Spans joined as they come, one after another.
+-- Spans joined one after another, as they come.
 use Rattle.std.specs.Prelude.{◌≡◌, List, [], ◌∷◌, ◌++◌, map, Option, Some, None}
 use Rattle.lnt_spans.specs.declared.answer.Version.{Version}
 use Rattle.lnt_spans.specs.declared.joiner.Joiner.{Joiner}
@@ -6,8 +6,8 @@ use Rattle.lnt_spans.specs.declared.position.Position.{Position}
 use Rattle.lnt_spans.specs.declared.span.Span.{Span}
 use Rattle.lnt_spans.specs.Spans.{AreInOrder, DifferWhereTheyTouch, span_answer, span_in_version, version_answer}
 
--- What was given of the spans that were pushed, with the last one, which may still grow: whatever spans are pushed after
--- them in order, these with those are in order, and answer as all of them do; and none that touch answer the same.
+-- The spans given so far, with the last one, which may still grow: however pushing goes on in order, these spans followed by
+-- the later ones are in order, and answer as all pushed spans do; and no two that touch have the same answer.
 pub record IsJoined (version : Version) (pushed given : List Span) (last : Span) : Type 0 where
   pub differ : DifferWhereTheyTouch (given ++ last ∷ [])
   pub order : (rest : List Span) → AreInOrder (pushed ++ rest) → AreInOrder (given ++ last ∷ map (span_in_version version) rest)
@@ -20,10 +20,10 @@ HasJoined version pushed given (Some last) = IsJoined version pushed given last
 
 -- ---- what contracts see of a joiner
 
--- the version, as which answers are told
+-- the version whose answers it tells
 abbrev pub version_of : Joiner → Version
 version_of joiner = joiner.version
 
--- the span that is kept, and may still grow, if there is one
+-- the kept span, which may still grow, if there is one
 abbrev pub growing : Joiner → Option Span
 growing joiner = joiner.last

@@ -16,12 +16,12 @@ AgreeAt xs ys p = span_answer xs p ≡ span_answer ys p
 abbrev pub AgreeEverywhere : List Span → List Span → Type 0
 AgreeEverywhere xs ys = (p : Position) → AgreeAt xs ys p
 
--- where the spans begin and end
+-- all positions where a span begins or ends
 abbrev pub borders : List Span → List Position
 borders [] = []
 borders (span ∷ spans) = span.low ∷ span.high ∷ borders spans
 
--- Lists in order that answer alike where a span of either begins or ends answer alike everywhere.
+-- Lists in order that answer alike wherever a span of either begins or ends answer alike everywhere.
 abbrev pub Borders : Type 0
 Borders = (xs ys : List Span) → AreInOrder xs → AreInOrder ys
     → AllByRecursion (AgreeAt xs ys) (borders xs) → AllByRecursion (AgreeAt xs ys) (borders ys) → AgreeEverywhere xs ys
@@ -30,12 +30,12 @@ Borders = (xs ys : List Span) → AreInOrder xs → AreInOrder ys
 abbrev pub OneCanonical : Type 0
 OneCanonical = (xs ys : List Span) → IsCanonical xs → IsCanonical ys → AgreeEverywhere xs ys → xs ≡ ys
 
--- the least difference, where there is one
+-- the first of the list is the least difference; where the list is empty, there is none
 abbrev pub IsFirst : (Position → Option Answer) → (Position → Option Answer) → List Difference → Type 0
 IsFirst by_section by_table [] = Agree by_section by_table
 IsFirst by_section by_table (first ∷ differences) = IsLeastDifference by_section by_table first
 
--- The first stretch begins with the least difference, and with none the two answer alike.
+-- The first stretch begins at the least difference; where there is no stretch, the two sides answer alike.
 abbrev pub FirstStretch : Type 0
 FirstStretch =
     (by_section by_table : Position → Option Answer) (differences : List Difference) → AreStretches by_section by_table differences

@@ -1,4 +1,4 @@
--- Positions: pairs of an address and an operation index, in dictionary order.
+-- Positions: pairs of an address and an operation index, ordered by address, then by operation index.
 use Rattle.std.specs.Prelude.{◌≡◌, ◌<◌, ◌≤◌, Bool, ◌&&◌, ◌||◌, nat_lt, nat_le, ◌==◌}
 use Rattle.lnt_spans.specs.declared.position.Position.{Position}
 
@@ -12,7 +12,7 @@ pub record IsAtMost (p q : Position) : Type 0 where
   pub address : p.address ≤ q.address
   pub op : p.address ≡ q.address → p.op ≤ q.op
 
--- the same as tests
+-- the same orders as boolean tests
 abbrev pub is_below : Position → Position → Bool
 is_below p q = nat_lt p.address q.address || (p.address == q.address && nat_lt p.op q.op)
 

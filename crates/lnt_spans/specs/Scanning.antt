@@ -1,4 +1,4 @@
--- What is found where spans are looked through from a position on. The bodies of this crate use it among themselves.
+-- What a scan over spans from a position on finds. Only the bodies of this crate use this.
 use Rattle.std.specs.Prelude.{◌≡◌, ◌≢◌, List, [], ◌∷◌, Option, MatchOption}
 use Rattle.lnt_spans.specs.declared.answer.Answer.{Answer}
 use Rattle.lnt_spans.specs.declared.answer.Version.{Version}
@@ -13,14 +13,15 @@ abbrev pub EndsAfter : Position → List Span → Type 0
 EndsAfter p [] = Unit {0}
 EndsAfter p (span ∷ spans) = IsBelow p span.high
 
--- From `from` up to `to` the spans answer `answer`, and from there on the rest answers as they do.
+-- From `from` up to `to` the spans answer `answer`, and from `to` on the rest answers as all of them do.
 pub record Says (version : Version) (spans : List Span) (from to : Position) (answer : Option Answer) (rest : List Span) : Type 0 where
   pub order : AreInOrder rest
   pub past : EndsAfter to rest
   pub same : (p : Position) → IsAtMost to p → span_answer rest p ≡ span_answer spans p
   pub says : (p : Position) → IsAtMost from p → IsBelow p to → version_answer version spans p ≡ answer
 
--- At the difference, below `to`, the spans don't answer `answer` as the table does, and before it they do.
+-- At the difference, below `to`, the section's answer differs from `answer`, the table's; from `from` up to there it is
+-- `answer`.
 pub record DiffersFirst (version : Version) (spans : List Span) (from to : Position) (answer : Option Answer)
     (difference : Difference) : Type 0 where
   pub past : IsAtMost from difference.position
@@ -37,7 +38,7 @@ pub record IsStretch (version : Version) (spans : List Span) (at to : Position) 
   pub within : IsAtMost end to
   pub says : Says version spans at end answer rest
 
--- The spans answer `answer` up to `to`, and those are left that are to come from there on; or this is where they differ first.
+-- Either the spans answer `answer` up to `to`, and `rest` is to come from there on; or `found` is where they first differ.
 pub record IsScanned (version : Version) (spans : List Span) (from to : Position) (answer : Option Answer) (found : Option Difference)
     (AreLeft : List Span → Type 0) : Type 0 where
   pub rest : List Span

@@ -1,4 +1,4 @@
--- Lists of spans: what they answer, and the one list for each way to answer.
+-- Lists of spans: what they answer, and the canonical list for each way to answer.
 use Rattle.std.specs.Prelude.{◌≡◌, ◌≢◌, Bool, ◌&&◌, List, [], ◌∷◌, Option}
 use Rattle.std.specs.List.{find}
 use Rattle.std.specs.Option.{option_map}
@@ -11,25 +11,25 @@ use Rattle.lnt_spans.specs.Positions.{IsBelow, IsAtMost, is_below, is_at_most}
 
 -- ---- what spans answer
 
--- whether the span holds p: the positions from low up to high, and not high itself
+-- whether p lies in the half-open range from low up to high
 abbrev pub is_in_span : Position → Span → Bool
 is_in_span p span = is_at_most span.low p && is_below p span.high
 
--- the answer of the span that holds p, else none
+-- the answer of the span that holds p, else None
 abbrev pub span_answer : List Span → Position → Option Answer
 span_answer spans p = option_map (λ span. span.answer) (find (is_in_span p) spans)
 
--- the same as a version of the address table tells it
+-- that answer, as a version of the address table tells it
 abbrev pub version_answer : Version → List Span → Position → Option Answer
 version_answer version spans p = option_map (in_version version) (span_answer spans p)
 
--- a span whose answer is told so
+-- the span with its answer as the version tells it
 abbrev pub span_in_version : Version → Span → Span
 span_in_version version span = record span { answer = in_version version span.answer }
 
 -- ---- spans in order
 
--- Each span holds something, and none begins below the end of the one before it.
+-- Each span holds a position, and none begins below the end of the one before it.
 abbrev pub AreInOrder : List Span → Type 0
 AreInOrder [] = Unit {0}
 AreInOrder (span ∷ []) = IsBelow span.low span.high
@@ -37,7 +37,7 @@ AreInOrder (span ∷ next ∷ spans) = IsBelow span.low span.high × IsAtMost sp
 
 -- ---- canonical spans
 
--- No span that ends where the next one begins has its answer.
+-- No two spans that touch have the same answer.
 abbrev pub DifferWhereTheyTouch : List Span → Type 0
 DifferWhereTheyTouch [] = Unit {0}
 DifferWhereTheyTouch (span ∷ []) = Unit {0}

@@ -1,4 +1,4 @@
-//! The next of the spans that a source gives, before it is taken.
+//! Looks one span ahead in a source of spans.
 ghost use Rattle.std.specs.Prelude.{List, ◌∷◌, ◌<◌, IsSome};
 ghost use Rattle.lnt_spans.specs.declared.span.Span as spec;
 ghost use Rattle.lnt_spans.specs.Ahead.{IsAhead, count_ahead};
@@ -6,7 +6,7 @@ ghost use Rattle.lnt_spans.specs.Ahead.{IsAhead, count_ahead};
 use crate::source::SpanSource;
 use crate::span::Span;
 
-// Spans of a source, and the first of them at hand.
+// A source of spans, with its next span already taken out.
 #[derive(Drop)]
 pub(crate) struct Ahead<S> {
     pub(crate) next: Option<Span>,
@@ -14,7 +14,7 @@ pub(crate) struct Ahead<S> {
 }
 
 impl<S: SpanSource> Ahead<S> {
-    // All spans of the source.
+    // Takes the first span out of the source.
     pub(crate) fn of(mut spans: S) -> Ahead<S>
         ensures { (list : List spec.Span) → S.to_come spans list → IsAhead S.to_come result list }
     {
@@ -22,7 +22,7 @@ impl<S: SpanSource> Ahead<S> {
         Ahead { next, spans }
     }
 
-    // Goes on past the first one.
+    // Drops the span at hand and takes the next one.
     #[inline(always)]
     pub(crate) fn pass(&mut self)
         requires { IsSome self.old.next }

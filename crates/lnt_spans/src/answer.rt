@@ -16,24 +16,24 @@ pub enum Version {
 pub struct More {
     /// The instruction set.
     pub isa: u64,
-    /// Which of the blocks of one source line it is.
+    /// Tells apart the blocks that belong to one source line.
     pub discriminator: u64,
 }
 
 /// Where in the source the code at a position comes from (DWARF 5, section 6.2.2).
 #[derive(Clone, Copy, Debug, PartialEq, Eq)]
 pub struct Answer {
-    /// The offset in the section of the unit that says so.
+    /// The section offset of the unit that gives this answer.
     pub unit: u64,
     /// The index of the source file in that unit.
     pub file: u64,
-    /// The line in it: 1 is the first, and 0 says that there is none.
+    /// The line in the file, counted from 1; 0 means that there is none.
     pub line: u64,
-    /// The column in the line: 1 is the first, and 0 is the line's left edge.
+    /// The column in the line, counted from 1; 0 means the line's left edge.
     pub column: u64,
-    /// Whether it is a good place for a breakpoint, as the beginning of a statement.
+    /// Whether the position is a recommended breakpoint location, such as the beginning of a statement.
     pub is_stmt: bool,
-    /// What version 1 of the address table doesn't tell, or None where it is left out.
+    /// What only version 2 of the address table tells; None where it is left out.
     pub more: Option<More>,
 }
 
@@ -50,7 +50,7 @@ impl Answer {
     pub fn in_version(self, version: Version) -> Answer
         ensures { result ≡ in_version version self }
     {
-        // Field by field: a copy of the whole would copy what lies between the fields too, which costs as much again.
+        // Field by field: a copy of the whole struct would copy its padding too, which costs as much again.
         let more = match (version, self.more) {
             (Version::Two, Some(more)) => Some(More {
                 isa: more.isa,

@@ -2,14 +2,14 @@
 use crate::answer::Answer;
 use crate::position::Position;
 
-/// A position at which a table and a section answer differently, with both answers. None says that no span holds the
-/// position.
+/// A position at which a table and a section answer differently, with both answers. An answer is None where no span holds
+/// the position.
 #[derive(Clone, Copy, Debug, PartialEq, Eq)]
 pub struct Difference {
     /// The position.
     pub position: Position,
     /// What the table answers there.
     pub by_table: Option<Answer>,
-    /// What the section answers there, as the table's version tells it.
+    /// What the section answers there, as a table of this version tells it.
     pub by_section: Option<Answer>,
 }

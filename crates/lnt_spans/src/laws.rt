@@ -1,8 +1,8 @@
 //! Laws of lists of spans, each the contract of a function without parameters that does nothing.
 ghost use Rattle.lnt_spans.specs.Laws.{Borders, FirstStretch, OneCanonical};
 
-/// Two lists of spans in order, none empty, that answer alike wherever a span of either begins or ends answer alike at
-/// every position. So to compare two lists their borders suffice.
+/// Two lists of spans that are in order, none empty, answer alike at every position if they answer alike wherever a span of
+/// either begins or ends. So two lists can be compared at their borders alone.
 #[tactic(auto, using(crate::proofs::BorderLemmas::agree_by_borders))]
 pub fn borders()
     ensures { Borders }
@@ -14,8 +14,8 @@ pub fn one_canonical()
     ensures { OneCanonical }
 {}
 
-/// Of exactly the stretches at which two answer differently the first begins with the least difference; and where there is
-/// none, the two answer alike at every position.
+/// In the exact list of stretches at which two sides answer differently, the first stretch begins at the least difference.
+/// If the list is empty, the two sides answer alike at every position.
 #[tactic(auto, using(crate::proofs::StretchLemmas::first_stretch))]
 pub fn first_stretch()
     ensures { FirstStretch }

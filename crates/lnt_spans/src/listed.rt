@@ -1,10 +1,10 @@
-//! Spans that are held, as a source of them.
+//! A source of spans over a list in memory.
 ghost use Rattle.std.specs.Prelude.{◌≡◌, ◌-◌, drop, length};
 
 use crate::source::SpanSource;
 use crate::span::Span;
 
-/// Spans that are held one after another in memory of their own, and of which the first ones were given.
+/// A source that owns its list of spans, with the number of spans given so far.
 #[derive(Drop)]
 pub struct SpanList {
     spans: Vec<Span>,
@@ -12,7 +12,7 @@ pub struct SpanList {
 }
 
 impl SpanList {
-    /// These spans, of which none was given.
+    /// A source of these spans, none of them given yet.
     pub fn of(spans: Vec<Span>) -> SpanList
         ensures { ⟦<SpanList as SpanSource>⟧.to_come result spans.items }
     {

@@ -1,4 +1,4 @@
-//! Where a section and a table answer differently first, found in one pass over both.
+//! Finds where a section and a table first answer differently, in one pass over both.
 ghost use Rattle.std.specs.Prelude.{◌≡◌, ◌≢◌, List, [], ◌∷◌, ◌++◌, true, Option, MatchOption};
 ghost use Rattle.std.specs.Bool.{MatchBool};
 ghost use Rattle.std.specs.List.{AllByRecursion};
@@ -19,21 +19,20 @@ use crate::source::SpanSource;
 use crate::span::Span;
 use std::marker::Model;
 
-/// The spans of a section, which come one by one from a source, compared with the records of an address table, which
-/// come one by one and are spans too.
+/// Compares the spans of a section, which come one by one from a source, with the records of an address table, which come
+/// one by one and are spans too.
 ///
-/// Contracts see what it has come to (`Merging`), and say which spans and records it has compared (`Compares`): those of
-/// the section, with those that were pushed. What the section answers is narrowed where the table has version 1; the
-/// records of such a table answer with `more` None. A merge keeps no record and only one span, and the first difference.
-/// It takes no memory.
+/// Contracts see the state (`Merging`), and state which spans and records were compared (`Compares`): all spans of the
+/// section, with the records pushed so far. The section's answers are narrowed where the table has version 1; the records of
+/// such a table have None as `more`. A merge keeps no record, only one span and the first difference. It takes no memory.
 #[derive(Drop)]
 pub struct Merge<S> {
     version: Version,
-    // the spans that may matter from `at` on
+    // the spans that still matter at `at` and above
     spans: Ahead<S>,
     // the end of the last record
     at: Position,
-    // the first difference below it
+    // the first difference below `at`
     first: Option<Difference>,
 }
 
@@ -46,8 +45,8 @@ impl<S> Model for Merge<S> {
 }
 
 impl<S: SpanSource + Drop> Merge<S> {
-    /// The spans of a section, compared with no record of a table of this version. The caller sees to it that the spans
-    /// are in order and none is empty.
+    /// The spans of a section and a table of this version of which no record was compared yet. The caller makes sure that
+    /// the spans are in order and none is empty.
     pub fn new(spans: S, version: Version) -> Merge<S>
         ensures version { result.version ≡ version }
         ensures compares { (list : List Span) → S.to_come spans list → AreInOrder list → Compares S.to_come result list [] }
@@ -60,9 +59,9 @@ impl<S: SpanSource + Drop> Merge<S> {
         }
     }
 
-    /// The spans of a section that begins with some records of a table of this version, compared with these records. They
-    /// end at a position, and the source has the spans after them. The caller sees to it that all of them are in order,
-    /// none is empty, and the records answer as the version tells answers.
+    /// A merge that has already compared the records with which both the section and a table of this version begin. These
+    /// records end at `at`, and the source gives the spans after them. The caller makes sure that all of them are in order,
+    /// that none is empty, and that the records answer as the version tells answers.
     pub fn past(spans: S, version: Version, at: Position) -> Merge<S>
         ensures version { result.version ≡ version }
         ensures compares { (passed list : List Span) → S.to_come spans list → AreInOrder (passed ++ list)
@@ -77,7 +76,7 @@ impl<S: SpanSource + Drop> Merge<S> {
         }
     }
 
-    /// Whether the records are in order, none empty, with this one after them.
+    /// Whether the records, with this one appended, are in order and none is empty.
     pub fn takes(&self, span: &Span) -> bool
         ensures { (spans records : List Span) → Compares S.to_come self.now spans records
             → MatchBool result (AreInOrder (records ++ span.now ∷ [])) (AreInOrder (records ++ span.now ∷ []) → ⊥) }
@@ -88,8 +87,8 @@ impl<S: SpanSource + Drop> Merge<S> {
         span.low.is_below(span.high)
     }
 
-    /// Compares one more record. The caller sees to it that the records are in order with this one after them, as
-    /// `takes` tells.
+    /// Compares one more record. The caller makes sure that the records stay in order with this one appended, which `takes`
+    /// checks.
     pub fn push(&mut self, span: &Span)
         requires { (spans records : List Span) × Compares S.to_come self.old spans records × AreInOrder (records ++ span.now ∷ []) }
         ensures version { self.new.version ≡ self.old.version }
@@ -105,8 +104,8 @@ impl<S: SpanSource + Drop> Merge<S> {
         self.advance(span.high, Some(span.answer));
     }
 
-    /// The least position at which the section and the table answer differently, with both answers there, where no
-    /// record follows. None where they answer alike at every position.
+    /// Gives the least position at which the section and the table answer differently, with both answers, once no record
+    /// follows. None where they answer alike at every position.
     pub fn finish(self) -> Option<Difference>
         ensures { (spans records : List Span) → Compares S.to_come self spans records
             → MatchOption result (Agree (version_answer self.version spans) (span_answer records))
@@ -123,7 +122,8 @@ impl<S: SpanSource + Drop> Merge<S> {
         })
     }
 
-    // Whether nothing was different so far, and the record is the next span as the table tells it.
+    // Whether no difference was found so far and the record equals the next span as the table's version tells it: the fast
+    // path.
     #[inline(always)]
     fn is_next(&self, span: &Span) -> bool
         ensures { result ≡ true → IsNext self.now span.now }
@@ -137,7 +137,7 @@ impl<S: SpanSource + Drop> Merge<S> {
         is_same(*span, next.in_version(self.version))
     }
 
-    // Goes on to `to`, up to which the table answers `answer`.
+    // Compares up to `to`; the table answers `answer` from `self.at` up to there.
     #[inline(always)]
     fn advance(&mut self, to: Position, answer: Option<Answer>)
         requires { IsAtMost self.old.at to }

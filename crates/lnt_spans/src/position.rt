@@ -1,19 +1,20 @@
-//! Places of the machine's code.
+//! Positions in machine code.
 ghost use Rattle.std.specs.Bool.{MatchBool};
 ghost use Rattle.lnt_spans.specs.Positions.{IsBelow, IsAtMost};
 
-/// A place of the machine's code: an operation of the instruction at an address (DWARF 5, section 6.2.2, registers
-/// `address` and `op_index`). Positions are in dictionary order.
+/// A position in machine code: an operation of the instruction at an address (DWARF 5, section 6.2.2, registers `address`
+/// and `op_index`). Positions are ordered by address, then by operation index.
 #[derive(Clone, Copy, Debug, PartialEq, Eq)]
 pub struct Position {
     /// The address of an instruction.
     pub address: u64,
-    /// Which operation of the instruction it is, the first being 0.
+    /// The index of the operation in the instruction, counted from 0.
     pub op: u64,
 }
 
 impl Position {
-    /// Whether it comes before the other: at a lower address, or at the same one with a lower operation index.
+    /// Whether this position comes before the other: at a lower address, or at the same address with a lower operation
+    /// index.
     #[inline(always)]
     pub fn is_below(self, other: Position) -> bool
         ensures { MatchBool result (IsBelow self other) (IsAtMost other self) }

@@ -1,4 +1,4 @@
-//! What spans answer from a position on, a stretch at a time.
+//! Scans what spans answer from a position on, one stretch at a time.
 ghost use Rattle.std.specs.Prelude.{◌≡◌, ◌≢◌, ◌⊎◌, ◌<◌, true, false, List, IsSome};
 ghost use Rattle.std.specs.Bool.{MatchBool};
 ghost use Rattle.lnt_spans.specs.declared.span.Span as spec;
@@ -14,7 +14,7 @@ use crate::position::Position;
 use crate::source::SpanSource;
 use crate::span::Span;
 
-// Positions up to `end` that are answered alike, and whether the span at hand ends there.
+// A range of positions up to `end` with one answer, and whether the span at hand ends at `end` and so is done with.
 #[derive(Clone, Copy)]
 struct Stretch {
     answer: Option<Answer>,
@@ -22,7 +22,7 @@ struct Stretch {
     is_passed: bool,
 }
 
-// The stretch from `at` up to where the next span begins or ends, or to `to` if that comes first.
+// The stretch from `at` to where the next span begins or ends, but no farther than `to`.
 #[inline(always)]
 #[tactic(auto, using(crate::proofs::ScanLemmas::stretch_empty, crate::proofs::ScanLemmas::stretch_inside))]
 fn stretch_at(version: Version, next: Option<Span>, at: Position, to: Position) -> Stretch
@@ -62,8 +62,8 @@ fn stretch_at(version: Version, next: Option<Span>, at: Position, to: Position) 
     }
 }
 
-// Where a section differs first from a table that answers `answer` from `from` up to `to`, if it does. If it doesn't,
-// the spans go on with those that are left from `to` on.
+// The first position from `from` up to `to` at which the section's answer isn't `answer`, the table's answer there. If there
+// is none, `spans` is left with the spans that matter from `to` on.
 #[inline(always)]
 pub(crate) fn scan<S: SpanSource>(
     version: Version,

@@ -1,4 +1,4 @@
-//! The answer at a position, by bisection.
+//! Looks up the answer at a position, by bisection.
 ghost use Rattle.std.specs.Prelude.{◌≡◌, ◌+◌, ◌^◌, ◌<◌, ◌≤◌, ℕ, length};
 ghost use Rattle.lnt_spans.specs.Spans.{AreInOrder, span_answer};
 ghost use Rattle.lnt_spans.specs.Sides.{IsSide};
@@ -8,7 +8,7 @@ use crate::position::Position;
 use crate::span::Span;
 use std::marker::Model;
 
-/// How many times a position was compared with spans, or with others that hold positions. A contract sees the count.
+/// Counts the comparisons of a position with spans, or with other things that hold positions. Contracts see the count.
 #[derive(Debug, Drop)]
 pub struct Probes {
     count: u64,
@@ -23,14 +23,14 @@ impl Model for Probes {
 }
 
 impl Probes {
-    /// No comparison yet.
+    /// A count of no comparisons.
     pub fn new() -> Probes
         ensures { result ≡ 0 }
     {
         Probes { count: 0 }
     }
 
-    /// How many there were.
+    /// The number of comparisons so far.
     pub fn count(&self) -> u64
         ensures { result ≡ self.now }
     {
@@ -38,18 +38,19 @@ impl Probes {
     }
 }
 
-/// Where a position lies beside the positions from one up to another.
+/// Where a position lies relative to a half-open range of positions.
 #[derive(Clone, Copy, Debug, PartialEq, Eq)]
 pub enum Side {
-    /// Below the first of them.
+    /// Below the first position of the range.
     Below,
-    /// Among them.
+    /// In the range.
     Inside,
-    /// Above all of them.
+    /// Above all positions of the range.
     Above,
 }
 
-/// Compares a position with those from `low` up to `high`, and counts that. Nothing else compares them in a search.
+/// Compares a position with the half-open range from `low` up to `high`, and counts the comparison. A search compares
+/// positions in no other way.
 #[inline(always)]
 pub fn probe(low: Position, high: Position, position: Position, probes: &mut Probes) -> Side
     requires { probes.old + 1 < 2 ^ 64 }
@@ -66,17 +67,17 @@ pub fn probe(low: Position, high: Position, position: Position, probes: &mut Pro
     }
 }
 
-/// The answer of the span that holds the position, or none where no span does.
+/// The answer of the span that holds the position, or None where no span does.
 ///
-/// It compares the position with at most as many spans as their number has binary digits, which is none where there are
-/// no spans: `probes` rises by the comparisons. The caller sees to it that the spans are in order, none empty, and that
-/// `probes` stands at 2^63 or below. It takes no memory.
+/// The position is compared with at most as many spans as their number has binary digits, so with none where there are no
+/// spans; `probes` rises by the number of comparisons. The caller makes sure that the spans are in order, that none is
+/// empty, and that `probes` stands at 2^63 or below. It takes no memory.
 pub fn lookup(spans: &[Span], position: Position, probes: &mut Probes) -> Option<Answer>
     requires order { AreInOrder spans.now }
     requires count { probes.old ≤ 2 ^ 63 }
     ensures answer { result ≡ span_answer spans.now position }
 
-    // The count rises. However many binary digits the number of spans is written in, it rises by no more.
+    // The count rises by at most the number of binary digits of the number of spans.
     ensures rises { probes.old ≤ probes.new }
     ensures counted { (digits : ℕ) → length spans.now < 2 ^ digits → probes.new ≤ probes.old + digits }
 {

@@ -1,4 +1,4 @@
-//! Spans that come one after another.
+//! Sources that give spans one after another.
 ghost use Rattle.std.specs.Prelude.{◌≡◌, ℕ, ◌<◌, List, length, IfOk, IfSome};
 ghost use Rattle.lnt_spans.specs.declared.span.Span as spec;
 ghost use Rattle.lnt_spans.specs.Coming.{GivesFirst};
@@ -9,20 +9,20 @@ use std::marker::Model;
 
 /// Gives spans one after another, from wherever they are held or made.
 ///
-/// Its meaning is in two ghost members: which spans are still to come, in this order, as a relation, since a source
-/// needn't hold them; and a number that no more of them come than.
+/// Two ghost members give its meaning: `to_come`, a relation that says which spans are still to come, in order (a relation,
+/// since a source needn't hold them); and `left`, an upper bound on their number.
 pub trait SpanSource {
     ghost to_come: { Self → List spec.Span → Type 0 };
 
     ghost left: { Self → ℕ };
 
-    /// The next span. None where none is left.
+    /// Gives the next span, or None where none is left.
     fn next_span(&mut self) -> Option<Span>
         ensures gives { (spans : List spec.Span) → to_come self.old spans → GivesFirst (to_come self.new) spans result }
         ensures fewer { IfSome result (λ _. left self.new < left self.old) };
 }
 
-/// All spans of a source. The one error is that memory ran out.
+/// Collects all spans of a source. The one error is that memory ran out.
 pub fn collect<S: SpanSource + Drop>(alloc: Global, spans: S) -> Result<Vec<Span>, AllocError>
     ensures { IfOk result (λ all. (list : List spec.Span) → S.to_come spans list → all.items ≡ list) }
 {
@@ -34,7 +34,7 @@ pub fn collect<S: SpanSource + Drop>(alloc: Global, spans: S) -> Result<Vec<Span
     Ok(all)
 }
 
-/// Spans that lie one after another in memory, as a source of them.
+/// A source of spans over a slice.
 #[derive(Drop)]
 pub struct SpanSlice<'a> {
     rest: &'a [Span],
@@ -50,7 +50,7 @@ impl<'a> Model for SpanSlice<'a> {
 }
 
 impl<'a> SpanSlice<'a> {
-    /// These spans.
+    /// A source of these spans.
     pub fn of(spans: &'a [Span]) -> SpanSlice<'a>
         ensures { result ≡ spans.entry.now }
     {

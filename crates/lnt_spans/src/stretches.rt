@@ -1,4 +1,4 @@
-//! All stretches of positions at which a section and a table answer differently, one after another.
+//! Lists all stretches of positions at which a section and a table answer differently, one after another.
 ghost use Rattle.std.specs.Prelude.{◌≡◌, ◌≢◌, ◌⊎◌, ◌<◌, ◌≤◌, List, [], ◌∷◌, ◌++◌, None, Option, Some, MatchOption, IfSome};
 ghost use Rattle.std.specs.Bool.{MatchBool};
 ghost use Rattle.std.specs.List.{AllByRecursion};
@@ -24,45 +24,45 @@ use crate::scan::{earlier, is_same};
 use crate::source::SpanSource;
 use crate::span::Span;
 
-/// The stretches of positions at which a section and a table answer differently and stay the same two, as the spans of
-/// both come, each from a source of its own.
+/// Gives the stretches: the longest ranges of positions at which a section and a table answer differently and both answers
+/// stay the same. The spans of both sides come as they are needed, each from a source of its own.
 ///
-/// Contracts see which of the stretches were told (`HasTold`), and how many are left at most (`stretches_left`). No list of
-/// them is held: only the next span of each side, and the last two answers. It takes no memory.
+/// Contracts see which stretches were given (`HasTold`), and an upper bound on the number left (`stretches_left`). No list
+/// of them is held: only the next span of each side, and the last two answers. It takes no memory.
 #[derive(Drop)]
 pub struct Differences<S, T> {
     version: Version,
     section: Ahead<S>,
     table: Ahead<T>,
-    // all stretches that begin below it are told
+    // every stretch that begins below `at` was given
     at: Position,
-    // what was answered up to there
+    // both answers right below `at`
     by_section: Option<Answer>,
     by_table: Option<Answer>,
 }
 
-// What is answered up to an end, if there is one.
+// One side's answer, and where it may end; no end where it never does.
 #[derive(Clone, Copy)]
 struct Run {
     answer: Option<Answer>,
     end: Option<Position>,
 }
 
-// What is known where both answers were followed to where one of them ends.
+// What one step found, having followed both answers to the first end of either.
 #[derive(Clone, Copy)]
 enum Step {
-    // They never end: both sides are through.
+    // Neither answer ends: both sides are exhausted.
     Ended,
-    // No stretch begins there.
+    // No new stretch begins.
     Known,
-    // This one does.
+    // This stretch begins.
     Told(Difference),
 }
 
 impl<S: SpanSource, T: SpanSource> Differences<S, T> {
-    /// No stretch is told of a section and a table that begin with the same spans, which end at a position, and of which the
-    /// sources have those after them. The caller sees to it that the spans of both are in order, none is empty, and those
-    /// of the table answer as the version tells answers. With no span before them the position is the origin.
+    /// Starts at `at`, with no stretch given yet, for a section and a table that begin with the same spans up to there; the
+    /// sources give the spans after these. The caller makes sure that the spans of both are in order, that none is empty,
+    /// and that the table's spans answer as the version tells answers. Without any spans in common, `at` is the origin.
     pub fn past(section: S, table: T, version: Version, at: Position) -> Differences<S, T>
         ensures { (by_section : spec_position.Position → Option spec_answer.Answer) (passed spans records : List spec.Span)
             → S.to_come section spans → T.to_come table records
@@ -81,7 +81,7 @@ impl<S: SpanSource, T: SpanSource> Differences<S, T> {
         }
     }
 
-    /// The next stretch: its first position, and the two answers. None where all are told, and these are then exactly the
+    /// Gives the next stretch: its first position and the two answers. None once all were given; those are then exactly the
     /// stretches, in rising order.
     pub fn next_difference(&mut self) -> Option<Difference>
         requires { (by_section : spec_position.Position → Option spec_answer.Answer)
@@ -102,7 +102,7 @@ impl<S: SpanSource, T: SpanSource> Differences<S, T> {
         }
     }
 
-    // Goes on to where one of the two answers ends.
+    // Steps to the next position at which one of the two answers may end.
     fn step(&mut self) -> Step
         requires { (by_section : spec_position.Position → Option spec_answer.Answer)
             × (by_table : spec_position.Position → Option spec_answer.Answer) × (told : List spec_difference.Difference)
@@ -135,7 +135,7 @@ impl<S: SpanSource, T: SpanSource> Differences<S, T> {
     }
 }
 
-// What is answered from a position on, as a version tells answers, and where that ends, if it does.
+// The answer at `at`, as the version tells answers, and where it may end; no end where it never does.
 fn run_at(version: Version, next: Option<Span>, at: Position) -> Run
     ensures end { result.end ≡ run_end at next }
     ensures run { (spans : List spec.Span) → BeginsWith next spans → AreInOrder spans → EndsAfter at spans
@@ -159,7 +159,7 @@ fn run_at(version: Version, next: Option<Span>, at: Position) -> Run
     }
 }
 
-// The earlier of two ends, where there is one.
+// The earlier of two ends; None where both are.
 fn earlier_end(one: Option<Position>, other: Option<Position>) -> Option<Position>
     ensures { MatchOption result ((one ≡ None) × (other ≡ None))
         (λ end. IsUpTo end one × IsUpTo end other × ((one ≡ Some end) ⊎ (other ≡ Some end))) }
@@ -173,7 +173,7 @@ fn earlier_end(one: Option<Position>, other: Option<Position>) -> Option<Positio
     Some(earlier(first, second))
 }
 
-// Goes on past the next span, if it ends there.
+// Drops the next span if it ends at or below `end`.
 fn pass_to<S: SpanSource>(ahead: &mut Ahead<S>, end: Position)
     ensures side { (version : spec_version.Version) (at : spec_position.Position)
         (answers : spec_position.Position → Option spec_answer.Answer) → IsSide S.to_come version ahead.old at answers → IsAtMost at end
@@ -192,7 +192,7 @@ fn pass_to<S: SpanSource>(ahead: &mut Ahead<S>, end: Position)
     }
 }
 
-// Whether two answers are alike, or both as they were.
+// Whether no new stretch begins: both sides answer alike, or each answers as it did before.
 fn is_known(
     section: Option<Answer>,
     table: Option<Answer>,

@@ -1,4 +1,4 @@
--- A number in front of a byte.
+-- A number that ends before a certain byte.
 use Rattle.std.proofs.Common.{◌≡◌, ◌∙◌, ℕ, ◌+◌, ◌*◌, ◌^◌, ◌%◌, ◌<◌, ◌≤◌, Bool, true, false, List, [], ◌∷◌, ◌++◌, length, length-append}
 use Rattle.std.proofs.Common.{get_or, drop, append_assoc, refl, sym, ap, arith}
 use Rattle.std.proofs.Math.Nat.{pow-le-pow_right}
@@ -10,7 +10,7 @@ use Rattle.std.specs.Prelude.{◌&&◌}
 use Rattle.lnt_digits.specs.declared.radix.Radix.{Radix}
 use Rattle.lnt_digits.specs.declared.radix.Radix.TheVariants.{Ten, Sixteen}
 use Rattle.lnt_digits.specs.Digits.{IsAddress, IsDigit, IsHexadecimalDigit, IsNumber, base, digit_value, digits_value}
-use Rattle.lnt_records.specs.Lines.{Begins}
+use Rattle.lnt_digits.specs.Delimited.{Begins}
 
 base_some : (radix : Radix) → 0 < base radix
 base_some Ten = omega arith
@@ -25,7 +25,7 @@ value_push : (radix value c : ℕ) (text : List ℕ) → digits_value radix valu
 value_push radix value c [] = refl
 value_push radix value c (b ∷ text) = value_push radix (value * radix + digit_value b) c text
 
--- From a place up to another the text has digits of this number.
+-- In the text, the indices from `at` up to `i` hold digits of this number.
 pub record HasDigits (radix : Radix) (text : List ℕ) (at i value : ℕ) : Type 0 where
   pub front : List ℕ
   pub joined : drop at text ≡ front ++ drop i text
@@ -56,7 +56,7 @@ digits_more radix text at i value d more lt h is e small m =
       bound = rw (long, m) (bound_more radix value d (length h.front) h.bound small);
     }
 
--- the number before one more decimal digit
+-- one more decimal digit doesn't overflow
 pub room_for_digit : (text : List ℕ) (at i value : ℕ) → HasDigits Ten text at i value → i < at + 19 → value < 10 ^ 18
 room_for_digit text at i value h few =
     let count : length h.front ≤ 18 = omega (arith, few, h.count) in
@@ -64,7 +64,7 @@ room_for_digit text at i value h few =
     let most : 10 ^ length h.front ≤ 10 ^ 18 = pow-le-pow_right some count in
     omega (arith, h.bound, most)
 
--- one more hexadecimal digit, where all so far were such
+-- one more hexadecimal digit; `before` says whether all so far were digits
 pub hexadecimal_more : (text : List ℕ) (at i value worth : ℕ) (before is : Bool) → i < length text
     → (before ≡ true → i ≤ at + 16 → HasDigits Sixteen text at i value)
     → MatchBool is (IsHexadecimalDigit (get_or text i 0)) (IsHexadecimalDigit (get_or text i 0) → ⊥)
@@ -82,7 +82,7 @@ hexadecimal_more text at i value worth true true lt h is says e few =
 hexadecimal_more text at i value worth true false lt h is says e few = absurd (cc e)
 hexadecimal_more text at i value worth false is lt h m says e few = absurd (cc e)
 
--- after 0x
+-- a number after `0x`
 pub address_begins : (s0 s1 s2 rest : List ℕ) (n end : ℕ) → s0 ≡ 48 ∷ s1 → s1 ≡ 120 ∷ s2 → Begins (IsNumber Sixteen) s2 n end rest
     → Begins IsAddress s0 n end rest
 address_begins s0 s1 s2 rest n end e f b = record {
@@ -94,7 +94,7 @@ address_begins s0 s1 s2 rest n end e f b = record {
 no_zero : (n : ℕ) → n ≡ 0 + n
 no_zero n = omega arith
 
--- a lone digit
+-- a single digit
 pub digit_begins : (text rest : List ℕ) (at d end : ℕ) → at < length text → IsDigit Ten (get_or text at 0)
     → d ≡ digit_value (get_or text at 0) → d < 10
     → drop (at + 1) text ≡ end ∷ rest → Begins (IsNumber Ten) (drop at text) d end rest

@@ -1,7 +1,7 @@
 use Rattle.std.proofs.Common.{◌<◌, ◌+◌, ◌*◌, length, refl, arith}
 use Rattle.lnt_digits.specs.declared.radix.Radix.TheVariants.{Ten}
-use Rattle.lnt_records.proofs.FrontLemmas.{digits_more, room_for_digit}
-use Rattle.lnt_records.proofs.front.digits_before.Goals as goal
+use Rattle.lnt_digits.proofs.DelimitedLemmas.{digits_more, room_for_digit}
+use Rattle.lnt_digits.proofs.delimited.digits_until.Goals as goal
 
 pub overflow_mul-value : goal.overflow_mul-value
 overflow_mul-value c =

@@ -1,5 +1,5 @@
-use Rattle.lnt_records.proofs.FrontLemmas.{digit_begins}
-use Rattle.lnt_records.proofs.front.digit_before.Goals as goal
+use Rattle.lnt_digits.proofs.DelimitedLemmas.{digit_begins}
+use Rattle.lnt_digits.proofs.delimited.digit_until.Goals as goal
 
 pub returns : goal.returns
 returns c =

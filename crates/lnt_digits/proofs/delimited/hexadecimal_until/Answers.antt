@@ -1,6 +1,6 @@
 use Rattle.std.proofs.Common.{◌<◌, length, arith}
-use Rattle.lnt_records.proofs.FrontLemmas.{hexadecimal_more}
-use Rattle.lnt_records.proofs.front.hexadecimal_before.Goals as goal
+use Rattle.lnt_digits.proofs.DelimitedLemmas.{hexadecimal_more}
+use Rattle.lnt_digits.proofs.delimited.hexadecimal_until.Goals as goal
 
 pub loop-i-preserved : goal.loop-i-preserved
 loop-i-preserved c =

@@ -1,31 +1,31 @@
-//! Numbers read from a place of a text on, up to a byte after them.
+//! Parses numbers at an index of a text, up to a byte that ends them.
 ghost use Rattle.std.specs.Prelude.{◌≡◌, ◌∷◌, drop, IfSome};
 ghost use Rattle.lnt_digits.specs.Digits.{IsAddress, IsDecimal, IsNumber};
-ghost use Rattle.lnt_records.specs.Lines.{Begins};
+ghost use Rattle.lnt_digits.specs.Delimited.{Begins};
 ghost use Rattle.lnt_digits.specs.declared.radix.Radix.TheVariants.{Sixteen};
 
-use lnt_digits::{decimal_value, is_hexadecimal, letter_or_digit_value};
+use crate::radix::{decimal_value, is_hexadecimal, letter_or_digit_value};
 
-// So many decimal digits are of a number below 2^64 in any case.
+// Numbers of up to 18 decimal digits are always below 2^64.
 const DECIMAL_DIGITS: usize = 18;
 
 const HEXADECIMAL_DIGITS: usize = 16;
 
-/// Parses 1 to 18 decimal digits from `at` on, and the byte `end` after them: gives their value, and the place after that
-/// byte. `None` says nothing of the text: a number may be longer, and is left to `lnt_digits::decimal`.
+/// Parses 1 to 18 decimal digits at `at`, then `end`; gives the value and the next index. `None` says nothing about the
+/// text: a longer number may stand there, and is left to `decimal`.
 #[inline(always)]
-pub fn decimal_before(text: &[u8], at: usize, end: u8) -> Option<(u64, usize)>
+pub fn decimal_until(text: &[u8], at: usize, end: u8) -> Option<(u64, usize)>
     ensures { IfSome result (λ found. Begins IsDecimal (drop at text.now) found.0 end (drop found.1 text.now)) }
 {
-    if let Some(found) = digit_before(text, at, end) {
+    if let Some(found) = digit_until(text, at, end) {
         return Some(found);
     }
-    digits_before(text, at, end)
+    digits_until(text, at, end)
 }
 
-// The same of a single digit, which is tried first: most numbers of a table are that short.
+// Parses one digit, then `end`. It is tried first, since most numbers of a table are that short.
 #[inline(always)]
-fn digit_before(text: &[u8], at: usize, end: u8) -> Option<(u64, usize)>
+fn digit_until(text: &[u8], at: usize, end: u8) -> Option<(u64, usize)>
     ensures { IfSome result (λ found. Begins IsDecimal (drop at text.now) found.0 end (drop found.1 text.now)) }
 {
     if at >= text.len() {
@@ -36,9 +36,9 @@ fn digit_before(text: &[u8], at: usize, end: u8) -> Option<(u64, usize)>
     Some((digit, next))
 }
 
-// The same of 1 to 18 digits. It isn't inlined, since a line has many loops like this one.
+// Parses 1 to 18 digits, then `end`. Not inlined: a line would hold many copies of this loop.
 #[inline(never)]
-fn digits_before(text: &[u8], at: usize, end: u8) -> Option<(u64, usize)>
+fn digits_until(text: &[u8], at: usize, end: u8) -> Option<(u64, usize)>
     ensures { IfSome result (λ found. Begins IsDecimal (drop at text.now) found.0 end (drop found.1 text.now)) }
 {
     let mut value = 0;
@@ -55,18 +55,18 @@ fn digits_before(text: &[u8], at: usize, end: u8) -> Option<(u64, usize)>
     None
 }
 
-/// The same of `0x` and 1 to 16 hexadecimal digits of either case.
+/// Parses `0x`, 1 to 16 hexadecimal digits of either case, then `end`, as `decimal_until` does.
 #[inline(always)]
-pub fn address_before(text: &[u8], at: usize, end: u8) -> Option<(u64, usize)>
+pub fn address_until(text: &[u8], at: usize, end: u8) -> Option<(u64, usize)>
     ensures { IfSome result (λ found. Begins IsAddress (drop at text.now) found.0 end (drop found.1 text.now)) }
 {
     let at = past(text, at, b'0')?;
     let at = past(text, at, b'x')?;
-    let (number, next) = hexadecimal_before(text, at, end)?;
+    let (number, next) = hexadecimal_until(text, at, end)?;
     Some((number, next))
 }
 
-/// The place after `at`, where this byte stands at `at`. `None` where another one does, or the text ends.
+/// The index after `at`, if this byte is at `at`. `None` if another byte is there, or the text ends before.
 #[inline(always)]
 pub fn past(text: &[u8], at: usize, byte: u8) -> Option<usize>
     ensures { IfSome result (λ next. drop at text.now ≡ byte ∷ drop next text.now) }
@@ -78,10 +78,10 @@ pub fn past(text: &[u8], at: usize, byte: u8) -> Option<usize>
     }
 }
 
-// Parses 1 to 16 hexadecimal digits of either case from `at` on, and the byte `end` after them, as `decimal_before`. Whether
-// all of them are digits is asked once, at the end, so that nothing branches on what they are.
+// Parses 1 to 16 hexadecimal digits of either case at `at`, then `end`, as `decimal_until` does. Whether all of them are
+// digits is checked once, at the end, so that the loop has no branch on their values.
 #[inline(never)]
-fn hexadecimal_before(text: &[u8], at: usize, end: u8) -> Option<(u64, usize)>
+fn hexadecimal_until(text: &[u8], at: usize, end: u8) -> Option<(u64, usize)>
     ensures { IfSome result (λ found. Begins (IsNumber Sixteen) (drop at text.now) found.0 end (drop found.1 text.now)) }
 {
     let mut value = 0u64;
