@@ -8,13 +8,7 @@ use Rattle.lnt_spans.specs.declared.answer.Answer.{Answer}
 use Rattle.lnt_spans.specs.declared.difference.Difference.{Difference}
 use Rattle.lnt_spans.specs.declared.position.Position.{Position}
 use Rattle.lnt_spans.specs.Stretches.{AreStretches}
-use Rattle.lnt_text.specs.Texts.{answer_text, position_text}
-
--- that it does so at a position, with both answers
-abbrev pub difference_text : Difference → List ℕ
-difference_text difference =
-    codes "no 40 differs at " ++ (position_text difference.position
-    ++ (codes " table " ++ (answer_text difference.by_table ++ (codes " section " ++ answer_text difference.by_section))))
+use Rattle.lnt_text.specs.Texts.{difference_text}
 
 abbrev pub difference_line : Difference → List ℕ
 difference_line difference = difference_text difference ++ codes "\n"

@@ -3,4 +3,3 @@ pub mod DifferenceLines
 pub mod FileLines
 pub mod Lines
 pub mod SumLines
-pub mod Texts

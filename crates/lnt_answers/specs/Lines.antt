@@ -14,7 +14,7 @@ use Rattle.lnt_lines.specs.Indexed.{file_path_in, Indexed}
 use Rattle.lnt_digits.specs.Digits.{IsAddress, IsDecimal}
 use Rattle.lnt_text.specs.Quotes.{quoted_text}
 use Rattle.lnt_text.specs.Texts.{position_text}
-use Rattle.lnt_answers.specs.Texts.{no_text}
+use Rattle.lnt_lines.specs.FaultTexts.{no_text}
 
 -- the index of a good section was given
 abbrev pub IsIndexGiven : JudgedIndex → Type 0

@@ -1,7 +1,7 @@
 //! Where a table answers otherwise than a section, stretch by stretch.
 ghost use Rattle.std.specs.Prelude.{◌≡◌, ◌∷◌, ◌++◌, [], List, Option, IfErr, IfOk, OnErr, OnOk, Some, codes};
 ghost use Rattle.std.specs.Io.KnownBytes.{Appends};
-ghost use Rattle.lnt_answers.specs.DifferenceLines.{AreDifferencesBegun, difference_line, difference_text};
+ghost use Rattle.lnt_answers.specs.DifferenceLines.{AreDifferencesBegun, difference_line};
 ghost use Rattle.lnt_answers.specs.DifferenceLines.{stretches_status, stretches_text};
 ghost use Rattle.lnt_output.specs.Fronts.{AppendsFront};
 ghost use Rattle.lnt_sources.specs.Halts.{IsPrinting};
@@ -14,25 +14,9 @@ ghost use Rattle.lnt_spans.specs.Stretches.{AreStretches};
 use lnt_output::write_whole;
 use lnt_sources::{Halt, Status};
 use lnt_spans::{Difference, Differences, SpanSource};
-use lnt_text::{AnswerText, PositionText};
+use lnt_text::DifferenceLine;
 use std::alloc::Global;
-use std::fmt;
 use std::io::Write;
-
-/// The line that says where a table answers otherwise than a section, with both answers, without its line feed.
-#[derive(Clone, Copy)]
-pub struct DifferenceLine(pub Difference);
-
-impl fmt::Display for DifferenceLine {
-    ghost output = { λ line. Some (difference_text line.0) };
-
-    fn fmt<W: fmt::Write>(&self, f: &mut fmt::Formatter<W>) -> fmt::Result {
-        let at = PositionText(self.0.position);
-        let table = AnswerText(self.0.by_table);
-        let section = AnswerText(self.0.by_section);
-        write!(f, "no 40 differs at {at} table {table} section {section}")
-    }
-}
 
 /// Prints a line for each stretch of positions at which a table answers otherwise than a section, in rising order, or
 /// `yes` where there is none.

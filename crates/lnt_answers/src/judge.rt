@@ -4,7 +4,6 @@ ghost use Rattle.std.specs.Io.KnownBytes.{Keeps};
 ghost use Rattle.lnt_lines.specs.Drafts.{IsJudgedIndex};
 ghost use Rattle.lnt_answers.specs.Lines.{HasBegunLine, IsIndexGiven, IsTold};
 
-use crate::no::NoLine;
 use lnt_lines::{JudgedIndex, Options, index_section};
 use lnt_output::write_whole;
 use lnt_sources::Halt;
@@ -41,7 +40,7 @@ pub fn judge_section<'s, R: Source, W: Write>(
     match index_section(alloc, section, strings, options) {
         Ok(JudgedIndex::Good(index)) => Ok(JudgedIndex::Good(index)),
         Ok(JudgedIndex::Bad(no)) => {
-            let line = format!(in alloc; "{}\n", NoLine(no))?;
+            let line = format!(in alloc; "{no}\n")?;
             write_whole(out, line.as_bytes())?;
             Ok(JudgedIndex::Bad(no))
         }

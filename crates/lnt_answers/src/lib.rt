@@ -10,13 +10,11 @@ mod differences;
 mod files;
 mod judge;
 mod lookup;
-mod no;
 mod sums;
 
 pub use addresses::print_addresses;
-pub use differences::{DifferenceLine, print_differences};
+pub use differences::print_differences;
 pub use files::print_files;
 pub use judge::judge_section;
 pub use lookup::{print_lookup, print_lookups};
-pub use no::NoLine;
 pub use sums::{lists_sums, print_sums};

@@ -19,7 +19,7 @@ use Rattle.lnt_words.specs.declared.request.Question.TheVariants.{Verify, Lookup
 use Rattle.lnt_table.specs.declared.by_path.Checked.{Checked}
 use Rattle.lnt_answers.specs.Lines.{HasBegunLine}
 use Rattle.lnt_answers.specs.SumLines.{listed_files}
-use Rattle.lnt_answers.specs.Texts.{no_text}
+use Rattle.lnt_lines.specs.FaultTexts.{no_text}
 use Rattle.lnt_answers.proofs.SumLaws.{sums_later}
 use Rattle.lnt_cli.specs.Answered.{AnswersCheck, AreTextsOf, IsChecked, options_in}
 use Rattle.lnt_cli.specs.Stopped.{ArePlacesBegun, BeginsGood, BeginsJudged, BeginsOfFile, BeginsPlaces, BeginsQuestion}

@@ -28,7 +28,7 @@ use Rattle.lnt_table.specs.Stretches.{DiffersFromUnits}
 use Rattle.lnt_table.specs.Verdicts.{no_of_fault}
 use Rattle.lnt_answers.specs.DifferenceLines.{AreDifferencesBegun, stretches_status, stretches_text}
 use Rattle.lnt_cli.specs.Stretches.{AreStretchesBegun, AreToldOf}
-use Rattle.lnt_cli.specs.Verdicts.{table_no_text}
+use Rattle.lnt_table.specs.FaultTexts.{table_no_text}
 
 -- what is printed of stretches, whatever the two answer
 abbrev pub Prints : {S T : Type 0} → (S → List Span → Type 0) → (T → List Span → Type 0) → Differences S T → Option (List ℕ)

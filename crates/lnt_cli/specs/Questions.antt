@@ -24,7 +24,7 @@ use Rattle.lnt_answers.specs.AddressLines.{AreAddressesTold}
 use Rattle.lnt_answers.specs.FileLines.{files_text}
 use Rattle.lnt_answers.specs.Lines.{lookup_line}
 use Rattle.lnt_answers.specs.SumLines.{AreSumsTold, listed_files}
-use Rattle.lnt_answers.specs.Texts.{no_text}
+use Rattle.lnt_lines.specs.FaultTexts.{no_text}
 use Rattle.lnt_cli.specs.PathTables.{IsPrintedTable}
 
 -- It is so of all units that the index is of, by these options.

@@ -25,7 +25,7 @@ use Rattle.lnt_answers.specs.AddressLines.{AreAddressesBegun}
 use Rattle.lnt_answers.specs.FileLines.{files_text}
 use Rattle.lnt_answers.specs.Lines.{lookup_line}
 use Rattle.lnt_answers.specs.SumLines.{AreSumsTold, listed_files}
-use Rattle.lnt_answers.specs.Texts.{no_text}
+use Rattle.lnt_lines.specs.FaultTexts.{no_text}
 use Rattle.lnt_cli.specs.Answered.{AnswersCheck, AreTextsOf, options_in}
 use Rattle.lnt_cli.specs.PathTables.{BeginsPrintedTable}
 use Rattle.lnt_cli.specs.Questions.{ForUnitsOf}

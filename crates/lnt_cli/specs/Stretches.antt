@@ -30,7 +30,8 @@ use Rattle.lnt_cli.specs.declared.stretches.Places.{Places}
 use Rattle.lnt_cli.specs.declared.stretches.Places.TheVariants.{Section, Table}
 use Rattle.lnt_cli.specs.Questions.{ForUnitsOf, IsNoTold}
 use Rattle.lnt_table.specs.Verdicts.{no_of_fault}
-use Rattle.lnt_cli.specs.Verdicts.{path_difference_line, path_stretches_status, path_stretches_text, table_no_text}
+use Rattle.lnt_cli.specs.Verdicts.{path_difference_line, path_stretches_status, path_stretches_text}
+use Rattle.lnt_table.specs.FaultTexts.{table_no_text}
 use Rattle.lnt_lines.specs.declared.options.Options.{Options}
 use Rattle.lnt_lines.specs.Indexed.{Indexed}
 use Rattle.lnt_lines.specs.declared.section.JudgedIndex.{JudgedIndex}

@@ -3,7 +3,8 @@ ghost use Rattle.std.specs.Prelude.{◌≡◌, ◌-◌, ◌^◌, ◌<◌, ◌+�
 ghost use Rattle.std.specs.Prelude.{OnErr, OnOk, codes, string_bytes};
 ghost use Rattle.std.specs.Io.KnownBytes.{Appends, Keeps};
 ghost use Rattle.lnt_cli.specs.Stretches.{ArePathDifferencesBegun, AreStretchesBegun, AreStretchesOf, IsFaultTold};
-ghost use Rattle.lnt_cli.specs.Verdicts.{path_difference_line, path_stretches_status, path_stretches_text, table_no_text};
+ghost use Rattle.lnt_cli.specs.Verdicts.{path_difference_line, path_stretches_status, path_stretches_text};
+ghost use Rattle.lnt_table.specs.FaultTexts.{table_no_text};
 ghost use Rattle.lnt_lines.specs.Indexed.{IsIndexOf};
 ghost use Rattle.lnt_paths.specs.declared.answer.DifferenceByPath.{DifferenceByPath as Spec};
 ghost use Rattle.lnt_paths.specs.PathAnswers.{PathAnswer};
@@ -15,7 +16,7 @@ ghost use Rattle.lnt_spans.specs.declared.position.Position.{Position};
 ghost use Rattle.lnt_table.specs.Verdicts.{no_of_fault};
 ghost use Rattle.lnt_unit.specs.declared.unit.Parts.{Parts};
 
-use crate::verdict::{PathDifferenceLine, TableNoLine};
+use crate::verdict::PathDifferenceLine;
 use lnt_answers::print_differences;
 use lnt_lines::{Index, No};
 use lnt_output::write_whole;
@@ -111,7 +112,7 @@ fn print_fault<W: Write>(alloc: Global, fault: TableFault, out: &mut W) -> Resul
 fn fault_line(alloc: Global, fault: TableFault) -> Result<String, AllocError>
     ensures { IfOk result (λ line. string_bytes line ≡ table_no_text (no_of_fault fault) ++ codes "\n") }
 {
-    format!(in alloc; "{}\n", TableNoLine(TableNo::from(fault)))
+    format!(in alloc; "{}\n", TableNo::from(fault))
 }
 
 // Prints a line for each stretch of positions at which a table by path answers otherwise than a section, in rising order, or

@@ -10,7 +10,7 @@ ghost use Rattle.lnt_cli.specs.Stops.{IsUsage};
 ghost use Rattle.lnt_cli.specs.Verdicts.{checked_text, compared_text, verdict_text};
 
 use crate::stop::{CliStop, halt_of};
-use crate::verdict::{PathDifferenceLine, TableNoLine};
+use crate::verdict::PathDifferenceLine;
 use lnt_lines::Index;
 use lnt_output::write_whole;
 use lnt_sources::{Halt, Status};
@@ -70,7 +70,7 @@ fn verdict_line(alloc: Global, verdict: Verdict) -> Result<String, AllocError>
 {
     match verdict {
         Verdict::Yes => String::from_str(alloc, "yes\n"),
-        Verdict::No(no) => format!(in alloc; "{}\n", TableNoLine(no)),
+        Verdict::No(no) => format!(in alloc; "{no}\n"),
     }
 }
 
@@ -80,9 +80,7 @@ fn compared_line(alloc: Global, compared: &ComparedByPath) -> Result<String, All
 {
     match compared {
         ComparedByPath::Same => String::from_str(alloc, "yes\n"),
-        ComparedByPath::Fault(fault) => {
-            format!(in alloc; "{}\n", TableNoLine(TableNo::from(*fault)))
-        }
+        ComparedByPath::Fault(fault) => { format!(in alloc; "{}\n", TableNo::from(*fault)) }
         ComparedByPath::Differs(difference) => {
             format!(in alloc; "{}\n", PathDifferenceLine(difference))
         }

@@ -1,6 +1,7 @@
 pub mod Contents
 pub mod Cursors
 pub mod Drafts
+pub mod FaultTexts
 pub mod Good
 pub mod Indexed
 pub mod Instructions

@@ -7,8 +7,8 @@ use std::io::{self, ErrorKind, Write};
 
 /// Writes all of these bytes, in order, as `write_all` does.
 ///
-/// On an error, because the writer failed or took nothing, it has gained a prefix of the bytes, and nothing else. A write
-/// that was interrupted is tried again.
+/// On an error the writer, which failed or took nothing, has gained a prefix of the bytes and nothing else. A write that was
+/// interrupted is tried again.
 pub fn write_whole<W: Write>(out: &mut W, bytes: &[u8]) -> io::Result<()>
     ensures whole { OnOk result (Appends (W.contents out.old) (W.contents out.new) bytes.now) }
     ensures front { OnErr result (AppendsFront (W.contents out.old) (W.contents out.new) bytes.now) }

@@ -1,4 +1,4 @@
-//! Laws of tables by path, each the contract of a function without parameters that does nothing.
+//! Laws of tables by path. Each is the contract of a function that takes nothing and does nothing.
 ghost use Rattle.lnt_paths.specs.Laws.{NoPathFault, OneCanonicalOfPaths, OneLeastPathDifference, OnePathComparison, OnePathFault};
 ghost use Rattle.lnt_paths.specs.Laws.{OnePathTable};
 

@@ -16,8 +16,8 @@ use std::alloc::{AllocError, Global};
 
 impl<S: SpanSource + Drop> PathComparison<S> {
     // Parses and compares the records after the header, up to the first line that isn't well formed, has quotes or a number
-    // of more than 18 digits, or has a record that begins too early or is empty. Gives the index of the last line that was
-    // passed: from there `csv` may read on, with that line once more.
+    // of more than 18 digits, or has a record that begins too early or is empty. Gives the index where the last line passed
+    // begins, or 0, the header's, if none was: from there `csv` may read on, with that line once more.
     pub(crate) fn pass_lines<P: Paths>(
         &mut self,
         alloc: Global,

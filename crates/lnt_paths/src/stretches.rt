@@ -401,7 +401,6 @@ fn difference_at<P: Paths>(
     })
 }
 
-// A copy of an answer.
 fn copy_of(alloc: Global, answer: &AnswerByPath) -> Result<AnswerByPath, AllocError>
     ensures { IfOk result (λ copy. told_path_answer copy ≡ told_path_answer answer.now) }
 {

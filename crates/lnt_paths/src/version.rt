@@ -1,7 +1,7 @@
 //! The versions of tables by path, and what came of writing one.
 use lnt_spans::Position;
 
-/// How much an address table by path tells of an answer.
+/// How much of an answer an address table by path tells.
 #[derive(Clone, Copy, Debug, PartialEq, Eq)]
 pub enum PathVersion {
     /// Version 3: path, line and column.

@@ -1,4 +1,4 @@
--- Fields by their columns.
+-- The fields of a record, by column.
 use Rattle.std.proofs.Common.{◌≡◌, ℕ, zero, suc, ◌+◌, ◌<◌, ◌≤◌, List, [], ◌∷◌, Bool, Some, None, get_or, length, sym, subst, arith, ⊎_elim}
 use Rattle.std.proofs.lemmas.Bool.{cases_lt}
 use Rattle.csv.specs.Records.{field_at}

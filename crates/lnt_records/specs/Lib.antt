@@ -1,4 +1,5 @@
 pub mod Differing
+pub mod FaultTexts
 pub mod Faults
 pub mod Laws
 pub mod Lines

@@ -1,8 +1,11 @@
 //! What is wrong with a table, and why a call stopped.
-ghost use Rattle.std.specs.Prelude.{◌≡◌, IfOk, IsErrOf};
+ghost use Rattle.std.specs.Prelude.{◌≡◌, IfOk, IsErrOf, Some};
+ghost use Rattle.lnt_records.specs.FaultTexts.{table_fault_text, write_stop_text};
 
 use lnt_wire::Stop;
 use std::alloc::AllocError;
+use std::error::Error;
+use std::fmt;
 
 /// The first fault of a table. In one record `Fields` comes before `Number`, and `Number` before `Order`. Records and
 /// columns are counted from 0.
@@ -18,6 +21,24 @@ pub enum TableFault {
     Order(u64),
 }
 
+/// What it says of the table, as the line of a No tells it after its number.
+impl fmt::Display for TableFault {
+    ghost output = { λ fault. Some (table_fault_text fault) };
+
+    fn fmt<W: fmt::Write>(&self, f: &mut fmt::Formatter<W>) -> fmt::Result {
+        match *self {
+            TableFault::Header => write!(f, "table header"),
+            TableFault::Fields(record) => write!(f, "table fields record {record}"),
+            TableFault::Number(record, column) => {
+                write!(f, "table number record {record} column {column}")
+            }
+            TableFault::Order(record) => write!(f, "table order record {record}"),
+        }
+    }
+}
+
+impl Error for TableFault {}
+
 /// Why a table wasn't written, or not as a whole.
 #[derive(Clone, Copy, Debug, PartialEq, Eq)]
 pub enum WriteStop {
@@ -26,6 +47,19 @@ pub enum WriteStop {
     /// The writer refused some bytes.
     Write,
 }
+
+impl fmt::Display for WriteStop {
+    ghost output = { λ stop. Some (write_stop_text stop) };
+
+    fn fmt<W: fmt::Write>(&self, f: &mut fmt::Formatter<W>) -> fmt::Result {
+        match self {
+            WriteStop::Memory => write!(f, "out of memory"),
+            WriteStop::Write => write!(f, "cannot write"),
+        }
+    }
+}
+
+impl Error for WriteStop {}
 
 impl From<AllocError> for WriteStop {
     ghost use Rattle.lnt_records.specs.declared.fault.WriteStop.TheVariants.{Memory};

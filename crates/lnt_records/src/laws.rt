@@ -1,4 +1,4 @@
-//! Laws of tables, each the contract of a function without parameters that does nothing.
+//! Laws of tables. Each is the contract of a function that takes nothing and does nothing.
 ghost use Rattle.lnt_records.specs.Laws.{Agreement, NoFault, OneFault, OneTable};
 
 /// Bytes are a table of at most one version and one list of spans.

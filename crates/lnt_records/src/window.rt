@@ -37,7 +37,6 @@ impl Window {
         }
     }
 
-    // The bytes at hand.
     #[inline(always)]
     pub(crate) fn bytes(&self) -> &[u8]
         ensures { result.now ≡ self.now }

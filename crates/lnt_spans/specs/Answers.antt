@@ -1,4 +1,4 @@
--- Answers, and how much of them the versions of the address table tell.
+-- Answers, and how much of them each version of the address table tells.
 use Rattle.std.specs.Prelude.{None}
 use Rattle.lnt_spans.specs.declared.answer.Answer.{Answer}
 use Rattle.lnt_spans.specs.declared.answer.Version.{Version}

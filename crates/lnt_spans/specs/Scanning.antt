@@ -31,7 +31,7 @@ pub record DiffersFirst (version : Version) (spans : List Span) (from to : Posit
   pub differ : difference.by_table ≢ difference.by_section
   pub before : (p : Position) → IsAtMost from p → IsBelow p difference.position → version_answer version spans p ≡ answer
 
--- From `at` up to `end`, which isn't beyond `to`, the spans answer `answer`.
+-- From `at` up to `end`, which lies above `at` and at or below `to`, the spans answer `answer`.
 pub record IsStretch (version : Version) (spans : List Span) (at to : Position) (answer : Option Answer) (end : Position)
     (rest : List Span) : Type 0 where
   pub from : IsBelow at end

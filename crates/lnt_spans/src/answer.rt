@@ -1,17 +1,17 @@
-//! What is answered at a position, and how much of it an address table tells.
+//! Answers at positions, and how much of an answer an address table tells.
 ghost use Rattle.std.specs.Prelude.{◌≡◌};
 ghost use Rattle.lnt_spans.specs.Answers.{narrowed, in_version};
 
-/// How much an address table tells of an answer.
+/// How much of an answer an address table tells.
 #[derive(Clone, Copy, Debug, PartialEq, Eq)]
 pub enum Version {
     /// Unit, file, line, column and `is_stmt`.
     One,
-    /// The instruction set and the discriminator too.
+    /// The same, with the instruction set and the discriminator.
     Two,
 }
 
-/// What version 2 of the address table tells above version 1 (DWARF 5, section 6.2.2).
+/// What version 2 of the address table adds to version 1 (DWARF 5, section 6.2.2).
 #[derive(Clone, Copy, Debug, PartialEq, Eq)]
 pub struct More {
     /// The instruction set.
@@ -38,7 +38,7 @@ pub struct Answer {
 }
 
 impl Answer {
-    /// The answer as version 1 of the address table tells it: with no instruction set and no discriminator.
+    /// The answer as version 1 of the address table tells it: without instruction set and discriminator.
     pub fn narrow(self) -> Answer
         ensures { result ≡ narrowed self }
     {

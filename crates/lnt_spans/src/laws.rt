@@ -1,4 +1,4 @@
-//! Laws of lists of spans, each the contract of a function without parameters that does nothing.
+//! Laws of lists of spans. Each is the contract of a function that takes nothing and does nothing.
 ghost use Rattle.lnt_spans.specs.Laws.{Borders, FirstStretch, OneCanonical};
 
 /// Two lists of spans that are in order, none empty, answer alike at every position if they answer alike wherever a span of

@@ -155,7 +155,6 @@ impl<S: SpanSource + Drop> Merge<S> {
     }
 }
 
-// Whether two spans are the same.
 #[inline(always)]
 fn is_same(one: Span, other: Span) -> bool
     ensures { MatchBool result (one ≡ other) (one ≢ other) }

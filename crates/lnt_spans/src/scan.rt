@@ -94,7 +94,6 @@ pub(crate) fn scan<S: SpanSource>(
     None
 }
 
-// Whether two answers are the same.
 #[inline(always)]
 pub(crate) fn is_same(one: Option<Answer>, other: Option<Answer>) -> bool
     ensures { MatchBool result (one ≡ other) (one ≢ other) }
@@ -102,7 +101,6 @@ pub(crate) fn is_same(one: Option<Answer>, other: Option<Answer>) -> bool
     one == other
 }
 
-// The earlier of two positions.
 #[inline(always)]
 pub(crate) fn earlier(p: Position, q: Position) -> Position
     ensures { (IsBelow q p × (result ≡ q)) ⊎ (IsAtMost p q × (result ≡ p)) }
@@ -110,7 +108,6 @@ pub(crate) fn earlier(p: Position, q: Position) -> Position
     if q.is_below(p) { q } else { p }
 }
 
-// The later of two positions.
 #[inline(always)]
 pub(crate) fn later(p: Position, q: Position) -> Position
     ensures { (IsBelow p q × (result ≡ q)) ⊎ (IsAtMost q p × (result ≡ p)) }

@@ -1,5 +1,6 @@
 pub mod AnyVersion
 pub mod ByPath
+pub mod FaultTexts
 pub mod Headline
 pub mod Laws
 pub mod Stretches

@@ -1,11 +1,14 @@
 //! What a check answers.
-ghost use Rattle.std.specs.Prelude.{◌≡◌, ◌≢◌, IfNone, IfSome};
+ghost use Rattle.std.specs.Prelude.{◌≡◌, ◌≢◌, IfNone, IfSome, Some};
 ghost use Rattle.lnt_records.specs.declared.fault.TableFault.{TableFault as TableFaultSpec};
+ghost use Rattle.lnt_table.specs.FaultTexts.{table_no_text};
 ghost use Rattle.lnt_table.specs.Verdicts.{no_of_fault, verdict_of};
 
 use lnt_lines::No;
 use lnt_records::{Compared, TableFault};
-use lnt_spans::{Answer, Position};
+use lnt_spans::{Answer, Difference, Position};
+use lnt_text::DifferenceLine;
+use std::fmt;
 
 /// Whether a table answers as a section does.
 #[derive(Clone, Copy, Debug, PartialEq, Eq)]
@@ -48,6 +51,35 @@ pub enum TableNo {
         /// What the section answers.
         by_section: Option<Answer>,
     },
+}
+
+/// The line that says so, without its line feed.
+impl fmt::Display for TableNo {
+    ghost output = { λ no. Some (table_no_text no) };
+
+    fn fmt<W: fmt::Write>(&self, f: &mut fmt::Formatter<W>) -> fmt::Result {
+        match *self {
+            TableNo::Section(no) => write!(f, "{no}"),
+            TableNo::Header => write!(f, "no 36 table header"),
+            TableNo::Fields(record) => write!(f, "no 37 table fields record {record}"),
+            TableNo::Number { record, column } => {
+                write!(f, "no 38 table number record {record} column {column}")
+            }
+            TableNo::Order(record) => write!(f, "no 39 table order record {record}"),
+            TableNo::Differs {
+                position,
+                by_table,
+                by_section,
+            } => {
+                let difference = Difference {
+                    position,
+                    by_table,
+                    by_section,
+                };
+                write!(f, "{}", DifferenceLine(difference))
+            }
+        }
+    }
 }
 
 impl From<TableFault> for TableNo {

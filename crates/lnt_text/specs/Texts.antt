@@ -6,6 +6,7 @@ use Rattle.lnt_machine.specs.declared.fault.RunFault.{RunFault}
 use Rattle.lnt_machine.specs.FaultTexts.{run_fault_text}
 use Rattle.lnt_spans.specs.declared.answer.Answer.{Answer}
 use Rattle.lnt_spans.specs.declared.answer.More.{More}
+use Rattle.lnt_spans.specs.declared.difference.Difference.{Difference}
 use Rattle.lnt_spans.specs.declared.position.Position.{Position}
 
 -- a position
@@ -25,6 +26,12 @@ answer_text (Some answer) =
     (decimal answer.file ++ (codes "," ++
     (decimal answer.line ++ (codes "," ++
     (decimal answer.column ++ (codes "," ++ (decimal (if answer.is_stmt then 1 else 0) ++ more_text answer.more))))))))
+
+-- where a table answers otherwise than a section, with both answers
+abbrev pub difference_text : Difference → List ℕ
+difference_text difference =
+    codes "no 40 differs at " ++ (position_text difference.position
+    ++ (codes " table " ++ (answer_text difference.by_table ++ (codes " section " ++ answer_text difference.by_section))))
 
 -- which bytes are refused, and why
 abbrev pub malformed_text : Fault → List ℕ

@@ -3,6 +3,7 @@
 #![tactic(auto)]
 
 mod answer;
+mod difference;
 mod fault;
 mod note;
 mod position;
@@ -10,6 +11,7 @@ mod quoted;
 mod shown;
 
 pub use answer::AnswerText;
+pub use difference::DifferenceLine;
 pub use fault::{MalformedLine, RunLine};
 pub use note::{Argument, Column, Look, Note, RecordRule, StringSection};
 pub use position::PositionText;

@@ -1,4 +1,4 @@
--- The texts that are printed.
+-- The line that says why a section isn't good, as its type prints it.
 use Rattle.std.specs.Prelude.{ℕ, List, ◌++◌, codes, decimal}
 use Rattle.lnt_header.specs.declared.header.EntryTable.{EntryTable}
 use Rattle.lnt_header.specs.declared.header.EntryTable.TheVariants.{Directories, Files}
