@@ -1,4 +1,4 @@
--- The lines of a text that tell positions, where the writer was stopped.
+-- The answers to a text of positions, where the writer was stopped.
 use Rattle.std.proofs.Common.{◌≡◌, ◌∙◌, Bool, false, ℕ, ◌+◌, ◌<◌, ◌≤◌, List, [], ◌∷◌, ◌++◌, length, map}
 use Rattle.std.proofs.Common.{take, drop, Option, Some, None, IfSome}
 use Rattle.std.proofs.Common.{refl, sym, ap, subst, append_assoc, append-nil, arith}
@@ -23,7 +23,7 @@ use Rattle.lnt_answers.proofs.AddressLemmas.{IsTextTold, cut_ended, cut_within, 
 begun_none : (index : Indexed) (op : ℕ) (old : Option (List ℕ)) → AreLinesBegun index op [] old old
 begun_none index op old = record { told = []; lines_are = refl; so = tt; front = λ dead skip units is. front_none old [] }
 
--- those that were told
+-- lines that were all answered
 begun_told : (index : Indexed) (op : ℕ) (texts : List (List ℕ)) (old new : Option (List ℕ)) (s t : Status)
     → AreLinesTold index op texts old new s t → AreLinesBegun index op texts old new
 begun_told index op texts old new s t all = record {
@@ -63,7 +63,7 @@ begun_append index op xs ys old now new s t a b = record {
 
 -- ---- a block
 
--- within the line that ends at a place of the block
+-- within the answer to a line that ends at this index of the block
 pub block_stopped : (index : Indexed) (op : ℕ) (line block left rest : List ℕ) (place : ℕ) (full stripped : List ℕ)
     (old now new : Option (List ℕ)) (s t : Status)
     → IsBlockTold index op line block left rest old now s t → IsCutAt 10 place rest → full ≡ left ++ take place rest
@@ -127,7 +127,7 @@ text_stopped index op (Some text) (Some x) (Some y) line block old then new s be
     ∙ sym (before.cut ∙ ap (λ (z : List ℕ). before.texts ++ lines (line ++ z)) pulls))
     (begun_append index op before.texts begun.texts old then new _ s before.told begun.begun)
 
--- within the last line, that no line feed ends
+-- within the answer to a last line without a line feed
 pub last_stopped : (index : Indexed) (op : ℕ) (start now : Option (List ℕ)) (line : List ℕ) (old then new : Option (List ℕ)) (s : Status)
     (ended : Bool)
     → IsTextTold index op start now line old then s → IsAtEnd now ended → ended ≡ false → 0 < length line

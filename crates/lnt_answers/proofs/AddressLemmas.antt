@@ -1,4 +1,4 @@
--- The lines of a text that tell positions, as its bytes come.
+-- The answers to a text of positions, block by block.
 use Rattle.std.proofs.Common.{◌≡◌, ◌∙◌, ◌==◌, Bool, true, false, cond, IsTrue, ℕ, ◌+◌, ◌<◌, ◌≤◌, List, [], ◌∷◌, ◌++◌, length, map}
 use Rattle.std.proofs.Common.{take, drop, get_or, Option, Some, None, IfSome}
 use Rattle.std.proofs.Common.{refl, sym, ap, subst, append_assoc, append-nil, arith, ⊎_elim}
@@ -54,7 +54,7 @@ line_last b line whole =
     is_some : (text : List ℕ) → 0 < length text → (length text == 0) ≡ false
     is_some text some = grind (arith, nat_tests)
 
--- ---- lines that were told
+-- ---- lines that were answered
 
 pub told_none : (index : Indexed) (op : ℕ) (old : Option (List ℕ)) (status : Status) → AreLinesTold index op [] old old status status
 told_none index op old status =
@@ -108,7 +108,7 @@ pub block_begun : (index : Indexed) (op : ℕ) (line block : List ℕ) (old : Op
 block_begun index op line block old status whole =
     record { texts = []; told = told_none index op old status; cut = λ more. refl; whole = whole }
 
--- the lines up to a place of the block at which the line at hand ends
+-- the lines up to the index of the block at which the current line ends
 pub cut_within : (index : Indexed) (op : ℕ) (line block left rest : List ℕ) (place : ℕ) (full stripped : List ℕ)
     (old now : Option (List ℕ)) (s t : Status)
     → (before : IsBlockTold index op line block left rest old now s t) → IsCutAt 10 place rest → full ≡ left ++ take place rest
@@ -125,7 +125,7 @@ cut_within index op line block left rest place full stripped old now s t before 
     ∙ ap (λ (z : List ℕ). z ∷ lines (back ++ more)) (sym (stripped_is ∙ ap strip_carriage_return full_is)))
     ∙ sym (append_assoc before.texts (stripped ∷ []) (lines (back ++ more)))
 
--- the line at hand ends at a place of the block
+-- the current line ends at this index of the block
 pub block_more : (index : Indexed) (op : ℕ) (line block left rest : List ℕ) (place : ℕ) (next full stripped left' : List ℕ)
     (old now new : Option (List ℕ)) (s t u : Status)
     → IsBlockTold index op line block left rest old now s t → IsCutAt 10 place rest → full ≡ left ++ take place rest
@@ -144,7 +144,7 @@ block_more index op line block left rest place next full stripped left' old now 
     subst (λ (z : List ℕ). IsBlockTold index op line block z next old new s u) (sym left_is)
     (subst (λ (z : List ℕ). IsBlockTold index op line block [] z old new s u) (sym next_is) told_more)
 
--- no line ends in what is left of the block
+-- no line ends in the rest of the block
 pub block_ended : (index : Indexed) (op : ℕ) (line block left rest full : List ℕ) (old now : Option (List ℕ)) (s t : Status)
     → IsBlockTold index op line block left rest old now s t
     → HasNo 10 rest → full ≡ left ++ rest → IsBlockTold index op line block full [] old now s t
@@ -158,7 +158,7 @@ block_ended index op line block left rest full old now s t before none full_is =
 
 -- ---- a whole text
 
--- The lines of the text are these, and those of the line at hand and of what the source still has.
+-- The lines of the text are these, and then those of the current line joined with the bytes that the source still has.
 abbrev pub IsTextCut : Option (List ℕ) → Option (List ℕ) → List (List ℕ) → List ℕ → Type 0
 IsTextCut None now texts line = Unit {0}
 IsTextCut (Some text) None texts line = ⊥
@@ -222,7 +222,7 @@ text_pulled index op start mid now line old new status before pulls = record {
   whole = before.whole;
 }
 
--- The text is at its end: its lines are those told, and the line at hand, if it has a byte.
+-- The text is at its end: its lines are those answered, and the current line, if it isn't empty.
 pub cut_ended : (start now : Option (List ℕ)) (texts : List (List ℕ)) (line : List ℕ) (ended : Bool) → IsTextCut start now texts line
     → IsAtEnd now ended → ended ≡ false
     → IfSome start (λ text. lines text ≡ texts ++ lines line)
@@ -283,7 +283,7 @@ text_kept index op start now line old then new status before kept = record {
   whole = before.whole;
 }
 
--- ---- numbers and fronts, as the code tells them
+-- ---- numbers and fronts, in the code's terms
 
 pub not_empty : (n : ℕ) (line : List ℕ) → n ≡ length line → (n == 0) ≡ false → 0 < length line
 not_empty n line same other = let some = is_some n other in omega (arith, same, some)

@@ -1,4 +1,4 @@
--- The first place of a byte in a text, and the comma of a line.
+-- The first index of a byte in a text, and the comma of a line.
 use Rattle.std.proofs.Common.{◌≡◌, ℕ, ◌==◌, ◌+◌, ◌-◌, ◌<◌, ◌≤◌, true, false, List, drop, length, length-drop, get_or, subst, take, Option}
 use Rattle.std.proofs.Common.{Some, None, refl, arith}
 use Rattle.std.specs.Prelude.{nat_lt}
@@ -34,21 +34,21 @@ place_missing byte text k le before =
     (λ lt. absurd (omega arith)) in
     rw (at, outside_is (length text) (length text) (omega arith)) refl
 
--- no position is told where there is no comma, and the line is no address
+-- a line without a comma that is no address has no position
 pub none_alone : (op : ℕ) (line : List ℕ) (comma : Option ℕ) (place : Position) → comma ≡ None → ((n : ℕ) → IsAddress line n → ⊥)
     → TellsPositionAt op line comma place → ⊥
 none_alone op line comma place e other tells = other place.address (subst (λ (o : Option ℕ). TellsPositionAt op line o place) e tells).0
 
--- nor where no address stands before the comma
+-- nor has one without an address before the comma
 pub none_before : (op : ℕ) (line : List ℕ) (comma : Option ℕ) (place : Position) (k : ℕ) → comma ≡ Some k
     → ((n : ℕ) → IsAddress (take k line) n → ⊥) → TellsPositionAt op line comma place → ⊥
 none_before op line comma place k e other tells = other place.address (subst (λ (o : Option ℕ). TellsPositionAt op line o place) e tells).0
 
--- nor where no number stands after it
+-- nor one without a number after the comma
 pub none_past : (op : ℕ) (line : List ℕ) (comma : Option ℕ) (place : Position) (k : ℕ) → comma ≡ Some k
     → ((n : ℕ) → IsDecimal (drop (k + 1) line) n → ⊥) → TellsPositionAt op line comma place → ⊥
 none_past op line comma place k e other tells = other place.op (subst (λ (o : Option ℕ). TellsPositionAt op line o place) e tells).1
 
--- what stands after a place
+-- the slice from an index to the end
 pub rest_after : (line : List ℕ) (k : ℕ) → take (length line - k) (drop k line) ≡ drop k line
 rest_after line k = take_all (length line - k) (drop k line) (let e = length-drop k line in omega (arith, e))

@@ -16,7 +16,7 @@ use Rattle.lnt_output.specs.Fronts.{AppendsFront}
 use Rattle.lnt_output.proofs.FrontLaws.{front_after, front_before, front_same}
 use Rattle.lnt_answers.specs.DifferenceLines.{AreDifferencesBegun, difference_line}
 
--- A first stretch was told, and others after it, and a writer has gained their lines.
+-- A first stretch was given, and others after it, and a writer has gained their lines.
 pub record HasPrinted {S T : Type 0} (of_section : S → List Span → Type 0) (of_table : T → List Span → Type 0)
     (differences : Differences S T) (f g : Position → Option Answer) (old new : Option (List ℕ)) : Type 0 where
   pub first : Difference
@@ -52,7 +52,7 @@ printed_more of_section of_table before after f g old now new d h told text = re
 
 -- ---- a writer that was stopped
 
--- within the line that there is none
+-- within `yes`, where there is no stretch
 pub stopped_at_none : (f g : Position → Option Answer) (old new : Option (List ℕ)) → AreStretches f g []
     → AppendsFront old new (codes "yes\n")
     → AreDifferencesBegun f g old new
@@ -71,7 +71,7 @@ stopped_at_first of_section of_table differences f g old new d told front =
       front = front_before old new (difference_line d) (flat_map difference_line later.0) front;
     }
 
--- within that of a later one
+-- within the line of a later stretch
 pub stopped_at_more : {S T : Type 0} (of_section : S → List Span → Type 0) (of_table : T → List Span → Type 0)
     (before after : Differences S T) (f g : Position → Option Answer) (old now new : Option (List ℕ)) (d : Difference)
     → (h : HasPrinted of_section of_table before f g old now) → HasTold of_section of_table after f g (h.first ∷ (h.more ++ d ∷ []))

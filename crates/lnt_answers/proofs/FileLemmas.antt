@@ -11,7 +11,7 @@ use Rattle.lnt_output.proofs.FrontLaws.{front_after, front_before, front_same}
 use Rattle.lnt_lines.specs.Indexed.{Indexed}
 use Rattle.lnt_answers.specs.FileLines.{file_record, records_below}
 
--- with one item more, its text is added
+-- the texts of one item more end with its text
 text_of_more : {X : Type 0} (f : X → List ℕ) (items : List X) (i : ℕ) (d : X) → i < length items
     → flat_map f (take (i + 1) items) ≡ flat_map f (take i items) ++ f (get_or items i d)
 text_of_more f items i d lt =
@@ -46,7 +46,7 @@ records_more index unit file a b c before here =
     subst (λ (n : ℕ). Appends a c (records_below index unit n)) next
     (Appends-trans a b c (records_below index unit file) (file_record index unit file) before here)
 
--- those of the files after one
+-- the records up to a file are a front of those up to a later one
 records_after : (index : Indexed) (unit file k : ℕ)
     → (rest : List ℕ) × (records_below index unit (suc file) ++ rest ≡ records_below index unit (k + suc file))
 records_after index unit file zero =

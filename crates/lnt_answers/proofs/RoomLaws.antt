@@ -1,6 +1,6 @@
--- Texts that are made in a room, and then written.
+-- Texts that are made in a buffer (`room`), and then written.
 use Rattle.std.proofs.Common.{◌≡◌, ◌∙◌, ℕ, List, [], ◌++◌, ap}
 
--- the text in a room that was empty, as it is shown
+-- a buffer that was empty has exactly the text
 pub text_in_room : (room made shown text : List ℕ) → room ≡ [] → made ≡ room ++ text → shown ≡ made → shown ≡ text
 text_in_room room made shown text none all same = same ∙ all ∙ ap (λ (l : List ℕ). l ++ text) none

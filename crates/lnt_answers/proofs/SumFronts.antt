@@ -1,4 +1,4 @@
--- Lines of findings, of which a writer has gained a front.
+-- A writer that has gained a front of the lines of findings.
 use Rattle.std.proofs.Common.{◌≡◌, ◌∙◌, ℕ, ◌+◌, ◌-◌, ◌<◌, zero, suc, List, [], ◌∷◌, ◌++◌, append-nil, append_assoc}
 use Rattle.std.proofs.Common.{length, get_or, take, drop}
 use Rattle.std.proofs.Common.{Option, Some, None, IfSome, ap, codes, refl, sym, subst, map, arith, take-append-drop}
@@ -19,7 +19,7 @@ use Rattle.lnt_answers.specs.SumLines.{listed_at, listed_below, listed_in, place
 use Rattle.lnt_answers.proofs.SumLaws.{true_later}
 use Rattle.lnt_answers.proofs.SumLemmas.{sum_listed, true_joined, units_more}
 
--- A writer has gained a front of the lines of findings that are so of these files.
+-- A writer has gained a front of the lines of true findings for these files.
 record HasBegunSums (tells : List ℕ → Option (List ℕ) → Type 0) (index : Indexed) (files : List (ℕ × ℕ)) (old new : Option (List ℕ)) : Type
     0 where
   pub findings : List Finding
@@ -118,7 +118,7 @@ sums_unbegun tells index files old =
       front = front_none old (flat_map (sum_line index) (map unread files));
     })
 
--- a front of the line of what was found of a file
+-- the writer stopped within the line of a file
 pub sum_stopped : (tells : List ℕ → Option (List ℕ) → Type 0) (index : Indexed) (unit file : ℕ) (a b : Option (List ℕ))
     (listed path shown bytes : List ℕ) (found : Option Agreement) → file_sum_in index unit file ≡ Some listed
     → path ≡ path_field (file_path_in index unit file) → shown ≡ path_field (file_path_in index unit file)

@@ -1,4 +1,4 @@
--- What is found of files as less may be told of them.
+-- Findings stay true where more may be told of the files.
 use Rattle.std.proofs.Common.{ℕ, List, [], ◌∷◌, Option, Some, None, IfSome}
 use Rattle.std.specs.List.{AllByRecursion}
 use Rattle.lnt_sources.specs.Files.{TellsNoMore}
@@ -19,7 +19,7 @@ true_of_sum : (tells tells' : Option (List ℕ) → Type 0) (sum : Option (List 
 true_of_sum tells tells' None found later so = tt
 true_of_sum tells tells' (Some listed) found later so = found_later tells tells' listed found later so
 
--- what is so of files of which less may be told is so of them
+-- true findings
 pub true_later : (tells tells' : List ℕ → Option (List ℕ) → Type 0) (index : Indexed) (findings : List Finding) → TellsNoMore tells tells'
     → AllByRecursion (IsTrueFinding tells' index) findings → AllByRecursion (IsTrueFinding tells index) findings
 true_later tells tells' index [] later so = tt
@@ -30,7 +30,7 @@ true_later tells tells' index (finding ∷ findings) later so = (
   true_later tells tells' index findings later so.1,
 )
 
--- the same of what was printed of them
+-- the lines that were printed for them
 pub sums_later : (tells tells' : List ℕ → Option (List ℕ) → Type 0) (index : Indexed) (files : List (ℕ × ℕ)) (old new : Option (List ℕ))
     (status : Status) → TellsNoMore tells tells' → AreSumsTold tells' index files old new status
     → AreSumsTold tells index files old new status

@@ -62,14 +62,14 @@ sums_joined tells tells' index files more a b c s t later so next = record {
 pub sums_none : (tells : List ℕ → Option (List ℕ) → Type 0) (index : Indexed) (a : Option (List ℕ)) → AreSumsTold tells index [] a a Done
 sums_none tells index a = record { findings = []; places = refl; are_true = tt; printed = Appends-nil a; status_is = refl }
 
--- no sum is listed of a file
+-- a file without a listed sum
 pub sum_unlisted : (tells : List ℕ → Option (List ℕ) → Type 0) (index : Indexed) (unit file : ℕ) (a : Option (List ℕ))
     → file_sum_in index unit file ≡ None → AreSumsTold tells index (listed_at index unit file) a a Done
 sum_unlisted tells index unit file a none =
     subst (λ (listed : Option (List ℕ)). AreSumsTold tells index (option_map_or (λ _. (unit, file) ∷ []) listed []) a a Done) (sym none)
     (sums_none tells index a)
 
--- what was found of one of which a sum is listed, and of whose path
+-- a file with a listed sum, its path and the finding
 pub sum_listed : (tells : List ℕ → Option (List ℕ) → Type 0) (index : Indexed) (unit file : ℕ) (a b : Option (List ℕ))
     (listed path shown : List ℕ) (found : Option Agreement) (status : Status) → file_sum_in index unit file ≡ Some listed
     → path ≡ path_field (file_path_in index unit file) → shown ≡ path_field (file_path_in index unit file)

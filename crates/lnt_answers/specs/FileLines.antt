@@ -5,12 +5,12 @@ use Rattle.csv.specs.Writing.{default_writer, row_text}
 use Rattle.hex.specs.Hex.{encode_lower}
 use Rattle.lnt_lines.specs.Indexed.{file_count_in, file_path_in, file_sum_in, Indexed}
 
--- the bytes of a path, if there is one
+-- the bytes of a path; empty where there is none
 abbrev pub path_field : Option (List ℕ) → List ℕ
 path_field (Some path) = path
 path_field None = []
 
--- the hexadecimal digits of a sum, if one is listed
+-- the hexadecimal digits of a sum; empty where none is listed
 abbrev pub sum_field : Option (List ℕ) → List ℕ
 sum_field (Some sum) = encode_lower sum
 sum_field None = []
@@ -21,7 +21,7 @@ file_record index unit file =
     row_text default_writer (decimal unit ∷ decimal file ∷ path_field (file_path_in index unit file)
     ∷ sum_field (file_sum_in index unit file) ∷ [])
 
--- the records of the first files of a unit, so many of them
+-- the records of the first `count` files of a unit
 abbrev pub records_below : Indexed → ℕ → ℕ → List ℕ
 records_below index unit zero = []
 records_below index unit (suc count) = records_below index unit count ++ file_record index unit count
@@ -30,6 +30,6 @@ records_below index unit (suc count) = records_below index unit count ++ file_re
 abbrev pub unit_records : Indexed → ℕ → List ℕ
 unit_records index unit = records_below index unit (file_count_in index unit)
 
--- the names of the columns, and the records of all files of all units
+-- the header, and the records of all files of all units
 abbrev pub files_text : Indexed → List ℕ
 files_text index = codes "unit,file,path,md5\n" ++ flat_map (unit_records index) index.units

@@ -1,4 +1,4 @@
--- What is printed of a section's lines.
+-- The lines that are printed about a section: why it isn't good, and its answers at positions.
 use Rattle.std.specs.Prelude.{◌≡◌, ◌==◌, ◌+◌, Bool, ℕ, List, ◌++◌, drop, take, if◌then◌else◌, None, Option, Some, codes, decimal}
 use Rattle.std.specs.List.{position}
 use Rattle.std.specs.Io.KnownBytes.{Appends, Keeps}
@@ -16,18 +16,18 @@ use Rattle.lnt_text.specs.Quotes.{quoted_text}
 use Rattle.lnt_text.specs.Texts.{position_text}
 use Rattle.lnt_lines.specs.FaultTexts.{no_text}
 
--- the index of a good section was given
+-- The section is good, so its index was given.
 abbrev pub IsIndexGiven : JudgedIndex → Type 0
 IsIndexGiven (Good index) = Unit {0}
 IsIndexGiven (Bad reason) = ⊥
 
--- a writer that held these bytes has gained the line of what is wrong with the section, and nothing of a good one
+-- A writer that held these bytes has gained the line of the reason why the section isn't good; nothing for a good one.
 abbrev pub IsTold : JudgedIndex → Option (List ℕ) → Option (List ℕ) → Type 0
 IsTold (Good index) old new = Keeps old new
 IsTold (Bad reason) old new = Appends old new (no_text reason ++ codes "\n")
 
--- A writer that held these bytes has gained a front of the line of what is so wrong with the section, and nothing else.
---     IsSo    that the section was judged so is true of it
+-- A writer that held these bytes has gained a front of the line of a true reason why the section isn't good, and nothing else.
+--     IsSo    which judgements are true of the section
 pub record HasBegunLine (IsSo : JudgedIndex → Type 0) (old new : Option (List ℕ)) : Type 0 where
   pub reason : No
   pub is_so : IsSo (Bad reason)
@@ -37,7 +37,7 @@ pub record HasBegunLine (IsSo : JudgedIndex → Type 0) (old new : Option (List 
 abbrev pub none_text : Position → List ℕ
 none_text position = position_text position ++ codes " none\n"
 
--- the front of the line of a position that is answered, up to the path of the file
+-- the beginning of the line of a position with an answer: the position, the unit and the file
 abbrev pub place_text : Position → Answer → List ℕ
 place_text position answer =
     position_text position ++ (codes " unit " ++ (decimal answer.unit ++ (codes " file " ++ (decimal answer.file ++ codes " "))))
@@ -47,23 +47,23 @@ row_text answer = codes "line "
     ++ (decimal answer.line ++ (codes " column "
     ++ (decimal answer.column ++ (codes " stmt " ++ decimal (if answer.is_stmt then 1 else 0)))))
 
--- the path of the file after it, if it is there
+-- the end of the line: the path of the file, where there is one
 abbrev pub path_text : Option (List ℕ) → List ℕ
 path_text (Some path) = codes " path " ++ (quoted_text path ++ codes "\n")
 path_text None = codes "\n"
 
--- the line of what is answered at a position
+-- the line of the answer at a position
 abbrev pub answer_line : Indexed → Position → Option Answer → List ℕ
 answer_line index position None = none_text position
 answer_line index position (Some answer) =
     (place_text position answer ++ row_text answer) ++ path_text (file_path_in index answer.unit answer.file)
 
--- the line of what kept sequences answer at a position
+-- the line of the answer that the kept sequences of these units give at a position
 abbrev pub lookup_line : Indexed → Option ℕ → Bool → List (ℕ × Parts) → Position → List ℕ
 lookup_line index dead skip units position = answer_line index position (line_answer dead skip units position)
 
--- What a line with its first comma at such a place tells: an address, and after the comma an operation index. Without a
--- comma it tells an address, and the operation index is that of all such lines.
+-- The position in a line whose first comma is at this index: an address before the comma, and an operation index after it.
+-- A line without a comma is an address, with the operation index `op`.
 abbrev pub TellsPositionAt : ℕ → List ℕ → Option ℕ → Position → Type 0
 TellsPositionAt op line None place = IsAddress line place.address × (place.op ≡ op)
 TellsPositionAt op line (Some comma) place = IsAddress (take comma line) place.address × IsDecimal (drop (comma + 1) line) place.op

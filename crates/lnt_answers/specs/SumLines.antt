@@ -1,5 +1,5 @@
--- What is printed of the files of a good section whose MD5 sums are listed: whether each has its sum (DWARF 5, section 6.2.4.1).
---     tells   what may be told of the files of names
+-- The lines that say whether the files of a good section have their listed MD5 sums (DWARF 5, section 6.2.4.1).
+--     tells   what an opener may tell of the file of a name: its bytes, or None
 use Rattle.std.specs.Prelude.{◌≡◌, ℕ, List, [], ◌∷◌, ◌++◌, map, IfSome, None, Option, Some, codes, decimal, suc, zero}
 use Rattle.std.specs.List.{AllByRecursion, flat_map}
 use Rattle.std.specs.Option.{option_map_or}
@@ -20,7 +20,7 @@ use Rattle.lnt_answers.specs.FileLines.{path_field}
 abbrev pub listed_at : Indexed → ℕ → ℕ → List (ℕ × ℕ)
 listed_at index unit file = option_map_or (λ _. (unit, file) ∷ []) (file_sum_in index unit file) []
 
--- those among the first files of a unit, so many of them
+-- those among the first `count` files of a unit
 abbrev pub listed_below : Indexed → ℕ → ℕ → List (ℕ × ℕ)
 listed_below index unit zero = []
 listed_below index unit (suc count) = listed_below index unit count ++ listed_at index unit count
@@ -31,7 +31,7 @@ listed_in index unit = listed_below index unit (file_count_in index unit)
 abbrev pub listed_files : Indexed → List (ℕ × ℕ)
 listed_files index = flat_map (listed_in index) index.units
 
--- ---- what is found of one
+-- ---- the finding for one file
 
 -- the file of a unit, and whether it has its sum; None where it couldn't be read
 pub record Finding : Type 0 where
@@ -42,13 +42,14 @@ pub record Finding : Type 0 where
 abbrev pub place_of : Finding → ℕ × ℕ
 place_of finding = (finding.unit, finding.file)
 
--- It is so of the bytes that are told of the file. Of one that couldn't be read nothing is said.
+-- The agreement is true of what is told of the file, where that is its bytes. None, for a file that couldn't be read, claims
+-- nothing.
 abbrev pub IsFound : (Option (List ℕ) → Type 0) → List ℕ → Option Agreement → Type 0
 IsFound tells listed None = Unit {0}
 IsFound tells listed (Some agreement) =
     (told : Option (List ℕ)) × tells told × IfSome told (λ bytes. Agrees agreement (md5 bytes) listed)
 
--- That, of the file at the path and of the sum that are listed.
+-- The finding is true of the file at its listed path and of its listed sum.
 abbrev pub IsTrueFinding : (List ℕ → Option (List ℕ) → Type 0) → Indexed → Finding → Type 0
 IsTrueFinding tells index finding =
     IfSome (file_sum_in index finding.unit finding.file)
@@ -70,7 +71,7 @@ sum_line index finding =
     (head_text finding.unit finding.file ++ found_text finding.found)
     ++ (codes " " ++ (quoted_text (path_field (file_path_in index finding.unit finding.file)) ++ codes "\n"))
 
--- how a run ends that tells it
+-- the status for a finding
 abbrev pub found_status : Option Agreement → Status
 found_status (Some Same) = Done
 found_status (Some (Differs sum)) = No
@@ -86,7 +87,7 @@ abbrev pub sums_status : List Finding → Status
 sums_status [] = Done
 sums_status (finding ∷ findings) = both (found_status finding.found) (sums_status findings)
 
--- A writer that held these bytes has gained a line for each of these files and nothing else. What it tells is so.
+-- A writer that held these bytes has gained a line with a true finding for each of these files, and nothing else.
 pub record AreSumsTold (tells : List ℕ → Option (List ℕ) → Type 0) (index : Indexed) (files : List (ℕ × ℕ)) (old new : Option (List ℕ))
     (status : Status) : Type 0 where
   pub findings : List Finding

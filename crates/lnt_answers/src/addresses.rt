@@ -1,4 +1,4 @@
-//! Lookups of the positions that the lines of a text tell.
+//! Lookups of the positions in the lines of a text.
 ghost use Rattle.std.specs.Prelude.{◌≡◌, ◌+◌, ◌-◌, ◌^◌, ◌<◌, ◌==◌, [], ◌∷◌, length, IfErr, IfOk, IfSome, IsErrOf, IsTrue, MatchOption};
 ghost use Rattle.std.specs.Prelude.{◌++◌, OnErr, OnOk, codes};
 ghost use Rattle.std.specs.List.{position};
@@ -24,23 +24,21 @@ use lnt_wire::Source;
 use std::alloc::Global;
 use std::io::Write;
 
-// How many bytes are asked of the lines at once. No less is held between the source and its reader, so that a pull is
-// one read.
+// The number of bytes that a pull asks the source for: as many as the buffer of a file holds, so that a pull is one read.
 const BLOCK: usize = 1 << 16;
 
-/// Prints a line for each line of the text that the source has to give: what is answered at the position that it tells,
-/// as `print_lookup` prints it, or that it is bad.
+/// Prints a line for each line of the text that the source has to give: the answer at its position, as `print_lookup`
+/// prints it, or that the line is bad.
 ///
-/// A line is `ADDRESS` or `ADDRESS,N`, ended by a line feed, of which one carriage return before it is a part, or by the
-/// end of the text. Where N is left out, the operation index is `op`. What one read brought is answered, and the writer
-/// flushed, before the next read.
+/// A line is `ADDRESS` or `ADDRESS,N`, and ends with a line feed, with a carriage return and a line feed, or with the text.
+/// Where N is left out, the operation index is `op`. The lines that end in what one read brought are answered, and the
+/// writer flushed, before the next read.
 ///
-/// It answers `Done` where all lines tell positions, and else `No`, and the writer has then gained these lines, and nothing
-/// else (`AreAddressesTold`). It stops by `Read` only where the source failed, and
-/// by `TooLong` only where it has more bytes than it may give: the lines before are then answered. It stops by `Write`
-/// where the writer failed, and by `Memory`. Where it stops, the writer has gained a front of what is printed of the text's
-/// first lines, and nothing else (`AreAddressesBegun`). The caller sees to it that the number of the source's failures is
-/// below `u64::MAX`.
+/// It answers `Done` where each line has a position, and else `No`. In both cases the writer has gained these lines, and
+/// nothing else (`AreAddressesTold`). It stops by `Read` only where the source failed, and by `TooLong` only where the source
+/// has more bytes than it may give: the lines before are then answered. It stops by `Write` where the writer failed, and by
+/// `Memory`. Where it stops, the writer has gained a front of the lines for the text's first lines, and nothing else
+/// (`AreAddressesBegun`). The caller sees to it that the number of the source's failures is below `u64::MAX`.
 pub fn print_addresses<T: Source, W: Write>(
     alloc: Global,
     index: &Index<'_>,
@@ -82,21 +80,21 @@ pub fn print_addresses<T: Source, W: Write>(
     Ok(asked.status)
 }
 
-// What was asked so far.
+// The state between two pulls.
 #[derive(Drop)]
 struct Asked {
-    // the operation index where a line tells none
+    // the operation index for a line without one
     op: u64,
-    // what came of the line at hand
+    // the bytes of the current line that have come
     line: Vec<u8>,
-    // for the lines that are printed
+    // a buffer for a line to be printed
     room: Vec<u8>,
-    // whether all lines so far told positions
+    // Done where each line so far had a position
     status: Status,
 }
 
 impl Asked {
-    // Answers the lines that end in a block, and keeps what comes after them.
+    // Answers the lines that end in a block, and keeps the bytes after them as the current line.
     fn answer_block<W: Write>(
         &mut self,
         alloc: Global,
@@ -123,7 +121,7 @@ impl Asked {
         Ok(())
     }
 
-    // Answers the line at hand, and begins the next one.
+    // Answers the current line, and empties it for the next one.
     fn answer_line<W: Write>(
         &mut self,
         alloc: Global,
@@ -152,7 +150,7 @@ impl Asked {
     }
 }
 
-// Prints that a line is bad. What says so is made in the room first, whatever that held.
+// Prints that a line is bad. The text is made in `room` first, whose old contents are dropped.
 fn print_bad<W: Write>(line: &[u8], room: &mut Vec<u8>, out: &mut W) -> Result<(), Halt>
     ensures err { IfErr result IsPrinting }
     ensures bad { OnOk result (Appends (W.contents out.old) (W.contents out.new) (codes "bad " ++ (quoted_text line.now ++ codes "\n"))) }
@@ -168,7 +166,7 @@ fn print_bad<W: Write>(line: &[u8], room: &mut Vec<u8>, out: &mut W) -> Result<(
     Ok(())
 }
 
-// Leaves out the carriage return that ends a line.
+// Removes a carriage return at the end of a line.
 fn strip_return(line: &mut Vec<u8>)
     ensures { line.new.items ≡ strip_carriage_return line.old.items }
 {
@@ -177,7 +175,7 @@ fn strip_return(line: &mut Vec<u8>)
     }
 }
 
-// The position that a line tells. None where it tells none.
+// Parses a line `ADDRESS` or `ADDRESS,N`; without N the operation index is `op`. None where the line is neither.
 fn position_in(line: &[u8], op: u64) -> Option<Position>
     ensures { MatchOption result ((position : Spec) → TellsPosition op line.now position → ⊥) (TellsPosition op line.now) }
 {
@@ -193,7 +191,7 @@ fn position_in(line: &[u8], op: u64) -> Option<Position>
     })
 }
 
-// The first place of a byte in a text.
+// The index of the first such byte in a text.
 fn place_of(byte: u8, text: &[u8]) -> Option<usize>
     ensures place { result ≡ position (λ other. other == byte) text.now }
     ensures within { IfSome result (λ place. place < length text.now) }

@@ -1,4 +1,4 @@
-//! Where a table answers otherwise than a section, stretch by stretch.
+//! Prints where the answers of a table and of a section differ, stretch by stretch.
 ghost use Rattle.std.specs.Prelude.{◌≡◌, ◌∷◌, ◌++◌, [], List, Option, IfErr, IfOk, OnErr, OnOk, Some, codes};
 ghost use Rattle.std.specs.Io.KnownBytes.{Appends};
 ghost use Rattle.lnt_answers.specs.DifferenceLines.{AreDifferencesBegun, difference_line};
@@ -18,7 +18,7 @@ use lnt_text::DifferenceLine;
 use std::alloc::Global;
 use std::io::Write;
 
-/// Prints a line for each stretch of positions at which a table answers otherwise than a section, in rising order, or
+/// Prints a line for each stretch of positions at which the answers of a table and of a section differ, in rising order, or
 /// `yes` where there is none.
 ///
 /// It answers `Done` where there is none, and else `No`. It stops by `Write` where the writer failed, and by `Memory`.
@@ -52,7 +52,7 @@ pub fn print_differences<S: SpanSource + Drop, T: SpanSource + Drop, W: Write>(
     Ok(Status::No)
 }
 
-// Prints the line of a stretch. The line is made in the room first, whatever that held.
+// Prints the line of a stretch. The line is made in `room` first, whose old contents are dropped.
 fn print_difference<W: Write>(
     difference: Difference,
     room: &mut Vec<u8>,

@@ -16,9 +16,9 @@ use lnt_sources::{Halt, Status};
 use std::alloc::Global;
 use std::io::Write;
 
-/// Prints a line with the names of the columns, `unit,file,path,md5`, and after it a record for each file of each unit:
-/// the unit's offset and the file's index, from 0 on, as decimal numbers, the whole path, and the listed sum in
-/// hexadecimal, or nothing.
+/// Prints a header, `unit,file,path,md5`, and after it a record for each file of each unit: the unit's offset and the file's
+/// index, counted from 0, as decimal numbers, the whole path, and the listed MD5 sum in hexadecimal, or nothing where none is
+/// listed.
 ///
 /// It answers `Done`. It stops by `Write` where the writer failed, and by `Memory`. Where it stops, the writer has gained
 /// a front of these lines, and nothing else.
@@ -53,7 +53,7 @@ fn print_unit_files<W: Write>(
     Ok(())
 }
 
-// Prints the record of a file. No more than one of them is held.
+// Prints the record of a file. Only this record is held in memory.
 fn print_file<W: Write>(
     alloc: Global,
     index: &Index<'_>,
@@ -74,7 +74,7 @@ fn print_file<W: Write>(
     Ok(())
 }
 
-// Adds the record of a file.
+// Adds the record of a file to the writer, which is between two records before and afterwards.
 fn put_file(
     alloc: Global,
     index: &Index<'_>,
@@ -108,7 +108,7 @@ fn put_file(
     }
 }
 
-// The whole path of a file.
+// The whole path of a file; empty where there is none.
 pub(crate) fn path_of(
     alloc: Global,
     index: &Index<'_>,
@@ -125,7 +125,7 @@ pub(crate) fn path_of(
     }
 }
 
-// The listed sum of a file in hexadecimal digits, or nothing.
+// The listed sum of a file in hexadecimal digits; empty where none is listed.
 fn sum_of(alloc: Global, index: &Index<'_>, unit: u64, file: u64) -> Result<String, Halt>
     ensures ok { IfOk result (λ sum. string_bytes sum ≡ sum_field (file_sum_in index.now unit file)) }
     ensures err { IfErr result (λ halt. halt ≡ Memory) }

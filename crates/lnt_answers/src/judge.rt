@@ -1,4 +1,4 @@
-//! A section that is judged.
+//! Judges a section and prints why one isn't good.
 ghost use Rattle.std.specs.Prelude.{◌≡◌, ◌+◌, ◌-◌, ◌^◌, ◌<◌, ◌⊎◌, IfOk, IfSome, IsErrOf, IsTrue, OnErr};
 ghost use Rattle.std.specs.Io.KnownBytes.{Keeps};
 ghost use Rattle.lnt_lines.specs.Drafts.{IsJudgedIndex};
@@ -11,13 +11,13 @@ use lnt_wire::{Source, Strings};
 use std::alloc::Global;
 use std::io::Write;
 
-/// Judges the section that the source has to give, and prints the line of one that isn't good.
+/// Judges the section that the source has to give, and where it isn't good, prints the line that says why.
 ///
-/// What is given is so of the section (`IsJudgedIndex`): its index where it is good, and the writer is then as before;
-/// else what is wrong with it, and the writer has gained the line that says so, and nothing else. It stops by `Read` only
-/// where the source failed, by `TooLong` only where it has more bytes than it may give, by `Write` where the writer
-/// failed, and by `Memory`. Where it stops, the writer has gained nothing, or a front of the line that says what is so
-/// wrong with the section. The caller sees to it that the number of the source's failures is below `u64::MAX`.
+/// The result is true of the section (`IsJudgedIndex`). Of a good section it is the index, and the writer is as before; else
+/// it is the reason, and the writer has gained the reason's line, and nothing else. It stops by `Read` only where the source
+/// failed, by `TooLong` only where the source has more bytes than it may give, by `Write` where the writer failed, and by
+/// `Memory`. Where it stops, the writer has gained nothing, or a front of the line of a true reason. The caller sees to it
+/// that the number of the source's failures is below `u64::MAX`.
 pub fn judge_section<'s, R: Source, W: Write>(
     alloc: Global,
     section: &mut R,

@@ -1,8 +1,8 @@
-//! What a judged section answers, as text.
+//! Prints the answers of a judged section as text.
 //!
-//! [`judge_section`] prints the line of a section that isn't good, and gives the index of one that is. Of the index
+//! [`judge_section`] gives the index of a good section, and prints why another one isn't good. From the index
 //! [`print_lookups`] and [`print_addresses`] print the answers at positions, [`print_files`] the files, and [`print_sums`]
-//! whether these have the sums that are listed. [`print_differences`] prints where a table answers otherwise.
+//! whether the files have their listed MD5 sums. [`print_differences`] prints where a table's answers differ.
 #![tactic(auto)]
 
 mod addresses;

@@ -1,4 +1,4 @@
-//! What is answered at a position.
+//! Prints the answer at a position.
 ghost use Rattle.std.specs.Prelude.{◌≡◌, Bool, ℕ, List, ◌++◌, Option, IfErr, IfOk, OnErr, OnOk, Some};
 ghost use Rattle.std.specs.Io.KnownBytes.{Appends};
 ghost use Rattle.lnt_sources.specs.declared.status.Status.TheVariants.{Done};
@@ -17,8 +17,8 @@ use lnt_text::{PositionText, Quoted};
 use std::alloc::Global;
 use std::io::Write;
 
-/// Prints the line that says what is answered at the position, with the path of the file. The line is made in the room
-/// first, whatever that held.
+/// Prints the line with the answer at the position and the path of its file, or that there is no answer. The line is made in
+/// `room` first, whose old contents are dropped.
 ///
 /// It answers `Done`. It stops by `Write` where the writer failed, and by `Memory`. Where it stops, the writer has gained
 /// a front of the line, and nothing else.
@@ -45,7 +45,7 @@ pub fn print_lookup<W: Write>(
     Ok(Status::Done)
 }
 
-// Prints the line of what is answered at the position, piece by piece.
+// Prints the line with the answer at the position, piece by piece.
 fn put_lookup<W: Write>(
     alloc: Global,
     index: &Index<'_>,
@@ -81,8 +81,8 @@ fn print_answered<W: Write>(
     Ok(())
 }
 
-/// Prints the lines of `print_lookup` at these positions, in their order. It ends as `print_lookup`: where it stops, the
-/// writer has gained a front of these lines, and nothing else.
+/// Prints the lines of `print_lookup` for these positions, in their order. It answers and stops as `print_lookup` does: where
+/// it stops, the writer has gained a front of these lines, and nothing else.
 pub fn print_lookups<W: Write>(
     alloc: Global,
     index: &Index<'_>,
@@ -104,7 +104,7 @@ pub fn print_lookups<W: Write>(
     Ok(Status::Done)
 }
 
-// Prints the position, and what is answered there but for the path.
+// Prints the position and the answer there, without the path.
 fn print_answer<W: Write>(position: Position, answer: &Answer, out: &mut W) -> Result<(), Halt>
     ensures text { OnOk result (Appends (W.contents out.old) (W.contents out.new) (place_text position answer.now ++ row_text answer.now)) }
 {

@@ -1,4 +1,4 @@
-//! Whether files have the sums that are listed.
+//! Prints whether files have the MD5 sums that are listed for them.
 ghost use Rattle.std.specs.Prelude.{◌≡◌, ◌++◌, IfErr, IfOk, OnErr, OnOk, codes};
 ghost use Rattle.std.specs.Io.KnownBytes.{Appends};
 ghost use Rattle.lnt_output.specs.Fronts.{HasBegun};
@@ -19,12 +19,13 @@ use std::alloc::Global;
 use std::io::Write;
 use std::str;
 
-/// Prints a line for each file with a listed sum, unit by unit: whether the file has it, by the bytes that the opener tells
-/// of the file at its path, and if not, which sum it has; or that it can't be read. Nothing is read of a file named `-`.
+/// Prints a line for each file with a listed MD5 sum, unit by unit: that the bytes which the opener gives for its path have
+/// this sum; or that they don't, and the sum that they have; or that the file can't be read. A file named `-` is never read:
+/// it counts as one that can't be.
 ///
 /// It answers `Done` where all of them have their sums, and `No` where one has another sum or can't be read. It stops by
-/// `Write` where the writer failed, and by `Memory`. Where it stops, the writer has gained a front of lines that are so of
-/// the files, and nothing else. A file that can't be read stops nothing.
+/// `Write` where the writer failed, and by `Memory`. Where it stops, the writer has gained a front of lines that are true of
+/// the files, and nothing else. It doesn't stop for a file that can't be read.
 pub fn print_sums<O: Opener, W: Write>(
     alloc: Global,
     index: &Index<'_>,
@@ -46,7 +47,7 @@ pub fn print_sums<O: Opener, W: Write>(
     Ok(status)
 }
 
-// Prints the lines of the files of the unit at this offset.
+// Prints the lines for the files of the unit at this offset that have a listed sum.
 fn print_unit_sums<O: Opener, W: Write>(
     alloc: Global,
     index: &Index<'_>,
@@ -70,7 +71,7 @@ fn print_unit_sums<O: Opener, W: Write>(
     Ok(status)
 }
 
-// Prints the line of a file, where a sum is listed for it. The line is made in the room first, whatever that held.
+// Prints the line of a file, where a sum is listed for it. The line is made in `room` first, whose old contents are dropped.
 fn print_sum<O: Opener, W: Write>(
     alloc: Global,
     index: &Index<'_>,
@@ -114,7 +115,7 @@ fn found_of<O: Opener>(path: &[u8], listed: &[u8; 16], opener: &mut O) -> Option
     md5_agrees(&mut Counted::new(reader, LIMIT), listed).ok()
 }
 
-// Prints the line of what was found of a file, piece by piece.
+// Prints the line that says what was found for a file, piece by piece.
 fn print_found<W: Write>(
     alloc: Global,
     unit: u64,
@@ -132,7 +133,7 @@ fn print_found<W: Write>(
     Ok(())
 }
 
-// Prints whether a file has its sum, and else its own; or that it can't be read.
+// Prints that a file has its listed sum, or the sum that it has instead, or that it can't be read.
 fn print_agreement<W: Write>(
     alloc: Global,
     found: Option<Agreement>,
@@ -150,7 +151,7 @@ fn print_agreement<W: Write>(
     Ok(())
 }
 
-// How a run ends that tells this.
+// The status for this finding: Done only for a file with its listed sum.
 fn status_of(found: Option<Agreement>) -> Status
     ensures { result ≡ found_status found }
 {
@@ -170,10 +171,10 @@ fn together(first: Status, second: Status) -> Status
     }
 }
 
-/// Whether a sum is listed of any file. It takes no memory.
+/// Whether an MD5 sum is listed for any file. It allocates no memory.
 pub fn lists_sums(index: &Index<'_>) -> bool {
     for unit in index.units() {
-        // Where its first file lists none, none of a unit does: they have one format.
+        // The files of a unit share one format, so where the first has no sum, none has.
         if index.listed(*unit, 0).is_some() {
             return true;
         }

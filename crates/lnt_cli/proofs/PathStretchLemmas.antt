@@ -1,4 +1,4 @@
--- The stretches at which a table by path answers otherwise than the rows of units, told one after another.
+-- The stretches at which a table by path answers otherwise than the rows of units, given one after another.
 use Rattle.std.proofs.Common.{◌≡◌, ◌∙◌, Bool, ℕ, List, [], ◌∷◌, ◌++◌, ◌⊎◌, inl, inr, map, append-nil, Option, Some, None, IfSome, ap, subst, sym}
 use Rattle.std.specs.Io.KnownBytes.{Appends}
 use Rattle.std.specs.List.{flat_map}
@@ -28,7 +28,7 @@ use Rattle.lnt_table.specs.ByPath.{path_at, told_path}
 use Rattle.lnt_cli.specs.Stretches.{ArePathDifferencesBegun, AreStretchesBegun, AreToldByPath}
 use Rattle.lnt_cli.specs.Verdicts.{path_difference_line, path_stretches_status, path_stretches_text}
 
--- A first stretch was told, and others after it, and a writer has gained their lines.
+-- A first stretch was given, and others after it, and a writer has gained their lines.
 pub record HasPrintedByPath {S : Type 0} (to_come : S → List Span → Type 0) (path : ℕ → ℕ → List ℕ) (differences : DifferencesByPath S)
     (f g : Position → Option PathAnswer) (old new : Option (List ℕ)) : Type 0 where
   pub first : DifferenceByPath
@@ -62,7 +62,7 @@ printed_more_path to_come path before after f g old now new d h told text = reco
       (line_alone now new d text));
 }
 
--- what is printed of stretches by path, whatever the two answer
+-- all stretches by path were printed, whatever the two answer
 abbrev pub PrintsByPath : {S : Type 0} → (S → List Span → Type 0) → (ℕ → ℕ → List ℕ) → DifferencesByPath S → Option (List ℕ)
     → Option (List ℕ) → Status → Type 0
 PrintsByPath to_come path differences old new status =
@@ -70,7 +70,7 @@ PrintsByPath to_come path differences old new status =
     → (list : List DifferenceByPath) × ArePathStretches f g list × Appends old new (path_stretches_text list)
     × (status ≡ path_stretches_status list)
 
--- The spans that are held are those of a slice, and the paths are those of the index.
+-- The slice has the held spans, and the paths are those of the index.
 pub told_by_path : {S : Type 0} (to_come : S → List Span → Type 0) (index : Indexed) (path : ℕ → ℕ → List ℕ)
     (differences : DifferencesByPath S) (version : PathVersion) (spans slice : List HeldSpan) (dead : Option ℕ) (skip : Bool)
     (units : List (ℕ × Parts)) (table old new : Option (List ℕ)) (status : Status) → slice ≡ spans → path ≡ path_at index
@@ -112,7 +112,7 @@ stopped_before_path to_come path differences f g old told = inr (record {
   front = front_none old [];
 })
 
--- within the line of the first one
+-- within the line of the first stretch
 pub stopped_first_path : {S : Type 0} (to_come : S → List Span → Type 0) (path : ℕ → ℕ → List ℕ) (differences : DifferencesByPath S)
     (f g : Position → Option PathAnswer) (old new : Option (List ℕ)) (d : DifferenceByPath)
     → HasToldByPath to_come path differences f g (stretches_of (d ∷ [])) → AppendsFront old new (path_difference_line d)
@@ -123,7 +123,7 @@ stopped_first_path to_come path differences f g old new d told front = inr (reco
   front = front_same old new _ _ (sym (append-nil (path_difference_line d))) front;
 })
 
--- before a later one was found
+-- before a later stretch was found
 pub stopped_between_path : {S : Type 0} (to_come : S → List Span → Type 0) (path : ℕ → ℕ → List ℕ) (differences : DifferencesByPath S)
     (f g : Position → Option PathAnswer) (old new : Option (List ℕ)) → HasPrintedByPath to_come path differences f g old new
     → ArePathDifferencesBegun f g old new
@@ -133,7 +133,7 @@ stopped_between_path to_come path differences f g old new h = inr (record {
   front = front_all old new (flat_map path_difference_line (h.first ∷ h.more)) h.text;
 })
 
--- within its line
+-- within the line of a later stretch
 pub stopped_more_path : {S : Type 0} (to_come : S → List Span → Type 0) (path : ℕ → ℕ → List ℕ) (before after : DifferencesByPath S)
     (f g : Position → Option PathAnswer) (old now new : Option (List ℕ)) (d : DifferenceByPath)
     → (h : HasPrintedByPath to_come path before f g old now)
@@ -151,13 +151,13 @@ stopped_more_path to_come path before after f g old now new d h told front =
       front = front_same old new _ _ joined (front_after old now new lines (path_difference_line d) h.text front);
     })
 
--- what has begun of stretches by path, whatever the two answer
+-- a front of the stretches by path was printed, whatever the two answer
 abbrev pub BeginsByPath : {S : Type 0} → (S → List Span → Type 0) → (ℕ → ℕ → List ℕ) → DifferencesByPath S → Option (List ℕ)
     → Option (List ℕ) → Type 0
 BeginsByPath to_come path differences old new =
     (f g : Position → Option PathAnswer) → HasToldByPath to_come path differences f g [] → ArePathDifferencesBegun f g old new
 
--- The spans that are held are those of a slice, and the paths are those of the index.
+-- The slice has the held spans, and the paths are those of the index.
 pub begun_by_path : {S : Type 0} (to_come : S → List Span → Type 0) (index : Indexed) (path : ℕ → ℕ → List ℕ)
     (differences : DifferencesByPath S) (version : PathVersion) (spans slice : List HeldSpan) (dead : Option ℕ) (skip : Bool)
     (units : List (ℕ × Parts)) (table old new : Option (List ℕ)) → slice ≡ spans → path ≡ path_at index

@@ -15,7 +15,7 @@ use Rattle.lnt_answers.proofs.SumLaws.{sums_later}
 use Rattle.lnt_cli.specs.Answered.{AnswersQuestion, AreTextsOf, options_in}
 use Rattle.lnt_cli.specs.Questions.{AnswersGood, AnswersJudged}
 
--- what was answered by less that may be told of files is so by more
+-- an answer stays true where more may be told of the files
 good_later : (tells tells' : List ℕ → Option (List ℕ) → Type 0) (options : Options) (question : Question) (index : Indexed)
     (old new : Option (List ℕ)) (status : Status) → TellsNoMore tells tells' → AnswersGood tells' options question index old new status
     → AnswersGood tells options question index old new status
@@ -35,7 +35,7 @@ judged_later tells tells' options question (Good index) old new status later so 
     good_later tells tells' options question index old new status later so
 judged_later tells tells' options question (Bad reason) old new status later so = so
 
--- What was answered of a section that was judged, as less might be told of files, is the answer to the question.
+-- An answer for a judged section, from a time when less might be told of the files, is the answer to the question.
 pub question_of : {T E : Type 0} (tells tells' : List ℕ → Option (List ℕ) → Type 0) (from : Judging) (question : Question)
     (old new : Option (List ℕ)) (line general : List ℕ) (section : Option (List ℕ)) (ended : Result T E) (status_of : T → Status)
     → AreTextsOf tells from line general → tells from.section.now section → TellsNoMore tells tells'

@@ -15,7 +15,7 @@ use Rattle.lnt_dump.specs.Units.{AreBytes, AreUnitsTold}
 use Rattle.lnt_cli.specs.Readings.{AnswersReading, BeginsReading}
 use Rattle.lnt_cli.specs.Stopped.{StopsRead}
 
--- What is told of a section's units is so of its bytes, where they are told.
+-- The list of a section's units is the answer for its bytes, where these are known.
 pub units_told : (order : Order) (section old new : Option (List ℕ)) (printed : Result Status Halt)
     → IfOk printed (λ status. AreUnitsTold order section old new status)
     → IfOk printed (λ status. IfSome section (λ bytes. AnswersReading order Units bytes old new status))
@@ -23,14 +23,14 @@ units_told order None old new (Ok status) told = tt
 units_told order (Some bytes) old new (Ok status) told = told
 units_told order section old new (Err halt) told = tt
 
--- that a section was dumped, of which nothing is said
+-- a dump, of which nothing is said
 pub dump_told : (order : Order) (ops rows : Bool) (section old new : Option (List ℕ)) (printed : Result Status Halt)
     → IfOk printed (λ status. IfSome section (λ bytes. AnswersReading order (Dump ops rows) bytes old new status))
 dump_told order ops rows None old new (Ok status) = tt
 dump_told order ops rows (Some bytes) old new (Ok status) = tt
 dump_told order ops rows section old new (Err halt) = tt
 
--- what is told of the conversion of a section, however it ends
+-- the conversion of a section, whichever way it ends
 pub conversion_told : (order : Order) (format : Format) (to : Order) (section old new : Option (List ℕ)) (printed : Result Status Halt)
     → IfOk printed (λ status. status ≡ Done → IfSome section (λ bytes. IsPrintedIn (IsConverted order bytes format to) old new))
     → IfOk printed (λ status. status ≡ No → IfSome section (λ bytes. IsRefusalTold order bytes format to old new))
@@ -42,7 +42,7 @@ conversion_told order format to section old new (Err halt) if_done if_no = tt
 
 -- ---- readings that were stopped
 
--- A front of the lines of a section's units is one of those of its bytes, where they are told.
+-- A front of the list of a section's units is a front of the answer for its bytes, where these are known.
 pub units_stopped : (order : Order) (section old new : Option (List ℕ)) (printed : Result Status Halt)
     → OnErr printed (IfSome section AreBytes → HasBegun (AreUnitsTold order section old) old new)
     → OnErr printed (IfSome section (λ bytes. Keeps old new ⊎ BeginsReading order Units bytes old new))
@@ -56,7 +56,7 @@ dump_stopped order ops rows section old new (Ok status) = tt
 dump_stopped order ops rows None old new (Err halt) = tt
 dump_stopped order ops rows (Some bytes) old new (Err halt) = inr tt
 
--- what a reading has begun is so of the section whose file is named
+-- a front of the answer for the section's bytes is one for the named file
 begun_read : (tells : List ℕ → Option (List ℕ) → Type 0) (name : List ℕ) (order : Order) (reading : Reading)
     (section old new : Option (List ℕ)) → tells name section
     → IfSome section (λ bytes. Keeps old new ⊎ BeginsReading order reading bytes old new)
@@ -66,7 +66,7 @@ begun_read tells name order reading (Some bytes) old new told (inl kept) = inl k
 begun_read tells name order reading (Some bytes) old new told (inr begun) =
     inr (record { section_bytes = Some bytes; of_section = told; begun = begun })
 
--- that, where the reading was stopped
+-- the same where the reading was stopped
 pub read_stopped : {T E : Type 0} (tells : List ℕ → Option (List ℕ) → Type 0) (name : List ℕ) (order : Order) (reading : Reading)
     (section old new : Option (List ℕ)) (ended : Result T E)
     → tells name section → IfSome section (λ bytes. Keeps old new ⊎ BeginsReading order reading bytes old new)

@@ -26,7 +26,7 @@ use Rattle.lnt_cli.specs.Stopped.{ArePlacesBegun, BeginsGood, BeginsJudged, Begi
 use Rattle.lnt_cli.specs.Stretches.{AreStretchesBegun}
 use Rattle.lnt_cli.specs.Verdicts.{checked_status, checked_text}
 
--- a front of the line of what a check answers, where that is the answer once its line is printed
+-- a front of the line of a check's result, which is the answer once its line is printed
 check_begun : (tells : List ℕ → Option (List ℕ) → Type 0) (from : Judging) (table : List ℕ) (checked : Checked) (old new : Option (List ℕ))
     → ((before after : Option (List ℕ)) → Appends before after (checked_text checked) → IsChecked tells from table before after checked)
     → AppendsFront old new (checked_text checked) → HasBegun (AnswersCheck tells from table old) old new
@@ -41,7 +41,7 @@ check_begun tells from table checked old new so front = record {
   front = front;
 }
 
--- that, where the check was stopped
+-- the same where the check was stopped
 pub check_stopped : {T E : Type 0} (tells : List ℕ → Option (List ℕ) → Type 0) (from : Judging) (table : List ℕ) (checked : Checked)
     (old new : Option (List ℕ)) (ended : Result T E)
     → ((before after : Option (List ℕ)) → Appends before after (checked_text checked) → IsChecked tells from table before after checked)
@@ -51,7 +51,7 @@ check_stopped tells from table checked old new (Err stop) so front = inr (check_
 
 -- ---- sections that are read
 
--- what is so where the work on a file was stopped is so where the run was stopped for it
+-- what holds where the work on a file was stopped holds where the run was stopped by it
 pub file_stopped : {R T S E : Type 0} (Gained : Type 0) (worked : Result R E) (ended : Result T S) → OnErr ended (IsErr worked)
     → OnErr worked Gained → OnErr ended Gained
 file_stopped Gained worked (Ok value) is gained = tt
@@ -60,7 +60,7 @@ file_stopped Gained (Err halt) (Err stop) is gained = gained
 
 -- ---- questions
 
--- A section was judged so, and a front of the answer to the question was gained.
+-- The writer has gained nothing; or a judgement is true, and the writer has gained a front of its answer to the question.
 abbrev pub Begins : (List ℕ → Option (List ℕ) → Type 0) → Options → Question → (JudgedIndex → Type 0) → Option (List ℕ) → Option (List ℕ)
     → Type 0
 Begins tells options question IsSo old new =
@@ -78,7 +78,7 @@ pub begins_line : {T E : Type 0} (tells : List ℕ → Option (List ℕ) → Typ
 begins_line tells options question IsSo old new (Ok answered) begun = tt
 begins_line tells options question IsSo old new (Err stop) begun = line_begun tells options question IsSo old new begun
 
--- what was gained as less may be told of files is so by more
+-- a front of an answer stays true where more may be told of the files
 good_begun_later : (tells tells' : List ℕ → Option (List ℕ) → Type 0) (options : Options) (question : Question) (index : Indexed)
     (old new : Option (List ℕ)) → TellsNoMore tells tells' → BeginsGood tells' options question index old new
     → BeginsGood tells options question index old new
@@ -103,7 +103,7 @@ judged_begun_later tells tells' options question (Good index) old new later begu
     good_begun_later tells tells' options question index old new later begun
 judged_begun_later tells tells' options question (Bad reason) old new later begun = begun
 
--- What was gained of the answer about a section that was judged, as less might be told of files, is so of the question.
+-- A front of an answer for a judged section, from a time when less might be told of the files, is one to the question.
 pub question_stopped : {T E : Type 0} (tells tells' : List ℕ → Option (List ℕ) → Type 0) (from : Judging) (question : Question)
     (old new : Option (List ℕ)) (line general : List ℕ) (section : Option (List ℕ)) (ended : Result T E)
     → AreTextsOf tells from line general → tells from.section.now section → TellsNoMore tells tells'
@@ -126,7 +126,7 @@ question_stopped tells tells' from question old new line general section (Err st
 
 -- ---- a section and another file
 
--- A section was judged so, and so much of the answer has begun.
+-- The writer has gained nothing; or a judgement is true, and a part of its answer was written.
 abbrev pub BeginsOf : (JudgedIndex → Type 0) → (JudgedIndex → Type 0) → Option (List ℕ) → Option (List ℕ) → Type 0
 BeginsOf IsSo HasBegunOf old new = Keeps old new ⊎ ((judged : JudgedIndex) × IsSo judged × HasBegunOf judged)
 
@@ -138,7 +138,7 @@ begins_bad IsSo HasBegunOf old new (Ok answered) of_bad begun = tt
 begins_bad IsSo HasBegunOf old new (Err stop) of_bad (inl kept) = inl kept
 begins_bad IsSo HasBegunOf old new (Err stop) of_bad (inr line) = inr (Bad line.reason, line.is_so, of_bad line.reason line.front)
 
--- What has begun as the bytes of a file were told is so of that file.
+-- A part of an answer that was written for the bytes of a file was written for that file.
 pub of_file_stopped : {T E : Type 0} (tells : List ℕ → Option (List ℕ) → Type 0) (from : Judging) (file : List ℕ)
     (HasBegunOf : JudgedIndex → Option (List ℕ) → Type 0) (old new : Option (List ℕ)) (line general : List ℕ)
     (section text : Option (List ℕ)) (ended : Result T E)
@@ -164,12 +164,12 @@ of_file_stopped tells from file HasBegunOf old new line general section text (Er
 
 -- ---- all places
 
--- what has begun of the places at which a table answers otherwise than the units that an index is of, whatever they are
+-- a front of the places at which a table answers otherwise than the units that an index was made of, whatever these are
 abbrev pub BeginsStretches : Indexed → Option (List ℕ) → Option (List ℕ) → Option (List ℕ) → Type 0
 BeginsStretches index table old new = Keeps old new ⊎ ((dead : Option ℕ) (skip : Bool) (units : List (ℕ × Parts))
     → IsIndexOf dead skip units index → IfSome table (λ text. AreStretchesBegun index dead skip units text old new))
 
--- That, of the units of a section that was judged.
+-- The same for the units of a section that was judged.
 places_begun : {T E : Type 0} (IsSo : JudgedIndex → Type 0) (options : Options) (index : Indexed) (table old new : Option (List ℕ))
     (ended : Result T E) → IsSo (Good index) → OnErr ended (BeginsStretches index table old new)
     → OnErr ended (BeginsOf IsSo (λ judged. ArePlacesBegun options judged table old new) old new)
@@ -178,7 +178,7 @@ places_begun IsSo options index table old new (Err halt) so (inl kept) = inl kep
 places_begun IsSo options index table old new (Err halt) so (inr begun) =
     inr (Good index, so, λ units of_index. begun options.dead options.skip_copies units of_index)
 
--- What has begun of a good section's places is so of the table of this name; nothing was written before.
+-- A front of the places of a good section is one for the table in the file of this name; nothing was written before.
 pub places_stopped : {R T S E : Type 0} (tells : List ℕ → Option (List ℕ) → Type 0) (from : Judging) (file : List ℕ)
     (old now new : Option (List ℕ)) (line general : List ℕ) (section table : Option (List ℕ)) (index : Indexed) (worked : Result R E)
     (ended : Result T S)

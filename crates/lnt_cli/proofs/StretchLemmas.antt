@@ -1,4 +1,4 @@
--- What is told of the stretches at which a table answers otherwise than the rows of units.
+-- The lines of the stretches at which a table answers otherwise than the rows of units.
 use Rattle.std.proofs.Common.{◌≡◌, ◌≢◌, Bool, ℕ, List, [], ◌∷◌, ◌++◌, ◌⊎◌, inl, inr, Option, Some, None, IfSome, ap, codes, subst}
 use Rattle.std.specs.Io.KnownBytes.{Appends}
 use Rattle.lnt_output.specs.Fronts.{AppendsFront}
@@ -30,14 +30,14 @@ use Rattle.lnt_answers.specs.DifferenceLines.{AreDifferencesBegun, stretches_sta
 use Rattle.lnt_cli.specs.Stretches.{AreStretchesBegun, AreToldOf}
 use Rattle.lnt_table.specs.FaultTexts.{table_no_text}
 
--- what is printed of stretches, whatever the two answer
+-- all stretches were printed, whatever the two answer
 abbrev pub Prints : {S T : Type 0} → (S → List Span → Type 0) → (T → List Span → Type 0) → Differences S T → Option (List ℕ)
     → Option (List ℕ) → Status → Type 0
 Prints of_section of_table differences old new status =
     (f g : Position → Option Answer) → HasTold of_section of_table differences f g []
     → (list : List Difference) × AreStretches f g list × Appends old new (stretches_text list) × (status ≡ stretches_status list)
 
--- What was printed is of the differences that were found.
+-- The stretches that were printed are those of the differences that were given.
 pub told_of : {S : Type 0} (of_section : Remaining S → List Span → Type 0) (of_table : SpanList → List Span → Type 0)
     (differences given : Differences (Remaining S) SpanList) (dead : Option ℕ) (skip : Bool)
     (units : List (ℕ × Parts)) (table old new : Option (List ℕ)) (status : Status)
@@ -62,13 +62,13 @@ told_of {S} of_section of_table differences given dead skip units (Some text) ol
 
 -- ---- a writer that was stopped
 
--- what has begun of stretches, whatever the two answer
+-- a front of the stretches was printed, whatever the two answer
 abbrev pub BeginsStretches : {S T : Type 0} → (S → List Span → Type 0) → (T → List Span → Type 0) → Differences S T → Option (List ℕ)
     → Option (List ℕ) → Type 0
 BeginsStretches of_section of_table differences old new =
     (f g : Position → Option Answer) → HasTold of_section of_table differences f g [] → AreDifferencesBegun f g old new
 
--- What has begun is of the differences that were found.
+-- The front that was printed is one of the stretches of the differences that were given.
 pub begun_of : {S : Type 0} (of_section : Remaining S → List Span → Type 0) (of_table : SpanList → List Span → Type 0)
     (differences given : Differences (Remaining S) SpanList) (index : Indexed) (dead : Option ℕ) (skip : Bool)
     (units : List (ℕ × Parts)) (table old new : Option (List ℕ))
@@ -87,11 +87,11 @@ begun_of {S} of_section of_table differences given index dead skip units (Some t
           (told_answer table.version dead skip units) (span_answer table.spans) table.told;
     }))
 
--- What was found is another thing than the fault of the header.
+-- The outcome isn't the fault of the header.
 abbrev pub IsNoHeader : {S : Type 0} → Differing S → Type 0
 IsNoHeader found = found ≢ Fault fault.Header
 
--- within the line of the fault of a table of numbers
+-- within the line of the fault of a table of version 1 or 2
 pub fault_begun : (S : Type 0) (index : Indexed) (dead : Option ℕ) (skip : Bool) (units : List (ℕ × Parts)) (table old new : Option (List ℕ))
     (told : TableFault) → IfSome table (λ text. IsFault text told × IsNoHeader {S = S} (Fault told))
     → AppendsFront old new (table_no_text (no_of_fault told) ++ codes "\n")
@@ -100,7 +100,7 @@ fault_begun S index dead skip units None old new told is front = tt
 fault_begun S index dead skip units (Some text) old new told is front =
     inl (record { told = told; is_so = (is.0, λ e. is.1 (ap (λ (t : TableFault). Fault t) e)); front = front })
 
--- within that of the fault of a table by path
+-- within the line of the fault of a table by path
 pub path_fault_begun : (index : Indexed) (dead : Option ℕ) (skip : Bool) (units : List (ℕ × Parts)) (table old new : Option (List ℕ))
     (told : TableFault)
     → IfSome table (λ text. ((numbered : Version) → BeginsWith text (column_names numbered ∷ []) → ⊥) × IsPathFault text told)

@@ -1,5 +1,5 @@
--- What is answered, and of which bytes it is so.
---     tells       what may be told of the files of names as the run begins
+-- The answers to requests, and the bytes of which they are true.
+--     tells       what an opener may tell of the file of a name, as the run begins
 --     old, new    what the writer of the answer holds before and afterwards
 use Rattle.std.specs.Prelude.{◌≡◌, ℕ, List, [], Option, None, Some, IfSome, true, false, string_bytes}
 use Rattle.std.specs.Option.{option_copied}
@@ -23,11 +23,11 @@ use Rattle.lnt_cli.specs.Readings.{AnswersReading}
 use Rattle.lnt_cli.specs.Stretches.{ArePlacesTold}
 use Rattle.lnt_cli.specs.Verdicts.{checked_status, checked_text}
 
--- how a section is to be read
+-- the options with which a section is read and judged
 abbrev pub options_in : Judging → Options
 options_in from = record { order = from.order; dead = from.dead; skip_copies = from.skip_copies }
 
--- the bytes of a string section: those of its file, or none where no file is named
+-- the bytes of a string section: those of its file; empty where no file is named
 abbrev pub AreStringsOf : (List ℕ → Option (List ℕ) → Type 0) → Option (List ℕ) → List ℕ → Type 0
 AreStringsOf tells None bytes = bytes ≡ []
 AreStringsOf tells (Some name) bytes = AreBytesOf (tells name) bytes
@@ -37,8 +37,8 @@ pub record AreTextsOf (tells : List ℕ → Option (List ℕ) → Type 0) (from 
   pub line_is : AreStringsOf tells (option_copied from.line_strings) line
   pub general_is : AreStringsOf tells (option_copied from.strings) general
 
--- What the check answers is true of the section and the table, of any version, whose files are named, and the writer has gained
--- its line and nothing else.
+-- The check's answer is true of the section and of the table, of any version, in the named files, and the writer has gained its
+-- line and nothing else.
 pub record IsChecked (tells : List ℕ → Option (List ℕ) → Type 0) (from : Judging) (table : List ℕ)
     (old new : Option (List ℕ)) (checked : Checked) : Type 0 where
   pub line : List ℕ
@@ -52,7 +52,7 @@ pub record IsChecked (tells : List ℕ → Option (List ℕ) → Type 0) (from :
       IsTrueCheck line general (options_in from) section text checked))
   pub printed : Appends old new (checked_text checked)
 
--- That, and the run ends as the answer is.
+-- The writer has gained the line of such an answer, and the run ends with that answer's status.
 pub record AnswersCheck (tells : List ℕ → Option (List ℕ) → Type 0) (from : Judging) (table : List ℕ)
     (old new : Option (List ℕ)) (status : Status) : Type 0 where
   pub checked : Checked
@@ -61,7 +61,7 @@ pub record AnswersCheck (tells : List ℕ → Option (List ℕ) → Type 0) (fro
 
 -- ---- sections that are judged
 
--- What is told of the section whose file is named is so, and this is the answer to the question.
+-- The judgement of the section in the named file is true, and the writer has gained the answer to the question.
 pub record AnswersQuestion (tells : List ℕ → Option (List ℕ) → Type 0) (from : Judging) (question : Question) (old new : Option (List ℕ))
     (status : Status) : Type 0 where
   pub line : List ℕ
@@ -73,8 +73,8 @@ pub record AnswersQuestion (tells : List ℕ → Option (List ℕ) → Type 0) (
   pub is_true : IfSome section_bytes (λ section. IsJudgedIndex line general (options_in from) section judged)
   pub answered : AnswersJudged tells (options_in from) question judged old new status
 
--- What is told of the section whose file is named is so, and this is the answer to the text of the file of this name, whose lines
--- tell positions.
+-- The judgement of the section in the named file is true, and the writer has gained the answers to the positions in the lines
+-- of the file of this name.
 pub record AnswersAddresses (tells : List ℕ → Option (List ℕ) → Type 0) (from : Judging) (file : List ℕ) (op : ℕ)
     (old new : Option (List ℕ)) (status : Status) : Type 0 where
   pub line : List ℕ
@@ -88,7 +88,8 @@ pub record AnswersAddresses (tells : List ℕ → Option (List ℕ) → Type 0) 
   pub of_text : tells file text_bytes
   pub answered : AnswersAddressesJudged judged op text_bytes old new status
 
--- What is told of the section whose file is named is so, and so are the places at which the table of its name answers otherwise.
+-- The judgement of the section in the named file is true, and the writer has gained the lines of the places at which the table
+-- in the file of this name answers otherwise.
 pub record AnswersPlaces (tells : List ℕ → Option (List ℕ) → Type 0) (from : Judging) (table : List ℕ) (old new : Option (List ℕ))
     (status : Status) : Type 0 where
   pub line : List ℕ
@@ -104,7 +105,7 @@ pub record AnswersPlaces (tells : List ℕ → Option (List ℕ) → Type 0) (fr
 
 -- ---- sections that are read
 
--- So it is of the section whose file is named.
+-- The writer has gained the answer of this reading, for the section in the named file.
 pub record AnswersRead (tells : List ℕ → Option (List ℕ) → Type 0) (section : List ℕ) (order : Order) (reading : Reading)
     (old new : Option (List ℕ)) (status : Status) : Type 0 where
   pub section_bytes : Option (List ℕ)
@@ -113,7 +114,7 @@ pub record AnswersRead (tells : List ℕ → Option (List ℕ) → Type 0) (sect
 
 -- ---- requests
 
--- What is answered to a request.
+-- The answer to a request.
 abbrev pub IsAnswered : (List ℕ → Option (List ℕ) → Type 0) → Request → Option (List ℕ) → Option (List ℕ) → Status → Type 0
 IsAnswered tells (Help text) old new status = Appends old new (string_bytes text) × (status ≡ Done)
 IsAnswered tells (Read section order reading) old new status = AnswersRead tells section.now order reading old new status

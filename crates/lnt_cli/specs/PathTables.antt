@@ -1,4 +1,4 @@
--- What `table` prints where it tells the paths of files.
+-- What `table` prints for a table by path.
 use Rattle.std.specs.Prelude.{ℕ, List, ◌++◌, ◌⊎◌, Option, codes}
 use Rattle.std.specs.Io.KnownBytes.{Appends}
 use Rattle.lnt_output.specs.Fronts.{AppendsFront}
@@ -10,19 +10,19 @@ use Rattle.lnt_paths.specs.Written.{BeginsPathTable, HasOperationIndex, IsCanoni
 use Rattle.lnt_spans.specs.declared.position.Position.{Position}
 use Rattle.lnt_text.specs.Texts.{position_text}
 
--- that a span begins or ends at an operation index other than 0
+-- the line that a span begins or ends at this position, with an operation index other than 0
 abbrev pub operation_line : Position → List ℕ
 operation_line position = codes "no 43 operation index at " ++ (position_text position ++ codes "\n")
 
--- A writer that held these bytes has gained the table of what is answered so; or, where there can't be one, the line that
--- says the least position which it can't tell.
+-- A writer that held these bytes has gained the table with these answers; or, where there can't be one, the line of the least
+-- position that such a table can't tell.
 abbrev pub IsPrintedTable : PathVersion → (Position → Option PathAnswer) → Option (List ℕ) → Option (List ℕ) → Status → Type 0
 IsPrintedTable version answers old new Done = (bytes : List ℕ) × Appends old new bytes × IsCanonicalPathTable version answers bytes
 IsPrintedTable version answers old new No =
     (position : Position) × Appends old new (operation_line position) × HasOperationIndex answers position
 
--- A writer that was stopped has gained a front of the names of the columns and the lines of the first canonical spans; or, where
--- there can't be a table, a front of that line.
+-- A writer that was stopped has gained a front of the column names and the lines of the first canonical spans; or, where there
+-- can't be a table, a front of that line.
 abbrev pub BeginsPrintedTable : PathVersion → (Position → Option PathAnswer) → Option (List ℕ) → Option (List ℕ) → Type 0
 BeginsPrintedTable version answers old new = BeginsPathTable version answers old new
     ⊎ ((position : Position) × AppendsFront old new (operation_line position) × HasOperationIndex answers position)

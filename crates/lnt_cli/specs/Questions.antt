@@ -1,5 +1,5 @@
--- What is answered to a question about a section that was judged.
---     tells       what may be told of the files of names
+-- The answer to a question about a section that was judged.
+--     tells       what an opener may tell of the file of a name
 --     old, new    what the writer of the answer holds before and afterwards
 use Rattle.std.specs.Prelude.{◌≡◌, ℕ, List, ◌++◌, Option, true, false, codes}
 use Rattle.std.specs.List.{flat_map}
@@ -27,28 +27,28 @@ use Rattle.lnt_answers.specs.SumLines.{AreSumsTold, listed_files}
 use Rattle.lnt_lines.specs.FaultTexts.{no_text}
 use Rattle.lnt_cli.specs.PathTables.{IsPrintedTable}
 
--- It is so of all units that the index is of, by these options.
+-- It holds for all units that the index may have been made of, with these options.
 abbrev pub ForUnitsOf : Options → Indexed → (List (ℕ × Parts) → Type 0) → Type 0
 ForUnitsOf options index IsSo = (units : List (ℕ × Parts)) → IsIndexOf options.dead options.skip_copies units index → IsSo units
 
--- The line of what the units answer at each of these positions was printed, and nothing else.
+-- The line of the units' answer at each of these positions was printed, and nothing else.
 abbrev pub AreLookupsTold : Options → Indexed → List Position → Option (List ℕ) → Option (List ℕ) → Type 0
 AreLookupsTold options index positions old new =
     ForUnitsOf options index (λ units. Appends old new (flat_map (lookup_line index options.dead options.skip_copies units) positions))
 
--- The table of what the units answer was printed, and nothing else.
+-- The table of the units' answers was printed, and nothing else.
 abbrev pub IsTableTold : Version → Options → Indexed → Option (List ℕ) → Option (List ℕ) → Type 0
 IsTableTold version options index old new =
     (bytes : List ℕ) × Appends old new bytes × ForUnitsOf options index
     (λ units. IsTableOfUnits version options.dead options.skip_copies units bytes)
 
--- The same of the table by path, or that it can't be.
+-- The same for the table by path; or the line that there can't be one.
 abbrev pub IsPathTableTold : PathVersion → Options → Indexed → Option (List ℕ) → Option (List ℕ) → Status → Type 0
 IsPathTableTold version options index old new status =
     ForUnitsOf options index (λ units. IsPrintedTable version (told_path version index options.dead options.skip_copies units) old new
     status)
 
--- What is answered of a good section with this index.
+-- The answer for a good section with this index.
 abbrev pub AnswersGood : (List ℕ → Option (List ℕ) → Type 0) → Options → Question → Indexed → Option (List ℕ) → Option (List ℕ) → Status
     → Type 0
 AnswersGood tells options Verify index old new status = Appends old new (codes "yes\n") × (status ≡ ending.Done)
@@ -60,17 +60,17 @@ AnswersGood tells options (TableByPath true) index old new status = IsPathTableT
 AnswersGood tells options (TableByPath false) index old new status = IsPathTableTold Four options index old new status
 AnswersGood tells options Md5 index old new status = AreSumsTold tells index (listed_files index) old new status
 
--- The line of what is wrong with the section was printed, and nothing else, and the run ends so.
+-- The line of why the section isn't good was printed, and nothing else, and the run ends with No.
 abbrev pub IsNoTold : No → Option (List ℕ) → Option (List ℕ) → Status → Type 0
 IsNoTold reason old new status = Appends old new (no_text reason ++ codes "\n") × (status ≡ ending.No)
 
--- What is answered of a section that was judged so.
+-- The answer for a section with this judgement.
 abbrev pub AnswersJudged : (List ℕ → Option (List ℕ) → Type 0) → Options → Question → JudgedIndex → Option (List ℕ) → Option (List ℕ)
     → Status → Type 0
 AnswersJudged tells options question (Good index) old new status = AnswersGood tells options question index old new status
 AnswersJudged tells options question (Bad reason) old new status = IsNoTold reason old new status
 
--- What is answered to a text whose lines tell positions, where the section was judged so.
+-- The answer to a text of positions, for a section with this judgement.
 abbrev pub AnswersAddressesJudged : JudgedIndex → ℕ → Option (List ℕ) → Option (List ℕ) → Option (List ℕ) → Status → Type 0
 AnswersAddressesJudged (Good index) op text old new status = AreAddressesTold index op text old new status
 AnswersAddressesJudged (Bad reason) op text old new status = IsNoTold reason old new status

@@ -1,5 +1,5 @@
 -- What the writer of the answer has gained where the answer to a request was stopped: nothing, or a front of an answer.
---     tells       what may be told of the files of names as the run begins
+--     tells       what an opener may tell of the file of a name, as the run begins
 --     old, new    what that writer holds before and afterwards
 use Rattle.std.specs.Prelude.{ℕ, List, ◌++◌, ◌⊎◌, Option, IfSome, true, false, codes, string_bytes}
 use Rattle.std.specs.List.{flat_map}
@@ -34,12 +34,12 @@ use Rattle.lnt_cli.specs.Stretches.{AreStretchesBegun}
 
 -- ---- sections that are judged
 
--- a front of the table by path of what the units answer, or of the line that there can't be one
+-- a front of the table by path of the units' answers, or of the line that there can't be one
 abbrev pub BeginsTableByPath : PathVersion → Options → Indexed → Option (List ℕ) → Option (List ℕ) → Type 0
 BeginsTableByPath version options index old new =
     ForUnitsOf options index (λ units. BeginsPrintedTable version (told_path version index options.dead options.skip_copies units) old new)
 
--- A front of what is answered of a good section with this index: of a table, one of the names of its columns and its first lines.
+-- A front of the answer for a good section with this index; of a table, a front of its column names and first lines.
 abbrev pub BeginsGood : (List ℕ → Option (List ℕ) → Type 0) → Options → Question → Indexed → Option (List ℕ) → Option (List ℕ) → Type 0
 BeginsGood tells options Verify index old new = AppendsFront old new (codes "yes\n")
 BeginsGood tells options (Lookup positions) index old new =
@@ -52,13 +52,13 @@ BeginsGood tells options (Table version) index old new =
 BeginsGood tells options (TableByPath true) index old new = BeginsTableByPath Three options index old new
 BeginsGood tells options (TableByPath false) index old new = BeginsTableByPath Four options index old new
 
--- A front of what is answered of a section that was judged so.
+-- A front of the answer for a section with this judgement.
 abbrev pub BeginsJudged : (List ℕ → Option (List ℕ) → Type 0) → Options → Question → JudgedIndex → Option (List ℕ) → Option (List ℕ)
     → Type 0
 BeginsJudged tells options question (Good index) old new = BeginsGood tells options question index old new
 BeginsJudged tells options question (Bad reason) old new = AppendsFront old new (no_text reason ++ codes "\n")
 
--- What is told of the section whose file is named is so, and the writer has gained a front of the answer to the question.
+-- The judgement of the section in the named file is true, and the writer has gained a front of the answer to the question.
 pub record BeginsQuestion (tells : List ℕ → Option (List ℕ) → Type 0) (from : Judging) (question : Question) (old new : Option (List ℕ))
     : Type 0 where
   pub line : List ℕ
@@ -70,20 +70,20 @@ pub record BeginsQuestion (tells : List ℕ → Option (List ℕ) → Type 0) (f
   pub is_true : IfSome section_bytes (λ section. IsJudgedIndex line general (options_in from) section judged)
   pub begun : BeginsJudged tells (options_in from) question judged old new
 
--- A front of what is answered to a text whose lines tell positions, where the section was judged so.
+-- A front of the answer to a text of positions, for a section with this judgement.
 abbrev pub BeginsAddressesJudged : JudgedIndex → ℕ → Option (List ℕ) → Option (List ℕ) → Option (List ℕ) → Type 0
 BeginsAddressesJudged (Good index) op text old new = AreAddressesBegun index op text old new
 BeginsAddressesJudged (Bad reason) op text old new = AppendsFront old new (no_text reason ++ codes "\n")
 
--- A front of what is told of all places at which a table answers otherwise than a section that was judged so.
+-- A front of the lines of all places at which a table answers otherwise than a section with this judgement.
 abbrev pub ArePlacesBegun : Options → JudgedIndex → Option (List ℕ) → Option (List ℕ) → Option (List ℕ) → Type 0
 ArePlacesBegun options (Good index) table old new = ForUnitsOf options index (λ units. IfSome table
     (λ text. AreStretchesBegun index options.dead options.skip_copies units text old new))
 ArePlacesBegun options (Bad reason) table old new = AppendsFront old new (no_text reason ++ codes "\n")
 
--- What is told of the section whose file is named is so, and so much of the answer has begun of it, and of the bytes that are told of
+-- The judgement of the section in the named file is true, and a part of the answer was written for it and for the bytes of
 -- another file.
---     HasBegunOf    what has begun of a section that was judged so, and of the other file's bytes
+--     HasBegunOf    the part that was written, for a judgement and the other file's bytes
 pub record BeginsOfFile (tells : List ℕ → Option (List ℕ) → Type 0) (from : Judging) (file : List ℕ)
     (HasBegunOf : JudgedIndex → Option (List ℕ) → Type 0) : Type 0 where
   pub line : List ℕ
@@ -97,17 +97,17 @@ pub record BeginsOfFile (tells : List ℕ → Option (List ℕ) → Type 0) (fro
   pub of_file : tells file file_bytes
   pub begun : HasBegunOf judged file_bytes
 
--- The writer has gained a front of the answer to the text of the file of this name, whose lines tell positions.
+-- The writer has gained a front of the answer to the positions in the lines of the file of this name.
 abbrev pub BeginsAddresses : (List ℕ → Option (List ℕ) → Type 0) → Judging → List ℕ → ℕ → Option (List ℕ) → Option (List ℕ) → Type 0
 BeginsAddresses tells from file op old new = BeginsOfFile tells from file (λ judged text. BeginsAddressesJudged judged op text old new)
 
--- It has gained a front of what is told of all places at which the table of this name answers otherwise.
+-- The writer has gained a front of the lines of all places at which the table in the file of this name answers otherwise.
 abbrev pub BeginsPlaces : (List ℕ → Option (List ℕ) → Type 0) → Judging → List ℕ → Option (List ℕ) → Option (List ℕ) → Type 0
 BeginsPlaces tells from table old new = BeginsOfFile tells from table (λ judged text. ArePlacesBegun (options_in from) judged text old new)
 
 -- ---- sections that are read
 
--- What is told of the section whose file is named is so, and the writer has gained a front of it.
+-- The writer has gained a front of the answer of this reading, for the section in the named file.
 pub record StopsRead (tells : List ℕ → Option (List ℕ) → Type 0) (section : List ℕ) (order : Order) (reading : Reading)
     (old new : Option (List ℕ)) : Type 0 where
   pub section_bytes : Option (List ℕ)
@@ -116,7 +116,7 @@ pub record StopsRead (tells : List ℕ → Option (List ℕ) → Type 0) (sectio
 
 -- ---- requests
 
--- Where the answer to a request was stopped. Nothing is said of dumps.
+-- What the writer has gained where the answer to this request was stopped. Nothing is said of dumps.
 abbrev pub IsStopped : (List ℕ → Option (List ℕ) → Type 0) → Request → Option (List ℕ) → Option (List ℕ) → Type 0
 IsStopped tells (Help text) old new = AppendsFront old new (string_bytes text)
 IsStopped tells (Read section order reading) old new = Keeps old new ⊎ StopsRead tells section.now order reading old new

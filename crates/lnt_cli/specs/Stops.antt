@@ -12,7 +12,8 @@ abbrev pub IsUsage : CliStop → Type 0
 IsUsage (Usage text) = Unit {0}
 IsUsage _ = ⊥
 
--- The work on the file of this name was stopped so. Where the name is to be told, memory may run out for it.
+-- The stop of a run where the work on the file of this name was stopped. Where the stop has the name, it may be Memory instead,
+-- since memory may run out for a copy of the name.
 abbrev pub IsFileStop : Halt → List ℕ → CliStop → Type 0
 IsFileStop halt.Read name (Read told) = string_bytes told ≡ name
 IsFileStop halt.Read name stop = stop ≡ Memory
@@ -21,7 +22,7 @@ IsFileStop halt.TooLong name stop = stop ≡ Memory
 IsFileStop halt.Write name stop = stop ≡ Write
 IsFileStop halt.Memory name stop = stop ≡ Memory
 
--- why no table was written
+-- the stop of the work on a section whose table couldn't be written
 abbrev pub halt_of_write : WriteStop → Halt
 halt_of_write write.Memory = halt.Memory
 halt_of_write write.Write = halt.Write

@@ -1,4 +1,4 @@
--- What is printed of a check of a section and a table.
+-- The lines that are printed for a check of a section and a table.
 use Rattle.std.specs.Prelude.{ℕ, List, [], ◌∷◌, ◌++◌, Option, None, Some, codes, decimal}
 use Rattle.std.specs.List.{flat_map}
 use Rattle.lnt_sources.specs.declared.status.Status.{Status}
@@ -21,25 +21,25 @@ abbrev pub verdict_text : Verdict → List ℕ
 verdict_text Yes = codes "yes\n"
 verdict_text (No reason) = table_no_text reason ++ codes "\n"
 
--- how a run ends that tells it
+-- the status with which the run ends
 abbrev pub verdict_status : Verdict → Status
 verdict_status Yes = status.Done
 verdict_status (No reason) = status.No
 
 -- ---- tables by path
 
--- the column of an answer, where the version tells it
+-- a comma and the column of an answer, where the version has columns; else nothing
 abbrev pub column_text : Option ℕ → List ℕ
 column_text None = []
 column_text (Some column) = codes "," ++ decimal column
 
--- what is answered by path, as the fields of a table's record after its positions, the path always in quotes
+-- an answer by path, as the fields of a table's record after the positions, with the path always in quotes; or none
 abbrev pub path_answer_text : Option AnswerByPath → List ℕ
 path_answer_text None = codes "none"
 path_answer_text (Some answer) =
     quoted_text answer.path.items ++ (codes "," ++ (decimal answer.line ++ column_text answer.column))
 
--- that a table by path answers otherwise at a position, with both answers
+-- the position of a difference by path, with both answers
 abbrev pub path_difference_text : DifferenceByPath → List ℕ
 path_difference_text difference =
     codes "no 40 differs at " ++ (position_text difference.position ++ (codes " table " ++
@@ -48,36 +48,36 @@ path_difference_text difference =
 abbrev pub path_difference_line : DifferenceByPath → List ℕ
 path_difference_line difference = path_difference_text difference ++ codes "\n"
 
--- the line of what a comparison by path tells
+-- the line of the outcome of a comparison by path
 abbrev pub compared_text : ComparedByPath → List ℕ
 compared_text Same = codes "yes\n"
 compared_text (Fault told) = table_no_text (no_of_fault told) ++ codes "\n"
 compared_text (Differs difference) = path_difference_line difference
 
--- how a run ends that tells it
+-- the status with which the run ends
 abbrev pub compared_status : ComparedByPath → Status
 compared_status Same = status.Done
 compared_status (Fault told) = status.No
 compared_status (Differs difference) = status.No
 
--- a line for each stretch, or that there is none
+-- a line for each stretch, or `yes` where there is none
 abbrev pub path_stretches_text : List DifferenceByPath → List ℕ
 path_stretches_text [] = codes "yes\n"
 path_stretches_text (first ∷ differences) = flat_map path_difference_line (first ∷ differences)
 
--- how a run ends that tells them
+-- the status after these stretches
 abbrev pub path_stretches_status : List DifferenceByPath → Status
 path_stretches_status [] = status.Done
 path_stretches_status (first ∷ differences) = status.No
 
 -- ---- tables of any version
 
--- the line of what a check answers
+-- the line of a check's answer
 abbrev pub checked_text : Checked → List ℕ
 checked_text (Numbered verdict) = verdict_text verdict
 checked_text (ByPath compared) = compared_text compared
 
--- how a run ends that tells it
+-- the status with which the run ends
 abbrev pub checked_status : Checked → Status
 checked_status (Numbered verdict) = verdict_status verdict
 checked_status (ByPath compared) = compared_status compared

@@ -14,7 +14,7 @@ use std::alloc::Global;
 use std::cell::Cell;
 use std::io::{BufReader, Read};
 
-// A section, read from its file, of whose bytes is kept what was seen.
+// A section, read from its file. `Watched` keeps its first bytes and counts all of them, for notes.
 pub(crate) type Section<'c, R> = Counted<BufReader<Watched<'c, R>>>;
 
 // The bytes of both string sections.
@@ -36,7 +36,7 @@ impl Texts {
     }
 }
 
-// How the work on the file of this name ended.
+// The result of the work on a file, with the file's name in a stop.
 pub(crate) fn of_file<T>(alloc: Global, name: &str, ended: Result<T, Halt>) -> Result<T, CliStop>
     ensures ok { IfOk result (λ value. ended ≡ Ok value) }
     ensures told { IfErr result (λ stop. IfErr ended (λ halt. IsFileStop halt name.now stop)) }
@@ -49,7 +49,7 @@ pub(crate) fn of_file<T>(alloc: Global, name: &str, ended: Result<T, Halt>) -> R
     }
 }
 
-// The section in the file of this name, of which is kept what is seen.
+// Opens the section in the file of this name. `seen` keeps what notes need of its bytes.
 pub(crate) fn open_section<'c, O: Opener>(
     alloc: Global,
     opener: &mut O,
@@ -68,7 +68,7 @@ pub(crate) fn open_section<'c, O: Opener>(
     }
 }
 
-// The files of a section that is to be judged, open.
+// The open files of a section that is to be judged.
 #[derive(Drop)]
 pub(crate) struct Opened<'c, R> {
     pub(crate) texts: Texts,
@@ -97,7 +97,7 @@ pub(crate) fn open_judged<'c, O: Opener>(
     Ok(Opened { texts, section })
 }
 
-// The file of this name.
+// Opens the file of this name.
 pub(crate) fn open<O: Opener>(
     alloc: Global,
     opener: &mut O,
@@ -112,7 +112,7 @@ pub(crate) fn open<O: Opener>(
     of_file(alloc, name, open_file(alloc, opener, name))
 }
 
-// The files of a section that is to be judged, and another one, open.
+// The open files of a section that is to be judged, and another open file.
 #[derive(Drop)]
 pub(crate) struct OpenedBoth<'c, R> {
     pub(crate) texts: Texts,
@@ -120,8 +120,8 @@ pub(crate) struct OpenedBoth<'c, R> {
     pub(crate) file: Counted<BufReader<R>>,
 }
 
-// Opens the files of a section that is to be judged and the file of this name, in this order, before anything is read of the
-// section and of that file.
+// Opens the files of a section that is to be judged and then the file of this name, before the first read of the section or
+// of that file.
 pub(crate) fn open_both<'c, O: Opener>(
     alloc: Global,
     opener: &mut O,
@@ -149,7 +149,7 @@ pub(crate) fn open_both<'c, O: Opener>(
     })
 }
 
-// Both string sections; none of a file that isn't named.
+// The bytes of both string sections; empty where no file is named.
 pub(crate) fn read_texts<O: Opener>(
     alloc: Global,
     opener: &mut O,
@@ -164,7 +164,7 @@ pub(crate) fn read_texts<O: Opener>(
     Ok(Texts { line, general })
 }
 
-// All bytes of the file of this name; none without a name.
+// All bytes of the file of this name; empty without a name.
 fn read_strings<O: Opener>(
     alloc: Global,
     opener: &mut O,

@@ -1,4 +1,4 @@
-//! The words that judge a section.
+//! The subcommand `check`, and the notes to answers about a section that is judged.
 ghost use Rattle.std.specs.Prelude.{◌≡◌, ◌⊎◌, ℕ, List, Option, IfErr, IfOk, OnErr};
 ghost use Rattle.std.specs.Io.KnownBytes.{Appends, Keeps};
 ghost use Rattle.lnt_output.specs.Fronts.{HasBegun};
@@ -25,7 +25,7 @@ use std::alloc::Global;
 use std::cell::Cell;
 use std::io::Write;
 
-// How the section is to be read.
+// The options with which the section is read and judged.
 pub(crate) fn options_of(from: &Judging<'_>) -> Options
     ensures { result ≡ options_in from.now }
 {
@@ -36,7 +36,7 @@ pub(crate) fn options_of(from: &Judging<'_>) -> Options
     }
 }
 
-// What was given to judge it.
+// What the words give to judge the section, for the notes.
 fn given_of<'a>(from: &Judging<'a>) -> Given<'a> {
     Given {
         section: from.section,
@@ -49,7 +49,7 @@ fn given_of<'a>(from: &Judging<'a>) -> Given<'a> {
 }
 
 impl<O: Opener, W: Write, N: Write> Session<'_, '_, '_, O, W, N> {
-    // Tells whether the table of this name answers as the section does.
+    // Answers whether the table in the file of this name answers as the section does.
     pub(crate) fn check_table(&mut self, from: &Judging<'_>, table: &str) -> Result<Status, CliStop>
         ensures usage { IfErr result (λ stop. IsUsage stop → ⊥) }
         ensures answer { IfOk result (λ status. AnswersCheck (O.tells self.old.opener.now) from.now table.now
@@ -66,8 +66,8 @@ impl<O: Opener, W: Write, N: Write> Session<'_, '_, '_, O, W, N> {
     }
 }
 
-// Judges whether the table of this name, of any version, answers as the section does. What it tells is the answer once its
-// line is printed. Of the section's bytes is kept what was seen.
+// Judges whether the table in the file of this name, of any version, answers as the section does. The result is the answer to
+// the check once its line is printed. `seen` keeps what notes need of the section's bytes.
 fn judge_table<O: Opener>(
     alloc: Global,
     from: &Judging<'_>,
@@ -89,7 +89,7 @@ fn judge_table<O: Opener>(
         &options_of(from),
     ) {
         Ok(checked) => Ok(checked),
-        // The section is read first: where it was the cause, the table is as it was.
+        // The section is read first: where it caused the stop, the table wasn't read.
         Err(stop) => {
             let of_section = section.failures() > 0 || section.too_long();
             let name = if of_section { from.section } else { table };
@@ -98,9 +98,9 @@ fn judge_table<O: Opener>(
     }
 }
 
-// All places where a table answers otherwise.
+// All places at which a table answers otherwise.
 impl<O: Opener, W: Write, N: Write> Session<'_, '_, '_, O, W, N> {
-    // Tells all places where the table of this name answers otherwise than the section, or that there is none.
+    // Prints all places at which the table in the file of this name answers otherwise than the section, or that there is none.
     pub(crate) fn check_all(&mut self, from: &Judging<'_>, table: &str) -> Result<Status, CliStop>
         ensures usage { IfErr result (λ stop. IsUsage stop → ⊥) }
         ensures answer { IfOk result (λ status. AnswersPlaces (O.tells self.old.opener.now) from.now table.now
@@ -130,8 +130,8 @@ impl<O: Opener, W: Write, N: Write> Session<'_, '_, '_, O, W, N> {
     }
 }
 
-// Prints all places where the table of this name answers otherwise than the section. Of the section's bytes is kept what was
-// seen.
+// Prints all places at which the table in the file of this name answers otherwise than the section. `seen` keeps what notes
+// need of the section's bytes.
 fn judge_places<O: Opener, W: Write>(
     alloc: Global,
     from: &Judging<'_>,
@@ -156,7 +156,7 @@ fn judge_places<O: Opener, W: Write>(
     Ok(Places::Table(of_file(alloc, table, printed)?))
 }
 
-// The notes to answers. None are told where the words ask for none, and none stops a run.
+// The notes to answers. None is written where the words ask for none, and a failure to write one doesn't stop a run.
 impl<O: Opener, W: Write, N: Write> Session<'_, '_, '_, O, W, N> {
     pub(crate) fn tell_good(&mut self, hints: &Hints, from: &Judging<'_>)
         ensures { self.new.out ≡ self.old.out }

@@ -1,8 +1,8 @@
 //! The command `linetab`, over an opener of files and a writer.
 //!
-//! [`run`] reads the words of the command, opens the files that they name, and writes the answer, and its notes apart from
-//! it; [`answer`] does so of what the words ask for. It reaches nothing of the system itself: a program hands it an
-//! [`Opener`] and two writers.
+//! [`run`] reads the words of the command, opens the files that they name, and writes the answer to one writer and notes to
+//! another; [`answer`] does the same for a request that was read already. Neither calls the system: a program hands it an
+//! [`Opener`] and the two writers.
 #![tactic(auto)]
 
 mod inputs;

@@ -1,4 +1,4 @@
-//! The subcommand `table` where it tells the paths of files.
+//! The subcommand `table` for a table by path.
 ghost use Rattle.std.specs.Prelude.{◌≡◌, Bool, ℕ, List, Option, IfOk, OnErr, OnOk, string_bytes};
 ghost use Rattle.std.specs.Io.KnownBytes.{Appends};
 ghost use Rattle.lnt_cli.specs.PathTables.{BeginsPrintedTable, IsPrintedTable, operation_line};
@@ -17,8 +17,8 @@ use lnt_text::PositionText;
 use std::alloc::{AllocError, Global};
 use std::io::Write;
 
-// Prints the address table by path of a good section, or the line that says why there is none; where it
-// stops, a front of the names and the first lines, or of that line.
+// Prints the address table by path of a good section, or the line that says why there is none. Where it stops, the writer has
+// gained a front of the column names and the first lines, or of that line.
 pub(crate) fn print_path_table<W: Write>(
     alloc: Global,
     index: &Index<'_>,
@@ -40,7 +40,8 @@ pub(crate) fn print_path_table<W: Write>(
     }
 }
 
-// Prints the line that says that a span begins or ends at an operation index other than 0; where it stops, a front of it.
+// Prints the line that a span begins or ends at this position, with an operation index other than 0; where it stops, a front
+// of that line.
 fn print_operation<W: Write>(alloc: Global, position: Position, out: &mut W) -> Result<(), Halt>
     ensures line { OnOk result (Appends (W.contents out.old) (W.contents out.new) (operation_line position)) }
     ensures front { OnErr result (AppendsFront (W.contents out.old) (W.contents out.new) (operation_line position)) }
@@ -50,7 +51,7 @@ fn print_operation<W: Write>(alloc: Global, position: Position, out: &mut W) -> 
     Ok(())
 }
 
-// That line.
+// The line that `print_operation` prints.
 fn operation_text(alloc: Global, position: Position) -> Result<String, AllocError>
     ensures { IfOk result (λ line. string_bytes line ≡ operation_line position) }
 {

@@ -15,16 +15,16 @@ use lnt_words::{Asked, WordsStop, request_of};
 use std::alloc::Global;
 use std::io::Write;
 
-/// Runs the command of the words, of which the first is the program's own name, and writes its answer to `out`.
+/// Runs the command that the words give, and writes its answer to `out`. The first word is the program's own name.
 ///
-/// `out` isn't flushed, but where the lines of addresses are answered. A run is stopped by `Usage` before a file is
-/// opened, and `out` has then gained nothing; by `Read` or `TooLong` for a file that the words name; by `Write` where
-/// `out` failed, and then it holds a front of the text; and by `Memory`. Else there is a request that the words ask for, by
-/// `lnt_words::request_of`, and it is answered as [`answer`] does (`AnswersWords`); where that is stopped, `out` has gained
-/// what [`answer`] says of it (`StopsWords`).
+/// `out` isn't flushed, except where the lines of a file of addresses are answered. A run is stopped by `Usage` before a file
+/// is opened, and `out` has then gained nothing; by `Read` or `TooLong` for a file that the words name; by `Write` where
+/// `out` failed, and then it holds a front of the text; and by `Memory`. Else the words ask for a request, by
+/// `lnt_words::request_of`, and it is answered as by [`answer`] (`AnswersWords`). Where that is stopped, `out` has gained what
+/// [`answer`] says (`StopsWords`).
 ///
-/// What helps a person is written to `notes`, a line for each note, to be shown after the answer; nothing, where the
-/// words ask for no notes. A run isn't stopped where `notes` fails.
+/// Advice for a person is written to `notes`, a line for each note, to be shown after the answer; nothing where the words ask
+/// for no notes. A run isn't stopped where `notes` fails.
 pub fn run<O: Opener, W: Write, N: Write>(
     alloc: Global,
     words: Vec<String>,
@@ -48,24 +48,23 @@ pub fn run<O: Opener, W: Write, N: Write>(
     answer(alloc, &asked, opener, out, notes)
 }
 
-/// Answers what is asked for, and writes the answer to `out`, and its notes to `notes`.
+/// Answers a request: writes the answer to `out`, and its notes to `notes`.
 ///
-/// Where a check of a table is asked for, `out` has gained one line, and nothing else: `yes`, where all that `check_any` of
-/// `lnt_table` says of it is so of the bytes that the opener tells of the files; or the first thing that is wrong, which is
-/// so of them (`AnswersCheck`). It answers `Done` exactly where that line is `yes`, and else `No`. Where all places are asked
-/// for, `out` has gained a line for each of them, or `yes` where there is none (`AnswersPlaces`).
+/// For a check of a table, `out` has gained one line, and nothing else: `yes`, where all that `check_any` of `lnt_table` says
+/// of a yes is true of the bytes that the opener tells of the files; or the first thing that is wrong, which is true of these
+/// bytes (`AnswersCheck`). It answers `Done` exactly where that line is `yes`, and else `No`. For all places at which a table
+/// answers otherwise, `out` has gained a line for each of them, or `yes` where there is none (`AnswersPlaces`).
 ///
-/// Where a question about a section is asked, and the section isn't good, `out` has gained the line that says why, which is
-/// so, and it answers `No`; of a good one, what its rows and headers say (`AnswersQuestion`). Where a section is converted,
-/// `out` has gained the converted one, or the line that says why there is none; and where its units are listed, the lines of
-/// its frames, and of its first fault (`AnswersRead`). Where the lines of a file are answered, `out` has gained a line for each
-/// of them (`AnswersAddresses`).
+/// For a question about a section that isn't good, `out` has gained the line of a true reason, and it answers `No`; for one
+/// about a good section, what the section's rows and headers say (`AnswersQuestion`). For a conversion, `out` has gained the
+/// converted section, or the line that says why there is none; for a list of units, the lines of the section's frames and of
+/// its first fault (`AnswersRead`). For the lines of a file, `out` has gained a line for each of them (`AnswersAddresses`).
 ///
-/// Where it stops and was to print help, to list the units of a section, to convert it, to tell whether a table answers as a
-/// section does, or all places where it doesn't, to answer a question about a section, or to answer the lines of a file,
-/// `out` has gained a front of an answer, and nothing else (`IsStopped`): of a file, a front of the answers to its first
-/// lines, of a table, one of the names of its columns and its first lines, and of the places of a table by path, one of the
-/// lines of the first ones. It stops as `run` does, and never by `Usage`.
+/// Where it stops, and the request was for help, a list of units, a conversion, a check of a table, all places at which a table
+/// answers otherwise, a question about a section, or the lines of a file, `out` has gained a front of an answer, and nothing
+/// else (`IsStopped`). For the lines of a file, it is a front of the answers to the first lines; for a table, of the column
+/// names and the first lines; for the places of a table by path, of the lines of the first places. It stops as `run` does, and
+/// never by `Usage`.
 ///
 /// Nothing is said of what dumps print.
 pub fn answer<O: Opener, W: Write, N: Write>(
@@ -90,7 +89,7 @@ pub fn answer<O: Opener, W: Write, N: Write>(
     session.answer(&asked.request)
 }
 
-// Tells what a bad word has to be.
+// Writes a note that says what a bad word has to be, unless notes are left out.
 fn tell_word<N: Write>(stop: &WordsStop, notes: &mut N) {
     if let WordsStop::BadWord {
         argument,

@@ -31,14 +31,14 @@ use std::alloc::Global;
 use std::cell::Cell;
 use std::io::Write;
 
-// What the section gives notes occasion for.
+// What the notes depend on: the hints of a good section, or why the section isn't good.
 #[derive(Clone, Copy)]
 enum Occasion {
     Good(Hints),
     Bad(No),
 }
 
-// How a question was answered, and what may be noted of the section.
+// The status of an answered question, and what the notes depend on.
 #[derive(Clone, Copy)]
 struct Answered {
     status: Status,
@@ -46,7 +46,7 @@ struct Answered {
 }
 
 impl<O: Opener, W: Write, N: Write> Session<'_, '_, '_, O, W, N> {
-    // Answers a question about a good section. Of another one its line is printed.
+    // Answers a question about a good section, or prints the line that says why the section isn't good.
     pub(crate) fn answer_question(
         &mut self,
         from: &Judging<'_>,
@@ -66,7 +66,7 @@ impl<O: Opener, W: Write, N: Write> Session<'_, '_, '_, O, W, N> {
         Ok(answered.status)
     }
 
-    // Answers the lines of the file of this name, where the section is good. Of another one its line is printed.
+    // Answers the lines of the file of this name, or prints the line that says why the section isn't good.
     pub(crate) fn answer_addresses(
         &mut self,
         from: &Judging<'_>,
@@ -97,7 +97,7 @@ impl<O: Opener, W: Write, N: Write> Session<'_, '_, '_, O, W, N> {
     }
 }
 
-// Answers a question about a section. Of the section's bytes is kept what was seen.
+// Answers a question about a section. `seen` keeps what notes need of the section's bytes.
 fn answer_alone<O: Opener, W: Write>(
     alloc: Global,
     from: &Judging<'_>,
@@ -167,7 +167,7 @@ fn answer_good<O: Opener, W: Write>(
     Ok(Answered { status, occasion })
 }
 
-// Answers what is asked by the lines of a file, which is opened before the section is judged.
+// Answers the lines of a file, which is opened before the section is judged.
 fn answer_lines<O: Opener, W: Write>(
     alloc: Global,
     from: &Judging<'_>,
@@ -188,7 +188,7 @@ fn answer_lines<O: Opener, W: Write>(
     answer_lines_of(alloc, from, file, op, &texts, &mut section, &mut lines, out)
 }
 
-// Answers the lines of a file of this name, where they and the section's files are open.
+// Answers the lines of the file of this name. That file and the section's files are open.
 fn answer_lines_of<R: Source, T: Source, W: Write>(
     alloc: Global,
     from: &Judging<'_>,
@@ -217,7 +217,7 @@ fn answer_lines_of<R: Source, T: Source, W: Write>(
     }
 }
 
-// Prints what a good section answers to the lines of a file of this name.
+// Prints the answers of a good section to the lines of the file of this name.
 fn print_lines<T: Source, W: Write>(
     alloc: Global,
     index: &Index<'_>,
@@ -239,7 +239,7 @@ fn print_lines<T: Source, W: Write>(
     Ok(Answered { status, occasion })
 }
 
-// Judges the section, and prints the line of one that isn't good.
+// Judges the section, and where it isn't good, prints the line that says why.
 pub(crate) fn judge<'t, R: Source, W: Write>(
     alloc: Global,
     section: &mut R,
@@ -272,8 +272,8 @@ fn refused(no: No) -> Answered
     }
 }
 
-// Prints the answer of a good section. Some answers read files by large blocks, and the stack is short: no other word's frame
-// holds these too.
+// Prints the answer of a good section. It is never inlined: some answers have large blocks on the stack, which is short, and
+// the frames of other subcommands are not to hold these too.
 #[inline(never)]
 fn print_answer<O: Opener, W: Write>(
     alloc: Global,
@@ -305,7 +305,7 @@ fn print_answer<O: Opener, W: Write>(
     }
 }
 
-// What a good section gives notes occasion for, where this was asked.
+// The hints of a good section for notes to this question.
 fn hints_to(index: &Index<'_>, question: &Question) -> Hints {
     let hints = hints_of(index);
     Hints {

@@ -1,4 +1,4 @@
-//! What a run works with, and how it answers.
+//! The files and writers of a run, and how it answers a request.
 ghost use Rattle.std.specs.Prelude.{◌≡◌, ◌-◌, ◌^◌, ◌<◌, ◌⊎◌, IfErr, IfOk, IfSome, OnErr};
 ghost use Rattle.std.specs.Io.KnownBytes.{Keeps};
 ghost use Rattle.lnt_cli.specs.Answered.{AnswersRead, IsAnswered};
@@ -18,7 +18,7 @@ use std::alloc::Global;
 use std::cell::Cell;
 use std::io::Write;
 
-// What a run works with: the files, the writer of the answer and that of the notes, and whether there are to be no notes.
+// The opener of files, the writers of the answer and of the notes, and whether notes are left out.
 #[derive(Drop)]
 pub(crate) struct Session<'o, 'w, 'n, O, W, N> {
     pub(crate) alloc: Global,
@@ -29,7 +29,7 @@ pub(crate) struct Session<'o, 'w, 'n, O, W, N> {
 }
 
 impl<O: Opener, W: Write, N: Write> Session<'_, '_, '_, O, W, N> {
-    // Answers what is asked for. Of a file that can't be read, the system's reason is noted.
+    // Answers a request. Where a file can't be read, it writes the system's reason as a note.
     pub(crate) fn answer(&mut self, request: &Request<'_>) -> Result<Status, CliStop>
         ensures usage { IfErr result (λ stop. IsUsage stop → ⊥) }
         ensures answer { IfOk result (λ status. IsAnswered (O.tells self.old.opener.now) request.now
@@ -116,7 +116,7 @@ impl<O: Opener, W: Write, N: Write> Session<'_, '_, '_, O, W, N> {
     }
 }
 
-// Prints a section, as it is to be read.
+// Prints what this reading of a section asks for: its units, a dump or the converted section.
 fn print_reading<R: Source, W: Write>(
     alloc: Global,
     source: &mut R,

@@ -11,7 +11,7 @@ use std::alloc::{AllocError, Global};
 use std::io;
 use thiserror::Error;
 
-/// Why a run was stopped. It judges nothing.
+/// Why a run was stopped. A stop is no judgement of the section or the table.
 #[derive(Debug, Drop, Error)]
 pub enum CliStop {
     /// The words ask for nothing that the command does. The text says how it is used, and ends in a line feed.
@@ -32,7 +32,7 @@ pub enum CliStop {
 }
 
 impl CliStop {
-    // What stopped the work on the file of this name. Memory may run out for the name; a stop that tells none stays as it is.
+    // The stop of a run where the work on the file of this name was stopped. `Memory` also where it ran out for a copy of the name.
     pub(crate) fn of_file(alloc: Global, name: &str, halt: Halt) -> CliStop
         ensures told { IsFileStop halt name.now result }
         ensures usage { IsUsage result → ⊥ }
@@ -43,7 +43,7 @@ impl CliStop {
         }
     }
 
-    // That, with the name where it is to be told.
+    // The same, with a copy of the name for a stop that has one.
     fn with_name(alloc: Global, name: &str, halt: Halt) -> Result<CliStop, AllocError>
         ensures told { IfOk result (IsFileStop halt name.now) }
         ensures usage { IfOk result (λ stop. IsUsage stop → ⊥) }
@@ -58,7 +58,7 @@ impl CliStop {
     }
 }
 
-// Why no table was written, as why the work on its section was stopped.
+// The stop of the work on a section whose table couldn't be written.
 pub(crate) fn halt_of(stop: WriteStop) -> Halt
     ensures { result ≡ halt_of_write stop }
 {
@@ -85,7 +85,7 @@ impl From<AllocError> for CliStop {
     }
 }
 
-// Only writes fail so: a failed read is told by its source.
+// Only a write gives this error: a source reports a failed read by itself.
 impl From<io::Error> for CliStop {
     ghost from_gives = { λ _ stop. stop ≡ Write };
 

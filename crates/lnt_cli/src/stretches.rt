@@ -1,4 +1,4 @@
-//! The subcommand `check` where it tells all places.
+//! The subcommand `check` where all places are asked for.
 ghost use Rattle.std.specs.Prelude.{◌≡◌, ◌-◌, ◌^◌, ◌<◌, ◌+◌, ◌++◌, ◌⊎◌, [], Bool, ℕ, List, Option, IfErr, IfOk, IfSome, IsErrOf};
 ghost use Rattle.std.specs.Prelude.{OnErr, OnOk, codes, string_bytes};
 ghost use Rattle.std.specs.Io.KnownBytes.{Appends, Keeps};
@@ -31,31 +31,32 @@ use lnt_wire::Source;
 use std::alloc::{AllocError, Global};
 use std::io::Write;
 
-// What was told of a table that is compared with a good section at every position.
+// What was printed about a table that was compared with a good section at every position.
 #[derive(Drop)]
 pub(crate) enum Stretches {
-    // It has the header of version 1 or 2, and is no table, for this reason.
+    // The header is that of version 1 or 2, but the bytes are no table: the first fault.
     Faulty(TableFault),
-    // It is one of these, and the places were told where it answers otherwise: `Done` where there is none.
+    // A table of version 1 or 2: the places at which it answers otherwise; `Done` where there is none.
     Told(Status),
-    // It has another header, and is no table by path, for this reason.
+    // The header is another, and the bytes are no table by path: the first fault.
     FaultyByPath(TableFault),
-    // It is one, and the places were told where it answers otherwise, with the paths of files: `Done` where there is none.
+    // A table by path: the places at which it answers otherwise, with the paths of files; `Done` where there is none.
     ToldByPath(Status),
 }
 
-// What was told of a section and a table.
+// What was printed about a section and a table.
 #[derive(Drop)]
 pub(crate) enum Places {
     // The section isn't good, for this reason.
     Section(No),
-    // It is good, and this was told of the table.
+    // The section is good, and this was printed about the table.
     Table(Stretches),
 }
 
-// Prints the No line of each stretch at which the table, of any version, answers otherwise than a good section, in rising order, or `yes`
-// where there is none; or the line of what is wrong with the table. Where it stops, the writer has gained nothing, or a front of
-// these. It holds much, and the stack is short: no other word's frame holds it too.
+// Prints the No line of each stretch at which the table, of any version, answers otherwise than a good section, in rising
+// order, or `yes` where there is none; or the line of the table's first fault. Where it stops, the writer has gained nothing,
+// or a front of these. It is never inlined: its frame is large, the stack is short, and the frames of other subcommands are
+// not to hold it too.
 #[inline(never)]
 pub(crate) fn print_stretches<T: Source, W: Write>(
     alloc: Global,
@@ -96,7 +97,7 @@ pub(crate) fn print_stretches<T: Source, W: Write>(
     }
 }
 
-// Prints the line of what is wrong with a table; where it stops, a front of it.
+// Prints the line of a table's fault; where it stops, a front of that line.
 fn print_fault<W: Write>(alloc: Global, fault: TableFault, out: &mut W) -> Result<(), Halt>
     ensures err { IfErr result IsPrinting }
     ensures line { OnOk result (Appends (W.contents out.old) (W.contents out.new) (table_no_text (no_of_fault fault) ++ codes "\n")) }
@@ -108,7 +109,7 @@ fn print_fault<W: Write>(alloc: Global, fault: TableFault, out: &mut W) -> Resul
     Ok(())
 }
 
-// That line.
+// The line that `print_fault` prints.
 fn fault_line(alloc: Global, fault: TableFault) -> Result<String, AllocError>
     ensures { IfOk result (λ line. string_bytes line ≡ table_no_text (no_of_fault fault) ++ codes "\n") }
 {
@@ -116,7 +117,8 @@ fn fault_line(alloc: Global, fault: TableFault) -> Result<String, AllocError>
 }
 
 // Prints a line for each stretch of positions at which a table by path answers otherwise than a section, in rising order, or
-// `yes` where there is none. It stops where memory ran out or the writer failed, which has then gained a front of these lines.
+// `yes` where there is none. It stops where memory ran out or the writer failed. Where it stops, the writer has gained a front
+// of these lines.
 #[inline(never)]
 fn print_path_differences<S: SpanSource + Drop, P: Paths, W: Write>(
     alloc: Global,
@@ -148,7 +150,7 @@ fn print_path_differences<S: SpanSource + Drop, P: Paths, W: Write>(
     Ok(Status::No)
 }
 
-// Prints the line of a stretch. The line is made in the room first, whatever that held.
+// Prints the line of a stretch. The line is made in `room` first, whose old contents are dropped.
 fn print_path_difference<W: Write>(
     difference: &DifferenceByPath,
     room: &mut Vec<u8>,

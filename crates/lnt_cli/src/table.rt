@@ -19,7 +19,8 @@ use lnt_table::{Checked, ComparedByPath, TableNo, Verdict, write_index};
 use std::alloc::{AllocError, Global};
 use std::io::Write;
 
-// Prints the address table of a good section; where it stops, a front of its names and first lines.
+// Prints the address table of a good section. Where it stops, the writer has gained a front of the column names and the
+// first lines.
 pub(crate) fn print_table<W: Write>(
     alloc: Global,
     index: &Index<'_>,
@@ -39,7 +40,7 @@ pub(crate) fn print_table<W: Write>(
     }
 }
 
-// Prints the line of what a check answers, and nothing else; where it stops, a front of it.
+// Prints the line of a check's answer, and nothing else; where it stops, a front of that line.
 pub(crate) fn print_checked<W: Write>(
     alloc: Global,
     checked: &Checked,
@@ -54,7 +55,7 @@ pub(crate) fn print_checked<W: Write>(
     Ok(())
 }
 
-// The line of what a check answers.
+// The line of a check's answer, with its line feed.
 fn line_of(alloc: Global, checked: &Checked) -> Result<String, AllocError>
     ensures { IfOk result (λ line. string_bytes line ≡ checked_text checked.now) }
 {
@@ -74,7 +75,7 @@ fn verdict_line(alloc: Global, verdict: Verdict) -> Result<String, AllocError>
     }
 }
 
-// The line of what a comparison by path tells.
+// The line of the outcome of a comparison by path.
 fn compared_line(alloc: Global, compared: &ComparedByPath) -> Result<String, AllocError>
     ensures { IfOk result (λ line. string_bytes line ≡ compared_text compared.now) }
 {

@@ -1,4 +1,4 @@
-//! How the evidence against a table is printed.
+//! The text of the evidence against a table.
 ghost use Rattle.std.specs.Prelude.{Some};
 ghost use Rattle.lnt_cli.specs.Verdicts.{column_text, path_answer_text, path_difference_text};
 
@@ -6,7 +6,7 @@ use lnt_paths::{AnswerByPath, DifferenceByPath};
 use lnt_text::{PositionText, Quoted};
 use std::fmt;
 
-// The line that says where a table by path answers otherwise than a section, with both answers, without its line feed.
+// The line of a position at which a table by path and a section answer differently, with both answers, without its line feed.
 #[derive(Clone, Copy)]
 pub(crate) struct PathDifferenceLine<'a>(pub(crate) &'a DifferenceByPath);
 
@@ -21,7 +21,7 @@ impl fmt::Display for PathDifferenceLine<'_> {
     }
 }
 
-// What is answered by path, as the fields of a table's record after its positions, the path always in quotes; or `none`.
+// An answer by path, as the fields of a table's record after the positions, with the path always in quotes; or `none`.
 #[derive(Clone, Copy)]
 struct PathAnswerText<'a>(&'a Option<AnswerByPath>);
 
@@ -39,7 +39,7 @@ impl fmt::Display for PathAnswerText<'_> {
     }
 }
 
-// The column of an answer after a comma, where the version tells it.
+// A comma and the column of an answer, where the version has columns; else nothing.
 #[derive(Clone, Copy)]
 struct ColumnText(Option<u64>);
 

@@ -9,7 +9,7 @@ use Rattle.lnt_lines.specs.declared.no.No.TheVariants.{Overlap}
 use Rattle.lnt_wire.specs.FaultTexts.{hexadecimal}
 use Rattle.lnt_text.specs.Texts.{malformed_text, position_text, run_text}
 
--- a sequence, by its unit and its index in it
+-- a sequence, by its unit's offset and its index in the unit
 abbrev pub sequence_text : SeqId → List ℕ
 sequence_text sequence = hexadecimal sequence.unit ++ (codes ":" ++ decimal sequence.index)
 

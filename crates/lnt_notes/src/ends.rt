@@ -1,4 +1,4 @@
-//! Where sequences of a section begin and end.
+//! The positions at which sequences of a section begin and end.
 ghost use Rattle.std.specs.Prelude.{◌-◌, ◌^◌, ◌<◌};
 
 use lnt_machine::Machine;
@@ -9,15 +9,15 @@ use lnt_unit::UnitView;
 use lnt_wire::{Order, Source};
 use std::alloc::Global;
 
-// Where a sequence begins and where it ends.
+// The positions of the first row and of the end row of a sequence.
 #[derive(Clone, Copy, PartialEq, Eq)]
 struct Ends {
     first: Position,
     last: Position,
 }
 
-// Whether two sequences of the section that the source has to give begin and end at the same positions. None where the
-// section isn't read as far as both.
+// Whether two sequences of the section that the source has to give begin and end at the same positions. None where one of
+// them isn't found, or the section can't be read that far.
 pub(crate) fn end_alike<R: Source>(
     alloc: Global,
     source: &mut R,
@@ -46,12 +46,13 @@ pub(crate) fn end_alike<R: Source>(
     None
 }
 
-// Where the sequence with this index of the unit in the buffer begins and ends.
+// The ends of the sequence with this index in the unit of the buffer.
 fn ends_in(alloc: Global, buffer: &UnitBuffer, index: u64) -> Option<Ends> {
     ends_of(&UnitView::over(alloc, buffer).ok()?, index)
 }
 
-// The same of a unit. None where its program doesn't run as far.
+// The ends of the sequence with this index in the unit. None where the unit has fewer sequences, or its program doesn't run
+// that far.
 #[tactic(auto, using(lnt_machine::proofs::WalkLaws::step_allowed))]
 fn ends_of(unit: &UnitView<'_>, index: u64) -> Option<Ends> {
     let mut machine = Machine::new(unit.header());

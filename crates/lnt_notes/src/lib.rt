@@ -1,8 +1,8 @@
-//! Notes: what helps a person after an answer, which stays as it is.
+//! Notes: advice for a person beside an answer. They don't change the answer.
 //!
-//! A [`Watched`] reader keeps the first bytes of a section for them. [`tell_bad`], [`tell_good`], [`tell_refused`] and
-//! [`tell_table`] print what there is to say of an answer. Some of it takes a second look into a file, which only comes
-//! where such a note is near, and only into files that can be read again.
+//! A [`Watched`] reader keeps the first bytes of a section for them. [`tell_bad`], [`tell_good`], [`tell_agreed`],
+//! [`tell_refused`] and [`tell_table`] print the notes to an answer. Some notes need a file to be read again. That is done only
+//! where the answer makes such a note likely, and only for files that can be read again.
 #![tactic(auto)]
 
 mod ends;

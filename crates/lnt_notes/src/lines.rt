@@ -1,11 +1,11 @@
-//! Where the records of a table begin.
+//! The lines at which records of a table begin, and the kinds of its columns.
 use csv::{ByteRecord, Reader, ReaderBuilder};
 use lnt_text::Column;
 use std::alloc::Global;
 use std::io::Read;
 
-// The line of the text, counted from 1, in which a record of it begins; none where it has fewer records. The error is that
-// it can't be read so far, or that memory ran out.
+// The line, counted from 1, in which the record with this index, counted from 0, begins. None where the text has fewer
+// records. An error where the text can't be read that far, or memory ran out.
 pub(crate) fn line_of<R: Read + Drop>(
     alloc: Global,
     text: R,
@@ -22,8 +22,8 @@ pub(crate) fn line_of<R: Read + Drop>(
     Ok(row.position().map(|position| position.line()))
 }
 
-// Reads the records of a table up to the one with the index `record`, counted from 0, which `row` then holds. Gives false
-// where there are fewer.
+// Reads the records of a table up to the one with the index `record`, counted from 0, into `row`, one over the other, so that
+// `row` holds that one. False where there are fewer.
 fn reads<R: Read>(
     reader: &mut Reader<R>,
     row: &mut ByteRecord,
@@ -37,16 +37,16 @@ fn reads<R: Read>(
     reader.read_byte_record(row)
 }
 
-/// Which columns a table has.
+/// The columns that a table has.
 #[derive(Clone, Copy, Debug, PartialEq, Eq)]
 pub enum Columns {
-    /// Those of version 1 or 2, which tell units and file numbers.
+    /// Those of version 1 or 2, with units and file numbers.
     Numbered,
-    /// Those of version 3 or 4, which tell paths.
+    /// Those of version 3 or 4, with paths.
     ByPath,
 }
 
-// The column with an index, counted from 0, of a table with these columns.
+// The kind of the column with this index, counted from 0, in a table with these columns.
 pub(crate) fn column_at(columns: Columns, index: u64) -> Column {
     match columns {
         Columns::Numbered => numbered_column(index),
@@ -54,7 +54,7 @@ pub(crate) fn column_at(columns: Columns, index: u64) -> Column {
     }
 }
 
-// The column of version 3 or 4. A path, in column 2, may be any bytes, so that nothing is said of it.
+// The kind of this column in versions 3 and 4. Column 2, the path, has no case of its own: a path may be any bytes.
 fn path_column(index: u64) -> Column {
     match index {
         0 => Column::Low,
@@ -64,7 +64,7 @@ fn path_column(index: u64) -> Column {
     }
 }
 
-// The column of version 1 or 2.
+// The kind of this column in versions 1 and 2.
 fn numbered_column(index: u64) -> Column {
     match index {
         0 => Column::Low,

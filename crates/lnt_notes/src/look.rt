@@ -1,9 +1,10 @@
-//! What bytes look like that no section begins with.
+//! What a file looks like that isn't a raw section.
 use crate::watched::Seen;
 use lnt_text::Look;
 use lnt_wire::{Cursor, Order};
 
-// What bytes look like that aren't those of a section in this order. None where they look like nothing else.
+// What the bytes look like other than a section in this byte order: another kind of file, a compressed section, text, or a
+// section in the other order. None where they look like none of these.
 pub(crate) fn look_of(seen: &Seen, order: Order) -> Option<Look> {
     let head = seen.head();
     if let Some(look) = file_look(head) {
@@ -25,7 +26,7 @@ pub(crate) fn look_of(seen: &Seen, order: Order) -> Option<Look> {
     None
 }
 
-// The kind of file that begins so.
+// The kind of file that begins with these bytes, if it is a known one.
 fn file_look(head: &[u8]) -> Option<Look> {
     match head {
         [0x7f, b'E', b'L', b'F', ..] => Some(Look::Elf),
@@ -39,8 +40,8 @@ fn file_look(head: &[u8]) -> Option<Look> {
     }
 }
 
-// Whether the bytes begin with the header of a compressed section, of ELF or of the older `.zdebug_line`. ELF's tells the
-// kind of compression, 1 or 2, in four bytes, and takes 12 bytes or 24.
+// Whether the bytes begin with the header of a compressed section: that of ELF, or that of the older `.zdebug_line`. ELF's
+// begins with the kind of compression, 1 or 2, in four bytes, and has 12 bytes or 24.
 fn holds_compressed(head: &[u8]) -> bool {
     match head {
         [b'Z', b'L', b'I', b'B', ..] => true,
@@ -51,7 +52,7 @@ fn holds_compressed(head: &[u8]) -> bool {
     }
 }
 
-// Whether bytes begin as zlib or zstd write them.
+// Whether the bytes begin like a stream of zlib or zstd.
 fn begins_stream(bytes: &[u8]) -> bool {
     match bytes {
         [0x28, 0xb5, 0x2f, 0xfd, ..] => true,
@@ -64,7 +65,7 @@ fn is_of_text(byte: u8) -> bool {
     matches!(byte, b' '..=b'~' | b'\n' | b'\r' | b'\t')
 }
 
-// Whether the length of the first unit, read in this order, fits into the bytes that there are.
+// Whether the first unit, by its length in this byte order, ends within the bytes that were read.
 fn fits(seen: &Seen, order: Order) -> bool {
     match size_in(seen.head(), order) {
         Some(size) => size <= seen.count(),
@@ -72,7 +73,7 @@ fn fits(seen: &Seen, order: Order) -> bool {
     }
 }
 
-// How many bytes the first unit has with its length, read in this order (DWARF 5, section 7.4).
+// The number of bytes of the first unit, its length field included, in this byte order (DWARF 5, section 7.4).
 fn size_in(head: &[u8], order: Order) -> Option<u64> {
     let mut cursor = Cursor::new(head, 0, order);
     match cursor.u32().ok()? {

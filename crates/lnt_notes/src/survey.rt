@@ -1,4 +1,4 @@
-//! At which addresses the sequences of a section begin.
+//! The addresses at which sequences of discarded code may begin in a section.
 ghost use Rattle.std.specs.Prelude.{◌-◌, ◌^◌, ◌<◌};
 
 use crate::marks::is_mark;
@@ -8,14 +8,14 @@ use lnt_unit::UnitInPlace;
 use lnt_wire::{Order, Source};
 use std::alloc::Global;
 
-// At which addresses the sequences of a section begin, as far as that tells discarded code.
+// The addresses at which the sequences of a section begin, so far as they point to discarded code.
 #[derive(Clone, Copy)]
 pub(crate) struct Survey {
-    // the address that was told to be that of discarded code
+    // the address of discarded code that the words give
     dead: Option<u64>,
-    // whether a sequence begins there
+    // whether a sequence begins at that address
     pub(crate) begins_dead: bool,
-    // the first other address where linkers leave discarded code, at which a sequence begins, and how many begin there
+    // the first other address at which a sequence begins and linkers leave discarded code, and how many sequences begin there
     pub(crate) mark: Option<u64>,
     pub(crate) count: u64,
 }
@@ -30,7 +30,7 @@ impl Survey {
         }
     }
 
-    // Takes note of the first row of a sequence, in a unit whose addresses have `address_size` bytes.
+    // Adds a sequence by its first row, in a unit whose addresses have `address_size` bytes.
     fn see(&mut self, row: &Row, address_size: u8) {
         let address = row.address;
         if self.dead == Some(address) {
@@ -45,7 +45,7 @@ impl Survey {
         }
     }
 
-    // Takes note of the sequences of a unit. None where its program doesn't run.
+    // Adds the sequences of a unit. None where its program doesn't run to its end.
     #[tactic(auto, using(lnt_machine::proofs::WalkLaws::step_allowed))]
     fn see_unit(&mut self, unit: &UnitInPlace<'_>) -> Option<()> {
         let numbers = unit.numbers();
@@ -69,8 +69,8 @@ impl Survey {
     }
 }
 
-// The survey of the section that the source has to give. Where `all` isn't asked for, it ends at the first sequence of
-// discarded code. None where the section isn't read to its end.
+// The survey of the section that the source has to give. Unless `all` is asked for, it ends after the first unit in which a
+// sequence begins at the address `dead`. None where the section can't be read as far as that, or a program doesn't run.
 pub(crate) fn survey_of<R: Source>(
     alloc: Global,
     source: &mut R,

@@ -1,4 +1,4 @@
-//! Which notes there are to an answer.
+//! Prints the notes to an answer.
 ghost use Rattle.std.specs.Prelude.{OnOk};
 ghost use Rattle.std.specs.Io.KnownBytes.{Appends};
 ghost use Rattle.lnt_text.specs.Notes.{note_line};
@@ -21,14 +21,14 @@ use lnt_wire::Order;
 use std::alloc::Global;
 use std::io::{self, Write};
 
-/// What was given to judge a section.
+/// The file and options that were given to judge a section.
 #[derive(Clone, Copy)]
 pub struct Given<'a> {
     /// The file of the section.
     pub section: &'a str,
-    /// The order of the bytes of its numbers.
+    /// The byte order of its numbers.
     pub order: Order,
-    /// The address at which sequences of dead code begin, where one is told.
+    /// The address at which sequences of dead code begin, where one is given.
     pub dead: Option<u64>,
     /// Whether copies are skipped.
     pub skip_copies: bool,
@@ -38,18 +38,18 @@ pub struct Given<'a> {
     pub has_strings: bool,
 }
 
-/// What of a good section may be worth a note.
+/// What may be worth a note about a good section.
 #[derive(Clone, Copy)]
 pub struct Hints {
     /// No sequence holds a position.
     pub holds_nothing: bool,
-    /// An address that is held, at which linkers leave discarded code. A sequence may begin there.
+    /// An address that a sequence holds and at which linkers leave discarded code. A sequence may begin there.
     pub mark: Option<u64>,
     /// No sum is listed, and sums were asked for.
     pub lists_no_sum: bool,
 }
 
-/// What of a good section with this index may be worth a note, where sums weren't asked for.
+/// The hints of a good section with this index, where sums weren't asked for.
 pub fn hints_of(index: &Index<'_>) -> Hints {
     let first = index.spans().next_span();
     let mark = match &first {
@@ -63,7 +63,7 @@ pub fn hints_of(index: &Index<'_>) -> Hints {
     }
 }
 
-// The greatest addresses at which linkers leave discarded code, in 2, 4 and 8 bytes.
+// The addresses other than 0 at which linkers leave discarded code: the two greatest of 2, 4 and 8 bytes.
 const MARKS: [u64; 6] = [
     0xfffe,
     0xffff,
@@ -73,7 +73,7 @@ const MARKS: [u64; 6] = [
     0xffff_ffff_ffff_ffff,
 ];
 
-// The first of these addresses that a sequence holds, which doesn't hold the address before it.
+// The first of `MARKS` that some sequence holds while none holds the address before it, so that one may begin there.
 fn held_mark(index: &Index<'_>) -> Option<u64> {
     for address in MARKS {
         if holds(index, address) && !holds(index, address - 1) {
@@ -95,7 +95,8 @@ pub fn print_note<N: Write>(note: Note, notes: &mut N) -> io::Result<()>
     writeln!(notes, "linetab: note: {note}")
 }
 
-/// Prints the notes to a line of refusal, where the section was read in this order and its lines weren't judged.
+/// Prints the note to a refusal, where the section was read in this byte order and its lines weren't judged: what the file
+/// looks like instead, if it looks like something else.
 pub fn tell_refused<N: Write>(seen: &Seen, order: Order, notes: &mut N) -> io::Result<()> {
     match look_of(seen, order) {
         Some(look) => print_note(Note::NotRaw(look), notes),
@@ -103,7 +104,7 @@ pub fn tell_refused<N: Write>(seen: &Seen, order: Order, notes: &mut N) -> io::R
     }
 }
 
-/// Prints the notes to what is wrong with a section.
+/// Prints the notes to the reason why a section isn't good.
 pub fn tell_bad<O: Opener, N: Write>(
     alloc: Global,
     no: &No,
@@ -160,7 +161,7 @@ pub fn tell_good<O: Opener, N: Write>(
     Ok(())
 }
 
-// Prints the option that names the strings in which the texts of a table lie, where they weren't given.
+// Prints the option that gives the string section with the paths of this table of a unit, where it wasn't given.
 fn tell_strings<O: Opener, N: Write>(
     alloc: Global,
     unit: u64,
@@ -194,8 +195,9 @@ fn strings_again<O: Opener>(
     strings_of(alloc, &mut source, given.order, unit, which)
 }
 
-// Prints what there is to say of sequences that begin where linkers leave discarded code. Where the section can't be read
-// again, an address that is known to be one stands for them.
+// Prints the notes that sequences begin where linkers leave discarded code, and that none begins at the address given for such
+// code. Where the section can't be read again, the only note is one about `known`, if there is such an address, with no count
+// of sequences.
 fn tell_dead<O: Opener, N: Write>(
     alloc: Global,
     known: Option<u64>,
@@ -230,7 +232,8 @@ fn survey_again<O: Opener>(
     survey_of(alloc, &mut source, given.order, given.dead, all)
 }
 
-// Prints that copies can be skipped, where the two sequences that overlap hold the same positions.
+// Prints that copies can be skipped, where the two sequences that overlap begin and end at the same positions and copies
+// aren't skipped yet.
 fn tell_copies<O: Opener, N: Write>(
     alloc: Global,
     first: SeqId,
@@ -257,7 +260,7 @@ fn alike_again<O: Opener>(
     end_alike(alloc, &mut source, given.order, first, second)
 }
 
-/// Prints the notes to a table that answers as a good section does, in the file of this name.
+/// Prints the notes to a table, in the file of this name, that answers as a good section does.
 pub fn tell_agreed<O: Opener, N: Write>(
     alloc: Global,
     given: &Given<'_>,
@@ -277,8 +280,8 @@ pub fn tell_agreed<O: Opener, N: Write>(
     Ok(())
 }
 
-/// Prints the note to a fault of the table in the file of this name, which was read as one with these columns. A faulty header
-/// is that of no version at all, whatever the columns.
+/// Prints the note to a fault of the table in the file of this name, which was read as one with these columns. For a fault of
+/// the header the columns don't count: the header is that of no version.
 pub fn tell_table<O: Opener, N: Write>(
     alloc: Global,
     fault: TableFault,

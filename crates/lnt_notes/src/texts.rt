@@ -1,4 +1,4 @@
-//! In which section the texts of entries lie.
+//! The string section that has the paths of a unit's table.
 ghost use Rattle.std.specs.Prelude.{◌-◌, ◌^◌, ◌<◌};
 
 use lnt_header::{EntryTable, Header, Pair};
@@ -11,8 +11,8 @@ use std::alloc::Global;
 // The content type of a path (DWARF 5, section 6.2.4.1).
 const PATH: u64 = 1;
 
-// The section in which the paths of a table lie, of the unit at an offset. None where they lie in none, or the unit isn't
-// reached.
+// The string section that has the paths of this table of the unit at this offset. None where no string section has them, or
+// the unit can't be read.
 pub(crate) fn strings_of<R: Source>(
     alloc: Global,
     source: &mut R,
@@ -45,8 +45,8 @@ fn format_of(header: &Header, which: EntryTable) -> &[Pair] {
     }
 }
 
-// The section of strings in which the paths of a table with this format lie. None where they lie in neither. The first path
-// of the format counts.
+// The string section that has the paths of a table with this format, by the form of the first path in the format. None where
+// neither section has them.
 fn strings_by(format: &[Pair]) -> Option<StringSection> {
     for pair in format {
         if pair.content == PATH {

@@ -1,13 +1,13 @@
-//! What was seen of the bytes of a file while they were read.
+//! A reader that keeps the first bytes of a file and counts all of them.
 ghost use Rattle.std.specs.Prelude.{◌≡◌};
 
 use std::cell::Cell;
 use std::io::{self, Read};
 
-// How many of the first bytes are kept.
+// The number of first bytes that are kept.
 const HEAD: usize = 64;
 
-/// What was seen of the bytes of a file: the first ones, and how many there were.
+/// The first 64 bytes that were read of a file, and the number of all bytes that were read.
 #[derive(Clone, Copy)]
 pub struct Seen {
     head: [u8; HEAD],
@@ -15,7 +15,7 @@ pub struct Seen {
 }
 
 impl Seen {
-    /// Nothing yet.
+    /// No byte was read yet.
     pub fn nothing() -> Seen {
         Seen {
             head: [0; HEAD],
@@ -32,7 +32,7 @@ impl Seen {
         }
     }
 
-    // How many bytes there were.
+    // The number of bytes that were read; at most `u64::MAX` is counted.
     pub(crate) fn count(&self) -> u64 {
         self.count
     }
@@ -47,7 +47,7 @@ impl Seen {
     }
 }
 
-/// A reader whose bytes are seen as they are read.
+/// A reader that notes in a cell which bytes it reads.
 #[derive(Drop)]
 pub struct Watched<'a, R> {
     reader: R,
@@ -55,7 +55,7 @@ pub struct Watched<'a, R> {
 }
 
 impl<'a, R: Read> Watched<'a, R> {
-    /// The same reader, which has the same bytes to give; what is seen of them goes into the cell.
+    /// A reader with the same bytes to give as this one. The cell gets what is noted of them, at each read.
     pub fn new(reader: R, seen: &'a Cell<Seen>) -> Watched<'a, R>
         ensures { ⟦<Watched<'a, R> as Read>⟧.remaining result ≡ R.remaining reader }
     {

@@ -1,4 +1,4 @@
--- Which answers of a check of a table of any version are true of a section and a table.
+-- Which answers of `check_any` can be true of one section and one table.
 use Rattle.std.proofs.Common.{◌≡◌, ℕ, List, length, refl, sym, ap, arith}
 use Rattle.lnt_spans.specs.declared.answer.Version.{Version}
 use Rattle.lnt_spans.specs.declared.answer.Version.TheVariants.{One, Two}

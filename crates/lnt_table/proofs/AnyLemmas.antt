@@ -32,7 +32,7 @@ use Rattle.lnt_table.specs.Headline.{IsTrueOfSection, IsTrueVerdict}
 use Rattle.lnt_table.specs.Verdicts.{IsComparedWith, verdict_of}
 use Rattle.lnt_table.proofs.CheckLemmas.{compared_told, good_told}
 
--- a comparison with what is answered alike
+-- a comparison with the answers of `f` is one with the same answers given by `g`
 pub compared_so : (bytes : List ℕ) (f g : PathVersion → Position → Option PathAnswer) (compared : ComparedByPath)
     → ((version : PathVersion) (p : Position) → f version p ≡ g version p) → IsPathComparison bytes f compared
     → IsPathComparison bytes g compared
@@ -66,7 +66,7 @@ path_told (Some bytes) taken index dead skip units spans compared other answers 
       (λ version p. ap (option_map (path_answer version (path_at index))) (answers p)) h);
 }
 
--- The verdict is the header's fault only where that was found.
+-- The verdict is `Header` only where the comparison found that fault.
 header_found : (found : Compared) → verdict_of found ≡ No no.Header → found ≡ kind.Fault fault.Header
 header_found kind.Same e = cc
 header_found (kind.Fault fault.Header) e = refl
@@ -110,7 +110,7 @@ any_told line general options (Some section) table index checked i h =
     of_table None k = tt
     of_table (Some bytes) k = check_told line general options section bytes index checked i k
 
--- ---- what is told of the section
+-- ---- what an answer says of the section
 
 pub section_so : (line general : List ℕ) (options : Options) (section : Option (List ℕ)) (index : Indexed) (checked : Checked)
     → IfSome section (λ bytes. IsIndexOfSection line general options bytes index) → IsOfGood checked
@@ -121,7 +121,7 @@ section_so line general options section index (Numbered verdict) i h =
 section_so line general options None index (ByPath compared) i h = tt
 section_so line general options (Some bytes) index (ByPath compared) i h = (i.units, i.good)
 
--- a verdict of a good section is none of the section
+-- the verdict of a comparison has no reason of the section
 none_of_section : (compared : Compared) (reason : SectionNo) → verdict_of compared ≡ No (no.Section reason) → ⊥
 none_of_section kind.Same reason e = cc
 none_of_section (kind.Fault fault.Header) reason e = cc

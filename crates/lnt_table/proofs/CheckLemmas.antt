@@ -21,7 +21,7 @@ use Rattle.lnt_lines.specs.Indexed.{Indexed, IsIndexOf}
 use Rattle.lnt_table.specs.Headline.{IsFaultyTable, IsTrueOfSection, IsTrueVerdict, told_answer}
 use Rattle.lnt_table.specs.Verdicts.{IsComparedWith, verdict_of}
 
--- Lines tell what the rows answer in each version.
+-- Spans that answer as the rows do also answer so as each version tells answers.
 pub told_so : (version : Version) (dead : Option ℕ) (skip : Bool) (units : List (ℕ × Parts)) (spans : List Span)
     → ((p : Position) → span_answer spans p ≡ line_answer dead skip units p)
     → (p : Position) → version_answer version spans p ≡ told_answer version dead skip units p
@@ -82,7 +82,7 @@ section_told line general options section index (Fault (fault.Number k n)) i = (
 section_told line general options section index (Fault (fault.Order k)) i = (i.units, i.good)
 section_told line general options section index (Differs difference) i = (i.units, i.good)
 
--- ---- the same where sources tell their bytes
+-- ---- the same for sources whose bytes are known
 
 abbrev Compares : Option (List ℕ) → Indexed → Compared → Type 0
 Compares table index compared = (dead : Option ℕ) (skip : Bool) (units : List (ℕ × Parts)) → IsIndexOf dead skip units index
@@ -104,7 +104,7 @@ verdict_told line general options None table index compared i h = tt
 verdict_told line general options (Some section) table index compared i h =
     table_told line general options section table index compared i (h options.dead options.skip_copies i.units i.index_is)
 
--- what is found of the spans of an index
+-- a comparison with the spans of an index is one with the rows of its units
 pub found_with : (table : Option (List ℕ)) (dead : Option ℕ) (skip : Bool) (units : List (ℕ × Parts)) (spans : List Span)
     (compared : Compared) → ((p : Position) → span_answer spans p ≡ line_answer dead skip units p)
     → IfSome table (λ bytes. IsComparison bytes spans compared) → IfSome table (λ text. IsComparedWith dead skip units text compared)

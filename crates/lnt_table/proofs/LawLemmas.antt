@@ -1,4 +1,4 @@
--- Where the section is good and the table answers as it does, no other verdict is true.
+-- Where the section is good and the table answers as it does, no verdict but Yes is true.
 use Rattle.std.proofs.Common.{◌∙◌, ℕ, List, refl, sym, subst}
 use Rattle.lnt_unit.specs.declared.unit.Parts.{Parts}
 use Rattle.lnt_unit.proofs.UnitLaws.{same_units}

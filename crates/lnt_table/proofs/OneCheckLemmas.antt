@@ -1,4 +1,4 @@
--- Of a section and a table, of whatever version it is, one thing is told.
+-- All true answers of `check_any` for one section and one table say the same.
 use Rattle.std.proofs.Common.{◌≡◌, ◌∙◌, ℕ, zero, suc, List, [], ◌∷◌, Option, Some, None, refl, sym, ap, subst}
 use Rattle.std.specs.List.{AllZip, position, slice_get}
 use Rattle.std.specs.Prelude.{◌==◌}
@@ -31,7 +31,7 @@ use Rattle.lnt_table.proofs.AnyLemmas.{compared_so}
 abbrev header_of : Option Kept → Option HeaderParts
 header_of found = option_map (λ (kept : Kept). kept.header) found
 
--- two lists of programs that are kept of the same units have the same headers
+-- two lists of programs kept for the same units have the same headers
 same_headers : (units : List (ℕ × Parts)) (xs ys : List Kept) (k : ℕ)
     → AllZip (λ (unit : ℕ × Parts) (kept : Kept). Keeps kept unit.1) units xs
     → AllZip (λ (unit : ℕ × Parts) (kept : Kept). Keeps kept unit.1) units ys
@@ -82,7 +82,7 @@ path_in line general options section one other unit file i j =
 pub one_path : OnePath
 one_path = record { one = path_in }
 
--- ---- what is told by path
+-- ---- comparisons by path
 
 answer_alike : (version : PathVersion) (one other : Indexed) (found : Option Answer)
     → ((unit file : ℕ) → file_path_in one unit file ≡ file_path_in other unit file)
@@ -115,7 +115,7 @@ by_path paths comparisons line general options section table one other h k =
     (told_alike paths line general options section h.index k.index h.of_section k.of_section) h.told.comparison in
     comparisons table (λ version. told_path version k.index dead skip k.of_section.units) one other here k.told.comparison
 
--- ---- what is told
+-- ---- all answers
 
 not_numbered : (compared : ComparedByPath) (verdict : Verdict) → ByPath compared ≡ Numbered verdict → ⊥
 not_numbered compared verdict e = cc

@@ -1,4 +1,4 @@
--- Of a section and a table one verdict is true.
+-- At most one verdict is true of a section and a table.
 use Rattle.std.proofs.Common.{◌≡◌, ◌∙◌, ℕ, List, Option, refl, sym, ap, subst, inl, inr}
 use Rattle.lnt_unit.specs.declared.unit.Parts.{Parts}
 use Rattle.lnt_unit.proofs.UnitLaws.{same_units}

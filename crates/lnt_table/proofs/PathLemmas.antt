@@ -1,4 +1,4 @@
--- What becomes of a table by path of what is answered alike.
+-- A table by path that was written for some answers was also written for the same answers given by another function.
 use Rattle.std.proofs.Common.{◌≡◌, ◌∙◌, ℕ, List, Option}
 use Rattle.lnt_paths.specs.declared.version.PathTable.{PathTable}
 use Rattle.lnt_paths.specs.declared.version.PathTable.TheVariants.{OperationIndex, Written}

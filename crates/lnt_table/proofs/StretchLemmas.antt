@@ -1,4 +1,4 @@
--- The stretches at which a table answers otherwise than the rows of units.
+-- The stretches at which the answers of a table and of the rows of units differ.
 use Rattle.std.proofs.Common.{◌≡◌, ◌≢◌, Bool, ℕ, List, [], ◌∷◌, Option, Some, None, IfSome, Vec, Global, subst}
 use Rattle.lnt_unit.specs.declared.unit.Parts.{Parts}
 use Rattle.lnt_spans.specs.declared.answer.Answer.{Answer}

@@ -1,4 +1,4 @@
--- What is written of lines.
+-- Canonical spans of lines, in a version, have only answers that the version can tell.
 use Rattle.std.proofs.Common.{◌≡◌, List, [], ◌∷◌}
 use Rattle.std.specs.List.{All}
 use Rattle.std.proofs.lemmas.List.Elements.{All-cons, All-nil}

@@ -1,4 +1,4 @@
--- What is said of a section and an address table of any version.
+-- What the answers of `check_any` say of a section and an address table of any version.
 --     line, general    the bytes of .debug_line_str and of .debug_str
 --     section, table   the bytes of .debug_line, and those of the address table
 use Rattle.std.specs.Prelude.{◌≡◌, ◌≢◌, ℕ, Bool, List, [], ◌∷◌, Option}
@@ -19,40 +19,40 @@ use Rattle.lnt_table.specs.ByPath.{told_path}
 use Rattle.lnt_table.specs.Headline.{IsGoodSection, IsTrueOfSection, IsTrueVerdict}
 use Rattle.lnt_table.specs.Verdicts.{IsComparedWith, verdict_of}
 
--- The bytes don't begin with the header of version 1 or 2. This is what their comparison with what the rows of the units
--- answer tells, with the whole path of each file, as versions 3 and 4 tell answers; `Fault` of the header, where they begin
--- with the header of neither of these.
+-- The table begins with the header of neither version 1 nor 2. `compared` is true of the table and of the answers of the
+-- units' rows, with each file's whole path, as versions 3 and 4 tell answers: `Fault` of the header, where the table begins
+-- with that of neither of these.
 pub record IsComparedByPath (index : Indexed) (dead : Option ℕ) (skip : Bool) (units : List (ℕ × Parts)) (table : List ℕ)
     (compared : ComparedByPath) : Type 0 where
   pub unnumbered : (version : Version) → BeginsWith table (column_names version ∷ []) → ⊥
   pub comparison : IsPathComparison table (λ version. told_path version index dead skip units) compared
 
--- The section is good, and that is so of it.
+-- The section is good, and `compared` is true of the table and of an index of the section.
 pub record IsTrueByPath (line general : List ℕ) (options : Options) (section table : List ℕ) (compared : ComparedByPath) : Type 0 where
   pub index : Indexed
   pub of_section : IsIndexOfSection line general options section index
   pub told : IsComparedByPath index options.dead options.skip_copies of_section.units table compared
 
--- What is told is so, and it is the first thing that is wrong. Of a table with the header of neither version 1 nor 2 no
--- verdict is told, unless the section isn't good.
+-- The answer is true, and a reason that it gives is the first. Where the section is good and the table begins with the header
+-- of neither version 1 nor 2, it is an answer by path and no verdict.
 abbrev pub IsTrueCheck : List ℕ → List ℕ → Options → List ℕ → List ℕ → Checked → Type 0
 IsTrueCheck line general options section table (Numbered verdict) =
     IsTrueVerdict line general options section table verdict × (verdict ≢ No no.Header)
 IsTrueCheck line general options section table (ByPath compared) = IsTrueByPath line general options section table compared
 
--- What is told of the section, whatever the table is: it is good, or it isn't, and that is why.
+-- What the answer says of the section, whatever the table is: that it is good, or why it isn't.
 abbrev pub IsTrueCheckOfSection : List ℕ → List ℕ → Options → List ℕ → Checked → Type 0
 IsTrueCheckOfSection line general options section (Numbered verdict) = IsTrueOfSection line general options section verdict
 IsTrueCheckOfSection line general options section (ByPath compared) = IsGoodSection line general options section
 
--- ---- what a comparison with a good section makes of the two. The bodies of this crate use it among themselves.
+-- ---- the answer for a good section, by a comparison; for contracts within this crate
 
 abbrev pub IsCheckedWith : Indexed → Option ℕ → Bool → List (ℕ × Parts) → List ℕ → Checked → Type 0
 IsCheckedWith index dead skip units table (Numbered verdict) =
     (compared : Compared) × IsComparedWith dead skip units table compared × (verdict ≡ verdict_of compared) × (verdict ≢ No no.Header)
 IsCheckedWith index dead skip units table (ByPath compared) = IsComparedByPath index dead skip units table compared
 
--- A verdict is what a comparison makes of it, and none of the section.
+-- A verdict is that of some comparison, so its reason is none of the section.
 abbrev pub IsOfGood : Checked → Type 0
 IsOfGood (Numbered verdict) = (compared : Compared) × (verdict ≡ verdict_of compared)
 IsOfGood (ByPath compared) = Unit {0}

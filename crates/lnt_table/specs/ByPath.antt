@@ -1,4 +1,4 @@
--- What a section answers by path.
+-- The answers of a section by path.
 use Rattle.std.specs.Prelude.{Bool, ℕ, List, [], Option, None, Some}
 use Rattle.std.specs.Option.{option_map}
 use Rattle.lnt_unit.specs.declared.unit.Parts.{Parts}
@@ -8,7 +8,7 @@ use Rattle.lnt_lines.specs.Indexed.{Indexed, file_path_in}
 use Rattle.lnt_paths.specs.declared.version.PathVersion.{PathVersion}
 use Rattle.lnt_paths.specs.PathAnswers.{PathAnswer, path_answer}
 
--- the bytes of a path; none where there is no path, as of no file that a good section's rows name
+-- the bytes of a path; empty where there is none, but each file that a good section's rows name has one
 abbrev pub path_bytes_of : Option (List ℕ) → List ℕ
 path_bytes_of (Some path) = path
 path_bytes_of None = []
@@ -17,6 +17,6 @@ path_bytes_of None = []
 abbrev pub path_at : Indexed → ℕ → ℕ → List ℕ
 path_at index unit file = path_bytes_of (file_path_in index unit file)
 
--- what the rows of a section's units answer at a position, told by path
+-- the answer of the units' rows at a position, by path, as this version tells answers
 abbrev pub told_path : PathVersion → Indexed → Option ℕ → Bool → List (ℕ × Parts) → Position → Option PathAnswer
 told_path version index dead skip units p = option_map (path_answer version (path_at index)) (line_answer dead skip units p)

@@ -1,4 +1,4 @@
--- What is said of a section (DWARF 5, section 6.2) and an address table.
+-- What verdicts say of a section (DWARF 5, section 6.2) and an address table.
 --     line, general    the bytes of .debug_line_str and of .debug_str
 --     section, table   the bytes of .debug_line, and those of the address table
 use Rattle.std.specs.Prelude.{◌≡◌, ℕ, Bool, IsTrue, List, Option}
@@ -26,7 +26,7 @@ use Rattle.lnt_table.specs.declared.verdict.TableNo.TheVariants as no
 use Rattle.lnt_table.specs.declared.verdict.Verdict.{Verdict}
 use Rattle.lnt_table.specs.declared.verdict.Verdict.TheVariants.{Yes, No}
 
--- what the rows of a section answer at a position, as a version of the address table tells answers
+-- the answer of a section's rows at a position, as this version of the address table tells answers
 abbrev pub told_answer : Version → Option ℕ → Bool → List (ℕ × Parts) → Position → Option Answer
 told_answer version dead skip units p = option_map (in_version version) (line_answer dead skip units p)
 
@@ -39,7 +39,7 @@ pub record AnswersRight (line general : List ℕ) (options : Options) (section t
   pub is_table : IsTableOf version table spans
   pub answers : (p : Position) → span_answer spans p ≡ told_answer version options.dead options.skip_copies units p
 
--- The section is good. The first faulty record of the table is as told.
+-- The section is good. The table's bytes are no table, and `told` is their first fault.
 pub record IsFaultyTable (line general : List ℕ) (options : Options) (section table : List ℕ) (told : TableFault) : Type 0 where
   pub units : List (ℕ × Parts)
   pub good : IsGood line general options section units
@@ -54,7 +54,7 @@ pub record AnswersOtherwise (line general : List ℕ) (options : Options) (secti
   pub is_table : IsTableOf version table spans
   pub least : IsLeastDifference (told_answer version options.dead options.skip_copies units) (span_answer spans) difference
 
--- What is told is so, and it is the first thing that is wrong.
+-- The reason is true, and it is the first thing that is wrong.
 abbrev pub IsTrueTableNo : List ℕ → List ℕ → Options → List ℕ → List ℕ → TableNo → Type 0
 IsTrueTableNo line general options section table (no.Section reason) = IsTrueNo line general options section reason
 IsTrueTableNo line general options section table no.Header = IsFaultyTable line general options section table fault.Header
@@ -76,14 +76,14 @@ IsTrueVerdict line general options section table (No reason) = IsTrueTableNo lin
 abbrev pub IsGoodSection : List ℕ → List ℕ → Options → List ℕ → Type 0
 IsGoodSection line general options section = (units : List (ℕ × Parts)) × IsGood line general options section units
 
--- The section is good, or it isn't, and that is why.
+-- The verdict's reason is why the section isn't good; where it gives no such reason, the section is good.
 abbrev pub IsTrueOfSection : List ℕ → List ℕ → Options → List ℕ → Verdict → Type 0
 IsTrueOfSection line general options section (No (no.Section reason)) = IsTrueNo line general options section reason
 IsTrueOfSection line general options section other = IsGoodSection line general options section
 
 -- ---- a stop
 
--- A source was found to have more bytes than it may give; where it tells its bytes, they are more than that.
+-- A source was found to have more bytes than the `left` that it may give. Where its bytes are known, they are more than these.
 pub record IsTooLong (found : Bool) (remaining : Option (List ℕ)) (left : ℕ) : Type 0 where
   pub is_found : IsTrue found
   pub more : HasMoreThan remaining left

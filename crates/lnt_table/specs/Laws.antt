@@ -1,4 +1,4 @@
--- What the laws of verdicts say.
+-- The laws of verdicts and of answers of `check_any`.
 use Rattle.std.specs.Prelude.{◌≡◌, ℕ, List}
 use Rattle.lnt_unit.specs.declared.unit.Parts.{Parts}
 use Rattle.lnt_spans.specs.declared.answer.Version.{Version}
@@ -20,24 +20,24 @@ use Rattle.lnt_table.specs.declared.verdict.Verdict.TheVariants.{Yes}
 use Rattle.lnt_table.specs.Headline.{AnswersRight, IsTrueVerdict}
 use Rattle.lnt_table.specs.Written.{IsTableOfLines, IsTableOfUnits}
 
--- Of a good section, and a table that answers as it does, no verdict is true but Yes.
+-- For a good section, and a table that answers as it does, Yes is the only true verdict.
 abbrev pub OnlyYes : Type 0
 OnlyYes = (line general : List ℕ) (options : Options) (section table : List ℕ) (verdict : Verdict)
     → AnswersRight line general options section table
     → IsTrueVerdict line general options section table verdict → verdict ≡ Yes
 
--- Of one section, table and choice of options at most one verdict is true.
+-- For one section, table and choice of options at most one verdict is true.
 pub record OneVerdict : Type 0 where
   pub one : (line general : List ℕ) (options : Options) (section table : List ℕ) (one other : Verdict)
       → IsTrueVerdict line general options section table one → IsTrueVerdict line general options section table other → one ≡ other
 
--- Of a good section, and a table that was written of its lines, no verdict is true but Yes.
+-- For a good section, and a table that was written of its lines, Yes is the only true verdict.
 abbrev pub OwnTable : Type 0
 OwnTable = (line general : List ℕ) (options : Options) (section table : List ℕ) (lines : Contents) (version : Version) (verdict : Verdict)
     → AreLinesOf line general options section lines → IsTableOfLines version lines.spans table
     → IsTrueVerdict line general options section table verdict → verdict ≡ Yes
 
--- The same of a table that was written of its index.
+-- The same for a table that was written of its index.
 abbrev pub OwnTableOfUnits : Type 0
 OwnTableOfUnits =
     (line general : List ℕ) (options : Options) (section table : List ℕ) (units : List (ℕ × Parts)) (version : Version) (verdict : Verdict)
@@ -46,13 +46,13 @@ OwnTableOfUnits =
 
 -- ---- checks of a table of any version
 
--- Where a verdict is true of a section and a table, no other answer is, by number or by path.
+-- Where a verdict is true of a section and a table, no other answer is: neither another verdict nor one by path.
 pub record OneNumbered : Type 0 where
   pub one : (line general : List ℕ) (options : Options) (section table : List ℕ) (verdict : Verdict) (checked : Checked)
       → IsTrueCheck line general options section table (Numbered verdict) → IsTrueCheck line general options section table checked
       → checked ≡ Numbered verdict
 
--- Two indexes of one section tell the same path of each file.
+-- Two indexes of one section give the same path for each file.
 pub record OnePath : Type 0 where
   pub one : (line general : List ℕ) (options : Options) (section : List ℕ) (one other : Indexed) (unit file : ℕ)
       → IsIndexOfSection line general options section one → IsIndexOfSection line general options section other
@@ -64,13 +64,12 @@ SayTheSame (Numbered one) (Numbered other) = one ≡ other
 SayTheSame (ByPath one) (ByPath other) = told_by_path one ≡ told_by_path other
 SayTheSame one other = ⊥
 
--- Of one section, table and choice of options all true answers say the same.
+-- For one section, table and choice of options all true answers say the same.
 pub record OneCheck : Type 0 where
   pub one : (line general : List ℕ) (options : Options) (section table : List ℕ) (one other : Checked)
       → IsTrueCheck line general options section table one → IsTrueCheck line general options section table other → SayTheSame one other
 
--- Of a good section, and the table by path that was written of its index, it is true that both answer the same by path, and
--- no verdict is.
+-- For a good section, and the table by path that was written of its index, `ByPath Same` is a true answer, and no verdict is.
 pub record OwnTableByPath : Type 0 where
   pub same : (line general : List ℕ) (options : Options) (section table : List ℕ) (index : Indexed) (version : PathVersion)
       → (i : IsIndexOfSection line general options section index)

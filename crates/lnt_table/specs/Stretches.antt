@@ -1,4 +1,4 @@
--- All places where a table answers otherwise than a section's rows.
+-- All positions at which the answers of a table and of a section's rows differ.
 use Rattle.std.specs.Prelude.{◌≢◌, Bool, ℕ, List, [], ◌∷◌, Option}
 use Rattle.lnt_unit.specs.declared.unit.Parts.{Parts}
 use Rattle.lnt_spans.specs.declared.answer.Version.{Version}
@@ -19,8 +19,8 @@ use Rattle.lnt_table.specs.declared.stretches.AnyDiffering.{AnyDiffering}
 use Rattle.lnt_table.specs.declared.stretches.AnyDiffering.TheVariants.{ByPath, Numbered}
 use Rattle.lnt_table.specs.Headline.{told_answer}
 
--- The bytes are a table, and the stretches at which it answers otherwise than the rows of the units, as far as its version
--- tells, come one after another: no stretch is told yet.
+-- The bytes are a table, and `differences` is about to give the first of the stretches at which the answers of the table and
+-- of the units' rows differ, as the table's version tells answers.
 pub record DiffersFromUnits {S T : Type 0} (of_section : S → List Span → Type 0) (of_table : T → List Span → Type 0) (dead : Option ℕ)
     (skip : Bool) (units : List (ℕ × Parts)) (table : List ℕ) (differences : Differences S T) : Type 0 where
   pub version : Version
@@ -28,15 +28,15 @@ pub record DiffersFromUnits {S T : Type 0} (of_section : S → List Span → Typ
   pub is_table : IsTableOf version table spans
   pub told : HasTold of_section of_table differences (told_answer version dead skip units) (span_answer spans) []
 
--- That, or the first fault of the bytes.
+-- The stretches of a table, or the first fault of bytes that are none.
 abbrev pub IsDifferingFrom : {S : Type 0} → (Remaining S → List Span → Type 0) → (SpanList → List Span → Type 0) → Option ℕ → Bool
     → List (ℕ × Parts) → List ℕ → Differing S → Type 0
 IsDifferingFrom of_section of_table dead skip units table (Fault told) = IsFault table told
 IsDifferingFrom of_section of_table dead skip units table (Table differences) =
     DiffersFromUnits of_section of_table dead skip units table differences
 
--- Of a table of any version: with the header of version 1 or 2 it is that, and the fault that is told isn't the header's. Else the
--- bytes begin with the header of neither, and what is held is the table by path that they are, or its first fault.
+-- For bytes with the header of version 1 or 2: the same, and the fault isn't the header's. Else the bytes begin with neither
+-- header, and `held` is the table by path that they are, or their first fault.
 abbrev pub IsAnyDiffering : {S : Type 0} → (Remaining S → List Span → Type 0) → (SpanList → List Span → Type 0) → Option ℕ → Bool
     → List (ℕ × Parts) → List ℕ → AnyDiffering S → Type 0
 IsAnyDiffering of_section of_table dead skip units table (Numbered told) =
@@ -44,7 +44,7 @@ IsAnyDiffering of_section of_table dead skip units table (Numbered told) =
 IsAnyDiffering of_section of_table dead skip units table (ByPath held) =
     ((version : Version) → BeginsWith table (column_names version ∷ []) → ⊥) × IsHeld table held
 
--- No stretch is told yet of a table of numbers, and the spans of one by path stand in order, whatever the units are.
+-- Whatever the units are: of a table by number no stretch has been given yet, and the spans of a table by path are in order.
 abbrev pub IsStartedAny : {S : Type 0} → (Remaining S → List Span → Type 0) → (SpanList → List Span → Type 0) → AnyDiffering S → Type 0
 IsStartedAny of_section of_table (Numbered told) = IsStarted of_section of_table told
 IsStartedAny of_section of_table (ByPath held) = HoldsInOrder held

@@ -1,4 +1,4 @@
--- What a comparison of a table with a good section makes of the two. The bodies of this crate use it among themselves.
+-- The verdict that follows from comparing a table with a good section.
 use Rattle.std.specs.Prelude.{◌≡◌, Bool, ℕ, List, Option}
 use Rattle.lnt_unit.specs.declared.unit.Parts.{Parts}
 use Rattle.lnt_spans.specs.declared.position.Position.{Position}
@@ -27,7 +27,7 @@ verdict_of Same = Yes
 verdict_of (Fault told) = No (no_of_fault told)
 verdict_of (Differs difference) = No (no.Differs difference.position difference.by_table difference.by_section)
 
--- It is what a comparison of the table with spans tells that answer as the rows of the units.
+-- `compared` is true of the table and of some spans that answer as the units' rows do.
 pub record IsComparedWith (dead : Option ℕ) (skip : Bool) (units : List (ℕ × Parts)) (table : List ℕ) (compared : Compared) : Type 0 where
   pub spans : List Span
   pub answers : (p : Position) → span_answer spans p ≡ line_answer dead skip units p

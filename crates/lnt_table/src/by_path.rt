@@ -1,4 +1,4 @@
-//! A section checked against an address table of any version.
+//! Checks a section against an address table of any version.
 ghost use Rattle.std.specs.Prelude.{◌≡◌, ◌≢◌, ◌+◌, ◌-◌, ◌^◌, ◌<◌, ◌⊎◌, Bool, ℕ, List, Option, IfOk, IfSome, IsErrOf};
 ghost use Rattle.lnt_lines.specs.declared.no.No.{No as SectionNo};
 ghost use Rattle.lnt_wire.specs.declared.stop.Stop.TheVariants.{Read, TooLong};
@@ -15,23 +15,23 @@ use lnt_records::{TableRead, compare_or_take};
 use lnt_wire::{Source, Stop, Strings};
 use std::alloc::{AllocError, Global};
 
-/// What a check of a table of any version answers.
+/// The answer of `check_any`.
 #[derive(Drop)]
 pub enum Checked {
-    /// The section isn't good, or the table is one of version 1 or 2, as far as its header tells: this is the verdict.
+    /// The section isn't good, or the table begins with the header of version 1 or 2. This is the verdict, as `check` gives it.
     Numbered(Verdict),
-    /// The section is good, and the table's header isn't that of version 1 or 2. This is what its comparison with the section
-    /// tells, in versions 3 and 4: `Fault` of the header, where it isn't that of these either.
+    /// The section is good, and the table begins with the header of neither version 1 nor 2. This is the outcome of its
+    /// comparison with the section in versions 3 and 4: `Fault` of the header, where it begins with neither of theirs.
     ByPath(ComparedByPath),
 }
 
 /// Checks a section as `check` does, against an address table of any of the four versions.
 ///
-/// Of a table with the header of version 1 or 2 it answers what `check` answers. Of another one it tells whether it is one of
-/// version 3 or 4 that answers at every position as the rows of the section do, with the whole path of each file byte for
-/// byte, and with line and, in version 3, column (`IsTrueCheck`); else the first fault or the least difference.
+/// For a table with the header of version 1 or 2 it answers what `check` answers. For any other it answers whether the table
+/// is one of version 3 or 4 that gives at every position the answer of the section's rows: each file's whole path byte for
+/// byte, the line and, in version 3, the column (`IsTrueCheck`). If not, it gives the first fault or the least difference.
 ///
-/// The bytes of a table by path are held, and neither its records nor the section's spans. It stops as `check` does.
+/// It holds the bytes of a table by path, but neither its records nor the section's spans. It stops as `check` does.
 pub fn check_any<R: Source, T: Source>(
     alloc: Global,
     section: &mut R,
@@ -44,7 +44,7 @@ pub fn check_any<R: Source, T: Source>(
     ensures checked { IfOk result (λ checked. IfSome (R.remaining section.old) (λ bytes. IfSome (T.remaining table.old) (λ text.
         IsTrueCheck strings.now.line.now strings.now.general.now options.now bytes text checked))) }
 
-    // Of the section it tells the truth whatever the table is, and a section that isn't good keeps the table unread.
+    // What it says of the section is true whatever the table is, and where the section isn't good, the table isn't read.
     ensures of_section { IfOk result (λ checked. IfSome (R.remaining section.old) (λ bytes.
         IsTrueCheckOfSection strings.now.line.now strings.now.general.now options.now bytes checked)) }
     ensures unread { (no : SectionNo) → result ≡ Ok (Checked.Numbered (Verdict.No (TableNo.Section no))) → table.new ≡ table.old }
@@ -63,7 +63,7 @@ pub fn check_any<R: Source, T: Source>(
     Ok(checked)
 }
 
-// What a comparison of the table with the spans of the index makes of the two.
+// Compares the table with the spans of the index: by number or by path, as its header says.
 fn check_index<T: Source>(alloc: Global, table: &mut T, index: &Index<'_>) -> Result<Checked, Stop>
     requires { T.failures table.old < 2 ^ 64 - 1 }
     ensures ok { IfOk result (λ checked. (dead : Option ℕ) (skip : Bool) (units : List (ℕ × Parts)) → IsIndexOf dead skip units index.now

@@ -2,16 +2,17 @@
 ghost use Rattle.lnt_spans.specs.Laws.{Borders};
 ghost use Rattle.lnt_table.specs.Laws.{OneCheck, OneNumbered, OnePath, OneVerdict, OnlyYes, OwnTable, OwnTableByPath, OwnTableOfUnits};
 
-/// Two lists of spans in order, none empty, that answer alike wherever a span of either begins or ends answer alike at
-/// every position. So the spans of a table and of a section need comparing at their borders alone.
+/// Two lists of spans, each in order and with no empty span, that give the same answer wherever a span of either begins or
+/// ends give the same answer at every position. So the spans of a table and of a section need comparing at their borders
+/// alone.
 pub fn borders()
     ensures { Borders }
 {
     lnt_spans::laws::borders();
 }
 
-/// Of a good section, and a table that answers as it does at every position, no verdict is true but Yes. So where `check`
-/// doesn't stop, it answers Yes exactly there.
+/// For a good section, and a table that answers as it does at every position, Yes is the only true verdict. So `check`,
+/// where it doesn't stop, answers Yes exactly for these.
 #[tactic(auto, using(crate::proofs::LawLemmas::only_yes))]
 pub fn only_yes()
     ensures { OnlyYes }
@@ -21,8 +22,8 @@ pub fn only_yes()
     lnt_records::laws::no_fault();
 }
 
-/// Of one section, table and choice of options at most one verdict is true, so where nothing stops it, `check` has no choice: not
-/// even of the fault that it tells of malformed bytes, nor of its place.
+/// For one section, table and choice of options at most one verdict is true. So `check`, where it doesn't stop, has no
+/// choice, not even of the fault that it names in malformed bytes, and of its place.
 #[tactic(auto, using(crate::proofs::OneVerdictLemmas::one_verdict))]
 pub fn one_verdict()
     ensures { OneVerdict }
@@ -35,14 +36,14 @@ pub fn one_verdict()
     lnt_records::laws::one_fault();
 }
 
-/// Of a good section, and the table that `write_table` wrote of its lines in either version, no verdict is true but Yes.
+/// For a good section, and the table that `write_table` wrote of its lines in either version, Yes is the only true verdict.
 pub fn own_table()
     ensures { OwnTable }
 {
     own_table_of_units();
 }
 
-/// Of a good section, and the table that `write_index` wrote of its index in either version, no verdict is true but Yes.
+/// For a good section, and the table that `write_index` wrote of its index in either version, Yes is the only true verdict.
 #[tactic(auto, using(crate::proofs::LawLemmas::own_table_of_units))]
 pub fn own_table_of_units()
     ensures { OwnTableOfUnits }
@@ -50,8 +51,8 @@ pub fn own_table_of_units()
     only_yes();
 }
 
-/// Where a verdict of `check_any` is true of a section, a table and a choice of options, no other answer of it is: neither
-/// another verdict nor an answer by path.
+/// Where `Numbered` of a verdict is true of a section, a table and a choice of options, no other answer of `check_any` is:
+/// neither another verdict nor an answer by path.
 #[tactic(auto, using(crate::proofs::AnyLawLemmas::one_numbered))]
 pub fn one_numbered()
     ensures { OneNumbered }
@@ -60,8 +61,8 @@ pub fn one_numbered()
     lnt_lines::laws::good_has_no_flaw();
 }
 
-/// Of a good section, and the table that `write_paths` wrote of its index in either version, it is true that both answer the
-/// same by path, and no verdict is true.
+/// For a good section, and the table that `write_paths` wrote of its index in either version, `ByPath(Same)` is a true answer
+/// of `check_any`, and `Numbered` of no verdict is.
 #[tactic(auto, using(crate::proofs::AnyLawLemmas::own_table_by_path))]
 pub fn own_table_by_path()
     ensures { OwnTableByPath }
@@ -69,13 +70,14 @@ pub fn own_table_by_path()
     one_numbered();
 }
 
-/// Two indexes of one section, with the same string sections, tell the same path of each file of each unit.
+/// Two indexes of one section, made with the same string sections and options, give the same path for each file of each unit.
 pub fn one_path()
     ensures { OnePath }
 {}
 
-/// Of one section, table of any version and choice of options all true answers of `check_any` say the same, so where nothing stops
-/// it, it has no choice: neither of the fault that it tells, nor of the position, the two answers there and the bytes of their paths.
+/// For one section, table of any version and choice of options all true answers of `check_any` say the same. So where it
+/// doesn't stop, it has no choice: neither of the fault that it names, nor of the position, the two answers there and the
+/// bytes of their paths.
 pub fn one_check()
     ensures { OneCheck }
 {

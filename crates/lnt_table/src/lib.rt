@@ -1,10 +1,10 @@
-//! A line number section of DWARF 5 checked against an address table, and the table of a section written.
+//! Checks a line number section of DWARF 5 against an address table, and writes the table of a section.
 //!
-//! [`check`] answers whether a table says of every address and operation index what the section says, and what is wrong
-//! where it doesn't, and [`differences`] gives all places where it doesn't; [`check_any`] and [`differences_any`] take a
-//! table of any version. [`write_table`] writes the one shortest table of a section's lines, and [`write_index`] that of an
-//! index, whose spans come one by one; [`write_paths`] writes the table by path of an index. The records of a table are
-//! those of `lnt_records`.
+//! [`check`] answers whether a table gives the section's answer at every address and operation index, and if not, the first
+//! thing that is wrong. [`differences`] gives all positions at which the two answers differ. [`check_any`] and
+//! [`differences_any`] take a table of any version. [`write_table`] writes the one shortest table of a section's lines, and
+//! [`write_index`] that of an index, without a list of its spans; [`write_paths`] writes the table by path of an index. The
+//! records of a table are those of `lnt_records`.
 #![tactic(auto)]
 
 mod by_path;

@@ -1,4 +1,4 @@
-//! The table by path of a section's units, written.
+//! Writes the table by path of a section's units.
 ghost use Rattle.std.specs.Prelude.{◌≡◌, Bool, ℕ, List, Option, IfOk, OnErr};
 ghost use Rattle.lnt_unit.specs.declared.unit.Parts.{Parts};
 ghost use Rattle.lnt_lines.specs.Indexed.{IsIndexOf};
@@ -11,7 +11,7 @@ use lnt_records::WriteStop;
 use std::alloc::{AllocError, Global};
 use std::io::Write;
 
-/// The paths of the files of an index, by which `DifferencesByPath` tells answers.
+/// The paths of the files of an index, from which `DifferencesByPath` makes answers by path.
 #[derive(Drop)]
 pub struct IndexPaths<'i, 'a> {
     pub(crate) index: &'i Index<'a>,
@@ -37,16 +37,17 @@ impl<'i, 'a> Paths for IndexPaths<'i, 'a> {
     }
 }
 
-/// Writes the table by path of the units that an index is of, in a version, line by line, as their spans come. No list of
-/// spans is made. They come twice where the header of a unit has instructions of several operations, to be judged first.
+/// Writes the table by path of the units that an index was made of, in this version, line by line, without a list of their
+/// spans. Where the header of a unit allows several operations in an instruction, it goes through the spans twice: first to
+/// see whether such a table can tell them.
 ///
 /// Where it answers `Written`, the writer has gained bytes that are a table of exactly the canonical spans that answer as
 /// the rows of the units do, with the whole path of their file: the one shortest table that does. Where one of these spans
 /// begins or ends at an operation index other than 0, it answers `OperationIndex` (43) with the least such position, and
 /// nothing was written.
 ///
-/// It stops by `Memory` (33) where memory ran out, and by `Write` (42) where the writer refused some bytes; then it has
-/// gained a front of the names of the columns and the lines of the first canonical spans.
+/// It stops by `Memory` (33) where memory ran out, and by `Write` (42) where the writer refused some bytes. Where it stops,
+/// the writer has gained a front of the column names and the lines of the first canonical spans.
 pub fn write_paths<W: Write>(
     alloc: Global,
     index: &Index<'_>,

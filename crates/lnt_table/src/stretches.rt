@@ -1,4 +1,4 @@
-//! A table compared with a good section at every position.
+//! Compares a table with a good section at every position.
 ghost use Rattle.std.specs.Prelude.{◌≡◌, ◌≢◌, ◌+◌, ◌-◌, ◌^◌, ◌<◌, Bool, ℕ, List, [], map, Option, IfOk, IfSome, IsErrOf};
 ghost use Rattle.lnt_lines.specs.Indexed.{IsIndexOf};
 ghost use Rattle.lnt_wire.specs.declared.stop.Stop.TheVariants.{Read, TooLong};
@@ -20,13 +20,12 @@ use lnt_spans::{SpanList, SpanSource};
 use lnt_wire::{Source, Stop};
 use std::alloc::{AllocError, Global};
 
-/// Compares the address table that a source has to give with the units that an index is of, at every position.
+/// Compares the address table that a source has to give with the units that an index was made of, at every position.
 ///
-/// Where the bytes are no table, it tells their first fault, as `check` does. Else it gives the stretches at which the
-/// table answers otherwise than the rows of the units, as its version tells answers, one after another: a stretch is a
-/// longest run of positions, one after another, at which the two answers differ and stay the same two
-/// (`Differences::next_difference`). Where there is none, `check` answers Yes; else the first begins with the difference
-/// that `check` tells.
+/// Where the bytes are no table, it gives their first fault, as `check` does. Else it gives the stretches at which the
+/// answers of the table and of the units' rows differ, as the table's version tells answers; `Differences::next_difference`
+/// gives one after another. A stretch is a longest run of consecutive positions at which the two answers differ and neither
+/// of them changes. Where there is none, `check` answers Yes; else the first begins with the difference that `check` gives.
 ///
 /// It stops as `check` does. The caller sees to it that the number of the source's failures is below `u64::MAX`.
 pub fn differences<'i, T: Source>(
@@ -48,21 +47,22 @@ pub fn differences<'i, T: Source>(
     Ok(differing)
 }
 
-/// What a comparison at every position makes of a table of any version.
+/// The answer of `differences_any`.
 #[derive(Drop)]
 pub enum AnyDiffering<S> {
-    /// The table's header is that of version 1 or 2: the stretches come one after another, or this is the first fault of its
-    /// records.
+    /// The table begins with the header of version 1 or 2. This has its stretches, one after another, or the first fault of
+    /// its records.
     Numbered(Differing<S>),
-    /// It isn't. This is the table by path that it is, whose spans `differences_by_path` compares, or its first fault: `Fault`
-    /// of the header, where it isn't one of versions 3 and 4 either.
+    /// The table begins with neither of these headers. This has the spans of the table by path, which `differences_by_path`
+    /// compares, or its first fault: `Fault` of the header, where it begins with that of neither version 3 nor 4.
     ByPath(HeldTable),
 }
 
-/// Compares the address table of any version that a source has to give with the units that an index is of, at every position.
+/// Compares the address table of any version that a source has to give with the units that an index was made of, at every
+/// position.
 ///
-/// Of a table with the header of version 1 or 2 it tells what `differences` tells. Of another one all bytes are taken, and it
-/// tells whether they are a table by path, and holds its spans, which stand in order; else their first fault.
+/// For a table with the header of version 1 or 2 it gives what `differences` gives. For any other it takes all bytes, and
+/// gives the spans of the table by path that they are, which are in order, or their first fault.
 ///
 /// It stops as `check` does. The caller sees to it that the number of the source's failures is below `u64::MAX`.
 pub fn differences_any<'i, T: Source>(
@@ -91,9 +91,10 @@ pub fn differences_any<'i, T: Source>(
     }
 }
 
-/// The stretches at which a table by path of these spans, of a version, answers otherwise than the rows of the units that an
-/// index is of, with the whole path of their file. No stretch is told yet: `DifferencesByPath::next_difference` tells them, with
-/// `IndexPaths::of` the same index. The caller sees to it that the spans stand in order, as those that are held do.
+/// The stretches at which the answers of a table by path with these spans, in this version, and of the rows of the units that
+/// an index was made of differ, with the whole path of each file. `DifferencesByPath::next_difference` gives them one after
+/// another, from the first on; it takes `IndexPaths::of` the same index. The caller sees to it that the spans are in order,
+/// as those of a `HeldTable` are.
 pub fn differences_by_path<'t, 'i>(
     index: &'i Index<'_>,
     spans: &'t [HeldSpan],

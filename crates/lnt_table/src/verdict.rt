@@ -1,4 +1,4 @@
-//! What a check answers.
+//! The answer of a check.
 ghost use Rattle.std.specs.Prelude.{◌≡◌, ◌≢◌, IfNone, IfSome, Some};
 ghost use Rattle.lnt_records.specs.declared.fault.TableFault.{TableFault as TableFaultSpec};
 ghost use Rattle.lnt_table.specs.FaultTexts.{table_no_text};
@@ -15,40 +15,40 @@ use std::fmt;
 pub enum Verdict {
     /// The section is good, and the table answers as it does at every position.
     Yes,
-    /// It isn't so, and this is the first reason.
+    /// One of these doesn't hold. This is the first reason.
     No(TableNo),
 }
 
-/// Why a table doesn't answer as a section does. Each reason has a number, from 25 to 32 for the section and from 36 to
-/// 40 for the table.
+/// The first reason why a table doesn't answer as a section does. Each kind of reason has a number, from 25 to 32 for the
+/// section and from 36 to 40 for the table.
 ///
-/// The first one is told. The section is judged before the table is read, and the records of the table are judged
-/// before answers are compared. Records and columns count from 0, so the first span is record 1.
+/// The section is judged before the table is read, and the records of the table are judged before answers are compared.
+/// Records and columns count from 0, and record 0 has the column names, so the first span is record 1.
 #[derive(Clone, Copy, Debug, PartialEq, Eq)]
 pub enum TableNo {
     /// 25 to 32: the section isn't good, for this reason.
     Section(No),
-    /// 36: the table has no record 0, or that names other columns than those of either version.
+    /// 36: the table has no record 0, or record 0 has the column names of neither version.
     Header,
     /// 37: this record hasn't as many fields as the table has columns.
     Fields(u64),
-    /// 38: in this record, this column is the first that holds no number of its kind.
+    /// 38: a field of a record is no number of its column's kind.
     Number {
         /// The record.
         record: u64,
-        /// The column.
+        /// The column of its first such field.
         column: u64,
     },
     /// 39: the span of this record is empty, or begins below the end of the span before it.
     Order(u64),
-    /// 40: the least position at which the two answer differently, with both answers there, as the version of the table
-    /// tells answers. None where a side answers nothing.
+    /// 40: the answers of the table and of the section differ, as the table's version tells answers. None where a side has no
+    /// answer.
     Differs {
-        /// The position.
+        /// The least position at which they do.
         position: Position,
-        /// What the table answers.
+        /// The table's answer there.
         by_table: Option<Answer>,
-        /// What the section answers.
+        /// The section's answer there.
         by_section: Option<Answer>,
     },
 }
@@ -96,8 +96,7 @@ impl From<TableFault> for TableNo {
 }
 
 impl TableNo {
-    /// What is wrong with the table itself: the fault of which this is the reason. None where this tells of the section, or of
-    /// a position at which the two differ.
+    /// The fault in the table itself that this reason stands for. None for `Section` and `Differs`.
     pub fn fault(&self) -> Option<TableFault>
         ensures some { IfSome result (λ fault. self.now ≡ no_of_fault fault) }
         ensures none { IfNone result ((fault : TableFaultSpec) → self.now ≢ no_of_fault fault) }
@@ -112,7 +111,7 @@ impl TableNo {
     }
 }
 
-// What a comparison of the table with a good section makes of the two.
+// The verdict that follows from comparing a table with a good section.
 pub(crate) fn verdict_of(compared: Compared) -> Verdict
     ensures { result ≡ verdict_of compared }
 {

@@ -1,4 +1,4 @@
-//! The table of a section's lines, written.
+//! Writes the table of a section's lines.
 ghost use Rattle.std.specs.Prelude.{◌⊎◌, Bool, ℕ, List, Option, OnErr, OnOk};
 ghost use Rattle.std.specs.Io.KnownBytes.{Appends, Keeps};
 ghost use Rattle.lnt_unit.specs.declared.unit.Parts.{Parts};
@@ -12,15 +12,15 @@ use lnt_spans::Version;
 use std::alloc::Global;
 use std::io::Write;
 
-/// Writes the table of some lines in a version, block by block.
+/// Writes the table of these lines, in this version, block by block.
 ///
 /// Where it answers Ok, the writer has gained bytes that are a table of exactly the canonical spans of the lines, which
 /// is the one shortest table that answers as the lines do, as far as the version tells. Each record is on a line of its
 /// own.
 ///
-/// It stops by `Memory` (33) where memory ran out, and by `Write` (42) where the writer refused some bytes; then it has
-/// gained nothing, or a front of the names of the columns and the lines of the first canonical spans. No contract of a
-/// writer tells when it refuses, so no clause says that `Write` comes only then.
+/// It stops by `Memory` (33) where memory ran out, and by `Write` (42) where the writer refused some bytes. Where it stops,
+/// the writer has gained nothing, or a front of the column names and the lines of the first canonical spans. No contract of
+/// a writer tells when it refuses, so no clause says that `Write` comes only then.
 pub fn write_table<W: Write>(
     alloc: Global,
     lines: &Lines,
@@ -38,12 +38,11 @@ pub fn write_table<W: Write>(
     write_spans(alloc, &spans, version, out)
 }
 
-/// Writes the table of the units that an index is of, in a version, block by block, as their spans come. No list of spans
-/// is made.
+/// Writes the table of the units that an index was made of, in this version, block by block, without a list of their spans.
 ///
 /// Where it answers Ok, the writer has gained bytes that are a table of exactly the canonical spans that answer as the
-/// rows of the units do, as far as the version tells: the one shortest table that does. It is what `write_table` writes of
-/// their lines, and it stops as that does.
+/// rows of the units do, as far as the version tells: the one shortest table that does. These are the bytes that
+/// `write_table` writes for the lines of the units, and it stops as `write_table` does.
 pub fn write_index<W: Write>(
     alloc: Global,
     index: &Index<'_>,

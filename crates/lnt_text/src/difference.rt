@@ -7,7 +7,7 @@ use crate::position::PositionText;
 use lnt_spans::Difference;
 use std::fmt;
 
-/// The line that says where a table answers otherwise than a section, with both answers, without its line feed.
+/// The line of a position at which the answers of a table and of a section differ, with both answers, without its line feed.
 #[derive(Clone, Copy)]
 pub struct DifferenceLine(pub Difference);
 

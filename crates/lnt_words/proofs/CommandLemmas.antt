@@ -1,4 +1,4 @@
--- What clap's builders make of arguments and commands that are known.
+-- The rules of arguments and commands after a step of clap's builders.
 use Rattle.std.proofs.Common.{◌≡◌, ◌∙◌, ◌&&◌, ◌||◌, ◌++◌, ◌∷◌, ◌<◌, ◌≤◌, ◌+◌, [], ℕ, Bool, List, Option, Some, None}
 use Rattle.std.proofs.Common.{ap, ap₂, codes, false, fold, get_or, length, not, refl, rules, subst, sym, take, true}
 use Rattle.std.proofs.lemmas.List.{take_all}
@@ -73,7 +73,7 @@ subcommand_added app sub old new below is of adds = record {
   local = adds.globals ∙ ap₂ (λ (a b : Bool). a || b) is.local of.local;
 }
 
--- An argument that has to be there unless another is: its rule is as before, but that it may be bound.
+-- An argument that is required unless another is given: its rule is as before, except that it may be bound.
 pub unless_kept : (rule : Rule) (old new : Arg) (others : List (Bor (List ℕ))) → IsArgument rule old → AddsRequiredUnless old new others
     → IsArgument (record rule { is_free = is_free_arg new }) new
 unless_kept rule old new others is adds = record {

@@ -1,4 +1,4 @@
--- What clap's matches are made of, by their rows.
+-- clap's matches of the words, in terms of their rows.
 use Rattle.std.proofs.Common.{◌≡◌, List, Option, Some, None, option_map, refl, true}
 use Rattle.clap.proofs.OnLiterals.{clap_on_literals}
 use Rattle.clap.specs.Words.{Row, Text, is_simple, subcommand_name_of, subcommand_rows_of}
@@ -9,7 +9,7 @@ use Rattle.lnt_words.specs.Described.{IsAskedOfMatches}
 use Rattle.lnt_words.specs.Words.{linetab}
 use Rattle.lnt_words.specs.declared.request.Asked.{Asked}
 
--- clap says of all words what its matches of them are, where it finds some
+-- for this command clap's matches, where there are some, are known for all words
 pub linetab_is_simple : is_simple linetab ≡ true
 unfolding linetab clap_on_literals
 linetab_is_simple = refl

@@ -1,5 +1,5 @@
--- What the words ask for. What clap makes of them is a function of the words and of the command (`linetab`): the subcommand's
--- name, and a row for each of its arguments, with the values that it was given or has by default.
+-- The requests that words make. clap's result is a function of the words and of the command (`linetab`): the subcommand's name,
+-- and a row for each of its arguments, with the values that it was given or has by default.
 use Rattle.std.specs.Prelude.{◌≡◌, ◌≢◌, ◌⊎◌, Bool, true, false, ℕ, List, Option, Some, None, codes}
 use Rattle.std.specs.Option.{option_copied}
 use Rattle.clap.specs.Words.{Row, Text, first_of, found_of, one_of, rows_of, subcommand_of, takes}
@@ -29,23 +29,23 @@ rows_in matches = rows_of (found_of matches)
 abbrev pub IsWord : List Row → Text → Text → Type 0
 IsWord rows name word = first_of name rows ≡ Some word
 
--- The flag is set exactly as the value says that clap tells of it.
+-- The flag is set where clap's value for it is "true", and not set where it is "false" or where there is none.
 pub record IsFlag (rows : List Row) (name : Text) (is_set : Bool) : Type 0 where
   pub given : one_of name rows ≡ Some (codes "true") → is_set ≡ true
   pub not_given : one_of name rows ≡ Some (codes "false") → is_set ≡ false
   pub none : one_of name rows ≡ None → is_set ≡ false
 
--- Numbers are big-endian exactly where the flag says so.
+-- Numbers are big-endian where the flag --big is set, and else little-endian.
 abbrev pub IsOrder : List Row → Order → Type 0
 IsOrder rows Big = IsFlag rows (codes "big") true
 IsOrder rows Little = IsFlag rows (codes "big") false
 
--- The marker is the address that its word says, and there is none where no word was given.
+-- The marker of dead code is the address in the word of --dead; there is none where no such word was given.
 abbrev pub IsMarker : List Row → Option ℕ → Type 0
 IsMarker rows None = first_of (codes "dead") rows ≡ None
 IsMarker rows (Some address) = (word : Text) × IsWord rows (codes "dead") word × IsAddress word address
 
--- A section that is judged is read as the words say.
+-- The files and options for judging a section are those that the words give.
 pub record IsJudging (rows : List Row) (from : Judging) : Type 0 where
   pub section : IsWord rows (codes "SECTION") from.section.now
   pub line_strings : option_copied from.line_strings ≡ first_of (codes "line-str") rows
@@ -54,7 +54,7 @@ pub record IsJudging (rows : List Row) (from : Judging) : Type 0 where
   pub dead : IsMarker rows from.dead
   pub copies : IsFlag rows (codes "skip-copies") from.skip_copies
 
--- the format and the byte order that are written
+-- the format that a conversion writes: 32-bit or 64-bit DWARF
 abbrev pub IsFormat : List Row → Format → Type 0
 IsFormat rows D32 = IsWord rows (codes "format") (codes "32")
 IsFormat rows D64 = IsWord rows (codes "format") (codes "64")
@@ -63,7 +63,7 @@ abbrev pub IsWrittenOrder : List Row → Order → Type 0
 IsWrittenOrder rows Little = IsWord rows (codes "order") (codes "little")
 IsWrittenOrder rows Big = IsWord rows (codes "order") (codes "big")
 
--- how the subcommand of this name reads a section
+-- the reading of a section that the subcommand of this name asks for
 abbrev pub IsReading : Text → List Row → Reading → Type 0
 IsReading name rows Units = name ≡ codes "units"
 IsReading name rows (Dump ops shown) = (name ≡ codes "dump") × IsFlag rows (codes "ops") ops × IsFlag rows (codes "rows") shown
@@ -73,7 +73,7 @@ abbrev pub IsVersion : List Row → Version → Type 0
 IsVersion rows One = IsFlag rows (codes "wide") false
 IsVersion rows Two = IsFlag rows (codes "wide") true
 
--- what the subcommand of this name asks of a good section. Nothing is said of which positions are looked up.
+-- The question about a good section that the subcommand of this name asks. Which positions are looked up isn't said.
 abbrev pub IsQuestion : Text → List Row → Question → Type 0
 IsQuestion name rows Verify = name ≡ codes "verify"
 IsQuestion name rows (Lookup positions) = name ≡ codes "lookup"
@@ -84,7 +84,7 @@ IsQuestion name rows (TableByPath true) = (name ≡ codes "table") × IsFlag row
 IsQuestion name rows (TableByPath false) = (name ≡ codes "table") × IsFlag rows (codes "paths") false × IsFlag rows (codes "lines") true
 IsQuestion name rows Md5 = name ≡ codes "md5"
 
--- The subcommand of this name asks for this. Nothing is said of the operation index of lines.
+-- The subcommand of this name asks for this request. The operation index for lines without one isn't said.
 abbrev pub IsAskedIn : Text → List Row → Request → Type 0
 IsAskedIn name rows (Help text) = ⊥
 IsAskedIn name rows (Read section order reading) =
@@ -95,7 +95,7 @@ IsAskedIn name rows (Addresses from file op) =
 IsAskedIn name rows (Check from table all) =
     (name ≡ codes "check") × IsJudging rows from × IsWord rows (codes "TABLE") table.now × IsFlag rows (codes "all") all
 
--- The subcommand that was found, with its rows, asks for this.
+-- The subcommand that clap found, with its rows, asks for this request.
 pub record IsAskedOf (found : Option (Text × List Row)) (asked : Asked) : Type 0 where
   pub name : Text
   pub rows : List Row
@@ -107,10 +107,10 @@ abbrev pub IsHelp : Request → Type 0
 IsHelp (Help text) = Unit {0}
 IsHelp _ = ⊥
 
--- Help or the version is asked for, which words that the command takes never do. Of the text nothing is said.
+-- The request is for help or the version, which words that the command takes never make. Nothing is said of the text.
 abbrev pub IsHelpFor : List Text → Request → Type 0
 IsHelpFor words request = IsHelp request × (takes linetab words ≢ true)
 
--- These words, of which the first is the program's own name, ask for this.
+-- These words ask for this request. The first word is the program's own name.
 abbrev pub IsAskedBy : List Text → Asked → Type 0
 IsAskedBy words asked = IsHelpFor words asked.request ⊎ IsAskedOf (subcommand_of linetab words) asked

@@ -1,4 +1,5 @@
--- What descriptions of arguments and subcommands say, in clap's terms, and what is asked by matches. No public contract speaks of this.
+-- The rules that descriptions of arguments and subcommands stand for, in clap's terms, and the requests that matches make. No
+-- public contract speaks of this.
 use Rattle.std.specs.Prelude.{◌≡◌, Some, codes, false, fold, option_map}
 use Rattle.clap.specs.Words.{App, Rule, Text, app_of, new_app, new_rule, rule_of, with_rule, with_subcommand}
 use Rattle.clap.specs.Words.{subcommand_name_of, subcommand_rows_of}
@@ -14,12 +15,12 @@ use Rattle.lnt_words.specs.declared.description.Kind.{Kind}
 use Rattle.lnt_words.specs.declared.description.Kind.TheVariants.{Word, WordsUnless, Flag, FlagWithout, FlagWithoutBoth, Valued, Required}
 use Rattle.lnt_words.specs.declared.description.Subcommand.{Subcommand}
 
--- The argument is of this rule, and no subcommand's too.
+-- The argument has this rule, and isn't global: subcommands don't inherit it.
 pub record IsArgument (rule : Rule) (argument : Arg) : Type 0 where
   pub rule_is : rule_of argument ≡ rule
   pub local : argument.global ≡ false
 
--- The command is so, and no argument of it is its subcommands' too.
+-- The command is this one, and none of its arguments is global.
 pub record IsCommand (app : App) (command : Command) : Type 0 where
   pub app_is : app_of command ≡ app
   pub local : (fields_of command).has_globals ≡ false
@@ -45,7 +46,7 @@ app_in subcommand = fold with_argument_in (fold with_argument_in (new_app subcom
 abbrev pub with_subcommand_in : App → Subcommand → App
 with_subcommand_in app subcommand = with_subcommand app (app_in subcommand).top
 
--- The subcommand that clap found, and its words, ask for this.
+-- The subcommand that clap found, and its matches, ask for this request.
 pub record IsAskedOfMatches (matches : ArgMatches) (asked : Asked) : Type 0 where
   pub name : Text
   pub words : ArgMatches

@@ -1,44 +1,44 @@
--- The words that the command takes, as README.md lists them: its subcommands, and the arguments of each, in clap's terms.
--- What help says of them isn't part of it, nor which of them exclude one another.
+-- The words that the command takes, as README.md lists them: its subcommands, and the arguments of each, in clap's terms. Help
+-- texts aren't part of this, nor which arguments exclude one another.
 use Rattle.std.specs.Prelude.{List, [], ◌∷◌, ◌++◌, Some, true, false, codes}
 use Rattle.clap.specs.Lexer.{usize_max}
 use Rattle.clap.specs.Simple.{new_shape}
 use Rattle.clap.specs.Words.{App, Rule, Shape, Text, new_rule}
 use Rattle.clap.specs.declared.builder.action.ArgAction.TheVariants.{Set, Append, SetTrue}
 
--- ---- what words an argument takes
+-- ---- the words that an argument takes
 
--- The argument has to be there.
+-- The argument is required.
 abbrev pub required : Rule → Rule
 required rule = record rule { required = true }
 
--- It takes a word.
+-- The argument takes one word as its value.
 abbrev pub taking : Rule → Rule
 taking rule = record rule { action = Some Set }
 
--- a word that has to be there
+-- a required word
 abbrev pub word : Text → Rule
 word name = required (taking (new_rule name))
 
--- --name
+-- the flag --name
 abbrev pub flagged : Rule → Text → Rule
 flagged rule name = record rule { long = Some name; action = Some SetTrue }
 
 abbrev pub flag : Text → Rule
 flag name = flagged (new_rule name) name
 
--- --name VALUE
+-- the option --name VALUE
 abbrev pub valued : Rule → Text → Rule
 valued rule name = record rule { long = Some name; action = Some Set; value_names = 1 }
 
 abbrev pub option : Text → Rule
 option name = valued (new_rule name) name
 
--- one word or more in each place
+-- the argument takes one or more words each time that it is given
 abbrev pub several : Rule → Rule
 several rule = record rule { action = Some Append; range = Some (record { start_inclusive = 1; end_inclusive = usize_max }) }
 
--- Whether the argument may be there, or has to be, follows from others.
+-- Whether the argument is allowed or required depends on other arguments.
 abbrev pub bound : Rule → Rule
 bound rule = record rule { is_free = false }
 
@@ -47,11 +47,11 @@ bound rule = record rule { is_free = false }
 abbrev pub section : Rule
 section = word (codes "SECTION")
 
--- of one that reads a section
+-- the arguments of a subcommand that reads a section
 abbrev pub reading : List Rule
 reading = flag (codes "big") ∷ flag (codes "quiet") ∷ []
 
--- of one that judges a section
+-- the arguments of a subcommand that judges a section
 abbrev pub judging : List Rule
 judging = reading ++ option (codes "line-str") ∷ option (codes "str") ∷ option (codes "dead") ∷ flag (codes "skip-copies") ∷ []
 
@@ -72,7 +72,7 @@ subcommands =
     ∷ subcommand (codes "md5") judging
     ∷ []
 
--- the command: it wants a subcommand, and tells its version
+-- the command: it requires a subcommand, and has --version
 unfoldable pub linetab : App
 linetab = record {
   top = record (new_shape (codes "linetab")) { is_leaf = false; has_version = true; subcommand_required = true };

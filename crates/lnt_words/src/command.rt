@@ -1,4 +1,4 @@
-//! The command with all that it takes, for clap.
+//! The command, its subcommands and their arguments, built for clap.
 ghost use Rattle.std.specs.Prelude.{◌≡◌, fold, IfOk};
 ghost use Rattle.clap.specs.Words.{App, Rule, app_of, new_rule, with_rule, with_subcommand as with_shape};
 ghost use Rattle.lnt_words.specs.Described.{IsArgument, IsCommand, app_in, rule_in, rule_of_kind, with_argument_in, with_subcommand_in};
@@ -9,7 +9,7 @@ use crate::description::{Argument, Kind, SUBCOMMANDS, Subcommand, VERSION};
 use clap::{Arg, ArgAction, Command};
 use std::alloc::{AllocError, Global};
 
-/// The command with all that it takes, for clap.
+/// The command with all its subcommands and arguments, for clap.
 pub(crate) fn command_of<'a>(alloc: Global) -> Result<Command<'a>, AllocError>
     ensures { IfOk result (λ command. app_of command ≡ linetab) }
 {
@@ -20,8 +20,8 @@ pub(crate) fn command_of<'a>(alloc: Global) -> Result<Command<'a>, AllocError>
     with_subcommands(alloc, command, SUBCOMMANDS)
 }
 
-// The command with these subcommands too. A subcommand that can't be made is handed on as it is: a `?` of its own, while
-// the command is held, would let the command go, and that is dear to prove.
+// The command with these subcommands too. `with_subcommand` takes the result of making one, and not its value: a `?` here,
+// on that result, would drop `made` on its way out, and that drop is costly to prove.
 fn with_subcommands<'a>(
     alloc: Global,
     command: Command<'a>,
@@ -37,7 +37,7 @@ fn with_subcommands<'a>(
     Ok(made)
 }
 
-// The command with a subcommand, where that could be made.
+// The command with a subcommand too; an error where making the subcommand gave one.
 fn with_subcommand<'a>(
     command: Command<'a>,
     made: Result<Command<'a>, AllocError>,
@@ -84,7 +84,7 @@ fn with_arguments<'a>(
     Ok(made)
 }
 
-// The command with an argument, where that could be made.
+// The command with an argument too; an error where making the argument gave one.
 fn with_argument<'a>(
     command: Command<'a>,
     made: Result<Arg<'a>, AllocError>,
@@ -118,7 +118,7 @@ fn of_kind<'a>(argument: Arg<'a>, name: &'a str, kind: Kind) -> Result<Arg<'a>, 
     }
 }
 
-// The argument, made a required one.
+// The argument, made required.
 fn required<'a>(argument: Arg<'a>) -> Arg<'a>
     ensures { (rule : Rule) → IsArgument rule argument.entry → IsArgument (required_in rule) result }
 {
@@ -153,21 +153,21 @@ fn several<'a>(argument: Arg<'a>) -> Arg<'a>
     argument.num_args(1..).action(ArgAction::Append)
 }
 
-// The argument, required unless the other one is given, and refused beside it.
+// The argument, made required unless the other one is given, and refused beside it.
 fn unless<'a>(argument: Arg<'a>, other: &'a str) -> Result<Arg<'a>, AllocError>
     ensures { IfOk result (λ made. (rule : Rule) → IsArgument rule argument.entry → IsArgument (bound rule) made) }
 {
     excluding(argument.required_unless_present(other)?, other)
 }
 
-// The argument, refused where the other one is given.
+// The argument, made to be refused where the other one is given.
 fn excluding<'a>(argument: Arg<'a>, other: &'a str) -> Result<Arg<'a>, AllocError>
     ensures { IfOk result (λ made. (rule : Rule) → IsArgument rule argument.entry → IsArgument (bound rule) made) }
 {
     argument.conflicts_with(other)
 }
 
-// The argument, refused where either of the two is given.
+// The argument, made to be refused where either of the two is given.
 fn excluding_both<'a>(
     argument: Arg<'a>,
     one: &'a str,

@@ -1,45 +1,45 @@
 //! The words that the command takes: its subcommands, and the arguments of each, as data.
 
-/// A subcommand, as help tells of it.
+/// A subcommand and its help.
 pub(crate) struct Subcommand {
     /// The word that names it.
     pub(crate) name: &'static str,
-    /// What it does.
+    /// What it does, in one line of help.
     pub(crate) about: &'static str,
-    /// What help says after its arguments, if anything.
+    /// The text of its help after the arguments, if there is one.
     pub(crate) after: Option<&'static str>,
-    /// The arguments that it has beside the shared ones, before them.
+    /// The arguments that aren't shared. They come before the shared ones.
     pub(crate) own: &'static [Argument],
-    /// The arguments that others have too.
+    /// The arguments that it shares with other subcommands.
     pub(crate) shared: &'static [Argument],
 }
 
-/// An argument of a subcommand. Its value is found by its name.
+/// An argument of a subcommand.
 pub(crate) struct Argument {
-    /// Its name; `--name` is an option's.
+    /// The name by which its value is found. A flag or an option is given as `--name`.
     pub(crate) name: &'static str,
-    /// What words it takes.
+    /// The words that it takes.
     pub(crate) kind: Kind,
-    /// What help says of it.
+    /// Its text in help.
     pub(crate) help: &'static str,
 }
 
-/// What words an argument takes.
+/// The words that an argument takes.
 #[derive(Clone, Copy)]
 pub(crate) enum Kind {
     /// One word, which is required.
     Word,
     /// One or more words, required unless this option is given, and refused beside it.
     WordsUnless(&'static str),
-    /// `--name`.
+    /// The flag `--name`.
     Flag,
     /// The flag `--name`, which is refused beside this argument.
     FlagWithout(&'static str),
     /// The flag `--name`, which is refused beside either of these two.
     FlagWithoutBoth(&'static str, &'static str),
-    /// The option `--name VALUE`; this is what help calls the value.
+    /// The option `--name VALUE`; the text is what help calls the value.
     Valued(&'static str),
-    /// The same, and it is required.
+    /// The same, but required.
     Required(&'static str),
 }
 
@@ -243,7 +243,7 @@ const SKIP_COPIES: Argument = Argument {
     help: "Leaves out sequences that begin and end at the same positions as one before them",
 };
 
-// What the numbers of the lines `no ..` mean that `check` prints.
+// What the numbers in the lines `no ..` of `check` mean.
 const NUMBERS: &str = "Lines that begin with no, and the document that says more:
   25  no unit stands where one has to, for the fault that is named (docs/SPECIFICATION.md, HEADERS.md, PROGRAMS.md)
   26  the program of a unit doesn't run (docs/PROGRAMS.md)
@@ -259,11 +259,11 @@ const NUMBERS: &str = "Lines that begin with no, and the document that says more
   39  a span of the table is empty, or begins below the end of the one before it (docs/TABLES.md)
   40  the table and the section answer differently at this position, the least one (docs/TABLES.md)";
 
-// What the line `no 43` means that `table` prints.
+// What the line `no 43` of `table` means.
 const WHOLE: &str = "With --paths or --lines a table says whole instructions alone. \
 Where its spans can't be told so, the line 'no 43 operation index at 0xA,OP' says the first place where one begins or ends \
 within an instruction, and the status is 1 (docs/TABLES.md).";
 
-// What the words `same`, `differs` and `unreadable` mean that `md5` prints.
+// What the words `same`, `differs` and `unreadable` in the lines of `md5` mean.
 const SUMS: &str = "A file is the same, differs, or is unreadable: it can't be opened or read. \
 Where one isn't the same, the status is 1.";

@@ -1,6 +1,7 @@
-//! The words of the command `linetab`, and what they ask for.
+//! The words of the command `linetab`, and the request that they make.
 //!
-//! [`request_of`] reads the words, and gives a [`Request`] or says why there is none. It opens and prints nothing.
+//! [`request_of`] reads the words, and gives what they ask for, a [`Request`], or why there is none. It opens and prints
+//! nothing.
 #![tactic(auto)]
 
 mod command;

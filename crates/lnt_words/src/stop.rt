@@ -8,18 +8,18 @@ use std::alloc::AllocError;
 /// Why words ask for nothing.
 #[derive(Debug, Drop)]
 pub enum WordsStop {
-    /// They ask for nothing that the command does. The text says how it is used, and ends in a line feed.
+    /// The words ask for nothing that the command does. The text says how the command is used, and ends in a line feed.
     Usage(String),
-    /// A word isn't what it has to be.
+    /// A word isn't of the form that its argument takes.
     BadWord {
-        /// The line that tells the word, with its line feed.
+        /// The line that names the word, with its line feed.
         text: String,
-        /// What the word has to be.
+        /// The argument, which says what the word has to be.
         argument: Argument,
         /// Whether the words ask for no notes.
         quiet: bool,
     },
-    /// Memory ran out. It says nothing of the words.
+    /// Memory ran out. That says nothing of the words.
     Memory,
 }
 
