@@ -12,10 +12,6 @@ use Rattle.lnt_digits.specs.declared.radix.Radix.TheVariants.{Ten, Sixteen}
 use Rattle.lnt_digits.specs.Digits.{IsAddress, IsDigit, IsHexadecimalDigit, IsNumber, base, digit_value, digits_value}
 use Rattle.lnt_digits.specs.Delimited.{Begins}
 
-base_some : (radix : Radix) → 0 < base radix
-base_some Ten = omega arith
-base_some Sixteen = omega arith
-
 all_push : (P : ℕ → Type 0) (front : List ℕ) (b : ℕ) → AllByRecursion P front → P b → AllByRecursion P (front ++ b ∷ [])
 all_push P [] b h k = (k, tt)
 all_push P (a ∷ front) b h k = (h.0, all_push P front b h.1 k)

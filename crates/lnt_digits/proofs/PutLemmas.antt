@@ -273,9 +273,3 @@ address_within text start end n long within room plain =
     two ∙ ap (λ (z : List ℕ). slice_set z (start - 2) 48) one in
     subst (λ (z : List ℕ). IsPlainAddress (drop (start - 2) z) n) (sym both)
     (address_put (take end text) start end n (take_long end text long) (omega (arith, within)) room plain)
-
-pub address_before : (text : List ℕ) (start : ℕ) → 2 ≤ start
-    → take (start - 2) (slice_set (slice_set text (start - 1) 120) (start - 2) 48) ≡ take (start - 2) text
-address_before text start room =
-    take-set-le (start - 2) (slice_set text (start - 1) 120) (start - 2) 48 (omega arith)
-    ∙ take-set-le (start - 2) text (start - 1) 120 (omega (arith, room))

@@ -1,12 +1,12 @@
 -- Texts that are written from their ends on.
 use Rattle.std.proofs.Common.{◌≡◌, ◌∙◌, ℕ, ◌+◌, ◌-◌, ◌≤◌, Bool, true, false, codes, if◌then◌else◌}
-use Rattle.std.proofs.Common.{List, [], ◌∷◌, ◌++◌, append_assoc, drop, take, length, ap, arith, slice_set, sym}
+use Rattle.std.proofs.Common.{List, [], ◌∷◌, ◌++◌, drop, take, length, ap, arith, slice_set, sym}
 use Rattle.std.specs.Int.{from_bool}
 use Rattle.std.proofs.lemmas.List.{drop-set, drop-take}
 use Rattle.std.proofs.lemmas.List.Folds.{drop_split}
 use Rattle.lnt_digits.specs.Digits.{IsPlainAddress, IsPlainDecimal}
 use Rattle.lnt_machine.specs.declared.row.Row.{Row}
-use Rattle.lnt_dump.specs.Rows.{IsNumberBefore, IsRowLine, mark_text, marks_text}
+use Rattle.lnt_dump.specs.Rows.{IsNumberBefore, IsRowLine, marks_text}
 
 -- a byte that was written before a place
 pub byte_before : (room : List ℕ) (end byte : ℕ) → 1 ≤ end → end ≤ length room
@@ -34,19 +34,6 @@ digits_before room new start end number after some fits le digits_are same = rec
   joined = text_before (slice_set room (end - 1) after) new start (end - 1) le same
       ∙ ap (λ rest. drop start (take (end - 1) new) ++ rest) (byte_before room end after some fits);
 }
-
--- ---- marks
-
--- the letters of four marks that were written one before the other
-pub marks_joined : (b e p g : Bool) (rest : List ℕ)
-    → mark_text b (98 ∷ []) ++ (mark_text e (101 ∷ []) ++ (mark_text p (112 ∷ []) ++ (mark_text g (103 ∷ []) ++ rest)))
-    ≡ (mark_text b (codes "b") ++ (mark_text e (codes "e") ++ (mark_text p (codes "p") ++ mark_text g (codes "g")))) ++ rest
-marks_joined b e p g rest =
-    ap (λ text. mark_text b (codes "b") ++ (mark_text e (codes "e") ++ text))
-    (sym (append_assoc (mark_text p (codes "p")) (mark_text g (codes "g")) rest))
-    ∙ ap (λ text. mark_text b (codes "b") ++ text)
-    (sym (append_assoc (mark_text e (codes "e")) (mark_text p (codes "p") ++ mark_text g (codes "g")) rest))
-    ∙ sym (append_assoc (mark_text b (codes "b")) (mark_text e (codes "e") ++ (mark_text p (codes "p") ++ mark_text g (codes "g"))) rest)
 
 -- ---- the line
 

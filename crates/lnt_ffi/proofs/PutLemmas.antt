@@ -1,10 +1,10 @@
 -- Spans that are put into the front of a room as they come.
-use Rattle.std.proofs.Common.{◌≡◌, ◌∙◌, ℕ, ◌+◌, ◌<◌, ◌≤◌, List, [], ◌∷◌, ◌++◌, Some, None, length, map, set, take, refl, sym, ap, subst}
+use Rattle.std.proofs.Common.{◌≡◌, ◌∙◌, ℕ, ◌+◌, ◌<◌, ◌≤◌, List, [], ◌∷◌, ◌++◌, Some, length, map, set, take, sym, ap, subst}
 use Rattle.std.proofs.Common.{arith}
 use Rattle.std.proofs.lemmas.List.{length-append, map-append, take_more_set}
 use Rattle.lnt_spans.specs.declared.span.Span.{Span}
 use Rattle.lnt_spans.specs.Coming.{GivesFirst}
-use Rattle.lnt_spans.proofs.ComingLaws.{all_given, HasGiven, none_given, one_given}
+use Rattle.lnt_spans.proofs.ComingLaws.{HasGiven, one_given}
 use Rattle.lnt_ffi.specs.declared.flat.FlatSpan.{FlatSpan}
 use Rattle.lnt_ffi.specs.Flat.{span_of}
 
@@ -14,9 +14,6 @@ pub record HasPut (list : List Span) (count : ℕ) (room : List FlatSpan) (AreLe
   pub has_given : HasGiven list given AreLeft
   pub count_is : count ≡ length given
   pub there : count ≤ length room → map span_of (take count room) ≡ given
-
-pub none_put : (list : List Span) (room : List FlatSpan) (AreLeft : List Span → Type 0) → AreLeft list → HasPut list 0 room AreLeft
-none_put list room AreLeft left = record { given = []; has_given = none_given list AreLeft left; count_is = refl; there = λ _. refl }
 
 one_more : (given : List Span) (span : Span) (count : ℕ) → count ≡ length given → count + 1 ≡ length (given ++ span ∷ [])
 one_more given span count e = let l = length-append given (span ∷ []) in omega (arith, e, l)
@@ -40,10 +37,3 @@ one_put list count count' room room' span AreLeft AreLeft' h gives same there ne
       there =
           λ fits. there (omega (arith, fits, same)) ∙ ap (λ (front : List Span). front ++ span ∷ []) (h.there (omega (arith, fits, same)));
     })
-
-pub all_put : (list : List Span) (count : ℕ) (room : List FlatSpan) (AreLeft AreLeft' : List Span → Type 0)
-    → HasPut list count room AreLeft → ((spans : List Span) → AreLeft spans → GivesFirst AreLeft' spans None)
-    → (count ≡ length list) × (count ≤ length room → map span_of (take count room) ≡ list)
-all_put list count room AreLeft AreLeft' h gives =
-    let all = all_given list h.given AreLeft AreLeft' h.has_given gives in
-    (h.count_is ∙ ap length (sym all), λ fits. h.there fits ∙ sym all)

@@ -50,16 +50,6 @@ given_here units programs entries unit rows old new last last' result spans is g
     (record { sequences = come.come_later.sequences; each = come.come_later.each; spans_are = come.come_later.spans_are }) come.spans_are
     (gives come.here here)
 
--- there is none
-pub none_here : (cursor : Cursor) (spans : List Span) → cursor.rows ≡ None → AreToCome cursor spans → ComeLater spans cursor
-none_here cursor spans none come =
-    let empty : come.here ≡ [] = rw none at come.come_here in
-    record {
-      sequences = come.come_later.sequences;
-      each = come.come_later.each;
-      spans_are = come.spans_are ∙ ap (λ (here : List Span). here ++ come.later) empty ∙ come.come_later.spans_are;
-    }
-
 -- ---- the next sequence
 
 abbrev IsEntry : List ℕ → List Kept → Extent → Placed → Type 0

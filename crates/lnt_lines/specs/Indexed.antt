@@ -66,7 +66,7 @@ file_path_in index unit file = option_and_then (λ header. path_bytes index.line
 abbrev pub file_sum_in : Indexed → ℕ → ℕ → Option (List ℕ)
 file_sum_in index unit file = option_and_then (λ header. listed_sum header file) (header_in index unit)
 
--- ---- one sequence. The bodies of this crate use it among themselves.
+-- ---- one sequence
 
 -- The sequence with this id has these rows: of these units and their programs.
 pub record IsSequenceIn (units : List ℕ) (programs : List Kept) (id : SeqId) (rows : List Row) : Type 0 where

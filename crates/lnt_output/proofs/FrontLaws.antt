@@ -17,9 +17,6 @@ Appends_kept None new k = tt
 Appends_kept (Some xs) None k = absurd k
 Appends_kept (Some xs) (Some ys) k = k ∙ sym (append-nil xs)
 
-pub front_kept : (old new : Option (List ℕ)) (bytes : List ℕ) → Keeps old new → AppendsFront old new bytes
-front_kept old new bytes k = record { front = []; rest = bytes; joined = refl; gained = Appends_kept old new k }
-
 -- everything was written: the whole prefix
 pub front_all : (old new : Option (List ℕ)) (bytes : List ℕ) → Appends old new bytes → AppendsFront old new bytes
 front_all old new bytes a = record { front = bytes; rest = []; joined = append-nil bytes; gained = a }

@@ -1,19 +1,15 @@
 -- Bytes that are written piece by piece.
-use Rattle.std.proofs.Common.{◌≡◌, ◌∙◌, ℕ, List, [], ◌++◌, append-nil, append_assoc, take, drop, length, Option, ap, subst, sym}
-use Rattle.std.proofs.Common.{take-append-drop, None, Some, refl, arith, ◌-◌}
+use Rattle.std.proofs.Common.{◌≡◌, ◌∙◌, ℕ, List, ◌++◌, append_assoc, take, drop, length, Option, ap, sym}
+use Rattle.std.proofs.Common.{take-append-drop, None, Some, arith, ◌-◌}
 use Rattle.std.proofs.lemmas.List.{length-drop, take_all}
 use Rattle.std.specs.Io.KnownBytes.{Appends, Keeps}
-use Rattle.std.proofs.KnownBytes.{Appends-nil, Appends-trans}
-use Rattle.lnt_output.specs.Fronts.{AppendsFront}
+use Rattle.std.proofs.KnownBytes.{Appends-trans}
 
 -- All of the bytes but `rest` were written.
 pub record HasWritten (old now : Option (List ℕ)) (bytes rest : List ℕ) : Type 0 where
   pub front : List ℕ
   pub joined : front ++ rest ≡ bytes
   pub gained : Appends old now front
-
-pub none_written : (old : Option (List ℕ)) (bytes : List ℕ) → HasWritten old old bytes bytes
-none_written old bytes = record { front = []; joined = refl; gained = Appends-nil old }
 
 -- the part of a slice from an index on
 pub left_from : (rest : List ℕ) (count : ℕ) → drop count rest ≡ take (length rest - count) (drop count rest)
@@ -38,10 +34,3 @@ pub kept_written : (old now new : Option (List ℕ)) (bytes rest : List ℕ) →
     → HasWritten old new bytes rest
 kept_written old now new bytes rest w k =
     record { front = w.front; joined = w.joined; gained = Appends_kept old now new w.front w.gained k }
-
-pub all_written : (old now : Option (List ℕ)) (bytes rest : List ℕ) → HasWritten old now bytes rest → rest ≡ [] → Appends old now bytes
-all_written old now bytes rest w none =
-    subst (Appends old now) (sym (append-nil w.front) ∙ ap (λ (l : List ℕ). w.front ++ l) (sym none) ∙ w.joined) w.gained
-
-pub front_written : (old now : Option (List ℕ)) (bytes rest : List ℕ) → HasWritten old now bytes rest → AppendsFront old now bytes
-front_written old now bytes rest w = record { front = w.front; rest = rest; joined = w.joined; gained = w.gained }

@@ -3,7 +3,7 @@ use Rattle.std.proofs.Common.{◌≡◌, ◌≢◌, ◌∙◌, ℕ, ◌<◌, ◌
 use Rattle.std.proofs.Common.{Option, arith}
 use Rattle.std.specs.Option.{is_some, option_map}
 use Rattle.std.proofs.lemmas.Bool.{true≢false}
-use Rattle.std.specs.Prelude.{IfSome, MatchOption}
+use Rattle.std.specs.Prelude.{IfSome}
 use Rattle.std.proofs.lemmas.Option.{same_Some}
 use Rattle.lnt_spans.specs.declared.answer.Answer.{Answer}
 use Rattle.lnt_spans.specs.declared.position.Position.{Position}
@@ -33,11 +33,6 @@ pub left_first : {S : Type 0} (to_come : S → List Span → Type 0) (next : Opt
 left_first to_come next spans [] span e l = absurd (let h : None ≡ Some span = sym l ∙ e in cc h)
 left_first to_come next spans (first ∷ more) span e l =
     (more, ap (λ (s : Span). s ∷ more) (same_Some first span (sym l.0 ∙ e)), l.1)
-
-pub left_none : {S : Type 0} (to_come : S → List Span → Type 0) (next : Option Span) (spans : S) (rest : List Span)
-    → next ≡ None → IsLeft to_come next spans rest → rest ≡ []
-left_none to_come next spans [] e l = refl
-left_none to_come next spans (first ∷ more) e l = absurd (let h : None ≡ Some first = sym e ∙ l.0 in cc h)
 
 -- before the first span there is no answer
 none_from : (rest : List Span) (p at : Position) → AreInOrder rest → BeginFrom at rest → IsBelow p at → span_answer rest p ≡ None
@@ -449,28 +444,6 @@ not_found None e = refl
 not_found (Some difference) e = absurd (true≢false (sym e))
 
 -- ---- the end of the table
-
-pub finish_found : (tell : Answer → PathAnswer) (section : List Span) (table : List PathSpan) (at : Position)
-    (first : Option DifferenceByPath) (AreLeft : List Span → Type 0)
-    → true ≡ is_some first → IsMerged tell AreLeft at first section table
-    → MatchOption first ((p : Position) → answer_told tell section p ≡ path_span_answer table p)
-    (λ difference. IsLeastPathDifference (answer_told tell section) (path_span_answer table) difference)
-finish_found tell section table at None AreLeft e c = absurd (true≢false e)
-finish_found tell section table at (Some d) AreLeft e c = c.merged.0
-
-pub finish_none : {S : Type 0} (to_come : S → List Span → Type 0) (tell : Answer → PathAnswer) (section : List Span) (table : List PathSpan)
-    (at : Position)
-    (first : Option DifferenceByPath) (next : Option Span) (spans : S) → first ≡ None → next ≡ None
-    → IsMerged tell (IsLeft to_come next spans) at first section table → (p : Position)
-    → answer_told tell section p ≡ path_span_answer table p
-finish_none to_come tell section table at None next spans e is c p =
-    let m = c.merged in
-    elim (order_cases p at) [
-      | inl early ↦ m.agree p early
-      | inr late ↦ ap (option_map tell) (m.same p late
-          ∙ ap (λ (xs : List Span). span_answer xs p) (left_none to_come next spans m.rest is m.left)) ∙ sym (c.ended p late)
-    ]
-finish_none to_come tell section table at (Some d) next spans e is c p = absurd (cc e)
 
 pub finish_more : {S : Type 0} (to_come : S → List Span → Type 0) (tell : Answer → PathAnswer) (section : List Span) (table : List PathSpan)
     (at : Position)

@@ -9,10 +9,10 @@ use Rattle.lnt_spans.specs.declared.position.Position.{Position}
 use Rattle.lnt_spans.specs.declared.span.Span.{Span}
 use Rattle.lnt_spans.specs.Ahead.{BeginsWith}
 use Rattle.lnt_spans.specs.Coming.{GivesFirst}
-use Rattle.lnt_spans.specs.Differing.{IsBefore, IsUpTo, run_end}
 use Rattle.lnt_spans.specs.Positions.{IsBelow, IsAtMost}
 use Rattle.lnt_spans.specs.Scanning.{EndsAfter}
 use Rattle.lnt_spans.specs.Spans.{AreInOrder}
+use Rattle.lnt_spans.specs.Stepping.{IsBefore, IsUpTo, run_end}
 use Rattle.lnt_spans.proofs.AnsweringLaws as answering
 use Rattle.lnt_spans.proofs.PositionLaws.{at_most_below, at_most_itself, at_most_trans, below_at_most, below_is_at_most, order_cases}
 use Rattle.lnt_spans.proofs.PositionLaws.{test_below, test_not_below}

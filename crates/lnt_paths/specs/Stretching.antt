@@ -5,10 +5,11 @@ use Rattle.std.specs.Option.{option_copied, option_map}
 use Rattle.lnt_spans.specs.declared.answer.Answer.{Answer}
 use Rattle.lnt_spans.specs.declared.position.Position.{Position}
 use Rattle.lnt_spans.specs.declared.span.Span.{Span}
-use Rattle.lnt_spans.specs.Differing.{IsBefore, runs_left}
+use Rattle.lnt_spans.specs.Differing.{runs_left}
 use Rattle.lnt_spans.specs.Positions.{IsBelow, IsAtMost, is_below}
 use Rattle.lnt_spans.specs.Scanning.{EndsAfter}
 use Rattle.lnt_spans.specs.Spans.{AreInOrder}
+use Rattle.lnt_spans.specs.Stepping.{IsBefore}
 use Rattle.lnt_paths.specs.declared.held.HeldSpan.{HeldSpan}
 use Rattle.lnt_paths.specs.declared.merge.Section.{Section}
 use Rattle.lnt_paths.specs.declared.stretches.Begun.{Begun}

@@ -60,12 +60,6 @@ record_taken to_come old new section records fields span j s o same count versio
   compares = step section j.table j.compares;
 }
 
--- a record with this fault, after records that are a table
-pub record Stops (version : Version) (records : List Fields) (fields : Fields) (told : TableFault) : Type 0 where
-  pub table : List Span
-  pub is_table : IsTable version records table
-  pub faulty : IsFaulty version table (length records) fields told
-
 -- ---- what is told
 
 pub fault_told : (bytes : List ℕ) (version : Version) (records : List Fields) (fields : Fields) (table : List Span) (told : TableFault)

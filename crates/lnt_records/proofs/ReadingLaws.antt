@@ -98,13 +98,6 @@ record_left s fields field (c ∷ bytes) p e =
 
 -- ---- a reader's next record
 
--- the effect of one read
-pub record Step (old new : BytesReader) (rest : List ℕ) : Type 0 where
-  pub after : List ℕ
-  pub left : bytes_left new ≡ Some after
-  pub fewer : length after < length rest
-  pub between : ends_at_end (reader_state new) ≡ false
-
 next_left : (s after : State) (fields : Fields) (rest bytes : List ℕ)
     → NextIs (next_record default_config s [] [] bytes) true fields after rest → ends_at_end s ≡ false
     → (length rest < length bytes) × (ends_at_end after ≡ false)

@@ -222,9 +222,6 @@ pub some_put : (version : Version) (span : Option Span) (one : Span) (old new : 
     → AddsRecords version (cons_option span []) old new
 some_put version span one old new e r = rw e (one_record version one old new r)
 
-pub none_put : (version : Version) (span : Option Span) (old : List ℕ) → span ≡ None → AddsRecords version (cons_option span []) old old
-none_put version span old e = rw e (record { records = []; joined = sym (append-nil old); each = tt })
-
 -- more lines were put into the block
 pub lines_put : (version : Version) (old now : Option (List ℕ)) (block grown : List ℕ) (spans more : List Span)
     → Lines version old now block spans → AddsRecords version more block grown

@@ -16,7 +16,8 @@ use Rattle.lnt_spans.proofs.EachTwoLaws.{each_two_from_pairs, each_two_permutati
 use Rattle.lnt_spans.proofs.PositionLaws.{at_most_itself, at_most_trans}
 use Rattle.lnt_sequences.specs.declared.extent.Extent.{Extent}
 use Rattle.lnt_sequences.specs.declared.sequence.SeqId.{SeqId}
-use Rattle.lnt_sequences.specs.Extents.{AreGathered, end_alike, EndsNoLater, is_copied, IsNotLater, kept_extents}
+use Rattle.lnt_sequences.specs.Copies.{AreGathered, end_alike, EndsNoLater, is_copied, kept_extents}
+use Rattle.lnt_sequences.specs.Extents.{IsNotLater}
 use Rattle.lnt_sequences.specs.Sequences.{stands_before}
 use Rattle.lnt_sequences.proofs.ExtentLemmas.{Contains-past}
 use Rattle.lnt_sequences.proofs.SpansOfLemmas.{pieces_permuted}

@@ -14,9 +14,10 @@ use Rattle.lnt_spans.proofs.PositionLaws.{below_from_test, not_both, test_at_mos
 use Rattle.lnt_sequences.specs.declared.extent.Extent.{Extent}
 use Rattle.lnt_sequences.specs.declared.extent.Overlap.{Overlap}
 use Rattle.lnt_sequences.specs.declared.sequence.SeqId.{SeqId}
-use Rattle.lnt_sequences.specs.Extents.{BeginsNoLater, ComesNoLater, extent_of, extent_of_rows, extents_of, ExtentsDisjoint}
-use Rattle.lnt_sequences.specs.Extents.{ExtentsOverlap, IsFirstOverlap, IsIn, IsNotLater}
+use Rattle.lnt_sequences.specs.Extents.{BeginsNoLater, ComesNoLater, extent_of, extent_of_rows, extents_of}
+use Rattle.lnt_sequences.specs.Extents.{IsFirstOverlap, IsIn, IsNotLater}
 use Rattle.lnt_sequences.specs.Laws.{OverlapIsNotApart, SequenceSpans}
+use Rattle.lnt_sequences.specs.Overlaps.{ExtentsDisjoint, ExtentsOverlap}
 use Rattle.lnt_sequences.proofs.WalkLaws.{last_row_is}
 use Rattle.lnt_sequences.specs.Rules.{AreApart}
 use Rattle.lnt_sequences.specs.Sequences.{first_row, holds, Holds, Placed, position_of}

@@ -14,7 +14,9 @@ use Rattle.lnt_spans.proofs.PositionLaws.{at_most_itself, below_from_test, test_
 use Rattle.lnt_sequences.specs.declared.extent.Extent.{Extent}
 use Rattle.lnt_sequences.specs.declared.extent.Overlap.{Overlap}
 use Rattle.lnt_sequences.specs.declared.sequence.SeqId.{SeqId}
-use Rattle.lnt_sequences.specs.Extents.{end_alike, extents_of, ExtentsDisjoint, ExtentsOverlap, is_copied, IsFirstOverlap, kept_extents}
+use Rattle.lnt_sequences.specs.Copies.{end_alike, is_copied, kept_extents}
+use Rattle.lnt_sequences.specs.Extents.{extents_of, IsFirstOverlap}
+use Rattle.lnt_sequences.specs.Overlaps.{ExtentsDisjoint, ExtentsOverlap}
 use Rattle.lnt_sequences.proofs.WalkLaws.{last_row_is}
 use Rattle.lnt_sequences.proofs.KeptLaws.{kept_distinct}
 use Rattle.lnt_sequences.specs.Rules.{AreApart, AreDistinct}

@@ -15,7 +15,8 @@ use Rattle.lnt_spans.specs.Positions.{IsBelow, IsAtMost}
 use Rattle.lnt_spans.proofs.EachTwoLaws.{EachTwo, each_two_from_pairs, pairs_from_each_two, each_two_permutation}
 use Rattle.lnt_spans.proofs.PositionLaws.{at_most_itself, at_most_trans, not_both}
 use Rattle.lnt_sequences.specs.declared.extent.Extent.{Extent}
-use Rattle.lnt_sequences.specs.Extents.{AreApartUpTo, AreFirstToOverlap, AreSorted, ComesNoLater, ExtentsDisjoint, IsIn}
+use Rattle.lnt_sequences.specs.Extents.{AreApartUpTo, AreSorted, ComesNoLater, IsIn}
+use Rattle.lnt_sequences.specs.Overlaps.{AreFirstToOverlap, ExtentsDisjoint}
 
 -- ---- extents in order
 

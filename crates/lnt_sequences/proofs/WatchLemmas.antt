@@ -52,20 +52,6 @@ ended_few walk (row ∷ rows) =
 
 -- ---- one more row
 
-pub seen_none : (dead : Option ℕ) (unit files : ℕ) (watch : Watch)
-    → watch ≡ record { dead = dead; unit = unit; files = files; rows = 0; ended = 0; current = None; falls = None; missing_file = None }
-    → HasSeen dead unit files watch []
-seen_none dead unit files watch e few = record {
-  dead_is = ap (λ (w : Watch). w.dead) e;
-  unit_is = ap (λ (w : Watch). w.unit) e;
-  files_is = ap (λ (w : Watch). w.files) e;
-  rows_is = ap (λ (w : Watch). w.rows) e;
-  ended_is = ap (λ (w : Watch). w.ended) e;
-  current_is = ap (λ (w : Watch). w.current) e;
-  falls_is = ap (λ (w : Watch). w.falls) e;
-  file_is = ap (λ (w : Watch). w.missing_file) e;
-}
-
 -- what the first rows showed, and what one more shows
 abbrev falls_next : Option ℕ → Option ℕ → Option Current → ℕ → Row → Option ℕ
 falls_next falls dead current rows row = option_or falls (cond ((grown dead current row).live && falls_after current row) (Some rows) None)

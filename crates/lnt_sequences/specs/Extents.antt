@@ -1,7 +1,7 @@
 -- The positions that sequences hold, each from its first position up to its last, and the first that two of them hold.
-use Rattle.std.specs.Prelude.{◌≡◌, ◌≢◌, ◌⊎◌, ℕ, ◌+◌, ◌-◌, ◌<◌, ◌≤◌, Bool, true, false, not, ◌&&◌, cond, List, [], ◌∷◌}
+use Rattle.std.specs.Prelude.{◌≡◌, ◌≢◌, ◌⊎◌, ℕ, ◌+◌, ◌-◌, ◌<◌, ◌≤◌, cond, List, [], ◌∷◌}
 use Rattle.std.specs.Prelude.{Option, Some, None, length, slice_index_or}
-use Rattle.std.specs.List.{flat_map, filter, list_any, All, AllPairs, Contains}
+use Rattle.std.specs.List.{flat_map, All, AllPairs, Contains}
 use Rattle.std.specs.List.Sorted.{IsPermutation}
 use Rattle.std.specs.Option.{option_map}
 use Rattle.lnt_machine.specs.declared.row.Row.{Row}
@@ -11,8 +11,7 @@ use Rattle.lnt_sequences.specs.declared.extent.Extent.{Extent}
 use Rattle.lnt_sequences.specs.declared.extent.Overlap.{Overlap}
 use Rattle.lnt_sequences.specs.declared.sequence.SeqId.{SeqId}
 use Rattle.lnt_sequences.specs.Rules.{AreApart}
-use Rattle.lnt_sequences.specs.Sequences.{answer_in, answer_of, is_same, position_of, first_row, last_row, Holds, Placed, row_at}
-use Rattle.lnt_sequences.specs.Sequences.{stands_before}
+use Rattle.lnt_sequences.specs.Sequences.{answer_in, answer_of, position_of, first_row, last_row, Holds, Placed, row_at}
 
 -- ---- which comes first
 
@@ -68,7 +67,7 @@ extent_of placed = extent_of_rows placed.id (first_row placed.rows) (last_row pl
 abbrev pub extents_of : List Placed → List Extent
 extents_of sequences = flat_map extent_of sequences
 
--- ---- extents in order. The bodies of this crate use what follows among themselves.
+-- ---- extents in order
 
 -- p is held
 pub record IsIn (p : Position) (extent : Extent) : Type 0 where
@@ -86,55 +85,6 @@ AreSorted extents =
 -- of the first n and the next, none begins below the end of the one before it
 abbrev pub AreApartUpTo : ℕ → List Extent → Type 0
 AreApartUpTo n extents = (k : ℕ) (d : Extent) → k < n → IsAtMost (slice_index_or extents k d).high (slice_index_or extents (k + 1) d).low
-
--- no position is held by both
-abbrev pub ExtentsDisjoint : Extent → Extent → Type 0
-ExtentsDisjoint one other = (p : Position) → IsIn p one → IsIn p other → ⊥
-
--- Both hold the position where the second begins, no lower position is held by two, and they are the first two that
--- hold it.
-pub record AreFirstToOverlap (extents : List Extent) (one other : Extent) : Type 0 where
-  pub one_in : Contains extents one
-  pub other_in : Contains extents other
-  pub different : one.id ≢ other.id
-  pub order : ComesNoLater one other
-  pub one_holds : IsIn other.low one
-  pub other_holds : IsIn other.low other
-  pub lower : (p : Position) → IsBelow p other.low → AllPairs (λ a b. IsIn p a → IsIn p b → ⊥) extents
-  pub first_two : All (λ extent. IsIn other.low extent → (extent ≡ one) ⊎ (extent ≡ other) ⊎ ComesNoLater other extent) extents
-
-pub record ExtentsOverlap (extents : List Extent) (overlap : Overlap) : Type 0 where
-  pub one : Extent
-  pub other : Extent
-  pub first_is : overlap.first ≡ one.id
-  pub second_is : overlap.second ≡ other.id
-  pub position_is : overlap.position ≡ other.low
-  pub first : AreFirstToOverlap extents one other
-
--- ---- extents without copies
-
--- whether two begin and end at the same positions
-abbrev pub end_alike : Extent → Extent → Bool
-end_alike one other = is_same one.low other.low && is_same one.high other.high
-
--- whether it is a copy among these: one that stands before it begins and ends at the same positions
-abbrev pub is_copied : List Extent → Extent → Bool
-is_copied extents extent = list_any (λ (earlier : Extent). stands_before earlier.id extent.id && end_alike extent earlier) extents
-
--- the extents of those that are kept
-abbrev pub kept_extents : Bool → List Extent → List Extent
-kept_extents false extents = extents
-kept_extents true extents = filter (λ extent. not (is_copied extents extent)) extents
-
--- By first position, then by last position, and then by place, the one isn't after the other.
-pub record EndsNoLater (one other : Extent) : Type 0 where
-  pub low : IsAtMost one.low other.low
-  pub rest : one.low.address ≡ other.low.address → one.low.op ≡ other.low.op → IsNotLater one.high one.id other.high other.id
-
--- in this order, in which copies stand after what they are copies of
-abbrev pub AreGathered : List Extent → Type 0
-AreGathered extents =
-    (k : ℕ) (d : Extent) → k + 1 < length extents → EndsNoLater (slice_index_or extents k d) (slice_index_or extents (k + 1) d)
 
 -- ---- extents that are settled: sorted, and apart
 

@@ -4,8 +4,9 @@ ghost use Rattle.std.specs.List.{All, AllPairs};
 ghost use Rattle.std.specs.List.Sorted.{IsPermutation};
 ghost use Rattle.lnt_spans.specs.Positions.{IsBelow};
 ghost use Rattle.lnt_sequences.specs.declared.extent.Extent.{Extent};
-ghost use Rattle.lnt_sequences.specs.Extents.{AreApartUpTo, AreGathered, AreSettled, AreSorted, ExtentsDisjoint, ExtentsOverlap};
-ghost use Rattle.lnt_sequences.specs.Extents.{kept_extents};
+ghost use Rattle.lnt_sequences.specs.Copies.{AreGathered, kept_extents};
+ghost use Rattle.lnt_sequences.specs.Extents.{AreApartUpTo, AreSettled, AreSorted};
+ghost use Rattle.lnt_sequences.specs.Overlaps.{ExtentsDisjoint, ExtentsOverlap};
 
 use crate::sequence::SeqId;
 use lnt_spans::Position;

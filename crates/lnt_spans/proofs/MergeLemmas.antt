@@ -14,13 +14,13 @@ use Rattle.lnt_spans.specs.declared.span.Span.{Span}
 use Rattle.lnt_spans.specs.Answers.{in_version}
 use Rattle.lnt_spans.specs.declared.ahead.Ahead.{Ahead}
 use Rattle.lnt_spans.specs.Ahead.{IsAhead}
-use Rattle.lnt_spans.specs.Comparing.{Advances, AgreeBefore, Compares, DifferBefore, end_of, GoesOn, HasCompared}
+use Rattle.lnt_spans.specs.Comparing.{Advances, AgreeBefore, Compares, end_of, GoesOn, HasCompared}
 use Rattle.lnt_spans.specs.Comparing.{IsCompared, IsComparedBy, IsNext, IsTold, Merging, State, state_of}
-use Rattle.lnt_spans.specs.Differences.{Agree, IsLeastDifference}
+use Rattle.lnt_spans.specs.Differences.{IsLeastDifference}
 use Rattle.lnt_spans.specs.Positions.{IsBelow, IsAtMost}
 use Rattle.lnt_spans.specs.Scanning.{DiffersFirst, EndsAfter, IsScanned, Says}
 use Rattle.lnt_spans.specs.Spans.{AreInOrder, span_answer, span_in_version, version_answer}
-use Rattle.lnt_spans.proofs.ScanLemmas.{begins_with, first_is, first_says, gap_says, next_after, no_first}
+use Rattle.lnt_spans.proofs.ScanLemmas.{begins_with, first_is, first_says, gap_says, next_after}
 use Rattle.lnt_spans.proofs.AnsweringLaws.{answer_before, answer_after, answer_in, answer_same, back_in_order}
 use Rattle.lnt_spans.proofs.AnsweringLaws.{first_holds, front_in_order, none_before, rest_in_order}
 use Rattle.lnt_spans.proofs.PositionLaws.{at_most_below, at_most_itself, at_most_trans, below_at_most}
@@ -334,29 +334,6 @@ finish_first to_come merge spans records span start next none h c =
     (start_is merge.at span start (first_holds span first.0 order) ends h)
     (subst (λ (list : List Span). (p : Position) → IsAtMost merge.at p → span_answer list p ≡ span_answer spans p) first.1 agree.rest_same)
     agree c.compared.ended
-
--- the section has no span left: both agree
-pub finish_none : {S : Type 0} (to_come : S → List Span → Type 0) (merge : Merging S) (spans records : List Span) → merge.spans.next ≡ None
-    → merge.first ≡ None → Compares to_come merge spans records
-    → Agree (version_answer merge.version spans) (span_answer records)
-finish_none to_come merge spans records next none c p =
-    let empty = no_first merge.spans.next c.rest next (begins_with to_come merge.spans c.rest c.ahead) in
-    let agree = agree_before (state_of merge c.rest) spans (span_answer records) none c.compared.compared in
-    elim (order_cases p merge.at) [
-      | inl early ↦ agree.agree p early
-      | inr late ↦
-          ap (option_map (in_version merge.version)) (sym (agree.rest_same p late) ∙ ap (λ (list : List Span). span_answer list p) empty)
-          ∙ sym (c.compared.ended p late)
-    ]
-
--- a difference was found before
-pub finish_found : {S : Type 0} (to_come : S → List Span → Type 0) (merge : Merging S) (spans records : List Span) (difference : Difference)
-    → merge.first ≡ Some difference → Compares to_come merge spans records
-    → IsLeastDifference (version_answer merge.version spans) (span_answer records) difference
-finish_found to_come merge spans records difference e c =
-    let found : DifferBefore (state_of merge c.rest) spans (span_answer records) difference = subst
-    (λ (f : Option Difference). IsComparedBy f (state_of merge c.rest) spans (span_answer records)) e c.compared.compared in
-    found.least
 
 -- ---- records that the section begins with
 

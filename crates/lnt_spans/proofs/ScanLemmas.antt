@@ -12,7 +12,7 @@ use Rattle.lnt_spans.specs.declared.span.Span.{Span}
 use Rattle.lnt_spans.specs.Answers.{in_version}
 use Rattle.lnt_spans.specs.Positions.{IsBelow, IsAtMost, is_below}
 use Rattle.lnt_spans.specs.declared.ahead.Ahead.{Ahead}
-use Rattle.lnt_spans.specs.Ahead.{BeginsWith, gap_before, IsAhead, rest_of, steps_left}
+use Rattle.lnt_spans.specs.Ahead.{BeginsWith, IsAhead, rest_of, steps_left}
 use Rattle.lnt_spans.specs.Scanning.{EndsAfter, IsStretch, Says}
 use Rattle.lnt_spans.specs.Spans.{AreInOrder}
 use Rattle.lnt_spans.proofs.AnsweringLaws.{answer_after, answer_in, first_holds, none_before, rest_in_order}
@@ -146,10 +146,6 @@ stretch_whole version next spans span at to is b o past le k =
 at_most_one : (t : Bool) → cond t 1 0 ≤ 1
 at_most_one true = omega arith
 at_most_one false = omega arith
-
-gap_at_most_one : (at : Position) (next : Option Span) → gap_before at next ≤ 1
-gap_at_most_one at None = omega arith
-gap_at_most_one at (Some span) = at_most_one (is_below at span.low)
 
 pub fewer_none : (next : Option Span) (at to : Position) → next ≡ None → IsBelow at to → steps_left next to to < steps_left next at to
 fewer_none next at to e lt = rw (e, test_not_below to to (at_most_itself to), test_below at to lt) (omega arith)

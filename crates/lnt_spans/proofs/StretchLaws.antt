@@ -10,10 +10,11 @@ use Rattle.lnt_spans.specs.declared.position.Position.{Position}
 use Rattle.lnt_spans.specs.declared.span.Span.{Span}
 use Rattle.lnt_spans.specs.declared.stretches.Differences.{Differences}
 use Rattle.lnt_spans.specs.Answers.{in_version}
-use Rattle.lnt_spans.specs.Differing.{AreToldBelow, HasTold, IsRun, IsSide}
+use Rattle.lnt_spans.specs.Differing.{AreToldBelow, HasTold, IsSide}
 use Rattle.lnt_spans.specs.Positions.{IsBelow, IsAtMost}
 use Rattle.lnt_spans.specs.Scanning.{EndsAfter}
 use Rattle.lnt_spans.specs.Spans.{AreInOrder, version_answer}
+use Rattle.lnt_spans.specs.Stepping.{IsRun}
 use Rattle.lnt_spans.specs.Stretches.{AreStretches, Stay}
 use Rattle.lnt_spans.proofs.AnsweringLaws.{answer_after, first_holds, rest_in_order}
 use Rattle.lnt_spans.proofs.SameLaws.{same_answers, same_options}

@@ -1,5 +1,5 @@
 -- The stretches, given one after another as the spans of both sides come.
-use Rattle.std.proofs.Common.{◌≡◌, ◌≢◌, ◌∙◌, ℕ, ◌+◌, ◌<◌, ◌≤◌, Bool, true, false, cond, List, [], ◌∷◌, ◌++◌, ◌⊎◌, inl}
+use Rattle.std.proofs.Common.{◌≡◌, ◌≢◌, ◌∙◌, ℕ, ◌+◌, ◌<◌, ◌≤◌, List, [], ◌∷◌, ◌++◌, ◌⊎◌, inl}
 use Rattle.std.proofs.Common.{inr, refl, ap, sym, subst, Some, None, Option, arith}
 use Rattle.std.specs.List.{AllByRecursion}
 use Rattle.std.specs.Option.{option_map}
@@ -11,12 +11,13 @@ use Rattle.lnt_spans.specs.declared.difference.Difference.{Difference}
 use Rattle.lnt_spans.specs.declared.position.Position.{Position}
 use Rattle.lnt_spans.specs.declared.span.Span.{Span}
 use Rattle.lnt_spans.specs.Answers.{in_version}
-use Rattle.lnt_spans.specs.Ahead.{BeginsWith, gap_before, IsAhead}
+use Rattle.lnt_spans.specs.Ahead.{BeginsWith, IsAhead}
 use Rattle.lnt_spans.specs.Comparing.{IsTold, end_of}
-use Rattle.lnt_spans.specs.Differing.{AreToldBelow, HasTold, IsBefore, IsOpen, IsRun, IsSide, IsUpTo, run_end}
-use Rattle.lnt_spans.specs.Positions.{IsBelow, IsAtMost, is_below}
+use Rattle.lnt_spans.specs.Differing.{AreToldBelow, HasTold, IsOpen, IsSide}
+use Rattle.lnt_spans.specs.Positions.{IsBelow, IsAtMost}
 use Rattle.lnt_spans.specs.Scanning.{EndsAfter}
 use Rattle.lnt_spans.specs.Spans.{AreInOrder, span_answer, version_answer}
+use Rattle.lnt_spans.specs.Stepping.{IsBefore, IsRun, IsUpTo, run_end}
 use Rattle.lnt_spans.specs.Stretches.{AreAnswers, AreRising, BeginsStretch, IsInOne, IsInStretch, Stay}
 use Rattle.lnt_spans.proofs.AnsweringLaws.{answer_after, answer_in, answer_same, back_in_order, first_holds}
 use Rattle.lnt_spans.proofs.AnsweringLaws.{front_in_order, none_before, rest_in_order, rest_none}
@@ -24,13 +25,9 @@ use Rattle.lnt_spans.proofs.PositionLaws.{at_most_below, at_most_itself, at_most
 use Rattle.lnt_spans.proofs.PositionLaws.{below_is_at_most, not_both, order_cases, test_below, test_not_below}
 use Rattle.lnt_spans.specs.Laws.{FirstStretch}
 use Rattle.lnt_spans.proofs.ToldLaws.{told, told_answer}
-use Rattle.lnt_spans.proofs.ScanLemmas.{begins_with, first_is, next_after, no_first}
+use Rattle.lnt_spans.proofs.ScanLemmas.{begins_with, first_is, next_after}
 
 -- ---- one side
-
-pub run_none : (version : Version) (next : Option Span) (spans : List Span) (at : Position) → next ≡ None → BeginsWith next spans
-    → IsRun (version_answer version spans) at None None
-run_none version next spans at e b = rw (no_first next spans e b) (record { past = tt; says = λ p h k. refl })
 
 pub gap_run : (version : Version) (span : Span) (more : List Span) (at : Position) → AreInOrder (span ∷ more) → IsBelow at span.low
     → IsRun (version_answer version (span ∷ more)) at None (Some span.low)
@@ -52,13 +49,6 @@ inside_run version span more at le past = record {
   past = past;
   says = λ p h k. ap (option_map (in_version version)) (answer_in span more p (at_most_trans le h) k);
 }
-
-pub run_inside : (version : Version) (next : Option Span) (spans : List Span) (span : Span) (at : Position) → next ≡ Some span
-    → BeginsWith next spans → EndsAfter at spans → IsAtMost span.low at
-    → IsRun (version_answer version spans) at (Some (in_version version span.answer)) (Some span.high)
-run_inside version next spans span at is b past le =
-    let first = first_is next span spans is b in
-    rw first.1 (inside_run version span first.0 at le (subst (EndsAfter at) first.1 past))
 
 pub end_gap : (next : Option Span) (span : Span) (at : Position) → next ≡ Some span → IsBelow at span.low → Some span.low ≡ run_end at next
 end_gap next span at e lt = rw (e, test_below at span.low lt) refl
@@ -103,16 +93,6 @@ side_passed to_come version old new span at end answers some high passes s le up
           ap (option_map (in_version version)) (sym (answer_after span first.0 p (at_most_trans high h)))
           ∙ ap (λ (xs : List Span). version_answer version xs p) (sym first.1) ∙ s.same p (at_most_trans le h);
     }
-
--- ---- fewer runs are left
-
-gap_at_most_one : (at : Position) (next : Option Span) → gap_before at next ≤ 1
-gap_at_most_one at None = omega arith
-gap_at_most_one at (Some span) = one (is_below at span.low)
-  where
-    one : (t : Bool) → cond t 1 0 ≤ 1
-    one true = omega arith
-    one false = omega arith
 
 -- ---- what is told
 

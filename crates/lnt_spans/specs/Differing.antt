@@ -1,5 +1,5 @@
 -- How far the stretches of a section and a table were given.
-use Rattle.std.specs.Prelude.{◌≡◌, ◌⊎◌, ℕ, ◌+◌, List, [], ◌∷◌, ◌++◌, Option, Some, None, cond}
+use Rattle.std.specs.Prelude.{◌≡◌, ◌⊎◌, ℕ, ◌+◌, List, Option}
 use Rattle.std.specs.List.{AllByRecursion}
 use Rattle.lnt_spans.specs.declared.answer.Answer.{Answer}
 use Rattle.lnt_spans.specs.declared.answer.Version.{Version}
@@ -7,14 +7,12 @@ use Rattle.lnt_spans.specs.declared.difference.Difference.{Difference}
 use Rattle.lnt_spans.specs.declared.position.Position.{Position}
 use Rattle.lnt_spans.specs.declared.span.Span.{Span}
 use Rattle.lnt_spans.specs.declared.stretches.Differences.{Differences}
-use Rattle.lnt_spans.specs.declared.stretches.Step.{Step}
-use Rattle.lnt_spans.specs.declared.stretches.Step.TheVariants.{Ended, Known, Told}
 use Rattle.lnt_spans.specs.declared.ahead.Ahead.{Ahead}
 use Rattle.lnt_spans.specs.Ahead.{count_ahead, gap_before, IsAhead}
-use Rattle.lnt_spans.specs.Positions.{IsBelow, IsAtMost, is_below}
+use Rattle.lnt_spans.specs.Positions.{IsBelow, IsAtMost}
 use Rattle.lnt_spans.specs.Scanning.{EndsAfter}
 use Rattle.lnt_spans.specs.Spans.{AreInOrder, version_answer}
-use Rattle.lnt_spans.specs.Stretches.{AreAnswers, AreRising, AreStretches, BeginsStretch, IsInOne, Stay}
+use Rattle.lnt_spans.specs.Stretches.{AreAnswers, AreRising, BeginsStretch, IsInOne, Stay}
 
 -- ---- one side
 
@@ -26,26 +24,6 @@ pub record IsSide {S : Type 0} (to_come : S → List Span → Type 0) (version :
   pub order : AreInOrder rest
   pub past : EndsAfter at rest
   pub same : (p : Position) → IsAtMost at p → version_answer version rest p ≡ answers p
-
--- The position is at or below the end, if there is one.
-abbrev pub IsUpTo : Position → Option Position → Type 0
-IsUpTo p None = Unit {0}
-IsUpTo p (Some end) = IsAtMost p end
-
--- The position is below the end, if there is one.
-abbrev pub IsBefore : Position → Option Position → Type 0
-IsBefore p None = Unit {0}
-IsBefore p (Some end) = IsBelow p end
-
--- From `at` up to the end, which lies after it, this is the answer at every position; without an end, at all from `at` on.
-pub record IsRun (answers : Position → Option Answer) (at : Position) (answer : Option Answer) (end : Option Position) : Type 0 where
-  pub past : IsBefore at end
-  pub says : (p : Position) → IsAtMost at p → IsBefore p end → answers p ≡ answer
-
--- where the answer at a position may end, if `next` is the next span
-abbrev pub run_end : Position → Option Span → Option Position
-run_end at None = None
-run_end at (Some span) = Some (cond (is_below at span.low) span.low span.high)
 
 -- an upper bound on the runs of one answer that are left, where the source has at most `left` spans
 abbrev pub runs_left : Position → Option Span → ℕ → ℕ
@@ -86,11 +64,3 @@ abbrev pub stretches_left : {S T : Type 0} → (S → ℕ) → (T → ℕ) → D
 stretches_left of_section of_table differences =
     runs_left differences.at differences.section.next (of_section differences.section.spans)
     + runs_left differences.at differences.table.next (of_table differences.table.spans)
-
--- what holds after one step, by what the step found
-abbrev pub Steps : {S T : Type 0} → (S → List Span → Type 0) → (T → List Span → Type 0) → Differences S T → (Position → Option Answer)
-    → (Position → Option Answer) → List Difference → Step → Type 0
-Steps of_section of_table differences by_section by_table told Ended = AreStretches by_section by_table told
-Steps of_section of_table differences by_section by_table told Known = HasTold of_section of_table differences by_section by_table told
-Steps of_section of_table differences by_section by_table told (Told difference) =
-    HasTold of_section of_table differences by_section by_table (told ++ difference ∷ [])

@@ -10,10 +10,11 @@ ghost use Rattle.lnt_spans.specs.declared.span.Span as spec;
 ghost use Rattle.lnt_spans.specs.declared.stretches.Step.TheVariants as step;
 ghost use Rattle.lnt_spans.specs.Ahead.{BeginsWith};
 ghost use Rattle.lnt_spans.specs.Comparing.{IsTold, end_of};
-ghost use Rattle.lnt_spans.specs.Differing.{HasTold, IsRun, IsSide, IsUpTo, Steps, run_end, runs_left, stretches_left};
+ghost use Rattle.lnt_spans.specs.Differing.{HasTold, IsSide, runs_left, stretches_left};
 ghost use Rattle.lnt_spans.specs.Positions.{IsBelow, IsAtMost};
 ghost use Rattle.lnt_spans.specs.Scanning.{EndsAfter};
 ghost use Rattle.lnt_spans.specs.Spans.{AreInOrder, span_answer, version_answer};
+ghost use Rattle.lnt_spans.specs.Stepping.{IsRun, IsUpTo, Steps, run_end};
 ghost use Rattle.lnt_spans.specs.Stretches.{AreStretches};
 
 use crate::ahead::Ahead;

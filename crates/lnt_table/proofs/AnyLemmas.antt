@@ -26,8 +26,9 @@ use Rattle.lnt_table.specs.declared.by_path.Checked.TheVariants.{Numbered, ByPat
 use Rattle.lnt_table.specs.declared.verdict.TableNo.TheVariants as no
 use Rattle.lnt_table.specs.declared.verdict.Verdict.{Verdict}
 use Rattle.lnt_table.specs.declared.verdict.Verdict.TheVariants.{No}
-use Rattle.lnt_table.specs.AnyVersion.{IsCheckedWith, IsComparedByPath, IsOfGood, IsTrueCheck, IsTrueCheckOfSection}
+use Rattle.lnt_table.specs.AnyVersion.{IsComparedByPath, IsTrueCheck, IsTrueCheckOfSection}
 use Rattle.lnt_table.specs.ByPath.{path_at, told_path}
+use Rattle.lnt_table.specs.Comparisons.{IsCheckedWith, IsOfGood}
 use Rattle.lnt_table.specs.Headline.{IsTrueOfSection, IsTrueVerdict}
 use Rattle.lnt_table.specs.Verdicts.{IsComparedWith, verdict_of}
 use Rattle.lnt_table.proofs.CheckLemmas.{compared_told, good_told}

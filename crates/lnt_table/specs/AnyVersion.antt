@@ -1,11 +1,10 @@
 -- What the answers of `check_any` say of a section and an address table of any version.
 --     line, general    the bytes of .debug_line_str and of .debug_str
 --     section, table   the bytes of .debug_line, and those of the address table
-use Rattle.std.specs.Prelude.{◌≡◌, ◌≢◌, ℕ, Bool, List, [], ◌∷◌, Option}
+use Rattle.std.specs.Prelude.{◌≢◌, ℕ, Bool, List, [], ◌∷◌, Option}
 use Rattle.lnt_unit.specs.declared.unit.Parts.{Parts}
 use Rattle.lnt_spans.specs.declared.answer.Version.{Version}
 use Rattle.lnt_records.specs.Table.{BeginsWith, column_names}
-use Rattle.lnt_records.specs.declared.comparison.Compared.{Compared}
 use Rattle.lnt_paths.specs.declared.answer.ComparedByPath.{ComparedByPath}
 use Rattle.lnt_paths.specs.PathDifferences.{IsPathComparison}
 use Rattle.lnt_lines.specs.declared.options.Options.{Options}
@@ -17,7 +16,6 @@ use Rattle.lnt_table.specs.declared.verdict.TableNo.TheVariants as no
 use Rattle.lnt_table.specs.declared.verdict.Verdict.TheVariants.{No}
 use Rattle.lnt_table.specs.ByPath.{told_path}
 use Rattle.lnt_table.specs.Headline.{IsGoodSection, IsTrueOfSection, IsTrueVerdict}
-use Rattle.lnt_table.specs.Verdicts.{IsComparedWith, verdict_of}
 
 -- The table begins with the header of neither version 1 nor 2. `compared` is true of the table and of the answers of the
 -- units' rows, with each file's whole path, as versions 3 and 4 tell answers: `Fault` of the header, where the table begins
@@ -46,13 +44,3 @@ IsTrueCheckOfSection line general options section (Numbered verdict) = IsTrueOfS
 IsTrueCheckOfSection line general options section (ByPath compared) = IsGoodSection line general options section
 
 -- ---- the answer for a good section, by a comparison; for contracts within this crate
-
-abbrev pub IsCheckedWith : Indexed → Option ℕ → Bool → List (ℕ × Parts) → List ℕ → Checked → Type 0
-IsCheckedWith index dead skip units table (Numbered verdict) =
-    (compared : Compared) × IsComparedWith dead skip units table compared × (verdict ≡ verdict_of compared) × (verdict ≢ No no.Header)
-IsCheckedWith index dead skip units table (ByPath compared) = IsComparedByPath index dead skip units table compared
-
--- A verdict is that of some comparison, so its reason is none of the section.
-abbrev pub IsOfGood : Checked → Type 0
-IsOfGood (Numbered verdict) = (compared : Compared) × (verdict ≡ verdict_of compared)
-IsOfGood (ByPath compared) = Unit {0}

@@ -1,5 +1,6 @@
 pub mod AnyVersion
 pub mod ByPath
+pub mod Comparisons
 pub mod FaultTexts
 pub mod Headline
 pub mod Laws

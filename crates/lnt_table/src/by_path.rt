@@ -4,7 +4,8 @@ ghost use Rattle.lnt_lines.specs.declared.no.No.{No as SectionNo};
 ghost use Rattle.lnt_wire.specs.declared.stop.Stop.TheVariants.{Read, TooLong};
 ghost use Rattle.lnt_unit.specs.declared.unit.Parts.{Parts};
 ghost use Rattle.lnt_lines.specs.Indexed.{IsIndexOf};
-ghost use Rattle.lnt_table.specs.AnyVersion.{IsCheckedWith, IsOfGood, IsTrueCheck, IsTrueCheckOfSection};
+ghost use Rattle.lnt_table.specs.AnyVersion.{IsTrueCheck, IsTrueCheckOfSection};
+ghost use Rattle.lnt_table.specs.Comparisons.{IsCheckedWith, IsOfGood};
 ghost use Rattle.lnt_table.specs.Headline.{IsTooLong};
 
 use crate::paths::IndexPaths;

@@ -1,6 +1,6 @@
 use Rattle.std.proofs.Common.{rules}
 use Rattle.std.proofs.lemmas.Fn.{dedup_same}
-use Rattle.lnt_sequences.specs.Extents.{end_alike}
+use Rattle.lnt_sequences.specs.Copies.{end_alike}
 use Rattle.lnt_sequences.proofs.CopyLemmas.{kept_of_gathered}
 use Rattle.lnt_sequences.proofs.extent.kept.Goals as goal
 

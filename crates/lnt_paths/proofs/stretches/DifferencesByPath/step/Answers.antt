@@ -1,6 +1,7 @@
 use Rattle.std.proofs.Common.{subst}
 use Rattle.std.specs.Option.{option_copied, option_map}
-use Rattle.lnt_spans.specs.Differing.{IsUpTo, runs_left}
+use Rattle.lnt_spans.specs.Differing.{runs_left}
+use Rattle.lnt_spans.specs.Stepping.{IsUpTo}
 use Rattle.lnt_spans.proofs.PositionLaws.{below_is_at_most}
 use Rattle.lnt_paths.specs.PathAnswers.{path_answer}
 use Rattle.lnt_paths.specs.PathDifferences.{told_path_answer}

@@ -4,7 +4,8 @@ use Rattle.std.specs.List.Sorted.{IsPermutation}
 use Rattle.std.proofs.lemmas.List.Sorted.{IsPermutation-trans, length_permutation}
 use Rattle.lnt_spans.specs.Positions.{IsBelow}
 use Rattle.lnt_sequences.specs.declared.extent.Extent.{Extent}
-use Rattle.lnt_sequences.specs.Extents.{extents_of, ExtentsDisjoint, ExtentsOverlap}
+use Rattle.lnt_sequences.specs.Extents.{extents_of}
+use Rattle.lnt_sequences.specs.Overlaps.{ExtentsDisjoint, ExtentsOverlap}
 use Rattle.lnt_sequences.specs.Sequences.{kept_of}
 use Rattle.lnt_sequences.proofs.ExtentLemmas.{extents_ids}
 use Rattle.lnt_sequences.proofs.KeptLemmas.{ids_kept, kept_apart, kept_are, kept_overlap, kept_some, written_back}

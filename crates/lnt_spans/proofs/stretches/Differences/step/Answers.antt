@@ -1,5 +1,5 @@
 use Rattle.std.proofs.Common.{subst}
-use Rattle.lnt_spans.specs.Differing.{IsUpTo}
+use Rattle.lnt_spans.specs.Stepping.{IsUpTo}
 use Rattle.lnt_spans.proofs.PositionLaws.{below_is_at_most}
 use Rattle.lnt_spans.proofs.StretchLemmas.{both_fewer, moves, side_run, step_known, told_new}
 use Rattle.lnt_spans.proofs.stretches.Differences.step.Goals as goal
