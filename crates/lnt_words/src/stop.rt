@@ -4,13 +4,17 @@ ghost use Rattle.lnt_words.specs.declared.stop.WordsStop.TheVariants.{Memory};
 
 use lnt_text::Argument;
 use std::alloc::AllocError;
+use thiserror::Error;
 
 /// Why words ask for nothing.
-#[derive(Debug, Drop)]
+#[derive(Debug, Drop, Error)]
 pub enum WordsStop {
-    /// The words ask for nothing that the command does. The text says how the command is used, and ends in a line feed.
+    /// The words ask for nothing that the command does. The text says how the command is used, or which word is unknown or
+    /// missing, and ends in a line feed.
+    #[error("{0}")]
     Usage(String),
     /// A word isn't of the form that its argument takes.
+    #[error("{text}")]
     BadWord {
         /// The line that names the word, with its line feed.
         text: String,
@@ -20,6 +24,7 @@ pub enum WordsStop {
         quiet: bool,
     },
     /// Memory ran out. That says nothing of the words.
+    #[error("out of memory")]
     Memory,
 }
 

@@ -77,7 +77,7 @@ fn asked_in<'a>(alloc: Global, matches: &ArgMatches<'a>) -> Result<Asked<'a>, Wo
     ensures { IfOk result (IsAskedOfMatches matches.now) }
 {
     let Some((name, words)) = matches.subcommand() else {
-        return Err(WordsStop::Memory);
+        return Err(usage(alloc, "no word for", "SUBCOMMAND"));
     };
     Ok(Asked {
         request: request_in(alloc, name, words)?,
@@ -93,18 +93,18 @@ fn request_in<'a>(
     ensures { IfOk result (λ request. IsAskedIn name.now (rows_in words.now) request) }
 {
     match name {
-        "units" => read_in(words, Reading::Units),
+        "units" => read_in(alloc, words, Reading::Units),
         "dump" => {
             let reading = Reading::Dump {
                 ops: flag_in(words, "ops"),
                 rows: flag_in(words, "rows"),
             };
-            read_in(words, reading)
+            read_in(alloc, words, reading)
         }
         "verify" => judge_in(alloc, words, Question::Verify),
         "check" => Ok(Request::Check {
             from: judging_in(alloc, words)?,
-            table: word_in(words, "TABLE")?,
+            table: word_in(alloc, words, "TABLE")?,
             all: flag_in(words, "all"),
         }),
         "lookup" => lookup_in(alloc, words),
@@ -112,16 +112,20 @@ fn request_in<'a>(
         "table" => judge_in(alloc, words, table_in(words)),
         "convert" => convert_in(alloc, words),
         "md5" => judge_in(alloc, words, Question::Md5),
-        _ => Err(WordsStop::Memory),
+        _ => Err(usage(alloc, "unknown subcommand", name)),
     }
 }
 
-fn read_in<'a>(words: &ArgMatches<'a>, reading: Reading) -> Result<Request<'a>, WordsStop>
+fn read_in<'a>(
+    alloc: Global,
+    words: &ArgMatches<'a>,
+    reading: Reading,
+) -> Result<Request<'a>, WordsStop>
     ensures { IfOk result (λ request. (name : List ℕ) → IsReading name (rows_in words.now) reading
         → IsAskedIn name (rows_in words.now) request) }
 {
     Ok(Request::Read {
-        section: word_in(words, "SECTION")?,
+        section: word_in(alloc, words, "SECTION")?,
         order: order_in(words),
         reading,
     })
@@ -194,17 +198,17 @@ fn table_in(words: &ArgMatches<'_>) -> Question
 fn convert_in<'a>(alloc: Global, words: &ArgMatches<'a>) -> Result<Request<'a>, WordsStop>
     ensures { IfOk result (λ request. IsAskedIn (codes "convert") (rows_in words.now) request) }
 {
-    let format = match word_in(words, "format")? {
+    let format = match word_in(alloc, words, "format")? {
         "32" => Format::D32,
         "64" => Format::D64,
         word => return Err(bad_word(alloc, words, word, Argument::Format)),
     };
-    let to = match word_in(words, "order")? {
+    let to = match word_in(alloc, words, "order")? {
         "little" => Order::Little,
         "big" => Order::Big,
         word => return Err(bad_word(alloc, words, word, Argument::Order)),
     };
-    read_in(words, Reading::Convert { format, to })
+    read_in(alloc, words, Reading::Convert { format, to })
 }
 
 // A section that is judged, with its strings, the marker of dead code, and what becomes of copies.
@@ -216,7 +220,7 @@ fn judging_in<'a>(alloc: Global, words: &ArgMatches<'a>) -> Result<Judging<'a>, 
         None => None,
     };
     Ok(Judging {
-        section: word_in(words, "SECTION")?,
+        section: word_in(alloc, words, "SECTION")?,
         line_strings: str_in(words, "line-str"),
         strings: str_in(words, "str"),
         order: order_in(words),
@@ -226,10 +230,13 @@ fn judging_in<'a>(alloc: Global, words: &ArgMatches<'a>) -> Result<Judging<'a>, 
 }
 
 // The word of a required argument.
-fn word_in<'a>(words: &ArgMatches<'a>, name: &str) -> Result<&'a str, WordsStop>
+fn word_in<'a>(alloc: Global, words: &ArgMatches<'a>, name: &str) -> Result<&'a str, WordsStop>
     ensures { IfOk result (λ word. IsWord (rows_in words.now) name.now word.now) }
 {
-    str_in(words, name).ok_or(WordsStop::Memory)
+    match str_in(words, name) {
+        Some(word) => Ok(word),
+        None => Err(usage(alloc, "no word for", name)),
+    }
 }
 
 // The word that was given for an argument, if one was.
@@ -273,6 +280,14 @@ fn number_of(alloc: Global, words: &ArgMatches<'_>, word: &str) -> Result<u64, W
     match decimal(word.as_bytes()) {
         Some(number) => Ok(number),
         None => Err(bad_word(alloc, words, word, Argument::Op)),
+    }
+}
+
+// What is said of words that lack one, or have an unknown one. Clap refuses such words, by what the command tells it.
+fn usage(alloc: Global, what: &str, name: &str) -> WordsStop {
+    match format!(in alloc; "linetab: {what} {}\n", Shown(name)) {
+        Ok(text) => WordsStop::Usage(text),
+        Err(_) => WordsStop::Memory,
     }
 }
 
