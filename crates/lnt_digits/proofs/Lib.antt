@@ -1,6 +1,6 @@
 pub mod DelimitedLemmas
 pub mod DigitLemmas
-pub mod OneTextLemmas
+pub mod OneTextLaws
 pub mod PutLemmas
 pub mod ReadLemmas
 pub mod TextLaws

@@ -15,4 +15,5 @@ pub mod SaidLemmas
 pub mod StreamLemmas
 pub mod TextLemmas
 pub mod VersionLaws
+pub mod WholeLemmas
 pub mod WriteLemmas

@@ -12,7 +12,7 @@ use Rattle.csv.specs.Writing.{default_writer, field_text, fields_text, is_blank,
 use Rattle.csv.specs.declared.parser.State.TheVariants as st
 use Rattle.csv.proofs.RoundTrip.{read-write, rows_text}
 use Rattle.lnt_output.specs.Fronts.{AppendsFront}
-use Rattle.lnt_output.proofs.FrontLaws.{front_after, front_none, front_same}
+use Rattle.lnt_output.proofs.FrontLaws.{front_after, front_before, front_none, front_same}
 use Rattle.lnt_digits.specs.Digits.{IsPlainAddress, IsPlainDecimal}
 use Rattle.lnt_digits.proofs.TextLaws.{FromZero, address_from_zero, decimal_from_zero, plain_address}
 use Rattle.lnt_spans.specs.declared.answer.Version.{Version}
@@ -23,6 +23,7 @@ use Rattle.lnt_records.specs.Table.{Fields, IsFlag, Kind, RecordsOf, column_coun
 use Rattle.lnt_records.specs.Lines.{IsPlainLine}
 use Rattle.lnt_records.specs.Written.{AddsRecord, AddsRecords, BeginsTable, IsPlainRecord, IsWrittenTable, following, line_text, lines_text}
 use Rattle.lnt_records.proofs.SaidLemmas.{each_holds, records_plain}
+use Rattle.lnt_records.proofs.WholeLemmas.{whole_begins}
 
 -- ---- a line
 
@@ -277,40 +278,43 @@ all_lines version old now new block spans i le o l more =
 
 -- ---- a loop that is stopped
 
+-- with a front of the lines of the first spans, with which every table of all begins
+begun : (version : Version) (old new : Option (List ℕ)) (records : List Fields) (first rest spans : List Span)
+    → AllZip (IsPlainRecord version) records first → first ++ rest ≡ spans
+    → AppendsFront old new (lines_text (column_names version ∷ records)) → BeginsTable version spans old new
+begun version old new records first rest spans z e f = record {
+  first = first;
+  rest = rest;
+  joined = e;
+  records = records;
+  each = z;
+  front = f;
+  of_whole = λ bytes whole.
+      let all = subst (AllZip (IsPlainRecord version) whole.records) (sym e) whole.each in
+      let more = whole_begins version records whole.records first rest z all in
+      let same : lines_text (column_names version ∷ records) ++ lines_text more.0 ≡ bytes =
+      sym (lines_append (column_names version ∷ records) more.0)
+      ∙ ap (λ (list : List Fields). lines_text (column_names version ∷ list)) (sym more.1) ∙ sym whole.lines in
+      front_same old new _ bytes same (front_before old new (lines_text (column_names version ∷ records)) (lines_text more.0) f);
+}
+
 -- before anything was written
 pub begun_none : (version : Version) (spans : List Span) (old : Option (List ℕ)) → BeginsTable version spans old old
-begun_none version spans old = record {
-  first = [];
-  rest = spans;
-  joined = refl;
-  records = [];
-  each = tt;
-  front = front_none old (lines_text (column_names version ∷ []));
-}
+begun_none version spans old = begun version old old [] [] spans spans tt refl (front_none old (lines_text (column_names version ∷ [])))
 
 -- while the block was filled
 pub begun_so_far : (version : Version) (old now : Option (List ℕ)) (block : List ℕ) (first rest spans : List Span)
     → Lines version old now block first → first ++ rest ≡ spans → BeginsTable version spans old now
-begun_so_far version old now block first rest spans l e = record {
-  first = first;
-  rest = rest;
-  joined = e;
-  records = l.records;
-  each = l.each;
-  front = record { front = l.sent; rest = block; joined = l.lines; gained = l.handed };
-}
+begun_so_far version old now block first rest spans l e =
+    begun version old now l.records first rest spans l.each e
+    (record { front = l.sent; rest = block; joined = l.lines; gained = l.handed })
 
 -- while the block was sent
 pub begun_sending : (version : Version) (old now new : Option (List ℕ)) (block : List ℕ) (first rest spans : List Span)
     → Lines version old now block first → first ++ rest ≡ spans → AppendsFront now new block → BeginsTable version spans old new
-begun_sending version old now new block first rest spans l e f = record {
-  first = first;
-  rest = rest;
-  joined = e;
-  records = l.records;
-  each = l.each;
-  front = front_same old new (l.sent ++ block) _ l.lines (front_after old now new l.sent block l.handed f);
-}
+begun_sending version old now new block first rest spans l e f =
+    begun version old new l.records first rest spans l.each e
+    (front_same old new (l.sent ++ block) _ l.lines (front_after old now new l.sent block l.handed f))
 
 -- after the lines of the first i spans and of one more
 pub begun_until : (version : Version) (old now : Option (List ℕ)) (block : List ℕ) (spans : List Span) (i : ℕ)

@@ -61,7 +61,8 @@ pub record IsCanonicalTable (version : Version) (given : List Span) (bytes : Lis
 -- ---- tables whose writing was stopped
 --     old, new    the known bytes that the writer holds before and afterwards
 
--- The writer has gained a prefix of the header and the lines of the first of these spans.
+-- The writer has gained a prefix of the header and the lines of the first of these spans. Every table of the spans on plain lines
+-- begins with what it has gained.
 pub record BeginsTable (version : Version) (spans : List Span) (old new : Option (List ℕ)) : Type 0 where
   pub first : List Span
   pub rest : List Span
@@ -69,13 +70,16 @@ pub record BeginsTable (version : Version) (spans : List Span) (old new : Option
   pub records : List Fields
   pub each : AllZip (IsPlainRecord version) records first
   pub front : AppendsFront old new (lines_text (column_names version ∷ records))
+  pub of_whole : (bytes : List ℕ) → IsPlainTable version bytes spans → AppendsFront old new bytes
 
--- The same for the canonical spans that answer as the given ones do, as the version tells answers.
+-- The same for the canonical spans that answer as the given ones do, as the version tells answers: every table of them on plain lines
+-- begins with what the writer has gained.
 pub record BeginsCanonicalTable (version : Version) (given : List Span) (old new : Option (List ℕ)) : Type 0 where
   pub spans : List Span
   pub canonical : IsCanonical spans
   pub same : (p : Position) → span_answer spans p ≡ version_answer version given p
   pub begun : BeginsTable version spans old new
+  pub of_whole : (bytes : List ℕ) → IsCanonicalTable version given bytes → AppendsFront old new bytes
 
 -- ---- lines that are added. The bodies of this crate use them among themselves.
 

@@ -1,5 +1,6 @@
 -- The table that is written of a section's lines.
 use Rattle.std.specs.Prelude.{◌≡◌, Bool, ℕ, List, Option}
+use Rattle.lnt_output.specs.Fronts.{AppendsFront}
 use Rattle.lnt_unit.specs.declared.unit.Parts.{Parts}
 use Rattle.lnt_spans.specs.declared.answer.Version.{Version}
 use Rattle.lnt_spans.specs.declared.position.Position.{Position}
@@ -23,10 +24,12 @@ pub record IsTableOfUnits (version : Version) (dead : Option ℕ) (skip : Bool) 
   pub same : (p : Position) → span_answer spans p ≡ told_answer version dead skip units p
   pub written : IsWrittenTable version bytes spans
 
--- A writer that held some bytes has gained a front of the names of the columns and the lines of the first of these spans.
+-- A writer that held some bytes has gained a front of the names of the columns and the lines of the first of these spans, and
+-- every table of these units begins with what it has gained.
 pub record BeginsTableOfUnits (version : Version) (dead : Option ℕ) (skip : Bool) (units : List (ℕ × Parts)) (old new : Option (List ℕ))
     : Type 0 where
   pub spans : List Span
   pub canonical : IsCanonical spans
   pub same : (p : Position) → span_answer spans p ≡ told_answer version dead skip units p
   pub begun : BeginsTable version spans old new
+  pub of_whole : (bytes : List ℕ) → IsTableOfUnits version dead skip units bytes → AppendsFront old new bytes

@@ -1,4 +1,4 @@
-use Rattle.lnt_digits.proofs.OneTextLemmas.{one_address, one_decimal}
+use Rattle.lnt_digits.proofs.OneTextLaws.{one_address, one_decimal}
 use Rattle.lnt_digits.proofs.laws.one_text.Goals as goal
 
 pub returns-clause-decimal : goal.returns-clause-decimal

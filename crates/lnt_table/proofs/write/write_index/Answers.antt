@@ -1,4 +1,4 @@
-use Rattle.std.proofs.Common.{◌∙◌}
+use Rattle.std.proofs.Common.{◌∙◌, sym}
 use Rattle.std.proofs.lemmas.Result.{on_err_weaker, on_ok_weaker}
 use Rattle.lnt_table.proofs.CheckLemmas.{told_so}
 use Rattle.lnt_table.proofs.write.write_index.Goals as goal
@@ -38,5 +38,12 @@ returns-clause-begun g c =
       canonical = table.canonical;
       same = λ p. table.same p ∙ told_so c.args.version dead skip units all.spans all.answers p;
       begun = table.begun;
+      of_whole = λ bytes whole.
+          table.of_whole bytes (record {
+            spans = whole.spans;
+            canonical = whole.canonical;
+            same = λ p. whole.same p ∙ sym (told_so c.args.version dead skip units all.spans all.answers p);
+            written = whole.written;
+          });
     })
     c.write_canonical.ensures.begun

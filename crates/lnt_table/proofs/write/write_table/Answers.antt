@@ -2,6 +2,7 @@ use Rattle.std.proofs.Common.{List, subst, inr}
 use Rattle.std.proofs.lemmas.Result.{on_err_weaker}
 use Rattle.lnt_spans.specs.declared.span.Span.{Span}
 use Rattle.lnt_records.specs.Written.{BeginsTable}
+use Rattle.lnt_records.proofs.JoinedLemmas.{canonical_begins}
 use Rattle.lnt_table.proofs.WriteLemmas.{told_in_version}
 use Rattle.lnt_table.proofs.write.write_table.Goals as goal
 
@@ -14,11 +15,8 @@ write_spans-requires-clause-version g c =
 pub returns-clause-begun : goal.returns-clause-begun
 returns-clause-begun g c =
     on_err_weaker c.write_spans.result
-    (λ begun. inr (record {
-      spans = c.in-Ok.spans.items;
-      canonical = c.in-Ok.ensures.canonical;
-      same = c.in-Ok.ensures.same;
-      begun = subst (λ (spans : List Span). BeginsTable c.args.version spans (g.W.Write.contents c.args.out.now)
-          (g.W.Write.contents c.write_spans.new.out)) c.deref.ensures.value begun;
-    }))
+    (λ begun. inr (canonical_begins c.args.version c.args.lines.now.spans c.in-Ok.spans.items _ _
+    (c.in-Ok.ensures.canonical, c.in-Ok.ensures.same)
+    (subst (λ (spans : List Span). BeginsTable c.args.version spans (g.W.Write.contents c.args.out.now)
+    (g.W.Write.contents c.write_spans.new.out)) c.deref.ensures.value begun)))
     c.write_spans.ensures.begun

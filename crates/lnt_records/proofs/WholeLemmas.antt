@@ -1,0 +1,69 @@
+-- A span has one plain record, so every plain table of some spans begins with the records of the first of them.
+use Rattle.std.proofs.Common.{◌≡◌, ◌∙◌, ℕ, zero, suc, ◌<◌, Bool, true, false, List, [], ◌∷◌, ◌++◌, Option, Some, None, get_or}
+use Rattle.std.proofs.Common.{refl, sym, arith}
+use Rattle.std.proofs.lemmas.List.{ext_get_or}
+use Rattle.std.specs.List.{AllZip}
+use Rattle.lnt_digits.specs.Digits.{IsPlainDecimal}
+use Rattle.lnt_digits.proofs.OneTextLaws.{one_address, one_decimal}
+use Rattle.lnt_spans.specs.declared.answer.More.{More}
+use Rattle.lnt_spans.specs.declared.answer.Version.{Version}
+use Rattle.lnt_spans.specs.declared.answer.Version.TheVariants.{One, Two}
+use Rattle.lnt_spans.specs.declared.span.Span.{Span}
+use Rattle.lnt_records.specs.Table.{AreMore, Fields, IsFlag, column_count}
+use Rattle.lnt_records.specs.Written.{IsPlainRecord}
+
+-- ---- a span has one plain record
+
+one_flag_text : (s t : List ℕ) (on : Bool) → IsFlag s on → IsFlag t on → s ≡ t
+one_flag_text s t true a b = a ∙ sym b
+one_flag_text s t false a b = a ∙ sym b
+
+-- the two columns that version 2 has more
+same_more : (version : Version) (xs ys : Fields) (more : Option More) → AreMore IsPlainDecimal version xs more
+    → AreMore IsPlainDecimal version ys more → 9 < column_count version
+    → (get_or xs 9 [] ≡ get_or ys 9 []) × (get_or xs 10 [] ≡ get_or ys 10 [])
+same_more One xs ys more a b lt = absurd (omega (arith, lt))
+same_more Two xs ys None a b lt = absurd a
+same_more Two xs ys (Some more) a b lt = (one_decimal _ _ _ a.0 b.0, one_decimal _ _ _ a.1 b.1)
+
+count_at_most : (version : Version) (i : ℕ) → i < column_count version → i < 11
+count_at_most One i lt = omega (arith, lt)
+count_at_most Two i lt = omega (arith, lt)
+
+same_column : (version : Version) (xs ys : Fields) (span : Span) → IsPlainRecord version xs span → IsPlainRecord version ys span
+    → (i : ℕ) → i < column_count version → get_or xs i [] ≡ get_or ys i []
+same_column version xs ys span a b zero lt = one_address _ _ _ a.low b.low
+same_column version xs ys span a b (suc zero) lt = one_decimal _ _ _ a.low_op b.low_op
+same_column version xs ys span a b (suc (suc zero)) lt = one_address _ _ _ a.high b.high
+same_column version xs ys span a b (suc (suc (suc zero))) lt = one_decimal _ _ _ a.high_op b.high_op
+same_column version xs ys span a b (suc (suc (suc (suc zero)))) lt = one_decimal _ _ _ a.unit b.unit
+same_column version xs ys span a b (suc (suc (suc (suc (suc zero))))) lt = one_decimal _ _ _ a.file b.file
+same_column version xs ys span a b (suc (suc (suc (suc (suc (suc zero)))))) lt = one_decimal _ _ _ a.line b.line
+same_column version xs ys span a b (suc (suc (suc (suc (suc (suc (suc zero))))))) lt = one_decimal _ _ _ a.column b.column
+same_column version xs ys span a b (suc (suc (suc (suc (suc (suc (suc (suc zero)))))))) lt =
+    one_flag_text _ _ span.answer.is_stmt a.is_stmt b.is_stmt
+same_column version xs ys span a b (suc (suc (suc (suc (suc (suc (suc (suc (suc zero))))))))) lt =
+    (same_more version xs ys span.answer.more a.more b.more lt).0
+same_column version xs ys span a b (suc (suc (suc (suc (suc (suc (suc (suc (suc (suc zero)))))))))) lt =
+    (same_more version xs ys span.answer.more a.more b.more (omega (arith, lt))).1
+same_column version xs ys span a b (suc (suc (suc (suc (suc (suc (suc (suc (suc (suc (suc i))))))))))) lt =
+    absurd (omega (arith, count_at_most version _ lt))
+
+one_record : (version : Version) (xs ys : Fields) (span : Span) → IsPlainRecord version xs span → IsPlainRecord version ys span → xs ≡ ys
+one_record version xs ys span a b =
+    ext_get_or [] xs ys (a.count ∙ sym b.count) (λ i lt. same_column version xs ys span a b i (rw a.count at lt))
+
+-- ---- the records of the first spans begin those of all
+
+pub whole_begins : (version : Version) (records whole : List Fields) (first rest : List Span)
+    → AllZip (IsPlainRecord version) records first → AllZip (IsPlainRecord version) whole (first ++ rest)
+    → (more : List Fields) × (whole ≡ records ++ more)
+whole_begins version [] whole [] rest z all = (whole, refl)
+whole_begins version [] whole (s ∷ first) rest z all = absurd z
+whole_begins version (r ∷ records) whole [] rest z all = absurd z
+whole_begins version (r ∷ records) [] (s ∷ first) rest z all = absurd all
+whole_begins version (r ∷ records) (q ∷ whole) (s ∷ first) rest z all =
+    let one : q ≡ r = one_record version q r s all.0 z.0 in
+    let past = whole_begins version records whole first rest z.1 all.1 in
+    let others = past.1 in
+    (past.0, cc)
