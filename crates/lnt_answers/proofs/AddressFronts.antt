@@ -14,9 +14,10 @@ use Rattle.lnt_sources.specs.declared.status.Status.{Status}
 use Rattle.lnt_spans.specs.declared.position.Position.{Position}
 use Rattle.lnt_unit.specs.declared.unit.Parts.{Parts}
 use Rattle.lnt_lines.specs.Indexed.{Indexed, IsIndexOf}
-use Rattle.lnt_answers.specs.AddressLines.{AreAddressesBegun, AreLinesBegun, AreLinesTold, IsBlockBegun, IsBlockTold, IsCutAt, Tells}
-use Rattle.lnt_answers.specs.AddressLines.{told_line}
+use Rattle.lnt_answers.specs.AddressBlocks.{IsBlockBegun, IsBlockTold, IsCutAt}
+use Rattle.lnt_answers.specs.AddressLines.{AreAddressesBegun, AreLinesBegun, AreLinesTold, Tells, told_line}
 use Rattle.lnt_answers.proofs.AddressLemmas.{IsTextTold, cut_ended, cut_within, line_last, texts_append}
+use Rattle.lnt_answers.proofs.AddressWholes.{answer_begun}
 
 -- ---- lines
 
@@ -97,11 +98,11 @@ begun_in index op (Some text) texts rest old new e begun =
     let whole : length texts ≤ length texts = omega arith in
     let front : texts ≡ take (length texts) (lines text) =
     sym (take_all (length texts) texts whole) ∙ sym (take-append-le (length texts) texts rest whole) ∙ ap (take (length texts)) e in
-    (length texts, subst (λ (z : List (List ℕ)). AreLinesBegun index op z old new) front begun)
+    answer_begun index op (length texts) text old new (subst (λ (z : List (List ℕ)). AreLinesBegun index op z old new) front begun)
 
 pub text_unbegun : (index : Indexed) (op : ℕ) (start : Option (List ℕ)) (old : Option (List ℕ)) → AreAddressesBegun index op start old old
 text_unbegun index op None old = tt
-text_unbegun index op (Some text) old = (0, begun_none index op old)
+text_unbegun index op (Some text) old = answer_begun index op 0 text old old (begun_none index op old)
 
 -- between two blocks
 pub text_kept_begun : (index : Indexed) (op : ℕ) (start now : Option (List ℕ)) (line : List ℕ) (old new : Option (List ℕ)) (status : Status)

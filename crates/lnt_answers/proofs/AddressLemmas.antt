@@ -20,8 +20,8 @@ use Rattle.lnt_sources.specs.declared.status.Status.TheVariants.{Done}
 use Rattle.lnt_spans.specs.declared.position.Position.{Position}
 use Rattle.lnt_unit.specs.declared.unit.Parts.{Parts}
 use Rattle.lnt_lines.specs.Indexed.{Indexed, IsIndexOf}
-use Rattle.lnt_answers.specs.AddressLines.{AreAddressesTold, AreLinesTold, HasNo, IsBlockTold, IsCutAt, Tells, line_status, lines_status}
-use Rattle.lnt_answers.specs.AddressLines.{told_line}
+use Rattle.lnt_answers.specs.AddressBlocks.{HasNo, IsBlockTold, IsCutAt}
+use Rattle.lnt_answers.specs.AddressLines.{AreAddressesTold, AreLinesTold, Tells, line_status, lines_status, told_line}
 
 -- ---- where a line ends
 

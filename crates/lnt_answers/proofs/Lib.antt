@@ -1,5 +1,6 @@
 pub mod AddressFronts
 pub mod AddressLemmas
+pub mod AddressWholes
 pub mod CommaLemmas
 pub mod DifferenceLemmas
 pub mod FileLemmas

@@ -1,6 +1,6 @@
 -- What is printed of a text whose lines tell positions.
-use Rattle.std.specs.Prelude.{◌≡◌, ◌==◌, ◌+◌, Bool, false, ℕ, List, [], ◌∷◌, ◌++◌, take, drop, Option, Some, None, IfSome, codes, map}
-use Rattle.std.specs.List.{All, AllByRecursion, flat_map}
+use Rattle.std.specs.Prelude.{◌≡◌, Bool, ℕ, List, [], ◌∷◌, ◌++◌, take, Option, Some, None, IfSome, codes, map}
+use Rattle.std.specs.List.{AllByRecursion, flat_map}
 use Rattle.std.specs.Io.KnownBytes.{Appends}
 use Rattle.std.specs.Str.Lines.{lines}
 use Rattle.lnt_output.specs.Fronts.{AppendsFront}
@@ -58,32 +58,15 @@ pub record AreLinesBegun (index : Indexed) (op : ℕ) (texts : List (List ℕ)) 
   pub front : (dead : Option ℕ) (skip : Bool) (units : List (ℕ × Parts)) → IsIndexOf dead skip units index
       → AppendsFront old new (flat_map (told_line index dead skip units) told)
 
--- Where the source of the text told what it had to give (text), this is so of some of the text's first lines.
+-- A writer that held these bytes (old) has gained a front of what is printed of so many first lines of the text (count), and nothing
+-- else. That is a front of each whole answer to the text too: of what is printed of all its lines with what they tell (told).
+pub record IsAnswerBegun (index : Indexed) (op : ℕ) (text : List ℕ) (old new : Option (List ℕ)) : Type 0 where
+  pub count : ℕ
+  pub first : AreLinesBegun index op (take count (lines text)) old new
+  pub of_whole : (told : List (List ℕ × Option Position)) → map (λ line. line.0) told ≡ lines text → AllByRecursion (Tells op) told
+      → (dead : Option ℕ) (skip : Bool) (units : List (ℕ × Parts)) → IsIndexOf dead skip units index
+      → AppendsFront old new (flat_map (told_line index dead skip units) told)
+
+-- Where the source of the text told what it had to give (text), an answer to it was begun.
 abbrev pub AreAddressesBegun : Indexed → ℕ → Option (List ℕ) → Option (List ℕ) → Option (List ℕ) → Type 0
-AreAddressesBegun index op text old new =
-    IfSome text (λ bytes. (count : ℕ) × AreLinesBegun index op (take count (lines bytes)) old new)
-
--- ---- a text that comes block by block; no public contract speaks of this
-
--- none of the bytes is this one
-abbrev pub HasNo : ℕ → List ℕ → Type 0
-HasNo byte text = All (λ other. (other == byte) ≡ false) text
-
--- The byte stands at this place, and nowhere before it.
-abbrev pub IsCutAt : ℕ → ℕ → List ℕ → Type 0
-IsCutAt byte place text = (text ≡ take place text ++ byte ∷ drop (place + 1) text) × HasNo byte (take place text)
-
--- What came of a line (line) and a block after it: lines that were told, and what is left of the last one (left) before the bytes
--- of the block that weren't read yet (rest).
-pub record IsBlockTold (index : Indexed) (op : ℕ) (line block left rest : List ℕ) (old new : Option (List ℕ)) (before after : Status) : Type
-    0 where
-  pub texts : List (List ℕ)
-  pub told : AreLinesTold index op texts old new before after
-  pub cut : (more : List ℕ) → lines (line ++ (block ++ more)) ≡ texts ++ lines (left ++ (rest ++ more))
-  pub whole : HasNo 10 left
-
--- The writer was stopped: what it gained is a front of what is printed of some of the first lines of a line, a block after it, and more.
-pub record IsBlockBegun (index : Indexed) (op : ℕ) (line block : List ℕ) (old new : Option (List ℕ)) : Type 0 where
-  pub texts : List (List ℕ)
-  pub begun : AreLinesBegun index op texts old new
-  pub cut : (more : List ℕ) → (rest : List (List ℕ)) × (texts ++ rest ≡ lines (line ++ (block ++ more)))
+AreAddressesBegun index op text old new = IfSome text (λ bytes. IsAnswerBegun index op bytes old new)

@@ -1,3 +1,4 @@
+pub mod AddressBlocks
 pub mod AddressLines
 pub mod DifferenceLines
 pub mod FileLines

@@ -1,5 +1,5 @@
 use Rattle.std.proofs.Common.{◌≡◌, length}
-use Rattle.lnt_answers.specs.AddressLines.{IsBlockTold}
+use Rattle.lnt_answers.specs.AddressBlocks.{IsBlockTold}
 use Rattle.lnt_answers.proofs.addresses.Asked.answer_block.Given as goal
 
 abbrev pub invariant-loop-end : goal.invariant-loop-end
