@@ -11,12 +11,12 @@ use Rattle.lnt_spans.specs.declared.position.Position.{Position}
 use Rattle.lnt_spans.specs.declared.span.Span.{Span}
 use Rattle.lnt_spans.specs.Joined.{HasJoined}
 use Rattle.lnt_spans.proofs.AnsweringLaws.{front_in_order}
-use Rattle.lnt_spans.proofs.CanonicalLemmas.{one_list}
 use Rattle.lnt_spans.proofs.ComingLaws.{HasGiven}
 use Rattle.lnt_spans.proofs.JoinedLaws.{BeginCanonical, joined_rest}
 use Rattle.lnt_spans.specs.Spans.{AreInOrder, IsCanonical, span_answer, version_answer}
+use Rattle.lnt_records.proofs.BegunLaws.{canonical_begins}
 use Rattle.lnt_records.proofs.VersionLaws.{answers_of_version}
-use Rattle.lnt_records.specs.Written.{BeginsCanonicalTable, BeginsTable, IsCanonicalTable, IsOfVersion, IsPlainTable, TellsAll}
+use Rattle.lnt_records.specs.Written.{BeginsCanonicalTable, BeginsTable, IsCanonicalTable, IsOfVersion, TellsAll}
 use Rattle.lnt_records.proofs.WriteLemmas.{Lines, begun_sending, begun_so_far, lines_done}
 
 -- ---- answers of the version
@@ -125,19 +125,6 @@ all_begun version list given all = record {
   more = [];
   canonical = subst IsCanonical (sym (append-nil given)) all.0;
   same = λ p. ap (λ (spans : List Span). span_answer spans p) (append-nil given) ∙ all.1 p;
-}
-
--- Canonical spans that answer so are one list, so every table of them begins with what was gained.
-pub canonical_begins : (version : Version) (list spans : List Span) (old new : Option (List ℕ)) → AreGiven version list spans
-    → BeginsTable version spans old new → BeginsCanonicalTable version list old new
-canonical_begins version list spans old new all begun = record {
-  spans = spans;
-  canonical = all.0;
-  same = all.1;
-  begun = begun;
-  of_whole = λ bytes table.
-      let one : table.spans ≡ spans = one_list table.spans spans table.canonical all.0 (λ p. table.same p ∙ sym (all.1 p)) in
-      begun.of_whole bytes (subst (IsPlainTable version bytes) one table.written.plain);
 }
 
 pub canonical_begun : (version : Version) (list given : List Span) (old new : Option (List ℕ))

@@ -1,4 +1,5 @@
 pub mod BeginningLaws
+pub mod BegunLaws
 pub mod ColumnLemmas
 pub mod ComparisonLemmas
 pub mod GatherLemmas

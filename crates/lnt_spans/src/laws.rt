@@ -9,7 +9,7 @@ pub fn borders()
 {}
 
 /// Two canonical lists of spans that answer alike at every position are the same list.
-#[tactic(auto, using(crate::proofs::CanonicalLemmas::one_list))]
+#[tactic(auto, using(crate::proofs::CanonicalLaws::one_list))]
 pub fn one_canonical()
     ensures { OneCanonical }
 {}
