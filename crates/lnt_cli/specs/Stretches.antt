@@ -112,11 +112,13 @@ ArePlacesTold options (Bad reason) table old new status = IsNoTold reason old ne
 --     old, new    what it holds before and afterwards
 
 -- These are the first stretches at which a table by path answers otherwise, and the writer has gained a front of their lines: the
--- last of these may be cut.
+-- last of these may be cut. It is a front of the lines of all stretches, whatever list tells them.
 pub record ArePathLinesBegun (by_section by_table : Position → Option PathAnswer) (old new : Option (List ℕ)) : Type 0 where
   pub told : List DifferenceByPath
   pub are_first : AreFirstPathStretches by_section by_table told
   pub front : AppendsFront old new (flat_map path_difference_line told)
+  pub of_whole : (all : List DifferenceByPath) → ArePathStretches by_section by_table all
+      → AppendsFront old new (path_stretches_text all)
 
 -- That, or there is no stretch, and the writer has gained a front of the line that says so.
 abbrev pub ArePathDifferencesBegun : (Position → Option PathAnswer) → (Position → Option PathAnswer) → Option (List ℕ)

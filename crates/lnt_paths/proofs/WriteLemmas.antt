@@ -1,25 +1,28 @@
 -- What was written, and what came of a table.
-use Rattle.std.proofs.Common.{◌≡◌, ◌∙◌, ℕ, List, [], ◌∷◌, ◌++◌, map, inl, inr, Option, Some, None, refl, sym, ap, subst, append_assoc}
+use Rattle.std.proofs.Common.{◌≡◌, ◌∙◌, ℕ, zero, suc, ◌<◌, List, [], ◌∷◌, ◌++◌, map, inl, inr, Option, Some, None, refl, sym, ap, subst}
+use Rattle.std.proofs.Common.{append_assoc, arith, get_or}
 use Rattle.std.specs.Io.KnownBytes.{Appends, Keeps}
 use Rattle.std.specs.List.{AllByRecursion, AllZip}
 use Rattle.std.specs.Option.{option_map}
 use Rattle.std.proofs.KnownBytes.{Appends-trans}
-use Rattle.std.proofs.lemmas.List.{append-nil, map-append}
+use Rattle.std.proofs.lemmas.List.{append-nil, ext_get_or, map-append}
 use Rattle.csv.specs.Writing.{default_writer, row_text}
 use Rattle.lnt_digits.specs.Digits.{IsPlainAddress, IsPlainDecimal}
+use Rattle.lnt_digits.proofs.OneTextLaws.{one_address, one_decimal}
 use Rattle.lnt_output.specs.Fronts.{AppendsFront}
-use Rattle.lnt_output.proofs.FrontLaws.{front_after, front_all, front_none, front_same}
+use Rattle.lnt_output.proofs.FrontLaws.{front_after, front_all, front_before, front_none, front_same}
 use Rattle.lnt_records.specs.Table.{Fields}
 use Rattle.lnt_spans.specs.declared.answer.Answer.{Answer}
 use Rattle.lnt_spans.specs.declared.position.Position.{Position}
 use Rattle.lnt_spans.specs.declared.span.Span.{Span}
 use Rattle.lnt_spans.specs.Spans.{AreInOrder, span_answer}
 use Rattle.lnt_paths.specs.declared.version.PathVersion.{PathVersion}
+use Rattle.lnt_paths.specs.declared.version.PathVersion.TheVariants.{Three, Four}
 use Rattle.lnt_paths.specs.Borders.{HasNoOperation}
 use Rattle.lnt_paths.specs.Joining.{AddsPathLine, AllJoinTo, AreFirstOf, HasBegunLines, HasWritten, IsFirstOperation, JoinsTo, grown, tell_span}
 use Rattle.lnt_paths.specs.PathAnswers.{PathAnswer}
 use Rattle.lnt_paths.specs.PathSpans.{AreCanonicalOf, PathSpan}
-use Rattle.lnt_paths.specs.PathTables.{SaysPath, path_column_names}
+use Rattle.lnt_paths.specs.PathTables.{SaysColumn, SaysPath, path_column_count, path_column_names}
 use Rattle.lnt_paths.specs.Written.{BeginsPathTable, HasOperationIndex, IsCanonicalPathTable, IsPlainPathRecord, records_text}
 use Rattle.lnt_paths.proofs.BorderLemmas.{first_least}
 use Rattle.lnt_paths.proofs.JoiningLemmas.{all_join, joined_canonical}
@@ -214,7 +217,64 @@ instructions_written tell version old new list joined order none are w =
     table_written tell version old new list list joined (record { first = order; second = order; same = λ p. refl })
     (λ whole joins. all_join_none tell list whole none joins) are w
 
+-- ---- a plain record has one text
+
+last_field : (version : PathVersion) (xs ys : Fields) (column : Option ℕ) → SaysColumn IsPlainDecimal version xs column
+    → SaysColumn IsPlainDecimal version ys column → (i : ℕ) → suc (suc (suc (suc i))) < path_column_count version
+    → get_or xs (suc (suc (suc (suc i)))) [] ≡ get_or ys (suc (suc (suc (suc i)))) []
+last_field Three xs ys None a b i lt = absurd a
+last_field Three xs ys (Some column) a b zero lt = one_decimal _ _ column a b
+last_field Three xs ys (Some column) a b (suc i) lt = absurd (omega (arith, lt))
+last_field Four xs ys column a b i lt = absurd (omega (arith, lt))
+
+one_field : (version : PathVersion) (xs ys : Fields) (span : PathSpan) → IsPlainPathRecord version xs span
+    → IsPlainPathRecord version ys span → (i : ℕ) → i < path_column_count version → get_or xs i [] ≡ get_or ys i []
+one_field version xs ys span a b zero lt = one_address _ _ span.low.address a.says.low_is b.says.low_is
+one_field version xs ys span a b (suc zero) lt = one_address _ _ span.high.address a.says.high_is b.says.high_is
+one_field version xs ys span a b (suc (suc zero)) lt = a.says.path ∙ sym b.says.path
+one_field version xs ys span a b (suc (suc (suc zero))) lt = one_decimal _ _ span.answer.line a.says.line b.says.line
+one_field version xs ys span a b (suc (suc (suc (suc i)))) lt =
+    last_field version xs ys span.answer.column a.says.column b.says.column i lt
+
+one_record : (version : PathVersion) (xs ys : Fields) (span : PathSpan) → IsPlainPathRecord version xs span
+    → IsPlainPathRecord version ys span → xs ≡ ys
+one_record version xs ys span a b =
+    ext_get_or [] xs ys (a.says.count ∙ sym b.says.count)
+    (λ i lt. one_field version xs ys span a b i (subst (λ (n : ℕ). i < n) a.says.count lt))
+
+-- The records of the first spans begin those of all.
+records_on : (version : PathVersion) (first rest : List PathSpan) (records all : List Fields)
+    → AllZip (IsPlainPathRecord version) records first → AllZip (IsPlainPathRecord version) all (first ++ rest)
+    → (more : List Fields) × (all ≡ records ++ more)
+records_on version [] rest [] all a b = (all, refl)
+records_on version [] rest (r ∷ records) all a b = absurd a
+records_on version (s ∷ first) rest [] all a b = absurd a
+records_on version (s ∷ first) rest (r ∷ records) [] a b = absurd b
+records_on version (s ∷ first) rest (r ∷ records) (x ∷ all) a b =
+    let head = one_record version x r s b.0 a.0 in
+    let tail = records_on version first rest records all a.1 b.1 in
+    let same = tail.1 in
+    (tail.0, cc)
+
 -- ---- a table whose writing was stopped
+
+-- A front of the lines of the first canonical spans is a front of every whole table of them.
+front_of_whole : (version : PathVersion) (answers : Position → Option PathAnswer) (old new : Option (List ℕ))
+    (spans first rest : List PathSpan) (records : List Fields) → AreCanonicalOf answers spans → first ++ rest ≡ spans
+    → AllZip (IsPlainPathRecord version) records first
+    → AppendsFront old new (records_text (path_column_names version ∷ records))
+    → (bytes : List ℕ) → IsCanonicalPathTable version answers bytes → AppendsFront old new bytes
+front_of_whole version answers old new spans first rest records canonical joined each front bytes whole =
+    let names : Fields = path_column_names version in
+    let same : whole.spans ≡ first ++ rest =
+    one_list whole.spans spans whole.canonical.canonical canonical.canonical (λ p. whole.canonical.same p ∙ sym (canonical.same p))
+    ∙ sym joined in
+    let more = records_on version first rest records whole.plain.records each
+    (subst (AllZip (IsPlainPathRecord version) whole.plain.records) same whole.plain.each) in
+    let text : records_text (names ∷ records) ++ records_text more.0 ≡ bytes =
+    sym (records_append (names ∷ records) more.0) ∙ ap (λ (l : List Fields). records_text (names ∷ l)) (sym more.1)
+    ∙ sym whole.plain.lines in
+    front_same old new _ bytes text (front_before old new (records_text (names ∷ records)) (records_text more.0) front)
 
 -- before anything was written
 pub table_begun_none : (tell : Answer → PathAnswer) (version : PathVersion) (old : Option (List ℕ)) (list : List Span) → AreInOrder list
@@ -230,6 +290,7 @@ table_begun_none tell version old list order =
       records = [];
       each = tt;
       front = front_none old (records_text (path_column_names version ∷ []));
+      of_whole = λ bytes whole. front_none old bytes;
     }
 
 all_left : (xs ys : List PathSpan) → AllByRecursion HasNone (xs ++ ys) → AllByRecursion HasNone xs
@@ -248,16 +309,20 @@ table_begun tell version old new other list first alike none are begun =
     ap (map (tell_span tell)) left.1 ∙ map-append (tell_span tell) first left.0 in
     let whole : AllByRecursion HasNone (map (tell_span tell) first ++ map (tell_span tell) left.0) =
     subst (AllByRecursion HasNone) split (whole_instructions tell other list all.0 alike none all.1) in
+    let canonical = joined_canonical tell list all.0 alike.second all.1 in
+    let each = plain_records tell version begun.records first begun.each
+    (all_left (map (tell_span tell) first) (map (tell_span tell) left.0) whole) in
     record {
       spans = map (tell_span tell) all.0;
-      canonical = joined_canonical tell list all.0 alike.second all.1;
+      canonical = canonical;
       first = map (tell_span tell) first;
       rest = map (tell_span tell) left.0;
       joined = sym split;
       records = begun.records;
-      each = plain_records tell version begun.records first begun.each (all_left (map (tell_span tell) first)
-          (map (tell_span tell) left.0) whole);
+      each = each;
       front = begun.front;
+      of_whole = front_of_whole version (By tell list) old new (map (tell_span tell) all.0) (map (tell_span tell) first)
+          (map (tell_span tell) left.0) begun.records canonical (sym split) each begun.front;
     }
 
 pub instructions_begun : (tell : Answer → PathAnswer) (version : PathVersion) (old new : Option (List ℕ)) (list first : List Span)

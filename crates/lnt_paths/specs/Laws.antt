@@ -1,5 +1,5 @@
 -- What the laws of spans and of tables by path say.
-use Rattle.std.specs.Prelude.{◌≡◌, ℕ, List, Option}
+use Rattle.std.specs.Prelude.{◌≡◌, ℕ, List, Option, ◌++◌}
 use Rattle.std.specs.Option.{option_map}
 use Rattle.lnt_spans.specs.declared.position.Position.{Position}
 use Rattle.lnt_records.specs.declared.fault.TableFault.{TableFault}
@@ -9,6 +9,7 @@ use Rattle.lnt_paths.specs.declared.version.PathVersion.{PathVersion}
 use Rattle.lnt_paths.specs.PathAnswers.{PathAnswer}
 use Rattle.lnt_paths.specs.PathDifferences.{DifferFirst, IsPathComparison, told_path_answer}
 use Rattle.lnt_paths.specs.PathFaults.{IsPathFault}
+use Rattle.lnt_paths.specs.PathStretches.{AreFirstStretches, AreStretches, Stretch}
 use Rattle.lnt_paths.specs.PathSpans.{AreCanonicalPaths, PathSpan, path_span_answer}
 use Rattle.lnt_paths.specs.PathTables.{IsPathTableOf}
 
@@ -60,3 +61,8 @@ told_by_path (Differs difference) = tells_difference difference.position (option
 abbrev pub OnePathComparison : Type 0
 OnePathComparison = (bytes : List ℕ) (section : PathVersion → Position → Option PathAnswer) (one other : ComparedByPath)
     → IsPathComparison bytes section one → IsPathComparison bytes section other → told_by_path one ≡ told_by_path other
+
+-- The first stretches begin every list of all of them.
+abbrev pub FirstStretchesBegin : Type 0
+FirstStretchesBegin = (f g : Position → Option PathAnswer) (first all : List (Stretch PathAnswer)) → AreFirstStretches f g first
+    → AreStretches f g all → (more : List (Stretch PathAnswer)) × (all ≡ first ++ more)

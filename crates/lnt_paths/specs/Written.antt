@@ -44,7 +44,8 @@ pub record HasOperationIndex (answers : Position → Option PathAnswer) (positio
   pub canonical : AreCanonicalOf answers spans
   pub least : IsLeastOperation spans position
 
--- The writer has gained a prefix of the header and the lines of the first canonical spans with these answers.
+-- The writer has gained a prefix of the header and the lines of the first canonical spans with these answers. Every whole table of them
+-- begins with what it has gained.
 pub record BeginsPathTable (version : PathVersion) (answers : Position → Option PathAnswer) (old new : Option (List ℕ)) : Type 0 where
   pub spans : List PathSpan
   pub canonical : AreCanonicalOf answers spans
@@ -54,6 +55,7 @@ pub record BeginsPathTable (version : PathVersion) (answers : Position → Optio
   pub records : List Fields
   pub each : AllZip (IsPlainPathRecord version) records first
   pub front : AppendsFront old new (records_text (path_column_names version ∷ records))
+  pub of_whole : (bytes : List ℕ) → IsCanonicalPathTable version answers bytes → AppendsFront old new bytes
 
 -- What came of writing the table of these answers, and what the writer has gained: exactly the bytes of the table, or
 -- nothing where there can't be one.

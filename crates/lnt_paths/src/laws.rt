@@ -1,6 +1,6 @@
 //! Laws of tables by path. Each is the contract of a function that takes nothing and does nothing.
 ghost use Rattle.lnt_paths.specs.Laws.{NoPathFault, OneCanonicalOfPaths, OneLeastPathDifference, OnePathComparison, OnePathFault};
-ghost use Rattle.lnt_paths.specs.Laws.{OnePathTable};
+ghost use Rattle.lnt_paths.specs.Laws.{FirstStretchesBegin, OnePathTable};
 
 /// Two canonical lists of spans by path that answer alike at every position are the same list. So there is one shortest
 /// table for each way to answer.
@@ -39,3 +39,10 @@ pub fn one_comparison()
     no_fault();
     one_fault();
 }
+
+/// The first stretches at which a section and a table by path answer differently (`AreFirstStretches`) begin every list of all of
+/// them.
+#[tactic(auto, using(crate::proofs::StretchLaws::first_begin_all))]
+pub fn first_stretches()
+    ensures { FirstStretchesBegin }
+{}
