@@ -1,6 +1,6 @@
 -- The stretches at which a table by path answers otherwise than the rows of units, given one after another.
-use Rattle.std.proofs.Common.{◌≡◌, ◌∙◌, Bool, ℕ, List, [], ◌∷◌, ◌++◌, ◌⊎◌, inl, inr, map, append-nil, Option, Some, None, IfSome, ap, subst, sym}
-use Rattle.std.proofs.Common.{codes, decimal, refl}
+use Rattle.std.proofs.Common.{◌≡◌, ◌∙◌, Bool, ℕ, List, [], ◌∷◌, ◌++◌, ◌⊎◌, inl, inr, map, append-nil, Option, Some, None, IfSome}
+use Rattle.std.proofs.Common.{ap, codes, decimal, refl, subst, sym}
 use Rattle.std.specs.Option.{option_map}
 use Rattle.std.specs.Io.KnownBytes.{Appends}
 use Rattle.std.specs.List.{flat_map}

@@ -92,8 +92,8 @@ abbrev pub IsNoHeader : {S : Type 0} → Differing S → Type 0
 IsNoHeader found = found ≢ Fault fault.Header
 
 -- within the line of the fault of a table of version 1 or 2
-pub fault_begun : (S : Type 0) (index : Indexed) (dead : Option ℕ) (skip : Bool) (units : List (ℕ × Parts)) (table old new : Option (List ℕ))
-    (told : TableFault) → IfSome table (λ text. IsFault text told × IsNoHeader {S = S} (Fault told))
+pub fault_begun : (S : Type 0) (index : Indexed) (dead : Option ℕ) (skip : Bool) (units : List (ℕ × Parts))
+    (table old new : Option (List ℕ)) (told : TableFault) → IfSome table (λ text. IsFault text told × IsNoHeader {S = S} (Fault told))
     → AppendsFront old new (table_no_text (no_of_fault told) ++ codes "\n")
     → IfSome table (λ text. AreStretchesBegun index dead skip units text old new)
 fault_begun S index dead skip units None old new told is front = tt

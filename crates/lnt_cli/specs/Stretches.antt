@@ -124,7 +124,8 @@ pub record ArePathLinesBegun (by_section by_table : Position → Option PathAnsw
 abbrev pub ArePathDifferencesBegun : (Position → Option PathAnswer) → (Position → Option PathAnswer) → Option (List ℕ)
     → Option (List ℕ) → Type 0
 ArePathDifferencesBegun by_section by_table old new =
-    (ArePathStretches by_section by_table [] × AppendsFront old new (path_stretches_text [])) ⊎ ArePathLinesBegun by_section by_table old new
+    (ArePathStretches by_section by_table [] × AppendsFront old new (path_stretches_text []))
+    ⊎ ArePathLinesBegun by_section by_table old new
 
 -- Something that is so wrong with the table, and a front of its line.
 --     IsSo    that it is wrong with the table

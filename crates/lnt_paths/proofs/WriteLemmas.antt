@@ -19,7 +19,8 @@ use Rattle.lnt_spans.specs.Spans.{AreInOrder, span_answer}
 use Rattle.lnt_paths.specs.declared.version.PathVersion.{PathVersion}
 use Rattle.lnt_paths.specs.declared.version.PathVersion.TheVariants.{Three, Four}
 use Rattle.lnt_paths.specs.Borders.{HasNoOperation}
-use Rattle.lnt_paths.specs.Joining.{AddsPathLine, AllJoinTo, AreFirstOf, HasBegunLines, HasWritten, IsFirstOperation, JoinsTo, grown, tell_span}
+use Rattle.lnt_paths.specs.Joining.{AddsPathLine, AllJoinTo, AreFirstOf, HasBegunLines, HasWritten, IsFirstOperation}
+use Rattle.lnt_paths.specs.Joining.{JoinsTo, grown, tell_span}
 use Rattle.lnt_paths.specs.PathAnswers.{PathAnswer}
 use Rattle.lnt_paths.specs.PathSpans.{AreCanonicalOf, PathSpan}
 use Rattle.lnt_paths.specs.PathTables.{SaysColumn, SaysPath, path_column_count, path_column_names}
@@ -100,7 +101,8 @@ names_begun tell version old new header e front = record {
 pub lines_so_far : (tell : Answer → PathAnswer) (version : PathVersion) (old now : Option (List ℕ)) (given : List Span)
     → HasWritten tell version old now given → HasBegunLines tell version old now given
 lines_so_far tell version old now given w =
-    record { records = w.records; front = front_all old now (records_text (path_column_names version ∷ w.records)) w.written; each = w.each }
+    let text = records_text (path_column_names version ∷ w.records) in
+    record { records = w.records; front = front_all old now text w.written; each = w.each }
 
 -- within a line
 pub line_begun : (tell : Answer → PathAnswer) (version : PathVersion) (old now new : Option (List ℕ)) (given : List Span) (span : Span)

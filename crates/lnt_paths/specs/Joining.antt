@@ -107,7 +107,8 @@ pub record HasWritten (tell : Answer → PathAnswer) (version : PathVersion) (ol
       (tell span.answer)) records joined
 
 -- The writer was stopped, and has gained a prefix of the header and the lines of these spans.
-pub record HasBegunLines (tell : Answer → PathAnswer) (version : PathVersion) (old new : Option (List ℕ)) (joined : List Span) : Type 0 where
+pub record HasBegunLines (tell : Answer → PathAnswer) (version : PathVersion) (old new : Option (List ℕ))
+    (joined : List Span) : Type 0 where
   pub records : List Fields
   pub front : AppendsFront old new (records_text (path_column_names version ∷ records))
   pub each : AllZip (λ fields span. SaysPath IsPlainAddress IsPlainDecimal version fields span.low.address span.high.address

@@ -336,5 +336,6 @@ begun_more version old now new block grown spans i d lt l r f =
 pub begun_all : (version : Version) (old now new : Option (List ℕ)) (block : List ℕ) (spans : List Span) (i : ℕ) → length spans ≤ i
     → Lines version old now block (take i spans) → AppendsFront now new block → BeginsTable version spans old new
 begun_all version old now new block spans i le l f =
-    begun_sending version old now new block spans [] spans (subst (λ (xs : List Span). Lines version old now block xs) (take_all i spans le) l)
+    begun_sending version old now new block spans [] spans
+    (subst (λ (xs : List Span). Lines version old now block xs) (take_all i spans le) l)
     (append-nil spans) f

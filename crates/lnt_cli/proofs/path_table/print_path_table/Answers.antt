@@ -12,6 +12,7 @@ returns-in_err-print_operation-in-Ok-OperationIndex-clause-begun g c =
     inr (
       position,
       front_since (g.W.Write.contents c.args.out.now) (g.W.Write.contents c.write_paths.new.out)
-          (g.W.Write.contents c.print_operation.new.out) (operation_line position) none.0 c.in_err-print_operation-in-Ok-OperationIndex.ensures.front,
+          (g.W.Write.contents c.print_operation.new.out) (operation_line position) none.0
+          c.in_err-print_operation-in-Ok-OperationIndex.ensures.front,
       none.1,
     ))

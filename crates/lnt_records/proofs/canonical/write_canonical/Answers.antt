@@ -9,7 +9,8 @@ use Rattle.lnt_spans.proofs.ComingLaws.{all_given, HasGiven, none_given, one_giv
 use Rattle.lnt_spans.specs.Spans.{AreInOrder}
 use Rattle.lnt_records.specs.Table.{column_names}
 use Rattle.lnt_records.specs.Written.{line_text}
-use Rattle.lnt_records.proofs.JoinedLemmas.{AreGiven, all_begun, canonical_begun, canonical_sending, canonical_so_far, canonical_written, given_begun, given_of_version, rest_of_version}
+use Rattle.lnt_records.proofs.JoinedLemmas.{AreGiven, all_begun, canonical_begun, canonical_sending, canonical_so_far}
+use Rattle.lnt_records.proofs.JoinedLemmas.{canonical_written, given_begun, given_of_version, rest_of_version}
 use Rattle.lnt_records.proofs.WriteLemmas.{begun_none, lines_put, lines_sent, no_lines}
 use Rattle.lnt_records.proofs.canonical.write_canonical.Goals as goal
 
@@ -116,8 +117,8 @@ returns-in_err-put_some-clause-begun g c =
     let inv = c.loop-span.invariant in
     so_stopped c.from_residual-in_err-put_some.result _
     (λ list coming order. canonical_so_far version list inv.1 _ _ _
-    (given_begun version list inv.0 inv.1 c.loop-span.joiner.last (g.S.SpanSource.to_come c.loop-span.spans) inv.2 (inv.5 list coming) order)
-    inv.4)
+    (given_begun version list inv.0 inv.1 c.loop-span.joiner.last (g.S.SpanSource.to_come c.loop-span.spans) inv.2
+    (inv.5 list coming) order) inv.4)
 
 pub returns-in_err-put_some-2-clause-begun : goal.returns-in_err-put_some-2-clause-begun
 returns-in_err-put_some-2-clause-begun g c =
@@ -125,8 +126,8 @@ returns-in_err-put_some-2-clause-begun g c =
     let inv = c.loop-span.invariant in
     so_stopped c.from_residual-in_err-put_some-2.result _
     (λ list coming order. canonical_so_far version list inv.1 _ _ _
-    (given_begun version list inv.0 inv.1 c.loop-span.joiner.last (g.S.SpanSource.to_come c.loop-span.spans) inv.2 (inv.5 list coming) order)
-    inv.4)
+    (given_begun version list inv.0 inv.1 c.loop-span.joiner.last (g.S.SpanSource.to_come c.loop-span.spans) inv.2
+    (inv.5 list coming) order) inv.4)
 
 pub returns-in_err-send_full-clause-begun : goal.returns-in_err-send_full-clause-begun
 returns-in_err-send_full-clause-begun g c =
