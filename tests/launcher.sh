@@ -19,7 +19,7 @@ cat >"$work/bin/rt" <<END
 echo "\$1" >>"$work/asked"
 case \$1 in
   lib) [ ! -e "$work/no_\${PWD##*/}" ] ;;
-  all) sleep 1; printf '== %s\n' lnt_wire lnt_header linetab summary; [ ! -e "$work/broken" ] ;;
+  all) sleep 1; printf '== %s\n' lnt_wire lnt_header lnt_cli summary; [ ! -e "$work/broken" ] ;;
   run) mkdir -p out && cp "$top/crates/linetab/out/linetab" out/linetab ;;
 esac
 END
@@ -33,8 +33,8 @@ plainly() {
   sed -E "s|[0-9]+ s\$|N s|; s|$work|WORK|g" "$work/said" >&2
   return $status
 }
-# The program's crates: all but those of tests, of the bench and of the library.
-all=$(cd crates && printf '%s\n' */ | grep -cvE '^lnt_(bench|ffi|samples)/|_tests/$')
+# The crates below the program: all but those of tests, of the bench and of the library.
+all=$(cd crates && printf '%s\n' */ | grep -cvE '^(linetab|lnt_(bench|ffi|samples))/|_tests/$')
 section=$top/examples/hello.debug_line
 
 expect 'no program and no toolchain' 127 '' "linetab: the program isn't built: it would be WORK/tree/crates/linetab/out/linetab. To prove and build it, install the Rattle toolchain, so that its command rt is on the PATH"$'\n' \
@@ -43,10 +43,10 @@ touch "$work/no_lnt_header"
 expect 'a crate that others wait for is not proved' 126 '' $'linetab: proving and building the program, which takes some minutes the first time\nlinetab: proved lnt_wire (1 of '"$all"$'), N s\n== lnt_wire\nlinetab: the program isn\'t proved\n' \
   plainly with_rt "$tree/linetab" units "$section"
 mv "$work/no_lnt_header" "$work/broken"
-expect 'a crate that is not proved' 126 '' $'linetab: proving and building the program, which takes some minutes the first time\nlinetab: proved lnt_wire (1 of '"$all"$'), N s\nlinetab: proved lnt_header (2 of '"$all"$'), N s\nlinetab: proved lnt_header_bytes (3 of '"$all"$'), N s\nlinetab: proved lnt_ops (4 of '"$all"$'), N s\nlinetab: proved linetab (5 of '"$all"$'), N s\n== lnt_wire\n== lnt_header\n== lnt_header_bytes\n== lnt_ops\n== lnt_wire\n== lnt_header\n== linetab\n== summary\nlinetab: the program isn\'t proved\n' \
+expect 'a crate that is not proved' 126 '' $'linetab: proving and building the program, which takes some minutes the first time\nlinetab: proved lnt_wire (1 of '"$all"$'), N s\nlinetab: proved lnt_header (2 of '"$all"$'), N s\nlinetab: proved lnt_header_bytes (3 of '"$all"$'), N s\nlinetab: proved lnt_ops (4 of '"$all"$'), N s\nlinetab: proved lnt_cli (5 of '"$all"$'), N s\n== lnt_wire\n== lnt_header\n== lnt_header_bytes\n== lnt_ops\n== lnt_wire\n== lnt_header\n== lnt_cli\n== summary\nlinetab: the program isn\'t proved\n' \
   plainly with_rt "$tree/linetab" units "$section"
 rm "$work/broken" "$work/asked"
-expect 'the first build' 0 $'0x0 32 156\n' $'linetab: proving and building the program, which takes some minutes the first time\nlinetab: proved lnt_wire (1 of '"$all"$'), N s\nlinetab: proved lnt_header (2 of '"$all"$'), N s\nlinetab: proved lnt_header_bytes (3 of '"$all"$'), N s\nlinetab: proved lnt_ops (4 of '"$all"$'), N s\nlinetab: proved linetab (5 of '"$all"$'), N s\nlinetab: built in N s\n' \
+expect 'the first build' 0 $'0x0 32 156\n' $'linetab: proving and building the program, which takes some minutes the first time\nlinetab: proved lnt_wire (1 of '"$all"$'), N s\nlinetab: proved lnt_header (2 of '"$all"$'), N s\nlinetab: proved lnt_header_bytes (3 of '"$all"$'), N s\nlinetab: proved lnt_ops (4 of '"$all"$'), N s\nlinetab: proved lnt_cli (5 of '"$all"$'), N s\nlinetab: building the program, N s\nlinetab: built in N s\n' \
   plainly with_rt "$tree/linetab" units "$section"
 expect 'once built, nothing is asked of the toolchain' 0 $'lib\nlib\nlib\nlib\nall\nrun\n' '' cat "$work/asked"
 expect 'it runs without one' 0 $'0x0 32 156\n' '' without_rt "$tree/linetab" units "$section"
