@@ -8,7 +8,8 @@ use Rattle.lnt_wire.specs.declared.form.FormValue.{FormValue}
 use Rattle.lnt_wire.specs.declared.format.Format.{Format}
 use Rattle.lnt_wire.specs.declared.format.Order.{Order}
 use Rattle.lnt_header.specs.declared.header.Pair.{Pair}
-use Rattle.lnt_header_bytes.specs.Borrowed.{BorrowedTable, AreEntryBytes, Passes}
+use Rattle.lnt_header_bytes.specs.Borrowed.{BorrowedTable, AreEntryBytes}
+use Rattle.lnt_header_bytes.specs.Stepping.{Passes}
 use Rattle.lnt_header_bytes.specs.Layouts.{entry_of}
 use Rattle.lnt_header_bytes.proofs.PassedLaws.{one_after, one_there}
 use Rattle.lnt_header_bytes.proofs.TableLaws.{entry_code}

@@ -13,7 +13,8 @@ use Rattle.lnt_header.specs.Joins.{Each}
 use Rattle.lnt_sources.specs.declared.halt.Halt.{Halt}
 use Rattle.lnt_sources.specs.declared.status.Status.{Status}
 use Rattle.lnt_sources.specs.declared.status.Status.TheVariants.{No}
-use Rattle.lnt_unit.specs.ConvertedUnits.{ConvertedTo, Converts}
+use Rattle.lnt_unit.specs.ConvertedUnits.{Converts}
+use Rattle.lnt_unit.specs.Stepping.{ConvertedTo}
 use Rattle.lnt_unit.specs.Converting.{unit_in_format, units_in_format, IsConverted, IsConvertFault}
 use Rattle.lnt_unit.proofs.ConvertedLaws.{whole_converted}
 use Rattle.lnt_unit.proofs.UnitLaws.{one_spelling, unit_is_some}

@@ -91,21 +91,7 @@ pub refuses_field : {X : Type 0} {IsFieldSo : Reason → List ℕ → Type 0} {I
 refuses_field old fault so r =
     record { before = []; left = old.rest; split = refl; place = r.place ∙ sym (add-zero old.place); reason = so r.reason; none = r.none }
 
--- the place of a fault after what was read
-pub moved : {X Y Z : Type 0} {P : X → List ℕ → Type 0} {IsSo IsSo' : Reason → List ℕ → List ℕ → Type 0} {Q : Y → List ℕ → Type 0}
-    (S : Z → List ℕ → Type 0) (u : X) (old middle : At) (fault : Fault)
-    → (r : Reads P u old middle) → (t : Refuses IsSo' Q middle fault) → IsSo fault.reason (r.spelling ++ t.before) t.left
-    → NoneSpelled S old.rest → Refuses IsSo S old fault
-moved S u old middle fault r t so none = record {
-  before = r.spelling ++ t.before;
-  left = t.left;
-  split = r.whole ∙ ap (λ (z : List ℕ). r.spelling ++ z) t.split ∙ sym (append_assoc r.spelling t.before t.left);
-  place = omega (arith, t.place, r.place, length-append r.spelling t.before);
-  reason = so;
-  none = none;
-}
-
--- the same of a field
+-- the place of a field's fault after what was read
 pub moved_field : {X Z : Type 0} {P : X → List ℕ → Type 0} {IsSo : Reason → List ℕ → List ℕ → Type 0} (S : Z → List ℕ → Type 0) (u : X)
     (old middle : At) (fault : Fault)
     → (r : Reads P u old middle) → fault.place ≡ middle.place → IsSo fault.reason r.spelling middle.rest → NoneSpelled S old.rest

@@ -9,7 +9,8 @@ use Rattle.lnt_wire.specs.Bytes.{NoneSpelled}
 use Rattle.lnt_wire.specs.declared.format.Order.{Order}
 use Rattle.lnt_header.specs.declared.header.Entry.{Entry}
 use Rattle.lnt_header.specs.Joins.{Each, Several}
-use Rattle.lnt_header_bytes.specs.Borrowed.{BorrowedTable, AreEntryBytes, PassesAll}
+use Rattle.lnt_header_bytes.specs.Borrowed.{BorrowedTable, AreEntryBytes}
+use Rattle.lnt_header_bytes.specs.Stepping.{PassesAll}
 use Rattle.lnt_header_bytes.proofs.PassedLaws.{others_after, several_there}
 use Rattle.lnt_header_bytes.proofs.TableLaws.{entry_code}
 use Rattle.lnt_header_bytes.specs.Marks.{from_entry, BeginsAt, AreMarksFrom, AreMarks}

@@ -9,8 +9,10 @@ use Rattle.lnt_wire.specs.declared.format.Order.{Order}
 use Rattle.lnt_header.specs.declared.header.Entry.{Entry}
 use Rattle.lnt_header.specs.declared.header.Pair.{Pair}
 use Rattle.lnt_header_bytes.specs.declared.read_table.TableRead.{TableRead}
-use Rattle.lnt_header_bytes.specs.Borrowed.{first_entries, BorrowedTable, borrowed_table, AreEntryBytes, without_entries, PassesAll}
-use Rattle.lnt_header_bytes.specs.Borrowed.{IsTableRead, AreFieldsRead, ArePlain, lying_table, header_over, directories_over, files_over}
+use Rattle.lnt_header_bytes.specs.Borrowed.{first_entries, BorrowedTable, borrowed_table, AreEntryBytes, without_entries}
+use Rattle.lnt_header_bytes.specs.Stepping.{PassesAll}
+use Rattle.lnt_header_bytes.specs.Borrowed.{header_over, directories_over, files_over}
+use Rattle.lnt_header_bytes.specs.Stepping.{IsTableRead, AreFieldsRead, ArePlain, lying_table}
 use Rattle.lnt_header_bytes.specs.Borrowed.{IsHeaderOver}
 use Rattle.lnt_header.specs.declared.header.HeaderParts.{HeaderParts}
 use Rattle.lnt_header_bytes.specs.declared.numbers.Singles.{Singles}

@@ -4,20 +4,14 @@ use Rattle.std.specs.Prelude.{◌≡◌, ℕ, zero, suc, ◌+◌, ◌≤◌, Lis
 use Rattle.lnt_wire.specs.declared.format.Order.{Order}
 use Rattle.lnt_wire.specs.declared.format.Format.{Format}
 use Rattle.lnt_wire.specs.declared.form.FormValue.{FormValue}
-use Rattle.lnt_wire.specs.At.{At}
 use Rattle.lnt_wire.specs.FirstValues.{first_value, first_size}
-use Rattle.lnt_wire.specs.Reading.{Reads}
 use Rattle.lnt_header.specs.declared.header.Entry.{Entry}
 use Rattle.lnt_header.specs.declared.header.HeaderParts.{HeaderParts}
 use Rattle.lnt_header.specs.declared.header.Pair.{Pair}
-use Rattle.lnt_header_bytes.specs.declared.numbers.Singles.{Singles}
-use Rattle.lnt_header_bytes.specs.declared.read_table.TableRead.{TableRead}
-use Rattle.lnt_header_bytes.specs.FieldsBytes.{FieldsBytes}
-use Rattle.lnt_header_bytes.specs.HeaderReading.{AreFields}
 use Rattle.lnt_header.specs.HeaderRules.{IsHeader}
 use Rattle.lnt_header.specs.Joins.{Each}
 use Rattle.lnt_header_bytes.specs.Layouts.{entry_of}
-use Rattle.lnt_header_bytes.specs.TableBytes.{EntryBytes, TableOf}
+use Rattle.lnt_header_bytes.specs.TableBytes.{EntryBytes}
 
 -- ---- entries
 
@@ -122,65 +116,3 @@ pub record IsHeaderInBytes (numbers : HeaderParts) (directories files : ℕ) (by
       (drop file_size (drop directory_size bytes))
   pub first : directory_size ≤ length bytes
   pub second : file_size ≤ length (drop directory_size bytes)
-
--- ---- headers that are the same but for their tables
-
-pub record HasSameForm (one other : HeaderParts) : Type 0 where
-  pub format : one.format ≡ other.format
-  pub order : one.order ≡ other.order
-  pub address_size : one.address_size ≡ other.address_size
-
-pub record HasSameNumbers (one other : HeaderParts) : Type 0 where
-  pub minimum : one.minimum_instruction_length ≡ other.minimum_instruction_length
-  pub max_ops : one.max_ops ≡ other.max_ops
-  pub default_is_stmt : one.default_is_stmt ≡ other.default_is_stmt
-  pub line_base : one.line_base ≡ other.line_base
-  pub line_range : one.line_range ≡ other.line_range
-  pub opcode_base : one.opcode_base ≡ other.opcode_base
-
--- ---- reads that keep nothing
-
--- The read moved past bytes that spell a value.
-pub record Passes {X : Type 0} (Spells : X → List ℕ → Type 0) (old new : At) : Type 0 where
-  pub value : X
-  pub read : Reads Spells value old new
-
--- The read moved past as many values as the count says, and these are the bytes.
-pub record PassesAll {X : Type 0} (count : ℕ) (Spells : X → List ℕ → Type 0) (bytes : List ℕ) (old new : At) : Type 0 where
-  pub values : List X
-  pub count_is : length values ≡ count
-  pub read : Reads (Each Spells) values old new
-  pub bytes_are : bytes ≡ read.spelling
-
--- what was read of a table: its pairs, and its entries in the format and the order of their bytes
-abbrev pub lying_table : Format → Order → TableRead → BorrowedTable
-lying_table format order table = borrowed_table format order table.pairs.items table.entries.count table.entries.bytes.now
-
--- The read gave a table in this format and the order of the bytes that are read, and moved past the bytes that spell it.
-pub record IsTableRead (format : Format) (table : TableRead) (old new : At) : Type 0 where
-  pub lies : AreEntryBytes (lying_table format old.order table) table.entries.bytes.now
-  pub read : Reads (TableOf format old.order) (table.pairs.items, (lying_table format old.order table).entries) old new
-
--- The read gave the fields of a header up to its file table, and moved past the bytes that spell them.
-pub record AreFieldsRead (format : Format) (singles : Singles) (lengths : List ℕ) (directories files : TableRead) (old new : At) : Type
-    0 where
-  pub directories_lie : AreEntryBytes (lying_table format old.order directories) directories.entries.bytes.now
-  pub files_lie : AreEntryBytes (lying_table format old.order files) files.entries.bytes.now
-  pub read : Reads (FieldsBytes format old.order) (
-    singles,
-    (
-      lengths,
-      (
-        (directories.pairs.items, (lying_table format old.order directories).entries),
-        (files.pairs.items, (lying_table format old.order files).entries),
-      ),
-    ),
-  ) old new
-
--- The numbers and the formats of a header that was read, and nothing else of it.
-pub record ArePlain (format : Format) (order : Order) (address_size : ℕ) (singles : Singles) (lengths : List ℕ)
-    (directories files : List Pair) (h : HeaderParts) : Type 0 where
-  pub format_is : h.format ≡ format
-  pub order_is : h.order ≡ order
-  pub size_is : h.address_size ≡ address_size
-  pub fields : AreFields singles lengths (directories, []) (files, []) [] h

@@ -1,7 +1,5 @@
 -- Entries of the forms that compilers write, and entries that are read one after the other.
-use Rattle.std.specs.Prelude.{◌≡◌, ℕ, List, [], ◌∷◌, ◌++◌, map}
-use Rattle.lnt_wire.specs.At.{At}
-use Rattle.lnt_wire.specs.Reading.{Reads}
+use Rattle.std.specs.Prelude.{◌≡◌, List, [], ◌∷◌, map}
 use Rattle.lnt_wire.specs.declared.form.Form.{Form}
 use Rattle.lnt_wire.specs.declared.form.Form.TheVariants.{LineStrp, Udata, Data16}
 use Rattle.lnt_wire.specs.declared.form.FormValue.{FormValue}
@@ -24,9 +22,3 @@ IsLayout Other pairs = Unit {0}
 -- the entry of these values
 abbrev pub entry_of : List FormValue → Entry
 entry_of values = record { values = values }
-
--- The read gave one more value.
-pub record ReadsNext {X : Type 0} (Spells : X → List ℕ → Type 0) (before after : List X) (old new : At) : Type 0 where
-  pub value : X
-  pub added : after ≡ before ++ value ∷ []
-  pub read : Reads Spells value old new

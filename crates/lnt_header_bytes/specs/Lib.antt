@@ -5,12 +5,13 @@ pub mod HeaderBytes
 pub mod HeaderFaults
 pub mod HeaderPuts
 pub mod HeaderReading
+pub mod Kept
 pub mod Large
 pub mod Laws
-pub mod Kept
 pub mod Layouts
 pub mod Marks
 pub mod Spelled
 pub mod StartBytes
+pub mod Stepping
 pub mod TableBytes
 pub mod TableFaults

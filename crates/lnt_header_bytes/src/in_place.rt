@@ -2,7 +2,8 @@
 ghost use Rattle.std.specs.Prelude.{◌≡◌, ◌≢◌, ◌+◌, ◌^◌, ◌<◌, length, IfOk, IfErr};
 ghost use Rattle.lnt_wire.specs.FrameBytes.{frame_bytes, IsPlacedFrame};
 ghost use Rattle.lnt_wire.specs.Reading.{RefusesOr};
-ghost use Rattle.lnt_header_bytes.specs.Borrowed.{without_entries, AreFieldsRead, ArePlain};
+ghost use Rattle.lnt_header_bytes.specs.Borrowed.{without_entries};
+ghost use Rattle.lnt_header_bytes.specs.Stepping.{AreFieldsRead, ArePlain};
 ghost use Rattle.lnt_header_bytes.specs.Broken.{BrokenHeader};
 ghost use Rattle.lnt_header_bytes.specs.FieldsBytes.{FieldsBytes, IsHeaderFault};
 ghost use Rattle.lnt_header_bytes.specs.HeaderBytes.{HeaderBytesIn};

@@ -1,7 +1,8 @@
 //! Headers that are kept without the bytes of their units.
 ghost use Rattle.std.specs.Prelude.{◌≡◌, ◌++◌, IsTrue, IfOk};
-ghost use Rattle.lnt_header_bytes.specs.Borrowed.{without_entries, IsHeaderOver, HasSameForm, HasSameNumbers};
-ghost use Rattle.lnt_header_bytes.specs.Kept.{AreKept};
+ghost use Rattle.lnt_header_bytes.specs.Borrowed.{without_entries, IsHeaderOver};
+ghost use Rattle.lnt_header_bytes.specs.Stepping.{HasSameForm, HasSameNumbers};
+ghost use Rattle.lnt_header_bytes.specs.Stepping.{AreKept};
 ghost use Rattle.lnt_header.specs.HeaderRules.{IsHeader};
 
 use crate::header_view::HeaderView;

@@ -1,7 +1,7 @@
 //! Tables of a header, read with their entries passed over.
 ghost use Rattle.std.specs.Prelude.{◌≡◌, IfOk, IfErr};
 ghost use Rattle.lnt_wire.specs.Reading.{RefusesOr};
-ghost use Rattle.lnt_header_bytes.specs.Borrowed.{IsTableRead};
+ghost use Rattle.lnt_header_bytes.specs.Stepping.{IsTableRead};
 ghost use Rattle.lnt_header_bytes.specs.TableBytes.{TableOf};
 ghost use Rattle.lnt_header_bytes.specs.TableFaults.{IsTableFault};
 

@@ -2,7 +2,8 @@
 ghost use Rattle.std.specs.Prelude.{◌≡◌, ◌∷◌, ◌++◌, [], length, IfOk, IfErr};
 ghost use Rattle.lnt_header.specs.Joins.{Several};
 ghost use Rattle.lnt_wire.specs.Reading.{Reads, Refuses, RefusesOr};
-ghost use Rattle.lnt_header_bytes.specs.Layouts.{IsLayout, ReadsNext, entry_of};
+ghost use Rattle.lnt_header_bytes.specs.Layouts.{IsLayout, entry_of};
+ghost use Rattle.lnt_header_bytes.specs.Stepping.{ReadsNext};
 ghost use Rattle.lnt_header_bytes.specs.TableBytes.{PairBytes, ValuesBytes, EntryBytes};
 ghost use Rattle.lnt_header_bytes.specs.TableFaults.{IsPairFault, IsPairsFault, IsEntryFault, IsEntriesFault};
 

@@ -4,7 +4,8 @@ use Rattle.lnt_header.specs.declared.op.Op.{Op}
 use Rattle.lnt_header.specs.declared.op.OpView.{OpView}
 use Rattle.lnt_ops.specs.Walks as walks
 use Rattle.lnt_ops.specs.Walks.{Walk}
-use Rattle.lnt_unit.specs.Views.{by_numbers, HasGiven, View, with_ops}
+use Rattle.lnt_unit.specs.Views.{by_numbers, View, with_ops}
+use Rattle.lnt_unit.specs.Stepping.{HasGiven}
 use Rattle.lnt_machine.specs.declared.fault.RunFault.{RunFault}
 use Rattle.lnt_machine.specs.declared.fault.RunFault.TheVariants.{LineOutOfRange, Memory}
 use Rattle.lnt_machine.specs.declared.row.Row.{Row}

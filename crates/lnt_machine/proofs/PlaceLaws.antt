@@ -15,7 +15,7 @@ use Rattle.lnt_header.specs.Joins.{Each}
 use Rattle.lnt_ops.proofs.LeftLaws.{place_found}
 use Rattle.lnt_ops.specs.Left.{IsPlace}
 use Rattle.lnt_ops.specs.OpBytes.{OpBytes}
-use Rattle.lnt_ops.specs.Programs.{OpsSoFar}
+use Rattle.lnt_ops.specs.Stepping.{OpsSoFar}
 use Rattle.lnt_unit.specs.declared.unit.Parts.{Parts}
 use Rattle.lnt_machine.specs.declared.row.Row.{Row}
 use Rattle.lnt_machine.specs.declared.row.Sequence.{Sequence}

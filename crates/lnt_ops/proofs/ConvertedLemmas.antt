@@ -11,7 +11,7 @@ use Rattle.lnt_header.proofs.PutLaws.{each_begun, each_put}
 use Rattle.lnt_ops.proofs.ProgramLaws.{ops_none, walk_more, walk_done}
 use Rattle.lnt_ops.specs.OpBytes.{OpBytes}
 use Rattle.lnt_ops.specs.OpPuts.{IsOpOf, AddsView, IsLike, AddsOps}
-use Rattle.lnt_ops.specs.Programs.{OpsSoFar}
+use Rattle.lnt_ops.specs.Stepping.{OpsSoFar}
 use Rattle.lnt_ops.specs.Walks.{Walk, Ends, Steps}
 
 -- the operations that a walk has given so far were added

@@ -14,7 +14,8 @@ use Rattle.lnt_header.specs.HeaderRules.{IsHeader}
 use Rattle.lnt_header.specs.Joins.{Each}
 use Rattle.lnt_header.specs.OpRules.{StandsFor}
 use Rattle.lnt_ops.proofs.OpLaws.{op_code, op_is_some}
-use Rattle.lnt_ops.specs.Left.{IsLeft, IsNextOf, IsPlace}
+use Rattle.lnt_ops.specs.Left.{IsLeft, IsPlace}
+use Rattle.lnt_ops.specs.Stepping.{IsNextOf}
 use Rattle.lnt_ops.specs.OpBytes.{OpBytes}
 use Rattle.lnt_ops.specs.OpReading.{GivesOp}
 use Rattle.lnt_ops.specs.Walks.{Walk, Ends, Steps, Fails}

@@ -30,7 +30,8 @@ use Rattle.lnt_header.proofs.PutLaws.{put_as, each_begun, each_put, each_more, e
 use Rattle.lnt_ops.proofs.OpLaws.{same_whole}
 use Rattle.lnt_ops.proofs.ViewLaws.{leb_is_some, is_op_of}
 use Rattle.lnt_ops.specs.OpBytes.{CodingBytes, OpBytes, OperandBytes, Standard, Extended}
-use Rattle.lnt_ops.specs.OpPuts.{IsOpOf, AddsView, AddsSpelled, AddsOperands}
+use Rattle.lnt_ops.specs.OpPuts.{IsOpOf, AddsView}
+use Rattle.lnt_ops.specs.Stepping.{AddsSpelled, AddsOperands}
 use Rattle.lnt_ops.specs.OperandLists.{SpellsNumbers, NumbersSoFar}
 use Rattle.lnt_ops.specs.OpSpellings.{Coded, ExtendedCoded, ExtendedStart}
 use Rattle.lnt_ops.proofs.OwnedLemmas as owned
@@ -393,13 +394,6 @@ unknown_extended_put order size view code bytes old new is low p =
     (λ y t. t.4) p)
 
 -- ---- what a view is of
-
--- an address fits its size
-pub address_of : (size address : ℕ) → IsOpOf size (views.SetAddress address) → address < 256 ^ size
-address_of size address is =
-    let admitted : Admits is.header (SetAddress address) = subst (Admits is.header) (is_op_of (views.SetAddress address) is.op is.stands)
-    is.admitted in
-    subst (λ (n : ℕ). address < 256 ^ n) is.size_is admitted
 
 -- an operation of a header
 pub is_op_of_header : (h : HeaderParts) (op : Op) (view : OpView) (size : ℕ) → Admits h op → StandsFor view op → size ≡ h.address_size

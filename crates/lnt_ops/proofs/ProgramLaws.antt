@@ -22,7 +22,8 @@ use Rattle.lnt_ops.proofs.ViewLaws.{same_op}
 use Rattle.lnt_ops.specs.OpBytes.{OpBytes}
 use Rattle.lnt_ops.specs.OpFaults.{IsFirstFault}
 use Rattle.lnt_ops.specs.OpReading.{GivesOp}
-use Rattle.lnt_ops.specs.Programs.{BrokenProgram, OpsSoFar, IsView}
+use Rattle.lnt_ops.specs.Programs.{BrokenProgram, IsView}
+use Rattle.lnt_ops.specs.Stepping.{OpsSoFar}
 use Rattle.lnt_ops.specs.Walks.{Walk, Ends, Steps, Fails}
 
 -- no list fills the bytes, where after some values no other follows

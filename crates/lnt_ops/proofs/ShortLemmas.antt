@@ -19,7 +19,8 @@ use Rattle.lnt_ops.proofs.StandardReaders.{standard}
 use Rattle.lnt_ops.proofs.WalkLemmas.{steps_on}
 use Rattle.lnt_ops.specs.OpBytes.{Extended, OpBytes, Standard}
 use Rattle.lnt_ops.specs.OpReading.{GivesOp}
-use Rattle.lnt_ops.specs.Short.{IsFront, IsGroup, IsShort, NoByte, NoDiscriminator, NoneShort, NoTwoBytes}
+use Rattle.lnt_ops.specs.Short.{IsFront, IsShort, NoneShort}
+use Rattle.lnt_ops.specs.Stepping.{IsGroup, NoByte, NoDiscriminator, NoTwoBytes}
 use Rattle.lnt_ops.specs.Walks.{Walk, Steps}
 
 -- ---- bytes at the front

@@ -1,10 +1,8 @@
 -- What a walk over a program has before it, and the places of operations in a program.
-use Rattle.std.specs.Prelude.{◌≡◌, ℕ, List, ◌∷◌, ◌++◌, length, false}
+use Rattle.std.specs.Prelude.{◌≡◌, ℕ, List, ◌++◌, length, false}
 use Rattle.lnt_header.specs.declared.header.HeaderParts.{HeaderParts}
 use Rattle.lnt_header.specs.declared.op.Op.{Op}
-use Rattle.lnt_header.specs.declared.op.OpView.{OpView}
 use Rattle.lnt_header.specs.Joins.{Each}
-use Rattle.lnt_header.specs.OpRules.{StandsFor}
 use Rattle.lnt_ops.specs.OpBytes.{OpBytes}
 use Rattle.lnt_ops.specs.Walks.{Walk}
 
@@ -13,14 +11,6 @@ pub record IsLeft (h : HeaderParts) (later : List Op) (walk : Walk) : Type 0 whe
   pub header_is : walk.header ≡ h
   pub going : walk.failed ≡ false
   pub spelled : Each (OpBytes h) later walk.at.rest
-
--- The view stands for the first of the operations, and the others are left.
-pub record IsNextOf (h : HeaderParts) (later : List Op) (view : OpView) (new : Walk) : Type 0 where
-  pub op : Op
-  pub others : List Op
-  pub later_is : later ≡ op ∷ others
-  pub stands : StandsFor view op
-  pub left : IsLeft h others new
 
 -- So many bytes of the program spell the first of its operations, and the bytes after them spell the later ones.
 pub record IsPlace (h : HeaderParts) (program : List ℕ) (earlier later : List Op) (place : ℕ) : Type 0 where

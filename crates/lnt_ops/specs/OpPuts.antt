@@ -1,16 +1,13 @@
 -- What is written of views of operations.
 use Rattle.std.specs.Prelude.{◌≡◌, ℕ, List}
 use Rattle.lnt_wire.specs.Bytes.{Appends}
-use Rattle.lnt_wire.specs.Leb128.{UnsignedLeb}
 use Rattle.lnt_wire.specs.declared.format.Order.{Order}
 use Rattle.lnt_header.specs.declared.header.HeaderParts.{HeaderParts}
 use Rattle.lnt_header.specs.declared.op.Op.{Op}
 use Rattle.lnt_header.specs.declared.op.OpView.{OpView}
-use Rattle.lnt_header.specs.declared.op.Operands.{Operands}
 use Rattle.lnt_header.specs.Joins.{Each}
-use Rattle.lnt_header.specs.OpRules.{Admits, AreOperands, StandsFor}
+use Rattle.lnt_header.specs.OpRules.{Admits, StandsFor}
 use Rattle.lnt_ops.specs.OpBytes.{OpBytes}
-use Rattle.lnt_ops.specs.OpSpellings.{Coded}
 
 -- The view stands for an operation that some header with addresses of this size admits.
 pub record IsOpOf (size : ℕ) (view : OpView) : Type 0 where
@@ -25,14 +22,6 @@ pub record IsOpOf (size : ℕ) (view : OpView) : Type 0 where
 pub record AddsView (order : Order) (size : ℕ) (view : OpView) (old new : List ℕ) : Type 0 where
   pub adds : (h : HeaderParts) (op : Op) → h.order ≡ order → h.address_size ≡ size → StandsFor view op → Admits h op
       → Appends (OpBytes h) op old new
-
--- The numbers that the bytes spell were added, each in its shortest spelling.
-pub record AddsSpelled (bytes old new : List ℕ) : Type 0 where
-  pub adds : (numbers : List ℕ) → Each UnsignedLeb numbers bytes → Appends (Each UnsignedLeb) numbers old new
-
--- The code was added, and after it the numbers that the operands are.
-pub record AddsOperands (code : ℕ) (operands : Operands) (old new : List ℕ) : Type 0 where
-  pub adds : (numbers : List ℕ) → AreOperands operands numbers → Appends (Coded code (Each UnsignedLeb)) numbers old new
 
 -- Another header whose numbers have this order: its addresses have the same size, and it admits the same operations.
 pub record IsLike (h : HeaderParts) (order : Order) (other : HeaderParts) : Type 0 where

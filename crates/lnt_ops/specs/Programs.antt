@@ -1,14 +1,12 @@
 -- Programs: operations one after another (DWARF 5, section 6.2.5).
 use Rattle.std.specs.Prelude.{◌≡◌, ℕ, ◌+◌, List, ◌++◌, length}
-use Rattle.std.specs.List.{AllByRecursion}
-use Rattle.lnt_wire.specs.At.{At}
 use Rattle.lnt_wire.specs.declared.fault.Fault.{Fault}
 use Rattle.lnt_wire.specs.declared.fault.Reason.{Reason}
 use Rattle.lnt_header.specs.declared.header.HeaderParts.{HeaderParts}
 use Rattle.lnt_header.specs.declared.op.Op.{Op}
 use Rattle.lnt_header.specs.declared.op.OpView.{OpView}
 use Rattle.lnt_header.specs.Joins.{Each}
-use Rattle.lnt_header.specs.OpRules.{Admits, StandsFor}
+use Rattle.lnt_header.specs.OpRules.{StandsFor}
 use Rattle.lnt_ops.specs.OpBytes.{OpBytes}
 use Rattle.lnt_ops.specs.OpFaults.{IsOpFault, IsFirstFault}
 
@@ -30,15 +28,6 @@ pub record BrokenProgram (h : HeaderParts) (place : ℕ) (program : List ℕ) (f
   pub reason : IsOpFault h.address_size fault.reason before left
   pub first : IsFirstIn h fault.reason before left
   pub none : (ops : List Op) → Each (OpBytes h) ops program → ⊥
-
--- the operations of the program up to a cursor
-pub record OpsSoFar (h : HeaderParts) (place : ℕ) (program : List ℕ) (ops : List Op) (at : At) : Type 0 where
-  pub front : List ℕ
-  pub spelled : Each (OpBytes h) ops front
-  pub admitted : AllByRecursion (Admits h) ops
-  pub whole : program ≡ front ++ at.rest
-  pub place_is : at.place ≡ place + length front
-  pub order_is : at.order ≡ h.order
 
 -- the view stands for some operation
 pub record IsView (view : OpView) : Type 0 where

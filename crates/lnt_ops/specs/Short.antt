@@ -1,6 +1,5 @@
 -- The frequent operation with a short operand that bytes begin with.
-use Rattle.std.specs.Prelude.{◌≡◌, ◌⊎◌, ℕ, ◌<◌, ◌≤◌, ℤ, pos, neg_ℤ, ◌≤ℤ◌, ◌<ℤ◌, List, [], ◌∷◌, get_or, length, take}
-use Rattle.lnt_wire.specs.Leb128.{signed_groups}
+use Rattle.std.specs.Prelude.{◌≡◌, ◌⊎◌, ℕ, ◌≤◌, List, length, take}
 use Rattle.lnt_header.specs.declared.header.HeaderParts.{HeaderParts}
 use Rattle.lnt_header.specs.declared.op.Op.{Op}
 use Rattle.lnt_header.specs.declared.op.OpView.{OpView}
@@ -33,23 +32,3 @@ IsShort view size = ⊥
 -- No such operation begins the bytes.
 abbrev pub NoneShort : HeaderParts → List ℕ → Type 0
 NoneShort h bytes = (view : OpView) (size : ℕ) → IsShort view size → IsFront h view size bytes → ⊥
-
--- ---- operands that aren't short
-
--- no byte is there, or one that isn't the last of a number
-abbrev pub NoByte : List ℕ → Type 0
-NoByte operand = 0 < length operand → 128 ≤ get_or operand 0 0
-
--- neither the first byte nor the second is there as the last of a number
-abbrev pub NoTwoBytes : List ℕ → Type 0
-NoTwoBytes operand = NoByte operand × (1 < length operand → 128 ≤ get_or operand 1 0)
-
--- what follows isn't the length 2, the code 4 and a number of one byte
-pub record NoDiscriminator (operand : List ℕ) : Type 0 where
-  pub none : (n : ℕ) → n < 128 → take 3 operand ≡ 2 ∷ 4 ∷ n ∷ [] → ⊥
-
--- a byte below 128 in two's complement of seven bits
-pub record IsGroup (byte : ℕ) (z : ℤ) : Type 0 where
-  pub value : z ≡ signed_groups (byte ∷ [])
-  pub least : neg_ℤ (pos 64) ≤ℤ z
-  pub most : z <ℤ pos 64

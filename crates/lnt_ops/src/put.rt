@@ -9,7 +9,8 @@ ghost use Rattle.lnt_header.specs.Joins.{Each};
 ghost use Rattle.lnt_header.specs.OpRules.{Admits};
 ghost use Rattle.lnt_ops.specs.OperandLists.{IsOperands, SpellsNumbers};
 ghost use Rattle.lnt_ops.specs.OpBytes.{OpBytes};
-ghost use Rattle.lnt_ops.specs.OpPuts.{AddsOperands, AddsSpelled, AddsView, IsOpOf};
+ghost use Rattle.lnt_ops.specs.OpPuts.{AddsView, IsOpOf};
+ghost use Rattle.lnt_ops.specs.Stepping.{AddsOperands, AddsSpelled};
 ghost use Rattle.lnt_ops.specs.OpSpellings.{Coded, ExtendedCoded, ExtendedStart};
 
 use lnt_header::{Header, Op, OpView, Operands};

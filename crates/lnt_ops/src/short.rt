@@ -1,7 +1,8 @@
 //! Frequent operations with short operands, read in line (DWARF 5, section 6.2.5).
 ghost use Rattle.std.specs.Prelude.{◌≡◌, ◌<◌, ◌≤◌, length, take, [], ◌∷◌, IfNone, IfSome};
 ghost use Rattle.lnt_wire.specs.Leb128.{SignedLeb, UnsignedLeb};
-ghost use Rattle.lnt_ops.specs.Short.{IsFront, IsGroup, NoByte, NoDiscriminator, NoneShort, NoTwoBytes};
+ghost use Rattle.lnt_ops.specs.Short.{IsFront, NoneShort};
+ghost use Rattle.lnt_ops.specs.Stepping.{IsGroup, NoByte, NoDiscriminator, NoTwoBytes};
 
 use lnt_header::{Header, OpView};
 

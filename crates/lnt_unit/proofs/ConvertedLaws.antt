@@ -8,7 +8,8 @@ use Rattle.lnt_wire.specs.declared.format.Format.{Format}
 use Rattle.lnt_wire.specs.declared.format.Order.{Order}
 use Rattle.lnt_header.specs.Joins.{Each}
 use Rattle.lnt_header.proofs.PutLaws.{each_push}
-use Rattle.lnt_unit.specs.ConvertedUnits.{ConvertsUnit, ConvertedTo}
+use Rattle.lnt_unit.specs.ConvertedUnits.{ConvertsUnit}
+use Rattle.lnt_unit.specs.Stepping.{ConvertedTo}
 use Rattle.lnt_unit.specs.Converting.{unit_in_format, units_in_format, IsConverted}
 use Rattle.lnt_unit.proofs.UnitLaws.{unit_is_some, units_push}
 use Rattle.lnt_unit.specs.UnitBytes.{UnitBytesIn, UnitsFrom, SectionBytes}

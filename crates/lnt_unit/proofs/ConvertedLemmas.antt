@@ -23,7 +23,8 @@ use Rattle.lnt_ops.specs.OpBytes.{OpBytes}
 use Rattle.lnt_ops.specs.OpPuts.{AddsOps, IsLike}
 use Rattle.lnt_ops.specs.Programs.{BrokenProgram}
 use Rattle.lnt_unit.specs.BrokenUnits.{BrokenUnit}
-use Rattle.lnt_unit.specs.ConvertedUnits.{ConvertsBytes, ConvertsUnit, IsLarge, IsLargeUnit, IsToldAs, IsUnitStop, IsNextStop, JudgesUnit}
+use Rattle.lnt_unit.specs.ConvertedUnits.{ConvertsUnit, IsLargeUnit, IsNextStop}
+use Rattle.lnt_unit.specs.Stepping.{ConvertsBytes, IsLarge, IsToldAs, IsUnitStop, JudgesUnit}
 use Rattle.lnt_unit.specs.declared.convert.ConvertFault.{ConvertFault}
 use Rattle.lnt_unit.specs.declared.convert.ConvertFault.TheVariants as convert
 use Rattle.lnt_unit.specs.Converting.{unit_in_format}

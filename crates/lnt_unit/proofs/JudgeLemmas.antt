@@ -6,7 +6,8 @@ use Rattle.lnt_wire.specs.declared.fault.Fault.{Fault}
 use Rattle.lnt_wire.specs.declared.format.Format.{Format}
 use Rattle.lnt_wire.specs.declared.format.Order.{Order}
 use Rattle.lnt_unit.specs.BrokenUnits.{BrokenUnit}
-use Rattle.lnt_unit.specs.ConvertedUnits.{JudgesUnit, IsSaid, IsToldAs, Converts, IsJudged, first_large}
+use Rattle.lnt_unit.specs.ConvertedUnits.{Converts}
+use Rattle.lnt_unit.specs.Stepping.{JudgesUnit, IsSaid, IsToldAs, IsJudged, first_large}
 use Rattle.lnt_unit.specs.Converting.{units_in_format, IsFirstLarge, HasFirstLarge, IsConvertFault}
 use Rattle.lnt_unit.proofs.ConvertedLaws.{units_more, each_spelled, whole_converted, no_length}
 use Rattle.lnt_unit.specs.declared.convert.ConvertFault.{ConvertFault}

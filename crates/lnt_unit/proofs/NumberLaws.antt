@@ -21,7 +21,8 @@ use Rattle.lnt_unit.specs.BrokenUnits.{BrokenUnit}
 use Rattle.lnt_unit.proofs.BrokenLaws.{ops_broken}
 use Rattle.lnt_unit.proofs.UnitLaws.{unit_found}
 use Rattle.lnt_unit.specs.UnitBytes.{UnitBytesIn}
-use Rattle.lnt_unit.specs.Views.{View, IsView, HasGiven, with_ops, by_numbers}
+use Rattle.lnt_unit.specs.Views.{View, IsView, with_ops, by_numbers}
+use Rattle.lnt_unit.specs.Stepping.{HasGiven}
 
 -- ---- operations
 

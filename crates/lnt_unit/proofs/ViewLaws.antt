@@ -11,7 +11,8 @@ use Rattle.lnt_unit.specs.BrokenUnits.{BrokenUnit}
 use Rattle.lnt_unit.proofs.BrokenLaws.{ops_broken}
 use Rattle.lnt_unit.proofs.UnitLaws.{unit_found}
 use Rattle.lnt_unit.specs.UnitBytes.{UnitBytesIn}
-use Rattle.lnt_unit.specs.Views.{View, IsView, HasGiven, with_ops}
+use Rattle.lnt_unit.specs.Views.{View, IsView, with_ops}
+use Rattle.lnt_unit.specs.Stepping.{HasGiven}
 
 pub given_none : (view : View) (walk : Walk) → walk.header ≡ view.header → walk.failed ≡ false → walk.at.place ≡ view.place
     → walk.at.rest ≡ view.program → walk.at.order ≡ view.header.order → HasGiven view [] walk

@@ -10,7 +10,8 @@ use Rattle.lnt_header.specs.declared.op.Op.{Op}
 use Rattle.lnt_header.specs.declared.op.OpView.{OpView}
 use Rattle.lnt_ops.specs.Walks.{Walk, Ends, Steps}
 use Rattle.lnt_unit.proofs.ViewLaws.{given_none, given_more, given_all}
-use Rattle.lnt_unit.specs.Views.{View, IsView, HasGiven, HasCount}
+use Rattle.lnt_unit.specs.Views.{View, IsView, HasCount}
+use Rattle.lnt_unit.specs.Stepping.{HasGiven}
 
 -- ---- the header
 

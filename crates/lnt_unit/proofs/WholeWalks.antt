@@ -23,7 +23,8 @@ use Rattle.lnt_unit.proofs.NumberLaws.{given_all_by_numbers, given_broken_by_num
 use Rattle.lnt_unit.proofs.UnitLaws.{no_section}
 use Rattle.lnt_unit.proofs.ViewLaws.{given_all, given_broken, given_more, given_none}
 use Rattle.lnt_unit.specs.UnitBytes.{SectionBytes}
-use Rattle.lnt_unit.specs.Views.{HasGiven, View, by_numbers}
+use Rattle.lnt_unit.specs.Views.{View, by_numbers}
+use Rattle.lnt_unit.specs.Stepping.{HasGiven}
 
 -- ---- operations
 

@@ -4,6 +4,7 @@ pub mod Converting
 pub mod FaultTexts
 pub mod Laws
 pub mod Spelled
+pub mod Stepping
 pub mod TooLong
 pub mod UnitBytes
 pub mod UnitRules

@@ -1,11 +1,9 @@
 -- A unit that lies in a buffer: its header with its program, and how far its operations were read.
-use Rattle.std.specs.Prelude.{◌≡◌, ℕ, ◌+◌, ◌^◌, ◌<◌, List, length, false}
+use Rattle.std.specs.Prelude.{◌≡◌, ℕ, ◌+◌, ◌^◌, ◌<◌, List, length}
 use Rattle.lnt_header_bytes.specs.Borrowed.{without_entries}
 use Rattle.lnt_header.specs.declared.header.HeaderParts.{HeaderParts}
 use Rattle.lnt_header.specs.declared.op.Op.{Op}
 use Rattle.lnt_header_bytes.specs.HeaderBytes.{HeaderBytesIn}
-use Rattle.lnt_ops.specs.Programs.{OpsSoFar}
-use Rattle.lnt_ops.specs.Walks.{Walk}
 use Rattle.lnt_stream.specs.Units.{UnitBytes}
 use Rattle.lnt_unit.specs.declared.unit.Parts.{Parts}
 use Rattle.lnt_unit.specs.UnitBytes.{UnitBytesIn}
@@ -30,12 +28,6 @@ by_numbers view = record view { header = without_entries view.header }
 -- the unit of these operations
 abbrev pub with_ops : View → List Op → Parts
 with_ops view ops = record { header = view.header; ops = ops }
-
--- A walk over the program stands after these operations, and none was refused.
-pub record HasGiven (view : View) (ops : List Op) (walk : Walk) : Type 0 where
-  pub header_is : walk.header ≡ view.header
-  pub going : walk.failed ≡ false
-  pub so : OpsSoFar view.header view.place view.program ops walk.at
 
 -- The bytes are the unit of so many operations.
 pub record HasCount (view : View) (count : ℕ) : Type 0 where

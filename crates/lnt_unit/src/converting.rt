@@ -3,7 +3,8 @@ ghost use Rattle.std.specs.Prelude.{◌≡◌, ◌≢◌, ◌+◌, ◌<◌, ◌^
 ghost use Rattle.lnt_wire.specs.FrameBytes.{frame_bytes, IsPlacedFrame};
 ghost use Rattle.lnt_header_bytes.specs.HeaderBytes.{HeaderBytesIn};
 ghost use Rattle.lnt_unit.specs.BrokenUnits.{BrokenUnit};
-ghost use Rattle.lnt_unit.specs.ConvertedUnits.{ConvertsBytes, ConvertsUnit, IsNextStop, IsToldAs, IsUnitStop, JudgesUnit};
+ghost use Rattle.lnt_unit.specs.ConvertedUnits.{ConvertsUnit, IsNextStop};
+ghost use Rattle.lnt_unit.specs.Stepping.{ConvertsBytes, IsToldAs, IsUnitStop, JudgesUnit};
 
 use crate::convert::ConvertFault;
 use lnt_header_bytes::{HeaderInPlace, put_header_view, view_header};

@@ -2,7 +2,8 @@ use Rattle.std.proofs.Common.{◌≡◌, ◌+◌, ◌-◌, ◌*◌, ◌≤◌, �
 use Rattle.lnt_wire.specs.Bytes.{NoneSpelled}
 use Rattle.lnt_wire.specs.declared.format.Format.{Format}
 use Rattle.lnt_header.specs.Joins.{Several}
-use Rattle.lnt_header_bytes.specs.Borrowed.{BorrowedTable, borrowed_table, PassesAll}
+use Rattle.lnt_header_bytes.specs.Borrowed.{BorrowedTable, borrowed_table}
+use Rattle.lnt_header_bytes.specs.Stepping.{PassesAll}
 use Rattle.lnt_header_bytes.proofs.BorrowedLaws.{length_found}
 use Rattle.lnt_header_bytes.specs.TableBytes.{EntryBytes}
 use Rattle.lnt_header_bytes.proofs.MarkLemmas.{AreMade, counted, made_more, never_refused}

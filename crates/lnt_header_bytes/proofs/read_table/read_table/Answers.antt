@@ -1,5 +1,5 @@
 use Rattle.std.proofs.Common.{refl, List, subst, rules}
-use Rattle.lnt_header_bytes.specs.Borrowed.{PassesAll}
+use Rattle.lnt_header_bytes.specs.Stepping.{PassesAll}
 use Rattle.lnt_header_bytes.specs.TableBytes.{EntryBytes}
 use Rattle.lnt_header.specs.declared.header.Pair.{Pair}
 use Rattle.lnt_header_bytes.proofs.ViewLemmas.{table_read}

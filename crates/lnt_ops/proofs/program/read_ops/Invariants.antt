@@ -1,5 +1,5 @@
 use Rattle.std.proofs.Common.{◌≡◌, false}
-use Rattle.lnt_ops.specs.Programs.{OpsSoFar}
+use Rattle.lnt_ops.specs.Stepping.{OpsSoFar}
 use Rattle.lnt_ops.proofs.program.read_ops.Given as goal
 
 abbrev pub invariant-loop-view : goal.invariant-loop-view

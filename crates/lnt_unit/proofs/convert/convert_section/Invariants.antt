@@ -1,5 +1,5 @@
 use Rattle.std.proofs.Common.{length}
-use Rattle.lnt_unit.specs.ConvertedUnits.{ConvertedTo}
+use Rattle.lnt_unit.specs.Stepping.{ConvertedTo}
 use Rattle.lnt_unit.proofs.convert.convert_section.Given as goal
 
 abbrev pub invariant-loop-cursor : goal.invariant-loop-cursor

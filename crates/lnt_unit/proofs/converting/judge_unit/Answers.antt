@@ -1,6 +1,6 @@
 use Rattle.std.proofs.Common.{◌≢◌, ◌∙◌, subst}
 use Rattle.lnt_wire.specs.FrameBytes.{frame_bytes}
-use Rattle.lnt_unit.specs.ConvertedUnits.{IsUnitStop}
+use Rattle.lnt_unit.specs.Stepping.{IsUnitStop}
 use Rattle.lnt_unit.specs.declared.convert.ConvertFault.{ConvertFault}
 use Rattle.std.proofs.lemmas.Result.{err_from_is_err_and}
 use Rattle.lnt_wire.specs.declared.fault.Reason.TheVariants.{Memory}

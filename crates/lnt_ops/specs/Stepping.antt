@@ -1,0 +1,65 @@
+-- What the bodies of this crate say of one step. No public contract speaks of it.
+use Rattle.std.specs.Prelude.{◌≡◌, ℕ, ◌+◌, List, ◌++◌, length, ◌∷◌, ◌<◌, ◌≤◌, ℤ, pos, neg_ℤ, ◌≤ℤ◌, ◌<ℤ◌, [], get_or, take}
+use Rattle.std.specs.List.{AllByRecursion}
+use Rattle.lnt_wire.specs.At.{At}
+use Rattle.lnt_header.specs.declared.header.HeaderParts.{HeaderParts}
+use Rattle.lnt_header.specs.declared.op.Op.{Op}
+use Rattle.lnt_header.specs.Joins.{Each}
+use Rattle.lnt_header.specs.OpRules.{Admits, StandsFor, AreOperands}
+use Rattle.lnt_ops.specs.OpBytes.{OpBytes}
+use Rattle.lnt_header.specs.declared.op.OpView.{OpView}
+use Rattle.lnt_ops.specs.Walks.{Walk}
+use Rattle.lnt_ops.specs.Left.{IsLeft}
+use Rattle.lnt_wire.specs.Bytes.{Appends}
+use Rattle.lnt_wire.specs.Leb128.{UnsignedLeb, signed_groups}
+use Rattle.lnt_header.specs.declared.op.Operands.{Operands}
+use Rattle.lnt_ops.specs.OpSpellings.{Coded}
+
+-- the operations of the program up to a cursor
+pub record OpsSoFar (h : HeaderParts) (place : ℕ) (program : List ℕ) (ops : List Op) (at : At) : Type 0 where
+  pub front : List ℕ
+  pub spelled : Each (OpBytes h) ops front
+  pub admitted : AllByRecursion (Admits h) ops
+  pub whole : program ≡ front ++ at.rest
+  pub place_is : at.place ≡ place + length front
+  pub order_is : at.order ≡ h.order
+
+-- ---- the next operation
+
+-- The view stands for the first of the operations, and the others are left.
+pub record IsNextOf (h : HeaderParts) (later : List Op) (view : OpView) (new : Walk) : Type 0 where
+  pub op : Op
+  pub others : List Op
+  pub later_is : later ≡ op ∷ others
+  pub stands : StandsFor view op
+  pub left : IsLeft h others new
+
+-- ---- operands that are added
+
+-- The numbers that the bytes spell were added, each in its shortest spelling.
+pub record AddsSpelled (bytes old new : List ℕ) : Type 0 where
+  pub adds : (numbers : List ℕ) → Each UnsignedLeb numbers bytes → Appends (Each UnsignedLeb) numbers old new
+
+-- The code was added, and after it the numbers that the operands are.
+pub record AddsOperands (code : ℕ) (operands : Operands) (old new : List ℕ) : Type 0 where
+  pub adds : (numbers : List ℕ) → AreOperands operands numbers → Appends (Coded code (Each UnsignedLeb)) numbers old new
+
+-- ---- operands that aren't short
+
+-- no byte is there, or one that isn't the last of a number
+abbrev pub NoByte : List ℕ → Type 0
+NoByte operand = 0 < length operand → 128 ≤ get_or operand 0 0
+
+-- neither the first byte nor the second is there as the last of a number
+abbrev pub NoTwoBytes : List ℕ → Type 0
+NoTwoBytes operand = NoByte operand × (1 < length operand → 128 ≤ get_or operand 1 0)
+
+-- what follows isn't the length 2, the code 4 and a number of one byte
+pub record NoDiscriminator (operand : List ℕ) : Type 0 where
+  pub none : (n : ℕ) → n < 128 → take 3 operand ≡ 2 ∷ 4 ∷ n ∷ [] → ⊥
+
+-- a byte below 128 in two's complement of seven bits
+pub record IsGroup (byte : ℕ) (z : ℤ) : Type 0 where
+  pub value : z ≡ signed_groups (byte ∷ [])
+  pub least : neg_ℤ (pos 64) ≤ℤ z
+  pub most : z <ℤ pos 64
