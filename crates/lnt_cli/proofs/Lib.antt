@@ -1,4 +1,5 @@
 pub mod PathStretchLemmas
+pub mod PathTableLemmas
 pub mod QuestionLemmas
 pub mod ReadingLemmas
 pub mod StopLemmas

@@ -1,12 +1,12 @@
 -- What `table` prints for a table by path.
-use Rattle.std.specs.Prelude.{ℕ, List, ◌++◌, ◌⊎◌, Option, codes}
+use Rattle.std.specs.Prelude.{ℕ, List, ◌++◌, Option, codes}
 use Rattle.std.specs.Io.KnownBytes.{Appends}
-use Rattle.lnt_output.specs.Fronts.{AppendsFront}
+use Rattle.lnt_output.specs.Fronts.{HasBegun}
 use Rattle.lnt_sources.specs.declared.status.Status.{Status}
 use Rattle.lnt_sources.specs.declared.status.Status.TheVariants.{Done, No}
 use Rattle.lnt_paths.specs.declared.version.PathVersion.{PathVersion}
 use Rattle.lnt_paths.specs.PathAnswers.{PathAnswer}
-use Rattle.lnt_paths.specs.Written.{BeginsPathTable, HasOperationIndex, IsCanonicalPathTable}
+use Rattle.lnt_paths.specs.Written.{HasOperationIndex, IsCanonicalPathTable}
 use Rattle.lnt_spans.specs.declared.position.Position.{Position}
 use Rattle.lnt_text.specs.Texts.{position_text}
 
@@ -21,8 +21,6 @@ IsPrintedTable version answers old new Done = (bytes : List ℕ) × Appends old 
 IsPrintedTable version answers old new No =
     (position : Position) × Appends old new (operation_line position) × HasOperationIndex answers position
 
--- A writer that was stopped has gained a front of the column names and the lines of the first canonical spans; or, where there
--- can't be a table, a front of that line.
+-- A writer that was stopped has gained a front of such a table; or, where there can't be one, a front of that line.
 abbrev pub BeginsPrintedTable : PathVersion → (Position → Option PathAnswer) → Option (List ℕ) → Option (List ℕ) → Type 0
-BeginsPrintedTable version answers old new = BeginsPathTable version answers old new
-    ⊎ ((position : Position) × AppendsFront old new (operation_line position) × HasOperationIndex answers position)
+BeginsPrintedTable version answers old new = HasBegun (IsPrintedTable version answers old) old new

@@ -39,7 +39,7 @@ abbrev pub BeginsTableByPath : PathVersion → Options → Indexed → Option (L
 BeginsTableByPath version options index old new =
     ForUnitsOf options index (λ units. BeginsPrintedTable version (told_path version index options.dead options.skip_copies units) old new)
 
--- A front of the answer for a good section with this index; of a table, a front of its column names and first lines.
+-- A front of the answer for a good section with this index.
 abbrev pub BeginsGood : (List ℕ → Option (List ℕ) → Type 0) → Options → Question → Indexed → Option (List ℕ) → Option (List ℕ) → Type 0
 BeginsGood tells options Verify index old new = AppendsFront old new (codes "yes\n")
 BeginsGood tells options (Lookup positions) index old new =

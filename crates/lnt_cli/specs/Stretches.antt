@@ -1,6 +1,5 @@
 -- What `check` prints where it tells all places at which a table answers otherwise than a good section.
 use Rattle.std.specs.Prelude.{◌≡◌, ◌≢◌, ◌++◌, ◌⊎◌, Bool, ℕ, List, [], ◌∷◌, Option, IfSome, codes}
-use Rattle.std.specs.List.{flat_map}
 use Rattle.std.specs.Io.KnownBytes.{Appends}
 use Rattle.lnt_output.specs.Fronts.{AppendsFront}
 use Rattle.lnt_unit.specs.declared.unit.Parts.{Parts}
@@ -19,7 +18,7 @@ use Rattle.lnt_paths.specs.declared.version.PathVersion.{PathVersion}
 use Rattle.lnt_paths.specs.PathAnswers.{PathAnswer}
 use Rattle.lnt_paths.specs.PathFaults.{IsPathFault}
 use Rattle.lnt_paths.specs.PathSpans.{PathSpan, path_span_answer}
-use Rattle.lnt_paths.specs.PathStretches.{AreFirstPathStretches, ArePathStretches}
+use Rattle.lnt_paths.specs.PathStretches.{ArePathStretches, AreStretches as AreAllByPath, Stretch, stretches_of}
 use Rattle.lnt_paths.specs.PathTables.{IsPathTableOf}
 use Rattle.lnt_table.specs.ByPath.{told_path}
 use Rattle.lnt_table.specs.Headline.{told_answer}
@@ -30,7 +29,7 @@ use Rattle.lnt_cli.specs.declared.stretches.Places.{Places}
 use Rattle.lnt_cli.specs.declared.stretches.Places.TheVariants.{Section, Table}
 use Rattle.lnt_cli.specs.Questions.{ForUnitsOf, IsNoTold}
 use Rattle.lnt_table.specs.Verdicts.{no_of_fault}
-use Rattle.lnt_cli.specs.Verdicts.{path_difference_line, path_stretches_status, path_stretches_text}
+use Rattle.lnt_cli.specs.Verdicts.{path_stretches_status, path_stretches_text}
 use Rattle.lnt_table.specs.FaultTexts.{table_no_text}
 use Rattle.lnt_lines.specs.declared.options.Options.{Options}
 use Rattle.lnt_lines.specs.Indexed.{Indexed}
@@ -59,8 +58,8 @@ pub record AreToldByPath (index : Indexed) (dead : Option ℕ) (skip : Bool) (un
   pub is_table : IsPathTableOf version table spans
   pub differences : List DifferenceByPath
   pub are_stretches : ArePathStretches (told_path version index dead skip units) (path_span_answer spans) differences
-  pub printed : Appends old new (path_stretches_text differences)
-  pub status_is : status ≡ path_stretches_status differences
+  pub printed : Appends old new (path_stretches_text (stretches_of differences))
+  pub status_is : status ≡ path_stretches_status (stretches_of differences)
 
 -- The bytes begin with the header of neither version 1 nor 2, and this is their first fault as a table by path: that of the
 -- header, where they begin with the header of neither of these.
@@ -111,21 +110,13 @@ ArePlacesTold options (Bad reason) table old new status = IsNoTold reason old ne
 -- ---- where the writer was stopped
 --     old, new    what it holds before and afterwards
 
--- These are the first stretches at which a table by path answers otherwise, and the writer has gained a front of their lines: the
--- last of these may be cut. It is a front of the lines of all stretches, whatever list tells them.
-pub record ArePathLinesBegun (by_section by_table : Position → Option PathAnswer) (old new : Option (List ℕ)) : Type 0 where
-  pub told : List DifferenceByPath
-  pub are_first : AreFirstPathStretches by_section by_table told
-  pub front : AppendsFront old new (flat_map path_difference_line told)
-  pub of_whole : (all : List DifferenceByPath) → ArePathStretches by_section by_table all
-      → AppendsFront old new (path_stretches_text all)
-
--- That, or there is no stretch, and the writer has gained a front of the line that says so.
-abbrev pub ArePathDifferencesBegun : (Position → Option PathAnswer) → (Position → Option PathAnswer) → Option (List ℕ)
-    → Option (List ℕ) → Type 0
-ArePathDifferencesBegun by_section by_table old new =
-    (ArePathStretches by_section by_table [] × AppendsFront old new (path_stretches_text []))
-    ⊎ ArePathLinesBegun by_section by_table old new
+-- A front of the lines of all stretches at which a table by path answers otherwise was gained, or of `yes` where there is none, and
+-- nothing else. The list holds no `DifferenceByPath`: nothing says that memory would hold the paths of stretches that weren't
+-- reached.
+pub record ArePathDifferencesBegun (by_section by_table : Position → Option PathAnswer) (old new : Option (List ℕ)) : Type 0 where
+  pub stretches : List (Stretch PathAnswer)
+  pub are_all : AreAllByPath by_section by_table stretches
+  pub front : AppendsFront old new (path_stretches_text stretches)
 
 -- Something that is so wrong with the table, and a front of its line.
 --     IsSo    that it is wrong with the table

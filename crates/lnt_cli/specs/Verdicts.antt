@@ -3,10 +3,10 @@ use Rattle.std.specs.Prelude.{ℕ, List, [], ◌∷◌, ◌++◌, Option, None, 
 use Rattle.std.specs.List.{flat_map}
 use Rattle.lnt_sources.specs.declared.status.Status.{Status}
 use Rattle.lnt_sources.specs.declared.status.Status.TheVariants as status
-use Rattle.lnt_paths.specs.declared.answer.AnswerByPath.{AnswerByPath}
 use Rattle.lnt_paths.specs.declared.answer.ComparedByPath.{ComparedByPath}
 use Rattle.lnt_paths.specs.declared.answer.ComparedByPath.TheVariants.{Same, Fault, Differs}
-use Rattle.lnt_paths.specs.declared.answer.DifferenceByPath.{DifferenceByPath}
+use Rattle.lnt_paths.specs.PathAnswers.{PathAnswer}
+use Rattle.lnt_paths.specs.PathStretches.{Stretch, stretch_of}
 use Rattle.lnt_table.specs.declared.by_path.Checked.{Checked}
 use Rattle.lnt_table.specs.declared.by_path.Checked.TheVariants.{Numbered, ByPath}
 use Rattle.lnt_table.specs.declared.verdict.Verdict.{Verdict}
@@ -34,25 +34,24 @@ column_text None = []
 column_text (Some column) = codes "," ++ decimal column
 
 -- an answer by path, as the fields of a table's record after the positions, with the path always in quotes; or none
-abbrev pub path_answer_text : Option AnswerByPath → List ℕ
+abbrev pub path_answer_text : Option PathAnswer → List ℕ
 path_answer_text None = codes "none"
-path_answer_text (Some answer) =
-    quoted_text answer.path.items ++ (codes "," ++ (decimal answer.line ++ column_text answer.column))
+path_answer_text (Some answer) = quoted_text answer.path ++ (codes "," ++ (decimal answer.line ++ column_text answer.column))
 
--- the position of a difference by path, with both answers
-abbrev pub path_difference_text : DifferenceByPath → List ℕ
-path_difference_text difference =
-    codes "no 40 differs at " ++ (position_text difference.position ++ (codes " table " ++
-    (path_answer_text difference.by_table ++ (codes " section " ++ path_answer_text difference.by_section))))
+-- the first position of a stretch, with both answers
+abbrev pub path_stretch_text : Stretch PathAnswer → List ℕ
+path_stretch_text stretch =
+    codes "no 40 differs at " ++ (position_text stretch.position ++ (codes " table " ++
+    (path_answer_text stretch.by_table ++ (codes " section " ++ path_answer_text stretch.by_section))))
 
-abbrev pub path_difference_line : DifferenceByPath → List ℕ
-path_difference_line difference = path_difference_text difference ++ codes "\n"
+abbrev pub path_stretch_line : Stretch PathAnswer → List ℕ
+path_stretch_line stretch = path_stretch_text stretch ++ codes "\n"
 
 -- the line of the outcome of a comparison by path
 abbrev pub compared_text : ComparedByPath → List ℕ
 compared_text Same = codes "yes\n"
 compared_text (Fault told) = table_no_text (no_of_fault told) ++ codes "\n"
-compared_text (Differs difference) = path_difference_line difference
+compared_text (Differs difference) = path_stretch_line (stretch_of difference)
 
 -- the status with which the run ends
 abbrev pub compared_status : ComparedByPath → Status
@@ -61,14 +60,14 @@ compared_status (Fault told) = status.No
 compared_status (Differs difference) = status.No
 
 -- a line for each stretch, or `yes` where there is none
-abbrev pub path_stretches_text : List DifferenceByPath → List ℕ
+abbrev pub path_stretches_text : List (Stretch PathAnswer) → List ℕ
 path_stretches_text [] = codes "yes\n"
-path_stretches_text (first ∷ differences) = flat_map path_difference_line (first ∷ differences)
+path_stretches_text (first ∷ stretches) = flat_map path_stretch_line (first ∷ stretches)
 
 -- the status after these stretches
-abbrev pub path_stretches_status : List DifferenceByPath → Status
+abbrev pub path_stretches_status : List (Stretch PathAnswer) → Status
 path_stretches_status [] = status.Done
-path_stretches_status (first ∷ differences) = status.No
+path_stretches_status (first ∷ stretches) = status.No
 
 -- ---- tables of any version
 

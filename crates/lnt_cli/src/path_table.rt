@@ -18,7 +18,7 @@ use std::alloc::{AllocError, Global};
 use std::io::Write;
 
 // Prints the address table by path of a good section, or the line that says why there is none. Where it stops, the writer has
-// gained a front of the column names and the first lines, or of that line.
+// gained a front of the table, or of that line.
 pub(crate) fn print_path_table<W: Write>(
     alloc: Global,
     index: &Index<'_>,

@@ -62,9 +62,8 @@ pub fn run<O: Opener, W: Write, N: Write>(
 ///
 /// Where it stops, and the request was for help, a list of units, a conversion, a check of a table, all places at which a table
 /// answers otherwise, a question about a section, or the lines of a file, `out` has gained a front of an answer, and nothing
-/// else (`IsStopped`). For the lines of a file, it is a front of the answers to the first lines; for a table, of the column
-/// names and the first lines; for the places of a table by path, of the lines of the first places. It stops as `run` does, and
-/// never by `Usage`.
+/// else (`IsStopped`): there is such an answer also where nobody reached its end. It stops as `run` does, and never by
+/// `Usage`.
 ///
 /// Nothing is said of what dumps print.
 pub fn answer<O: Opener, W: Write, N: Write>(

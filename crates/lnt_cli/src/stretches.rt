@@ -3,12 +3,12 @@ ghost use Rattle.std.specs.Prelude.{◌≡◌, ◌-◌, ◌^◌, ◌<◌, ◌+�
 ghost use Rattle.std.specs.Prelude.{OnErr, OnOk, codes, string_bytes};
 ghost use Rattle.std.specs.Io.KnownBytes.{Appends, Keeps};
 ghost use Rattle.lnt_cli.specs.Stretches.{ArePathDifferencesBegun, AreStretchesBegun, AreStretchesOf, IsFaultTold};
-ghost use Rattle.lnt_cli.specs.Verdicts.{path_difference_line, path_stretches_status, path_stretches_text};
+ghost use Rattle.lnt_cli.specs.Verdicts.{path_stretch_line, path_stretches_status, path_stretches_text};
 ghost use Rattle.lnt_table.specs.FaultTexts.{table_no_text};
 ghost use Rattle.lnt_lines.specs.Indexed.{IsIndexOf};
 ghost use Rattle.lnt_paths.specs.declared.answer.DifferenceByPath.{DifferenceByPath as Spec};
 ghost use Rattle.lnt_paths.specs.PathAnswers.{PathAnswer};
-ghost use Rattle.lnt_paths.specs.PathStretches.{ArePathStretches};
+ghost use Rattle.lnt_paths.specs.PathStretches.{ArePathStretches, stretch_of, stretches_of};
 ghost use Rattle.lnt_paths.specs.Stretching.{HasToldByPath};
 ghost use Rattle.lnt_output.specs.Fronts.{AppendsFront};
 ghost use Rattle.lnt_sources.specs.Halts.{IsPrinting};
@@ -132,7 +132,8 @@ fn print_path_differences<S: SpanSource + Drop, P: Paths, W: Write>(
     ensures lines { IfOk result (λ status. (by_section by_table : Position → Option PathAnswer)
         → HasToldByPath S.to_come (P.bytes_of paths.now) differences.entry by_section by_table []
         → (list : List Spec) × ArePathStretches by_section by_table list
-        × Appends (W.contents out.old) (W.contents out.new) (path_stretches_text list) × (status ≡ path_stretches_status list)) }
+        × Appends (W.contents out.old) (W.contents out.new) (path_stretches_text (stretches_of list))
+        × (status ≡ path_stretches_status (stretches_of list))) }
     ensures begun { OnErr result ((by_section by_table : Position → Option PathAnswer)
         → HasToldByPath S.to_come (P.bytes_of paths.now) differences.entry by_section by_table []
         → ArePathDifferencesBegun by_section by_table (W.contents out.old) (W.contents out.new)) }
@@ -157,8 +158,8 @@ fn print_path_difference<W: Write>(
     out: &mut W,
 ) -> Result<(), Halt>
     ensures err { IfErr result IsPrinting }
-    ensures line { OnOk result (Appends (W.contents out.old) (W.contents out.new) (path_difference_line difference.now)) }
-    ensures front { OnErr result (AppendsFront (W.contents out.old) (W.contents out.new) (path_difference_line difference.now)) }
+    ensures line { OnOk result (Appends (W.contents out.old) (W.contents out.new) (path_stretch_line (stretch_of difference.now))) }
+    ensures front { OnErr result (AppendsFront (W.contents out.old) (W.contents out.new) (path_stretch_line (stretch_of difference.now))) }
 {
     room.clear();
     // A vector refuses a piece of the line only for want of memory.

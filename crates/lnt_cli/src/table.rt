@@ -19,8 +19,7 @@ use lnt_table::{Checked, ComparedByPath, TableNo, Verdict, write_index};
 use std::alloc::{AllocError, Global};
 use std::io::Write;
 
-// Prints the address table of a good section. Where it stops, the writer has gained a front of the column names and the
-// first lines.
+// Prints the address table of a good section. Where it stops, the writer has gained a front of it.
 pub(crate) fn print_table<W: Write>(
     alloc: Global,
     index: &Index<'_>,

@@ -1,6 +1,9 @@
 //! The text of the evidence against a table.
 ghost use Rattle.std.specs.Prelude.{Some};
-ghost use Rattle.lnt_cli.specs.Verdicts.{column_text, path_answer_text, path_difference_text};
+ghost use Rattle.std.specs.Option.{option_map};
+ghost use Rattle.lnt_cli.specs.Verdicts.{column_text, path_answer_text, path_stretch_text};
+ghost use Rattle.lnt_paths.specs.PathDifferences.{told_path_answer};
+ghost use Rattle.lnt_paths.specs.PathStretches.{stretch_of};
 
 use lnt_paths::{AnswerByPath, DifferenceByPath};
 use lnt_text::{PositionText, Quoted};
@@ -11,7 +14,7 @@ use std::fmt;
 pub(crate) struct PathDifferenceLine<'a>(pub(crate) &'a DifferenceByPath);
 
 impl fmt::Display for PathDifferenceLine<'_> {
-    ghost output = { λ line. Some (path_difference_text line.0.now) };
+    ghost output = { λ line. Some (path_stretch_text (stretch_of line.0.now)) };
 
     fn fmt<W: fmt::Write>(&self, f: &mut fmt::Formatter<W>) -> fmt::Result {
         let at = PositionText(self.0.position);
@@ -26,7 +29,7 @@ impl fmt::Display for PathDifferenceLine<'_> {
 struct PathAnswerText<'a>(&'a Option<AnswerByPath>);
 
 impl fmt::Display for PathAnswerText<'_> {
-    ghost output = { λ text. Some (path_answer_text text.0.now) };
+    ghost output = { λ text. Some (path_answer_text (option_map told_path_answer text.0.now)) };
 
     fn fmt<W: fmt::Write>(&self, f: &mut fmt::Formatter<W>) -> fmt::Result {
         let Some(answer) = self.0 else {

@@ -4,3 +4,4 @@ pub mod OneTextLaws
 pub mod PutLemmas
 pub mod ReadLemmas
 pub mod TextLaws
+pub mod WrittenLaws

@@ -41,7 +41,7 @@ value_put radix n text left e =
     ap (λ (v : ℕ). digits_value (base radix) v text) back ∙ e
 
 -- one digit before them
-digit_put : (radix : Radix) (n : ℕ) (text : List ℕ) (left : ℕ) → IsPut radix n text left → 0 < left
+pub digit_put : (radix : Radix) (n : ℕ) (text : List ℕ) (left : ℕ) → IsPut radix n text left → 0 < left
     → IsPut radix n (digit_code (left % base radix) ∷ text) (left / base radix)
 digit_put radix n text left p some = record {
   digits = (code_is_digit radix (left % base radix) (last_digit_below radix left), p.digits);
@@ -53,7 +53,7 @@ digit_put radix n text left p some = record {
 }
 
 -- the last digit
-digit_first : (radix : Radix) (n : ℕ) → IsPut radix n (digit_code (n % base radix) ∷ []) (n / base radix)
+pub digit_first : (radix : Radix) (n : ℕ) → IsPut radix n (digit_code (n % base radix) ∷ []) (n / base radix)
 digit_first radix n = record {
   digits = (code_is_digit radix (n % base radix) (last_digit_below radix n), tt);
   some = omega arith;
@@ -103,7 +103,7 @@ stands_first radix n end digits fits long few =
       put = subst (λ (text : List ℕ). IsPut radix n text (n / base radix)) (sym e) (digit_first radix n);
     }
 
-no_room : (radix : Radix) (left : ℕ) → left < base radix ^ 0 → left ≡ 0
+pub no_room : (radix : Radix) (left : ℕ) → left < base radix ^ 0 → left ≡ 0
 no_room Ten left h = omega (arith, h)
 no_room Sixteen left h = omega (arith, h)
 

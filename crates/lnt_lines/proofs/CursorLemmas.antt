@@ -1,15 +1,22 @@
 -- The spans of an index, one after another.
-use Rattle.std.proofs.Common.{◌≡◌, ◌∙◌, Bool, ℕ, ◌+◌, ◌<◌, List, [], ◌∷◌, ◌++◌, Option, Some, None, refl, sym, ap, subst, arith, length}
-use Rattle.std.specs.Prelude.{IfSome, IsSomeAnd}
-use Rattle.std.specs.List.{AllZip}
+use Rattle.std.proofs.Common.{◌≡◌, ◌∙◌, Bool, ℕ, suc, ◌+◌, ◌^◌, ◌<◌, List, [], ◌∷◌, ◌++◌, Option, Some, None, refl, sym, ap, subst}
+use Rattle.std.proofs.Common.{arith, get_or, length}
+use Rattle.std.specs.Prelude.{IfSome, IsSomeAnd, map}
+use Rattle.std.specs.List.{AllByRecursion, AllZip}
+use Rattle.std.specs.List.Sorted.{IsPermutation}
+use Rattle.std.proofs.lemmas.List.Elements.{recursion_from_All}
+use Rattle.std.proofs.lemmas.List.Sorted.{All-permutation}
 use Rattle.lnt_unit.specs.declared.unit.Parts.{Parts}
+use Rattle.lnt_machine.proofs.FittingLaws.{HasNumbers}
 use Rattle.lnt_machine.specs.declared.row.Row.{Row}
 use Rattle.lnt_machine.specs.Walking.{Kept, SequenceWalk, WillGive}
 use Rattle.lnt_spans.specs.declared.span.Span.{Span}
 use Rattle.lnt_spans.specs.Coming.{GivesFirst}
+use Rattle.lnt_spans.specs.Fitting.{FitsSpan, FitSpans}
 use Rattle.lnt_sequences.specs.declared.extent.Extent.{Extent}
 use Rattle.lnt_sequences.specs.declared.sequence.SeqId.{SeqId}
 use Rattle.lnt_sequences.specs.InTurn.{EntriesInTurn, IsEntryOf}
+use Rattle.lnt_sequences.proofs.FittingLaws.{kept_spans_fit}
 use Rattle.lnt_sequences.proofs.KeptLaws.{kept_ordered}
 use Rattle.lnt_sequences.specs.RowSpans.{row_spans, spans_of}
 use Rattle.lnt_sequences.specs.Sequences.{kept_sequences, live_sequences, Placed}
@@ -117,11 +124,31 @@ entries_found dead skip units index (entry ∷ entries) (placed ∷ in_turn) is 
   entries_found dead skip units index entries in_turn is each.1,
 )
 
+-- numbers that fit, each by its index
+pub all_small : (offsets : List ℕ) → ((k : ℕ) → get_or offsets k 0 < 2 ^ 64) → AllByRecursion (λ offset. offset < 2 ^ 64) offsets
+all_small [] each = tt
+all_small (offset ∷ offsets) each = (each 0, all_small offsets (λ k. each (suc k)))
+
+small_units : (units : List (ℕ × Parts)) → AllByRecursion (λ offset. offset < 2 ^ 64) (map (λ (unit : ℕ × Parts). unit.0) units)
+    → AllByRecursion (λ (unit : ℕ × Parts). unit.0 < 2 ^ 64) units
+small_units [] small = tt
+small_units (unit ∷ units) small = (small.0, small_units units small.1)
+
+fitting_spans : (dead : Option ℕ) (skip : Bool) (units : List (ℕ × Parts)) (index : Indexed) (spans : List Span)
+    → IsIndexOf dead skip units index → AllByRecursion HasNumbers index.programs
+    → AllByRecursion (λ offset. offset < 2 ^ 64) index.units
+    → IsPermutation (spans_of (kept_sequences dead skip units)) spans → FitSpans spans
+fitting_spans dead skip units index spans is numbers small same =
+    let all = spans_of (kept_sequences dead skip units) in
+    let offsets = small_units units (subst (AllByRecursion (λ offset. offset < 2 ^ 64)) is.offsets small) in
+    recursion_from_All FitsSpan spans
+    (All-permutation FitsSpan all spans same (kept_spans_fit dead skip units index.programs is.programs numbers offsets))
+
 pub gives_all : (dead : Option ℕ) (skip : Bool) (units : List (ℕ × Parts)) (index : Indexed) → EntriesInTurn
-    → IsIndexOf dead skip units index
+    → AllByRecursion HasNumbers index.programs → AllByRecursion (λ offset. offset < 2 ^ 64) index.units → IsIndexOf dead skip units index
     → GivesAllOf dead skip units (length index.entries)
     (record { units = index.units; programs = index.programs; entries = index.entries; unit = 0; rows = None; last = None })
-gives_all dead skip units index law is =
+gives_all dead skip units index law numbers small is =
     let all = law (kept_sequences dead skip units) index.entries is.settled is.entries is.apart
     (kept_ordered skip (live_sequences dead units) is.ordered) in
     record {
@@ -142,4 +169,5 @@ gives_all dead skip units index law is =
       answers = all.answers;
       whole = whole_spans dead skip units (spans_of all.in_turn) all.in_order all.answers;
       enough = all.count;
+      fits = fitting_spans dead skip units index (spans_of all.in_turn) is numbers small all.permuted;
     }

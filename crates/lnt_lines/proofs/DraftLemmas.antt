@@ -4,6 +4,7 @@ use Rattle.std.specs.Prelude.{Option}
 use Rattle.std.specs.List.{All, AllByRecursion, AllZip}
 use Rattle.std.proofs.lemmas.List.Elements.{All-cons, All-nil, All-weaker}
 use Rattle.lnt_wire.specs.declared.format.Order.{Order}
+use Rattle.lnt_header.specs.HeaderRules.{HasHeaderNumbers}
 use Rattle.lnt_stream.specs.Units.{UnitBytes}
 use Rattle.lnt_unit.specs.declared.unit.Parts.{Parts}
 use Rattle.lnt_unit.proofs.UnitLaws.{unit_is_some}
@@ -83,6 +84,13 @@ rising_from order k (unit ∷ units) bytes (front, back, at, spelled, whole, res
     (offsets_at_least order (k + length front) units back rest))
     (rising_from order (k + length front) units back rest)
 
+-- the numbers of headers that bytes spell can be read
+pub numbers_from : (order : Order) (k : ℕ) (units : List (ℕ × Parts)) (bytes : List ℕ) → UnitsFrom order k units bytes
+    → AllByRecursion (λ (unit : ℕ × Parts). HasHeaderNumbers unit.1.header) units
+numbers_from order k [] bytes u = tt
+numbers_from order k (unit ∷ units) bytes (front, back, at, spelled, whole, rest) =
+    (spelled.spelled.whole.counted.numbers, numbers_from order (k + length front) units back rest)
+
 pub distinct : (order : Order) (dead : Option ℕ) (units : List (ℕ × Parts)) (bytes : List ℕ) → UnitsFrom order 0 units bytes
     → AreDistinct (live_sequences dead units)
 distinct order dead units bytes u = distinct_sequences dead units (offsets_differ order 0 units bytes u)
@@ -100,6 +108,16 @@ usable_tables : (text general : List ℕ) (dead : Option ℕ) (units : List (ℕ
     → AllByRecursion (λ (unit : ℕ × Parts). AreUsableTables text general unit.1.header) units
 usable_tables text general dead [] all = tt
 usable_tables text general dead (unit ∷ units) all = (all.0.well_formed.tables, usable_tables text general dead units all.1)
+
+-- the kept headers are those of the units
+pub kept_numbers : (units : List (ℕ × Parts)) (programs : List Kept) → AllZip (λ unit kept. Keeps kept unit.1) units programs
+    → AllByRecursion (λ (unit : ℕ × Parts). HasHeaderNumbers unit.1.header) units
+    → AllByRecursion (λ (kept : Kept). HasHeaderNumbers kept.header) programs
+kept_numbers [] [] keeps all = tt
+kept_numbers [] (kept ∷ programs) keeps all = absurd keeps
+kept_numbers (unit ∷ units) [] keeps all = tt
+kept_numbers (unit ∷ units) (kept ∷ programs) keeps all =
+    (subst HasHeaderNumbers (sym keeps.0.header_is) all.0, kept_numbers units programs keeps.1 all.1)
 
 pub index_of_draft : (text general : List ℕ) (dead : Option ℕ) (skip : Bool) (units : List (ℕ × Parts)) (draft : Draft)
     (entries : List Extent) → IsDraftOf text general dead units draft → AreRising draft.units.items

@@ -35,7 +35,7 @@ use Rattle.lnt_lines.specs.Indexed.{Indexed, IsIndexOf}
 use Rattle.lnt_lines.specs.Judging.{HasFlaw, IsUnitNo, IsUnitRefusal}
 use Rattle.lnt_lines.specs.Nos.{IsFirstFlaw, IsMalformed, IsTrueNo}
 use Rattle.lnt_lines.specs.Refusals.{stop_refusal}
-use Rattle.lnt_lines.proofs.DraftLemmas.{distinct, rising_from}
+use Rattle.lnt_lines.proofs.DraftLemmas.{distinct, numbers_from, rising_from}
 
 -- ---- units judged one after another
 
@@ -217,6 +217,7 @@ whole_draft text general options section draft all = record {
   dead = options.dead;
   units = all.units;
   draft_is = all.draft_is;
+  numbers = numbers_from options.order 0 all.units all.bytes all.spelled;
   distinct = distinct options.order options.dead all.units all.bytes all.spelled;
   rising = subst AreRising (sym all.draft_is.offsets) (rising_from options.order 0 all.units all.bytes all.spelled);
 }

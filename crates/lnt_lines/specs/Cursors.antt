@@ -8,6 +8,7 @@ use Rattle.lnt_machine.specs.Walking.{Kept, SequenceWalk}
 use Rattle.lnt_spans.specs.declared.position.Position.{Position}
 use Rattle.lnt_spans.specs.declared.span.Span.{Span}
 use Rattle.lnt_spans.specs.Coming.{GivesFirst}
+use Rattle.lnt_spans.specs.Fitting.{FitSpans}
 use Rattle.lnt_spans.specs.Spans.{AreInOrder, span_answer}
 use Rattle.lnt_sequences.specs.declared.extent.Extent.{Extent}
 use Rattle.lnt_sequences.specs.RowSpans.{spans_of}
@@ -52,7 +53,7 @@ GivesHere new spans None = ComeLater spans new
 GivesHere new spans (Some given) = GivesFirst (AreToCome new) spans (Some given)
 
 -- What is to come are the spans of the kept sequences of these units, each once: they are in order, answer as the rows do at
--- every position, tell everything, and are no fewer than so many.
+-- every position, tell everything, and are no fewer than so many. Each of their numbers is of at most 64 bits.
 pub record GivesAllOf (dead : Option ℕ) (skip : Bool) (units : List (ℕ × Parts)) (count : ℕ) (cursor : Cursor) : Type 0 where
   pub spans : List Span
   pub to_come : AreToCome cursor spans
@@ -61,6 +62,7 @@ pub record GivesAllOf (dead : Option ℕ) (skip : Bool) (units : List (ℕ × Pa
   pub answers : (p : Position) → span_answer spans p ≡ line_answer dead skip units p
   pub whole : AreWhole spans
   pub enough : count ≤ length spans
+  pub fits : FitSpans spans
 
 -- ---- how many there are at most
 

@@ -3,6 +3,7 @@
 --     dead            the address at which sequences of dead code begin, where one is given
 use Rattle.std.specs.Prelude.{◌≡◌, ℕ, List, [], ◌∷◌, ◌++◌, map, IfSome, Option}
 use Rattle.std.specs.List.{AllByRecursion, AllZip}
+use Rattle.lnt_header.specs.HeaderRules.{HasHeaderNumbers}
 use Rattle.lnt_stream.specs.Units.{UnitBytes}
 use Rattle.lnt_unit.specs.declared.unit.Parts.{Parts}
 use Rattle.lnt_unit.specs.UnitBytes.{SectionBytes, UnitBytesIn}
@@ -30,11 +31,12 @@ pub record IsDraftOf (line general : List ℕ) (dead : Option ℕ) (units : List
   pub offsets : draft.units.items ≡ map (λ unit. unit.0) units
   pub programs : AllZip (λ unit kept. Keeps kept unit.1) units draft.programs.items
 
--- The draft is of some units that stand in order, with different sequences.
+-- The draft is of some units that stand in order, with different sequences, and with headers whose numbers are such as can be read.
 pub record IsWholeDraft (line general : List ℕ) (draft : Draft) : Type 0 where
   pub dead : Option ℕ
   pub units : List (ℕ × Parts)
   pub draft_is : IsDraftOf line general dead units draft
+  pub numbers : AllByRecursion (λ unit. HasHeaderNumbers unit.1.header) units
   pub distinct : AreDistinct (live_sequences dead units)
   pub rising : AreRising draft.units.items
 

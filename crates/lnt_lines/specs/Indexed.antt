@@ -5,6 +5,7 @@ use Rattle.std.specs.List.{AllByRecursion, AllZip, position, slice_get}
 use Rattle.std.specs.List.Sorted.{IsPermutation}
 use Rattle.std.specs.Option.{option_and_then, option_map, option_map_or}
 use Rattle.lnt_header.specs.declared.header.HeaderParts.{HeaderParts}
+use Rattle.lnt_header.specs.HeaderRules.{HasHeaderNumbers}
 use Rattle.lnt_unit.specs.declared.unit.Parts.{Parts}
 use Rattle.lnt_machine.specs.declared.row.Row.{Row}
 use Rattle.lnt_machine.specs.declared.row.Sequence.{Sequence}
@@ -40,12 +41,13 @@ pub record IsIndexOf (dead : Option ℕ) (skip : Bool) (units : List (ℕ × Par
   pub programs : AllZip (λ unit kept. Keeps kept unit.1) units index.programs
   pub tables : AllByRecursion (λ unit. AreUsableTables index.line index.general unit.1.header) units
 
--- it is that of some units
+-- It is that of some units, and the numbers of their headers are such as can be read.
 pub record IsIndex (index : Indexed) : Type 0 where
   pub dead : Option ℕ
   pub skip : Bool
   pub units : List (ℕ × Parts)
   pub index_is : IsIndexOf dead skip units index
+  pub numbers : AllByRecursion (λ kept. HasHeaderNumbers kept.header) index.programs
 
 -- ---- the files of units
 

@@ -122,14 +122,15 @@ impl<'a> Index<'a> {
 
     /// All spans, one after another: one for each two rows of a kept sequence that follow one another at different
     /// positions. They are in order, none is empty, and each answer tells the instruction set and the discriminator too.
-    /// A sequence is decoded where its spans come next, and there are no fewer spans than sequences that hold anything. It
-    /// takes no memory.
+    /// Each of their numbers is of at most 64 bits, so that it can be written in a table. A sequence is decoded where its
+    /// spans come next, and there are no fewer spans than sequences that hold anything. It takes no memory.
     pub fn spans(&self) -> Spans<'_>
         ensures is_index { IsIndex self.now }
         ensures gives { (dead : Option ℕ) (skip : Bool) (units : List (ℕ × Parts)) → IsIndexOf dead skip units self.now
             → GivesAllOf dead skip units (length self.now.entries) result }
     {
         lnt_sequences::laws::entries_in_turn();
+        offsets_fit(&self.units);
         Spans::of(&self.units, &self.programs, &self.entries)
     }
 
@@ -222,6 +223,11 @@ impl<'a> Index<'a> {
         Some(program.header())
     }
 }
+
+// The offsets of units are of at most 64 bits, as their type says. It does nothing.
+fn offsets_fit(units: &[u64])
+    ensures { AllByRecursion (λ offset. offset < 2 ^ 64) units.now }
+{}
 
 // Whether no instruction of the programs has more than one operation.
 fn are_single(programs: &[Program]) -> bool

@@ -1,10 +1,10 @@
 -- Rows cut into sequences, one row at a time.
-use Rattle.std.proofs.Common.{◌≡◌, true, false, List, [], ◌∷◌, ◌++◌, length, refl, sym, ap, ◌∙◌, append_assoc, arith}
+use Rattle.std.proofs.Common.{◌≡◌, Bool, true, false, cond, List, [], ◌∷◌, ◌++◌, length, refl, sym, ap, ◌∙◌, append_assoc, arith}
 use Rattle.std.specs.List.{AllByRecursion}
 use Rattle.std.proofs.lemmas.List.{append-nil, length-append}
 use Rattle.lnt_machine.specs.declared.row.Row.{Row}
 use Rattle.lnt_machine.specs.declared.row.Sequence.{Sequence}
-use Rattle.lnt_machine.specs.Matrix.{joined_rows, sequences_of}
+use Rattle.lnt_machine.specs.Matrix.{joined_rows, onto_first, sequences_of}
 use Rattle.lnt_machine.specs.Cuts.{AreOpen, IsEnded, IsCut}
 
 pub cut_none : IsCut [] [] []
@@ -81,3 +81,23 @@ cut_open rows left ended row cut closed =
     let all : joined_rows ended ≡ joined_rows ended ++ row ∷ left = ap joined_rows (sym (cut_is rows (row ∷ left) ended cut)) ∙ closed
     ∙ cut.joined in
     omega (arith, ap length all, length-append (joined_rows ended) (row ∷ left))
+
+-- ---- each row
+
+abbrev pub EachRow : (Row → Type 0) → Sequence → Type 0
+EachRow P sequence = AllByRecursion P sequence.rows
+
+each_onto : (P : Row → Type 0) (row : Row) (sequences : List Sequence) → P row → AllByRecursion (EachRow P) sequences
+    → AllByRecursion (EachRow P) (onto_first row sequences)
+each_onto P row [] here rest = tt
+each_onto P row (sequence ∷ sequences) here rest = ((here, rest.0), rest.1)
+
+-- what holds of each row holds of each row of their sequences
+pub each_cut : (P : Row → Type 0) (rows : List Row) → AllByRecursion P rows → AllByRecursion (EachRow P) (sequences_of rows)
+each_cut P [] all = tt
+each_cut P (row ∷ rows) all = by_end row.end_sequence (each_cut P rows all.1)
+  where
+    by_end : (ends : Bool) → AllByRecursion (EachRow P) (sequences_of rows)
+        → AllByRecursion (EachRow P) (cond ends (record { rows = row ∷ [] } ∷ sequences_of rows) (onto_first row (sequences_of rows)))
+    by_end true rest = ((all.0, tt), rest)
+    by_end false rest = each_onto P row (sequences_of rows) all.0 rest

@@ -51,7 +51,7 @@ allowed h view op s a = tt
 
 -- ---- bounds
 
-line_bounded : (z : ℤ) → IsLine z → unsigned_abs z < 2 ^ 32
+pub line_bounded : (z : ℤ) → IsLine z → unsigned_abs z < 2 ^ 32
 line_bounded (pos n) fits = omega (arith, ints, fits.1)
 line_bounded (negsuc n) fits = absurd (omega (arith, ints, fits.0))
 

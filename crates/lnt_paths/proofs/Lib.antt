@@ -1,6 +1,7 @@
 pub mod BeginningLaws
 pub mod BorderLemmas
 pub mod ComparisonLemmas
+pub mod CompletionLaws
 pub mod HeldLemmas
 pub mod HeldOrderLemmas
 pub mod JoiningLemmas
@@ -8,6 +9,7 @@ pub mod LineLemmas
 pub mod MergingLemmas
 pub mod OneComparisonLemmas
 pub mod OneTableLemmas
+pub mod OneWrittenLaws
 pub mod PassingLemmas
 pub mod PathSpanLemmas
 pub mod ReadingLemmas
@@ -16,3 +18,4 @@ pub mod StretchLaws
 pub mod StretchingLemmas
 pub mod UniqueLemmas
 pub mod WriteLemmas
+pub mod WrittenLaws

@@ -165,7 +165,7 @@ stay_on : {X : Type 0} (f g : Position → Option X) (s t : Option X) (at end p 
 stay_on f g s t at end p one two q h k = elim (order_cases q end) [ inl early ↦ one q h early | inr late ↦ two q late k ]
 
 -- at a position in the run: the last stretch still holds it
-told_on : {X : Type 0} (f g : Position → Option X) (at end : Position) (s t : Option X) (told : List (Stretch X))
+pub told_on : {X : Type 0} (f g : Position → Option X) (at end : Position) (s t : Option X) (told : List (Stretch X))
     → AreToldBelow f g at s t told → IsBelow at end → Stay f g s t at end
     → AreToldBelow f g end s t told
 told_on {X} f g at end s t told b lt stay = record {
@@ -186,7 +186,7 @@ told_on {X} f g at end s t told b lt stay = record {
     later (inr going) = inr (λ p h more is. going p (at_most_trans (below_is_at_most lt) h) (stay_on f g s t at end p stay more) is)
 
 -- both sides answer alike up to the end: no stretch
-told_alike : {X : Type 0} (f g : Position → Option X) (at end : Position) (s t s' t' : Option X) (told : List (Stretch X))
+pub told_alike : {X : Type 0} (f g : Position → Option X) (at end : Position) (s t s' t' : Option X) (told : List (Stretch X))
     → AreToldBelow f g at s t told → IsBelow at end → Stay f g s' t' at end → s' ≡ t'
     → AreToldBelow f g end s' t' told
 told_alike f g at end s t s' t' told b lt stay same = record {

@@ -18,7 +18,7 @@ use Rattle.lnt_spans.specs.declared.span.Span.{Span}
 use Rattle.lnt_spans.specs.Spans.{AreInOrder, span_answer}
 use Rattle.lnt_paths.specs.declared.version.PathVersion.{PathVersion}
 use Rattle.lnt_paths.specs.declared.version.PathVersion.TheVariants.{Three, Four}
-use Rattle.lnt_paths.specs.Borders.{HasNoOperation}
+use Rattle.lnt_paths.specs.Borders.{HasNoOperation, HasNoPathOperation}
 use Rattle.lnt_paths.specs.Joining.{AddsPathLine, AllJoinTo, AreFirstOf, HasBegunLines, HasWritten, IsFirstOperation}
 use Rattle.lnt_paths.specs.Joining.{JoinsTo, grown, tell_span}
 use Rattle.lnt_paths.specs.PathAnswers.{PathAnswer}
@@ -119,17 +119,14 @@ line_begun tell version old now new given span empty line w none adds front =
 
 -- ---- the table
 
-abbrev HasNone : PathSpan → Type 0
-HasNone span = (span.low.op ≡ 0) × (span.high.op ≡ 0)
-
 none_by_path : (tell : Answer → PathAnswer) (joined : List Span) → AllByRecursion HasNoOperation joined
-    → AllByRecursion HasNone (map (tell_span tell) joined)
+    → AllByRecursion HasNoPathOperation (map (tell_span tell) joined)
 none_by_path tell [] h = tt
 none_by_path tell (s ∷ joined) h = (h.0, none_by_path tell joined h.1)
 
 plain_records : (tell : Answer → PathAnswer) (version : PathVersion) (records : List Fields) (joined : List Span)
     → AllZip (Says tell version) records joined
-    → AllByRecursion HasNone (map (tell_span tell) joined) → AllZip (IsPlainPathRecord version) records (map (tell_span tell) joined)
+    → AllByRecursion HasNoPathOperation (map (tell_span tell) joined) → AllZip (IsPlainPathRecord version) records (map (tell_span tell) joined)
 plain_records tell version [] [] z h = tt
 plain_records tell version [] (s ∷ joined) z h = absurd z
 plain_records tell version (r ∷ records) [] z h = absurd z
@@ -165,7 +162,7 @@ operation_found tell other list p alike first =
 -- if the joined spans of one list are of whole instructions, so are those of the other
 whole_instructions : (tell : Answer → PathAnswer) (other list joined : List Span) → AnswerAlike other list
     → ((whole : List Span) → AllJoinTo tell other whole → AllByRecursion HasNoOperation whole) → AllJoinTo tell list joined
-    → AllByRecursion HasNone (map (tell_span tell) joined)
+    → AllByRecursion HasNoPathOperation (map (tell_span tell) joined)
 whole_instructions tell other list joined alike none joins =
     let judged = all_join tell other in
     let one = canonical_of tell other list judged.0 alike judged.1 in
@@ -173,7 +170,7 @@ whole_instructions tell other list joined alike none joins =
     let equal : map (tell_span tell) judged.0 ≡ map (tell_span tell) joined =
     one_list (map (tell_span tell) judged.0) (map (tell_span tell) joined) one.canonical two.canonical
     (λ p. one.same p ∙ sym (two.same p)) in
-    subst (AllByRecursion HasNone) equal (none_by_path tell judged.0 (none judged.0 judged.1))
+    subst (AllByRecursion HasNoPathOperation) equal (none_by_path tell judged.0 (none judged.0 judged.1))
 
 pub table_written : (tell : Answer → PathAnswer) (version : PathVersion) (old new : Option (List ℕ)) (other list joined : List Span)
     → AnswerAlike other list
@@ -238,7 +235,7 @@ one_field version xs ys span a b (suc (suc (suc zero))) lt = one_decimal _ _ spa
 one_field version xs ys span a b (suc (suc (suc (suc i)))) lt =
     last_field version xs ys span.answer.column a.says.column b.says.column i lt
 
-one_record : (version : PathVersion) (xs ys : Fields) (span : PathSpan) → IsPlainPathRecord version xs span
+pub one_record : (version : PathVersion) (xs ys : Fields) (span : PathSpan) → IsPlainPathRecord version xs span
     → IsPlainPathRecord version ys span → xs ≡ ys
 one_record version xs ys span a b =
     ext_get_or [] xs ys (a.says.count ∙ sym b.says.count)
@@ -293,9 +290,10 @@ table_begun_none tell version old list order =
       each = tt;
       front = front_none old (records_text (path_column_names version ∷ []));
       of_whole = λ bytes whole. front_none old bytes;
+      decided = inl (keeps_same old);
     }
 
-all_left : (xs ys : List PathSpan) → AllByRecursion HasNone (xs ++ ys) → AllByRecursion HasNone xs
+all_left : (xs ys : List PathSpan) → AllByRecursion HasNoPathOperation (xs ++ ys) → AllByRecursion HasNoPathOperation xs
 all_left [] ys h = tt
 all_left (x ∷ xs) ys h = (h.0, all_left xs ys h.1)
 
@@ -309,8 +307,9 @@ table_begun tell version old new other list first alike none are begun =
     let left = are all.0 all.1 in
     let split : map (tell_span tell) all.0 ≡ map (tell_span tell) first ++ map (tell_span tell) left.0 =
     ap (map (tell_span tell)) left.1 ∙ map-append (tell_span tell) first left.0 in
-    let whole : AllByRecursion HasNone (map (tell_span tell) first ++ map (tell_span tell) left.0) =
-    subst (AllByRecursion HasNone) split (whole_instructions tell other list all.0 alike none all.1) in
+    let instructions = whole_instructions tell other list all.0 alike none all.1 in
+    let whole : AllByRecursion HasNoPathOperation (map (tell_span tell) first ++ map (tell_span tell) left.0) =
+    subst (AllByRecursion HasNoPathOperation) split instructions in
     let canonical = joined_canonical tell list all.0 alike.second all.1 in
     let each = plain_records tell version begun.records first begun.each
     (all_left (map (tell_span tell) first) (map (tell_span tell) left.0) whole) in
@@ -325,6 +324,7 @@ table_begun tell version old new other list first alike none are begun =
       front = begun.front;
       of_whole = front_of_whole version (By tell list) old new (map (tell_span tell) all.0) (map (tell_span tell) first)
           (map (tell_span tell) left.0) begun.records canonical (sym split) each begun.front;
+      decided = inr instructions;
     }
 
 pub instructions_begun : (tell : Answer → PathAnswer) (version : PathVersion) (old new : Option (List ℕ)) (list first : List Span)

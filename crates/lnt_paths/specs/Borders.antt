@@ -10,6 +10,10 @@ use Rattle.lnt_paths.specs.PathSpans.{PathSpan}
 abbrev pub HasNoOperation : Span → Type 0
 HasNoOperation span = (span.low.op ≡ 0) × (span.high.op ≡ 0)
 
+-- the same of a span by path
+abbrev pub HasNoPathOperation : PathSpan → Type 0
+HasNoPathOperation span = (span.low.op ≡ 0) × (span.high.op ≡ 0)
+
 -- all positions where a span begins or ends
 abbrev pub path_borders : List PathSpan → List Position
 path_borders [] = []

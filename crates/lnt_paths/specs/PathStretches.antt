@@ -83,7 +83,3 @@ stretches_of differences = map stretch_of differences
 -- The differences are exactly the stretches, in rising order.
 abbrev pub ArePathStretches : (Position → Option PathAnswer) → (Position → Option PathAnswer) → List DifferenceByPath → Type 0
 ArePathStretches by_section by_table differences = AreStretches by_section by_table (stretches_of differences)
-
--- The differences are the first stretches, in rising order.
-abbrev pub AreFirstPathStretches : (Position → Option PathAnswer) → (Position → Option PathAnswer) → List DifferenceByPath → Type 0
-AreFirstPathStretches by_section by_table differences = AreFirstStretches by_section by_table (stretches_of differences)

@@ -1,7 +1,7 @@
 -- An address table by path, in the form in which it is written.
-use Rattle.std.specs.Prelude.{◌≡◌, ℕ, List, [], ◌∷◌, ◌++◌, Option}
+use Rattle.std.specs.Prelude.{◌≡◌, ◌⊎◌, ℕ, List, [], ◌∷◌, ◌++◌, Option}
 use Rattle.std.specs.Io.KnownBytes.{Appends, Keeps}
-use Rattle.std.specs.List.{AllZip}
+use Rattle.std.specs.List.{AllByRecursion, AllZip}
 use Rattle.csv.specs.Writing.{default_writer, row_text}
 use Rattle.lnt_digits.specs.Digits.{IsPlainAddress, IsPlainDecimal}
 use Rattle.lnt_output.specs.Fronts.{AppendsFront}
@@ -10,7 +10,7 @@ use Rattle.lnt_records.specs.Table.{Fields}
 use Rattle.lnt_paths.specs.declared.version.PathTable.{PathTable}
 use Rattle.lnt_paths.specs.declared.version.PathTable.TheVariants.{OperationIndex, Written}
 use Rattle.lnt_paths.specs.declared.version.PathVersion.{PathVersion}
-use Rattle.lnt_paths.specs.Borders.{IsLeastOperation}
+use Rattle.lnt_paths.specs.Borders.{HasNoPathOperation, IsLeastOperation}
 use Rattle.lnt_paths.specs.PathAnswers.{PathAnswer}
 use Rattle.lnt_paths.specs.PathSpans.{AreCanonicalOf, PathSpan}
 use Rattle.lnt_paths.specs.PathTables.{IsPathTableOf, path_column_names, SaysPathSpan}
@@ -45,7 +45,8 @@ pub record HasOperationIndex (answers : Position → Option PathAnswer) (positio
   pub least : IsLeastOperation spans position
 
 -- The writer has gained a prefix of the header and the lines of the first canonical spans with these answers. Every whole table of them
--- begins with what it has gained.
+-- begins with what it has gained. It has gained nothing, or all of these spans begin and end at operation index 0, so that there is a
+-- whole table of them wherever their numbers are of at most 64 bits.
 pub record BeginsPathTable (version : PathVersion) (answers : Position → Option PathAnswer) (old new : Option (List ℕ)) : Type 0 where
   pub spans : List PathSpan
   pub canonical : AreCanonicalOf answers spans
@@ -56,6 +57,7 @@ pub record BeginsPathTable (version : PathVersion) (answers : Position → Optio
   pub each : AllZip (IsPlainPathRecord version) records first
   pub front : AppendsFront old new (records_text (path_column_names version ∷ records))
   pub of_whole : (bytes : List ℕ) → IsCanonicalPathTable version answers bytes → AppendsFront old new bytes
+  pub decided : Keeps old new ⊎ AllByRecursion HasNoPathOperation spans
 
 -- What came of writing the table of these answers, and what the writer has gained: exactly the bytes of the table, or
 -- nothing where there can't be one.

@@ -18,3 +18,4 @@ pub mod TextLemmas
 pub mod VersionLaws
 pub mod WholeLemmas
 pub mod WriteLemmas
+pub mod WrittenLaws

@@ -88,7 +88,7 @@ answer_taken Number version answer s0 s1 s2 s3 s4 s5 s6 unit file line column is
 
 -- ---- a line
 
-more_said : (Number : List ℕ → ℕ → Type 0) (version : Version) (answer : Answer) (m : Fields) (a b c d e f g h i : List ℕ)
+pub more_said : (Number : List ℕ → ℕ → Type 0) (version : Version) (answer : Answer) (m : Fields) (a b c d e f g h i : List ℕ)
     → AreMoreFields Number version m answer.more
     → (length (a ∷ b ∷ c ∷ d ∷ e ∷ f ∷ g ∷ h ∷ i ∷ m) ≡ column_count version)
     × AreMore Number version (a ∷ b ∷ c ∷ d ∷ e ∷ f ∷ g ∷ h ∷ i ∷ m) answer.more

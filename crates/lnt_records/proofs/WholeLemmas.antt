@@ -1,6 +1,6 @@
--- A span has one plain record, so every plain table of some spans begins with the records of the first of them.
+-- A span has one plain record, so spans have one plain table, and it begins with the records of the first of them.
 use Rattle.std.proofs.Common.{◌≡◌, ◌∙◌, ℕ, zero, suc, ◌<◌, Bool, true, false, List, [], ◌∷◌, ◌++◌, Option, Some, None, get_or}
-use Rattle.std.proofs.Common.{refl, sym, arith}
+use Rattle.std.proofs.Common.{ap, refl, sym, arith}
 use Rattle.std.proofs.lemmas.List.{ext_get_or}
 use Rattle.std.specs.List.{AllZip}
 use Rattle.lnt_digits.specs.Digits.{IsPlainDecimal}
@@ -9,8 +9,8 @@ use Rattle.lnt_spans.specs.declared.answer.More.{More}
 use Rattle.lnt_spans.specs.declared.answer.Version.{Version}
 use Rattle.lnt_spans.specs.declared.answer.Version.TheVariants.{One, Two}
 use Rattle.lnt_spans.specs.declared.span.Span.{Span}
-use Rattle.lnt_records.specs.Table.{AreMore, Fields, IsFlag, column_count}
-use Rattle.lnt_records.specs.Written.{IsPlainRecord}
+use Rattle.lnt_records.specs.Table.{AreMore, Fields, IsFlag, column_count, column_names}
+use Rattle.lnt_records.specs.Written.{IsPlainRecord, IsPlainTable, lines_text}
 
 -- ---- a span has one plain record
 
@@ -52,6 +52,26 @@ same_column version xs ys span a b (suc (suc (suc (suc (suc (suc (suc (suc (suc 
 one_record : (version : Version) (xs ys : Fields) (span : Span) → IsPlainRecord version xs span → IsPlainRecord version ys span → xs ≡ ys
 one_record version xs ys span a b =
     ext_get_or [] xs ys (a.count ∙ sym b.count) (λ i lt. same_column version xs ys span a b i (rw a.count at lt))
+
+-- ---- spans have one plain table
+
+one_records : (version : Version) (xs ys : List Fields) (spans : List Span) → AllZip (IsPlainRecord version) xs spans
+    → AllZip (IsPlainRecord version) ys spans → xs ≡ ys
+one_records version [] [] [] a b = refl
+one_records version [] (y ∷ ys) [] a b = absurd b
+one_records version (x ∷ xs) ys [] a b = absurd a
+one_records version [] ys (s ∷ spans) a b = absurd a
+one_records version (x ∷ xs) [] (s ∷ spans) a b = absurd b
+one_records version (x ∷ xs) (y ∷ ys) (s ∷ spans) a b =
+    let first : x ≡ y = one_record version x y s a.0 b.0 in
+    let others : xs ≡ ys = one_records version xs ys spans a.1 b.1 in
+    cc
+
+pub one_plain : (version : Version) (one other : List ℕ) (spans : List Span) → IsPlainTable version one spans
+    → IsPlainTable version other spans → one ≡ other
+one_plain version one other spans a b = a.lines
+    ∙ ap (λ (records : List Fields). lines_text (column_names version ∷ records)) (one_records version a.records b.records spans a.each b.each)
+    ∙ sym b.lines
 
 -- ---- the records of the first spans begin those of all
 

@@ -160,7 +160,7 @@ records_of_lines version records spans z =
     let read = lines_read (column_names version ∷ records) quiet in
     (st.StartRecord, [], rw (no_mark version records) (rw (quiet_lines (column_names version ∷ records) quiet) at read), none_left)
 
-written_table : (version : Version) (bytes : List ℕ) (records : List Fields) (spans : List Span)
+pub written_table : (version : Version) (bytes : List ℕ) (records : List Fields) (spans : List Span)
     → AllZip (IsPlainRecord version) records spans → AreInOrder spans
     → bytes ≡ lines_text (column_names version ∷ records) → IsWrittenTable version bytes spans
 written_table version bytes records spans z o e = record {

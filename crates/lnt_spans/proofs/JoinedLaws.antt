@@ -14,7 +14,7 @@ use Rattle.lnt_spans.proofs.JoinerLemmas.{joined_all, joined_first, joined_given
 
 -- ---- whether two spans join
 
-joins_or_not : (last next : Span)
+pub joins_or_not : (last next : Span)
     → ((last.high ≡ next.low) × (last.answer ≡ next.answer)) ⊎ (last.high ≡ next.low → last.answer ≢ next.answer)
 joins_or_not last next = elim (same_positions last.high next.low) [
   | inr apart ↦ inr (λ touch. absurd (apart touch))

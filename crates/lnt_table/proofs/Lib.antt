@@ -5,5 +5,6 @@ mod PathLemmas
 mod StretchLemmas
 mod WriteLemmas
 pub mod OneVerdictLemmas
+pub mod OneWrittenLemmas
 mod AnyLawLemmas
 pub mod OneCheckLemmas

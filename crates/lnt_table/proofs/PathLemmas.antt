@@ -1,12 +1,20 @@
--- A table by path that was written for some answers was also written for the same answers given by another function.
-use Rattle.std.proofs.Common.{◌≡◌, ◌∙◌, ℕ, List, Option, sym}
+-- Tables by path. One that was written for some answers was also written for the same answers given by another function.
+use Rattle.std.proofs.Common.{◌≡◌, ◌∙◌, ◌⊎◌, inl, inr, ℕ, List, Option}
+use Rattle.std.specs.Io.KnownBytes.{Keeps}
+use Rattle.std.specs.List.{AllByRecursion}
 use Rattle.lnt_paths.specs.declared.version.PathTable.{PathTable}
 use Rattle.lnt_paths.specs.declared.version.PathTable.TheVariants.{OperationIndex, Written}
 use Rattle.lnt_paths.specs.declared.version.PathVersion.{PathVersion}
-use Rattle.lnt_paths.specs.PathAnswers.{PathAnswer}
+use Rattle.lnt_paths.specs.Borders.{HasNoPathOperation, IsLeastOperation}
+use Rattle.lnt_paths.specs.PathAnswers.{PathAnswer, spans_by_path}
 use Rattle.lnt_paths.specs.PathSpans.{AreCanonicalOf, PathSpan}
 use Rattle.lnt_paths.specs.Written.{BeginsPathTable, HasBecome, IsCanonicalPathTable}
+use Rattle.lnt_paths.proofs.WrittenLaws.{no_operation_or_least, whole_or_none}
 use Rattle.lnt_spans.specs.declared.position.Position.{Position}
+use Rattle.lnt_spans.specs.declared.span.Span.{Span}
+use Rattle.lnt_spans.specs.Fitting.{FitSpans}
+use Rattle.lnt_spans.specs.Spans.{AreInOrder}
+use Rattle.lnt_table.specs.Written.{BeginsPaths, BeginsTableByPath}
 
 canonical_so : (f g : Position → Option PathAnswer) (spans : List PathSpan) → ((p : Position) → f p ≡ g p) → AreCanonicalOf f spans
     → AreCanonicalOf g spans
@@ -24,16 +32,39 @@ becomes_so version f g old new Written e h = (h.0, h.1, whole_so version f g h.0
 becomes_so version f g old new (OperationIndex position) e h =
     (h.0, record { spans = h.1.spans; canonical = canonical_so f g h.1.spans e h.1.canonical; least = h.1.least })
 
-pub begins_so : (version : PathVersion) (f g : Position → Option PathAnswer) (old new : Option (List ℕ)) → ((p : Position) → f p ≡ g p)
-    → BeginsPathTable version f old new → BeginsPathTable version g old new
-begins_so version f g old new e h = record {
-  spans = h.spans;
-  canonical = canonical_so f g h.spans e h.canonical;
-  first = h.first;
-  rest = h.rest;
-  joined = h.joined;
-  records = h.records;
-  each = h.each;
-  front = h.front;
-  of_whole = λ bytes whole. h.of_whole bytes (whole_so version g f bytes (λ p. sym (e p)) whole);
-}
+-- ---- tables whose writing was stopped
+
+-- a whole table, of which a front was gained
+table_begun : (version : PathVersion) (path : ℕ → ℕ → List ℕ) (given : List Span) (answers : Position → Option PathAnswer)
+    (old new : Option (List ℕ)) → AreInOrder given → FitSpans given → ((p : Position) → spans_by_path version path given p ≡ answers p)
+    → (begun : BeginsPathTable version (spans_by_path version path given) old new) → AllByRecursion HasNoPathOperation begun.spans
+    → BeginsTableByPath version answers old new
+table_begun version path given answers old new order fits e begun none =
+    let table = whole_or_none version path given begun.spans order fits begun.canonical none in
+    record {
+      whole = table.0;
+      is_table = whole_so version (spans_by_path version path given) answers table.0 e table.1;
+      front = begun.of_whole table.0 table.1;
+    }
+
+-- the least position that no table by path can tell
+none_begun : (version : PathVersion) (f answers : Position → Option PathAnswer) (old new : Option (List ℕ)) (spans : List PathSpan)
+    (position : Position) → ((p : Position) → f p ≡ answers p) → AreCanonicalOf f spans → IsLeastOperation spans position → Keeps old new
+    → HasBecome version answers old new (OperationIndex position)
+none_begun version f answers old new spans position e canonical least kept =
+    (kept, record { spans = spans; canonical = canonical_so f answers spans e canonical; least = least })
+
+-- What was gained is a front of the table of these spans; or there is none, and nothing was gained.
+pub paths_begun : (version : PathVersion) (path : ℕ → ℕ → List ℕ) (given : List Span) (answers : Position → Option PathAnswer)
+    (old new : Option (List ℕ)) → AreInOrder given → FitSpans given → ((p : Position) → spans_by_path version path given p ≡ answers p)
+    → BeginsPathTable version (spans_by_path version path given) old new → BeginsPaths version answers old new
+paths_begun version path given answers old new order fits e begun = elim begun.decided [
+  | inr none ↦ inl (table_begun version path given answers old new order fits e begun none)
+  | inl kept ↦ elim (no_operation_or_least begun.spans) [
+    | inl none ↦ inl (table_begun version path given answers old new order fits e begun none)
+    | inr least ↦ inr (
+      least.0,
+      none_begun version (spans_by_path version path given) answers old new begun.spans least.0 e begun.canonical least.1 kept,
+    )
+  ]
+]

@@ -1,7 +1,8 @@
 -- The laws of verdicts and of answers of `check_any`.
-use Rattle.std.specs.Prelude.{◌≡◌, ℕ, List}
+use Rattle.std.specs.Prelude.{◌≡◌, Bool, ℕ, List, Option}
 use Rattle.lnt_unit.specs.declared.unit.Parts.{Parts}
 use Rattle.lnt_spans.specs.declared.answer.Version.{Version}
+use Rattle.lnt_spans.specs.declared.position.Position.{Position}
 use Rattle.lnt_lines.specs.declared.options.Options.{Options}
 use Rattle.lnt_lines.specs.Contents.{Contents}
 use Rattle.lnt_lines.specs.Drafts.{AreLinesOf, IsIndexOfSection}
@@ -10,6 +11,7 @@ use Rattle.lnt_lines.specs.Indexed.{file_path_in, Indexed}
 use Rattle.lnt_paths.specs.declared.answer.ComparedByPath.TheVariants.{Same}
 use Rattle.lnt_paths.specs.declared.version.PathVersion.{PathVersion}
 use Rattle.lnt_paths.specs.Laws.{told_by_path}
+use Rattle.lnt_paths.specs.PathAnswers.{PathAnswer}
 use Rattle.lnt_paths.specs.Written.{IsCanonicalPathTable}
 use Rattle.lnt_table.specs.declared.by_path.Checked.{Checked}
 use Rattle.lnt_table.specs.declared.by_path.Checked.TheVariants.{Numbered, ByPath}
@@ -43,6 +45,13 @@ OwnTableOfUnits =
     (line general : List ℕ) (options : Options) (section table : List ℕ) (units : List (ℕ × Parts)) (version : Version) (verdict : Verdict)
     → IsGood line general options section units → IsTableOfUnits version options.dead options.skip_copies units table
     → IsTrueVerdict line general options section table verdict → verdict ≡ Yes
+
+-- The rows of some units have one table of each version, byte for byte, and so have answers by path.
+pub record OneWritten : Type 0 where
+  pub of_units : (version : Version) (dead : Option ℕ) (skip : Bool) (units : List (ℕ × Parts)) (one other : List ℕ)
+      → IsTableOfUnits version dead skip units one → IsTableOfUnits version dead skip units other → one ≡ other
+  pub by_path : (version : PathVersion) (answers : Position → Option PathAnswer) (one other : List ℕ)
+      → IsCanonicalPathTable version answers one → IsCanonicalPathTable version answers other → one ≡ other
 
 -- ---- checks of a table of any version
 

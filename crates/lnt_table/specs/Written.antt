@@ -1,12 +1,16 @@
--- The table that is written of a section's lines.
-use Rattle.std.specs.Prelude.{◌≡◌, Bool, ℕ, List, Option}
+-- The tables that are written of a section's lines.
+use Rattle.std.specs.Prelude.{◌≡◌, ◌⊎◌, Bool, ℕ, List, Option}
 use Rattle.lnt_output.specs.Fronts.{AppendsFront}
 use Rattle.lnt_unit.specs.declared.unit.Parts.{Parts}
 use Rattle.lnt_spans.specs.declared.answer.Version.{Version}
 use Rattle.lnt_spans.specs.declared.position.Position.{Position}
 use Rattle.lnt_spans.specs.declared.span.Span.{Span}
 use Rattle.lnt_spans.specs.Spans.{IsCanonical, span_answer, version_answer}
-use Rattle.lnt_records.specs.Written.{BeginsTable, IsWrittenTable}
+use Rattle.lnt_records.specs.Written.{IsWrittenTable}
+use Rattle.lnt_paths.specs.declared.version.PathTable.TheVariants.{OperationIndex}
+use Rattle.lnt_paths.specs.declared.version.PathVersion.{PathVersion}
+use Rattle.lnt_paths.specs.PathAnswers.{PathAnswer}
+use Rattle.lnt_paths.specs.Written.{HasBecome, IsCanonicalPathTable}
 use Rattle.lnt_table.specs.Headline.{told_answer}
 
 -- The bytes are a table of this version, on plain lines, of the canonical spans that answer as the section's spans do,
@@ -24,12 +28,23 @@ pub record IsTableOfUnits (version : Version) (dead : Option ℕ) (skip : Bool) 
   pub same : (p : Position) → span_answer spans p ≡ told_answer version dead skip units p
   pub written : IsWrittenTable version bytes spans
 
--- A writer that held some bytes has gained a front of the names of the columns and the lines of the first of these spans, and
--- every table of these units begins with what it has gained.
+-- ---- tables whose writing was stopped
+--     old, new    the known bytes that the writer holds before and afterwards
+
+-- The writer has gained a front of a table of these units. There is one such table, by the law `one_written`.
 pub record BeginsTableOfUnits (version : Version) (dead : Option ℕ) (skip : Bool) (units : List (ℕ × Parts)) (old new : Option (List ℕ))
     : Type 0 where
-  pub spans : List Span
-  pub canonical : IsCanonical spans
-  pub same : (p : Position) → span_answer spans p ≡ told_answer version dead skip units p
-  pub begun : BeginsTable version spans old new
-  pub of_whole : (bytes : List ℕ) → IsTableOfUnits version dead skip units bytes → AppendsFront old new bytes
+  pub whole : List ℕ
+  pub is_table : IsTableOfUnits version dead skip units whole
+  pub front : AppendsFront old new whole
+
+-- The writer has gained a front of the table by path with these answers. There is one such table, by the same law.
+pub record BeginsTableByPath (version : PathVersion) (answers : Position → Option PathAnswer) (old new : Option (List ℕ)) : Type 0 where
+  pub whole : List ℕ
+  pub is_table : IsCanonicalPathTable version answers whole
+  pub front : AppendsFront old new whole
+
+-- That; or there can't be a table by path with these answers, and the writer has gained nothing.
+abbrev pub BeginsPaths : PathVersion → (Position → Option PathAnswer) → Option (List ℕ) → Option (List ℕ) → Type 0
+BeginsPaths version answers old new = BeginsTableByPath version answers old new
+    ⊎ ((position : Position) × HasBecome version answers old new (OperationIndex position))

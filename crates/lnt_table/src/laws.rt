@@ -1,6 +1,7 @@
 //! Laws of answers and verdicts, each the contract of a function without parameters that does nothing.
 ghost use Rattle.lnt_spans.specs.Laws.{Borders};
-ghost use Rattle.lnt_table.specs.Laws.{OneCheck, OneNumbered, OnePath, OneVerdict, OnlyYes, OwnTable, OwnTableByPath, OwnTableOfUnits};
+ghost use Rattle.lnt_table.specs.Laws.{OneCheck, OneNumbered, OnePath, OneVerdict, OneWritten, OnlyYes};
+ghost use Rattle.lnt_table.specs.Laws.{OwnTable, OwnTableByPath, OwnTableOfUnits};
 
 /// Two lists of spans, each in order and with no empty span, that give the same answer wherever a span of either begins or
 /// ends give the same answer at every position. So the spans of a table and of a section need comparing at their borders
@@ -50,6 +51,12 @@ pub fn own_table_of_units()
 {
     only_yes();
 }
+
+/// The rows of some units have one written table of each version, byte for byte, and so have answers by path. So what
+/// `write_index` and `write_paths` write is determined, and so is what they have written a front of where they stop.
+pub fn one_written()
+    ensures { OneWritten }
+{}
 
 /// Where `Numbered` of a verdict is true of a section, a table and a choice of options, no other answer of `check_any` is:
 /// neither another verdict nor an answer by path.

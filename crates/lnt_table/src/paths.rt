@@ -2,8 +2,9 @@
 ghost use Rattle.std.specs.Prelude.{◌≡◌, Bool, ℕ, List, Option, IfOk, OnErr};
 ghost use Rattle.lnt_unit.specs.declared.unit.Parts.{Parts};
 ghost use Rattle.lnt_lines.specs.Indexed.{IsIndexOf};
-ghost use Rattle.lnt_paths.specs.Written.{BeginsPathTable, HasBecome};
+ghost use Rattle.lnt_paths.specs.Written.{HasBecome};
 ghost use Rattle.lnt_table.specs.ByPath.{path_at, told_path};
+ghost use Rattle.lnt_table.specs.Written.{BeginsPaths};
 
 use lnt_lines::Index;
 use lnt_paths::{PathTable, PathVersion, Paths, write_by_path, write_instructions_by_path};
@@ -47,7 +48,7 @@ impl<'i, 'a> Paths for IndexPaths<'i, 'a> {
 /// nothing was written.
 ///
 /// It stops by `Memory` (33) where memory ran out, and by `Write` (42) where the writer refused some bytes. Where it stops,
-/// the writer has gained a front of the column names and the lines of the first canonical spans.
+/// the writer has gained a front of that table; or there can't be one, and it has gained nothing.
 pub fn write_paths<W: Write>(
     alloc: Global,
     index: &Index<'_>,
@@ -57,7 +58,7 @@ pub fn write_paths<W: Write>(
     ensures table { IfOk result (λ table. (dead : Option ℕ) (skip : Bool) (units : List (ℕ × Parts)) → IsIndexOf dead skip units index.now
         → HasBecome version (told_path version index.now dead skip units) (W.contents out.old) (W.contents out.new) table) }
     ensures begun { OnErr result ((dead : Option ℕ) (skip : Bool) (units : List (ℕ × Parts)) → IsIndexOf dead skip units index.now
-        → BeginsPathTable version (told_path version index.now dead skip units) (W.contents out.old) (W.contents out.new)) }
+        → BeginsPaths version (told_path version index.now dead skip units) (W.contents out.old) (W.contents out.new)) }
 {
     let paths = IndexPaths { index };
     if index.has_single_operations() {

@@ -42,7 +42,8 @@ pub fn write_table<W: Write>(
 ///
 /// Where it answers Ok, the writer has gained bytes that are a table of exactly the canonical spans that answer as the
 /// rows of the units do, as far as the version tells: the one shortest table that does. These are the bytes that
-/// `write_table` writes for the lines of the units, and it stops as `write_table` does.
+/// `write_table` writes for the lines of the units. It stops as `write_table` does; then the writer has gained a front of
+/// that table.
 pub fn write_index<W: Write>(
     alloc: Global,
     index: &Index<'_>,

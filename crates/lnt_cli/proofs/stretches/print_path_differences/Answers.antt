@@ -1,7 +1,7 @@
-use Rattle.std.proofs.Common.{rules, [], ◌∷◌, inl, refl}
+use Rattle.std.proofs.Common.{rules, [], ◌∷◌, refl}
 use Rattle.lnt_output.proofs.FrontLaws.{so_stopped}
-use Rattle.lnt_cli.proofs.PathStretchLemmas.{printed_first_path, printed_more_path}
-use Rattle.lnt_cli.proofs.PathStretchLemmas.{stopped_before_path, stopped_between_path, stopped_first_path, stopped_more_path}
+use Rattle.lnt_cli.proofs.PathStretchLemmas.{printed_first_path, printed_more_path, stopped_at_none_path, stopped_before_path}
+use Rattle.lnt_cli.proofs.PathStretchLemmas.{stopped_between_path, stopped_first_path, stopped_more_path}
 use Rattle.lnt_cli.proofs.stretches.print_path_differences.Goals as goal
 
 pub returns-in_err-first-clause-begun : goal.returns-in_err-first-clause-begun
@@ -17,7 +17,8 @@ returns-in_default-clause-lines g c f f' h =
 pub returns-in_err-write_whole-clause-begun : goal.returns-in_err-write_whole-clause-begun
 returns-in_err-write_whole-clause-begun g c =
     so_stopped c.from_residual-in_err-write_whole.result _
-    (λ f f' h. inl (rw c.in_default.is at c.in_ok-first.ensures.told f f' [] h, c.in_err-write_whole.ensures.front))
+    (λ f f' h. stopped_at_none_path f f' (g.W.Write.contents c.args.out.now) (g.W.Write.contents c.write_whole.new.out)
+    (rw c.in_default.is at c.in_ok-first.ensures.told f f' [] h) c.in_err-write_whole.ensures.front)
 
 pub returns-in_err-print_path_difference-clause-begun : goal.returns-in_err-print_path_difference-clause-begun
 returns-in_err-print_path_difference-clause-begun g c =

@@ -1,5 +1,6 @@
-use Rattle.std.proofs.Common.{◌∙◌, sym}
+use Rattle.std.proofs.Common.{◌∙◌}
 use Rattle.std.proofs.lemmas.Result.{on_err_weaker, on_ok_weaker}
+use Rattle.lnt_records.proofs.WrittenLaws.{whole_canonical}
 use Rattle.lnt_table.proofs.CheckLemmas.{told_so}
 use Rattle.lnt_table.proofs.write.write_index.Goals as goal
 
@@ -32,18 +33,16 @@ returns-clause-begun g c =
     on_err_weaker c.write_canonical.result
     (λ done dead skip units is.
     let all = c.spans.ensures.gives dead skip units is in
-    let table = done all.spans all.to_come all.in_order in
+    let begun = done all.spans all.to_come all.in_order in
+    let table = whole_canonical c.args.version all.spans all.in_order all.whole all.fits in
     record {
-      spans = table.spans;
-      canonical = table.canonical;
-      same = λ p. table.same p ∙ told_so c.args.version dead skip units all.spans all.answers p;
-      begun = table.begun;
-      of_whole = λ bytes whole.
-          table.of_whole bytes (record {
-            spans = whole.spans;
-            canonical = whole.canonical;
-            same = λ p. whole.same p ∙ sym (told_so c.args.version dead skip units all.spans all.answers p);
-            written = whole.written;
-          });
+      whole = table.0;
+      is_table = record {
+        spans = table.1.spans;
+        canonical = table.1.canonical;
+        same = λ p. table.1.same p ∙ told_so c.args.version dead skip units all.spans all.answers p;
+        written = table.1.written;
+      };
+      front = begun.of_whole table.0 table.1;
     })
     c.write_canonical.ensures.begun

@@ -1,4 +1,5 @@
-use Rattle.std.proofs.Common.{subst, sym}
+use Rattle.std.proofs.Common.{subst, sym, ◌<◌, ◌^◌}
+use Rattle.std.specs.List.{AllByRecursion}
 use Rattle.lnt_lines.specs.Indexed.{Indexed, IsIndexOf}
 use Rattle.lnt_lines.proofs.CursorLemmas.{gives_all}
 use Rattle.lnt_lines.proofs.index.Index.spans.Goals as goal
@@ -12,5 +13,7 @@ returns-clause-gives c dead skip units is =
       units = c.self.inside.units.items;
       programs = c.self.inside.programs.items;
     } in
-    rw (c.of.ensures, c.deref.ensures.value, c.deref-2.ensures.value, c.deref-3.ensures.value, ← c.self.view_is)
-    (gives_all dead skip units index c.entries_in_turn.ensures (subst (IsIndexOf dead skip units) (sym c.self.view_is) is))
+    let small : AllByRecursion (λ offset. offset < 2 ^ 64) index.units = rw c.deref.ensures.value at c.offsets_fit.ensures in
+    rw (c.of.ensures, c.deref-2.ensures.value, c.deref-3.ensures.value, c.deref-4.ensures.value, ← c.self.view_is)
+    (gives_all dead skip units index c.entries_in_turn.ensures c.self.invariant.numbers small
+    (subst (IsIndexOf dead skip units) (sym c.self.view_is) is))

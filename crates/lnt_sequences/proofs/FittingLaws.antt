@@ -1,0 +1,37 @@
+-- Where programs are kept, the numbers of their rows are of at most 64 bits, and so are those of the spans between these.
+use Rattle.std.proofs.Common.{ℕ, ◌^◌, ◌<◌, Bool, List, [], ◌∷◌, Option}
+use Rattle.std.specs.List.{All, AllByRecursion, AllZip}
+use Rattle.lnt_unit.specs.declared.unit.Parts.{Parts}
+use Rattle.lnt_machine.specs.Walking.{Keeps, Kept}
+use Rattle.lnt_machine.proofs.FittingLaws.{FitsRow, HasNumbers, kept_fits}
+use Rattle.lnt_spans.specs.Fitting.{FitsSpan}
+use Rattle.lnt_sequences.specs.RowSpans.{spans_of}
+use Rattle.lnt_sequences.specs.Sequences.{kept_sequences}
+use Rattle.lnt_sequences.proofs.EachLaws.{Between, each_kept_span, EachIn}
+
+abbrev IsSmall : ℕ → Type 0
+IsSmall offset = offset < 2 ^ 64
+
+between_fits : Between IsSmall FitsRow FitsSpan
+between_fits unit row next small one other = record {
+  low = record { address = one.address; op = one.op_index };
+  high = record { address = other.address; op = other.op_index };
+  answer = record { unit = small; file = one.file; line = one.line; column = one.column; more = (one.isa, one.discriminator) };
+}
+
+units_fit : (units : List (ℕ × Parts)) (programs : List Kept) → AllZip (λ unit kept. Keeps kept unit.1) units programs
+    → AllByRecursion HasNumbers programs → AllByRecursion (λ (unit : ℕ × Parts). unit.0 < 2 ^ 64) units
+    → AllByRecursion (EachIn IsSmall FitsRow) units
+units_fit [] programs keeps numbers small = tt
+units_fit (unit ∷ units) [] keeps numbers small = absurd keeps
+units_fit (unit ∷ units) (kept ∷ programs) keeps numbers small = (
+  record { offset = small.0; rows = kept_fits kept unit.1 numbers.0 keeps.0 },
+  units_fit units programs keeps.1 numbers.1 small.1,
+)
+
+-- The spans of the kept sequences of units fit, where their programs are kept and their offsets fit.
+pub kept_spans_fit : (dead : Option ℕ) (skip : Bool) (units : List (ℕ × Parts)) (programs : List Kept)
+    → AllZip (λ unit kept. Keeps kept unit.1) units programs → AllByRecursion HasNumbers programs
+    → AllByRecursion (λ (unit : ℕ × Parts). unit.0 < 2 ^ 64) units → All FitsSpan (spans_of (kept_sequences dead skip units))
+kept_spans_fit dead skip units programs keeps numbers small =
+    each_kept_span IsSmall FitsRow FitsSpan dead skip units between_fits (units_fit units programs keeps numbers small)
