@@ -22,7 +22,8 @@ use Rattle.lnt_files.specs.Contents.{content_path, content_directory_index, cont
 use Rattle.lnt_files.specs.declared.components.Places.{Places}
 use Rattle.lnt_files.specs.declared.components.Usual.TheVariants.{Path, IndexedPath, SummedPath}
 use Rattle.lnt_files.specs.declared.walk.EntryView.{EntryView}
-use Rattle.lnt_files.specs.Walks.{Says, ReadsEntry, contents_of, IsUsual, ArePlaces, IsKept, AreKept}
+use Rattle.lnt_files.specs.Walks.{Says, contents_of, IsUsual, ArePlaces}
+use Rattle.lnt_files.specs.Stepping.{ReadsEntry, IsKept, AreKept}
 
 -- ---- the usual formats
 

@@ -14,7 +14,8 @@ use Rattle.lnt_header.specs.declared.header.Pair.{Pair}
 use Rattle.lnt_files.specs.declared.components.Places.{Places}
 use Rattle.lnt_files.specs.declared.components.Usual.{Usual}
 use Rattle.lnt_files.specs.declared.walk.EntryView.{EntryView}
-use Rattle.lnt_files.specs.Walks.{IsUsual, ArePlaces, ReadsEntry, GivesEntry, left_of, IsWalk}
+use Rattle.lnt_files.specs.Walks.{IsUsual, ArePlaces, GivesEntry, left_of, IsWalk}
+use Rattle.lnt_files.specs.Stepping.{ReadsEntry}
 
 table_with : BorrowedTable → List Entry → BorrowedTable
 table_with table entries = record table { entries = entries }

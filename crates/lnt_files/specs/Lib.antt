@@ -3,7 +3,8 @@ pub mod Files
 pub mod Kept
 pub mod Paths
 pub mod Pieces
-pub mod Tables
-pub mod Walks
 pub mod Seen
+pub mod Stepping
+pub mod Tables
 pub mod TextEnds
+pub mod Walks

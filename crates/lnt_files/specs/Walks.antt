@@ -1,18 +1,11 @@
 -- Entries that are read where they lie, one after another.
 use Rattle.std.specs.Prelude.{◌≡◌, ℕ, List, [], ◌∷◌, map, Option, Some, None}
-use Rattle.std.specs.List.{slice_get}
-use Rattle.std.specs.Option.{option_map, option_and_then}
+use Rattle.std.specs.Option.{option_map}
 use Rattle.lnt_wire.specs.At.{At}
 use Rattle.lnt_wire.specs.Borrowed.{value_of}
-use Rattle.lnt_wire.specs.Reading.{Reads}
-use Rattle.lnt_wire.specs.declared.form.Form.{Form}
 use Rattle.lnt_wire.specs.declared.form.Form.TheVariants.{LineStrp, Udata, Data16}
-use Rattle.lnt_wire.specs.declared.form.FormValue.{FormValue}
-use Rattle.lnt_wire.specs.declared.format.Format.{Format}
-use Rattle.lnt_wire.specs.declared.view.ValueView.{ValueView}
 use Rattle.lnt_header_bytes.specs.Borrowed.{BorrowedTable, borrowed_table, AreEntryBytes}
 use Rattle.lnt_header_bytes.specs.Layouts.{forms_of}
-use Rattle.lnt_header_bytes.specs.TableBytes.{EntryBytes}
 use Rattle.lnt_header.specs.declared.header.Entry.{Entry}
 use Rattle.lnt_header.specs.declared.header.Pair.{Pair}
 use Rattle.lnt_files.specs.declared.components.Places.{Places}
@@ -43,16 +36,6 @@ EntryStep old (Some view) new = GivesEntry old view new
 
 -- ---- how it is read
 
--- the read of an entry, and what it says
-pub record ReadsEntry (format : Format) (pairs : List Pair) (view : EntryView) (old new : At) : Type 0 where
-  pub entry : Entry
-  pub says : Says pairs entry view
-  pub read : Reads (EntryBytes format old.order pairs) entry old new
-
--- a pair of this content type and form
-abbrev pub IsPair : ℕ → Form → Pair → Type 0
-IsPair content form pair = (pair.content ≡ content) × (pair.form ≡ form)
-
 -- these content types, in these forms
 abbrev pub contents_of : List Pair → List ℕ
 contents_of pairs = map (λ pair. pair.content) pairs
@@ -68,15 +51,6 @@ pub record ArePlaces (places : Places) (pairs : List Pair) : Type 0 where
   pub path : places.path ≡ place_of content_path pairs
   pub directory : places.directory ≡ place_of content_directory_index pairs
   pub sum : places.sum ≡ place_of content_md5 pairs
-
--- the component is the value at the place, if that was read
-abbrev pub IsKept : Option ℕ → List FormValue → Option ValueView → Type 0
-IsKept place values kept = option_map value_of kept ≡ option_and_then (slice_get values) place
-
-pub record AreKept (places : Places) (values : List FormValue) (view : EntryView) : Type 0 where
-  pub path : IsKept places.path values view.path
-  pub directory : IsKept places.directory values view.directory
-  pub sum : IsKept places.sum values view.sum
 
 -- the table with the entries that are left
 abbrev pub left_of : BorrowedTable → ℕ → At → BorrowedTable

@@ -6,7 +6,8 @@ ghost use Rattle.lnt_wire.specs.Bytes.{NoneSpelled};
 ghost use Rattle.lnt_wire.specs.declared.form.FormValue.{FormValue};
 ghost use Rattle.lnt_wire.specs.declared.form.Form.TheVariants.{LineStrp, Udata, Data16};
 ghost use Rattle.lnt_files.specs.Contents.{content_path, content_directory_index, content_md5};
-ghost use Rattle.lnt_files.specs.Walks.{IsPair, IsUsual, ArePlaces, IsKept, AreKept, ReadsEntry};
+ghost use Rattle.lnt_files.specs.Walks.{IsUsual, ArePlaces};
+ghost use Rattle.lnt_files.specs.Stepping.{IsPair, IsKept, AreKept, ReadsEntry};
 
 use crate::contents::{DIRECTORY_INDEX, MD5, PATH, place_of};
 use crate::walk::EntryView;

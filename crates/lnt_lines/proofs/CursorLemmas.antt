@@ -21,7 +21,8 @@ use Rattle.lnt_sequences.proofs.KeptLaws.{kept_ordered}
 use Rattle.lnt_sequences.specs.RowSpans.{row_spans, spans_of}
 use Rattle.lnt_sequences.specs.Sequences.{kept_sequences, live_sequences, Placed}
 use Rattle.lnt_sequences.specs.Spanning.{GivesSpan, HasSpans, rows_left}
-use Rattle.lnt_lines.specs.Cursors.{AreToCome, ComeLater, Cursor, GivesAllOf, GivesHere, room_for, room_of, rows_here}
+use Rattle.lnt_lines.specs.Cursors.{AreToCome, ComeLater, Cursor, GivesAllOf, room_for, room_of, rows_here}
+use Rattle.lnt_lines.specs.Stepping.{GivesHere}
 use Rattle.lnt_lines.specs.Indexed.{Indexed, IsIndexOf, IsSequenceIn}
 use Rattle.lnt_lines.proofs.IndexLemmas.{sequence_in}
 use Rattle.lnt_lines.proofs.WholeLemmas.{whole_spans}

@@ -20,7 +20,7 @@ use Rattle.lnt_sequences.specs.Sequences.{kept_sequences, live_in, live_sequence
 use Rattle.lnt_spans.proofs.EachTwoLaws.{pairs_cons, pairs_nil}
 use Rattle.lnt_lines.specs.declared.draft.Draft.{Draft}
 use Rattle.lnt_lines.specs.Contents.{AreRising}
-use Rattle.lnt_lines.specs.Drafts.{HasAdded, IsDraftOf}
+use Rattle.lnt_lines.specs.Stepping.{HasAdded, IsDraftOf}
 use Rattle.lnt_lines.specs.Good.{IsSound}
 use Rattle.lnt_lines.specs.Indexed.{IsIndexOf}
 use Rattle.lnt_lines.specs.Judging.{IsJudgedSound}

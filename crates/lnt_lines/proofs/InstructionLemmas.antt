@@ -19,7 +19,8 @@ use Rattle.lnt_sequences.specs.RowSpans.{spans_of}
 use Rattle.lnt_sequences.specs.Sequences.{kept_sequences}
 use Rattle.lnt_sequences.proofs.EachLaws.{each_kept_span, EachIn}
 use Rattle.lnt_lines.specs.Indexed.{Indexed, IsIndexOf}
-use Rattle.lnt_lines.specs.Instructions.{HasOneOperation, IsOfInstructions}
+use Rattle.lnt_lines.specs.Instructions.{IsOfInstructions}
+use Rattle.lnt_lines.specs.Stepping.{HasOneOperation}
 
 -- ---- rows
 

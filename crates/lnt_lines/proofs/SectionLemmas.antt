@@ -30,7 +30,8 @@ use Rattle.lnt_lines.specs.declared.options.Options.{Options}
 use Rattle.lnt_lines.specs.declared.refusal.Refusal.{Refusal}
 use Rattle.lnt_lines.specs.declared.refusal.Refusal.TheVariants as refusal
 use Rattle.lnt_lines.specs.Contents.{AreRising}
-use Rattle.lnt_lines.specs.Drafts.{HasAdded, IsDraftOf, IsDraftOfSection, IsIndexOfSection, IsRefusal, IsWholeDraft}
+use Rattle.lnt_lines.specs.Drafts.{IsIndexOfSection}
+use Rattle.lnt_lines.specs.Stepping.{HasAdded, IsDraftOf, IsDraftOfSection, IsRefusal, IsWholeDraft}
 use Rattle.lnt_lines.specs.Indexed.{Indexed, IsIndexOf}
 use Rattle.lnt_lines.specs.Judging.{HasFlaw, IsUnitNo, IsUnitRefusal}
 use Rattle.lnt_lines.specs.Nos.{IsFirstFlaw, IsMalformed, IsTrueNo}

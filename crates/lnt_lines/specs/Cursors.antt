@@ -7,7 +7,6 @@ use Rattle.lnt_machine.specs.declared.row.Row.{Row}
 use Rattle.lnt_machine.specs.Walking.{Kept, SequenceWalk}
 use Rattle.lnt_spans.specs.declared.position.Position.{Position}
 use Rattle.lnt_spans.specs.declared.span.Span.{Span}
-use Rattle.lnt_spans.specs.Coming.{GivesFirst}
 use Rattle.lnt_spans.specs.Fitting.{FitSpans}
 use Rattle.lnt_spans.specs.Spans.{AreInOrder, span_answer}
 use Rattle.lnt_sequences.specs.declared.extent.Extent.{Extent}
@@ -45,12 +44,6 @@ pub record AreToCome (cursor : Cursor) (spans : List Span) : Type 0 where
   pub come_here : ComeHere here cursor
   pub come_later : ComeLater later cursor
   pub spans_are : spans ≡ here ++ later
-
--- The first of the spans was given, of the sequence at hand, and the others are to come; or all are those of the
--- sequences that weren't begun.
-abbrev pub GivesHere : Cursor → List Span → Option Span → Type 0
-GivesHere new spans None = ComeLater spans new
-GivesHere new spans (Some given) = GivesFirst (AreToCome new) spans (Some given)
 
 -- What is to come are the spans of the kept sequences of these units, each once: they are in order, answer as the rows do at
 -- every position, tell everything, and are no fewer than so many. Each of their numbers is of at most 64 bits.

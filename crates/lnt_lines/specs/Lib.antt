@@ -10,3 +10,4 @@ pub mod Laws
 pub mod Nos
 pub mod Refusals
 pub mod Running
+pub mod Stepping

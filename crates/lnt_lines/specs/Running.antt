@@ -14,7 +14,7 @@ use Rattle.lnt_machine.specs.Cuts.{IsCut}
 use Rattle.lnt_machine.specs.Matrix.{LinesFit, rows}
 use Rattle.lnt_machine.specs.State.{StandsAfter, State}
 use Rattle.lnt_machine.specs.Steps.{LeavesRange}
-use Rattle.lnt_machine.specs.Walking.{HasPlaces}
+use Rattle.lnt_machine.specs.Stepping.{HasPlaces}
 use Rattle.lnt_sequences.specs.declared.collected.Collected.{Collected}
 use Rattle.lnt_sequences.specs.declared.watch.Watch.{Watch}
 use Rattle.lnt_sequences.specs.Sequences.{Placed}

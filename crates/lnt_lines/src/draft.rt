@@ -5,7 +5,7 @@ ghost use Rattle.lnt_sequences.specs.Extents.{IsFirstOverlap};
 ghost use Rattle.lnt_sequences.specs.Rules.{AreApart};
 ghost use Rattle.lnt_sequences.specs.Sequences.{Placed, kept_of};
 ghost use Rattle.lnt_sequences.specs.Watching.{Collects};
-ghost use Rattle.lnt_lines.specs.Drafts.{HasAdded, IsDraftOf, IsWholeDraft};
+ghost use Rattle.lnt_lines.specs.Stepping.{HasAdded, IsDraftOf, IsWholeDraft};
 ghost use Rattle.lnt_lines.specs.Indexed.{IsIndexOf};
 ghost use Rattle.lnt_lines.specs.Judging.{IsUnitRefusal};
 

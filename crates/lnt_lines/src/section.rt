@@ -1,7 +1,8 @@
 //! A whole section, judged.
 ghost use Rattle.std.specs.Prelude.{◌≡◌, ◌≢◌, ◌+◌, ◌-◌, ◌^◌, ◌<◌, IfOk, IfErr, IfSome, IsErrOf, IsTrue};
 ghost use Rattle.lnt_wire.specs.Pulling.{HasMoreThan};
-ghost use Rattle.lnt_lines.specs.Drafts.{IsDraftOfSection, IsIndexOfSection, IsJudged, IsJudgedIndex, IsRefusal};
+ghost use Rattle.lnt_lines.specs.Drafts.{IsIndexOfSection, IsJudged, IsJudgedIndex};
+ghost use Rattle.lnt_lines.specs.Stepping.{IsDraftOfSection, IsRefusal};
 ghost use Rattle.lnt_stream.specs.declared.reader.Progress.TheVariants.{Reading};
 ghost use Rattle.lnt_stream.specs.Readers.{loan_of, offset_of, order_of, progress_of, source_of};
 

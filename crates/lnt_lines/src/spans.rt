@@ -4,7 +4,8 @@ ghost use Rattle.std.specs.Bool.{MatchBool};
 ghost use Rattle.lnt_spans.specs.declared.span.Span as spec;
 ghost use Rattle.lnt_spans.specs.Coming.{GivesFirst};
 ghost use Rattle.lnt_lines.specs.Contents.{AreRising};
-ghost use Rattle.lnt_lines.specs.Cursors.{AreToCome, ComeLater, GivesHere, most_left, room_for, room_of};
+ghost use Rattle.lnt_lines.specs.Cursors.{AreToCome, ComeLater, most_left, room_for, room_of};
+ghost use Rattle.lnt_lines.specs.Stepping.{GivesHere};
 
 use crate::index::rows_of;
 use lnt_machine::{Program, Row, SequenceRows};

@@ -13,7 +13,8 @@ use Rattle.lnt_machine.specs.Laws.{unit_by_numbers, SameByNumbers}
 use Rattle.lnt_machine.specs.Matrix.{row_of, end_row_of, row_made, rows_after, rows, sequences_of, joined_rows, done}
 use Rattle.lnt_machine.specs.Matrix.{sequences, Runs, IsRunFault}
 use Rattle.lnt_machine.specs.Parts.{first_sequence}
-use Rattle.lnt_machine.specs.Walking.{HasPlaces, IsFront, IsSequencePlace, Kept, Keeps, LinesAfter, WillGive, SequenceWalk}
+use Rattle.lnt_machine.specs.Walking.{IsSequencePlace, Kept, Keeps, LinesAfter, WillGive, SequenceWalk}
+use Rattle.lnt_machine.specs.Stepping.{HasPlaces, IsFront}
 use Rattle.lnt_machine.specs.Registers.{advance_of, advances, moved, base, line_increment, line_sum, line, IsLine, part}
 use Rattle.lnt_machine.specs.Registers.{file, column, isa, discriminator, is_stmt, basic_block, prologue_end}
 use Rattle.lnt_machine.specs.Registers.{epilogue_begin, registers_after}

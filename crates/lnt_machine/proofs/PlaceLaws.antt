@@ -23,7 +23,8 @@ use Rattle.lnt_machine.proofs.PartLaws.{first_of, rows_at_start, sequences_of_pa
 use Rattle.lnt_machine.specs.Matrix.{done, LinesFit, row_made, rows_after, sequences, sequences_of}
 use Rattle.lnt_machine.specs.Parts.{AtStart, first_sequence, rows_of_ops}
 use Rattle.lnt_machine.specs.Registers.{IsLine, line}
-use Rattle.lnt_machine.specs.Walking.{HasPlaces, IsFront, IsPlaceOf, IsSequencePlace, Kept, Keeps, LinesAfter, SequenceWalk, WillGive}
+use Rattle.lnt_machine.specs.Walking.{IsPlaceOf, IsSequencePlace, Kept, Keeps, LinesAfter, SequenceWalk, WillGive}
+use Rattle.lnt_machine.specs.Stepping.{HasPlaces, IsFront}
 
 -- ---- the rows from a place on
 

@@ -19,7 +19,8 @@ use Rattle.lnt_machine.specs.Parts.{first_sequence}
 use Rattle.lnt_machine.specs.Registers.{IsLine, line}
 use Rattle.lnt_machine.specs.State.{StandsAfter, State}
 use Rattle.lnt_machine.specs.Steps.{LeavesRange, Steps}
-use Rattle.lnt_machine.specs.Walking.{GivesFirst, GivesNext, GivesRow, HasRows, IsSequencePlace, LinesAfter, SequenceWalk, WillGive}
+use Rattle.lnt_machine.specs.Walking.{GivesFirst, GivesRow, HasRows, IsSequencePlace, LinesAfter, SequenceWalk, WillGive}
+use Rattle.lnt_machine.specs.Stepping.{GivesNext}
 use Rattle.lnt_machine.specs.Walking.WillGive.{none, some}
 
 -- what the machine may do, where its header is that of the walk

@@ -3,9 +3,7 @@ use Rattle.std.specs.Prelude.{◌≡◌, ℕ, ◌<◌, Bool, true, false, List, 
 use Rattle.lnt_header.specs.declared.header.HeaderParts.{HeaderParts}
 use Rattle.lnt_header.specs.declared.op.Op.{Op}
 use Rattle.lnt_header.specs.HeaderRules.{IsHeader}
-use Rattle.lnt_header.specs.Joins.{Each}
 use Rattle.lnt_ops.specs.Left.{IsLeft, IsPlace}
-use Rattle.lnt_ops.specs.OpBytes.{OpBytes}
 use Rattle.lnt_ops.specs.Walks.{Walk}
 use Rattle.lnt_unit.specs.declared.unit.Parts.{Parts}
 use Rattle.lnt_machine.specs.declared.row.Row.{Row}
@@ -29,17 +27,6 @@ pub record HasRows (h : HeaderParts) (rows : List Row) (machine : State) (walk :
   pub left : IsLeft h later walk
   pub lines : LinesAfter h back later
   pub rows_are : rows ≡ rows_after h back later
-
--- The first of the rows was made, and the others are to come; or there is none.
-abbrev pub GivesNext : HeaderParts → List Row → Option Row → State → Walk → Type 0
-GivesNext h [] None machine walk = Unit {0}
-GivesNext h (row ∷ rows) (Some made) machine walk = (made ≡ row) × HasRows h rows machine walk
-GivesNext h _ _ machine walk = ⊥
-
--- The first of the rows was made, and the others are to come; or none was made yet.
-abbrev pub ComesNext : HeaderParts → List Row → Option Row → State → Walk → Type 0
-ComesNext h rows None machine walk = HasRows h rows machine walk
-ComesNext h rows (Some made) machine walk = GivesNext h rows (Some made) machine walk
 
 -- ---- the rows of one sequence
 
@@ -72,17 +59,6 @@ pub record IsSequencePlace (h : HeaderParts) (program : List ℕ) (earlier later
 
 -- ---- the places of all sequences
 
--- A front of the program, of so many whole sequences, ends at this place.
-pub record IsFront (h : HeaderParts) (program : List ℕ) (index place : ℕ) : Type 0 where
-  pub earlier : List Op
-  pub front : List ℕ
-  pub rest : List ℕ
-  pub split : program ≡ front ++ rest
-  pub place_is : place ≡ length front
-  pub spelled : Each (OpBytes h) earlier front
-  pub start : AtStart (reverse earlier)
-  pub index_is : index ≡ length (sequences_of (rows_of_ops h earlier))
-
 -- The sequence of the unit with this index begins at this place of the program.
 pub record IsPlaceOf (unit : Parts) (program : List ℕ) (index place : ℕ) : Type 0 where
   pub earlier : List Op
@@ -107,9 +83,3 @@ pub record Keeps (kept : Kept) (unit : Parts) : Type 0 where
 pub record IsKept (kept : Kept) : Type 0 where
   pub unit : Parts
   pub keeps : Keeps kept unit
-
--- So many sequences have ended; their places are known, and that where the next one begins.
-pub record HasPlaces (h : HeaderParts) (program : List ℕ) (count : ℕ) (places : List ℕ) (place : ℕ) : Type 0 where
-  pub count_is : length places ≡ count
-  pub each : (k d : ℕ) → k < length places → IsFront h program k (slice_index_or places k d)
-  pub next : IsFront h program count place

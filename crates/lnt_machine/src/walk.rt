@@ -5,7 +5,8 @@ ghost use Rattle.lnt_header.specs.declared.header.HeaderParts.{HeaderParts};
 ghost use Rattle.lnt_header.specs.declared.op.Op.{Op};
 ghost use Rattle.lnt_machine.specs.Matrix.{rows_after};
 ghost use Rattle.lnt_machine.specs.Parts.{first_sequence};
-ghost use Rattle.lnt_machine.specs.Walking.{ComesNext, GivesNext, GivesRow, HasRows, IsSequencePlace, WillGive};
+ghost use Rattle.lnt_machine.specs.Walking.{GivesRow, HasRows, IsSequencePlace, WillGive};
+ghost use Rattle.lnt_machine.specs.Stepping.{ComesNext, GivesNext};
 ghost use Rattle.lnt_machine.specs.declared.row.Row as spec;
 
 use crate::machine::Machine;

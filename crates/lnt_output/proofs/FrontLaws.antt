@@ -8,7 +8,7 @@ use Rattle.std.proofs.lemmas.List.{take_more}
 use Rattle.std.proofs.lemmas.List.Concat.{flat_map-append}
 use Rattle.lnt_output.specs.Fronts.{AppendsFront}
 
--- nothing was written: the empty prefix
+-- nothing was written: the empty front
 pub front_none : (old : Option (List ℕ)) (bytes : List ℕ) → AppendsFront old old bytes
 front_none old bytes = record { front = []; rest = bytes; joined = refl; gained = Appends-nil old }
 
@@ -17,11 +17,11 @@ Appends_kept None new k = tt
 Appends_kept (Some xs) None k = absurd k
 Appends_kept (Some xs) (Some ys) k = k ∙ sym (append-nil xs)
 
--- everything was written: the whole prefix
+-- everything was written: the whole
 pub front_all : (old new : Option (List ℕ)) (bytes : List ℕ) → Appends old new bytes → AppendsFront old new bytes
 front_all old new bytes a = record { front = bytes; rest = []; joined = append-nil bytes; gained = a }
 
--- a prefix stays one when more bytes follow
+-- a front stays one when more bytes follow
 pub front_before : (old new : Option (List ℕ)) (bytes more : List ℕ) → AppendsFront old new bytes → AppendsFront old new (bytes ++ more)
 front_before old new bytes more f = record {
   front = f.front;
@@ -30,7 +30,7 @@ front_before old new bytes more f = record {
   gained = f.gained;
 }
 
--- some bytes, and then a prefix of others
+-- some bytes, and then a front of others
 pub front_after : (old now new : Option (List ℕ)) (first second : List ℕ) → Appends old now first → AppendsFront now new second
     → AppendsFront old new (first ++ second)
 front_after old now new first second a f = record {
@@ -40,7 +40,7 @@ front_after old now new first second a f = record {
   gained = Appends-trans old now new first f.front a f.gained;
 }
 
--- a prefix of the bytes, where the writer first kept what it held
+-- a front of the bytes, where the writer first kept what it held
 pub front_since : (old now new : Option (List ℕ)) (bytes : List ℕ) → Keeps old now → AppendsFront now new bytes → AppendsFront old new bytes
 front_since old now new bytes k f = front_after old now new [] bytes (Appends_kept old now k) f
 
@@ -49,7 +49,7 @@ pub front_same : (old new : Option (List ℕ)) (bytes other : List ℕ) → byte
     → AppendsFront old new other
 front_same old new bytes other same f = subst (AppendsFront old new) same f
 
--- a header and the texts of the first items, and then a prefix of the next item's text
+-- a header and the texts of the first items, and then a front of the next item's text
 pub front_in_items : {X : Type 0} (f : X → List ℕ) (head : List ℕ) (items : List X) (i : ℕ) (d : X) (a b c : Option (List ℕ))
     → i < length items
     → Appends a b (head ++ flat_map f (take i items)) → AppendsFront b c (f (get_or items i d))

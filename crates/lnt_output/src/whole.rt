@@ -1,4 +1,4 @@
-//! Writes bytes whole, or a prefix of them.
+//! Writes bytes whole, or a front of them.
 ghost use Rattle.std.specs.Prelude.{OnErr, OnOk};
 ghost use Rattle.std.specs.Io.KnownBytes.{Appends};
 ghost use Rattle.lnt_output.specs.Fronts.{AppendsFront};
@@ -7,7 +7,7 @@ use std::io::{self, ErrorKind, Write};
 
 /// Writes all of these bytes, in order, as `write_all` does.
 ///
-/// On an error the writer, which failed or took nothing, has gained a prefix of the bytes and nothing else. A write that was
+/// On an error the writer, which failed or took nothing, has gained a front of the bytes and nothing else. A write that was
 /// interrupted is tried again.
 pub fn write_whole<W: Write>(out: &mut W, bytes: &[u8]) -> io::Result<()>
     ensures whole { OnOk result (Appends (W.contents out.old) (W.contents out.new) bytes.now) }

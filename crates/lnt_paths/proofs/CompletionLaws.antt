@@ -1,4 +1,4 @@
--- The stretches given so far are a prefix of a list of all stretches.
+-- The stretches given so far are a front of a list of all stretches.
 use Rattle.std.proofs.Common.{◌≡◌, ◌≢◌, ◌∙◌, ℕ, zero, suc, ◌+◌, ◌≤◌, List, [], ◌∷◌, ◌++◌, ◌⊎◌, inl, inr, refl, ap, sym, subst}
 use Rattle.std.proofs.Common.{Some, None, Option, arith, length, map, append-nil, append_assoc}
 use Rattle.std.specs.Option.{option_map}

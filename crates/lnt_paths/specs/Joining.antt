@@ -106,7 +106,7 @@ pub record HasWritten (tell : Answer → PathAnswer) (version : PathVersion) (ol
   pub each : AllZip (λ fields span. SaysPath IsPlainAddress IsPlainDecimal version fields span.low.address span.high.address
       (tell span.answer)) records joined
 
--- The writer was stopped, and has gained a prefix of the header and the lines of these spans.
+-- The writer was stopped, and has gained a front of the header and the lines of these spans.
 pub record HasBegunLines (tell : Answer → PathAnswer) (version : PathVersion) (old new : Option (List ℕ))
     (joined : List Span) : Type 0 where
   pub records : List Fields

@@ -44,7 +44,7 @@ pub record HasOperationIndex (answers : Position → Option PathAnswer) (positio
   pub canonical : AreCanonicalOf answers spans
   pub least : IsLeastOperation spans position
 
--- The writer has gained a prefix of the header and the lines of the first canonical spans with these answers. Every whole table of them
+-- The writer has gained a front of the header and the lines of the first canonical spans with these answers. Every whole table of them
 -- begins with what it has gained. It has gained nothing, or all of these spans begin and end at operation index 0, so that there is a
 -- whole table of them wherever their numbers are of at most 64 bits.
 pub record BeginsPathTable (version : PathVersion) (answers : Position → Option PathAnswer) (old new : Option (List ℕ)) : Type 0 where

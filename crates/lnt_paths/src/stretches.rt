@@ -6,7 +6,7 @@ ghost use Rattle.std.specs.Option.{option_copied, option_map};
 ghost use Rattle.lnt_spans.specs.declared.answer.Answer as spec_answer;
 ghost use Rattle.lnt_spans.specs.declared.position.Position as spec_position;
 ghost use Rattle.lnt_spans.specs.declared.span.Span as spec;
-ghost use Rattle.lnt_spans.specs.Ahead.{BeginsWith};
+ghost use Rattle.lnt_spans.specs.Stepping.{BeginsWith};
 ghost use Rattle.lnt_spans.specs.Differing.{runs_left};
 ghost use Rattle.lnt_spans.specs.Positions.{IsAtMost};
 ghost use Rattle.lnt_spans.specs.Scanning.{EndsAfter};

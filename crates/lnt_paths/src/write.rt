@@ -36,7 +36,7 @@ use std::io::Write;
 /// 0; then nothing was written.
 ///
 /// It stops with `Memory` (33) where memory ran out, and with `Write` (42) where the writer refused some bytes; then the
-/// writer has gained a prefix of the header and the lines of the first canonical spans. It has gained nothing unless all of these
+/// writer has gained a front of the header and the lines of the first canonical spans. It has gained nothing unless all of these
 /// spans begin and end at operation index 0, so that there is a whole table of them. No contract of a writer says when it
 /// refuses, so no clause says that `Write` comes only then.
 pub fn write_by_path<S: SpanSource + Drop, P: Paths, W: Write>(

@@ -20,7 +20,8 @@ use Rattle.lnt_records.specs.declared.fault.TableFault.TheVariants as fault
 use Rattle.std.specs.declared.alloc.AllocError.{AllocError}
 use Rattle.lnt_records.specs.declared.gather.Gathered.{Gathered}
 use Rattle.lnt_records.specs.declared.remaining.Remaining.{Remaining}
-use Rattle.lnt_records.specs.Differing.{GoesOn, IsDiffering, IsGathered, IsStarted}
+use Rattle.lnt_records.specs.Differing.{IsDiffering, IsStarted}
+use Rattle.lnt_records.specs.Progress.{GoesOn, IsGathered}
 use Rattle.lnt_records.specs.declared.comparison.Comparison.{Comparison}
 use Rattle.lnt_records.specs.Passing.{IsCut, LeavesOff}
 use Rattle.lnt_records.specs.Progress.{BytesReader, HasRead, Judges}

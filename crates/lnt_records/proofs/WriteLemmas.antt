@@ -21,7 +21,8 @@ use Rattle.lnt_spans.specs.declared.span.Span.{Span}
 use Rattle.lnt_spans.specs.Spans.{AreInOrder}
 use Rattle.lnt_records.specs.Table.{Fields, IsFlag, Kind, RecordsOf, column_count, column_names}
 use Rattle.lnt_records.specs.Lines.{IsPlainLine}
-use Rattle.lnt_records.specs.Written.{AddsRecord, AddsRecords, BeginsTable, IsPlainRecord, IsWrittenTable, following, line_text, lines_text}
+use Rattle.lnt_records.specs.Written.{BeginsTable, IsPlainRecord, IsWrittenTable, following, line_text, lines_text}
+use Rattle.lnt_records.specs.Progress.{AddsRecord, AddsRecords}
 use Rattle.lnt_records.proofs.SaidLemmas.{each_holds, records_plain}
 use Rattle.lnt_records.proofs.WholeLemmas.{whole_begins}
 
@@ -179,7 +180,7 @@ lines_append [] ys = refl
 lines_append (x ∷ xs) ys =
     ap (λ (t : List ℕ). line_text x ++ t) (lines_append xs ys) ∙ sym (append_assoc (line_text x) (lines_text xs) (lines_text ys))
 
--- The header and the lines of these spans: a prefix went to the writer, and the block has the others.
+-- The header and the lines of these spans: a front went to the writer, and the block has the others.
 pub record Lines (version : Version) (old now : Option (List ℕ)) (block : List ℕ) (spans : List Span) : Type 0 where
   pub sent : List ℕ
   pub handed : Appends old now sent
@@ -238,7 +239,7 @@ lines_put version old now block grown spans more l r = record {
   each = zip_join (IsPlainRecord version) l.records r.records spans more l.each r.each;
 }
 
--- a prefix of the block went to the writer
+-- a front of the block went to the writer
 pub lines_sent : (version : Version) (old now new : Option (List ℕ)) (block left sent : List ℕ) (spans : List Span)
     → Lines version old now block spans → Appends now new sent → block ≡ sent ++ left
     → Lines version old new left spans

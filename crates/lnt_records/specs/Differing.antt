@@ -1,5 +1,5 @@
 -- A table compared with a section's spans at every position.
-use Rattle.std.specs.Prelude.{◌≡◌, ◌≢◌, ℕ, List, [], ◌∷◌, ◌++◌, Option}
+use Rattle.std.specs.Prelude.{◌≡◌, ◌≢◌, ℕ, List, [], ◌∷◌, Option}
 use Rattle.std.specs.Option.{option_map}
 use Rattle.lnt_spans.specs.declared.answer.Answer.{Answer}
 use Rattle.lnt_spans.specs.declared.answer.Version.{Version}
@@ -8,17 +8,14 @@ use Rattle.lnt_spans.specs.declared.position.Position.{Position}
 use Rattle.lnt_spans.specs.declared.span.Span.{Span}
 use Rattle.lnt_spans.specs.declared.stretches.Differences.{Differences}
 use Rattle.lnt_spans.specs.Answers.{in_version}
-use Rattle.lnt_spans.specs.Comparing.{end_of}
 use Rattle.lnt_spans.specs.Differing.{HasTold}
-use Rattle.lnt_spans.specs.Spans.{AreInOrder, span_answer, version_answer}
+use Rattle.lnt_spans.specs.Spans.{span_answer}
 use Rattle.lnt_records.specs.declared.differing.Differing.{Differing}
 use Rattle.lnt_records.specs.declared.differing.Differing.TheVariants as differing
 use Rattle.lnt_records.specs.declared.differing.DifferingRead.{DifferingRead}
 use Rattle.lnt_records.specs.declared.differing.DifferingRead.TheVariants as read
 use Rattle.lnt_records.specs.declared.fault.TableFault.TheVariants as fault
 use Rattle.lnt_records.specs.declared.remaining.Remaining.{Remaining}
-use Rattle.lnt_records.specs.declared.gather.Gathered.{Gathered}
-use Rattle.lnt_records.specs.declared.gather.Gathered.TheVariants as gathered
 use Rattle.lnt_records.specs.Faults.{IsFault}
 use Rattle.lnt_records.specs.Table.{BeginsWith, IsTableOf, column_names}
 
@@ -57,16 +54,3 @@ IsDifferingRead of_section of_table bytes section (read.Other text) =
 abbrev pub IsStartedRead : {S : Type 0} → (Remaining S → List Span → Type 0) → (SpanList → List Span → Type 0) → DifferingRead S → Type 0
 IsStartedRead of_section of_table (read.Differing told) = IsStarted of_section of_table told
 IsStartedRead of_section of_table (read.Other text) = Unit {0}
-
--- After the records of the spans in `table`, the bytes have the records of the gathered spans, or a fault. Only the bodies
--- of this crate use this.
-abbrev pub IsGathered : List ℕ → Version → List Span → Gathered → Type 0
-IsGathered bytes version table (gathered.Fault told) = IsFault bytes told
-IsGathered bytes version table (gathered.Spans spans) = IsTableOf version bytes (table ++ spans.items)
-
--- The spans in `table` and then `rest` are in order and answer as the section does, as the version tells answers; the ones
--- in `table` end at `at`.
-pub record GoesOn (version : Version) (section : Position → Option Answer) (table rest : List Span) (at : Position) : Type 0 where
-  pub order : AreInOrder (table ++ rest)
-  pub same : (p : Position) → version_answer version (table ++ rest) p ≡ option_map (in_version version) (section p)
-  pub end_is : at ≡ end_of table

@@ -1,5 +1,5 @@
 -- How far a table was read and compared. Only the bodies of this crate and of the crate of tables by path use this.
-use Rattle.std.specs.Prelude.{◌≡◌, ◌≢◌, ℕ, ◌+◌, ◌<◌, ◌≤◌, true, false, List, [], ◌∷◌, Option, Some, None, length, get_or, suc}
+use Rattle.std.specs.Prelude.{◌≡◌, ◌≢◌, ℕ, ◌+◌, ◌<◌, ◌≤◌, true, false, List, [], ◌∷◌, Option, Some, None, length, get_or, suc, ◌++◌}
 use Rattle.std.proofs.Common.{Bor}
 use Rattle.csv.specs.Machine.{ends_at_end}
 use Rattle.csv.specs.Reading.{Reached, Ready, default_config, is_flexible, reader_config, reader_state, reader_trim, source_of, strip_bom}
@@ -8,15 +8,22 @@ use Rattle.csv.specs.declared.reader.Reader.{Reader}
 use Rattle.csv.specs.declared.reader.Trim.TheVariants as trim
 use Rattle.lnt_spans.specs.declared.answer.Version.{Version}
 use Rattle.lnt_spans.specs.declared.span.Span.{Span}
-use Rattle.lnt_spans.specs.Comparing.{Compares}
+use Rattle.lnt_spans.specs.Comparing.{Compares, end_of}
 use Rattle.lnt_records.specs.declared.comparison.Comparison.{Comparison}
 use Rattle.lnt_spans.specs.declared.answer.Answer.{Answer}
 use Rattle.lnt_spans.specs.declared.position.Position.{Position}
 use Rattle.lnt_digits.specs.Digits.{IsAddress, IsDecimal}
 use Rattle.lnt_records.specs.declared.record.RecordFault.{RecordFault}
 use Rattle.lnt_records.specs.declared.record.RecordFault.TheVariants as record_fault
-use Rattle.lnt_records.specs.Faults.{IsFaultyColumn}
-use Rattle.lnt_records.specs.Table.{AreMore, Fields, IsFlag, IsSound, IsTable, Kind, column_count, decimal, kinds}
+use Rattle.lnt_records.specs.Faults.{IsFaultyColumn, IsFault}
+use Rattle.lnt_records.specs.Table.{AreMore, Fields, IsFlag, IsSound, IsTable, Kind, column_count, decimal, kinds, IsTableOf}
+use Rattle.std.specs.List.{AllZip}
+use Rattle.lnt_records.specs.Written.{IsPlainRecord, line_text, lines_text}
+use Rattle.std.specs.Option.{option_map}
+use Rattle.lnt_spans.specs.Answers.{in_version}
+use Rattle.lnt_spans.specs.Spans.{AreInOrder, version_answer}
+use Rattle.lnt_records.specs.declared.gather.Gathered.{Gathered}
+use Rattle.lnt_records.specs.declared.gather.Gathered.TheVariants as gathered
 
 -- ---- one record
 
@@ -90,3 +97,32 @@ pub record Judges {S : Type 0} (to_come : S → List Span → Type 0) (compariso
   pub count : comparison.count ≡ length records
   pub version : comparison.merge.version ≡ comparison.version
   pub compares : Compares to_come comparison.merge section table
+
+-- ---- lines that are added
+
+-- The line of the span was added.
+pub record AddsRecord (version : Version) (span : Span) (old new : List ℕ) : Type 0 where
+  pub fields : Fields
+  pub joined : new ≡ old ++ line_text fields
+  pub plain : IsPlainRecord version fields span
+
+-- A line for each of the spans was added.
+pub record AddsRecords (version : Version) (spans : List Span) (old new : List ℕ) : Type 0 where
+  pub records : List Fields
+  pub joined : new ≡ old ++ lines_text records
+  pub each : AllZip (IsPlainRecord version) records spans
+
+-- ---- differences so far
+
+-- After the records of the spans in `table`, the bytes have the records of the gathered spans, or a fault. Only the bodies
+-- of this crate use this.
+abbrev pub IsGathered : List ℕ → Version → List Span → Gathered → Type 0
+IsGathered bytes version table (gathered.Fault told) = IsFault bytes told
+IsGathered bytes version table (gathered.Spans spans) = IsTableOf version bytes (table ++ spans.items)
+
+-- The spans in `table` and then `rest` are in order and answer as the section does, as the version tells answers; the ones
+-- in `table` end at `at`.
+pub record GoesOn (version : Version) (section : Position → Option Answer) (table rest : List Span) (at : Position) : Type 0 where
+  pub order : AreInOrder (table ++ rest)
+  pub same : (p : Position) → version_answer version (table ++ rest) p ≡ option_map (in_version version) (section p)
+  pub end_is : at ≡ end_of table

@@ -61,7 +61,7 @@ pub record IsCanonicalTable (version : Version) (given : List Span) (bytes : Lis
 -- ---- tables whose writing was stopped
 --     old, new    the known bytes that the writer holds before and afterwards
 
--- The writer has gained a prefix of the header and the lines of the first of these spans. Every table of the spans on plain lines
+-- The writer has gained a front of the header and the lines of the first of these spans. Every table of the spans on plain lines
 -- begins with what it has gained.
 pub record BeginsTable (version : Version) (spans : List Span) (old new : Option (List ℕ)) : Type 0 where
   pub first : List Span
@@ -80,17 +80,3 @@ pub record BeginsCanonicalTable (version : Version) (given : List Span) (old new
   pub same : (p : Position) → span_answer spans p ≡ version_answer version given p
   pub begun : BeginsTable version spans old new
   pub of_whole : (bytes : List ℕ) → IsCanonicalTable version given bytes → AppendsFront old new bytes
-
--- ---- lines that are added. The bodies of this crate use them among themselves.
-
--- The line of the span was added.
-pub record AddsRecord (version : Version) (span : Span) (old new : List ℕ) : Type 0 where
-  pub fields : Fields
-  pub joined : new ≡ old ++ line_text fields
-  pub plain : IsPlainRecord version fields span
-
--- A line for each of the spans was added.
-pub record AddsRecords (version : Version) (spans : List Span) (old new : List ℕ) : Type 0 where
-  pub records : List Fields
-  pub joined : new ≡ old ++ lines_text records
-  pub each : AllZip (IsPlainRecord version) records spans

@@ -5,7 +5,8 @@ ghost use Rattle.std.specs.List.{AllByRecursion, cons_option};
 ghost use Rattle.lnt_spans.specs.declared.answer.Version.{Version};
 ghost use Rattle.lnt_spans.specs.declared.span.Span as spec;
 ghost use Rattle.lnt_spans.specs.Spans.{AreInOrder};
-ghost use Rattle.lnt_records.specs.Written.{AddsRecords, BeginsCanonicalTable, IsCanonicalTable, IsOfVersion, TellsAll};
+ghost use Rattle.lnt_records.specs.Written.{BeginsCanonicalTable, IsCanonicalTable, IsOfVersion, TellsAll};
+ghost use Rattle.lnt_records.specs.Progress.{AddsRecords};
 
 use crate::fault::WriteStop;
 use crate::text::ROOM;
@@ -22,7 +23,7 @@ use std::io::Write;
 /// span is kept at a time.
 ///
 /// The caller makes sure that the spans are in order, that none is empty, and that each answer has an instruction set and a
-/// discriminator. It stops as `write_spans` does: then the writer has gained a prefix of the header and the lines of the
+/// discriminator. It stops as `write_spans` does: then the writer has gained a front of the header and the lines of the
 /// first canonical spans.
 pub fn write_canonical<S: SpanSource + Drop, W: Write>(
     alloc: Global,

@@ -5,7 +5,8 @@ ghost use Rattle.lnt_spans.specs.declared.answer.Answer.{Answer};
 ghost use Rattle.lnt_spans.specs.declared.position.Position.{Position as Place};
 ghost use Rattle.lnt_spans.specs.Spans.{AreInOrder, span_answer};
 ghost use Rattle.lnt_wire.specs.Pulling.{HasMoreThan};
-ghost use Rattle.lnt_records.specs.Differing.{GoesOn, IsDiffering, IsDifferingRead, IsGathered, IsStarted, IsStartedRead};
+ghost use Rattle.lnt_records.specs.Differing.{IsDiffering, IsDifferingRead, IsStarted, IsStartedRead};
+ghost use Rattle.lnt_records.specs.Progress.{GoesOn, IsGathered};
 ghost use Rattle.lnt_records.specs.Table.{BeginsWith, column_names};
 
 use crate::comparison::header_of;

@@ -2,7 +2,7 @@
 ghost use Rattle.std.specs.Prelude.{◌≡◌, ◌+◌, ◌^◌, ◌<◌, ℕ, List, [], ◌∷◌, ◌++◌, length, IfOk};
 ghost use Rattle.csv.specs.Records.{fields_of};
 ghost use Rattle.lnt_spans.specs.declared.span.Span.{Span};
-ghost use Rattle.lnt_records.specs.Differing.{IsGathered};
+ghost use Rattle.lnt_records.specs.Progress.{IsGathered};
 ghost use Rattle.lnt_records.specs.Passing.{IsCut};
 ghost use Rattle.lnt_records.specs.Progress.{HasRead, Judges};
 ghost use Rattle.lnt_records.specs.Table.{BeginsWith, Fields, column_names};

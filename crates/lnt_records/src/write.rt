@@ -6,7 +6,8 @@ ghost use Rattle.lnt_output.specs.Fronts.{AppendsFront};
 ghost use Rattle.lnt_spans.specs.declared.answer.Version.{Version};
 ghost use Rattle.lnt_spans.specs.Spans.{AreInOrder};
 ghost use Rattle.lnt_records.specs.Table.{column_names};
-ghost use Rattle.lnt_records.specs.Written.{AddsRecord, BeginsTable, IsOfVersion, IsWrittenTable, line_text};
+ghost use Rattle.lnt_records.specs.Written.{BeginsTable, IsOfVersion, IsWrittenTable, line_text};
+ghost use Rattle.lnt_records.specs.Progress.{AddsRecord};
 
 use crate::fault::WriteStop;
 use crate::header::header_line;
@@ -26,7 +27,7 @@ const BLOCK: usize = 1 << 16;
 ///
 /// The caller makes sure that the spans are in order, that none is empty, and that each answer has exactly what the version
 /// tells: an instruction set and a discriminator in version 2, and neither in version 1. It stops with `Memory` where memory
-/// ran out, and with `Write` where the writer refused some bytes; then the writer has gained a prefix of the header and the
+/// ran out, and with `Write` where the writer refused some bytes; then the writer has gained a front of the header and the
 /// lines of the first spans, and nothing else. No contract of a writer says when it refuses, so no clause says that `Write`
 /// comes only then.
 pub fn write_spans<W: Write>(

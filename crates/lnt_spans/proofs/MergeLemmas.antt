@@ -14,11 +14,14 @@ use Rattle.lnt_spans.specs.declared.span.Span.{Span}
 use Rattle.lnt_spans.specs.Answers.{in_version}
 use Rattle.lnt_spans.specs.declared.ahead.Ahead.{Ahead}
 use Rattle.lnt_spans.specs.Ahead.{IsAhead}
-use Rattle.lnt_spans.specs.Comparing.{Advances, AgreeBefore, Compares, end_of, GoesOn, HasCompared}
-use Rattle.lnt_spans.specs.Comparing.{IsCompared, IsComparedBy, IsNext, IsTold, Merging, State, state_of}
+use Rattle.lnt_spans.specs.Comparing.{AgreeBefore, Compares, end_of, HasCompared}
+use Rattle.lnt_spans.specs.Stepping.{Advances, GoesOn}
+use Rattle.lnt_spans.specs.Comparing.{IsCompared, IsComparedBy, IsTold, Merging, State, state_of}
+use Rattle.lnt_spans.specs.Stepping.{IsNext}
 use Rattle.lnt_spans.specs.Differences.{IsLeastDifference}
 use Rattle.lnt_spans.specs.Positions.{IsBelow, IsAtMost}
-use Rattle.lnt_spans.specs.Scanning.{DiffersFirst, EndsAfter, IsScanned, Says}
+use Rattle.lnt_spans.specs.Scanning.{EndsAfter}
+use Rattle.lnt_spans.specs.Stepping.{DiffersFirst, IsScanned, Says}
 use Rattle.lnt_spans.specs.Spans.{AreInOrder, span_answer, span_in_version, version_answer}
 use Rattle.lnt_spans.proofs.ScanLemmas.{begins_with, first_is, first_says, gap_says, next_after}
 use Rattle.lnt_spans.proofs.AnsweringLaws.{answer_before, answer_after, answer_in, answer_same, back_in_order}

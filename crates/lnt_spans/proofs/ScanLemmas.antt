@@ -12,8 +12,10 @@ use Rattle.lnt_spans.specs.declared.span.Span.{Span}
 use Rattle.lnt_spans.specs.Answers.{in_version}
 use Rattle.lnt_spans.specs.Positions.{IsBelow, IsAtMost, is_below}
 use Rattle.lnt_spans.specs.declared.ahead.Ahead.{Ahead}
-use Rattle.lnt_spans.specs.Ahead.{BeginsWith, IsAhead, rest_of, steps_left}
-use Rattle.lnt_spans.specs.Scanning.{EndsAfter, IsStretch, Says}
+use Rattle.lnt_spans.specs.Ahead.{IsAhead}
+use Rattle.lnt_spans.specs.Stepping.{BeginsWith, rest_of, steps_left}
+use Rattle.lnt_spans.specs.Scanning.{EndsAfter}
+use Rattle.lnt_spans.specs.Stepping.{IsStretch, Says}
 use Rattle.lnt_spans.specs.Spans.{AreInOrder}
 use Rattle.lnt_spans.proofs.AnsweringLaws.{answer_after, answer_in, first_holds, none_before, rest_in_order}
 use Rattle.lnt_spans.proofs.PositionLaws.{at_most_itself, at_most_trans, at_most_below, below_at_most}

@@ -1,4 +1,4 @@
--- The stretches given so far are a prefix of the list of all stretches.
+-- The stretches given so far are a front of the list of all stretches.
 use Rattle.std.proofs.Common.{◌≡◌, ◌≢◌, ◌∙◌, ℕ, zero, suc, ◌+◌, ◌≤◌, Bool, true, false, List, [], ◌∷◌, ◌++◌, ◌⊎◌, inl}
 use Rattle.std.proofs.Common.{inr, refl, ap, sym, subst, Some, None, Option, arith, length, append-nil, append_assoc}
 use Rattle.std.specs.Option.{option_map}

@@ -11,7 +11,8 @@ use Rattle.lnt_spans.specs.declared.difference.Difference.{Difference}
 use Rattle.lnt_spans.specs.declared.position.Position.{Position}
 use Rattle.lnt_spans.specs.declared.span.Span.{Span}
 use Rattle.lnt_spans.specs.Answers.{in_version}
-use Rattle.lnt_spans.specs.Ahead.{BeginsWith, IsAhead}
+use Rattle.lnt_spans.specs.Ahead.{IsAhead}
+use Rattle.lnt_spans.specs.Stepping.{BeginsWith}
 use Rattle.lnt_spans.specs.Comparing.{IsTold, end_of}
 use Rattle.lnt_spans.specs.Differing.{AreToldBelow, HasTold, IsOpen, IsSide}
 use Rattle.lnt_spans.specs.Positions.{IsBelow, IsAtMost}

@@ -1,5 +1,5 @@
 -- Spans that come one after another, with one span of lookahead. Only the bodies of this crate use this.
-use Rattle.std.specs.Prelude.{◌≡◌, ℕ, ◌+◌, Bool, true, cond, List, [], ◌∷◌, Option, Some, None}
+use Rattle.std.specs.Prelude.{◌≡◌, ℕ, ◌+◌, cond, List, [], ◌∷◌, Option, Some, None}
 use Rattle.lnt_spans.specs.declared.position.Position.{Position}
 use Rattle.lnt_spans.specs.declared.span.Span.{Span}
 use Rattle.lnt_spans.specs.declared.ahead.Ahead.{Ahead}
@@ -9,16 +9,6 @@ use Rattle.lnt_spans.specs.Positions.{is_below}
 abbrev pub IsAhead : {S : Type 0} → (S → List Span → Type 0) → Ahead S → List Span → Type 0
 IsAhead to_come ahead [] = ahead.next ≡ None
 IsAhead to_come ahead (span ∷ spans) = (ahead.next ≡ Some span) × to_come ahead.spans spans
-
--- The span at hand is the first of these; there is one unless they are empty.
-abbrev pub BeginsWith : Option Span → List Span → Type 0
-BeginsWith next [] = next ≡ None
-BeginsWith next (span ∷ spans) = next ≡ Some span
-
--- the spans that are left once the first was dropped, or wasn't
-abbrev pub rest_of : Bool → List Span → List Span
-rest_of true (span ∷ spans) = spans
-rest_of _ spans = spans
 
 -- ---- how many there are at most
 
@@ -31,7 +21,3 @@ count_ahead (Some span) left = left + 1
 abbrev pub gap_before : Position → Option Span → ℕ
 gap_before at None = 0
 gap_before at (Some span) = cond (is_below at span.low) 1 0
-
--- an upper bound on the stretches up to `to` before the next span is dropped
-abbrev pub steps_left : Option Span → Position → Position → ℕ
-steps_left next at to = gap_before at next + cond (is_below at to) 1 0

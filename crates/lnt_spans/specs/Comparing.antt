@@ -76,30 +76,3 @@ pub record Compares {S : Type 0} (to_come : S → List Span → Type 0) (merge :
   pub ahead : IsAhead to_come merge.spans rest
   pub sound : IsSound rest merge.at merge.first
   pub compared : HasCompared (state_of merge rest) spans records
-
--- ---- a step of a merge
-
--- No difference was found so far, and the record is the first span that is left, as the table's version tells it.
-pub record IsNext {S : Type 0} (merge : Merging S) (said : Span) : Type 0 where
-  pub span : Span
-  pub next : merge.spans.next ≡ Some span
-  pub told : said ≡ span_in_version merge.version span
-  pub none : merge.first ≡ None
-
--- the effect of an advance to `to` on any table that answers `answer` up to there
-abbrev pub Advances : State → State → Position → Option Answer → Type 0
-Advances old new to answer =
-    (spans : List Span) (by_table : Position → Option Answer) → IsCompared old spans by_table
-    → ((p : Position) → IsAtMost old.at p → IsBelow p to → by_table p ≡ answer) → IsCompared new spans by_table
-
--- the merge has advanced, and these spans are still to come
-pub record HasGoneOn {S : Type 0} (to_come : S → List Span → Type 0) (old : State) (new : Merging S) (to : Position)
-    (answer : Option Answer) : Type 0 where
-  pub rest : List Span
-  pub ahead : IsAhead to_come new.spans rest
-  pub sound : IsSound rest new.at new.first
-  pub advances : Advances old (state_of new rest) to answer
-
-abbrev pub GoesOn : {S : Type 0} → (S → List Span → Type 0) → Merging S → Merging S → List Span → Position → Option Answer → Type 0
-GoesOn to_come old new rest to answer =
-    IsAhead to_come old.spans rest → IsSound rest old.at old.first → HasGoneOn to_come (state_of old rest) new to answer

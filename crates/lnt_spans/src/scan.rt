@@ -2,9 +2,11 @@
 ghost use Rattle.std.specs.Prelude.{◌≡◌, ◌≢◌, ◌⊎◌, ◌<◌, true, false, List, IsSome};
 ghost use Rattle.std.specs.Bool.{MatchBool};
 ghost use Rattle.lnt_spans.specs.declared.span.Span as spec;
-ghost use Rattle.lnt_spans.specs.Ahead.{BeginsWith, IsAhead, rest_of, steps_left};
+ghost use Rattle.lnt_spans.specs.Ahead.{IsAhead};
+ghost use Rattle.lnt_spans.specs.Stepping.{BeginsWith, rest_of, steps_left};
 ghost use Rattle.lnt_spans.specs.Positions.{IsBelow, IsAtMost};
-ghost use Rattle.lnt_spans.specs.Scanning.{EndsAfter, IsScanned, IsStretch};
+ghost use Rattle.lnt_spans.specs.Scanning.{EndsAfter};
+ghost use Rattle.lnt_spans.specs.Stepping.{IsScanned, IsStretch};
 ghost use Rattle.lnt_spans.specs.Spans.{AreInOrder};
 
 use crate::ahead::Ahead;

@@ -8,7 +8,7 @@ ghost use Rattle.lnt_spans.specs.declared.difference.Difference as spec_differen
 ghost use Rattle.lnt_spans.specs.declared.position.Position as spec_position;
 ghost use Rattle.lnt_spans.specs.declared.span.Span as spec;
 ghost use Rattle.lnt_spans.specs.declared.stretches.Step.TheVariants as step;
-ghost use Rattle.lnt_spans.specs.Ahead.{BeginsWith};
+ghost use Rattle.lnt_spans.specs.Stepping.{BeginsWith};
 ghost use Rattle.lnt_spans.specs.Comparing.{IsTold, end_of};
 ghost use Rattle.lnt_spans.specs.Differing.{HasTold, IsSide, runs_left, stretches_left};
 ghost use Rattle.lnt_spans.specs.Positions.{IsBelow, IsAtMost};

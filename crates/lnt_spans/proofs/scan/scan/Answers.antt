@@ -1,6 +1,7 @@
 use Rattle.std.proofs.Common.{Bool, false, subst, true}
-use Rattle.lnt_spans.specs.Ahead.{IsAhead, rest_of}
-use Rattle.lnt_spans.specs.Scanning.{IsStretch}
+use Rattle.lnt_spans.specs.Ahead.{IsAhead}
+use Rattle.lnt_spans.specs.Stepping.{rest_of}
+use Rattle.lnt_spans.specs.Stepping.{IsStretch}
 use Rattle.lnt_spans.proofs.ScanLemmas.{begins_with, passed_left, so_far_more}
 use Rattle.lnt_spans.proofs.scan.scan.Goals as goal
 

@@ -1,7 +1,7 @@
 use Rattle.std.proofs.Common.{subst}
 use Rattle.std.specs.List.{All}
 use Rattle.lnt_lines.specs.Indexed.{Indexed}
-use Rattle.lnt_lines.specs.Instructions.{HasOneOperation}
+use Rattle.lnt_lines.specs.Stepping.{HasOneOperation}
 use Rattle.lnt_lines.proofs.InstructionLemmas.{spans_of_instructions}
 use Rattle.lnt_lines.proofs.index.Index.has_single_operations.Goals as goal
 

@@ -1,0 +1,71 @@
+-- What the bodies of this crate say of one step. No public contract speaks of it.
+use Rattle.std.specs.Prelude.{◌≡◌, ℕ, List, [], ◌∷◌, ◌++◌, map, IfSome, Option, Some, None}
+use Rattle.std.specs.List.{AllByRecursion, AllZip}
+use Rattle.lnt_header.specs.HeaderRules.{HasHeaderNumbers}
+use Rattle.lnt_stream.specs.Units.{UnitBytes}
+use Rattle.lnt_unit.specs.declared.unit.Parts.{Parts}
+use Rattle.lnt_unit.specs.UnitBytes.{SectionBytes, UnitBytesIn}
+use Rattle.lnt_machine.specs.Walking.{Keeps, Kept}
+use Rattle.lnt_sequences.specs.Rules.{AreDistinct}
+use Rattle.lnt_sequences.specs.Sequences.{live_sequences}
+use Rattle.lnt_sequences.specs.Watching.{Collects}
+use Rattle.lnt_lines.specs.declared.draft.Draft.{Draft}
+use Rattle.lnt_lines.specs.declared.options.Options.{Options}
+use Rattle.lnt_lines.specs.declared.refusal.Refusal.{Refusal}
+use Rattle.lnt_lines.specs.declared.refusal.Refusal.TheVariants as refusal
+use Rattle.lnt_lines.specs.Contents.{AreRising}
+use Rattle.lnt_lines.specs.Good.{IsSound}
+use Rattle.lnt_lines.specs.Nos.{IsTrueNo}
+use Rattle.lnt_spans.specs.declared.span.Span.{Span}
+use Rattle.lnt_spans.specs.Coming.{GivesFirst}
+use Rattle.lnt_lines.specs.Cursors.{Cursor, ComeLater, AreToCome}
+
+-- The draft is of these units, all of which are sound.
+pub record IsDraftOf (line general : List ℕ) (dead : Option ℕ) (units : List (ℕ × Parts)) (draft : Draft) : Type 0 where
+  pub sound : AllByRecursion (IsSound line general dead) units
+  pub collects : Collects draft.collected (live_sequences dead units)
+  pub offsets : draft.units.items ≡ map (λ unit. unit.0) units
+  pub programs : AllZip (λ unit kept. Keeps kept unit.1) units draft.programs.items
+
+-- The draft is of some units that stand in order, with different sequences, and with headers whose numbers are such as can be read.
+pub record IsWholeDraft (line general : List ℕ) (draft : Draft) : Type 0 where
+  pub dead : Option ℕ
+  pub units : List (ℕ × Parts)
+  pub draft_is : IsDraftOf line general dead units draft
+  pub numbers : AllByRecursion (λ unit. HasHeaderNumbers unit.1.header) units
+  pub distinct : AreDistinct (live_sequences dead units)
+  pub rising : AreRising draft.units.items
+
+-- The draft is of units that the whole section is the bytes of, where its source tells its bytes.
+pub record IsDraftOfSection (line general : List ℕ) (options : Options) (section : Option (List ℕ)) (draft : Draft) : Type 0 where
+  pub units : List (ℕ × Parts)
+  pub bytes : List ℕ
+  pub spelled : SectionBytes options.order units bytes
+  pub whole : IfSome section (λ known. bytes ≡ known)
+  pub draft_is : IsDraftOf line general options.dead units draft
+
+-- One more unit is in the draft: that whose bytes are in the buffer.
+pub record HasAdded (line general : List ℕ) (dead : Option ℕ) (buffer : UnitBytes) (old new : Draft) : Type 0 where
+  pub unit : Parts
+  pub spelled : UnitBytesIn buffer.order unit buffer.bytes
+  pub drafts : (units : List (ℕ × Parts)) → IsDraftOf line general dead units old
+      → IsDraftOf line general dead (units ++ (buffer.offset, unit) ∷ []) new
+
+-- What is told of the section is wrong with it.
+abbrev pub IsRefusal : List ℕ → List ℕ → Options → List ℕ → Refusal → Type 0
+IsRefusal line general options section (refusal.No reason) = IsTrueNo line general options section reason
+IsRefusal line general options section (refusal.Stop stop) = Unit {0}
+
+-- ---- the next span
+
+-- The first of the spans was given, of the sequence at hand, and the others are to come; or all are those of the
+-- sequences that weren't begun.
+abbrev pub GivesHere : Cursor → List Span → Option Span → Type 0
+GivesHere new spans None = ComeLater spans new
+GivesHere new spans (Some given) = GivesFirst (AreToCome new) spans (Some given)
+
+-- ---- instructions of one operation
+
+-- no instruction of the program has more than one operation
+abbrev pub HasOneOperation : Kept → Type 0
+HasOneOperation kept = kept.header.max_ops ≡ 1
