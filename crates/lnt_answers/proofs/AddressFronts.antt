@@ -1,14 +1,13 @@
 -- The answers to a text of positions, where the writer was stopped.
-use Rattle.std.proofs.Common.{◌≡◌, ◌∙◌, Bool, false, ℕ, ◌+◌, ◌<◌, ◌≤◌, List, [], ◌∷◌, ◌++◌, length, map}
+use Rattle.std.proofs.Common.{◌≡◌, ◌∙◌, Bool, false, ℕ, ◌+◌, ◌<◌, List, [], ◌∷◌, ◌++◌, length, map}
 use Rattle.std.proofs.Common.{take, drop, Option, Some, None, IfSome}
 use Rattle.std.proofs.Common.{refl, sym, ap, subst, append_assoc, append-nil, arith}
-use Rattle.std.proofs.lemmas.List.{take-append-le, take_all}
 use Rattle.std.proofs.lemmas.List.Concat.{flat_map-append}
 use Rattle.std.proofs.ByRecursion.{All-append as all_append}
 use Rattle.std.specs.List.{flat_map}
 use Rattle.std.specs.Str.Lines.{lines, strip_carriage_return}
 use Rattle.lnt_output.specs.Fronts.{AppendsFront}
-use Rattle.lnt_output.proofs.FrontLaws.{front_after, front_all, front_none, front_same}
+use Rattle.lnt_output.proofs.FrontLaws.{front_after, front_all, front_before, front_none, front_same}
 use Rattle.lnt_wire.specs.Pulling.{Pulls, IsAtEnd}
 use Rattle.lnt_sources.specs.declared.status.Status.{Status}
 use Rattle.lnt_spans.specs.declared.position.Position.{Position}
@@ -17,7 +16,7 @@ use Rattle.lnt_lines.specs.Indexed.{Indexed, IsIndexOf}
 use Rattle.lnt_answers.specs.AddressBlocks.{IsBlockBegun, IsBlockTold, IsCutAt}
 use Rattle.lnt_answers.specs.AddressLines.{AreAddressesBegun, AreLinesBegun, AreLinesTold, Tells, told_line}
 use Rattle.lnt_answers.proofs.AddressLemmas.{IsTextTold, cut_ended, cut_within, line_last, texts_append}
-use Rattle.lnt_answers.proofs.AddressWholes.{answer_begun}
+use Rattle.lnt_answers.proofs.AddressWholes.{tell_lines}
 
 -- ---- lines
 
@@ -62,6 +61,22 @@ begun_append index op xs ys old now new s t a b = record {
       (a.printed dead skip units is) (b.front dead skip units is));
 }
 
+-- Others follow, whatever they tell: what was gained of these is a front of what is printed of all of them.
+begun_before : (index : Indexed) (op : ℕ) (xs ys : List (List ℕ)) (old new : Option (List ℕ)) → AreLinesBegun index op xs old new
+    → AreLinesBegun index op (xs ++ ys) old new
+begun_before index op xs ys old new begun =
+    let others = tell_lines op ys in
+    record {
+      told = begun.told ++ others.0;
+      lines_are = texts_append begun.told others.0 ∙ ap (λ (z : List (List ℕ)). z ++ map (λ line. line.0) others.0) begun.lines_are
+          ∙ ap (λ (z : List (List ℕ)). xs ++ z) others.1.0;
+      so = all_append (Tells op) begun.told others.0 begun.so others.1.1;
+      front = λ dead skip units is.
+          let text = told_line index dead skip units in
+          front_same old new _ _ (sym (flat_map-append text begun.told others.0))
+          (front_before old new (flat_map text begun.told) (flat_map text others.0) (begun.front dead skip units is));
+    }
+
 -- ---- a block
 
 -- within the answer to a line that ends at this index of the block
@@ -90,19 +105,17 @@ block_kept index op line block left rest old now s t before = record {
 
 -- ---- a whole text
 
+-- the first lines of the text
 begun_in : (index : Indexed) (op : ℕ) (start : Option (List ℕ)) (texts rest : List (List ℕ)) (old new : Option (List ℕ))
     → IfSome start (λ text. texts ++ rest ≡ lines text) → AreLinesBegun index op texts old new
     → AreAddressesBegun index op start old new
 begun_in index op None texts rest old new e begun = tt
 begun_in index op (Some text) texts rest old new e begun =
-    let whole : length texts ≤ length texts = omega arith in
-    let front : texts ≡ take (length texts) (lines text) =
-    sym (take_all (length texts) texts whole) ∙ sym (take-append-le (length texts) texts rest whole) ∙ ap (take (length texts)) e in
-    answer_begun index op (length texts) text old new (subst (λ (z : List (List ℕ)). AreLinesBegun index op z old new) front begun)
+    subst (λ (z : List (List ℕ)). AreLinesBegun index op z old new) e (begun_before index op texts rest old new begun)
 
 pub text_unbegun : (index : Indexed) (op : ℕ) (start : Option (List ℕ)) (old : Option (List ℕ)) → AreAddressesBegun index op start old old
 text_unbegun index op None old = tt
-text_unbegun index op (Some text) old = answer_begun index op 0 text old old (begun_none index op old)
+text_unbegun index op (Some text) old = begun_before index op [] (lines text) old old (begun_none index op old)
 
 -- between two blocks
 pub text_kept_begun : (index : Indexed) (op : ℕ) (start now : Option (List ℕ)) (line : List ℕ) (old new : Option (List ℕ)) (status : Status)

@@ -1,5 +1,5 @@
 -- What is printed of a text whose lines tell positions.
-use Rattle.std.specs.Prelude.{◌≡◌, Bool, ℕ, List, [], ◌∷◌, ◌++◌, take, Option, Some, None, IfSome, codes, map}
+use Rattle.std.specs.Prelude.{◌≡◌, Bool, ℕ, List, [], ◌∷◌, ◌++◌, Option, Some, None, IfSome, codes, map}
 use Rattle.std.specs.List.{AllByRecursion, flat_map}
 use Rattle.std.specs.Io.KnownBytes.{Appends}
 use Rattle.std.specs.Str.Lines.{lines}
@@ -58,15 +58,7 @@ pub record AreLinesBegun (index : Indexed) (op : ℕ) (texts : List (List ℕ)) 
   pub front : (dead : Option ℕ) (skip : Bool) (units : List (ℕ × Parts)) → IsIndexOf dead skip units index
       → AppendsFront old new (flat_map (told_line index dead skip units) told)
 
--- A writer that held these bytes (old) has gained a front of what is printed of so many first lines of the text (count), and nothing
--- else. That is a front of each whole answer to the text too: of what is printed of all its lines with what they tell (told).
-pub record IsAnswerBegun (index : Indexed) (op : ℕ) (text : List ℕ) (old new : Option (List ℕ)) : Type 0 where
-  pub count : ℕ
-  pub first : AreLinesBegun index op (take count (lines text)) old new
-  pub of_whole : (told : List (List ℕ × Option Position)) → map (λ line. line.0) told ≡ lines text → AllByRecursion (Tells op) told
-      → (dead : Option ℕ) (skip : Bool) (units : List (ℕ × Parts)) → IsIndexOf dead skip units index
-      → AppendsFront old new (flat_map (told_line index dead skip units) told)
-
--- Where the source of the text told what it had to give (text), an answer to it was begun.
+-- Where the source of the text told what it had to give (text), this is so of all the text's lines, also of those that weren't read
+-- yet. What they tell is a function of the lines (`laws::one_answer`): so a text has one whole answer, of which this is a front.
 abbrev pub AreAddressesBegun : Indexed → ℕ → Option (List ℕ) → Option (List ℕ) → Option (List ℕ) → Type 0
-AreAddressesBegun index op text old new = IfSome text (λ bytes. IsAnswerBegun index op bytes old new)
+AreAddressesBegun index op text old new = IfSome text (λ bytes. AreLinesBegun index op (lines bytes) old new)

@@ -2,5 +2,6 @@ pub mod AddressBlocks
 pub mod AddressLines
 pub mod DifferenceLines
 pub mod FileLines
+pub mod Laws
 pub mod Lines
 pub mod SumLines

@@ -37,9 +37,8 @@ const BLOCK: usize = 1 << 16;
 /// It answers `Done` where each line has a position, and else `No`. In both cases the writer has gained these lines, and
 /// nothing else (`AreAddressesTold`). It stops by `Read` only where the source failed, and by `TooLong` only where the source
 /// has more bytes than it may give: the lines before are then answered. It stops by `Write` where the writer failed, and by
-/// `Memory`. Where it stops, the writer has gained a front of the lines for the text's first lines, and so of each whole
-/// answer to the text, and nothing else (`AreAddressesBegun`). The caller sees to it that the number of the source's failures
-/// is below `u64::MAX`.
+/// `Memory`. Where it stops, the writer has gained a front of the lines for all lines of the text, and nothing else
+/// (`AreAddressesBegun`). The caller sees to it that the number of the source's failures is below `u64::MAX`.
 pub fn print_addresses<T: Source, W: Write>(
     alloc: Global,
     index: &Index<'_>,

@@ -9,6 +9,7 @@ mod addresses;
 mod differences;
 mod files;
 mod judge;
+pub mod laws;
 mod lookup;
 mod sums;
 

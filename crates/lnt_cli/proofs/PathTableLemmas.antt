@@ -1,6 +1,5 @@
 -- Tables by path whose printing was stopped.
 use Rattle.std.proofs.Common.{ℕ, List, Option, inl, inr}
-use Rattle.std.specs.Io.KnownBytes.{append_known}
 use Rattle.lnt_output.specs.Fronts.{AppendsFront}
 use Rattle.lnt_output.proofs.FrontLaws.{appends_known, front_none, front_since}
 use Rattle.lnt_sources.specs.declared.status.Status.TheVariants.{Done, No}

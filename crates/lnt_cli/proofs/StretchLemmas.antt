@@ -1,5 +1,5 @@
 -- The lines of the stretches at which a table answers otherwise than the rows of units.
-use Rattle.std.proofs.Common.{◌≡◌, ◌≢◌, Bool, ℕ, List, [], ◌∷◌, ◌++◌, ◌⊎◌, inl, inr, Option, Some, None, IfSome, ap, codes, subst}
+use Rattle.std.proofs.Common.{◌≡◌, ◌≢◌, Bool, ℕ, List, [], ◌∷◌, ◌++◌, inl, inr, Option, Some, None, IfSome, ap, codes, subst}
 use Rattle.std.specs.Io.KnownBytes.{Appends}
 use Rattle.lnt_output.specs.Fronts.{AppendsFront}
 use Rattle.lnt_unit.specs.declared.unit.Parts.{Parts}

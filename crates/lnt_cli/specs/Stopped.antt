@@ -70,7 +70,7 @@ pub record BeginsQuestion (tells : List ℕ → Option (List ℕ) → Type 0) (f
   pub is_true : IfSome section_bytes (λ section. IsJudgedIndex line general (options_in from) section judged)
   pub begun : BeginsJudged tells (options_in from) question judged old new
 
--- A front of the answer to a text of positions, for a section with this judgement.
+-- A front of the answers to all lines of a text of positions, for a section with this judgement.
 abbrev pub BeginsAddressesJudged : JudgedIndex → ℕ → Option (List ℕ) → Option (List ℕ) → Option (List ℕ) → Type 0
 BeginsAddressesJudged (Good index) op text old new = AreAddressesBegun index op text old new
 BeginsAddressesJudged (Bad reason) op text old new = AppendsFront old new (no_text reason ++ codes "\n")
@@ -97,7 +97,7 @@ pub record BeginsOfFile (tells : List ℕ → Option (List ℕ) → Type 0) (fro
   pub of_file : tells file file_bytes
   pub begun : HasBegunOf judged file_bytes
 
--- The writer has gained a front of the answer to the positions in the lines of the file of this name.
+-- The writer has gained a front of the answers to all lines of the file of this name, also to those that weren't read yet.
 abbrev pub BeginsAddresses : (List ℕ → Option (List ℕ) → Type 0) → Judging → List ℕ → ℕ → Option (List ℕ) → Option (List ℕ) → Type 0
 BeginsAddresses tells from file op old new = BeginsOfFile tells from file (λ judged text. BeginsAddressesJudged judged op text old new)
 

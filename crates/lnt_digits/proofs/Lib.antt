@@ -1,3 +1,4 @@
+pub mod DecidedLaws
 pub mod DelimitedLemmas
 pub mod DigitLemmas
 pub mod OneTextLaws

@@ -1,5 +1,5 @@
 -- Tables by path. One that was written for some answers was also written for the same answers given by another function.
-use Rattle.std.proofs.Common.{◌≡◌, ◌∙◌, ◌⊎◌, inl, inr, ℕ, List, Option}
+use Rattle.std.proofs.Common.{◌≡◌, ◌∙◌, inl, inr, ℕ, List, Option}
 use Rattle.std.specs.Io.KnownBytes.{Keeps}
 use Rattle.std.specs.List.{AllByRecursion}
 use Rattle.lnt_paths.specs.declared.version.PathTable.{PathTable}

@@ -1,4 +1,3 @@
-use Rattle.std.proofs.lemmas.Result.{on_err_weaker}
 use Rattle.lnt_output.proofs.FrontLaws.{front_since, so_stopped}
 use Rattle.lnt_cli.specs.PathTables.{operation_line}
 use Rattle.lnt_cli.proofs.PathTableLemmas.{line_begun, table_begun}
@@ -16,3 +15,8 @@ returns-in_err-print_operation-in-Ok-OperationIndex-clause-begun g c =
     (front_since (g.W.Write.contents c.args.out.now) (g.W.Write.contents c.write_paths.new.out)
     (g.W.Write.contents c.print_operation.new.out) (operation_line position) none.0
     c.in_err-print_operation-in-Ok-OperationIndex.ensures.front))
+
+pub returns-in-Err-clause-begun : goal.returns-in-Err-clause-begun
+returns-in-Err-clause-begun g c dead skip units is =
+    table_begun c.args.version (told_path c.args.version c.args.index.now dead skip units) (g.W.Write.contents c.args.out.now)
+    (g.W.Write.contents c.write_paths.new.out) (c.in-Err.ensures.begun dead skip units is)
