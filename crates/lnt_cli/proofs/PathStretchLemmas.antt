@@ -102,8 +102,8 @@ told_by_path to_come index path differences version spans slice dead skip units 
       version = version;
       spans = map held_span spans;
       is_table = is.1;
-      differences = printed.0;
-      are_stretches = printed.1;
+      stretches = stretches_of printed.0;
+      are_all = printed.1;
       printed = printed.2;
       status_is = printed.3;
     }

@@ -13,12 +13,11 @@ use Rattle.lnt_records.specs.declared.fault.TableFault.{TableFault}
 use Rattle.lnt_records.specs.declared.fault.TableFault.TheVariants as fault
 use Rattle.lnt_records.specs.Faults.{IsFault}
 use Rattle.lnt_records.specs.Table.{BeginsWith, IsTableOf, column_names}
-use Rattle.lnt_paths.specs.declared.answer.DifferenceByPath.{DifferenceByPath}
 use Rattle.lnt_paths.specs.declared.version.PathVersion.{PathVersion}
 use Rattle.lnt_paths.specs.PathAnswers.{PathAnswer}
 use Rattle.lnt_paths.specs.PathFaults.{IsPathFault}
 use Rattle.lnt_paths.specs.PathSpans.{PathSpan, path_span_answer}
-use Rattle.lnt_paths.specs.PathStretches.{ArePathStretches, AreStretches as AreAllByPath, Stretch, stretches_of}
+use Rattle.lnt_paths.specs.PathStretches.{AreStretches as AreAllByPath, Stretch}
 use Rattle.lnt_paths.specs.PathTables.{IsPathTableOf}
 use Rattle.lnt_table.specs.ByPath.{told_path}
 use Rattle.lnt_table.specs.Headline.{told_answer}
@@ -56,10 +55,10 @@ pub record AreToldByPath (index : Indexed) (dead : Option ℕ) (skip : Bool) (un
   pub version : PathVersion
   pub spans : List PathSpan
   pub is_table : IsPathTableOf version table spans
-  pub differences : List DifferenceByPath
-  pub are_stretches : ArePathStretches (told_path version index dead skip units) (path_span_answer spans) differences
-  pub printed : Appends old new (path_stretches_text (stretches_of differences))
-  pub status_is : status ≡ path_stretches_status (stretches_of differences)
+  pub stretches : List (Stretch PathAnswer)
+  pub are_all : AreAllByPath (told_path version index dead skip units) (path_span_answer spans) stretches
+  pub printed : Appends old new (path_stretches_text stretches)
+  pub status_is : status ≡ path_stretches_status stretches
 
 -- The bytes begin with the header of neither version 1 nor 2, and this is their first fault as a table by path: that of the
 -- header, where they begin with the header of neither of these.
@@ -111,8 +110,7 @@ ArePlacesTold options (Bad reason) table old new status = IsNoTold reason old ne
 --     old, new    what it holds before and afterwards
 
 -- A front of the lines of all stretches at which a table by path answers otherwise was gained, or of `yes` where there is none, and
--- nothing else. The list holds no `DifferenceByPath`: nothing says that memory would hold the paths of stretches that weren't
--- reached.
+-- nothing else.
 pub record ArePathDifferencesBegun (by_section by_table : Position → Option PathAnswer) (old new : Option (List ℕ)) : Type 0 where
   pub stretches : List (Stretch PathAnswer)
   pub are_all : AreAllByPath by_section by_table stretches
