@@ -136,8 +136,13 @@ paths powerpc64 --big
 
 # ---- memory and threads
 calls refusing tests/embedding/refusing.c
-expect 'each request refused' 0 "$(printf '%s: each request\n' linetab_{verify,units,path,table,check,check_paths})"$'\n' '' \
-  "$work/refusing" "${hello[@]}" examples/hello.csv "$work/other--paths"
+refused=$(printf '%s: each request\n' linetab_{verify,units,path,table,check,check_paths})$'\n'
+expect 'each request refused' 0 "$refused" '' "$work/refusing" "${hello[@]}" examples/hello.csv "$work/other--paths"
+# A table of several blocks, each of which is there when memory for the next one is asked for.
+large=(examples/powerpc64.debug_line examples/powerpc64.debug_line_str)
+./linetab table "${large[0]}" --line-str "${large[1]}" --big --quiet >"$work/large"
+./linetab table --paths "${large[0]}" --line-str "${large[1]}" --big --quiet | sed '$s!,[^,]*/!,/elsewhere/!' >"$work/other_large"
+expect 'each request refused, of a large table' 0 "$refused" '' "$work/refusing" "${large[@]}" "$work/large" "$work/other_large" --big
 calls threads tests/embedding/threads.c "$heap"
 expect 'eight threads' 0 $'all alike\n' '' "$work/threads" "${hello[@]}" examples/hello.csv
 end

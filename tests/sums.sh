@@ -14,6 +14,10 @@ expect 'a source as it was' 0 "unit 0 file 0 same \"$source\""$'\n' '' "${sums[@
 echo '// changed' >>"$source"
 sum=$(md5sum "$source" | cut -d ' ' -f 1)
 expect 'a source that was changed' 1 "unit 0 file 0 differs $sum \"$source\""$'\n' '' "${sums[@]}"
+# More than is read at a time.
+seq 20000 >"$source"
+sum=$(md5sum "$source" | cut -d ' ' -f 1)
+expect 'a source of 108,894 bytes' 1 "unit 0 file 0 differs $sum \"$source\""$'\n' '' "${sums[@]}"
 rm "$source"
 expect 'a source that is gone' 1 "unit 0 file 0 unreadable \"$source\""$'\n' '' "${sums[@]}"
 finish

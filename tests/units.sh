@@ -569,6 +569,9 @@ claims() {
   claim '2^30 directories' "$(unit "${numbers}${lengths}010108 8080808004 00" '')" 'no 25 malformed at 0x27: truncated' dump
   claim '2^30 directories, converted' "$(unit "${numbers}${lengths}010108 8080808004 00" '')" \
     'no 25 malformed at 0x27: truncated' convert --format 32 --order little
+  claim '2^30 files' "$(unit "${numbers}${lengths}${directory}020108020b 8080808004 ${files:12}" '')" 'no 25 malformed at 0x39: truncated' dump
+  claim '2^64 - 1 files' "$(unit "${numbers}${lengths}${directory}020108020b $(repeated ff 9)01 ${files:12}" '')" \
+    'no 25 malformed at 0x3e: truncated' dump
   claim 'a block of 2^31 bytes' "$(of_form 04 0000008000)" 'no 25 malformed at 0x22: truncated' dump
   claim 'an operation of 2^30 bytes' "$(unit "$header" '00 8080808004 80')" 'no 25 malformed at 0x3b: truncated' \
     convert --format 32 --order little

@@ -96,7 +96,16 @@ static int print_verdict(const struct linetab_verdict *v) {
     return v->number != 0;
 }
 
-/* A path as the program prints it where nothing in it is quoted. */
+/* Prints the text where a byte of a room that was filled with question marks is another one now. */
+static void tell_touched(const char *text, const void *room, size_t size) {
+    for (size_t i = 0; i < size; i++)
+        if (((const uint8_t *)room)[i] != '?') {
+            printf("%s", text);
+            return;
+        }
+}
+
+/* A path as the program prints it where nothing in it is quoted. Where its room is too short by one byte, nothing is put there. */
 static int print_path(const struct linetab_section *section, uint64_t unit, uint64_t file, const char *before, const char *after) {
     struct linetab_verdict verdict;
     uint8_t one[1];
@@ -106,7 +115,11 @@ static int print_path(const struct linetab_section *section, uint64_t unit, uint
         return print_verdict(&verdict);
     if (!is_there)
         return 0;
-    uint8_t *path = malloc(len + 1);
+    uint8_t *path = memset(malloc(len + 1), '?', len + 1);
+    if (len != 0) {
+        linetab_path(section, unit, file, path, len - 1, &len, &verdict);
+        tell_touched("a path that is cut: ", path, len);
+    }
     is_there = linetab_path(section, unit, file, path, len, &len, &verdict);
     if (is_there)
         printf("%s%.*s%s", before, (int)len, (const char *)path, after);
@@ -145,7 +158,11 @@ static int print_table(const struct linetab_section *section, bool is_wide) {
     struct linetab_verdict verdict;
     uint8_t one[1];
     size_t count = linetab_table(section, is_wide, one, 0, &verdict), again;
-    uint8_t *table = malloc(count + 1);
+    uint8_t *table = memset(malloc(count + 1), '?', count + 1);
+    if (count != 0) {
+        linetab_table(section, is_wide, table, count - 1, &verdict);
+        tell_touched("a table that is cut: ", table, count);
+    }
     again = linetab_table(section, is_wide, table, count, &verdict);
     if (verdict.number == 0 && again == count)
         fwrite(table, 1, count, stdout);
@@ -157,7 +174,11 @@ static int print_files(const struct linetab_section *section) {
     struct linetab_verdict verdict;
     struct linetab_unit one[1];
     size_t count = linetab_units(section, one, 0, &verdict), again;
-    struct linetab_unit *units = malloc((count + 1) * sizeof *units);
+    struct linetab_unit *units = memset(malloc((count + 1) * sizeof *units), '?', (count + 1) * sizeof *units);
+    if (count != 0) {
+        linetab_units(section, units, count - 1, &verdict);
+        tell_touched("units that are cut: ", units, count * sizeof *units);
+    }
     again = linetab_units(section, units, count, &verdict);
     int status = verdict.number != 0 ? print_verdict(&verdict) : again != count;
     for (size_t i = 0; status == 0 && i < count; i++) {
@@ -189,9 +210,7 @@ static int print_check(const struct linetab_section *section, const char *name) 
         for (int which = 0; which < 2; which++)
             if (lengths[which] != 0) {
                 linetab_check_paths(section, table, len, paths[0], lengths[0] - (which == 0), paths[1], lengths[1] - (which == 1), &again);
-                for (size_t i = 0; i < lengths[which]; i++)
-                    if (paths[which][i] != '?')
-                        printf("a path that is cut: ");
+                tell_touched("a path that is cut: ", paths[which], lengths[which]);
                 memset(paths[1 - which], '?', lengths[1 - which]);
             }
         linetab_check_paths(section, table, len, paths[0], lengths[0], paths[1], lengths[1], &again);

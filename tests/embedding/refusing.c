@@ -1,5 +1,5 @@
 /* A heap that refuses its nth request, and each call with each request refused in turn:
- *   refusing SECTION LINE_STR TABLE TABLE_BY_PATH
+ *   refusing SECTION LINE_STR TABLE TABLE_BY_PATH [--big]
  * A call either tells that memory ran out, or what it tells with ample memory, and leaves no block behind. */
 #include "linetab.h"
 #include <inttypes.h>
@@ -105,7 +105,7 @@ static bool try_call(int which, const struct linetab_section *section, const str
 }
 
 int main(int argc, char **argv) {
-    if (argc != 5)
+    if (argc != 5 && (argc != 6 || strcmp(argv[5], "--big") != 0))
         return 2;
     struct linetab_section section;
     memset(&section, 0, sizeof section);
@@ -116,6 +116,7 @@ int main(int argc, char **argv) {
     section.line = line;
     section.line_str = line_str;
     section.str = (const uint8_t *)"";
+    section.is_big = argc == 6;
     int status = 0;
     for (int which = 0; which < CALLS; which++)
         if (!try_call(which, &section, tables))
