@@ -1,6 +1,7 @@
 -- Fronts of a converted section: where its units up to a cursor were converted, and all of them can be, the rest has a conversion too.
 use Rattle.std.proofs.Common.{◌≡◌, ℕ, ◌+◌, List, [], ◌∷◌, ◌++◌, length, Option, Some, None, IfSome, Result, Ok, Err, OnErr, refl, sym, ap}
-use Rattle.std.proofs.Common.{subst, ◌∙◌, append_assoc, arith, inr}
+use Rattle.std.proofs.Common.{subst, ◌∙◌, append_assoc, append-nil, arith, inl, inr}
+use Rattle.std.specs.Io.KnownBytes.{Keeps}
 use Rattle.std.proofs.lemmas.List.{length-append, map-append}
 use Rattle.lnt_output.specs.Fronts.{AppendsFront}
 use Rattle.lnt_output.proofs.FrontLaws.{appends_known, front_after, front_all, front_before}
@@ -20,6 +21,7 @@ use Rattle.lnt_unit.proofs.ConvertedLaws.{whole_converted}
 use Rattle.lnt_unit.proofs.UnitLaws.{one_spelling, unit_is_some}
 use Rattle.lnt_unit.specs.UnitBytes.{SectionBytes, UnitBytesIn, UnitsFrom}
 use Rattle.lnt_unit.specs.declared.convert.ConvertFault.{ConvertFault}
+use Rattle.lnt_unit.specs.declared.convert.ConvertFault.TheVariants.{Malformed, Memory, TooLarge}
 use Rattle.lnt_unit.specs.declared.unit.Parts.{Parts}
 use Rattle.lnt_dump.specs.Printed.{IsConversionBegun, IsFrontIn, refusal_text}
 use Rattle.lnt_dump.proofs.Sections.{PrintedTo}
@@ -129,13 +131,35 @@ of_section : (section : Option (List ℕ)) (P : List ℕ → Type 0) (read : Lis
 of_section None P read same p = tt
 of_section (Some bytes) P read same p = subst P same p
 
--- a front of the line that says why there is none
+none_front : (front rest : List ℕ) → front ++ rest ≡ [] → front ≡ []
+none_front [] rest e = refl
+none_front (byte ∷ front) rest e = absurd (cc e)
+
+-- a front of nothing
+kept_front : (old new : Option (List ℕ)) → AppendsFront old new [] → Keeps old new
+kept_front None new f = tt
+kept_front (Some xs) None f = absurd f.gained
+kept_front (Some xs) (Some ys) f =
+    f.gained ∙ ap (λ (bytes : List ℕ). xs ++ bytes) (none_front f.front f.rest f.joined) ∙ append-nil xs
+
+-- a front of the line that says why a section isn't converted; nothing where memory ran out
+line_begun : (order : Order) (section : List ℕ) (format : Format) (to : Order) (fault : ConvertFault) (old new : Option (List ℕ))
+    → IsConvertFault order section format to fault → AppendsFront old new (refusal_text fault)
+    → IsConversionBegun order section format to old new
+line_begun order section format to (Malformed told) old new is front =
+    let text = refusal_text (Malformed told) in
+    inr (record { whole = text; ending = No; is_end = (Malformed told, λ e. absurd (cc e), is, appends_known old text); front = front })
+line_begun order section format to (TooLarge offset) old new is front =
+    let text = refusal_text (TooLarge offset) in
+    inr (record { whole = text; ending = No; is_end = (TooLarge offset, λ e. absurd (cc e), is, appends_known old text); front = front })
+line_begun order section format to Memory old new is front = inl (kept_front old new front)
+
+-- the same of a section as far as its source tells it
 pub refusal_begun : (order : Order) (section : Option (List ℕ)) (format : Format) (to : Order) (read : List ℕ) (fault : ConvertFault)
     (old new : Option (List ℕ)) (printed : Result Status Halt) → IfSome section (λ bytes. read ≡ bytes)
     → IsConvertFault order read format to fault → OnErr printed (AppendsFront old new (refusal_text fault))
     → OnErr printed (IfSome section (λ bytes. IsConversionBegun order bytes format to old new))
 refusal_begun order section format to read fault old new (Ok status) same is front = tt
 refusal_begun order section format to read fault old new (Err halt) same is front =
-    let text = refusal_text fault in
     of_section section (λ (bytes : List ℕ). IsConversionBegun order bytes format to old new) read same
-    (inr (record { whole = text; ending = No; is_end = (fault, is, appends_known old text); front = front }))
+    (line_begun order read format to fault old new is front)

@@ -1,5 +1,5 @@
 -- What a writer has gained where a section was converted, or wasn't, and where that was stopped.
-use Rattle.std.specs.Prelude.{◌⊎◌, ℕ, List, [], ◌++◌, Option, codes}
+use Rattle.std.specs.Prelude.{◌≢◌, ◌⊎◌, ℕ, List, [], ◌++◌, Option, codes}
 use Rattle.std.specs.Io.KnownBytes.{Appends, Keeps}
 use Rattle.lnt_output.specs.Fronts.{AppendsFront, HasBegun}
 use Rattle.lnt_sources.specs.declared.status.Status.{Status}
@@ -26,10 +26,11 @@ refusal_text (Malformed fault) = malformed_text fault ++ codes "\n"
 refusal_text (TooLarge offset) = too_large_text offset
 refusal_text Memory = []
 
--- a writer that held these bytes has gained the line that says why the section isn't converted, which is so
+-- A writer that held these bytes has gained the line that says why the section isn't converted, which is so. That memory ran out isn't
+-- told so: it stops the work.
 abbrev pub IsRefusalTold : Order → List ℕ → Format → Order → Option (List ℕ) → Option (List ℕ) → Type 0
 IsRefusalTold order section format to old new =
-    (fault : ConvertFault) × IsConvertFault order section format to fault × Appends old new (refusal_text fault)
+    (fault : ConvertFault) × (fault ≢ Memory) × IsConvertFault order section format to fault × Appends old new (refusal_text fault)
 
 -- how the work on a section ends: it was printed converted, or the line was that says why there is no conversion
 abbrev pub IsConversionTold : Order → List ℕ → Format → Order → Option (List ℕ) → Option (List ℕ) → Status → Type 0

@@ -1,5 +1,5 @@
 //! The subcommand `convert`.
-ghost use Rattle.std.specs.Prelude.{◌≡◌, ◌+◌, ◌-◌, ◌^◌, ◌<◌, IfErr, IfOk, IfSome, IsErrOf, IsTrue, OnErr, OnOk};
+ghost use Rattle.std.specs.Prelude.{◌≡◌, ◌≢◌, ◌+◌, ◌-◌, ◌^◌, ◌<◌, IfErr, IfOk, IfSome, IsErrOf, IsTrue, OnErr, OnOk};
 ghost use Rattle.std.specs.Io.KnownBytes.{Appends};
 ghost use Rattle.lnt_output.specs.Fronts.{AppendsFront};
 ghost use Rattle.lnt_sources.specs.Halts.{IsPrinting};
@@ -84,9 +84,10 @@ fn print_section<W: Write>(
     Ok(())
 }
 
-// Prints the line that says why a section isn't converted, or a front of it.
+// Prints the line that says why a section isn't converted, or a front of it. Want of memory has no line: it stops.
 fn print_refusal<W: Write>(alloc: Global, fault: ConvertFault, out: &mut W) -> Result<Status, Halt>
     ensures no { IfOk result (λ status. status ≡ No) }
+    ensures told { OnOk result (fault ≢ ConvertFault.Memory) }
     ensures err { IfErr result IsPrinting }
     ensures line { OnOk result (Appends (W.contents out.old) (W.contents out.new) (refusal_text fault)) }
     ensures front { OnErr result (AppendsFront (W.contents out.old) (W.contents out.new) (refusal_text fault)) }
