@@ -18,7 +18,9 @@ asks() { # NAME STATUS STDOUT LINES [OPTION..]: lookups of what these lines tell
 
 # ---- the version
 
-toolchain=$(rt version 2>/dev/null || sed -n 's/.*toolchain (`\([^`]*\)`.*/\1/p' README.md)
+# Without the letter of the kit, of which each proves by the same logic.
+toolchain=$(rt version 2>/dev/null | sed -E 's/^(rattle-kit-[0-9]+)[a-z]* /\1 /')
+[ -n "$toolchain" ] || toolchain=$(sed -n 's/.*toolchain (`\([^`]*\)`.*/\1/p' README.md)
 says 'the version' 0 "linetab $(cat VERSION) ($toolchain)"$'\n' --version
 says 'the version, in short' 0 "linetab $(cat VERSION) ($toolchain)"$'\n' -V
 

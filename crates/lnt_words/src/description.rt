@@ -43,8 +43,9 @@ pub(crate) enum Kind {
     Required(&'static str),
 }
 
-// The version of the program, and the toolchain that it is proved with, as `rt version` prints it.
-pub(crate) const VERSION: &str = "0.9.0 (rattle-kit-13f logic dac8208d650f15bf)";
+// The version of the program, and the toolchain that it is proved with: the number of its kit and its logic, as `rt version`
+// prints them, but for the letter of the kit, which tells revisions that prove by the same logic.
+pub(crate) const VERSION: &str = "0.9.0 (rattle-kit-13 logic dac8208d650f15bf)";
 
 /// The subcommands, in the order in which help lists them.
 pub(crate) const SUBCOMMANDS: &[Subcommand] = &[
