@@ -5,7 +5,7 @@ use Rattle.std.proofs.lemmas.List.{append-nil, length-append}
 use Rattle.lnt_machine.specs.declared.row.Row.{Row}
 use Rattle.lnt_machine.specs.declared.row.Sequence.{Sequence}
 use Rattle.lnt_machine.specs.Matrix.{joined_rows, onto_first, sequences_of}
-use Rattle.lnt_machine.specs.Cuts.{AreOpen, IsEnded, IsCut}
+use Rattle.lnt_machine.specs.Cuts.{are_some, AreOpen, IsEnded, IsCut}
 
 pub cut_none : IsCut [] [] []
 cut_none = record { joined = refl; each = tt; past = tt }
@@ -42,6 +42,11 @@ cut_end rows left ended row cut ends =
           (record { body = left; last = row; rows_are = refl; body_open = cut.past; ends = ends });
       past = tt;
     }
+
+-- where a row was added there is one
+pub some_after : (rows : List Row) (row : Row) → are_some (rows ++ row ∷ []) ≡ true
+some_after [] row = refl
+some_after (first ∷ rows) row = refl
 
 -- ---- the cut is that of the definition
 

@@ -1,9 +1,14 @@
 -- Rows cut into sequences, and those that no sequence ends yet (DWARF 5, 6.2.2).
-use Rattle.std.specs.Prelude.{◌≡◌, true, false, List, [], ◌∷◌, ◌++◌}
+use Rattle.std.specs.Prelude.{◌≡◌, Bool, true, false, List, [], ◌∷◌, ◌++◌}
 use Rattle.std.specs.List.{AllByRecursion}
 use Rattle.lnt_machine.specs.declared.row.Row.{Row}
 use Rattle.lnt_machine.specs.declared.row.Sequence.{Sequence}
 use Rattle.lnt_machine.specs.Matrix.{joined_rows}
+
+-- whether there is a row
+abbrev pub are_some : List Row → Bool
+are_some [] = false
+are_some (row ∷ rows) = true
 
 -- rows that don't end their sequence
 abbrev pub AreOpen : List Row → Type 0
