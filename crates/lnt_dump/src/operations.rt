@@ -1,10 +1,10 @@
 //! How operations are printed.
 use crate::dump::PrintStop;
 use crate::page::{Page, Sheet, turn_full};
-use crate::run::{ended, not_run};
+use crate::run::not_run;
 use lnt_digits::{put_address, put_decimal};
 use lnt_header::{OpView, Operands};
-use lnt_machine::Machine;
+use lnt_machine::Run;
 use lnt_wire::{Cursor, Order};
 use std::alloc::AllocError;
 use std::io::Write;
@@ -18,21 +18,19 @@ pub(crate) fn print_ops<W: Write>(
     out: &mut W,
 ) -> Result<(), PrintStop> {
     let (unit, runs) = (sheet.unit, sheet.shown.rows);
-    let mut machine = Machine::new(unit.numbers());
-    let (mut index, mut open) = (0, false);
+    let mut run = Run::new(unit.numbers());
+    let mut index: u64 = 0;
     for op in unit.ops() {
         let op = op?;
         if runs {
-            match machine.step(&op) {
-                Ok(Some(row)) => open = !row.end_sequence,
-                Ok(None) => {}
-                Err(fault) => return Err(not_run(unit, fault)),
+            if let Err(fault) = run.step(&op) {
+                return Err(not_run(unit, fault));
             }
         }
         print_op(sheet, index, &op, page, out)?;
         index = index.saturating_add(1);
     }
-    ended(open)
+    run.end().map_err(PrintStop::NotRun)
 }
 
 // Prints the line of the `index`th operation.

@@ -2,8 +2,8 @@
 use crate::dump::PrintStop;
 use crate::line::{MOST, row_line};
 use crate::page::{Page, Sheet, turn_full};
-use crate::run::{ended, not_run};
-use lnt_machine::{Machine, Row};
+use crate::run::not_run;
+use lnt_machine::{Row, Run};
 use std::io::Write;
 
 // Prints a line for each row of a unit, and judges its program as it goes.
@@ -14,20 +14,19 @@ pub(crate) fn print_rows<W: Write>(
     out: &mut W,
 ) -> Result<(), PrintStop> {
     let unit = sheet.unit;
-    let mut machine = Machine::new(unit.numbers());
+    let mut run = Run::new(unit.numbers());
     let mut room = [0; MOST];
-    let (mut index, mut open) = (0, false);
+    let mut index: u64 = 0;
     for op in unit.ops() {
-        let row = match machine.step(&op?) {
+        let row = match run.step(&op?) {
             Ok(Some(row)) => row,
             Ok(None) => continue,
             Err(fault) => return Err(not_run(unit, fault)),
         };
-        open = !row.end_sequence;
         print_row(sheet, index, &row, &mut room, page, out)?;
         index = index.saturating_add(1);
     }
-    ended(open)
+    run.end().map_err(PrintStop::NotRun)
 }
 
 // Prints the line of the `index`th row. The room is for its text.

@@ -1,7 +1,7 @@
 //! The positions at which sequences of a section begin and end.
 ghost use Rattle.std.specs.Prelude.{◌-◌, ◌^◌, ◌<◌};
 
-use lnt_machine::Machine;
+use lnt_machine::Run;
 use lnt_sequences::SeqId;
 use lnt_spans::Position;
 use lnt_stream::{SectionReader, UnitBuffer};
@@ -55,14 +55,15 @@ fn ends_in(alloc: Global, buffer: &UnitBuffer, index: u64) -> Option<Ends> {
 // that far.
 #[tactic(auto, using(lnt_machine::proofs::WalkLaws::step_allowed))]
 fn ends_of(unit: &UnitView<'_>, index: u64) -> Option<Ends> {
-    let mut machine = Machine::new(unit.header());
+    let mut run = Run::new(unit.header());
     let mut ended: u64 = 0;
-    let mut begun = None;
+    let mut first = None;
     for op in unit.ops() {
         let Ok(op) = op else {
             return None;
         };
-        let row = match machine.step(&op) {
+        let begins = !run.is_open();
+        let row = match run.step(&op) {
             Ok(Some(row)) => row,
             Ok(None) => continue,
             Err(_) => return None,
@@ -71,14 +72,17 @@ fn ends_of(unit: &UnitView<'_>, index: u64) -> Option<Ends> {
             address: row.address,
             op: row.op_index,
         };
-        let first = begun.unwrap_or(last);
-        begun = Some(first);
+        if begins {
+            first = Some(last);
+        }
         if row.end_sequence {
             if ended == index {
-                return Some(Ends { first, last });
+                return Some(Ends {
+                    first: first?,
+                    last,
+                });
             }
             ended = ended.saturating_add(1);
-            begun = None;
         }
     }
     None

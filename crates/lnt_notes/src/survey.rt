@@ -2,7 +2,7 @@
 ghost use Rattle.std.specs.Prelude.{◌-◌, ◌^◌, ◌<◌};
 
 use crate::marks::is_mark;
-use lnt_machine::{Machine, Row};
+use lnt_machine::{Row, Run};
 use lnt_stream::{SectionReader, UnitBuffer};
 use lnt_unit::UnitInPlace;
 use lnt_wire::{Order, Source};
@@ -49,21 +49,20 @@ impl Survey {
     #[tactic(auto, using(lnt_machine::proofs::WalkLaws::step_allowed))]
     fn see_unit(&mut self, unit: &UnitInPlace<'_>) -> Option<()> {
         let numbers = unit.numbers();
-        let mut machine = Machine::new(numbers);
-        let mut open = false;
+        let mut run = Run::new(numbers);
         for op in unit.ops() {
             let Ok(op) = op else {
                 return None;
             };
-            let row = match machine.step(&op) {
+            let begins = !run.is_open();
+            let row = match run.step(&op) {
                 Ok(Some(row)) => row,
                 Ok(None) => continue,
                 Err(_) => return None,
             };
-            if !open {
+            if begins {
                 self.see(&row, numbers.address_size());
             }
-            open = !row.end_sequence;
         }
         Some(())
     }
