@@ -1,5 +1,5 @@
 -- A unit's program, run operation by operation. Contracts of private functions speak of this.
-use Rattle.std.specs.Prelude.{◌≡◌, ◌≢◌, ℕ, ◌+◌, ◌^◌, ◌<◌, ◌≤◌, Bool, true, false, List, [], ◌∷◌, length, reverse, Option}
+use Rattle.std.specs.Prelude.{◌≡◌, ◌≢◌, ℕ, ◌+◌, ◌^◌, ◌<◌, ◌≤◌, List, length, reverse, Option}
 use Rattle.lnt_header.specs.declared.op.Op.{Op}
 use Rattle.lnt_header.specs.declared.op.OpView.{OpView}
 use Rattle.lnt_ops.specs.Walks as walks
@@ -10,9 +10,10 @@ use Rattle.lnt_machine.specs.declared.fault.RunFault.{RunFault}
 use Rattle.lnt_machine.specs.declared.fault.RunFault.TheVariants.{LineOutOfRange, Memory}
 use Rattle.lnt_machine.specs.declared.row.Row.{Row}
 use Rattle.lnt_machine.specs.declared.row.Sequence.{Sequence}
-use Rattle.lnt_machine.specs.Cuts.{IsCut}
+use Rattle.lnt_machine.specs.Cuts.{are_some, IsCut}
 use Rattle.lnt_machine.specs.Matrix.{LinesFit, rows}
-use Rattle.lnt_machine.specs.State.{StandsAfter, State}
+use Rattle.lnt_machine.specs.Running.{RunState}
+use Rattle.lnt_machine.specs.State.{StandsAfter}
 use Rattle.lnt_machine.specs.Steps.{LeavesRange}
 use Rattle.lnt_machine.specs.Stepping.{HasPlaces}
 use Rattle.lnt_sequences.specs.declared.collected.Collected.{Collected}
@@ -21,26 +22,20 @@ use Rattle.lnt_sequences.specs.Sequences.{Placed}
 use Rattle.lnt_sequences.specs.Watching.{Collects, CollectsRows, HasSeen}
 use Rattle.lnt_lines.specs.declared.refusal.Refusal.{Refusal}
 use Rattle.lnt_lines.specs.declared.refusal.Refusal.TheVariants as refusal
-use Rattle.lnt_lines.specs.declared.run.Run.{Run}
+use Rattle.lnt_lines.specs.declared.run.Watched.{Watched}
 use Rattle.lnt_wire.specs.declared.stop.Stop.TheVariants as stop
 use Rattle.lnt_lines.specs.Judging.{IsTold}
 
--- whether there is a row
-abbrev pub are_some : List Row → Bool
-are_some [] = false
-are_some (row ∷ rows) = true
-
 -- What was run so far: the operations that the walk has given, whose rows the watch has seen. Those of sequences that have
 -- ended stand in sequences, of which the places are known. It is run by a header that needn't have its files: so many there are.
-pub record RanSoFar (dead : Option ℕ) (view : View) (files : ℕ) (old now : Collected) (walk : Walk) (machine : State) (watch : Watch)
-    (is_open : Bool)
+pub record RanSoFar (dead : Option ℕ) (view : View) (files : ℕ) (old now : Collected) (walk : Walk) (run : RunState) (watch : Watch)
     (places : List ℕ) (place : ℕ) : Type 0 where
   pub ops : List Op
   pub given : HasGiven view ops walk
   pub few : length ops + length walk.at.rest ≤ length view.program
-  pub header_is : machine.header ≡ view.header
-  pub stands : StandsAfter machine (reverse ops)
-  pub count : machine.count ≡ length ops
+  pub header_is : run.machine.header ≡ view.header
+  pub stands : StandsAfter run.machine (reverse ops)
+  pub count : run.machine.count ≡ length ops
   pub lines : LinesFit (with_ops view ops) (length ops)
   pub seen : HasSeen dead view.unit.offset files watch (rows (with_ops view ops))
   pub collects : (sequences : List Placed) → Collects old sequences
@@ -48,61 +43,63 @@ pub record RanSoFar (dead : Option ℕ) (view : View) (files : ℕ) (old now : C
   pub ended : List Sequence
   pub left : List Row
   pub cut : IsCut (rows (with_ops view ops)) ended left
-  pub open_is : is_open ≡ are_some left
+  pub open_is : run.is_open ≡ are_some left
   pub known : HasPlaces view.header view.program (length ended) places place
 
--- the same of a run
-abbrev pub RunsSoFar : Option ℕ → View → ℕ → Run → Collected → Collected → Walk → List ℕ → Type 0
-RunsSoFar dead view files run old now walk places = RanSoFar dead view files old now walk run.machine run.watch run.is_open places run.place
+-- the same of a program that is run and watched
+abbrev pub RunsSoFar : Option ℕ → View → ℕ → Watched → Collected → Collected → Walk → List ℕ → Type 0
+RunsSoFar dead view files watched old now walk places = RanSoFar dead view files old now walk watched.run watched.watch places watched.place
 
--- the same of a run of a unit, by the numbers of its header
-abbrev pub RunsByNumbers : Option ℕ → View → Run → Collected → Collected → Walk → List ℕ → Type 0
-RunsByNumbers dead view run old now walk places = RunsSoFar dead (by_numbers view) (length view.header.files) run old now walk places
+-- the same of the program of a unit, by the numbers of its header
+abbrev pub RunsByNumbers : Option ℕ → View → Watched → Collected → Collected → Walk → List ℕ → Type 0
+RunsByNumbers dead view watched old now walk places =
+    RunsSoFar dead (by_numbers view) (length view.header.files) watched old now walk places
 
--- the program, of which a run knows how many bytes it has, ends below 2^64
-abbrev pub HasRoom : View → Run → Type 0
-HasRoom view run = (view.place + length view.program < 2 ^ 64) × (run.length ≡ length view.program)
+-- the program, of which it is known how many bytes it has, ends below 2^64
+abbrev pub HasRoom : View → Watched → Type 0
+HasRoom view watched = (view.place + length view.program < 2 ^ 64) × (watched.length ≡ length view.program)
 
 -- Whatever was run so far, it goes on by an operation that the walk gives, after which so many bytes are left.
-abbrev pub GoesOn : OpView → ℕ → Run → Run → Collected → Collected → List ℕ → List ℕ → Type 0
-GoesOn item left run run' now now' places places' =
-    (dead : Option ℕ) (view : View) (files : ℕ) (old : Collected) (walk walk' : Walk) → RunsSoFar dead view files run old now walk places
-    → walks.Steps item walk walk' → HasRoom view run → left ≡ length walk'.at.rest → RunsSoFar dead view files run' old now' walk' places'
+abbrev pub GoesOn : OpView → ℕ → Watched → Watched → Collected → Collected → List ℕ → List ℕ → Type 0
+GoesOn item left watched watched' now now' places places' =
+    (dead : Option ℕ) (view : View) (files : ℕ) (old : Collected) (walk walk' : Walk)
+    → RunsSoFar dead view files watched old now walk places → walks.Steps item walk walk' → HasRoom view watched → left ≡ length walk'.at.rest
+    → RunsSoFar dead view files watched' old now' walk' places'
 
 -- Whatever was run so far, it goes on up to where the walk stands then.
-abbrev pub GoesOnTo : Walk → Walk → Run → Run → Collected → Collected → List ℕ → List ℕ → Type 0
-GoesOnTo walk walk' run run' now now' places places' =
-    (dead : Option ℕ) (view : View) (files : ℕ) (old : Collected) → RunsSoFar dead view files run old now walk places → HasRoom view run
-    → RunsSoFar dead view files run' old now' walk' places'
+abbrev pub GoesOnTo : Walk → Walk → Watched → Watched → Collected → Collected → List ℕ → List ℕ → Type 0
+GoesOnTo walk walk' watched watched' now now' places places' =
+    (dead : Option ℕ) (view : View) (files : ℕ) (old : Collected) → RunsSoFar dead view files watched old now walk places
+    → HasRoom view watched
+    → RunsSoFar dead view files watched' old now' walk' places'
 
 -- An operation leads out of the range of lines, after those that were run, and the fault names it.
 pub record IsOut (dead : Option ℕ) (view : View) (files : ℕ) (old : Collected) (fault : RunFault) : Type 0 where
   pub now : Collected
   pub walk : Walk
   pub after : Walk
-  pub machine : State
+  pub run : RunState
   pub watch : Watch
-  pub is_open : Bool
   pub places : List ℕ
   pub place : ℕ
   pub item : OpView
-  pub ran : RanSoFar dead view files old now walk machine watch is_open places place
+  pub ran : RanSoFar dead view files old now walk run watch places place
   pub step : walks.Steps item walk after
-  pub leaves : LeavesRange item machine
-  pub fault_is : fault ≡ LineOutOfRange machine.count
+  pub leaves : LeavesRange item run.machine
+  pub fault_is : fault ≡ LineOutOfRange run.machine.count
 
 -- The run stops at an operation, or somewhere after a walk, which is an operation out of the range of lines, but for want
 -- of memory.
-abbrev pub StopsAt : OpView → Run → Collected → List ℕ → RunFault → Type 0
-StopsAt item run now places fault =
+abbrev pub StopsAt : OpView → Watched → Collected → List ℕ → RunFault → Type 0
+StopsAt item watched now places fault =
     fault ≢ Memory → (dead : Option ℕ) (view : View) (files : ℕ) (old : Collected) (walk walk' : Walk)
-    → RunsSoFar dead view files run old now walk places
+    → RunsSoFar dead view files watched old now walk places
     → walks.Steps item walk walk' → IsOut dead view files old fault
 
-abbrev pub StopsAfter : Walk → Run → Collected → List ℕ → RunFault → Type 0
-StopsAfter walk run now places fault =
-    fault ≢ Memory → (dead : Option ℕ) (view : View) (files : ℕ) (old : Collected) → RunsSoFar dead view files run old now walk places
-    → HasRoom view run
+abbrev pub StopsAfter : Walk → Watched → Collected → List ℕ → RunFault → Type 0
+StopsAfter walk watched now places fault =
+    fault ≢ Memory → (dead : Option ℕ) (view : View) (files : ℕ) (old : Collected) → RunsSoFar dead view files watched old now walk places
+    → HasRoom view watched
     → IsOut dead view files old fault
 
 -- What is told for the fault of a program.

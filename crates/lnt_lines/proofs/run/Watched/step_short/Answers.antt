@@ -1,5 +1,5 @@
 use Rattle.std.proofs.lemmas.Result.{err_from_is_err_and}
-use Rattle.lnt_lines.proofs.run.Run.step_short.Goals as goal
+use Rattle.lnt_lines.proofs.run.Watched.step_short.Goals as goal
 
 pub returns-in_err-step-clause-err : goal.returns-in_err-step-clause-err
 returns-in_err-step-clause-err c =
