@@ -101,9 +101,3 @@ fit_told version (span ∷ spans) h = (fits_told version span h.0, fit_told vers
 -- spans that fit have canonical ones that fit
 pub has_fitting : (version : Version) (given : List Span) → AreInOrder given → FitSpans given → HasCanonical FitsSpan version given
 has_fitting version given order fit = has_canonical FitsSpan fits_extended version given order (fit_told version given fit)
-
--- and any canonical spans that answer as they do are these
-pub canonical_fits : (version : Version) (given spans : List Span) → AreInOrder given → FitSpans given → IsCanonical spans
-    → ((p : Position) → span_answer spans p ≡ version_answer version given p) → FitSpans spans
-canonical_fits version given spans order fit canonical same =
-    canonical_each FitsSpan fits_extended version given spans order (fit_told version given fit) canonical same

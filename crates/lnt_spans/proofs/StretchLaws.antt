@@ -1,6 +1,6 @@
 -- The stretches given so far are a front of the list of all stretches.
-use Rattle.std.proofs.Common.{◌≡◌, ◌≢◌, ◌∙◌, ℕ, zero, suc, ◌+◌, ◌≤◌, Bool, true, false, List, [], ◌∷◌, ◌++◌, ◌⊎◌, inl}
-use Rattle.std.proofs.Common.{inr, refl, ap, sym, subst, Some, None, Option, arith, length, append-nil, append_assoc}
+use Rattle.std.proofs.Common.{◌≡◌, ◌≢◌, ◌∙◌, ℕ, zero, suc, ◌+◌, ◌≤◌, List, [], ◌∷◌, ◌++◌, inl, inr, ap, sym, subst}
+use Rattle.std.proofs.Common.{Some, None, Option, arith, length, append-nil, append_assoc}
 use Rattle.std.specs.Option.{option_map}
 use Rattle.lnt_spans.specs.declared.ahead.Ahead.{Ahead}
 use Rattle.lnt_spans.specs.declared.answer.Answer.{Answer}

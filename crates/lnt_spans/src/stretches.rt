@@ -11,7 +11,7 @@ ghost use Rattle.lnt_spans.specs.declared.stretches.Step.TheVariants as step;
 ghost use Rattle.lnt_spans.specs.Stepping.{BeginsWith};
 ghost use Rattle.lnt_spans.specs.Comparing.{IsTold, end_of};
 ghost use Rattle.lnt_spans.specs.Differing.{HasTold, IsSide, runs_left, stretches_left};
-ghost use Rattle.lnt_spans.specs.Positions.{IsBelow, IsAtMost};
+ghost use Rattle.lnt_spans.specs.Positions.{IsAtMost};
 ghost use Rattle.lnt_spans.specs.Scanning.{EndsAfter};
 ghost use Rattle.lnt_spans.specs.Spans.{AreInOrder, span_answer, version_answer};
 ghost use Rattle.lnt_spans.specs.Stepping.{IsRun, IsUpTo, Steps, run_end};
