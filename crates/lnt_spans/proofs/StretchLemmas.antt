@@ -1,9 +1,8 @@
 -- The stretches, given one after another as the spans of both sides come.
-use Rattle.std.proofs.Common.{◌≡◌, ◌≢◌, ◌∙◌, ℕ, ◌+◌, ◌<◌, ◌≤◌, List, [], ◌∷◌, ◌++◌, ◌⊎◌, inl}
+use Rattle.std.proofs.Common.{◌≡◌, ◌≢◌, ◌∙◌, List, [], ◌∷◌, ◌++◌, ◌⊎◌, inl}
 use Rattle.std.proofs.Common.{inr, refl, ap, sym, subst, Some, None, Option, arith}
 use Rattle.std.specs.List.{AllByRecursion}
 use Rattle.std.specs.Option.{option_map}
-use Rattle.std.proofs.lemmas.Option.{same_Some}
 use Rattle.lnt_spans.specs.declared.ahead.Ahead.{Ahead}
 use Rattle.lnt_spans.specs.declared.answer.Answer.{Answer}
 use Rattle.lnt_spans.specs.declared.answer.Version.{Version}
@@ -18,62 +17,18 @@ use Rattle.lnt_spans.specs.Differing.{AreToldBelow, HasTold, IsOpen, IsSide}
 use Rattle.lnt_spans.specs.Positions.{IsBelow, IsAtMost}
 use Rattle.lnt_spans.specs.Scanning.{EndsAfter}
 use Rattle.lnt_spans.specs.Spans.{AreInOrder, span_answer, version_answer}
-use Rattle.lnt_spans.specs.Stepping.{IsBefore, IsRun, IsUpTo, run_end}
-use Rattle.lnt_spans.specs.Stretches.{AreAnswers, AreRising, BeginsStretch, IsInOne, IsInStretch, Stay}
-use Rattle.lnt_spans.proofs.AnsweringLaws.{answer_after, answer_in, answer_same, back_in_order, first_holds}
-use Rattle.lnt_spans.proofs.AnsweringLaws.{front_in_order, none_before, rest_in_order, rest_none}
+use Rattle.lnt_spans.specs.Stepping.{IsRun, IsUpTo, run_end}
+use Rattle.lnt_spans.specs.Stretches.{AreRising, BeginsStretch, IsInOne, IsInStretch, Stay}
+use Rattle.lnt_spans.proofs.AnsweringLaws.{answer_after, answer_same, back_in_order, first_holds}
+use Rattle.lnt_spans.proofs.AnsweringLaws.{front_in_order, rest_in_order, rest_none}
 use Rattle.lnt_spans.proofs.PositionLaws.{at_most_below, at_most_itself, at_most_trans, below_at_most}
-use Rattle.lnt_spans.proofs.PositionLaws.{below_is_at_most, not_both, order_cases, test_below, test_not_below}
+use Rattle.lnt_spans.proofs.PositionLaws.{below_is_at_most, not_both, order_cases}
 use Rattle.lnt_spans.specs.Laws.{FirstStretch}
+use Rattle.lnt_spans.proofs.RunLaws.{Moves, after_high, last_answers, same_run, stay_on, up_to_high}
 use Rattle.lnt_spans.proofs.ToldLaws.{told, told_answer}
 use Rattle.lnt_spans.proofs.ScanLemmas.{begins_with, first_is, next_after}
 
 -- ---- one side
-
-pub gap_run : (version : Version) (span : Span) (more : List Span) (at : Position) → AreInOrder (span ∷ more) → IsBelow at span.low
-    → IsRun (version_answer version (span ∷ more)) at None (Some span.low)
-gap_run version span more at o gap = record {
-  past = gap;
-  says = λ p h k. ap (option_map (in_version version)) (none_before span more p o k);
-}
-
-pub run_gap : (version : Version) (next : Option Span) (spans : List Span) (span : Span) (at : Position) → next ≡ Some span
-    → BeginsWith next spans → AreInOrder spans → IsBelow at span.low
-    → IsRun (version_answer version spans) at None (Some span.low)
-run_gap version next spans span at is b o gap =
-    let first = first_is next span spans is b in
-    rw first.1 (gap_run version span first.0 at (subst AreInOrder first.1 o) gap)
-
-pub inside_run : (version : Version) (span : Span) (more : List Span) (at : Position) → IsAtMost span.low at → IsBelow at span.high
-    → IsRun (version_answer version (span ∷ more)) at (Some (in_version version span.answer)) (Some span.high)
-inside_run version span more at le past = record {
-  past = past;
-  says = λ p h k. ap (option_map (in_version version)) (answer_in span more p (at_most_trans le h) k);
-}
-
-pub end_gap : (next : Option Span) (span : Span) (at : Position) → next ≡ Some span → IsBelow at span.low → Some span.low ≡ run_end at next
-end_gap next span at e lt = rw (e, test_below at span.low lt) refl
-
-pub end_inside : (next : Option Span) (span : Span) (at : Position) → next ≡ Some span → IsAtMost span.low at
-    → Some span.high ≡ run_end at next
-end_inside next span at e le = rw (e, test_not_below at span.low le) refl
-
--- ---- a side goes on
-
-up_to_high : (span : Span) (more : List Span) (at end : Position) → AreInOrder (span ∷ more) → IsUpTo end (run_end at (Some span))
-    → IsAtMost end span.high
-up_to_high span more at end o h = elim (order_cases at span.low) [
-  | inl gap ↦ at_most_trans (subst (λ (q : Position). IsAtMost end q) (same_Some _ span.low (sym (end_gap (Some span) span at refl gap))) h)
-      (below_is_at_most (first_holds span more o))
-  | inr in_it ↦ subst (λ (q : Position). IsAtMost end q) (same_Some _ span.high (sym (end_inside (Some span) span at refl in_it))) h
-]
-
-after_high : (span : Span) (more : List Span) (end : Position) → AreInOrder (span ∷ more) → IsAtMost end span.high → EndsAfter end more
-after_high span more end o le = upto more (next_after span more o)
-  where
-    upto : (xs : List Span) → EndsAfter span.high xs → EndsAfter end xs
-    upto [] h = tt
-    upto (x ∷ xs) h = at_most_below le h
 
 pub side_passed : {S : Type 0} (to_come : S → List Span → Type 0) (version : Version) (old new : Ahead S) (span : Span) (at end : Position)
     (answers : Position → Option Answer) → old.next ≡ Some span → IsAtMost span.high end
@@ -123,19 +78,6 @@ rising_push : (told : List Difference) (d : Difference) → AreRising told
 rising_push [] d r h = tt
 rising_push (e ∷ []) d r h = (h.0, tt)
 rising_push (e ∷ next ∷ told) d r h = (r.0, rising_push (next ∷ told) d r.1 h.1)
-
--- right below the end the answers are those of the run
-last_answers : (f g : Position → Option Answer) (at end : Position) (s t : Option Answer) → IsBelow at end → Stay f g s t at end
-    → (p : Position) → IsBelow p end
-    → (q : Position) × IsAtMost p q × IsBelow q end × ((f q ≡ g q) ⊎ AreAnswers f g s t q)
-last_answers f g at end s t lt stay p h = elim (order_cases p at) [
-  | inl early ↦ (at, below_is_at_most early, lt, inr (stay at (at_most_itself at) lt))
-  | inr late ↦ (p, at_most_itself p, h, inr (stay p late h))
-]
-
-stay_on : (f g : Position → Option Answer) (s t : Option Answer) (at end p : Position) → Stay f g s t at end → Stay f g s t end p
-    → Stay f g s t at p
-stay_on f g s t at end p one two q h k = elim (order_cases q end) [ inl early ↦ one q h early | inr late ↦ two q late k ]
 
 -- at a position in the run: the last stretch still holds it
 pub told_on : (f g : Position → Option Answer) (at end : Position) (s t : Option Answer) (told : List Difference)
@@ -226,25 +168,8 @@ pub side_run : {S : Type 0} (to_come : S → List Span → Type 0) (version : Ve
     (answers : Position → Option Answer) (answer : Option Answer) (end : Option Position) → IsSide to_come version ahead at answers
     → Runs version ahead.next at answer end → IsRun answers at answer end
 side_run to_come version ahead at answers answer end s runs =
-    let r = runs s.rest (begins_with to_come ahead s.rest s.coming) s.order s.past in
-    record { past = r.past; says = λ p h k. sym (s.same p h) ∙ r.says p h k }
-
-before_end : (p q : Position) (end : Option Position) → IsBelow p q → IsUpTo q end → IsBefore p end
-before_end p q None lt up = tt
-before_end p q (Some end) lt up = below_at_most lt up
-
--- From `at` up to `end` both answers stay these two.
-pub record Moves (f g : Position → Option Answer) (at end : Position) (s t : Option Answer) : Type 0 where
-  pub below : IsBelow at end
-  pub stay : Stay f g s t at end
-
-pub moves : (f g : Position → Option Answer) (at end : Position) (s t : Option Answer) (one other : Option Position) → IsRun f at s one
-    → IsRun g at t other → IsUpTo end one → IsUpTo end other
-    → (one ≡ Some end) ⊎ (other ≡ Some end) → Moves f g at end s t
-moves f g at end s t one other a b up up' is = record {
-  below = elim is [ inl e ↦ subst (IsBefore at) e a.past | inr e ↦ subst (IsBefore at) e b.past ];
-  stay = λ p h k. record { section = a.says p h (before_end p end one k up); table = b.says p h (before_end p end other k up') };
-}
+    same_run (version_answer version s.rest) answers at answer end s.same
+    (runs s.rest (begins_with to_come ahead s.rest s.coming) s.order s.past)
 
 pub step_known : (f g : Position → Option Answer) (at end : Position) (s t s' t' : Option Answer) (told : List Difference)
     → AreToldBelow f g at s t told → Moves f g at end s' t'
@@ -252,10 +177,6 @@ pub step_known : (f g : Position → Option Answer) (at end : Position) (s t s' 
 step_known f g at end s t s' t' told b m (inl same) = told_alike f g at end s t s' t' told b m.below m.stay same
 step_known f g at end s t s' t' told b m (inr same) =
     rw (same.0, same.1) (told_on f g at end s t told b m.below (rw (same.0, same.1) at m.stay))
-
-pub both_fewer : (a b a' b' : ℕ) {P Q : Type 0} → (a' ≤ a) × (P → a' < a) → (b' ≤ b) × (Q → b' < b) → P ⊎ Q → a' + b' < a + b
-both_fewer a b a' b' h k (inl p) = omega (arith, h.1 p, k.0)
-both_fewer a b a' b' h k (inr q) = omega (arith, h.0, k.1 q)
 
 -- ---- where nothing is told
 

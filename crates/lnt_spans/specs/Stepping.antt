@@ -29,7 +29,7 @@ IsBefore p None = Unit {0}
 IsBefore p (Some end) = IsBelow p end
 
 -- From a position on up to the end, which is after it, or at all of them, this is answered.
-pub record IsRun (answers : Position → Option Answer) (at : Position) (answer : Option Answer) (end : Option Position) : Type 0 where
+pub record IsRun {X : Type 0} (answers : Position → Option X) (at : Position) (answer : Option X) (end : Option Position) : Type 0 where
   pub past : IsBefore at end
   pub says : (p : Position) → IsAtMost at p → IsBefore p end → answers p ≡ answer
 

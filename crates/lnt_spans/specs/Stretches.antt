@@ -8,13 +8,14 @@ use Rattle.lnt_spans.specs.declared.difference.Difference.{Difference}
 use Rattle.lnt_spans.specs.declared.position.Position.{Position}
 use Rattle.lnt_spans.specs.Positions.{IsBelow, IsAtMost}
 
--- These are the two answers at p.
-pub record AreAnswers (by_section by_table : Position → Option Answer) (of_section of_table : Option Answer) (p : Position) : Type 0 where
+-- These are the two answers at p, of whatever kind.
+pub record AreAnswers {X : Type 0} (by_section by_table : Position → Option X) (of_section of_table : Option X) (p : Position) : Type
+    0 where
   pub section : by_section p ≡ of_section
   pub table : by_table p ≡ of_table
 
 -- The two answers stay the same in the half-open range from `from` up to `to`.
-abbrev pub Stay : (Position → Option Answer) → (Position → Option Answer) → Option Answer → Option Answer → Position → Position → Type 0
+abbrev pub Stay : {X : Type 0} → (Position → Option X) → (Position → Option X) → Option X → Option X → Position → Position → Type 0
 Stay by_section by_table of_section of_table from to =
     (p : Position) → IsAtMost from p → IsBelow p to → AreAnswers by_section by_table of_section of_table p
 

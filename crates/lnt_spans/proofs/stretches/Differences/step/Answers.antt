@@ -1,7 +1,8 @@
 use Rattle.std.proofs.Common.{subst}
 use Rattle.lnt_spans.specs.Stepping.{IsUpTo}
 use Rattle.lnt_spans.proofs.PositionLaws.{below_is_at_most}
-use Rattle.lnt_spans.proofs.StretchLemmas.{both_fewer, moves, side_run, step_known, told_new}
+use Rattle.lnt_spans.proofs.RunLaws.{both_fewer, moves}
+use Rattle.lnt_spans.proofs.StretchLemmas.{side_run, step_known, told_new}
 use Rattle.lnt_spans.proofs.stretches.Differences.step.Goals as goal
 
 pub returns-then-is_known-clause-told : goal.returns-then-is_known-clause-told
