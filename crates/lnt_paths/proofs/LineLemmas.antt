@@ -1,18 +1,17 @@
 -- Lines that are written are read as a table by `csv`.
 use Rattle.std.proofs.Common.{◌≡◌, ◌∙◌, ℕ, ◌+◌, ◌-◌, ◌≤◌, false, List, [], ◌∷◌, ◌++◌, Option, Some, None, length, get_or, take, refl, sym}
 use Rattle.std.proofs.Common.{ap, subst, append_assoc, arith, length-append}
-use Rattle.std.proofs.lemmas.Bool.{ne_eqb}
 use Rattle.std.proofs.lemmas.List.{append-nil, take-append-le, take_all}
-use Rattle.std.specs.List.{All, AllByRecursion, AllZip, list_any}
+use Rattle.std.specs.List.{All, AllByRecursion, AllZip}
 use Rattle.std.proofs.lemmas.List.Elements.{recursion_from_All}
-use Rattle.csv.specs.Machine.{next_record}
 use Rattle.csv.specs.Reading.{Reached, default_config, strip_bom}
 use Rattle.csv.specs.Writing.{default_writer, field_text, fields_text, is_blank, needs_byte, read_back, row_text}
 use Rattle.csv.specs.declared.parser.State.TheVariants as st
 use Rattle.csv.proofs.RoundTrip.{read-write}
 use Rattle.lnt_digits.specs.Digits.{IsDecimal, IsPlainAddress, IsPlainDecimal, Puts}
-use Rattle.lnt_digits.proofs.TextLaws.{FromZero, address_from_zero, decimal_from_zero, plain_address}
+use Rattle.lnt_digits.proofs.TextLaws.{plain_address}
 use Rattle.lnt_records.specs.Table.{Fields, RecordsOf}
+use Rattle.lnt_records.proofs.QuotingLaws.{IsQuiet, address_text, none_left, number_text, quiet_text, same_back}
 use Rattle.lnt_spans.specs.declared.answer.Answer.{Answer}
 use Rattle.lnt_spans.specs.declared.span.Span.{Span}
 use Rattle.lnt_paths.specs.declared.version.PathVersion.{PathVersion}
@@ -34,32 +33,6 @@ pub names_four : (108 ∷ 111 ∷ 119 ∷ 44 ∷ 104 ∷ 105 ∷ 103 ∷ 104 ∷
     ≡ row_text default_writer (path_column_names Four)
 unfolding is_blank fields_text
 names_four = refl
-
--- ---- plain fields need no quotes
-
-abbrev IsQuiet : List ℕ → Type 0
-IsQuiet field = list_any (needs_byte default_writer) field ≡ false
-
-quiet_byte : (c : ℕ) → 48 ≤ c → needs_byte default_writer c ≡ false
-quiet_byte c h =
-    let comma = ne_eqb c 44 (λ e. omega (arith, h, e)) in
-    let quote = ne_eqb c 34 (λ e. omega (arith, h, e)) in
-    let return = ne_eqb c 13 (λ e. omega (arith, h, e)) in
-    let feed = ne_eqb c 10 (λ e. omega (arith, h, e)) in
-    rw (comma, quote, return, feed) refl
-
-pub quiet_bytes : (text : List ℕ) → AllByRecursion FromZero text → IsQuiet text
-quiet_bytes [] h = refl
-quiet_bytes (c ∷ text) h = rw (quiet_byte c h.0, quiet_bytes text h.1) refl
-
-pub quiet_text : (field : List ℕ) → IsQuiet field → field_text default_writer field ≡ field
-quiet_text field q = rw q refl
-
-number_text : (text : List ℕ) (n : ℕ) → IsPlainDecimal text n → field_text default_writer text ≡ text
-number_text text n h = quiet_text text (quiet_bytes text (decimal_from_zero text n h.number))
-
-address_text : (text : List ℕ) (n : ℕ) → IsPlainAddress text n → field_text default_writer text ≡ text
-address_text text n h = quiet_text text (quiet_bytes text (address_from_zero text n (plain_address text n h)))
 
 -- ---- the field of a path
 
@@ -117,7 +90,7 @@ end_fields : (version : PathVersion) (answer : Answer) (more : List ℕ) → IsP
 unfolding fields_text
 end_fields Three answer more e = (
   e.0 ∷ [],
-  e.2 ∙ rw (number_text e.0 answer.column e.1) (ap (λ (t : List ℕ). 44 ∷ t ++ 10 ∷ []) (sym (append-nil e.0))),
+  e.2 ∙ rw (number_text e.0 answer.column e.1.number) (ap (λ (t : List ℕ). 44 ∷ t ++ 10 ∷ []) (sym (append-nil e.0))),
   (e.0, refl, e.1),
 )
 end_fields Four answer more e = ([], e, refl)
@@ -136,6 +109,9 @@ says_line Four path answer low high line a b more l h n e =
     (path_answer Four path answer)) (sym e)
     (record { count = refl; low_is = l; high_is = h; path = refl; line = n; column = refl })
 
+plain_text : (text : List ℕ) (n : ℕ) → IsPlainAddress text n → field_text default_writer text ≡ text
+plain_text text n h = address_text text n (plain_address text n h)
+
 line_join : (old b1 b2 b3 b4 b5 new low high file place more : List ℕ) → b1 ≡ old ++ low → b2 ≡ b1 ++ 44 ∷ [] → b3 ≡ b2 ++ high
     → b4 ≡ b3 ++ 44 ∷ []
     → b5 ≡ b4 ++ (file ++ 44 ∷ []) → new ≡ b5 ++ (place ++ more) → new ≡ old ++ (low ++ (44 ∷ high ++ (44 ∷ file ++ (44 ∷ place ++ more))))
@@ -150,8 +126,8 @@ pub line_put : (version : PathVersion) (path : ℕ → ℕ → List ℕ) (span :
 line_put version path span old b1 b2 b3 b4 b5 new low e2 high e4 e5 place =
     let file : List ℕ = path span.answer.unit span.answer.file in
     let end = end_fields version span.answer place.more place.column in
-    let text = line_fields low.text high.text file place.text end.0 (address_text low.text span.low.address low.spells)
-    (address_text high.text span.high.address high.spells) (number_text place.text span.answer.line place.line) in
+    let text = line_fields low.text high.text file place.text end.0 (plain_text low.text span.low.address low.spells)
+    (plain_text high.text span.high.address high.spells) (number_text place.text span.answer.line place.line.number) in
     record {
       fields = low.text ∷ high.text ∷ file ∷ place.text ∷ end.0;
       joined =
@@ -169,10 +145,6 @@ line_put version path span old b1 b2 b3 b4 b5 new low e2 high e4 e5 place =
 abbrev AreSome : List Fields → Type 0
 AreSome records = AllByRecursion (λ fields. 2 ≤ length fields) records
 
-pub same_back : (fields : Fields) → 2 ≤ length fields → fields ≡ read_back fields
-same_back [] h = absurd (omega (arith, h))
-same_back (x ∷ fields) h = refl
-
 lines_read : (records : List Fields) → AreSome records
     → Reached default_config st.StartRecord (records_text records) records st.StartRecord []
 unfolding Reached
@@ -183,10 +155,6 @@ lines_read (fields ∷ records) q = (
   same_back fields q.0,
   lines_read records q.1,
 )
-
-none_left : next_record default_config st.StartRecord [] [] [] ≡ None
-unfolding next_record
-none_left = refl
 
 -- a table doesn't begin with a byte order mark
 no_mark : (version : PathVersion) (records : List Fields)

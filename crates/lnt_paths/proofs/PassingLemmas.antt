@@ -14,13 +14,13 @@ use Rattle.csv.specs.declared.parser.State.{State}
 use Rattle.csv.specs.declared.parser.State.TheVariants as st
 use Rattle.csv.proofs.RoundTrip.{read-write}
 use Rattle.lnt_digits.specs.Digits.{IsAddress, IsDecimal}
-use Rattle.lnt_digits.proofs.TextLaws.{address_from_zero, decimal_from_zero}
 use Rattle.lnt_records.proofs.ReadingLaws.{no_record}
 use Rattle.lnt_digits.specs.Delimited.{Begins}
 use Rattle.lnt_records.specs.Progress.{BytesReader, HasRead}
 use Rattle.lnt_records.specs.Table.{BeginsWith, Fields, RecordsOf}
 use Rattle.lnt_spans.specs.declared.answer.Answer.{Answer}
 use Rattle.lnt_spans.specs.declared.span.Span.{Span}
+use Rattle.lnt_records.proofs.QuotingLaws.{address_text, number_text, quiet_text, same_back}
 use Rattle.lnt_paths.specs.declared.comparison.PathComparison.{PathComparison}
 use Rattle.lnt_paths.specs.declared.record.PathRecord.{PathRecord}
 use Rattle.lnt_paths.specs.declared.version.PathVersion.{PathVersion}
@@ -33,15 +33,9 @@ use Rattle.lnt_paths.specs.PathSpans.{PathSpan}
 use Rattle.lnt_paths.specs.PathTables.{SaysPath, path_column_names}
 use Rattle.lnt_paths.specs.Reading.{record_answer, record_span, whole}
 use Rattle.lnt_paths.proofs.ComparisonLemmas.{begins, record_taken}
-use Rattle.lnt_paths.proofs.LineLemmas.{line_fields, quiet_by_recursion, quiet_bytes, quiet_text, same_back}
+use Rattle.lnt_paths.proofs.LineLemmas.{line_fields, quiet_by_recursion}
 
 -- ---- parts of a line
-
-address_quiet : (text : List ℕ) (n : ℕ) → IsAddress text n → field_text default_writer text ≡ text
-address_quiet text n h = quiet_text text (quiet_bytes text (address_from_zero text n h))
-
-decimal_quiet : (text : List ℕ) (n : ℕ) → IsDecimal text n → field_text default_writer text ≡ text
-decimal_quiet text n h = quiet_text text (quiet_bytes text (decimal_from_zero text n h))
 
 path_quiet : (path : List ℕ) → All IsPlainByte path → field_text default_writer path ≡ path
 path_quiet path h = quiet_text path (quiet_by_recursion path (recursion_from_All IsPlainByte path h))
@@ -126,10 +120,10 @@ line_taken version said s0 s1 s2 s3 s4 low high path place = by version said.col
     path_is = path_quiet said.path.now path.plain
 
     low_is : field_text default_writer low.front ≡ low.front
-    low_is = address_quiet low.front said.low low.spells
+    low_is = address_text low.front said.low low.spells
 
     high_is : field_text default_writer high.front ≡ high.front
-    high_is = address_quiet high.front said.high high.spells
+    high_is = address_text high.front said.high high.spells
 
     by : (v : PathVersion) (column : Option ℕ) → said.column ≡ column → IsPlace v said.line column s3 s4 → IsPathLine v said s0 s4
     by Three None e p = absurd p
@@ -139,9 +133,9 @@ line_taken version said s0 s1 s2 s3 s4 low high path place = by version said.col
         record {
           fields = low.front ∷ high.front ∷ said.path.now ∷ line.front ∷ last.front ∷ [];
           joined = line_start low.front high.front said.path.now line.front (last.front ∷ []) s0 s1 s2 s3 s4 low_is high_is path_is
-              (decimal_quiet line.front said.line line.spells) low.joined high.joined path.joined
+              (number_text line.front said.line line.spells) low.joined high.joined path.joined
               (line.joined ∙ ap (λ (t : List ℕ). line.front ++ 44 ∷ t) last.joined
-              ∙ ap (λ (t : List ℕ). line.front ++ t) (column_end last.front s4 (decimal_quiet last.front column last.spells)));
+              ∙ ap (λ (t : List ℕ). line.front ++ t) (column_end last.front s4 (number_text last.front column last.spells)));
           says = rw e (record
               { count = refl; low_is = low.spells; high_is = high.spells; path = refl; line = line.spells; column = last.spells });
         }
@@ -150,7 +144,7 @@ line_taken version said s0 s1 s2 s3 s4 low high path place = by version said.col
         record {
           fields = low.front ∷ high.front ∷ said.path.now ∷ line.front ∷ [];
           joined = line_start low.front high.front said.path.now line.front [] s0 s1 s2 s3 s4 low_is high_is path_is
-              (decimal_quiet line.front said.line line.spells) low.joined high.joined path.joined
+              (number_text line.front said.line line.spells) low.joined high.joined path.joined
               (line.joined ∙ ap (λ (t : List ℕ). line.front ++ t) (no_column_end s4));
           says = record
               { count = refl; low_is = low.spells; high_is = high.spells; path = refl; line = line.spells; column = e ∙ p.0 };
@@ -196,7 +190,7 @@ line_begins version said bytes rest l = by l.fields l.joined l.says
         → SaysPath IsAddress IsDecimal version fields said.low said.high (record_answer said) → (more : List ℕ) × (bytes ≡ 48 ∷ more)
     by [] e s = absurd (let some = some_fields version [] said.low said.high (record_answer said) s in omega (arith, some))
     by (low ∷ fields) e s =
-        let begins = row_begins low fields s.low_is.digits s.low_is.written (address_quiet low said.low s.low_is) in
+        let begins = row_begins low fields s.low_is.digits s.low_is.written (address_text low said.low s.low_is) in
         (begins.0 ++ rest, e ∙ ap (λ (t : List ℕ). t ++ rest) begins.1)
 
 pub line_unmarked : (version : PathVersion) (said : PathRecord) (bytes rest : List ℕ) → IsPathLine version said bytes rest

@@ -12,6 +12,7 @@ use Rattle.lnt_digits.proofs.OneTextLaws.{one_address, one_decimal}
 use Rattle.lnt_output.specs.Fronts.{AppendsFront}
 use Rattle.lnt_output.proofs.FrontLaws.{front_after, front_all, front_before, front_none, front_same}
 use Rattle.lnt_records.specs.Table.{Fields}
+use Rattle.lnt_records.proofs.OneWrittenLaws.{HasOneRecord, front_records}
 use Rattle.lnt_spans.specs.declared.answer.Answer.{Answer}
 use Rattle.lnt_spans.specs.declared.position.Position.{Position}
 use Rattle.lnt_spans.specs.declared.span.Span.{Span}
@@ -126,7 +127,8 @@ none_by_path tell (s ∷ joined) h = (h.0, none_by_path tell joined h.1)
 
 plain_records : (tell : Answer → PathAnswer) (version : PathVersion) (records : List Fields) (joined : List Span)
     → AllZip (Says tell version) records joined
-    → AllByRecursion HasNoPathOperation (map (tell_span tell) joined) → AllZip (IsPlainPathRecord version) records (map (tell_span tell) joined)
+    → AllByRecursion HasNoPathOperation (map (tell_span tell) joined)
+    → AllZip (IsPlainPathRecord version) records (map (tell_span tell) joined)
 plain_records tell version [] [] z h = tt
 plain_records tell version [] (s ∷ joined) z h = absurd z
 plain_records tell version (r ∷ records) [] z h = absurd z
@@ -235,25 +237,10 @@ one_field version xs ys span a b (suc (suc (suc zero))) lt = one_decimal _ _ spa
 one_field version xs ys span a b (suc (suc (suc (suc i)))) lt =
     last_field version xs ys span.answer.column a.says.column b.says.column i lt
 
-pub one_record : (version : PathVersion) (xs ys : Fields) (span : PathSpan) → IsPlainPathRecord version xs span
-    → IsPlainPathRecord version ys span → xs ≡ ys
+pub one_record : (version : PathVersion) → HasOneRecord (IsPlainPathRecord version)
 one_record version xs ys span a b =
     ext_get_or [] xs ys (a.says.count ∙ sym b.says.count)
     (λ i lt. one_field version xs ys span a b i (subst (λ (n : ℕ). i < n) a.says.count lt))
-
--- The records of the first spans begin those of all.
-records_on : (version : PathVersion) (first rest : List PathSpan) (records all : List Fields)
-    → AllZip (IsPlainPathRecord version) records first → AllZip (IsPlainPathRecord version) all (first ++ rest)
-    → (more : List Fields) × (all ≡ records ++ more)
-records_on version [] rest [] all a b = (all, refl)
-records_on version [] rest (r ∷ records) all a b = absurd a
-records_on version (s ∷ first) rest [] all a b = absurd a
-records_on version (s ∷ first) rest (r ∷ records) [] a b = absurd b
-records_on version (s ∷ first) rest (r ∷ records) (x ∷ all) a b =
-    let head = one_record version x r s b.0 a.0 in
-    let tail = records_on version first rest records all a.1 b.1 in
-    let same = tail.1 in
-    (tail.0, cc)
 
 -- ---- a table whose writing was stopped
 
@@ -268,7 +255,7 @@ front_of_whole version answers old new spans first rest records canonical joined
     let same : whole.spans ≡ first ++ rest =
     one_list whole.spans spans whole.canonical.canonical canonical.canonical (λ p. whole.canonical.same p ∙ sym (canonical.same p))
     ∙ sym joined in
-    let more = records_on version first rest records whole.plain.records each
+    let more = front_records (IsPlainPathRecord version) (one_record version) records whole.plain.records first rest each
     (subst (AllZip (IsPlainPathRecord version) whole.plain.records) same whole.plain.each) in
     let text : records_text (names ∷ records) ++ records_text more.0 ≡ bytes =
     sym (records_append (names ∷ records) more.0) ∙ ap (λ (l : List Fields). records_text (names ∷ l)) (sym more.1)

@@ -8,7 +8,9 @@ pub mod JoinedLemmas
 pub mod LawLemmas
 pub mod LineLemmas
 pub mod OneFaultLemmas
+pub mod OneWrittenLaws
 pub mod PassingLemmas
+pub mod QuotingLaws
 pub mod ReadingLaws
 pub mod RecordLaws
 pub mod RecordLemmas
@@ -16,6 +18,5 @@ pub mod SaidLemmas
 pub mod StreamLemmas
 pub mod TextLemmas
 pub mod VersionLaws
-pub mod WholeLemmas
 pub mod WriteLemmas
 pub mod WrittenLaws

@@ -7,8 +7,6 @@ use Rattle.csv.specs.Machine.{next_record}
 use Rattle.csv.specs.Reading.{Reached, default_config, strip_bom}
 use Rattle.csv.specs.declared.parser.State.TheVariants as st
 use Rattle.csv.proofs.RoundTrip.{read-write}
-use Rattle.lnt_digits.specs.Digits.{IsAddress, IsDecimal}
-use Rattle.lnt_digits.proofs.TextLaws.{address_from_zero, decimal_from_zero}
 use Rattle.lnt_spans.specs.declared.answer.Answer.{Answer}
 use Rattle.lnt_spans.specs.declared.answer.More.{More}
 use Rattle.lnt_spans.specs.declared.answer.Version.{Version}
@@ -17,11 +15,10 @@ use Rattle.lnt_spans.specs.declared.position.Position.{Position}
 use Rattle.lnt_spans.specs.declared.span.Span.{Span}
 use Rattle.lnt_digits.specs.Delimited.{Begins}
 use Rattle.lnt_records.specs.Lines.{AreMoreFields, IsAnswer, IsFlagBefore, IsMore, IsPosition, SaysLine}
-use Rattle.lnt_records.specs.Table.{AreMore, Fields, IsSpanRecord, Kind, column_count, column_names}
+use Rattle.lnt_records.specs.Table.{AreMore, Fields, IsSpanRecord, column_count, column_names}
 use Rattle.lnt_records.specs.Written.{following, line_text}
-use Rattle.lnt_records.proofs.SaidLemmas.{each_holds}
-use Rattle.lnt_records.proofs.WriteLemmas.{IsQuiet, all_from_each, count_some, names_count, quiet_bytes, quiet_flag, quiet_line}
-use Rattle.lnt_records.proofs.WriteLemmas.{quiet_names, same_back}
+use Rattle.lnt_records.proofs.QuotingLaws.{IsQuiet, same_back}
+use Rattle.lnt_records.proofs.WriteLemmas.{count_some, names_count, quiet_line, quiet_names, quiet_record}
 
 -- ---- parts of a line
 
@@ -143,23 +140,11 @@ line_read fields rest some quiet =
     ∙ read-write fields rest
     ∙ ap (λ (r : Fields). Some (r, st.StartRecord, rest)) (sym (same_back fields some))
 
-quiet_said : (version : Version) (fields : Fields) (span : Span) → IsSpanRecord version fields span → AllByRecursion IsQuiet fields
-quiet_said version fields span s =
-    all_from_each IsQuiet fields
-    (λ i lt.
-    each_holds IsAddress IsDecimal (λ (k : Kind) (text : List ℕ). IsQuiet text) version fields span
-    (record {
-      of_address = λ text n h. quiet_bytes text (address_from_zero text n h);
-      of_number = λ text n h. quiet_bytes text (decimal_from_zero text n h);
-      of_flag = quiet_flag;
-    })
-    s i (rw s.count at lt))
-
 pub span_read : (version : Version) (fields : Fields) (span : Span) (rest : List ℕ) → IsSpanRecord version fields span
     → next_record default_config st.StartRecord [] [] (line_text fields ++ rest) ≡ Some (fields, st.StartRecord, rest)
 span_read version fields span rest s =
     let some : 2 ≤ length fields = subst (λ (n : ℕ). 2 ≤ n) (sym s.count) (count_some version) in
-    line_read fields rest some (quiet_said version fields span s)
+    line_read fields rest some (quiet_record version fields span s)
 
 pub names_read : (version : Version) (rest : List ℕ)
     → next_record default_config st.StartRecord [] [] (line_text (column_names version) ++ rest)

@@ -27,7 +27,7 @@ more_hold Address Number Is One fields more h m lt = absurd (omega (arith, lt))
 more_hold Address Number Is Two fields None h m lt = absurd m
 more_hold Address Number Is Two fields (Some more) h m lt = (h.of_number _ _ m.0, h.of_number _ _ m.1)
 
-count_at_most : (version : Version) (i : ℕ) → i < column_count version → i < 11
+pub count_at_most : (version : Version) (i : ℕ) → i < column_count version → i < 11
 count_at_most One i lt = omega (arith, lt)
 count_at_most Two i lt = omega (arith, lt)
 

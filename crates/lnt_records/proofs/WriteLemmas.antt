@@ -2,29 +2,27 @@
 use Rattle.std.proofs.Common.{◌≡◌, ◌∙◌, ℕ, suc, ◌+◌, ◌<◌, ◌≤◌, Bool, true, false, List, [], ◌∷◌, ◌++◌, Option, Some, None, length, get_or}
 use Rattle.std.proofs.Common.{take, drop, take-append-drop, refl, sym, ap, subst, append_assoc, arith}
 use Rattle.std.proofs.KnownBytes.{Appends-nil, Appends-trans}
-use Rattle.std.proofs.lemmas.Bool.{ne_eqb}
 use Rattle.std.proofs.lemmas.List.{append-nil, take_more, take_all}
 use Rattle.std.specs.Io.KnownBytes.{Appends}
-use Rattle.std.specs.List.{AllByRecursion, AllZip, cons_option, list_any}
-use Rattle.csv.specs.Machine.{next_record}
+use Rattle.std.specs.List.{AllByRecursion, AllZip, cons_option}
 use Rattle.csv.specs.Reading.{Reached, default_config, strip_bom}
-use Rattle.csv.specs.Writing.{default_writer, field_text, fields_text, is_blank, needs_byte, read_back, row_text}
+use Rattle.csv.specs.Writing.{default_writer, fields_text, is_blank, read_back, row_text}
 use Rattle.csv.specs.declared.parser.State.TheVariants as st
 use Rattle.csv.proofs.RoundTrip.{read-write, rows_text}
 use Rattle.lnt_output.specs.Fronts.{AppendsFront}
 use Rattle.lnt_output.proofs.FrontLaws.{front_after, front_before, front_none, front_same}
-use Rattle.lnt_digits.specs.Digits.{IsPlainAddress, IsPlainDecimal}
-use Rattle.lnt_digits.proofs.TextLaws.{FromZero, address_from_zero, decimal_from_zero, plain_address}
+use Rattle.lnt_digits.specs.Digits.{IsAddress, IsDecimal}
 use Rattle.lnt_spans.specs.declared.answer.Version.{Version}
 use Rattle.lnt_spans.specs.declared.answer.Version.TheVariants.{One, Two}
 use Rattle.lnt_spans.specs.declared.span.Span.{Span}
 use Rattle.lnt_spans.specs.Spans.{AreInOrder}
-use Rattle.lnt_records.specs.Table.{Fields, IsFlag, Kind, RecordsOf, column_count, column_names}
+use Rattle.lnt_records.specs.Table.{Fields, IsFlag, IsSpanRecord, Kind, RecordsOf, column_count, column_names}
 use Rattle.lnt_records.specs.Lines.{IsPlainLine}
 use Rattle.lnt_records.specs.Written.{BeginsTable, IsPlainRecord, IsWrittenTable, following, line_text, lines_text}
 use Rattle.lnt_records.specs.Progress.{AddsRecord, AddsRecords}
-use Rattle.lnt_records.proofs.SaidLemmas.{each_holds, records_plain}
-use Rattle.lnt_records.proofs.WholeLemmas.{whole_begins}
+use Rattle.lnt_records.proofs.SaidLemmas.{each_holds, record_plain, records_plain}
+use Rattle.lnt_records.proofs.OneWrittenLaws.{front_records, one_plain_record}
+use Rattle.lnt_records.proofs.QuotingLaws.{IsQuiet, none_left, quiet_address, quiet_number, quiet_text, same_back}
 
 -- ---- a line
 
@@ -37,49 +35,25 @@ line_put version span old new line e is = record {
   plain = is.says;
 }
 
--- ---- plain fields need no quotes
+-- ---- the fields of a span need no quotes
 
-abbrev pub IsQuiet : List ℕ → Type 0
-IsQuiet field = list_any (needs_byte default_writer) field ≡ false
-
-quiet_byte : (c : ℕ) → 48 ≤ c → needs_byte default_writer c ≡ false
-quiet_byte c h =
-    let comma = ne_eqb c 44 (λ e. omega (arith, h, e)) in
-    let quote = ne_eqb c 34 (λ e. omega (arith, h, e)) in
-    let return = ne_eqb c 13 (λ e. omega (arith, h, e)) in
-    let feed = ne_eqb c 10 (λ e. omega (arith, h, e)) in
-    rw (comma, quote, return, feed) refl
-
-pub quiet_bytes : (text : List ℕ) → AllByRecursion FromZero text → IsQuiet text
-quiet_bytes [] h = refl
-quiet_bytes (c ∷ text) h = rw (quiet_byte c h.0, quiet_bytes text h.1) refl
-
-quiet_number : (text : List ℕ) (n : ℕ) → IsPlainDecimal text n → IsQuiet text
-quiet_number text n h = quiet_bytes text (decimal_from_zero text n h.number)
-
-quiet_address : (text : List ℕ) (n : ℕ) → IsPlainAddress text n → IsQuiet text
-quiet_address text n h = quiet_bytes text (address_from_zero text n (plain_address text n h))
-
-pub quiet_flag : (text : List ℕ) (on : Bool) → IsFlag text on → IsQuiet text
+quiet_flag : (text : List ℕ) (on : Bool) → IsFlag text on → IsQuiet text
 quiet_flag text true e = rw e refl
 quiet_flag text false e = rw e refl
 
-pub all_from_each : (P : List ℕ → Type 0) (fields : Fields) → ((i : ℕ) → i < length fields → P (get_or fields i []))
+all_from_each : (P : List ℕ → Type 0) (fields : Fields) → ((i : ℕ) → i < length fields → P (get_or fields i []))
     → AllByRecursion P fields
 all_from_each P [] h = tt
 all_from_each P (x ∷ fields) h = (h 0 (omega arith), all_from_each P fields (λ i lt. h (suc i) (omega (arith, lt))))
 
-quiet_record : (version : Version) (fields : Fields) (span : Span) → IsPlainRecord version fields span → AllByRecursion IsQuiet fields
+pub quiet_record : (version : Version) (fields : Fields) (span : Span) → IsSpanRecord version fields span → AllByRecursion IsQuiet fields
 quiet_record version fields span s =
     all_from_each IsQuiet fields
     (λ i lt.
-    each_holds IsPlainAddress IsPlainDecimal (λ (k : Kind) (text : List ℕ). IsQuiet text) version fields span
+    each_holds IsAddress IsDecimal (λ (k : Kind) (text : List ℕ). IsQuiet text) version fields span
     (record { of_address = quiet_address; of_number = quiet_number; of_flag = quiet_flag }) s i (rw s.count at lt))
 
 -- ---- a line is what `csv` writes of its fields
-
-quiet_text : (field : List ℕ) → IsQuiet field → field_text default_writer field ≡ field
-quiet_text field q = rw q refl
 
 quiet_following : (fields : Fields) → AllByRecursion IsQuiet fields → fields_text default_writer fields ≡ following fields
 unfolding fields_text
@@ -118,10 +92,6 @@ unfolding rows_text
 quiet_lines [] q = refl
 quiet_lines (fields ∷ records) q = rw (quiet_line fields q.0.0 q.0.1, quiet_lines records q.1) refl
 
-pub same_back : (fields : Fields) → 2 ≤ length fields → fields ≡ read_back fields
-same_back [] h = absurd (omega (arith, h))
-same_back (x ∷ fields) h = refl
-
 lines_read : (records : List Fields) → AreQuiet records
     → Reached default_config st.StartRecord (rows_text records) records st.StartRecord []
 unfolding Reached rows_text
@@ -132,10 +102,6 @@ lines_read (fields ∷ records) q = (
   same_back fields q.0.0,
   lines_read records q.1,
 )
-
-pub none_left : next_record default_config st.StartRecord [] [] [] ≡ None
-unfolding next_record
-none_left = refl
 
 -- a table doesn't begin with a byte order mark
 no_mark : (version : Version) (records : List Fields)
@@ -151,7 +117,7 @@ quiet_spans version [] (s ∷ spans) z = absurd z
 quiet_spans version (r ∷ records) [] z = absurd z
 quiet_spans version (r ∷ records) (s ∷ spans) z =
     let some : 2 ≤ length r = subst (λ (n : ℕ). 2 ≤ n) (sym z.0.count) (count_some version) in
-    ((some, quiet_record version r s z.0), quiet_spans version records spans z.1)
+    ((some, quiet_record version r s (record_plain version r s z.0)), quiet_spans version records spans z.1)
 
 records_of_lines : (version : Version) (records : List Fields) (spans : List Span) → AllZip (IsPlainRecord version) records spans
     → RecordsOf (lines_text (column_names version ∷ records)) (column_names version ∷ records)
@@ -292,7 +258,7 @@ begun version old new records first rest spans z e f = record {
   front = f;
   of_whole = λ bytes whole.
       let all = subst (AllZip (IsPlainRecord version) whole.records) (sym e) whole.each in
-      let more = whole_begins version records whole.records first rest z all in
+      let more = front_records (IsPlainRecord version) (one_plain_record version) records whole.records first rest z all in
       let same : lines_text (column_names version ∷ records) ++ lines_text more.0 ≡ bytes =
       sym (lines_append (column_names version ∷ records) more.0)
       ∙ ap (λ (list : List Fields). lines_text (column_names version ∷ list)) (sym more.1) ∙ sym whole.lines in

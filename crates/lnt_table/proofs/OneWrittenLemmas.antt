@@ -4,7 +4,7 @@ use Rattle.lnt_unit.specs.declared.unit.Parts.{Parts}
 use Rattle.lnt_spans.specs.declared.answer.Version.{Version}
 use Rattle.lnt_spans.proofs.CanonicalLaws.{one_list}
 use Rattle.lnt_records.specs.Written.{IsPlainTable}
-use Rattle.lnt_records.proofs.WholeLemmas.{one_plain}
+use Rattle.lnt_records.proofs.OneWrittenLaws.{one_plain}
 use Rattle.lnt_table.specs.Written.{IsTableOfUnits}
 
 pub one_of_units : (version : Version) (dead : Option ℕ) (skip : Bool) (units : List (ℕ × Parts)) (one other : List ℕ)

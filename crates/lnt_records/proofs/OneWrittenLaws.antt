@@ -1,6 +1,6 @@
--- A span has one plain record, so spans have one plain table, and it begins with the records of the first of them.
+-- Where each thing has one record, so have all of a list of things. A span has one plain record, so spans have one plain table.
 use Rattle.std.proofs.Common.{◌≡◌, ◌∙◌, ℕ, zero, suc, ◌<◌, Bool, true, false, List, [], ◌∷◌, ◌++◌, Option, Some, None, get_or}
-use Rattle.std.proofs.Common.{ap, refl, sym, arith}
+use Rattle.std.proofs.Common.{ap, append-nil, refl, subst, sym, arith}
 use Rattle.std.proofs.lemmas.List.{ext_get_or}
 use Rattle.std.specs.List.{AllZip}
 use Rattle.lnt_digits.specs.Digits.{IsPlainDecimal}
@@ -11,6 +11,36 @@ use Rattle.lnt_spans.specs.declared.answer.Version.TheVariants.{One, Two}
 use Rattle.lnt_spans.specs.declared.span.Span.{Span}
 use Rattle.lnt_records.specs.Table.{AreMore, Fields, IsFlag, column_count, column_names}
 use Rattle.lnt_records.specs.Written.{IsPlainRecord, IsPlainTable, lines_text}
+use Rattle.lnt_records.proofs.SaidLemmas.{count_at_most}
+
+-- ---- things that have one record each
+
+abbrev pub HasOneRecord : {X : Type 0} → (Fields → X → Type 0) → Type 0
+HasOneRecord {X} Says = (xs ys : Fields) (x : X) → Says xs x → Says ys x → xs ≡ ys
+
+-- The records of the first things are a front of those of all, and the others are those of the rest.
+pub front_records : {X : Type 0} (Says : Fields → X → Type 0) → HasOneRecord Says → (records all : List Fields) (first rest : List X)
+    → AllZip Says records first → AllZip Says all (first ++ rest)
+    → (more : List Fields) × (all ≡ records ++ more) × AllZip Says more rest
+front_records Says one [] all [] rest a b = (all, refl, b)
+front_records Says one [] all (x ∷ first) rest a b = absurd a
+front_records Says one (r ∷ records) all [] rest a b = absurd a
+front_records Says one (r ∷ records) [] (x ∷ first) rest a b = absurd b
+front_records Says one (r ∷ records) (s ∷ all) (x ∷ first) rest a b =
+    let same : s ≡ r = one s r x b.0 a.0 in
+    let past = front_records Says one records all first rest a.1 b.1 in
+    let others = past.1 in
+    (past.0, cc, past.2)
+
+pub one_records : {X : Type 0} (Says : Fields → X → Type 0) → HasOneRecord Says → (records others : List Fields) (list : List X)
+    → AllZip Says records list → AllZip Says others list → records ≡ others
+one_records Says one records others list a b =
+    let all = front_records Says one records others list [] a (subst (AllZip Says others) (sym (append-nil list)) b) in
+    none_more all.0 all.2 all.1
+  where
+    none_more : (more : List Fields) → AllZip Says more [] → others ≡ records ++ more → records ≡ others
+    none_more [] none is = sym (is ∙ append-nil records)
+    none_more (fields ∷ more) none is = absurd none
 
 -- ---- a span has one plain record
 
@@ -25,10 +55,6 @@ same_more : (version : Version) (xs ys : Fields) (more : Option More) → AreMor
 same_more One xs ys more a b lt = absurd (omega (arith, lt))
 same_more Two xs ys None a b lt = absurd a
 same_more Two xs ys (Some more) a b lt = (one_decimal _ _ _ a.0 b.0, one_decimal _ _ _ a.1 b.1)
-
-count_at_most : (version : Version) (i : ℕ) → i < column_count version → i < 11
-count_at_most One i lt = omega (arith, lt)
-count_at_most Two i lt = omega (arith, lt)
 
 same_column : (version : Version) (xs ys : Fields) (span : Span) → IsPlainRecord version xs span → IsPlainRecord version ys span
     → (i : ℕ) → i < column_count version → get_or xs i [] ≡ get_or ys i []
@@ -49,41 +75,15 @@ same_column version xs ys span a b (suc (suc (suc (suc (suc (suc (suc (suc (suc 
 same_column version xs ys span a b (suc (suc (suc (suc (suc (suc (suc (suc (suc (suc (suc i))))))))))) lt =
     absurd (omega (arith, count_at_most version _ lt))
 
-one_record : (version : Version) (xs ys : Fields) (span : Span) → IsPlainRecord version xs span → IsPlainRecord version ys span → xs ≡ ys
-one_record version xs ys span a b =
+pub one_plain_record : (version : Version) → HasOneRecord (IsPlainRecord version)
+one_plain_record version xs ys span a b =
     ext_get_or [] xs ys (a.count ∙ sym b.count) (λ i lt. same_column version xs ys span a b i (rw a.count at lt))
 
 -- ---- spans have one plain table
 
-one_records : (version : Version) (xs ys : List Fields) (spans : List Span) → AllZip (IsPlainRecord version) xs spans
-    → AllZip (IsPlainRecord version) ys spans → xs ≡ ys
-one_records version [] [] [] a b = refl
-one_records version [] (y ∷ ys) [] a b = absurd b
-one_records version (x ∷ xs) ys [] a b = absurd a
-one_records version [] ys (s ∷ spans) a b = absurd a
-one_records version (x ∷ xs) [] (s ∷ spans) a b = absurd b
-one_records version (x ∷ xs) (y ∷ ys) (s ∷ spans) a b =
-    let first : x ≡ y = one_record version x y s a.0 b.0 in
-    let others : xs ≡ ys = one_records version xs ys spans a.1 b.1 in
-    cc
-
 pub one_plain : (version : Version) (one other : List ℕ) (spans : List Span) → IsPlainTable version one spans
     → IsPlainTable version other spans → one ≡ other
 one_plain version one other spans a b = a.lines
-    ∙ ap (λ (records : List Fields). lines_text (column_names version ∷ records)) (one_records version a.records b.records spans a.each b.each)
+    ∙ ap (λ (records : List Fields). lines_text (column_names version ∷ records))
+    (one_records (IsPlainRecord version) (one_plain_record version) a.records b.records spans a.each b.each)
     ∙ sym b.lines
-
--- ---- the records of the first spans begin those of all
-
-pub whole_begins : (version : Version) (records whole : List Fields) (first rest : List Span)
-    → AllZip (IsPlainRecord version) records first → AllZip (IsPlainRecord version) whole (first ++ rest)
-    → (more : List Fields) × (whole ≡ records ++ more)
-whole_begins version [] whole [] rest z all = (whole, refl)
-whole_begins version [] whole (s ∷ first) rest z all = absurd z
-whole_begins version (r ∷ records) whole [] rest z all = absurd z
-whole_begins version (r ∷ records) [] (s ∷ first) rest z all = absurd all
-whole_begins version (r ∷ records) (q ∷ whole) (s ∷ first) rest z all =
-    let one : q ≡ r = one_record version q r s all.0 z.0 in
-    let past = whole_begins version records whole first rest z.1 all.1 in
-    let others = past.1 in
-    (past.0, cc)
