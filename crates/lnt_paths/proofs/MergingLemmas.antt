@@ -177,20 +177,23 @@ begun to_come tell list said next spans past left order =
     from [] first h l = tt
     from (span ∷ xs) first h l = subst (λ (o : Option Span). IfSome o (λ span. IsAtMost (whole said.low) span.low)) l.0 h
 
--- the next span begins later: a gap
+-- the next span, if there is one, begins later
 pub apart_gap : {S : Type 0} (to_come : S → List Span → Type 0) (tell : Answer → PathAnswer) (list : List Span) (said : PathRecord)
-    (at : Position) (next : Option Span) (spans : S) (span : Span) → next ≡ Some span → IsBelow at span.low → IsAtMost (whole said.low) at
+    (at : Position) (next : Option Span) (spans : S) → IfSome next (λ span. IsBelow at span.low) → IsAtMost (whole said.low) at
     → IsBelow at (whole said.high) → ArePassed tell list (alone said) at (IsLeft to_come next spans)
     → AreApart tell list said (record { position = at; by_table = true; by_section = None })
-apart_gap to_come tell list said at next spans span is gap le lt passed =
-    let first = left_first to_come next spans passed.rest span is passed.left in
-    record {
-      first = differs_at tell list (alone said) at (IsLeft to_come next spans) (Some (record_answer said)) None passed
-          (sym (ap (option_map tell) (ap (λ (xs : List Span). span_answer xs at) first.1
-          ∙ answering.none_before span first.0 at (subst AreInOrder first.1 passed.order) gap)))
-          (sym (alone_in said at le lt)) (λ e. cc e);
-      below = lt;
-    }
+apart_gap to_come tell list said at next spans gap le lt passed = record {
+  first = differs_at tell list (alone said) at (IsLeft to_come next spans) (Some (record_answer said)) None passed
+      (sym (ap (option_map tell) (none_yet passed.rest next gap passed.left passed.order)))
+      (sym (alone_in said at le lt)) (λ e. cc e);
+  below = lt;
+}
+  where
+    none_yet : (rest : List Span) (first : Option Span) → IfSome first (λ span. IsBelow at span.low) → IsLeft to_come first spans rest
+        → AreInOrder rest → span_answer rest at ≡ None
+    none_yet [] first gap left order = refl
+    none_yet (span ∷ more) first gap left order =
+        answering.none_before span more at order (subst (λ (o : Option Span). IfSome o (λ span. IsBelow at span.low)) left.0 gap)
 
 -- the next span answers differently
 pub apart_other : {S : Type 0} (to_come : S → List Span → Type 0) (tell : Answer → PathAnswer) (list : List Span) (said : PathRecord)

@@ -1,5 +1,5 @@
 //! Compares the spans of a section with one record of a table by path.
-ghost use Rattle.std.specs.Prelude.{◌≡◌, ◌≢◌, ◌<◌, true, List, [], ◌∷◌, IfOk, IfSome, MatchOption, None, OnOk, Some};
+ghost use Rattle.std.specs.Prelude.{◌≡◌, ◌≢◌, ◌<◌, false, true, List, [], ◌∷◌, IfOk, IfSome, MatchOption, None, OnOk, Some};
 ghost use Rattle.std.specs.Bool.{MatchBool};
 ghost use Rattle.lnt_spans.specs.declared.answer.Answer as spec_answer;
 ghost use Rattle.lnt_spans.specs.declared.span.Span as spec;
@@ -74,25 +74,14 @@ pub(crate) fn first_apart<S: SpanSource, P: Paths>(
     let mut at = whole(said.low);
     let end = whole(said.high);
     if let Some(span) = begun_below(section.next, at) {
-        return Ok(Some(Apart {
-            position: span.low,
-            by_table: false,
-            by_section: Some(span.answer),
-        }));
+        return Ok(Some(Apart::before_record(&span)));
     }
     while at.is_below(end) {
-        let Some(span) = section.next else {
-            return Ok(Some(Apart::none_at(at)));
+        let Some(span) = begun_by(section.next, at) else {
+            return Ok(Some(Apart::in_record(at, None)));
         };
-        if at.is_below(span.low) {
-            return Ok(Some(Apart::none_at(at)));
-        }
         if !answers_so(alloc, paths, version, known, &span.answer, said)? {
-            return Ok(Some(Apart {
-                position: at,
-                by_table: true,
-                by_section: Some(span.answer),
-            }));
+            return Ok(Some(Apart::in_record(at, Some(span.answer))));
         }
         if end.is_below(span.high) {
             section.next = Some(Span { low: end, ..span });
@@ -116,15 +105,38 @@ fn begun_below(next: Option<Span>, at: Position) -> Option<Span>
     }
 }
 
+// The span, if there is one and it begins at or below a position.
+fn begun_by(next: Option<Span>, at: Position) -> Option<Span>
+    ensures { MatchOption result (IfSome next (λ span. IsBelow at span.low)) (λ span. (next ≡ Some span) × IsAtMost span.low at) }
+{
+    let span = next?;
+    if at.is_below(span.low) {
+        None
+    } else {
+        Some(span)
+    }
+}
+
 impl Apart {
-    // The record answers at this position, but the section doesn't.
-    fn none_at(position: Position) -> Apart
-        ensures { result ≡ (record { position = position; by_table = true; by_section = None }) }
+    // The section's span answers at its first position, and the record begins later.
+    fn before_record(span: &Span) -> Apart
+        ensures { result ≡ (record { position = span.now.low; by_table = false; by_section = Some span.now.answer }) }
+    {
+        Apart {
+            position: span.low,
+            by_table: false,
+            by_section: Some(span.answer),
+        }
+    }
+
+    // The record answers at this position, and the section otherwise, or not at all.
+    fn in_record(position: Position, by_section: Option<Answer>) -> Apart
+        ensures { result ≡ (record { position = position; by_table = true; by_section = by_section }) }
     {
         Apart {
             position,
             by_table: true,
-            by_section: None,
+            by_section,
         }
     }
 }

@@ -148,15 +148,7 @@ impl<'t, S: SpanSource> DifferencesByPath<'t, S> {
         let Some(end) = earlier_end(section.end, table.end) else {
             return Ok(Step::Ended);
         };
-        let is_known = is_known(
-            alloc,
-            paths,
-            self.version,
-            section.answer,
-            table.answer,
-            self.by_section,
-            self.by_table,
-        )?;
+        let is_known = self.is_known(alloc, paths, section.answer, table.answer)?;
         pass_section(&mut self.section, end);
         self.table = past_end(self.table, end);
         self.at = end;
@@ -170,6 +162,36 @@ impl<'t, S: SpanSource> DifferencesByPath<'t, S> {
             by_section: section.answer,
             by_table: table.answer,
         }))
+    }
+
+    // Whether no new stretch begins: both sides answer alike by path, or each answers as it did before.
+    fn is_known<P: Paths>(
+        &self,
+        alloc: Global,
+        paths: &P,
+        section: Option<Answer>,
+        table: Option<&AnswerByPath>,
+    ) -> Result<bool, AllocError>
+        ensures { IfOk result (λ known. MatchBool known
+            ((option_map (path_answer self.now.version (P.bytes_of paths.now)) section
+            ≡ option_map told_path_answer (option_copied table.entry))
+            ⊎ (option_map (path_answer self.now.version (P.bytes_of paths.now)) section
+            ≡ option_map (path_answer self.now.version (P.bytes_of paths.now)) self.now.by_section)
+            × (option_map told_path_answer (option_copied table.entry) ≡ option_map told_path_answer (option_copied self.now.by_table)))
+            ((option_map told_path_answer (option_copied table.entry)
+            ≢ option_map (path_answer self.now.version (P.bytes_of paths.now)) section)
+            × (option_map (path_answer self.now.version (P.bytes_of paths.now)) section
+            ≡ option_map (path_answer self.now.version (P.bytes_of paths.now)) self.now.by_section
+            → option_map told_path_answer (option_copied table.entry) ≡ option_map told_path_answer (option_copied self.now.by_table)
+            → ⊥))) }
+    {
+        if are_alike(alloc, paths, self.version, section, table)? {
+            return Ok(true);
+        }
+        if !is_as_held(table, self.by_table) {
+            return Ok(false);
+        }
+        is_as_before(alloc, paths, self.version, section, self.by_section)
     }
 }
 
@@ -269,35 +291,6 @@ fn past_end<'t>(table: &'t [HeldSpan], end: Position) -> &'t [HeldSpan]
         return table;
     }
     rest
-}
-
-// Whether no new stretch begins: both sides answer alike by path, or each answers as it did before.
-fn is_known<P: Paths>(
-    alloc: Global,
-    paths: &P,
-    version: PathVersion,
-    section: Option<Answer>,
-    table: Option<&AnswerByPath>,
-    section_before: Option<Answer>,
-    table_before: Option<&AnswerByPath>,
-) -> Result<bool, AllocError>
-    ensures { IfOk result (λ known. MatchBool known
-        ((option_map (path_answer version (P.bytes_of paths.now)) section ≡ option_map told_path_answer (option_copied table.entry))
-        ⊎ (option_map (path_answer version (P.bytes_of paths.now)) section
-        ≡ option_map (path_answer version (P.bytes_of paths.now)) section_before)
-        × (option_map told_path_answer (option_copied table.entry) ≡ option_map told_path_answer (option_copied table_before.entry)))
-        ((option_map told_path_answer (option_copied table.entry) ≢ option_map (path_answer version (P.bytes_of paths.now)) section)
-        × (option_map (path_answer version (P.bytes_of paths.now)) section
-        ≡ option_map (path_answer version (P.bytes_of paths.now)) section_before
-        → option_map told_path_answer (option_copied table.entry) ≡ option_map told_path_answer (option_copied table_before.entry) → ⊥))) }
-{
-    if are_alike(alloc, paths, version, section, table)? {
-        return Ok(true);
-    }
-    if !is_as_held(table, table_before) {
-        return Ok(false);
-    }
-    is_as_before(alloc, paths, version, section, section_before)
 }
 
 // Whether a section's answer, told by path, is the table's.

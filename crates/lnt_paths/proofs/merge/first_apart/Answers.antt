@@ -9,9 +9,10 @@ use Rattle.lnt_paths.proofs.merge.first_apart.Goals as goal
 
 pub returns-in-Some-clause-apart : goal.returns-in-Some-clause-apart
 returns-in-Some-clause-apart g c list left order =
-    apart_before g.S.SpanSource.to_come (path_answer c.args.version (g.P.Paths.bytes_of c.args.paths.now)) list c.args.said.now _ _
+    rw c.before_record.ensures
+    (apart_before g.S.SpanSource.to_come (path_answer c.args.version (g.P.Paths.bytes_of c.args.paths.now)) list c.args.said.now _ _
     c.in-Some.span
-    c.requires.holds c.in-Some.ensures.0 (rw c.whole-at.ensures at c.in-Some.ensures.1) left order
+    c.requires.holds c.in-Some.ensures.0 (rw c.whole-at.ensures at c.in-Some.ensures.1) left order)
 
 pub loop-alloc-init : goal.loop-alloc-init
 loop-alloc-init g c = (
@@ -26,47 +27,48 @@ loop-alloc-init g c = (
   ),
 )
 
-pub returns-then-is_below-clause-apart : goal.returns-then-is_below-clause-apart
-returns-then-is_below-clause-apart g c list left order =
+pub returns-in_default-begun_by-clause-apart : goal.returns-in_default-begun_by-clause-apart
+returns-in_default-begun_by-clause-apart g c list left order =
     let inv = c.loop-alloc.invariant in
-    rw c.none_at-then-is_below.ensures
+    rw c.in_record.ensures
     (apart_gap g.S.SpanSource.to_come (path_answer c.args.version (g.P.Paths.bytes_of c.args.paths.now)) list c.args.said.now
-    c.loop-alloc.at _ _ c.in-Some-next.span
-    c.in-Some-next.is c.if-is_below.ensures (inv.3 list left order).0 (rw inv.2 at c.loop-alloc-test.ensures) (inv.3 list left order).1)
+    c.loop-alloc.at _ _ c.in_default-begun_by.ensures (inv.3 list left order).0 (rw inv.2 at c.loop-alloc-test.ensures)
+    (inv.3 list left order).1)
 
 pub returns-then-not-branch-clause-apart : goal.returns-then-not-branch-clause-apart
 returns-then-not-branch-clause-apart g c list left order =
     let inv = c.loop-alloc.invariant in
-    apart_other g.S.SpanSource.to_come (path_answer c.args.version (g.P.Paths.bytes_of c.args.paths.now)) list c.args.said.now
-    c.loop-alloc.at _ _ c.in-Some-next.span
-    c.in-Some-next.is c.if-is_below.ensures (rw c.if-not-branch.true at c.in_ok-answers_so.ensures.same) (inv.3 list left order).0
-    (rw inv.2 at c.loop-alloc-test.ensures) (inv.3 list left order).1
+    rw c.in_record-then-not-branch.ensures
+    (apart_other g.S.SpanSource.to_come (path_answer c.args.version (g.P.Paths.bytes_of c.args.paths.now)) list c.args.said.now
+    c.loop-alloc.at _ _ c.in-Some-begun_by.span
+    c.in-Some-begun_by.ensures.0 c.in-Some-begun_by.ensures.1 (rw c.if-not-branch.true at c.in_ok-answers_so.ensures.same)
+    (inv.3 list left order).0 (rw inv.2 at c.loop-alloc-test.ensures) (inv.3 list left order).1)
 
-pub returns-then-is_below-2-clause-apart : goal.returns-then-is_below-2-clause-apart
-returns-then-is_below-2-clause-apart g c list left order =
+pub returns-then-is_below-clause-apart : goal.returns-then-is_below-clause-apart
+returns-then-is_below-clause-apart g c list left order =
     let inv = c.loop-alloc.invariant in
     rw c.whole-end.ensures
     (passed_within g.S.SpanSource.to_come (path_answer c.args.version (g.P.Paths.bytes_of c.args.paths.now)) list c.args.said.now
-    c.loop-alloc.at _ _ c.in-Some-next.span
-    c.in-Some-next.is c.if-is_below.ensures (rw c.if-not-branch.false at c.in_ok-answers_so.ensures.same) (inv.3 list left order).0
-    (rw inv.2 at c.loop-alloc-test.ensures)
-    (rw inv.2 at c.if-is_below-2.ensures) (inv.3 list left order).1)
+    c.loop-alloc.at _ _ c.in-Some-begun_by.span
+    c.in-Some-begun_by.ensures.0 c.in-Some-begun_by.ensures.1 (rw c.if-not-branch.false at c.in_ok-answers_so.ensures.same)
+    (inv.3 list left order).0 (rw inv.2 at c.loop-alloc-test.ensures)
+    (rw inv.2 at c.if-is_below.ensures) (inv.3 list left order).1)
 
 pub loop-alloc-preserved : goal.loop-alloc-preserved
 loop-alloc-preserved g c =
     let inv = c.loop-alloc.invariant in
-    let over : IsAtMost c.in-Some-next.span.high (whole c.args.said.now.high) = rw inv.2 at c.if-is_below-2.ensures in (
+    let over : IsAtMost c.in-Some-begun_by.span.high (whole c.args.said.now.high) = rw inv.2 at c.if-is_below.ensures in (
       c.in_ok-answers_so.ensures.kept,
       over,
       inv.2,
       λ list left order.
           let now = inv.3 list left order in (
             low_after g.S.SpanSource.to_come (path_answer c.args.version (g.P.Paths.bytes_of c.args.paths.now)) list c.args.said.now
-                c.loop-alloc.at _ _ c.in-Some-next.span
-                c.in-Some-next.is now.0 now.1,
+                c.loop-alloc.at _ _ c.in-Some-begun_by.span
+                c.in-Some-begun_by.ensures.0 now.0 now.1,
             passed_whole g.S.SpanSource.to_come (path_answer c.args.version (g.P.Paths.bytes_of c.args.paths.now)) list c.args.said.now
-                c.loop-alloc.at _ _ _ _ c.in-Some-next.span
-                c.in-Some-next.is c.if-is_below.ensures (rw c.if-not-branch.false at c.in_ok-answers_so.ensures.same) now.0 over
-                c.next_span-section.ensures.gives now.1,
+                c.loop-alloc.at _ _ _ _ c.in-Some-begun_by.span
+                c.in-Some-begun_by.ensures.0 c.in-Some-begun_by.ensures.1
+                (rw c.if-not-branch.false at c.in_ok-answers_so.ensures.same) now.0 over c.next_span-section.ensures.gives now.1,
           ),
     )
