@@ -3,9 +3,10 @@ use Rattle.std.proofs.Common.{◌≡◌, ◌∙◌, ◌⊎◌, inl, inr, List, [
 use Rattle.std.specs.List.{AllByRecursion}
 use Rattle.lnt_spans.specs.declared.position.Position.{Position}
 use Rattle.lnt_spans.specs.Positions.{IsBelow}
+use Rattle.lnt_spans.specs.Stretches.{Stay}
 use Rattle.lnt_spans.proofs.PositionLaws.{at_most_itself, below_at_most, below_is_at_most, not_both, order_cases, same_position}
 use Rattle.lnt_paths.specs.PathStretches.{AreFirstStretches, AreRising, AreStretches, BeginsStretch, IsInOne}
-use Rattle.lnt_paths.specs.PathStretches.{IsInStretch, Stay, Stretch}
+use Rattle.lnt_paths.specs.PathStretches.{IsInStretch, Stretch}
 use Rattle.lnt_paths.specs.Laws.{FirstStretchesBegin}
 
 -- It is one of these.

@@ -1,72 +1,38 @@
 -- The stretches of a section and a table by path, given one after another as their spans come.
-use Rattle.std.proofs.Common.{◌≡◌, ◌≢◌, ◌∙◌, ℕ, ◌+◌, ◌<◌, ◌≤◌, List, [], ◌∷◌, ◌++◌, ◌⊎◌, inl, inr, refl, ap, sym, subst, Some, None}
-use Rattle.std.proofs.Common.{Option, arith, map}
+use Rattle.std.proofs.Common.{◌≡◌, ◌≢◌, ◌∙◌, List, [], ◌∷◌, ◌++◌, ◌⊎◌, inl, inr, ap, sym, subst, Some, None}
+use Rattle.std.proofs.Common.{Option, map}
 use Rattle.std.specs.List.{AllByRecursion}
 use Rattle.std.specs.Option.{option_map}
-use Rattle.std.proofs.lemmas.Option.{same_Some}
 use Rattle.lnt_spans.specs.declared.answer.Answer.{Answer}
 use Rattle.lnt_spans.specs.declared.position.Position.{Position}
 use Rattle.lnt_spans.specs.declared.span.Span.{Span}
-use Rattle.lnt_spans.specs.Stepping.{BeginsWith}
 use Rattle.lnt_spans.specs.Coming.{GivesFirst}
 use Rattle.lnt_spans.specs.Positions.{IsBelow, IsAtMost}
 use Rattle.lnt_spans.specs.Scanning.{EndsAfter}
 use Rattle.lnt_spans.specs.Spans.{AreInOrder}
-use Rattle.lnt_spans.specs.Stepping.{IsBefore, IsUpTo, run_end}
+use Rattle.lnt_spans.specs.Stepping.{BeginsWith, IsRun, IsUpTo, run_end}
+use Rattle.lnt_spans.specs.Stretches.{Stay}
 use Rattle.lnt_spans.proofs.AnsweringLaws as answering
-use Rattle.lnt_spans.proofs.PositionLaws.{at_most_below, at_most_itself, at_most_trans, below_at_most, below_is_at_most, order_cases}
-use Rattle.lnt_spans.proofs.PositionLaws.{test_below, test_not_below}
+use Rattle.lnt_spans.proofs.PositionLaws.{at_most_itself, at_most_trans, below_at_most, below_is_at_most, order_cases}
+use Rattle.lnt_spans.proofs.RunLaws.{Moves, after_high, last_answers, moves, same_run, stay_on, up_to_high}
 use Rattle.lnt_paths.specs.declared.held.HeldSpan.{HeldSpan}
 use Rattle.lnt_paths.specs.declared.merge.Section.{Section}
 use Rattle.lnt_paths.specs.Held.{held_span}
 use Rattle.lnt_paths.specs.Merging.{answer_told, IsLeft}
 use Rattle.lnt_paths.specs.PathAnswers.{PathAnswer}
 use Rattle.lnt_paths.specs.PathSpans.{path_span_answer, PathSpan, StandInOrder}
-use Rattle.lnt_paths.specs.PathStretches.{AreAnswers, AreRising, BeginsStretch, IsInOne, IsInStretch, Stay, Stretch}
+use Rattle.lnt_paths.specs.PathStretches.{AreRising, BeginsStretch, IsInOne, IsInStretch, Stretch}
 use Rattle.lnt_paths.specs.Reading.{whole}
-use Rattle.lnt_paths.specs.Stretching.{AreToldBelow, IsOpen, IsRun, IsSectionAt, IsTableAt, PathsEndAfter}
+use Rattle.lnt_paths.specs.Stretching.{AreToldBelow, IsOpen, IsSectionAt, IsTableAt, PathsEndAfter}
 use Rattle.lnt_paths.proofs.MergingLemmas.{given_left, left_first}
 use Rattle.lnt_paths.proofs.PathSpanLemmas.{none_before}
 
 -- ---- a section
 
-gap_run : (tell : Answer → PathAnswer) (span : Span) (more : List Span) (at : Position) → AreInOrder (span ∷ more) → IsBelow at span.low
-    → IsRun (answer_told tell (span ∷ more)) at None (Some span.low)
-gap_run tell span more at o gap = record {
-  past = gap;
-  says = λ p h k. ap (option_map tell) (answering.none_before span more p o k);
-}
-
-pub run_gap : (tell : Answer → PathAnswer) (next : Option Span) (spans : List Span) (span : Span) (at : Position) → next ≡ Some span
-    → BeginsWith next spans → AreInOrder spans → IsBelow at span.low
-    → IsRun (answer_told tell spans) at None (Some span.low)
-run_gap tell next [] span at is b o gap = absurd (let h : None ≡ Some span = sym b ∙ is in cc h)
-run_gap tell next (first ∷ more) span at is b o gap =
-    let same : first ≡ span = same_Some first span (sym b ∙ is) in
-    rw (sym same) (gap_run tell first more at o (rw same gap))
-
 begins_with : {S : Type 0} (to_come : S → List Span → Type 0) (next : Option Span) (spans : S) (rest : List Span)
     → IsLeft to_come next spans rest → BeginsWith next rest
 begins_with to_come next spans [] l = l
 begins_with to_come next spans (first ∷ more) l = l.0
-
-end_gap : (span : Span) (at : Position) → IsBelow at span.low → Some span.low ≡ run_end at (Some span)
-end_gap span at lt = rw (test_below at span.low lt) refl
-
-end_inside : (span : Span) (at : Position) → IsAtMost span.low at → Some span.high ≡ run_end at (Some span)
-end_inside span at le = rw (test_not_below at span.low le) refl
-
-up_to_high : (span : Span) (more : List Span) (at end : Position) → AreInOrder (span ∷ more) → IsUpTo end (run_end at (Some span))
-    → IsAtMost end span.high
-up_to_high span more at end o h = elim (order_cases at span.low) [
-  | inl gap ↦ at_most_trans (subst (λ (q : Position). IsAtMost end q) (same_Some _ span.low (sym (end_gap span at gap))) h)
-      (below_is_at_most (answering.first_holds span more o))
-  | inr in_it ↦ subst (λ (q : Position). IsAtMost end q) (same_Some _ span.high (sym (end_inside span at in_it))) h
-]
-
-after_high : (span : Span) (more : List Span) (end : Position) → AreInOrder (span ∷ more) → IsAtMost end span.high → EndsAfter end more
-after_high span [] end o le = tt
-after_high span (next ∷ more) end o le = at_most_below (at_most_trans le o.1) (answering.first_holds next more o.2)
 
 -- the section drops its next span
 pub section_passed : {S : Type 0} (to_come : S → List Span → Type 0) (tell : Answer → PathAnswer) (old : Section S) (next : Option Span)
@@ -96,8 +62,8 @@ section_says : {S : Type 0} (to_come : S → List Span → Type 0) (tell : Answe
     → IsRun (answer_told tell spans) at answer end)
     → IsRun answers at answer end
 section_says to_come tell section at answers answer end s runs =
-    let r = runs s.rest (begins_with to_come section.next section.spans s.rest s.left) s.order s.past in
-    record { past = r.past; says = λ p h k. sym (s.same p h) ∙ r.says p h k }
+    same_run (answer_told tell s.rest) answers at answer end s.same
+    (runs s.rest (begins_with to_come section.next section.spans s.rest s.left) s.order s.past)
 
 -- ---- a table
 
@@ -119,8 +85,7 @@ table_says : (table : List HeldSpan) (at : Position) (answers : Position → Opt
     → IsRun (path_span_answer (map held_span table)) at answer end)
     → IsRun answers at answer end
 table_says table at answers answer end t runs =
-    let r = runs t.order t.past in
-    record { past = r.past; says = λ p h k. sym (t.same p h) ∙ r.says p h k }
+    same_run (path_span_answer (map held_span table)) answers at answer end t.same (runs t.order t.past)
 
 -- ---- what is told
 
@@ -150,19 +115,6 @@ rising_push : {X : Type 0} (told : List (Stretch X)) (d : Stretch X) → AreRisi
 rising_push [] d r h = tt
 rising_push (e ∷ []) d r h = (h.0, tt)
 rising_push (e ∷ next ∷ told) d r h = (r.0, rising_push (next ∷ told) d r.1 h.1)
-
--- right below the end the answers are those of the run
-last_answers : {X : Type 0} (f g : Position → Option X) (at end : Position) (s t : Option X) → IsBelow at end → Stay f g s t at end
-    → (p : Position) → IsBelow p end
-    → (q : Position) × IsAtMost p q × IsBelow q end × ((f q ≡ g q) ⊎ AreAnswers f g s t q)
-last_answers f g at end s t lt stay p h = elim (order_cases p at) [
-  | inl early ↦ (at, below_is_at_most early, lt, inr (stay at (at_most_itself at) lt))
-  | inr late ↦ (p, at_most_itself p, h, inr (stay p late h))
-]
-
-stay_on : {X : Type 0} (f g : Position → Option X) (s t : Option X) (at end p : Position) → Stay f g s t at end → Stay f g s t end p
-    → Stay f g s t at p
-stay_on f g s t at end p one two q h k = elim (order_cases q end) [ inl early ↦ one q h early | inr late ↦ two q late k ]
 
 -- at a position in the run: the last stretch still holds it
 pub told_on : {X : Type 0} (f g : Position → Option X) (at end : Position) (s t : Option X) (told : List (Stretch X))
@@ -231,23 +183,6 @@ told_new {X} f g at end s t s' t' told b lt stay differ other =
 
 -- ---- a step
 
-before_end : (p q : Position) (end : Option Position) → IsBelow p q → IsUpTo q end → IsBefore p end
-before_end p q None lt up = tt
-before_end p q (Some end) lt up = below_at_most lt up
-
--- From `at` up to `end` both answers stay these two.
-pub record Moves {X : Type 0} (f g : Position → Option X) (at end : Position) (s t : Option X) : Type 0 where
-  pub below : IsBelow at end
-  pub stay : Stay f g s t at end
-
-moves : {X : Type 0} (f g : Position → Option X) (at end : Position) (s t : Option X) (one other : Option Position) → IsRun f at s one
-    → IsRun g at t other → IsUpTo end one → IsUpTo end other
-    → (one ≡ Some end) ⊎ (other ≡ Some end) → Moves f g at end s t
-moves f g at end s t one other a b up up' is = record {
-  below = elim is [ inl e ↦ subst (IsBefore at) e a.past | inr e ↦ subst (IsBefore at) e b.past ];
-  stay = λ p h k. record { section = a.says p h (before_end p end one k up); table = b.says p h (before_end p end other k up') };
-}
-
 -- Both answers of a section and a table stay up to the earlier of their ends.
 pub both_move : {S : Type 0} (to_come : S → List Span → Type 0) (tell : Answer → PathAnswer) (section : Section S) (table : List HeldSpan)
     (at end : Position) (f g : Position → Option PathAnswer) (s t : Option PathAnswer) (one other : Option Position)
@@ -267,7 +202,3 @@ pub step_known : {X : Type 0} (f g : Position → Option X) (at end : Position) 
 step_known f g at end s t s' t' told b m (inl same) = told_alike f g at end s t s' t' told b m.below m.stay same
 step_known f g at end s t s' t' told b m (inr same) =
     rw (same.0, same.1) (told_on f g at end s t told b m.below (rw (same.0, same.1) at m.stay))
-
-pub both_fewer : (a b a' b' : ℕ) {P Q : Type 0} → (a' ≤ a) × (P → a' < a) → (b' ≤ b) × (Q → b' < b) → P ⊎ Q → a' + b' < a + b
-both_fewer a b a' b' h k (inl p) = omega (arith, h.1 p, k.0)
-both_fewer a b a' b' h k (inr q) = omega (arith, h.0, k.1 q)

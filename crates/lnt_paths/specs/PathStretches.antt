@@ -6,6 +6,7 @@ use Rattle.std.specs.List.{AllByRecursion}
 use Rattle.std.specs.Option.{option_map}
 use Rattle.lnt_spans.specs.declared.position.Position.{Position}
 use Rattle.lnt_spans.specs.Positions.{IsBelow, IsAtMost}
+use Rattle.lnt_spans.specs.Stretches.{AreAnswers, Stay}
 use Rattle.lnt_paths.specs.declared.answer.DifferenceByPath.{DifferenceByPath}
 use Rattle.lnt_paths.specs.PathAnswers.{PathAnswer}
 use Rattle.lnt_paths.specs.PathDifferences.{told_path_answer}
@@ -15,17 +16,6 @@ pub record Stretch (X : Type 0) : Type 0 where
   pub position : Position
   pub by_section : Option X
   pub by_table : Option X
-
--- These are the two answers at p.
-pub record AreAnswers {X : Type 0} (by_section by_table : Position → Option X) (of_section of_table : Option X) (p : Position) : Type
-    0 where
-  pub section : by_section p ≡ of_section
-  pub table : by_table p ≡ of_table
-
--- The two answers stay the same in the half-open range from `from` up to `to`.
-abbrev pub Stay : {X : Type 0} → (Position → Option X) → (Position → Option X) → Option X → Option X → Position → Position → Type 0
-Stay by_section by_table of_section of_table from to =
-    (p : Position) → IsAtMost from p → IsBelow p to → AreAnswers by_section by_table of_section of_table p
 
 -- A stretch begins here: the two answers differ, and there is no lower position from which on they were the same two.
 pub record BeginsStretch {X : Type 0} (by_section by_table : Position → Option X) (stretch : Stretch X) : Type 0 where

@@ -9,7 +9,7 @@ use Rattle.lnt_spans.specs.Differing.{runs_left}
 use Rattle.lnt_spans.specs.Positions.{IsBelow, IsAtMost, is_below}
 use Rattle.lnt_spans.specs.Scanning.{EndsAfter}
 use Rattle.lnt_spans.specs.Spans.{AreInOrder}
-use Rattle.lnt_spans.specs.Stepping.{IsBefore}
+use Rattle.lnt_spans.specs.Stretches.{AreAnswers, Stay}
 use Rattle.lnt_paths.specs.declared.held.HeldSpan.{HeldSpan}
 use Rattle.lnt_paths.specs.declared.merge.Section.{Section}
 use Rattle.lnt_paths.specs.declared.stretches.Begun.{Begun}
@@ -21,15 +21,10 @@ use Rattle.lnt_paths.specs.Merging.{answer_told, IsLeft}
 use Rattle.lnt_paths.specs.PathAnswers.{path_answer, PathAnswer}
 use Rattle.lnt_paths.specs.PathDifferences.{told_path_answer}
 use Rattle.lnt_paths.specs.PathSpans.{path_span_answer, PathSpan, StandInOrder}
-use Rattle.lnt_paths.specs.PathStretches.{AreAnswers, AreRising, AreStretches, BeginsStretch, IsInOne, Stay, Stretch}
+use Rattle.lnt_paths.specs.PathStretches.{AreRising, AreStretches, BeginsStretch, IsInOne, Stretch}
 use Rattle.lnt_paths.specs.Reading.{whole}
 
 -- ---- one side
-
--- From `at` up to the end, which lies after it, this is the answer at every position; without an end, at all from `at` on.
-pub record IsRun {X : Type 0} (answers : Position → Option X) (at : Position) (answer : Option X) (end : Option Position) : Type 0 where
-  pub past : IsBefore at end
-  pub says : (p : Position) → IsAtMost at p → IsBefore p end → answers p ≡ answer
 
 -- These spans of a section are still to come, and from `at` on they answer as the function does.
 pub record IsSectionAt {S : Type 0} (to_come : S → List Span → Type 0) (tell : Answer → PathAnswer) (section : Section S) (at : Position)

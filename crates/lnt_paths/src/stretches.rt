@@ -11,7 +11,7 @@ ghost use Rattle.lnt_spans.specs.Differing.{runs_left};
 ghost use Rattle.lnt_spans.specs.Positions.{IsAtMost};
 ghost use Rattle.lnt_spans.specs.Scanning.{EndsAfter};
 ghost use Rattle.lnt_spans.specs.Spans.{AreInOrder};
-ghost use Rattle.lnt_spans.specs.Stepping.{IsUpTo, run_end};
+ghost use Rattle.lnt_spans.specs.Stepping.{IsRun, IsUpTo, run_end};
 ghost use Rattle.lnt_paths.specs.declared.answer.DifferenceByPath as spec_difference;
 ghost use Rattle.lnt_paths.specs.declared.stretches.Step.TheVariants as step;
 ghost use Rattle.lnt_paths.specs.Held.{held_span};
@@ -20,7 +20,7 @@ ghost use Rattle.lnt_paths.specs.PathAnswers.{PathAnswer, path_answer, spans_by_
 ghost use Rattle.lnt_paths.specs.PathDifferences.{told_path_answer};
 ghost use Rattle.lnt_paths.specs.PathSpans.{StandInOrder, path_span_answer};
 ghost use Rattle.lnt_paths.specs.PathStretches.{ArePathStretches, Stretch, stretch_of, stretches_of};
-ghost use Rattle.lnt_paths.specs.Stretching.{HasToldByPath, IsRun, IsSectionAt, IsTableAt, PathsEndAfter, Steps};
+ghost use Rattle.lnt_paths.specs.Stretching.{HasToldByPath, IsSectionAt, IsTableAt, PathsEndAfter, Steps};
 ghost use Rattle.lnt_paths.specs.Stretching.{held_end, held_runs, path_stretches_left, stretch_begun};
 
 use crate::answer::{AnswerByPath, DifferenceByPath};

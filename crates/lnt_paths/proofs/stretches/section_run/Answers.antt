@@ -1,4 +1,4 @@
-use Rattle.lnt_paths.proofs.StretchingLemmas.{run_gap}
+use Rattle.lnt_spans.proofs.RunLaws.{run_gap}
 use Rattle.lnt_paths.proofs.stretches.section_run.Goals as goal
 
 pub returns-then-is_below-clause-run : goal.returns-then-is_below-clause-run

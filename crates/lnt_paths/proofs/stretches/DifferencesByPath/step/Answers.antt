@@ -3,10 +3,11 @@ use Rattle.std.specs.Option.{option_copied, option_map}
 use Rattle.lnt_spans.specs.Differing.{runs_left}
 use Rattle.lnt_spans.specs.Stepping.{IsUpTo}
 use Rattle.lnt_spans.proofs.PositionLaws.{below_is_at_most}
+use Rattle.lnt_spans.proofs.RunLaws.{both_fewer}
 use Rattle.lnt_paths.specs.PathAnswers.{path_answer}
 use Rattle.lnt_paths.specs.PathDifferences.{told_path_answer}
 use Rattle.lnt_paths.specs.Stretching.{held_runs}
-use Rattle.lnt_paths.proofs.StretchingLemmas.{both_fewer, both_move, step_known, told_new}
+use Rattle.lnt_paths.proofs.StretchingLemmas.{both_move, step_known, told_new}
 use Rattle.lnt_paths.proofs.stretches.DifferencesByPath.step.Goals as goal
 
 pub returns-then-is_known-clause-told : goal.returns-then-is_known-clause-told
