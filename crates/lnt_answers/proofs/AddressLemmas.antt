@@ -103,11 +103,6 @@ told_append index op xs ys old now new s t u a b = record {
 
 -- ---- a block
 
-pub block_begun : (index : Indexed) (op : ℕ) (line block : List ℕ) (old : Option (List ℕ)) (status : Status) → HasNo 10 line
-    → IsBlockTold index op line block line block old old status status
-block_begun index op line block old status whole =
-    record { texts = []; told = told_none index op old status; cut = λ more. refl; whole = whole }
-
 -- the lines up to the index of the block at which the current line ends
 pub cut_within : (index : Indexed) (op : ℕ) (line block left rest : List ℕ) (place : ℕ) (full stripped : List ℕ)
     (old now : Option (List ℕ)) (s t : Status)

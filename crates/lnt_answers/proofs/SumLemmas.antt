@@ -4,7 +4,7 @@ use Rattle.std.proofs.Common.{IfSome, ap, codes, refl, sym, subst, map, arith}
 use Rattle.std.specs.List.{AllByRecursion, flat_map}
 use Rattle.std.specs.Option.{option_map_or}
 use Rattle.std.specs.Io.KnownBytes.{Appends}
-use Rattle.std.proofs.KnownBytes.{Appends-nil, Appends-trans}
+use Rattle.std.proofs.KnownBytes.{Appends-trans}
 use Rattle.std.proofs.lemmas.List.{map-append, take_all, take_more}
 use Rattle.std.proofs.lemmas.List.Concat.{flat_map-append}
 use Rattle.lnt_sources.specs.Files.{TellsNoMore}
@@ -58,16 +58,6 @@ sums_joined tells tells' index files more a b c s t later so next = record {
 }
 
 -- ---- the files of a unit
-
-pub sums_none : (tells : List ℕ → Option (List ℕ) → Type 0) (index : Indexed) (a : Option (List ℕ)) → AreSumsTold tells index [] a a Done
-sums_none tells index a = record { findings = []; places = refl; are_true = tt; printed = Appends-nil a; status_is = refl }
-
--- a file without a listed sum
-pub sum_unlisted : (tells : List ℕ → Option (List ℕ) → Type 0) (index : Indexed) (unit file : ℕ) (a : Option (List ℕ))
-    → file_sum_in index unit file ≡ None → AreSumsTold tells index (listed_at index unit file) a a Done
-sum_unlisted tells index unit file a none =
-    subst (λ (listed : Option (List ℕ)). AreSumsTold tells index (option_map_or (λ _. (unit, file) ∷ []) listed []) a a Done) (sym none)
-    (sums_none tells index a)
 
 -- a file with a listed sum, its path and the finding
 pub sum_listed : (tells : List ℕ → Option (List ℕ) → Type 0) (index : Indexed) (unit file : ℕ) (a b : Option (List ℕ))
