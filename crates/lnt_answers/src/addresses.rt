@@ -49,8 +49,7 @@ pub fn print_addresses<T: Source, W: Write>(
     requires { T.failures lines.old < 2 ^ 64 - 1 }
     ensures told { IfOk result (λ status. AreAddressesTold index.now op (T.remaining lines.old)
         (W.contents out.old) (W.contents out.new) status) }
-    ensures begun { OnErr result (AreAddressesBegun index.now op (T.remaining lines.old)
-        (W.contents out.old) (W.contents out.new)) }
+    ensures begun { OnErr result (AreAddressesBegun index.now op (T.remaining lines.old) (W.contents out.old) (W.contents out.new)) }
     ensures read { IsErrOf result halt.Read → T.failures lines.new ≡ T.failures lines.old + 1 }
     ensures too_long { IsErrOf result halt.TooLong → IsTrue (T.too_long lines.new) }
 {
