@@ -1,4 +1,5 @@
 pub mod Contents
+pub mod FaultTexts
 pub mod Files
 pub mod Kept
 pub mod Paths

@@ -14,5 +14,5 @@ mod walk;
 
 pub use ends::StringEnds;
 pub use files::Files;
-pub use tables::EntryTableFault;
+pub use tables::{EntryTableFault, EntryTableText};
 pub use walk::{Entries, EntryView};

@@ -1,11 +1,14 @@
 //! What may be wrong with the tables of a header, and the formats that are usable (DWARF 5, section 6.2.4.1).
-ghost use Rattle.std.specs.Prelude.{◌↔◌, IsTrue, IsSomeAnd, IfSome};
+ghost use Rattle.std.specs.Prelude.{◌↔◌, IsTrue, IsSomeAnd, IfSome, Some};
 ghost use Rattle.lnt_files.specs.Contents.{content_path, content_directory_index, content_md5, form_at};
+ghost use Rattle.lnt_files.specs.FaultTexts.{entry_table_fault_text, table_text};
 ghost use Rattle.lnt_files.specs.Tables.{IsPathForm, IsNumberForm, IsSumForm, IsUsableFormat};
 
 use crate::contents::{DIRECTORY_INDEX, MD5, PATH, form_at};
 use lnt_header::{EntryTable, Pair};
 use lnt_wire::Form;
+use std::error::Error;
+use std::fmt;
 
 /// Why the directories and files of a header can't be used. Indices count from 0.
 #[derive(Clone, Copy, Debug, PartialEq, Eq)]
@@ -17,6 +20,39 @@ pub enum EntryTableFault {
     StringOutside(EntryTable, u64),
     /// The first file that names a directory that isn't there.
     DirectoryNumber(u64),
+}
+
+impl fmt::Display for EntryTableFault {
+    ghost output = { λ fault. Some (entry_table_fault_text fault) };
+
+    fn fmt<W: fmt::Write>(&self, f: &mut fmt::Formatter<W>) -> fmt::Result {
+        match *self {
+            EntryTableFault::EntryFormat(which) => {
+                write!(f, "entry format {}", EntryTableText(which))
+            }
+            EntryTableFault::StringOutside(which, entry) => {
+                write!(f, "string outside {} entry {entry}", EntryTableText(which))
+            }
+            EntryTableFault::DirectoryNumber(file) => write!(f, "directory number file {file}"),
+        }
+    }
+}
+
+impl Error for EntryTableFault {}
+
+/// Which of the two tables of a header is meant, as texts say it: `directories` or `files`.
+#[derive(Clone, Copy)]
+pub struct EntryTableText(pub EntryTable);
+
+impl fmt::Display for EntryTableText {
+    ghost output = { λ text. Some (table_text text.0) };
+
+    fn fmt<W: fmt::Write>(&self, f: &mut fmt::Formatter<W>) -> fmt::Result {
+        match self.0 {
+            EntryTable::Directories => write!(f, "directories"),
+            EntryTable::Files => write!(f, "files"),
+        }
+    }
 }
 
 /// Whether the format is usable.
