@@ -18,7 +18,7 @@ use lnt_wire::{
     EncodeFault, FormValue, Format, Order, put_form, put_offset, put_u16, put_u32, put_u64,
     put_uleb,
 };
-use std::alloc::Global;
+use std::alloc::{AllocError, Global};
 
 /// The bytes of a unit with this header and this program, each LEB128 in its shortest spelling (DWARF 5, section 6.2.4). It
 /// refuses with `TooLarge` where nothing spells them in the header's format: an offset of the tables is 2^32 or more in the
@@ -101,10 +101,9 @@ fn add_initial_length(
     length: u64,
     format: Format,
     order: Order,
-) -> Result<(), EncodeFault>
+) -> Result<(), AllocError>
     requires { LengthFits format length }
     ensures ok { OnOk result (out.new.items ≡ out.old.items ++ initial_length format order length) }
-    ensures err { IfErr result (λ fault. fault ≡ EncodeFault.Memory) }
 {
     match format {
         Format::D32 => put_u32(out, length as u32, order),
@@ -168,9 +167,8 @@ fn add_table(
 
 // Adds the pairs of a format.
 #[tactic(auto, using(crate::proofs::EncodeLemmas::pairs_begun, crate::proofs::EncodeLemmas::pairs_more, crate::proofs::EncodeLemmas::pairs_done))]
-pub(crate) fn add_pairs(out: &mut Vec<u8>, pairs: &[Pair]) -> Result<(), EncodeFault>
+pub(crate) fn add_pairs(out: &mut Vec<u8>, pairs: &[Pair]) -> Result<(), AllocError>
     ensures ok { OnOk result (Appends (Each PairBytes) pairs.now out.old.items out.new.items) }
-    ensures err { IfErr result (λ fault. fault ≡ EncodeFault.Memory) }
 {
     for pair in pairs {
         add_pair(out, pair)?;
@@ -179,9 +177,8 @@ pub(crate) fn add_pairs(out: &mut Vec<u8>, pairs: &[Pair]) -> Result<(), EncodeF
 }
 
 #[tactic(auto, using(crate::proofs::EncodeLemmas::pair_put))]
-fn add_pair(out: &mut Vec<u8>, pair: &Pair) -> Result<(), EncodeFault>
+fn add_pair(out: &mut Vec<u8>, pair: &Pair) -> Result<(), AllocError>
     ensures ok { OnOk result (Appends PairBytes pair.now out.old.items out.new.items) }
-    ensures err { IfErr result (λ fault. fault ≡ EncodeFault.Memory) }
 {
     put_uleb(out, pair.content)?;
     put_uleb(out, pair.form.code())

@@ -4,7 +4,6 @@ use Rattle.std.proofs.Common.{refl, sym, ap, subst, ◌∙◌, append_assoc, app
 use Rattle.std.proofs.lemmas.List.{length-append}
 use Rattle.std.proofs.Math.Seq.{take-append_seam}
 use Rattle.std.specs.Prelude.{ℤ, slice_set, Result, Ok, Err, OnOk, OnErr}
-use Rattle.lnt_wire.specs.declared.put.EncodeFault.{EncodeFault}
 use Rattle.lnt_wire.specs.declared.format.Order.{Order}
 use Rattle.lnt_wire.specs.Bytes.{Exactly, IsShortest, Appends, Extends}
 use Rattle.lnt_wire.specs.At.{At}
@@ -38,11 +37,11 @@ use Rattle.lnt_ops.proofs.OwnedLemmas as owned
 use Rattle.lnt_ops.proofs.LebSizes.{shortest_of_less, at_most_ten, one_group}
 
 -- what a call gives where it gives something
-pub on_ok_to : {P Q : Type 0} (r : Result Unit EncodeFault) → (P → Q) → OnOk r P → OnOk r Q
+pub on_ok_to : {P Q E : Type 0} (r : Result Unit E) → (P → Q) → OnOk r P → OnOk r Q
 on_ok_to (Ok u) to p = to p
 on_ok_to (Err e) to p = p
 
-pub on_err_to : {P Q : Type 0} (r : Result Unit EncodeFault) → (P → Q) → OnErr r P → OnErr r Q
+pub on_err_to : {P Q E : Type 0} (r : Result Unit E) → (P → Q) → OnErr r P → OnErr r Q
 on_err_to (Ok u) to p = p
 on_err_to (Err e) to p = to p
 

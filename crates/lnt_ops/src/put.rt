@@ -1,5 +1,5 @@
 //! Operations written at the end of a vector (DWARF 5, sections 6.2.5 and 7.22).
-ghost use Rattle.std.specs.Prelude.{◌≡◌, ◌++◌, ◌^◌, ◌<◌, [], ◌∷◌, IfErr, OnOk, OnErr};
+ghost use Rattle.std.specs.Prelude.{◌≡◌, ◌++◌, ◌^◌, ◌<◌, [], ◌∷◌, OnOk, OnErr};
 ghost use Rattle.std.specs.List.{AllByRecursion};
 ghost use Rattle.lnt_wire.specs.Bytes.{Appends, Exactly, Extends};
 ghost use Rattle.lnt_wire.specs.Leb128.{SignedLeb, UnsignedLeb};
@@ -14,34 +14,33 @@ ghost use Rattle.lnt_ops.specs.Stepping.{AddsOperands, AddsSpelled};
 ghost use Rattle.lnt_ops.specs.OpSpellings.{Coded, ExtendedCoded, ExtendedStart};
 
 use lnt_header::{Header, Op, OpView, Operands};
-use lnt_wire::{Cursor, EncodeFault, Order, put_sleb, put_u16, put_u32, put_u64, put_uleb};
+use lnt_wire::{Cursor, Order, put_sleb, put_u16, put_u32, put_u64, put_uleb};
+use std::alloc::AllocError;
 
 /// Adds the bytes of the operations in a unit with the header, one after the other, each LEB128 in its shortest
-/// spelling. The caller sees to it that the header admits each of them (`Header::admits`). The only refusal is
-/// `Memory`, and then `out` is as before.
+/// spelling. The caller sees to it that the header admits each of them (`Header::admits`). The one error is that memory
+/// ran out, and then `out` is as before.
 #[tactic(auto, using(crate::proofs::OpPutLemmas::taken_back))]
-pub fn put_ops(out: &mut Vec<u8>, header: &Header, ops: &[Op]) -> Result<(), EncodeFault>
+pub fn put_ops(out: &mut Vec<u8>, header: &Header, ops: &[Op]) -> Result<(), AllocError>
     requires { AllByRecursion (Admits header.now) ops.now }
     ensures ok { OnOk result (Appends (Each (OpBytes header.now)) ops.now out.old.items out.new.items) }
-    ensures err { IfErr result (λ fault. fault ≡ EncodeFault.Memory) }
     ensures unchanged { OnErr result (out.new.items ≡ out.old.items) }
 {
     let start = out.len();
     match add_ops(out, header, ops) {
         Ok(()) => Ok(()),
-        Err(fault) => {
+        Err(error) => {
             out.truncate(start);
-            Err(fault)
+            Err(error)
         }
     }
 }
 
 // Adds operations. After a refusal a part of them may be there.
 #[tactic(auto, using(crate::proofs::OpPutLemmas::ops_begun, crate::proofs::OpPutLemmas::ops_more, crate::proofs::OpPutLemmas::ops_done, lnt_header::proofs::FirstLaws::all_at))]
-fn add_ops(out: &mut Vec<u8>, header: &Header, ops: &[Op]) -> Result<(), EncodeFault>
+fn add_ops(out: &mut Vec<u8>, header: &Header, ops: &[Op]) -> Result<(), AllocError>
     requires { AllByRecursion (Admits header.now) ops.now }
     ensures ok { OnOk result (Appends (Each (OpBytes header.now)) ops.now out.old.items out.new.items) }
-    ensures err { IfErr result (λ fault. fault ≡ EncodeFault.Memory) }
     ensures extends { OnErr result (Extends out.old.items out.new.items) }
 {
     for op in ops {
@@ -52,28 +51,26 @@ fn add_ops(out: &mut Vec<u8>, header: &Header, ops: &[Op]) -> Result<(), EncodeF
 
 // Adds an operation. After a refusal a part of it may be there.
 #[tactic(auto, using(crate::proofs::OpPutLemmas::is_op_of_header, crate::proofs::OpPutLemmas::op_put))]
-fn add_op(out: &mut Vec<u8>, header: &Header, op: &Op) -> Result<(), EncodeFault>
+fn add_op(out: &mut Vec<u8>, header: &Header, op: &Op) -> Result<(), AllocError>
     requires { Admits header.now op.now }
     ensures ok { OnOk result (Appends (OpBytes header.now) op.now out.old.items out.new.items) }
-    ensures err { IfErr result (λ fault. fault ≡ EncodeFault.Memory) }
     ensures extends { OnErr result (Extends out.old.items out.new.items) }
 {
     put_view(out, op.view(), header.order(), header.address_size())
 }
 
 /// Adds the bytes of the operation that the view stands for, in a unit whose numbers have the order, each LEB128 in its
-/// shortest spelling. The caller sees to it that a header with addresses of this size admits it. The only refusal is
-/// `Memory`, and then a part of the operation may be there. It takes no memory but that of `out`.
+/// shortest spelling. The caller sees to it that a header with addresses of this size admits it. The one error is that
+/// memory ran out, and then a part of the operation may be there. It takes no memory but that of `out`.
 pub fn put_view(
     out: &mut Vec<u8>,
     view: OpView<'_>,
     order: Order,
     address_size: u8,
-) -> Result<(), EncodeFault>
+) -> Result<(), AllocError>
     requires size { IsAddressSize address_size }
     requires admitted { IsOpOf address_size view }
     ensures ok { OnOk result (AddsView order address_size view.entry out.old.items out.new.items) }
-    ensures err { IfErr result (λ fault. fault ≡ EncodeFault.Memory) }
     ensures extends { OnErr result (Extends out.old.items out.new.items) }
 {
     match view {
@@ -100,9 +97,8 @@ pub fn put_view(
 
 // Adds an opcode without operands.
 #[tactic(auto, using(crate::proofs::OpPutLemmas::unchanged_extends))]
-fn add_code(out: &mut Vec<u8>, code: u8) -> Result<(), EncodeFault>
+fn add_code(out: &mut Vec<u8>, code: u8) -> Result<(), AllocError>
     ensures ok { OnOk result (out.new.items ≡ out.old.items ++ code ∷ []) }
-    ensures err { IfErr result (λ fault. fault ≡ EncodeFault.Memory) }
     ensures extends { OnErr result (Extends out.old.items out.new.items) }
 {
     Ok(out.push(code)?)
@@ -110,9 +106,8 @@ fn add_code(out: &mut Vec<u8>, code: u8) -> Result<(), EncodeFault>
 
 // Adds an opcode and an unsigned number.
 #[tactic(auto, using(crate::proofs::OpPutLemmas::coded_put))]
-fn add_unsigned(out: &mut Vec<u8>, code: u8, n: u64) -> Result<(), EncodeFault>
+fn add_unsigned(out: &mut Vec<u8>, code: u8, n: u64) -> Result<(), AllocError>
     ensures ok { OnOk result (Appends (Coded code UnsignedLeb) n out.old.items out.new.items) }
-    ensures err { IfErr result (λ fault. fault ≡ EncodeFault.Memory) }
     ensures extends { OnErr result (Extends out.old.items out.new.items) }
 {
     out.push(code)?;
@@ -121,9 +116,8 @@ fn add_unsigned(out: &mut Vec<u8>, code: u8, n: u64) -> Result<(), EncodeFault>
 
 // Adds an opcode and a signed number.
 #[tactic(auto, using(crate::proofs::OpPutLemmas::coded_put))]
-fn add_signed(out: &mut Vec<u8>, code: u8, z: i64) -> Result<(), EncodeFault>
+fn add_signed(out: &mut Vec<u8>, code: u8, z: i64) -> Result<(), AllocError>
     ensures ok { OnOk result (Appends (Coded code SignedLeb) z out.old.items out.new.items) }
-    ensures err { IfErr result (λ fault. fault ≡ EncodeFault.Memory) }
     ensures extends { OnErr result (Extends out.old.items out.new.items) }
 {
     out.push(code)?;
@@ -132,9 +126,8 @@ fn add_signed(out: &mut Vec<u8>, code: u8, z: i64) -> Result<(), EncodeFault>
 
 // Adds an opcode and a number of 2 bytes.
 #[tactic(auto, using(crate::proofs::OpPutLemmas::coded_put))]
-fn add_number(out: &mut Vec<u8>, code: u8, n: u16, order: Order) -> Result<(), EncodeFault>
+fn add_number(out: &mut Vec<u8>, code: u8, n: u16, order: Order) -> Result<(), AllocError>
     ensures ok { OnOk result (Appends (Coded code (NumberBytes order 2)) n out.old.items out.new.items) }
-    ensures err { IfErr result (λ fault. fault ≡ EncodeFault.Memory) }
     ensures extends { OnErr result (Extends out.old.items out.new.items) }
 {
     out.push(code)?;
@@ -143,10 +136,9 @@ fn add_number(out: &mut Vec<u8>, code: u8, n: u16, order: Order) -> Result<(), E
 
 // Adds an opcode and unsigned numbers.
 #[tactic(auto, using(crate::proofs::OpPutLemmas::spelled_put, crate::proofs::OpPutLemmas::listed_put))]
-fn add_operands(out: &mut Vec<u8>, code: u8, operands: Operands<'_>) -> Result<(), EncodeFault>
+fn add_operands(out: &mut Vec<u8>, code: u8, operands: Operands<'_>) -> Result<(), AllocError>
     requires { IsOperands operands }
     ensures ok { OnOk result (AddsOperands code operands.entry out.old.items out.new.items) }
-    ensures err { IfErr result (λ fault. fault ≡ EncodeFault.Memory) }
     ensures extends { OnErr result (Extends out.old.items out.new.items) }
 {
     out.push(code)?;
@@ -158,10 +150,9 @@ fn add_operands(out: &mut Vec<u8>, code: u8, operands: Operands<'_>) -> Result<(
 
 // Adds the unsigned numbers that the bytes spell.
 #[tactic(auto, using(crate::proofs::OpPutLemmas::spelled_begun, crate::proofs::OpPutLemmas::spelled_more, crate::proofs::OpPutLemmas::spelled_done, crate::proofs::OwnedLemmas::number_long))]
-fn add_spelled(out: &mut Vec<u8>, bytes: &[u8]) -> Result<(), EncodeFault>
+fn add_spelled(out: &mut Vec<u8>, bytes: &[u8]) -> Result<(), AllocError>
     requires { SpellsNumbers bytes.now }
     ensures ok { OnOk result (AddsSpelled bytes.now out.old.items out.new.items) }
-    ensures err { IfErr result (λ fault. fault ≡ EncodeFault.Memory) }
     ensures extends { OnErr result (Extends out.old.items out.new.items) }
 {
     let mut cursor = Cursor::new(bytes, 0, Order::Little);
@@ -173,9 +164,8 @@ fn add_spelled(out: &mut Vec<u8>, bytes: &[u8]) -> Result<(), EncodeFault>
 
 // Adds unsigned numbers.
 #[tactic(auto, using(crate::proofs::OpPutLemmas::numbers_begun, crate::proofs::OpPutLemmas::numbers_more, crate::proofs::OpPutLemmas::numbers_done))]
-fn add_numbers(out: &mut Vec<u8>, numbers: &[u64]) -> Result<(), EncodeFault>
+fn add_numbers(out: &mut Vec<u8>, numbers: &[u64]) -> Result<(), AllocError>
     ensures ok { OnOk result (Appends (Each UnsignedLeb) numbers.now out.old.items out.new.items) }
-    ensures err { IfErr result (λ fault. fault ≡ EncodeFault.Memory) }
     ensures extends { OnErr result (Extends out.old.items out.new.items) }
 {
     for number in numbers {
@@ -186,9 +176,8 @@ fn add_numbers(out: &mut Vec<u8>, numbers: &[u64]) -> Result<(), EncodeFault>
 
 // Adds an extended operation with this operand.
 #[tactic(auto, using(crate::proofs::OpPutLemmas::extended_put))]
-fn add_extended(out: &mut Vec<u8>, code: u8, operand: &[u8]) -> Result<(), EncodeFault>
+fn add_extended(out: &mut Vec<u8>, code: u8, operand: &[u8]) -> Result<(), AllocError>
     ensures ok { OnOk result (Appends (ExtendedCoded code Exactly) operand.now out.old.items out.new.items) }
-    ensures err { IfErr result (λ fault. fault ≡ EncodeFault.Memory) }
     ensures extends { OnErr result (Extends out.old.items out.new.items) }
 {
     start_extended(out, operand.len() as u64 + 1, code)?;
@@ -199,9 +188,8 @@ fn add_extended(out: &mut Vec<u8>, code: u8, operand: &[u8]) -> Result<(), Encod
 // Adds what stands before the operand of an extended operation: a zero byte, the length `count`, which counts the code and
 // the operand, and the code.
 #[tactic(auto, using(crate::proofs::OpPutLemmas::start_put))]
-fn start_extended(out: &mut Vec<u8>, count: u64, code: u8) -> Result<(), EncodeFault>
+fn start_extended(out: &mut Vec<u8>, count: u64, code: u8) -> Result<(), AllocError>
     ensures ok { OnOk result (Appends (ExtendedStart code) count out.old.items out.new.items) }
-    ensures err { IfErr result (λ fault. fault ≡ EncodeFault.Memory) }
     ensures extends { OnErr result (Extends out.old.items out.new.items) }
 {
     out.push(0)?;
@@ -212,11 +200,10 @@ fn start_extended(out: &mut Vec<u8>, count: u64, code: u8) -> Result<(), EncodeF
 
 // Adds the operation that sets the address.
 #[tactic(auto, using(crate::proofs::OpPutLemmas::address_put))]
-fn add_address(out: &mut Vec<u8>, address: u64, size: u8, order: Order) -> Result<(), EncodeFault>
+fn add_address(out: &mut Vec<u8>, address: u64, size: u8, order: Order) -> Result<(), AllocError>
     requires size { IsAddressSize size }
     requires fits { address < 256 ^ size }
     ensures ok { OnOk result (Appends (ExtendedCoded 2 (NumberBytes order size)) address out.old.items out.new.items) }
-    ensures err { IfErr result (λ fault. fault ≡ EncodeFault.Memory) }
     ensures extends { OnErr result (Extends out.old.items out.new.items) }
 {
     start_extended(out, u64::from(size) + 1, 2)?;
@@ -224,11 +211,10 @@ fn add_address(out: &mut Vec<u8>, address: u64, size: u8, order: Order) -> Resul
 }
 
 // Adds a number in `size` bytes, which are those of an address: 2, 4 or 8.
-fn add_sized(out: &mut Vec<u8>, n: u64, size: u8, order: Order) -> Result<(), EncodeFault>
+fn add_sized(out: &mut Vec<u8>, n: u64, size: u8, order: Order) -> Result<(), AllocError>
     requires size { IsAddressSize size }
     requires fits { n < 256 ^ size }
     ensures ok { OnOk result (Appends (NumberBytes order size) n out.old.items out.new.items) }
-    ensures err { IfErr result (λ fault. fault ≡ EncodeFault.Memory) }
     ensures unchanged { OnErr result (out.new.items ≡ out.old.items) }
 {
     match size {
@@ -239,9 +225,8 @@ fn add_sized(out: &mut Vec<u8>, n: u64, size: u8, order: Order) -> Result<(), En
 }
 
 // Adds the operation that sets the discriminator. Its length, of one byte, is written once it is known.
-fn add_discriminator(out: &mut Vec<u8>, n: u64) -> Result<(), EncodeFault>
+fn add_discriminator(out: &mut Vec<u8>, n: u64) -> Result<(), AllocError>
     ensures ok { OnOk result (Appends (ExtendedCoded 4 UnsignedLeb) n out.old.items out.new.items) }
-    ensures err { IfErr result (λ fault. fault ≡ EncodeFault.Memory) }
     ensures extends { OnErr result (Extends out.old.items out.new.items) }
 {
     out.extend_from_slice(&[0, 0, 4])?;

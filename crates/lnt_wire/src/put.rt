@@ -1,6 +1,6 @@
 //! Numbers and values, written at the end of a vector (DWARF 5, sections 7.4, 7.5.6 and 7.6). A refused call leaves the vector
 //! as it was.
-ghost use Rattle.std.specs.Prelude.{◌≡◌, ◌<◌, ◌↔◌, ◌++◌, Some, pos, length, take, IsErrOf, IfErr, OnOk, OnErr};
+ghost use Rattle.std.specs.Prelude.{◌≡◌, ◌<◌, ◌↔◌, ◌++◌, Some, pos, length, take, IsErrOf, OnOk, OnErr};
 ghost use Rattle.std.specs.Int.{int_rem_euclid};
 ghost use Rattle.lnt_wire.specs.Bytes.{Appends, Extends};
 ghost use Rattle.lnt_wire.specs.FaultTexts.{encode_fault_text};
@@ -58,12 +58,11 @@ impl<T: Drop> From<AllocFailed<T>> for EncodeFault {
     }
 }
 
-/// Adds the number as an unsigned LEB128 number, in as few bytes as spell it. The only refusal is `Memory`, and then `out` is
-/// as before.
+/// Adds the number as an unsigned LEB128 number, in as few bytes as spell it. The one error is that memory ran out, and then
+/// `out` is as before.
 #[tactic(auto, using(crate::proofs::PutLemmas::taken_back))]
-pub fn put_uleb(out: &mut Vec<u8>, n: u64) -> Result<(), EncodeFault>
+pub fn put_uleb(out: &mut Vec<u8>, n: u64) -> Result<(), AllocError>
     ensures ok { OnOk result (Appends UnsignedLeb n out.old.items out.new.items) }
-    ensures err { IfErr result (λ fault. fault ≡ EncodeFault.Memory) }
     ensures unchanged { OnErr result (out.new.items ≡ out.old.items) }
 {
     let start = out.len();
@@ -71,12 +70,11 @@ pub fn put_uleb(out: &mut Vec<u8>, n: u64) -> Result<(), EncodeFault>
     cut_back(out, start, ended)
 }
 
-/// Adds the number as a signed LEB128 number, in as few bytes as spell it. The only refusal is `Memory`, and then `out` is as
-/// before.
+/// Adds the number as a signed LEB128 number, in as few bytes as spell it. The one error is that memory ran out, and then `out`
+/// is as before.
 #[tactic(auto, using(crate::proofs::PutLemmas::taken_back))]
-pub fn put_sleb(out: &mut Vec<u8>, z: i64) -> Result<(), EncodeFault>
+pub fn put_sleb(out: &mut Vec<u8>, z: i64) -> Result<(), AllocError>
     ensures ok { OnOk result (Appends SignedLeb z out.old.items out.new.items) }
-    ensures err { IfErr result (λ fault. fault ≡ EncodeFault.Memory) }
     ensures unchanged { OnErr result (out.new.items ≡ out.old.items) }
 {
     let start = out.len();
@@ -107,10 +105,9 @@ pub fn put_form(
     cut_back(out, start, ended)
 }
 
-/// Adds the number in 2 bytes, in this order. The only refusal is `Memory`, and then `out` is as before.
-pub fn put_u16(out: &mut Vec<u8>, n: u16, order: Order) -> Result<(), EncodeFault>
+/// Adds the number in 2 bytes, in this order. The one error is that memory ran out, and then `out` is as before.
+pub fn put_u16(out: &mut Vec<u8>, n: u16, order: Order) -> Result<(), AllocError>
     ensures ok { OnOk result (Appends (NumberBytes order 2) n out.old.items out.new.items) }
-    ensures err { IfErr result (λ fault. fault ≡ EncodeFault.Memory) }
     ensures unchanged { OnErr result (out.new.items ≡ out.old.items) }
 {
     let mut bytes = [0; 2];
@@ -122,10 +119,9 @@ pub fn put_u16(out: &mut Vec<u8>, n: u16, order: Order) -> Result<(), EncodeFaul
     Ok(())
 }
 
-/// Adds the number in 4 bytes, in this order. The only refusal is `Memory`, and then `out` is as before.
-pub fn put_u32(out: &mut Vec<u8>, n: u32, order: Order) -> Result<(), EncodeFault>
+/// Adds the number in 4 bytes, in this order. The one error is that memory ran out, and then `out` is as before.
+pub fn put_u32(out: &mut Vec<u8>, n: u32, order: Order) -> Result<(), AllocError>
     ensures ok { OnOk result (Appends (NumberBytes order 4) n out.old.items out.new.items) }
-    ensures err { IfErr result (λ fault. fault ≡ EncodeFault.Memory) }
     ensures unchanged { OnErr result (out.new.items ≡ out.old.items) }
 {
     let mut bytes = [0; 4];
@@ -137,10 +133,9 @@ pub fn put_u32(out: &mut Vec<u8>, n: u32, order: Order) -> Result<(), EncodeFaul
     Ok(())
 }
 
-/// Adds the number in 8 bytes, in this order. The only refusal is `Memory`, and then `out` is as before.
-pub fn put_u64(out: &mut Vec<u8>, n: u64, order: Order) -> Result<(), EncodeFault>
+/// Adds the number in 8 bytes, in this order. The one error is that memory ran out, and then `out` is as before.
+pub fn put_u64(out: &mut Vec<u8>, n: u64, order: Order) -> Result<(), AllocError>
     ensures ok { OnOk result (Appends (NumberBytes order 8) n out.old.items out.new.items) }
-    ensures err { IfErr result (λ fault. fault ≡ EncodeFault.Memory) }
     ensures unchanged { OnErr result (out.new.items ≡ out.old.items) }
 {
     let mut bytes = [0; 8];
@@ -168,19 +163,15 @@ pub fn put_offset(
 {
     match format {
         Format::D32 => match u32::try_from(n) {
-            Ok(n) => put_u32(out, n, order),
+            Ok(n) => Ok(put_u32(out, n, order)?),
             Err(_) => Err(EncodeFault::TooLarge),
         },
-        Format::D64 => put_u64(out, n, order),
+        Format::D64 => Ok(put_u64(out, n, order)?),
     }
 }
 
 // Hands on how a call ended that added bytes to `out` from index `start` on. Where it was refused, these bytes are removed first.
-fn cut_back(
-    out: &mut Vec<u8>,
-    start: usize,
-    ended: Result<(), EncodeFault>,
-) -> Result<(), EncodeFault>
+fn cut_back<E>(out: &mut Vec<u8>, start: usize, ended: Result<(), E>) -> Result<(), E>
     ensures same { result ≡ ended }
     ensures ok { OnOk ended (out.new.items ≡ out.old.items) }
     ensures err { OnErr ended (out.new.items ≡ take start out.old.items) }
@@ -193,9 +184,8 @@ fn cut_back(
 
 // Adds the shortest unsigned LEB128 number. After a refusal a part of it may be there.
 #[tactic(auto, using(crate::proofs::PutLemmas::unsigned_groups))]
-fn add_uleb(out: &mut Vec<u8>, n: u64) -> Result<(), EncodeFault>
+fn add_uleb(out: &mut Vec<u8>, n: u64) -> Result<(), AllocError>
     ensures ok { OnOk result (Appends UnsignedLeb n out.old.items out.new.items) }
-    ensures err { IfErr result (λ fault. fault ≡ EncodeFault.Memory) }
     ensures extends { OnErr result (Extends out.old.items out.new.items) }
 {
     let mut rest = n;
@@ -209,9 +199,8 @@ fn add_uleb(out: &mut Vec<u8>, n: u64) -> Result<(), EncodeFault>
 
 // Adds the shortest signed LEB128 number. After a refusal a part of it may be there.
 #[tactic(auto, using(crate::proofs::PutLemmas::begun_signed, crate::proofs::PutLemmas::begun_extends))]
-fn add_sleb(out: &mut Vec<u8>, z: i64) -> Result<(), EncodeFault>
+fn add_sleb(out: &mut Vec<u8>, z: i64) -> Result<(), AllocError>
     ensures ok { OnOk result (Appends SignedLeb z out.old.items out.new.items) }
-    ensures err { IfErr result (λ fault. fault ≡ EncodeFault.Memory) }
     ensures extends { OnErr result (Extends out.old.items out.new.items) }
 {
     let mut rest = z;
@@ -250,16 +239,16 @@ fn add_form(
         }
         FormValue::LineStrp(offset) => put_offset(out, *offset, format, order),
         FormValue::Strp(offset) => put_offset(out, *offset, format, order),
-        FormValue::Udata(n) => put_uleb(out, *n),
+        FormValue::Udata(n) => Ok(put_uleb(out, *n)?),
         FormValue::Data1(n) => Ok(out.push(*n)?),
-        FormValue::Data2(n) => put_u16(out, *n, order),
-        FormValue::Data4(n) => put_u32(out, *n, order),
-        FormValue::Data8(n) => put_u64(out, *n, order),
+        FormValue::Data2(n) => Ok(put_u16(out, *n, order)?),
+        FormValue::Data4(n) => Ok(put_u32(out, *n, order)?),
+        FormValue::Data8(n) => Ok(put_u64(out, *n, order)?),
         FormValue::Data16(bytes) => Ok(out.extend_from_slice(bytes)?),
-        FormValue::Block(block) => add_block(out, block.as_slice(), Prefix::Leb, order),
-        FormValue::Block1(block) => add_block(out, block.as_slice(), Prefix::One, order),
-        FormValue::Block2(block) => add_block(out, block.as_slice(), Prefix::Two, order),
-        FormValue::Block4(block) => add_block(out, block.as_slice(), Prefix::Four, order),
+        FormValue::Block(block) => Ok(add_block(out, block.as_slice(), Prefix::Leb, order)?),
+        FormValue::Block1(block) => Ok(add_block(out, block.as_slice(), Prefix::One, order)?),
+        FormValue::Block2(block) => Ok(add_block(out, block.as_slice(), Prefix::Two, order)?),
+        FormValue::Block4(block) => Ok(add_block(out, block.as_slice(), Prefix::Four, order)?),
     }
 }
 
@@ -269,11 +258,10 @@ fn add_block(
     block: &[u8],
     prefix: Prefix,
     order: Order,
-) -> Result<(), EncodeFault>
+) -> Result<(), AllocError>
     requires { LengthFits prefix (length block.now) }
     ensures ok { OnOk result
         (Appends (BlockBytes (LengthBytes order prefix)) block.now out.old.items out.new.items) }
-    ensures err { IfErr result (λ fault. fault ≡ EncodeFault.Memory) }
     ensures extends { OnErr result (Extends out.old.items out.new.items) }
 {
     add_length(out, block.len(), prefix, order)?;
@@ -287,10 +275,9 @@ fn add_length(
     length: usize,
     prefix: Prefix,
     order: Order,
-) -> Result<(), EncodeFault>
+) -> Result<(), AllocError>
     requires { LengthFits prefix length }
     ensures ok { OnOk result (Appends (LengthBytes order prefix) length out.old.items out.new.items) }
-    ensures err { IfErr result (λ fault. fault ≡ EncodeFault.Memory) }
     ensures unchanged { OnErr result (out.new.items ≡ out.old.items) }
 {
     match prefix {
