@@ -1,22 +1,16 @@
 -- The line that says why a section isn't good, as its type prints it.
 use Rattle.std.specs.Prelude.{ℕ, List, ◌++◌, codes, decimal}
-use Rattle.lnt_header.specs.declared.header.EntryTable.{EntryTable}
-use Rattle.lnt_header.specs.declared.header.EntryTable.TheVariants.{Directories, Files}
 use Rattle.lnt_sequences.specs.declared.sequence.SeqId.{SeqId}
 use Rattle.lnt_lines.specs.declared.no.No.{No}
 use Rattle.lnt_lines.specs.declared.no.No.TheVariants.{Malformed, Run, EntryFormat, StringOutside, DirectoryNumber, FileNumber, Falls}
 use Rattle.lnt_lines.specs.declared.no.No.TheVariants.{Overlap}
 use Rattle.lnt_wire.specs.FaultTexts.{hexadecimal}
+use Rattle.lnt_files.specs.FaultTexts.{table_text}
 use Rattle.lnt_text.specs.Texts.{malformed_text, position_text, run_text}
 
 -- a sequence, by its unit's offset and its index in the unit
 abbrev pub sequence_text : SeqId → List ℕ
 sequence_text sequence = hexadecimal sequence.unit ++ (codes ":" ++ decimal sequence.index)
-
--- one of the two tables of a header
-abbrev pub table_text : EntryTable → List ℕ
-table_text Directories = codes "directories"
-table_text Files = codes "files"
 
 -- why a section isn't good
 abbrev pub no_text : No → List ℕ

@@ -1,7 +1,8 @@
 //! Why a section isn't good.
 ghost use Rattle.std.specs.Prelude.{Some};
-ghost use Rattle.lnt_lines.specs.FaultTexts.{no_text, sequence_text, table_text};
+ghost use Rattle.lnt_lines.specs.FaultTexts.{no_text, sequence_text};
 
+use lnt_files::EntryTableText;
 use lnt_header::EntryTable;
 use lnt_machine::RunFault;
 use lnt_sequences::SeqId;
@@ -65,12 +66,16 @@ impl fmt::Display for No {
             No::Malformed(fault) => write!(f, "{}", MalformedLine(fault)),
             No::Run(unit, fault) => write!(f, "{}", RunLine(unit, fault)),
             No::EntryFormat(unit, which) => {
-                write!(f, "no 27 entry format unit 0x{unit:x} {}", WhichText(which))
+                write!(
+                    f,
+                    "no 27 entry format unit 0x{unit:x} {}",
+                    EntryTableText(which)
+                )
             }
             No::StringOutside(unit, which, entry) => write!(
                 f,
                 "no 28 string outside unit 0x{unit:x} {} entry {entry}",
-                WhichText(which)
+                EntryTableText(which)
             ),
             No::DirectoryNumber(unit, file) => {
                 write!(f, "no 29 directory number unit 0x{unit:x} file {file}")
@@ -104,20 +109,5 @@ impl fmt::Display for SequenceText {
     fn fmt<W: fmt::Write>(&self, f: &mut fmt::Formatter<W>) -> fmt::Result {
         let SeqId { unit, index } = self.0;
         write!(f, "0x{unit:x}:{index}")
-    }
-}
-
-// Which of the two tables of a header.
-#[derive(Clone, Copy)]
-struct WhichText(EntryTable);
-
-impl fmt::Display for WhichText {
-    ghost output = { λ text. Some (table_text text.0) };
-
-    fn fmt<W: fmt::Write>(&self, f: &mut fmt::Formatter<W>) -> fmt::Result {
-        match self.0 {
-            EntryTable::Directories => write!(f, "directories"),
-            EntryTable::Files => write!(f, "files"),
-        }
     }
 }
