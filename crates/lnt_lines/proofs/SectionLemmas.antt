@@ -10,6 +10,8 @@ use Rattle.lnt_wire.specs.InitialLength.{initial_length}
 use Rattle.lnt_wire.proofs.LengthLaws.{length-initial}
 use Rattle.lnt_wire.proofs.PullLaws.{pulls_append}
 use Rattle.lnt_wire.specs.Pulling.{Pulls}
+use Rattle.lnt_wire.specs.declared.stop.Stop.{Stop}
+use Rattle.lnt_wire.specs.declared.stop.Stop.TheVariants as stops
 use Rattle.lnt_stream.specs.declared.stop.SectionStop.{SectionStop}
 use Rattle.lnt_stream.specs.declared.stop.SectionStop.TheVariants as section
 use Rattle.lnt_stream.specs.Stops.{IfFault}
@@ -35,7 +37,7 @@ use Rattle.lnt_lines.specs.Stepping.{HasAdded, IsDraftOf, IsDraftOfSection, IsRe
 use Rattle.lnt_lines.specs.Indexed.{Indexed, IsIndexOf}
 use Rattle.lnt_lines.specs.Judging.{HasFlaw, IsUnitNo, IsUnitRefusal}
 use Rattle.lnt_lines.specs.Nos.{IsFirstFlaw, IsMalformed, IsTrueNo}
-use Rattle.lnt_lines.specs.Refusals.{stop_refusal}
+use Rattle.lnt_lines.specs.Refusals.{IsStopRefusal}
 use Rattle.lnt_lines.proofs.DraftLemmas.{distinct, numbers_from, rising_from}
 
 -- ---- units judged one after another
@@ -189,21 +191,26 @@ fault_refused text general options (Some bytes) now order offset draft fault so_
         (subst (λ (o : Order). BrokenUnit o fault offset x) same
         (frame_broken order (record { place = offset; rest = x; order = order }) fault e.1))
 
-nothing_said : (old : Option (List ℕ)) → IfSome old (λ bytes. Unit {0})
-nothing_said None = tt
-nothing_said (Some bytes) = tt
+stopped : (text general : List ℕ) (options : Options) (old : Option (List ℕ)) (stop : Stop) (told : Refusal) → told ≡ refusal.Stop stop
+    → IfSome old (λ bytes. IsRefusal text general options bytes told)
+stopped text general options None stop told is = tt
+stopped text general options (Some bytes) stop told is = subst (IsRefusal text general options bytes) (sym is) tt
 
 pub stop_refused : (text general : List ℕ) (options : Options) (old now : Option (List ℕ)) (order : Order) (offset : ℕ) (draft : Draft)
-    (stop : SectionStop)
+    (stop : SectionStop) (told : Refusal)
     → JudgedSoFar text general options old now offset draft → order ≡ options.order
-    → IfFault stop (λ fault. SectionEndsBy offset order now (Some fault))
-    → IfSome old (λ bytes. IsRefusal text general options bytes (stop_refusal stop))
-stop_refused text general options old now order offset draft (section.Fault fault) so_far same ends =
-    fault_refused text general options old now order offset draft fault so_far same ends
-stop_refused text general options old now order offset draft section.Memory so_far same ends = nothing_said old
-stop_refused text general options old now order offset draft section.Read so_far same ends = nothing_said old
-stop_refused text general options old now order offset draft section.TooLong so_far same ends = nothing_said old
-stop_refused text general options old now order offset draft section.Failed so_far same ends = nothing_said old
+    → IfFault stop (λ fault. SectionEndsBy offset order now (Some fault)) → IsStopRefusal stop told
+    → IfSome old (λ bytes. IsRefusal text general options bytes told)
+stop_refused text general options old now order offset draft (section.Fault fault) told so_far same ends is =
+    subst (λ (r : Refusal). IfSome old (λ bytes. IsRefusal text general options bytes r)) (sym is)
+    (fault_refused text general options old now order offset draft fault so_far same ends)
+stop_refused text general options old now order offset draft section.Memory told so_far same ends is =
+    stopped text general options old stops.Memory told is
+stop_refused text general options old now order offset draft section.Read told so_far same ends is =
+    stopped text general options old stops.Read told is
+stop_refused text general options old now order offset draft section.TooLong told so_far same ends is =
+    stopped text general options old stops.TooLong told is
+stop_refused text general options old now order offset draft section.Failed told so_far same ends is = absurd is
 
 -- ---- the section ends
 

@@ -17,13 +17,13 @@ pub data IsFaultRefusal (fault : Fault) (refusal : Refusal) : Type 0 where
   memory : fault.reason ≡ Memory → refusal ≡ Stop stop.Memory → IsFaultRefusal fault refusal
   malformed : fault.reason ≢ Memory → refusal ≡ No (Malformed fault) → IsFaultRefusal fault refusal
 
--- a stop of the section's reader
-abbrev pub stop_refusal : SectionStop → Refusal
-stop_refusal (section.Fault fault) = No (Malformed fault)
-stop_refusal section.Memory = Stop stop.Memory
-stop_refusal section.Read = Stop stop.Read
-stop_refusal section.TooLong = Stop stop.TooLong
-stop_refusal section.Failed = Stop stop.Read
+-- What a stop of the section's reader makes of the section. A reader that wasn't stopped before gives no Failed, of which nothing is made.
+abbrev pub IsStopRefusal : SectionStop → Refusal → Type 0
+IsStopRefusal (section.Fault fault) refusal = refusal ≡ No (Malformed fault)
+IsStopRefusal section.Memory refusal = refusal ≡ Stop stop.Memory
+IsStopRefusal section.Read refusal = refusal ≡ Stop stop.Read
+IsStopRefusal section.TooLong refusal = refusal ≡ Stop stop.TooLong
+IsStopRefusal section.Failed refusal = ⊥
 
 -- what is wrong with the tables of the unit at an offset
 abbrev pub table_no : ℕ → EntryTableFault → no.No

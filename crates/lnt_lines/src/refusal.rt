@@ -1,9 +1,9 @@
 //! Why there are no lines of a section.
-ghost use Rattle.std.specs.Prelude.{◌≡◌};
+ghost use Rattle.std.specs.Prelude.{◌≡◌, ◌≢◌};
 ghost use Rattle.lnt_lines.specs.declared.no.No.TheVariants.{Overlap as NoOverlap};
 ghost use Rattle.lnt_lines.specs.declared.refusal.Refusal.TheVariants.{No as Bad, Stop as Stopped};
 ghost use Rattle.lnt_wire.specs.declared.stop.Stop.TheVariants.{Memory as StopMemory};
-ghost use Rattle.lnt_lines.specs.Refusals.{IsFaultRefusal, stop_refusal};
+ghost use Rattle.lnt_lines.specs.Refusals.{IsFaultRefusal, IsStopRefusal};
 
 use crate::no::No;
 use lnt_sequences::Overlap;
@@ -18,6 +18,23 @@ pub(crate) enum Refusal {
     Stop(Stop),
 }
 
+impl Refusal {
+    // What a stop of the section's reader makes of the section. A reader that wasn't stopped before gives no `Failed`.
+    pub(crate) fn of_stop(stop: SectionStop) -> Refusal
+        requires { stop ≢ SectionStop.Failed }
+        ensures { IsStopRefusal stop result }
+    {
+        match stop {
+            // Frames have no reason `Memory`.
+            SectionStop::Fault(fault) => Refusal::No(No::Malformed(fault)),
+            SectionStop::Memory => Refusal::Stop(Stop::Memory),
+            SectionStop::Read => Refusal::Stop(Stop::Read),
+            SectionStop::TooLong => Refusal::Stop(Stop::TooLong),
+            SectionStop::Failed => unreachable!(),
+        }
+    }
+}
+
 impl From<Fault> for Refusal {
     ghost from_gives = { λ fault refusal. IsFaultRefusal fault refusal };
 
@@ -25,21 +42,6 @@ impl From<Fault> for Refusal {
         match fault.reason {
             Reason::Memory => Refusal::Stop(Stop::Memory),
             _ => Refusal::No(No::Malformed(fault)),
-        }
-    }
-}
-
-impl From<SectionStop> for Refusal {
-    ghost from_gives = { λ stop refusal. refusal ≡ stop_refusal stop };
-
-    fn from(stop: SectionStop) -> Refusal {
-        match stop {
-            // Frames have no reason `Memory`.
-            SectionStop::Fault(fault) => Refusal::No(No::Malformed(fault)),
-            SectionStop::Memory => Refusal::Stop(Stop::Memory),
-            SectionStop::TooLong => Refusal::Stop(Stop::TooLong),
-            // No unit is asked for after a stop, so `Failed` doesn't come.
-            SectionStop::Read | SectionStop::Failed => Refusal::Stop(Stop::Read),
         }
     }
 }

@@ -137,8 +137,11 @@ fn judge_units<R: Source>(
     let mut draft = Draft::new(alloc);
     let mut room = Vec::new(alloc);
     let ends = StringEnds::of(*strings);
-    while let Some(buffer) = reader.next_unit_in(room)? {
-        room = draft.add_unit(alloc, buffer, &ends, options.dead)?;
+    loop {
+        match reader.next_unit_in(room) {
+            Ok(Some(buffer)) => room = draft.add_unit(alloc, buffer, &ends, options.dead)?,
+            Ok(None) => return Ok(draft),
+            Err(stop) => return Err(Refusal::of_stop(stop)),
+        }
     }
-    Ok(draft)
 }

@@ -4,8 +4,8 @@ use Rattle.lnt_stream.specs.Readers.{loan_of, offset_of, order_of, progress_of, 
 use Rattle.lnt_lines.proofs.SectionLemmas.{JudgedSoFar}
 use Rattle.lnt_lines.proofs.section.judge_units.Given as goal
 
-abbrev pub invariant-loop-draft : goal.invariant-loop-draft
-invariant-loop-draft g l = record {
+abbrev pub invariant-loop-buffer : goal.invariant-loop-buffer
+invariant-loop-buffer g l = record {
   judged : JudgedSoFar l.strings.line.now l.strings.general.now l.options (g.R.Source.remaining (source_of l.fn.reader))
       (g.R.Source.remaining (source_of l.reader)) (offset_of l.reader) l.draft;
   order_is : order_of l.reader ≡ l.options.order;
@@ -15,5 +15,5 @@ invariant-loop-draft g l = record {
   same_reference : loan_of l.reader ≡ loan_of l.fn.reader;
 }
 
-abbrev pub decreases-loop-draft : goal.decreases-loop-draft
-decreases-loop-draft g l = g.R.Source.left (source_of l.reader)
+abbrev pub decreases-loop-buffer : goal.decreases-loop-buffer
+decreases-loop-buffer g l = g.R.Source.left (source_of l.reader)
