@@ -1,6 +1,7 @@
 -- Tables and headers whose entries stay where they lie.
-use Rattle.std.proofs.Common.{◌≡◌, ℕ, ◌<◌, List, [], length, refl, sym, ap, subst, get_or, ◌∙◌}
+use Rattle.std.proofs.Common.{◌≡◌, ℕ, ◌<◌, List, [], length, refl, sym, ap, subst, get_or, ◌∙◌, arith}
 use Rattle.lnt_wire.specs.At.{At}
+use Rattle.lnt_wire.specs.Bytes.{NoneSpelled}
 use Rattle.lnt_wire.specs.Leb128.{UnsignedLeb}
 use Rattle.lnt_wire.specs.Numbers.{NumberBytes}
 use Rattle.lnt_wire.specs.Reading.{Reads}
@@ -26,6 +27,7 @@ use Rattle.lnt_header_bytes.specs.TableBytes.{PairBytes, EntryBytes, TableOf}
 use Rattle.lnt_header_bytes.proofs.Allowed.{found_header}
 use Rattle.lnt_header_bytes.proofs.DecodeLemmas.{fields_found}
 use Rattle.lnt_header_bytes.proofs.HeaderReaders.{reads_fields}
+use Rattle.lnt_header_bytes.proofs.PassedLaws.{several_there}
 use Rattle.lnt_header_bytes.proofs.TableReaders.{reads_table}
 
 -- what was passed is what the bytes begin with
@@ -82,6 +84,13 @@ entries_are table entries old new same lies r =
     let other : first_entries table.format table.order table.pairs (length table.entries) old.rest ≡ table.entries =
     all_found table.format table.order table.pairs (length table.entries) table.entries old.rest refl lies in
     sym first ∙ ap (λ (n : ℕ). first_entries table.format table.order table.pairs n old.rest) r.spelled.0 ∙ other
+
+-- they are there, so that they are read
+pub entries_there : (table : BorrowedTable) (count : ℕ) (old : At) → count ≡ length table.entries → old.order ≡ table.order
+    → AreEntryBytes table old.rest → NoneSpelled (Several count (EntryBytes table.format old.order table.pairs)) old.rest → ⊥
+entries_there table count old is same lies none =
+    several_there (EntryBytes table.format table.order table.pairs) count table.entries old.rest (omega (arith, is)) lies
+    (subst (λ (o : Order). NoneSpelled (Several count (EntryBytes table.format o table.pairs)) old.rest) same none)
 
 -- ---- headers
 

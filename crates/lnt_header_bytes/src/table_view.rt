@@ -7,7 +7,7 @@ use crate::marks::marked_before;
 use crate::read_table::EntriesInPlace;
 use crate::table::read_entries;
 use lnt_header::{Entry, Header, Pair};
-use lnt_wire::{Cursor, Format, Order};
+use lnt_wire::{Cursor, Format, Order, Reason};
 use std::alloc::{AllocError, Global};
 use std::marker::Model;
 
@@ -116,7 +116,11 @@ impl<'a> TableView<'a> {
             self.entries.count,
         ) {
             Ok(entries) => Ok(entries),
-            Err(_) => Err(AllocError),
+            Err(fault) => match fault.reason {
+                Reason::Memory => Err(AllocError),
+                // So many entries are there.
+                _ => unreachable!(),
+            },
         }
     }
 }

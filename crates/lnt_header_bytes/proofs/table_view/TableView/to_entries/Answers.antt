@@ -4,7 +4,7 @@ use Rattle.lnt_header_bytes.specs.Borrowed.{BorrowedTable, borrowed_table}
 use Rattle.lnt_header.specs.Joins.{Several}
 use Rattle.lnt_header_bytes.proofs.BorrowedLaws.{length_found}
 use Rattle.lnt_header_bytes.specs.TableBytes.{EntryBytes}
-use Rattle.lnt_header_bytes.proofs.ViewLemmas.{entries_are}
+use Rattle.lnt_header_bytes.proofs.ViewLemmas.{entries_are, entries_there}
 use Rattle.lnt_header_bytes.proofs.table_view.TableView.to_entries.Goals as goal
 
 pub returns-in-Ok : goal.returns-in-Ok
@@ -22,3 +22,13 @@ returns-in-Ok c =
     count c.in-Ok.ensures.ok in
     entries_are table c.in-Ok.entries.items old c.read_entries.new.cursor same lies read
     ∙ ap (λ (b : BorrowedTable). b.entries) c.self.view_is
+
+pub unreachable-requires : goal.unreachable-requires
+unreachable-requires c =
+    let t = c.self.inside in
+    let table : BorrowedTable = borrowed_table t.format t.order t.pairs.now t.entries.count t.entries.bytes.now in
+    let count : t.entries.count ≡ length table.entries =
+    sym (length_found t.format t.order t.pairs.now t.entries.count t.entries.bytes.now) in
+    let lies = rw (← c.self.view_is) at c.cursor.ensures.rest in
+    let same = rw (← c.self.view_is) at c.cursor.ensures.order in
+    entries_there table t.entries.count c.cursor.result count same lies (c.in-Err.ensures.err c.in_default.not-Memory).none
