@@ -6,13 +6,18 @@ use Rattle.lnt_wire.specs.At.{At}
 use Rattle.lnt_wire.specs.Bytes.{IsShortest, Appends}
 use Rattle.lnt_wire.specs.declared.format.Format.{Format}
 use Rattle.lnt_wire.specs.declared.format.Order.{Order}
+use Rattle.lnt_wire.proofs.LengthLaws.{same_rest}
+use Rattle.lnt_header.specs.Encoding.{NoSpelling}
 use Rattle.lnt_header.specs.Joins.{Each}
 use Rattle.lnt_header.proofs.PutLaws.{each_push}
-use Rattle.lnt_unit.specs.ConvertedUnits.{ConvertsUnit}
+use Rattle.lnt_unit.specs.BrokenUnits.{BrokenUnit, IsTrueFault}
+use Rattle.lnt_unit.specs.ConvertedUnits.{Converts, ConvertsUnit, IsNextStop}
 use Rattle.lnt_unit.specs.Stepping.{ConvertedTo}
 use Rattle.lnt_unit.specs.Converting.{unit_in_format, units_in_format, IsConverted}
-use Rattle.lnt_unit.proofs.UnitLaws.{unit_is_some, units_push}
+use Rattle.lnt_unit.proofs.UnitLaws.{no_section, one_spelling, unit_is_some, units_push}
 use Rattle.lnt_unit.specs.UnitBytes.{UnitBytesIn, UnitsFrom, SectionBytes}
+use Rattle.lnt_unit.specs.declared.convert.ConvertFault.{ConvertFault}
+use Rattle.lnt_unit.specs.declared.convert.ConvertFault.TheVariants.{Malformed, TooLarge, Memory}
 use Rattle.lnt_unit.specs.declared.unit.Parts.{Parts}
 
 -- the bytes of one more unit
@@ -117,3 +122,65 @@ pub converted_all : (order : Order) (section : List ℕ) (format : Format) (to :
 converted_all order section format to at bytes p ended =
     let whole : section ≡ p.front = p.whole ∙ ap (λ (z : List ℕ). p.front ++ z) (no_length at.rest ended) ∙ append-nil p.front in
     whole_converted order section format to p.units bytes (subst (λ (z : List ℕ). SectionBytes order p.units z) (sym whole) p.sound) p.put
+
+-- ---- why a unit of a section that has a conversion isn't converted
+
+-- some bytes spell the unit after those that stand before it, since some spell each unit
+spelled_past : (order : Order) (format : Format) (to : Order) (k l : ℕ) (units others : List (ℕ × Parts)) (unit : Parts)
+    (front here rest whole put : List ℕ) → UnitsFrom order k units front → UnitsFrom order l others whole
+    → whole ≡ front ++ (here ++ rest) → UnitBytesIn order unit here
+    → Each (IsShortest (UnitBytesIn to)) (units_in_format others format to) put
+    → NoSpelling (UnitBytesIn to) (unit_in_format unit format to) → ⊥
+spelled_past order format to k l [] [] unit front here rest whole put p q e spelled all none =
+    omega (
+      arith,
+      ap length q,
+      ap length e,
+      length-append front (here ++ rest),
+      length-append here rest,
+      unit_is_some order unit here spelled,
+    )
+spelled_past order format to k l [] (u ∷ us) unit front here rest whole put p q e spelled all none =
+    let joined : q.0 ++ q.1 ≡ here ++ rest = sym q.4 ∙ e ∙ ap (λ (z : List ℕ). z ++ (here ++ rest)) p in
+    let same = (one_spelling order).one u.1 unit q.0 here q.1 rest q.3 spelled joined in
+    none all.front (subst (λ (v : Parts). UnitBytesIn to (unit_in_format v format to) all.front) same.0 all.first.spelled)
+spelled_past order format to k l (v ∷ vs) [] unit front here rest whole put p q e spelled all none =
+    omega (
+      arith,
+      unit_is_some order v.1 p.0 p.3,
+      ap length p.4,
+      length-append p.0 p.1,
+      ap length q,
+      ap length e,
+      length-append front (here ++ rest),
+    )
+spelled_past order format to k l (v ∷ vs) (u ∷ us) unit front here rest whole put p q e spelled all none =
+    let past_front = here ++ rest in
+    let joined : q.0 ++ q.1 ≡ p.0 ++ (p.1 ++ past_front) =
+    sym q.4 ∙ e ∙ ap (λ (z : List ℕ). z ++ past_front) p.4 ∙ append_assoc p.0 p.1 past_front in
+    let same = (one_spelling order).one u.1 v.1 q.0 p.0 q.1 (p.1 ++ past_front) q.3 p.3 joined in
+    let past : q.1 ≡ p.1 ++ past_front = same_rest q.0 p.0 q.1 (p.1 ++ past_front) same.1 joined in
+    spelled_past order format to (k + length p.0) (l + length q.0) vs us unit p.1 here rest q.1 all.back p.5 q.5 past spelled
+    all.second none
+
+-- of a section that has a conversion each unit that is left has one: only want of memory stops it
+pub stops_by_memory : (order : Order) (section : List ℕ) (format : Format) (to : Order) (at : At) (bytes : List ℕ) (stop : ConvertFault)
+    → Converts order section format to → ConvertedTo order section format to at bytes → 0 < length at.rest
+    → IsNextStop order format to at stop → stop ≡ Memory
+stops_by_memory order section format to at bytes (Malformed fault) all p some b =
+    let t : IsTrueFault order fault section = record {
+      units = p.units;
+      front = p.front;
+      rest = at.rest;
+      sound = p.sound;
+      some = some;
+      split = p.whole;
+      broken = subst (λ (n : ℕ). BrokenUnit order fault n at.rest) p.place_is b;
+    } in
+    absurd (no_section order fault section t all.converted.units all.converted.sound)
+stops_by_memory order section format to at bytes (TooLarge place) all p some b =
+    let large = b.1 in
+    absurd (spelled_past order format to 0 0 p.units all.converted.units large.unit p.front large.read.spelling large.next.rest section
+    all.bytes p.sound all.converted.sound (p.whole ∙ ap (λ (z : List ℕ). p.front ++ z) large.read.whole) large.read.spelled
+    all.converted.shortest large.none)
+stops_by_memory order section format to at bytes Memory all p some b = refl

@@ -58,9 +58,7 @@ pub fn convert_section(
     let mut out = Vec::new(alloc);
     let mut cursor = Cursor::new(bytes, 0, order);
     while !cursor.rest().is_empty() {
-        let Ok(()) = convert_unit(alloc, &mut cursor, order, format, to, &mut out) else {
-            return Err(ConvertFault::Memory);
-        };
+        convert_unit(alloc, &mut cursor, order, format, to, &mut out)?;
     }
     Ok(out)
 }
