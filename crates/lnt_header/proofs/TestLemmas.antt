@@ -17,7 +17,7 @@ use Rattle.lnt_header.specs.declared.header.Pair.{Pair}
 use Rattle.lnt_header.specs.declared.header.EntryTable.TheVariants.{Directories, Files}
 use Rattle.lnt_header.proofs.FirstLaws.{first_is_wrong}
 use Rattle.lnt_header.specs.HeaderRules.{IsAddressSize, AreStandardLengths, six_bytes, HasHeaderNumbers}
-use Rattle.lnt_header.specs.OpRules.{known_lengths}
+use Rattle.lnt_header.specs.OpRules.{known_lengths, last_known}
 use Rattle.lnt_header.specs.HeaderRules.{IsEntryOf, IsTable, IsHeader}
 use Rattle.lnt_header.specs.HeaderTests.{IsFormat, IsPartsFault, FitsItsForm, HoldsNoZero, FitsPair, IsOfFormat, HasSoundTexts}
 
@@ -31,16 +31,16 @@ taken_capped (x ∷ xs) (suc k) =
     let least : min (length (x ∷ xs)) (suc k) ≡ suc (min (length xs) k) = omega arith in
     rw least (ap (λ (z : List ℕ). x ∷ z) (taken_capped xs k))
 
-front_is : (xs : List ℕ) (m : ℕ) → m ≡ min (length xs) 12 → take m xs ≡ take 12 xs
-front_is xs m e = ap (λ (n : ℕ). take n xs) e ∙ taken_capped xs 12
+front_is : (xs : List ℕ) (m : ℕ) → m ≡ min (length xs) last_known → take m xs ≡ take last_known xs
+front_is xs m e = ap (λ (n : ℕ). take n xs) e ∙ taken_capped xs last_known
 
-known_is : (xs : List ℕ) (m : ℕ) → m ≡ min (length xs) 12 → take m known_lengths ≡ take (length xs) known_lengths
+known_is : (xs : List ℕ) (m : ℕ) → m ≡ min (length xs) last_known → take m known_lengths ≡ take (length xs) known_lengths
 known_is xs m e =
     let swapped : m ≡ min (length known_lengths) (length xs) = omega (arith, e) in
     ap (λ (n : ℕ). take n known_lengths) swapped ∙ taken_capped known_lengths (length xs)
 
 -- a comparison of the known ones
-pub standard_lengths : (xs : List ℕ) (m : ℕ) (r : Bool) → m ≡ min (length xs) 12
+pub standard_lengths : (xs : List ℕ) (m : ℕ) (r : Bool) → m ≡ min (length xs) last_known
     → MatchBool r (take m xs ≡ take m known_lengths) (take m xs ≢ take m known_lengths)
     → (IsTrue r → AreStandardLengths xs) × (AreStandardLengths xs → IsTrue r)
 standard_lengths xs m true e same = ((λ t. sym (front_is xs m e) ∙ same ∙ known_is xs m e), (λ are. refl))

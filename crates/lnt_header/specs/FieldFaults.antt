@@ -1,11 +1,12 @@
 -- What is wrong where a field isn't there whole, or is out of range.
 --     before   the bytes up to the place of the fault
 --     left     the bytes from the place on up to the limit of the field
-use Rattle.std.specs.Prelude.{◌≡◌, ◌≢◌, ℕ, ◌<◌, ◌≤◌, ◌⊎◌, List, [], ◌∷◌, ◌++◌, length}
+use Rattle.std.specs.Prelude.{◌≡◌, ℕ, ◌<◌, ◌≤◌, ◌⊎◌, List, [], ◌∷◌, ◌++◌, length}
 use Rattle.lnt_wire.specs.FormBytes.{HasNoZero}
 use Rattle.lnt_wire.specs.declared.format.Order.{Order}
 use Rattle.lnt_wire.specs.Numbers.{NumberBytes}
 use Rattle.lnt_wire.specs.Leb128.{IsLeb, AreHigh, UnsignedLeb, IsLargeUnsigned, IsLargeSigned}
+use Rattle.lnt_header.specs.OpRules.{FitsTaken, taken_by}
 
 -- The bytes up to the limit don't hold the field whole: a number of a fixed width, a text, a LEB128, a block, or the bytes of an
 -- extended operation.
@@ -27,8 +28,7 @@ IsLargeLeb left =
 -- What follows an extended operation's length is no operand of its code.
 abbrev pub IsWrongOperand : ℕ → List ℕ → Type 0
 IsWrongOperand address_size [] = Unit {0}
-IsWrongOperand address_size (code ∷ operand) =
-    ((code ≡ 1) × (operand ≢ [])) ⊎ ((code ≡ 2) × (length operand ≢ address_size)) ⊎ ((code ≡ 4) × (IsLeb operand → ⊥))
+IsWrongOperand address_size (code ∷ operand) = FitsTaken address_size (taken_by code) operand → ⊥
 
 -- the length of an extended operation, and bytes that don't fit it
 abbrev pub IsWrongLength : ℕ → List ℕ → Type 0

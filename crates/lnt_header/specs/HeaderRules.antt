@@ -6,14 +6,14 @@ use Rattle.lnt_wire.specs.FormBytes.{form_of, HasSpelling}
 use Rattle.lnt_header.specs.declared.header.Entry.{Entry}
 use Rattle.lnt_header.specs.declared.header.HeaderParts.{HeaderParts}
 use Rattle.lnt_header.specs.declared.header.Pair.{Pair}
-use Rattle.lnt_header.specs.OpRules.{known_lengths}
+use Rattle.lnt_header.specs.OpRules.{known_lengths, last_known}
 
 abbrev pub IsAddressSize : ℕ → Type 0
 IsAddressSize size = (size ≡ 2) ⊎ (size ≡ 4) ⊎ (size ≡ 8)
 
 -- Lengths of the opcodes from 1 on, of which those of the known opcodes are as stated.
 abbrev pub AreStandardLengths : List ℕ → Type 0
-AreStandardLengths lengths = take 12 lengths ≡ take (length lengths) known_lengths
+AreStandardLengths lengths = take last_known lengths ≡ take (length lengths) known_lengths
 
 -- the fields of one byte from minimum_instruction_length to opcode_base
 abbrev pub six_bytes : HeaderParts → List ℕ

@@ -1,8 +1,10 @@
 -- The opcode and the operand of each operation; which operations a header admits; and views of operations, in which the
 -- operands of unknown ones are borrowed (DWARF 5, sections 6.2.5 and 7.22).
-use Rattle.std.specs.Prelude.{◌≡◌, ◌≢◌, ℕ, ◌-◌, ◌^◌, ◌<◌, ◌≤◌, ℤ, List, [], ◌∷◌, length, slice_index}
-use Rattle.lnt_wire.specs.Leb128.{UnsignedLeb}
+use Rattle.std.specs.Prelude.{◌≡◌, ◌≢◌, ℕ, ◌-◌, ◌^◌, ◌<◌, ◌≤◌, ℤ, List, [], ◌∷◌, get_or, length, slice_index}
+use Rattle.lnt_wire.specs.Leb128.{IsLeb, UnsignedLeb}
 use Rattle.lnt_header.specs.declared.header.HeaderParts.{HeaderParts}
+use Rattle.lnt_header.specs.declared.op.CodedOp.{CodedOp}
+use Rattle.lnt_header.specs.declared.op.CodedOp.TheVariants as codes
 use Rattle.lnt_header.specs.declared.op.Op.{Op}
 use Rattle.lnt_header.specs.declared.op.Op.TheVariants.{Special, Copy, AdvancePc, AdvanceLine, SetFile, SetColumn}
 use Rattle.lnt_header.specs.declared.op.Op.TheVariants.{NegateStmt, SetBasicBlock, ConstAddPc, FixedAdvancePc}
@@ -55,9 +57,58 @@ coding (SetAddress address) = extended_address 2 address
 coding (SetDiscriminator n) = extended_number 4 n
 coding (UnknownExtended code bytes) = unknown_extended code bytes
 
--- how many operands each of the standard opcodes 1 to 12 has
+-- ---- the known opcodes
+
+-- the last standard opcode that is known
+abbrev pub last_known : ℕ
+last_known = 12
+
+-- how many operands each of the standard opcodes from 1 up to it has
 abbrev pub known_lengths : List ℕ
 known_lengths = 0 ∷ 1 ∷ 1 ∷ 1 ∷ 1 ∷ 0 ∷ 0 ∷ 0 ∷ 1 ∷ 0 ∷ 0 ∷ 1 ∷ []
+
+-- What follows an opcode that isn't special: a length and as many bytes, an unsigned or a signed LEB128 number, 2 bytes, nothing,
+-- or as many numbers as the header lists.
+pub data Following : Type 0 where
+  by_length : Following
+  one_unsigned : Following
+  one_signed : Following
+  two_bytes : Following
+  nothing_more : Following
+  as_listed : Following
+
+-- after the opcodes from 0 up to the last known one
+abbrev pub known_followings : List Following
+known_followings =
+    by_length ∷ nothing_more ∷ one_unsigned ∷ one_signed ∷ one_unsigned ∷ one_unsigned ∷ nothing_more ∷ nothing_more ∷ nothing_more
+    ∷ two_bytes ∷ nothing_more ∷ nothing_more ∷ one_unsigned ∷ []
+
+abbrev pub following : ℕ → Following
+following k = get_or known_followings k as_listed
+
+-- ---- the known codes of extended operations
+
+-- the code is none of theirs
+abbrev pub IsUnknownCode : ℕ → Type 0
+IsUnknownCode code = (code ≢ 1) × (code ≢ 2) × (code ≢ 4)
+
+-- what follows the code of an extended operation: nothing, an unsigned LEB128 number, an address, or any bytes
+pub data Taken : Type 0 where
+  takes_nothing : Taken
+  takes_number : Taken
+  takes_address : Taken
+  takes_any : Taken
+
+-- after the codes from 0 on
+abbrev pub taken_by : ℕ → Taken
+taken_by code = get_or (takes_any ∷ takes_nothing ∷ takes_address ∷ takes_any ∷ takes_number ∷ []) code takes_any
+
+-- The bytes are such an operand by their length and shape.
+abbrev pub FitsTaken : ℕ → Taken → List ℕ → Type 0
+FitsTaken address_size takes_nothing operand = operand ≡ []
+FitsTaken address_size takes_number operand = IsLeb operand
+FitsTaken address_size takes_address operand = length operand ≡ address_size
+FitsTaken address_size takes_any operand = Unit {0}
 
 -- ---- what a header admits
 
@@ -67,7 +118,7 @@ standard_length h k = slice_index h.standard_lengths (k - 1)
 
 -- an unknown standard opcode, with as many operands as the header gives it
 abbrev pub IsUnknownOf : HeaderParts → ℕ → ℕ → Type 0
-IsUnknownOf h k count = (13 ≤ k) × (k < h.opcode_base) × (count ≡ standard_length h k)
+IsUnknownOf h k count = (last_known < k) × (k < h.opcode_base) × (count ≡ standard_length h k)
 
 -- The header admits the opcode, and the operand fits.
 abbrev pub AdmitsCoding : HeaderParts → Coding → Type 0
@@ -77,7 +128,7 @@ AdmitsCoding h (unknown_standard k operands) = IsUnknownOf h k (length operands)
 AdmitsCoding h (extended code) = Unit {0}
 AdmitsCoding h (extended_number code n) = Unit {0}
 AdmitsCoding h (extended_address code address) = address < 256 ^ h.address_size
-AdmitsCoding h (unknown_extended code bytes) = (code ≢ 1) × (code ≢ 2) × (code ≢ 4)
+AdmitsCoding h (unknown_extended code bytes) = IsUnknownCode code
 
 -- The header admits the operation: its number belongs to its kind, and its operands fit.
 abbrev pub Admits : HeaderParts → Op → Type 0
@@ -132,6 +183,23 @@ op_of views.EndSequence operands = EndSequence
 op_of (views.SetAddress n) operands = SetAddress n
 op_of (views.SetDiscriminator n) operands = SetDiscriminator n
 op_of (views.UnknownExtended c bytes) operands = UnknownExtended c bytes.now
+
+-- how the operations that a view stands for are coded, but for the operands of an unknown standard one
+abbrev pub coding_of : OpView → Coding
+coding_of view = coding (op_of view [])
+
+-- The view is coded so.
+abbrev pub IsCodedAs : OpView → CodedOp → Type 0
+IsCodedAs view (codes.Special c) = coding_of view ≡ special c
+IsCodedAs view (codes.Bare k) = coding_of view ≡ standard k bare
+IsCodedAs view (codes.Unsigned k n) = coding_of view ≡ standard k (unsigned n)
+IsCodedAs view (codes.Signed k z) = coding_of view ≡ standard k (signed z)
+IsCodedAs view (codes.Half k n) = coding_of view ≡ standard k (half n)
+IsCodedAs view (codes.UnknownStandard k operands) = view ≡ views.UnknownStandard k operands
+IsCodedAs view (codes.Extended code) = coding_of view ≡ extended code
+IsCodedAs view (codes.ExtendedNumber code n) = coding_of view ≡ extended_number code n
+IsCodedAs view (codes.ExtendedAddress code address) = coding_of view ≡ extended_address code address
+IsCodedAs view (codes.UnknownExtended code bytes) = view ≡ views.UnknownExtended code bytes
 
 -- the operands of an unknown standard operation; of others none
 abbrev pub operands_of : Op → List ℕ

@@ -2,18 +2,21 @@
 //! ones, and which of them a header admits.
 ghost use Rattle.std.specs.Prelude.{◌≡◌, ◌+◌, ◌-◌, ◌^◌, ◌<◌, ◌≤◌, ◌↔◌, IsTrue, length, slice_index};
 ghost use Rattle.lnt_header.specs.HeaderRules.{IsAddressSize, IsHeader};
-ghost use Rattle.lnt_header.specs.OpRules.{Admits, IsUnknownOf, known_lengths};
+ghost use Rattle.lnt_header.specs.OpRules.{Admits, IsUnknownOf, known_lengths, last_known};
 
 use crate::header::Header;
 use lnt_lists::Items;
 
-/// How many operands each of the known standard opcodes 1 to 12 has (DWARF 5, section 6.2.5.2).
+/// The last standard opcode that is known: the first is 1 (DWARF 5, section 6.2.5.2).
+pub const LAST_KNOWN: u8 = 12;
+
+/// How many operands each of the known standard opcodes has (DWARF 5, section 6.2.5.2).
 pub(crate) const KNOWN_LENGTHS: [u8; 12] = [0, 1, 1, 1, 1, 0, 0, 0, 1, 0, 0, 1];
 
-/// How many operands a known standard opcode has, one of 1 to 12 (DWARF 5, section 6.2.5.2).
+/// How many operands a known standard opcode has (DWARF 5, section 6.2.5.2).
 pub fn known_length(opcode: u8) -> u8
     requires low { 1 ≤ opcode }
-    requires high { opcode ≤ 12 }
+    requires high { opcode ≤ last_known }
     ensures { result ≡ slice_index known_lengths (opcode - 1) }
 {
     KNOWN_LENGTHS[usize::from(opcode) - 1]
@@ -48,7 +51,7 @@ pub enum Op {
     SetEpilogueBegin,
     /// Opcode 12: sets the instruction set.
     SetIsa(u64),
-    /// A standard opcode from 13 on, and as many operands as the header says. It changes nothing.
+    /// An unknown standard opcode, and as many operands as the header says. It changes nothing.
     UnknownStandard(u8, Items<u64>),
     /// Extended opcode 1: it ends a sequence, and appends a row.
     EndSequence,
@@ -92,6 +95,31 @@ pub enum OpView<'a> {
     UnknownExtended(u8, &'a [u8]),
 }
 
+/// How an operation is coded: its opcode, or the code of an extended one, and its operand (DWARF 5, section 6.2.5).
+#[derive(Clone, Copy, Debug)]
+pub enum CodedOp<'a> {
+    /// A special opcode.
+    Special(u8),
+    /// A standard opcode alone.
+    Bare(u8),
+    /// A standard opcode, and an unsigned LEB128 number.
+    Unsigned(u8, u64),
+    /// A standard opcode, and a signed LEB128 number.
+    Signed(u8, i64),
+    /// A standard opcode, and a number of 2 bytes.
+    Half(u8, u16),
+    /// An unknown standard opcode, and its numbers.
+    UnknownStandard(u8, Operands<'a>),
+    /// The code of an extended operation, alone.
+    Extended(u8),
+    /// The code of an extended operation, and an unsigned LEB128 number.
+    ExtendedNumber(u8, u64),
+    /// The code of an extended operation, and an address.
+    ExtendedAddress(u8, u64),
+    /// The unknown code of an extended operation, and its bytes.
+    UnknownExtended(u8, &'a [u8]),
+}
+
 impl Op {
     ghost use Rattle.lnt_header.specs.OpRules.{StandsFor};
 
@@ -120,6 +148,36 @@ impl Op {
             Op::SetAddress(address) => OpView::SetAddress(*address),
             Op::SetDiscriminator(n) => OpView::SetDiscriminator(*n),
             Op::UnknownExtended(code, bytes) => OpView::UnknownExtended(*code, bytes.as_slice()),
+        }
+    }
+}
+
+impl<'a> OpView<'a> {
+    ghost use Rattle.lnt_header.specs.OpRules.{IsCodedAs};
+
+    /// How the operation is coded.
+    pub fn coded(&self) -> CodedOp<'a>
+        ensures { IsCodedAs self.now result }
+    {
+        match *self {
+            OpView::Special(opcode) => CodedOp::Special(opcode),
+            OpView::Copy => CodedOp::Bare(1),
+            OpView::AdvancePc(n) => CodedOp::Unsigned(2, n),
+            OpView::AdvanceLine(z) => CodedOp::Signed(3, z),
+            OpView::SetFile(n) => CodedOp::Unsigned(4, n),
+            OpView::SetColumn(n) => CodedOp::Unsigned(5, n),
+            OpView::NegateStmt => CodedOp::Bare(6),
+            OpView::SetBasicBlock => CodedOp::Bare(7),
+            OpView::ConstAddPc => CodedOp::Bare(8),
+            OpView::FixedAdvancePc(n) => CodedOp::Half(9, n),
+            OpView::SetPrologueEnd => CodedOp::Bare(10),
+            OpView::SetEpilogueBegin => CodedOp::Bare(11),
+            OpView::SetIsa(n) => CodedOp::Unsigned(12, n),
+            OpView::UnknownStandard(opcode, operands) => CodedOp::UnknownStandard(opcode, operands),
+            OpView::EndSequence => CodedOp::Extended(1),
+            OpView::SetAddress(address) => CodedOp::ExtendedAddress(2, address),
+            OpView::SetDiscriminator(n) => CodedOp::ExtendedNumber(4, n),
+            OpView::UnknownExtended(code, bytes) => CodedOp::UnknownExtended(code, bytes),
         }
     }
 }
@@ -155,13 +213,13 @@ impl Header {
         }
     }
 
-    // Whether the opcode is a standard one that DWARF 5 doesn't know, from 13 on, and the header gives it `count` operands.
+    // Whether the opcode is a standard one that DWARF 5 doesn't know, and the header gives it `count` operands.
     fn admits_unknown(&self, opcode: u8, count: usize) -> bool
         ensures { IsTrue result ↔ IsUnknownOf self.now opcode count }
     {
         let parts = self.parts();
         let lengths = parts.standard_lengths.as_slice();
-        opcode >= 13
+        opcode > LAST_KNOWN
             && opcode < parts.opcode_base
             && usize::from(lengths[usize::from(opcode) - 1]) == count
     }

@@ -72,8 +72,8 @@ fn has_no_zero_number(fields: &[u8], line_base: i8) -> bool
     fields[1] != 0 && fields[4] != 0
 }
 
-// Whether the listed lengths of the opcodes 1 to 12 are the numbers of operands that DWARF 5 gives them. Those from 13 on
-// may be any.
+// Whether the listed lengths of the known opcodes are the numbers of operands that DWARF 5 gives them. Those of others may be
+// any.
 fn are_standard_lengths(lengths: &[u8]) -> bool
     ensures bytes { AllByRecursion (λ byte. byte < 256) lengths.now }
     ensures known { IsTrue result ↔ AreStandardLengths lengths.now }

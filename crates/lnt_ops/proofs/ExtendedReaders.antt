@@ -1,6 +1,6 @@
 -- Extended operations: a zero byte, a length, and as many bytes.
-use Rattle.std.proofs.Common.{◌≡◌, ℕ, ◌+◌, ◌*◌, ◌<◌, ◌≤◌, List, [], ◌∷◌, ◌++◌, length, take, drop, get_or, refl, sym}
-use Rattle.std.proofs.Common.{ap, subst, ◌∙◌, append_assoc, add-zero, arith, inl, inr}
+use Rattle.std.proofs.Common.{◌≡◌, ℕ, zero, suc, ◌+◌, ◌*◌, ◌<◌, ◌≤◌, List, [], ◌∷◌, ◌++◌, length, take, drop, get_or, refl, sym}
+use Rattle.std.proofs.Common.{ap, subst, ◌∙◌, append_assoc, add-zero, arith}
 use Rattle.std.proofs.Math.Seq.{drop-length}
 use Rattle.std.proofs.lemmas.List.{length-append, length-drop, append-nil, take_more, drop_more, take-append-drop, take_all}
 use Rattle.lnt_wire.specs.At.{At}
@@ -20,13 +20,15 @@ use Rattle.lnt_header.specs.declared.op.Op.TheVariants as ops
 use Rattle.lnt_header.specs.declared.op.OpView.{OpView}
 use Rattle.lnt_header.specs.declared.op.OpView.TheVariants as views
 use Rattle.lnt_header.specs.FieldFaults.{IsWrongOperand}
-use Rattle.lnt_header.specs.OpRules.{StandsFor}
+use Rattle.lnt_header.specs.OpRules.{Coding, coding, FitsTaken, IsUnknownCode, StandsFor, Taken, taken_by}
+use Rattle.lnt_header.specs.OpRules.Taken.{takes_address, takes_any, takes_nothing, takes_number}
 use Rattle.lnt_ops.proofs.StandardReaders.{after_byte}
-use Rattle.lnt_ops.proofs.OpLaws.{tag, extended_tag}
-use Rattle.lnt_ops.specs.OpBytes.{Extended, OpBytes}
+use Rattle.lnt_ops.proofs.OpLaws.{extended_tag, tag_of, takes_its, TakesIts}
+use Rattle.lnt_ops.specs.OpBytes.{CodingBytes, Extended}
 use Rattle.lnt_ops.specs.OpFaults.IsFirstFault.{no_length, cut_counted, wrong_counted, large_counted}
-use Rattle.lnt_ops.specs.OpSteps.{BytesAfter, IsFaultAfter, GivesAfter, CountedBytes, IsRightOperand, GivesCounted, IsCountedFault}
-use Rattle.lnt_ops.specs.OpSteps.IsCountedFault.{wrong_operand, large_discriminator}
+use Rattle.lnt_ops.specs.OpSteps.{BytesAfter, IsFaultAfter, GivesAfter, CountedBytes, IsRightOperand, GivesCounted}
+use Rattle.lnt_ops.specs.OpSteps.{IsCountedFault, IsLargeNumber}
+use Rattle.lnt_ops.specs.OpSteps.IsCountedFault.{wrong_operand, large_number}
 
 -- ---- a number in groups of seven bits, and nothing else
 
@@ -84,26 +86,60 @@ whole_leb n old new shape r =
 
 -- ---- a code and its operand
 
-pub right_operand : (address_size : ℕ) (bytes : List ℕ) → 0 < length bytes → (get_or bytes 0 0 ≡ 1 → drop 1 bytes ≡ [])
-    → (get_or bytes 0 0 ≡ 2 → length (drop 1 bytes) ≡ address_size)
-    → (get_or bytes 0 0 ≡ 4 → IsLeb (drop 1 bytes)) → IsRightOperand address_size bytes
-right_operand address_size [] some end address discriminator = absurd (omega arith)
-right_operand address_size (code ∷ operand) some end address discriminator = (end, address, discriminator)
+-- a code that isn't known takes any bytes
+pub unknown_takes : (code : ℕ) → IsUnknownCode code → taken_by code ≡ takes_any
+unknown_takes zero unknown = refl
+unknown_takes (suc zero) unknown = absurd (unknown.0 refl)
+unknown_takes (suc (suc zero)) unknown = absurd (unknown.1 refl)
+unknown_takes (suc (suc (suc zero))) unknown = refl
+unknown_takes (suc (suc (suc (suc zero)))) unknown = absurd (unknown.2 refl)
+unknown_takes (suc (suc (suc (suc (suc code))))) unknown = refl
+
+pub right_of : (address_size code : ℕ) (kind : Taken) (operand : List ℕ) → taken_by code ≡ kind → FitsTaken address_size kind operand
+    → IsRightOperand address_size (code ∷ operand)
+right_of address_size code kind operand takes fits = subst (λ (t : Taken). FitsTaken address_size t operand) (sym takes) fits
+
+-- what follows the code k
+fits_as : (address_size code k : ℕ) (operand : List ℕ) → code ≡ k → IsRightOperand address_size (code ∷ operand)
+    → FitsTaken address_size (taken_by k) operand
+fits_as address_size code k operand e right = subst (λ (c : ℕ). FitsTaken address_size (taken_by c) operand) e right
+
+pub right_end : (address_size : ℕ) (bytes : List ℕ) → 0 < length bytes → get_or bytes 0 0 ≡ 1 → length (drop 1 bytes) ≡ 0
+    → IsRightOperand address_size bytes
+right_end address_size [] some e p = absurd (omega arith)
+right_end address_size (code ∷ []) some e p = right_of address_size code takes_nothing [] (ap taken_by e) refl
+right_end address_size (code ∷ byte ∷ operand) some e p = absurd (omega (arith, p))
+
+pub right_address : (address_size : ℕ) (bytes : List ℕ) → 0 < length bytes → get_or bytes 0 0 ≡ 2
+    → length (drop 1 bytes) ≡ address_size → IsRightOperand address_size bytes
+right_address address_size [] some e p = absurd (omega arith)
+right_address address_size (code ∷ operand) some e p = right_of address_size code takes_address operand (ap taken_by e) p
+
+pub right_discriminator : (address_size : ℕ) (bytes : List ℕ) → 0 < length bytes → get_or bytes 0 0 ≡ 4 → IsLeb (drop 1 bytes)
+    → IsRightOperand address_size bytes
+right_discriminator address_size [] some e p = absurd (omega arith)
+right_discriminator address_size (code ∷ operand) some e p = right_of address_size code takes_number operand (ap taken_by e) p
+
+pub right_other : (address_size : ℕ) (bytes : List ℕ) → 0 < length bytes → (get_or bytes 0 0 ≡ 1 → ⊥) → (get_or bytes 0 0 ≡ 2 → ⊥)
+    → (get_or bytes 0 0 ≡ 4 → ⊥) → IsRightOperand address_size bytes
+right_other address_size [] some end address discriminator = absurd (omega arith)
+right_other address_size (code ∷ operand) some end address discriminator =
+    right_of address_size code takes_any operand (unknown_takes code (end, address, discriminator)) tt
 
 pub wrong_end : (address_size : ℕ) (bytes : List ℕ) → 0 < length bytes → get_or bytes 0 0 ≡ 1 → 0 < length (drop 1 bytes)
     → IsWrongOperand address_size bytes
 wrong_end address_size [] some e p = absurd (omega arith)
-wrong_end address_size (code ∷ operand) some e p = inl (e, λ none. omega (arith, p, ap length none))
+wrong_end address_size (code ∷ operand) some e p = λ right. omega (arith, p, ap length (fits_as address_size code 1 operand e right))
 
 pub wrong_address : (address_size : ℕ) (bytes : List ℕ) → 0 < length bytes → get_or bytes 0 0 ≡ 2
     → (length (drop 1 bytes) ≡ address_size → ⊥) → IsWrongOperand address_size bytes
 wrong_address address_size [] some e p = absurd (omega arith)
-wrong_address address_size (code ∷ operand) some e p = inr (inl (e, p))
+wrong_address address_size (code ∷ operand) some e p = λ right. p (fits_as address_size code 2 operand e right)
 
 pub wrong_discriminator : (address_size : ℕ) (bytes : List ℕ) → 0 < length bytes → get_or bytes 0 0 ≡ 4 → (IsLeb (drop 1 bytes) → ⊥)
     → IsWrongOperand address_size bytes
 wrong_discriminator address_size [] some e p = absurd (omega arith)
-wrong_discriminator address_size (code ∷ operand) some e p = inr (inr (e, p))
+wrong_discriminator address_size (code ∷ operand) some e p = λ right. p (fits_as address_size code 4 operand e right)
 
 pub no_code : (address_size : ℕ) (bytes : List ℕ) → length bytes ≡ 0 → IsWrongOperand address_size bytes
 no_code address_size [] e = tt
@@ -111,9 +147,7 @@ no_code address_size (code ∷ operand) e = absurd (omega arith)
 
 right_not_wrong : (address_size : ℕ) (bytes : List ℕ) → IsRightOperand address_size bytes → IsWrongOperand address_size bytes → ⊥
 right_not_wrong address_size [] right wrong = right
-right_not_wrong address_size (code ∷ operand) right (inl end) = end.1 (right.0 end.0)
-right_not_wrong address_size (code ∷ operand) right (inr (inl address)) = address.1 (right.1 address.0)
-right_not_wrong address_size (code ∷ operand) right (inr (inr discriminator)) = discriminator.1 (right.2 discriminator.0)
+right_not_wrong address_size (code ∷ operand) right wrong = wrong right
 
 -- ---- the bytes that a length counts
 
@@ -134,16 +168,18 @@ some_code address_size (code ∷ operand) right = omega arith
 
 operand_ends : (address_size : ℕ) (bytes : List ℕ) → IsRightOperand address_size bytes → get_or bytes 0 0 ≡ 1 → drop 1 bytes ≡ []
 operand_ends address_size [] right e = refl
-operand_ends address_size (code ∷ operand) right e = right.0 e
+operand_ends address_size (code ∷ operand) right e = fits_as address_size code 1 operand e right
 
 pub address_whole : (address_size : ℕ) (bytes rest : List ℕ) → IsRightOperand address_size bytes → get_or bytes 0 0 ≡ 2
     → rest ≡ drop 1 bytes → length rest ≡ address_size
 address_whole address_size [] rest right e same = absurd right
-address_whole address_size (code ∷ operand) rest right e same = ap length same ∙ right.1 e
+address_whole address_size (code ∷ operand) rest right e same = ap length same ∙ fits_as address_size code 2 operand e right
 
-discriminator_whole : (address_size : ℕ) (bytes : List ℕ) → IsRightOperand address_size bytes → get_or bytes 0 0 ≡ 4 → IsLeb (drop 1 bytes)
-discriminator_whole address_size [] right e = absurd right
-discriminator_whole address_size (code ∷ operand) right e = right.2 e
+-- a code that takes a number
+number_whole : (address_size : ℕ) (bytes : List ℕ) → IsRightOperand address_size bytes → taken_by (get_or bytes 0 0) ≡ takes_number
+    → IsLeb (drop 1 bytes)
+number_whole address_size [] right takes = absurd right
+number_whole address_size (code ∷ operand) right takes = subst (λ (t : Taken). FitsTaken address_size t operand) takes right
 
 pub gives_end : (h : HeaderParts) (bytes : List ℕ) → IsRightOperand h.address_size bytes → get_or bytes 0 0 ≡ 1
     → GivesCounted h views.EndSequence bytes
@@ -166,17 +202,14 @@ gives_address h bytes rest address right e same p = record {
       (subst (NumberBytes h.order h.address_size address) same p);
 }
 
-pub gives_discriminator : (h : HeaderParts) (bytes : List ℕ) (n : ℕ) (at new : At) → IsRightOperand h.address_size bytes
-    → get_or bytes 0 0 ≡ 4 → at.rest ≡ drop 1 bytes → Reads UnsignedLeb n at new
-    → GivesCounted h (views.SetDiscriminator n) bytes
-gives_discriminator h bytes n at new right e same r =
-    let shape : IsLeb at.rest = subst IsLeb (sym same) (discriminator_whole h.address_size bytes right e) in
+pub gives_discriminator : (h : HeaderParts) (bytes : List ℕ) (n : ℕ) → IsRightOperand h.address_size bytes → get_or bytes 0 0 ≡ 4
+    → UnsignedLeb n (drop 1 bytes) → GivesCounted h (views.SetDiscriminator n) bytes
+gives_discriminator h bytes n right e p =
     record {
       op = ops.SetDiscriminator n;
       stands = refl;
       admitted = tt;
-      spelled = code_first 4 (UnsignedLeb n) bytes (some_code h.address_size bytes right) e
-          (subst (UnsignedLeb n) same (whole_leb n at new shape r));
+      spelled = code_first 4 (UnsignedLeb n) bytes (some_code h.address_size bytes right) e p;
     }
 
 pub gives_other : (h : HeaderParts) (code : ℕ) (view : OpView) (bytes : List ℕ) → IsRightOperand h.address_size bytes
@@ -187,114 +220,141 @@ gives_other h code view bytes right e end address discriminator byte stands = re
   stands = stands;
   admitted = (end, address, discriminator);
   spelled = (
-    end,
-    address,
-    discriminator,
+    (end, address, discriminator),
     byte,
     code_first code (Exactly (drop 1 bytes)) bytes (some_code h.address_size bytes right) e
         refl,
   );
 }
 
-large_of : (address_size length_place start : ℕ) (fault : Fault) (bytes operand : List ℕ) → 0 < length bytes → get_or bytes 0 0 ≡ 4
+large_of : (start : ℕ) (fault : Fault) (bytes operand : List ℕ) → 0 < length bytes → taken_by (get_or bytes 0 0) ≡ takes_number
     → operand ≡ drop 1 bytes → IsLeb operand → fault.place ≡ start + 1
-    → (reason : Reason) → fault.reason ≡ reason → IsLebFault IsLargeUnsigned reason operand
-    → IsCountedFault address_size length_place start fault bytes
-large_of address_size length_place start fault [] operand some e same shape place reason is h = absurd (omega arith)
-large_of address_size length_place start fault (b ∷ more) operand some e same shape place Truncated is h = absurd (leb_cut operand h shape)
-large_of address_size length_place start fault (b ∷ more) operand some e same shape place LebTooLarge is h =
+    → (reason : Reason) → fault.reason ≡ reason → IsLebFault IsLargeUnsigned reason operand → IsLargeNumber start fault bytes
+large_of start fault [] operand some takes same shape place reason is h = absurd (omega arith)
+large_of start fault (b ∷ more) operand some takes same shape place Truncated is h = absurd (leb_cut operand h shape)
+large_of start fault (b ∷ more) operand some takes same shape place LebTooLarge is h =
     let whole : h.0 ≡ operand = same_leb h.0 operand h.1 [] h.2 shape (sym h.4 ∙ sym (append-nil operand)) in
-    let joined : b ∷ more ≡ 4 ∷ operand = ap (λ (c : ℕ). c ∷ more) e ∙ ap (λ (z : List ℕ). 4 ∷ z) (sym same) in
-    large_discriminator operand is place joined shape (subst IsLargeUnsigned whole h.3)
-large_of address_size length_place start fault (b ∷ more) operand some e same shape place reason is h = absurd h
+    record {
+      code = b;
+      operand = operand;
+      reason_is = is;
+      place_is = place;
+      takes = takes;
+      joined = ap (λ (z : List ℕ). b ∷ z) (sym same);
+      whole = shape;
+      large = subst IsLargeUnsigned whole h.3;
+    }
+large_of start fault (b ∷ more) operand some takes same shape place reason is h = absurd h
 
-pub refuses_discriminator : (h : HeaderParts) (length_place start : ℕ) (bytes : List ℕ) (at : At) (fault : Fault)
-    → IsRightOperand h.address_size bytes → get_or bytes 0 0 ≡ 4 → at.rest ≡ drop 1 bytes
-    → at.place ≡ start + 1 → RefusesField (IsLebFault IsLargeUnsigned) UnsignedLeb at fault
-    → IsCountedFault h.address_size length_place start fault bytes
-refuses_discriminator h length_place start bytes at fault right e same place r =
-    let shape : IsLeb at.rest = subst IsLeb (sym same) (discriminator_whole h.address_size bytes right e) in
-    large_of h.address_size length_place start fault bytes at.rest (some_code h.address_size bytes right) e same shape (r.place ∙ place)
-    fault.reason refl r.reason
+pub gives_number : (address_size n : ℕ) (bytes : List ℕ) (at new : At) → IsRightOperand address_size bytes
+    → taken_by (get_or bytes 0 0) ≡ takes_number → at.rest ≡ drop 1 bytes → Reads UnsignedLeb n at new → UnsignedLeb n (drop 1 bytes)
+gives_number address_size n bytes at new right takes same r =
+    let shape : IsLeb at.rest = subst IsLeb (sym same) (number_whole address_size bytes right takes) in
+    subst (UnsignedLeb n) same (whole_leb n at new shape r)
+
+pub refuses_number : (address_size start : ℕ) (bytes : List ℕ) (at : At) (fault : Fault) → IsRightOperand address_size bytes
+    → taken_by (get_or bytes 0 0) ≡ takes_number → at.rest ≡ drop 1 bytes → at.place ≡ start + 1
+    → RefusesField (IsLebFault IsLargeUnsigned) UnsignedLeb at fault → IsLargeNumber start fault bytes
+refuses_number address_size start bytes at fault right takes same place r =
+    let shape : IsLeb at.rest = subst IsLeb (sym same) (number_whole address_size bytes right takes) in
+    large_of start fault bytes at.rest (some_code address_size bytes right) takes same shape (r.place ∙ place) fault.reason refl r.reason
+
+pub number_is_fault : (address_size length_place start : ℕ) (fault : Fault) (bytes : List ℕ) → IsLargeNumber start fault bytes
+    → IsCountedFault address_size length_place start fault bytes
+number_is_fault address_size length_place start fault bytes large = large_number large
+
+pub takes_discriminator : (bytes : List ℕ) → get_or bytes 0 0 ≡ 4 → taken_by (get_or bytes 0 0) ≡ takes_number
+takes_discriminator bytes e = ap taken_by e
 
 -- ---- no operation has these bytes
 
-right_counted : (h : HeaderParts) (op : Op) (bytes : List ℕ) → CountedBytes h op bytes → IsRightOperand h.address_size bytes
-right_counted h ops.EndSequence bytes p =
-    let whole : bytes ≡ 1 ∷ [] = p.joined ∙ ap (λ (z : List ℕ). z ++ p.back) p.first ∙ ap (λ (z : List ℕ). 1 ∷ z) p.second in
-    subst (IsRightOperand h.address_size) (sym whole) (λ _. refl, λ e. absurd (omega (arith, e)), λ e. absurd (omega (arith, e)))
-right_counted h (ops.SetAddress address) bytes p =
-    let whole : bytes ≡ 2 ∷ p.back = p.joined ∙ ap (λ (z : List ℕ). z ++ p.back) p.first in
-    let size : length p.back ≡ h.address_size = ap length p.second.spelled ∙ length-number_bytes h.order h.address_size address in
-    subst (IsRightOperand h.address_size) (sym whole) (λ e. absurd (omega (arith, e)), λ _. size, λ e. absurd (omega (arith, e)))
-right_counted h (ops.SetDiscriminator n) bytes p =
-    let whole : bytes ≡ 4 ∷ p.back = p.joined ∙ ap (λ (z : List ℕ). z ++ p.back) p.first in
-    let shape : IsLeb p.back = p.second.shape in
-    subst (IsRightOperand h.address_size) (sym whole) (λ e. absurd (omega (arith, e)), λ e. absurd (omega (arith, e)), λ _. shape)
-right_counted h (ops.UnknownExtended code operand) bytes p =
-    let whole : bytes ≡ code ∷ p.4.back = p.4.joined ∙ ap (λ (z : List ℕ). z ++ p.4.back) p.4.first in
-    subst (IsRightOperand h.address_size) (sym whole) (λ e. absurd (p.0 e), λ e. absurd (p.1 e), λ e. absurd (p.2 e))
-right_counted h op bytes p = absurd p
+-- the code of bytes that begin with it
+code_of : (code : ℕ) (Operand : List ℕ → Type 0) (bytes : List ℕ) → (p : (Exactly (code ∷ []) ⨾ Operand) bytes) → bytes ≡ code ∷ p.back
+code_of code Operand bytes p = p.joined ∙ ap (λ (z : List ℕ). z ++ p.back) p.first
 
-none_large : (h : HeaderParts) (op : Op) (operand : List ℕ) → IsLargeUnsigned operand → CountedBytes h op (4 ∷ operand) → ⊥
-none_large h ops.EndSequence operand large p =
-    let whole : 4 ∷ operand ≡ 1 ∷ p.back = p.joined ∙ ap (λ (z : List ℕ). z ++ p.back) p.first in
-    cc
-none_large h (ops.SetAddress address) operand large p =
-    let whole : 4 ∷ operand ≡ 2 ∷ p.back = p.joined ∙ ap (λ (z : List ℕ). z ++ p.back) p.first in
-    cc
-none_large h (ops.SetDiscriminator n) operand large p =
-    let leb = after_byte 4 4 (UnsignedLeb n) operand p in
+right_counted : (h : HeaderParts) (c : Coding) (bytes : List ℕ) → TakesIts c → CountedBytes h c bytes → IsRightOperand h.address_size bytes
+right_counted h (Coding.extended code) bytes takes p =
+    subst (IsRightOperand h.address_size) (sym (code_of code (Exactly []) bytes p))
+    (right_of h.address_size code takes_nothing p.back takes p.second)
+right_counted h (Coding.extended_number code n) bytes takes p =
+    subst (IsRightOperand h.address_size) (sym (code_of code (UnsignedLeb n) bytes p))
+    (right_of h.address_size code takes_number p.back takes p.second.shape)
+right_counted h (Coding.extended_address code address) bytes takes p =
+    let Spells = NumberBytes h.order h.address_size address in
+    let size : length p.back ≡ h.address_size = ap length p.second.spelled ∙ length-number_bytes h.order h.address_size address in
+    subst (IsRightOperand h.address_size) (sym (code_of code Spells bytes p)) (right_of h.address_size code takes_address p.back takes size)
+right_counted h (Coding.unknown_extended code operand) bytes takes p =
+    subst (IsRightOperand h.address_size) (sym (code_of code (Exactly operand) bytes p.2))
+    (right_of h.address_size code takes_any p.2.back (unknown_takes code p.0) tt)
+right_counted h c bytes takes p = absurd p
+
+-- a code that takes something else begins no bytes with this code
+other_code : (code taken : ℕ) (kind : Taken) (Operand : List ℕ → Type 0) (operand : List ℕ) → taken_by taken ≡ takes_number
+    → taken_by code ≡ kind → (Exactly (code ∷ []) ⨾ Operand) (taken ∷ operand) → kind ≡ takes_number
+other_code code taken kind Operand operand number takes p =
+    let whole : taken ∷ operand ≡ code ∷ p.back = code_of code Operand (taken ∷ operand) p in
+    let same : code ≡ taken = cc in
+    sym takes ∙ ap taken_by same ∙ number
+
+none_large : (h : HeaderParts) (c : Coding) (taken : ℕ) (operand : List ℕ) → TakesIts c → taken_by taken ≡ takes_number
+    → IsLargeUnsigned operand → CountedBytes h c (taken ∷ operand) → ⊥
+none_large h (Coding.extended code) taken operand takes number large p =
+    let other = other_code code taken takes_nothing (Exactly []) operand number takes p in
+    absurd cc
+none_large h (Coding.extended_number code n) taken operand takes number large p =
+    let leb = after_byte taken code (UnsignedLeb n) operand p in
     omega (arith, leb.fits, leb.value, large)
-none_large h (ops.UnknownExtended code operand') operand large p =
-    let whole : 4 ∷ operand ≡ code ∷ p.4.back = p.4.joined ∙ ap (λ (z : List ℕ). z ++ p.4.back) p.4.first in
-    let same : code ≡ 4 = cc in
-    p.2 same
-none_large h op operand large p = p
+none_large h (Coding.extended_address code address) taken operand takes number large p =
+    let other = other_code code taken takes_address (NumberBytes h.order h.address_size address) operand number takes p in
+    absurd cc
+none_large h (Coding.unknown_extended code operand') taken operand takes number large p =
+    let other = other_code code taken takes_any (Exactly operand') operand number (unknown_takes code p.0) p.2 in
+    absurd cc
+none_large h c taken operand takes number large p = p
 
 none_counted : (h : HeaderParts) (length_place start : ℕ) (fault : Fault) (bytes : List ℕ) (op : Op)
-    → IsCountedFault h.address_size length_place start fault bytes → CountedBytes h op bytes → ⊥
+    → IsCountedFault h.address_size length_place start fault bytes → CountedBytes h (coding op) bytes → ⊥
 none_counted h length_place start fault bytes op (wrong_operand reason place wrong) p =
-    right_not_wrong h.address_size bytes (right_counted h op bytes p) wrong
-none_counted h length_place start fault bytes op (large_discriminator operand reason place whole shape large) p =
-    none_large h op operand large (subst (CountedBytes h op) whole p)
+    right_not_wrong h.address_size bytes (right_counted h (coding op) bytes (takes_its op) p) wrong
+none_counted h length_place start fault bytes op (large_number l) p =
+    none_large h (coding op) l.code l.operand (takes_its op) l.takes l.large (subst (CountedBytes h (coding op)) l.joined p)
 
 -- ---- the length, and what it counts
 
 -- an extended operation after its zero byte
-record InCount (h : HeaderParts) (op : Op) (bytes : List ℕ) : Type 0 where
+record InCount (h : HeaderParts) (c : Coding) (bytes : List ℕ) : Type 0 where
   counted : List ℕ
-  is : CountedBytes h op counted
+  is : CountedBytes h c counted
   spelled : BlockBytes UnsignedLeb counted bytes
 
-in_count : (h : HeaderParts) (op : Op) (code : ℕ) (Operand : List ℕ → Type 0) (y : List ℕ)
-    → ((x : List ℕ) → (Exactly (code ∷ []) ⨾ Operand) x → CountedBytes h op x) → Extended code Operand (0 ∷ y) → InCount h op y
-in_count h op code Operand y is p = record {
+in_count : (h : HeaderParts) (c : Coding) (code : ℕ) (Operand : List ℕ → Type 0) (y : List ℕ)
+    → ((x : List ℕ) → (Exactly (code ∷ []) ⨾ Operand) x → CountedBytes h c x) → Extended code Operand (0 ∷ y) → InCount h c y
+in_count h c code Operand y is p = record {
   counted = p.0;
   is = is p.0 p.1;
   spelled = after_byte 0 0 (UnsignedLeb (length p.0) ⨾ Exactly p.0) y p.2;
 }
 
-counted_of : (h : HeaderParts) (op : Op) (y : List ℕ) → (code : ℕ) → tag op ≡ 2 * code + 2 → OpBytes h op (0 ∷ y) → InCount h op y
-counted_of h ops.EndSequence y code t p = in_count h ops.EndSequence 1 (Exactly []) y (λ x q. q) p
-counted_of h (ops.SetAddress address) y code t p =
-    in_count h (ops.SetAddress address) 2 (NumberBytes h.order h.address_size address) y (λ x q. q) p
-counted_of h (ops.SetDiscriminator n) y code t p = in_count h (ops.SetDiscriminator n) 4 (UnsignedLeb n) y (λ x q. q) p
-counted_of h (ops.UnknownExtended c operand) y code t p =
-    in_count h (ops.UnknownExtended c operand) c (Exactly operand) y (λ x q. (p.0, p.1, p.2, p.3, q)) p.4
-counted_of h op y code t p = absurd (omega arith)
+counted_of : (h : HeaderParts) (c : Coding) (y : List ℕ) → (code : ℕ) → tag_of c ≡ 2 * code + 2 → CodingBytes h c (0 ∷ y) → InCount h c y
+counted_of h (Coding.extended k) y code t p = in_count h (Coding.extended k) k (Exactly []) y (λ x q. q) p
+counted_of h (Coding.extended_number k n) y code t p = in_count h (Coding.extended_number k n) k (UnsignedLeb n) y (λ x q. q) p
+counted_of h (Coding.extended_address k address) y code t p =
+    in_count h (Coding.extended_address k address) k (NumberBytes h.order h.address_size address) y (λ x q. q) p
+counted_of h (Coding.unknown_extended k operand) y code t p =
+    in_count h (Coding.unknown_extended k operand) k (Exactly operand) y (λ x q. (p.0, p.1, q)) p.2
+counted_of h c y code t p = absurd (omega arith)
 
 in_op : (code : ℕ) (Operand : List ℕ → Type 0) (counted y : List ℕ) → (Exactly (code ∷ []) ⨾ Operand) counted
     → BlockBytes UnsignedLeb counted y → Extended code Operand (0 ∷ y)
 in_op code Operand counted y q p = (counted, q, record { front = 0 ∷ []; back = y; first = refl; second = p; joined = refl })
 
-op_of : (h : HeaderParts) (op : Op) (counted y : List ℕ) → CountedBytes h op counted → BlockBytes UnsignedLeb counted y
-    → OpBytes h op (0 ∷ y)
-op_of h ops.EndSequence counted y q p = in_op 1 (Exactly []) counted y q p
-op_of h (ops.SetAddress address) counted y q p = in_op 2 (NumberBytes h.order h.address_size address) counted y q p
-op_of h (ops.SetDiscriminator n) counted y q p = in_op 4 (UnsignedLeb n) counted y q p
-op_of h (ops.UnknownExtended c operand) counted y q p = (q.0, q.1, q.2, q.3, in_op c (Exactly operand) counted y q.4 p)
-op_of h op counted y q p = absurd q
+op_of : (h : HeaderParts) (c : Coding) (counted y : List ℕ) → CountedBytes h c counted → BlockBytes UnsignedLeb counted y
+    → CodingBytes h c (0 ∷ y)
+op_of h (Coding.extended k) counted y q p = in_op k (Exactly []) counted y q p
+op_of h (Coding.extended_number k n) counted y q p = in_op k (UnsignedLeb n) counted y q p
+op_of h (Coding.extended_address k address) counted y q p = in_op k (NumberBytes h.order h.address_size address) counted y q p
+op_of h (Coding.unknown_extended k operand) counted y q p = (q.0, q.1, in_op k (Exactly operand) counted y q.2 p)
+op_of h c counted y q p = absurd q
 
 pub gives_extended : (h : HeaderParts) (n : ℕ) (view : OpView) (counted : List ℕ) (old middle new : At) → Reads UnsignedLeb n old middle
     → Reads (TakenBytes n) counted middle new → GivesCounted h view counted
@@ -314,7 +374,7 @@ gives_extended h n view counted old middle new r t g =
       admitted = g.admitted;
       reads = record {
         spelling = r.spelling ++ t.spelling;
-        spelled = record { whole = op_of h g.op counted (r.spelling ++ t.spelling) g.spelled block };
+        spelled = record { whole = op_of h (coding g.op) counted (r.spelling ++ t.spelling) g.spelled block };
         whole = r.whole ∙ ap (λ (z : List ℕ). r.spelling ++ z) t.whole ∙ sym (append_assoc r.spelling t.spelling new.rest);
         place = omega (arith, t.place, r.place, length-append r.spelling t.spelling);
         order = t.order ∙ r.order;
@@ -322,8 +382,8 @@ gives_extended h n view counted old middle new r t g =
     }
 
 -- what stands at the front of a candidate
-counted_at : (h : HeaderParts) (op : Op) (y : List ℕ) → 0 < h.opcode_base → BytesAfter h 0 op y → InCount h op y
-counted_at h op y some p = let kind = extended_tag h op y some p.whole in counted_of h op y kind.0 kind.1 p.whole
+counted_at : (h : HeaderParts) (op : Op) (y : List ℕ) → 0 < h.opcode_base → BytesAfter h 0 op y → InCount h (coding op) y
+counted_at h op y some p = let kind = extended_tag h op y some p.whole in counted_of h (coding op) y kind.0 kind.1 p.whole
 
 front_of : {P Q : List ℕ → Type 0} (y more rest : List ℕ) → (t : Then P Q y) → y ++ more ≡ rest → t.front ++ (t.back ++ more) ≡ rest
 front_of y more rest t e = sym (append_assoc t.front t.back more) ∙ ap (λ (z : List ℕ). z ++ more) (sym t.joined) ∙ e
@@ -343,7 +403,8 @@ refuses_length h old fault some r = record {
 }
 
 -- a candidate has the same length
-same_count : (h : HeaderParts) (n : ℕ) (op : Op) (y more : List ℕ) (old middle : At) → Reads UnsignedLeb n old middle → (q : InCount h op y)
+same_count : (h : HeaderParts) (n : ℕ) (op : Op) (y more : List ℕ) (old middle : At) → Reads UnsignedLeb n old middle
+    → (q : InCount h (coding op) y)
     → y ++ more ≡ old.rest → (length q.counted ≡ n) × (q.counted ++ more ≡ middle.rest)
 same_count h n op y more old middle r q e =
     let all : q.spelled.front ++ (q.spelled.back ++ more) ≡ r.spelling ++ middle.rest = front_of y more old.rest q.spelled e ∙ r.whole in
@@ -376,7 +437,7 @@ none_in_count h n length_place start counted old middle new fault some r t f op 
     let same = same_count h n op y more old middle r q e in
     let size : length q.counted ≡ length t.spelling = same.0 ∙ sym t.spelled.count_is in
     let bytes : q.counted ≡ t.spelling = same_front q.counted t.spelling more new.rest size (same.1 ∙ t.whole) in
-    none_counted h length_place start fault counted op f (subst (CountedBytes h op) (bytes ∙ sym t.spelled.taken_is) q.is)
+    none_counted h length_place start fault counted op f (subst (CountedBytes h (coding op)) (bytes ∙ sym t.spelled.taken_is) q.is)
 
 -- the bytes that were read, up to the end of what the length counts
 counted_joined : (n : ℕ) (counted : List ℕ) (old middle new : At) → (r : Reads UnsignedLeb n old middle)
@@ -409,19 +470,18 @@ refuses_counted h n length_place start counted old middle new fault some at_leng
       none = none_in_count h n length_place start counted old middle new fault some r t (wrong_operand reason place wrong);
     }
 refuses_counted h n length_place start counted old middle new fault some at_length at_start r t
-    (large_discriminator operand reason place whole shape large) =
-    let size : n ≡ length operand + 1 = omega (arith, t.spelled.count_is, ap length t.spelled.taken_is, ap length whole) in
-    let joined : old.rest ≡ r.spelling ++ (4 ∷ (operand ++ new.rest)) = counted_joined n counted old middle new r t
-    ∙ ap (λ (z : List ℕ). r.spelling ++ (z ++ new.rest)) whole in
+    (large_number l) =
+    let size : n ≡ length l.operand + 1 = omega (arith, t.spelled.count_is, ap length t.spelled.taken_is, ap length l.joined) in
+    let joined : old.rest ≡ r.spelling ++ (l.code ∷ (l.operand ++ new.rest)) = counted_joined n counted old middle new r t
+    ∙ ap (λ (z : List ℕ). r.spelling ++ (z ++ new.rest)) l.joined in
     record {
-      before = r.spelling ++ 4 ∷ [];
-      left = operand ++ new.rest;
-      split = joined ∙ sym (append_assoc r.spelling (4 ∷ []) (operand ++ new.rest));
-      place = omega (arith, place, at_start, r.place, length-append r.spelling (4 ∷ []));
+      before = r.spelling ++ l.code ∷ [];
+      left = l.operand ++ new.rest;
+      split = joined ∙ sym (append_assoc r.spelling (l.code ∷ []) (l.operand ++ new.rest));
+      place = omega (arith, l.place_is, at_start, r.place, length-append r.spelling (l.code ∷ []));
       reason = record {
-        whole = large_counted r.spelling operand new.rest reason
-            (subst (λ (k : ℕ). UnsignedLeb k r.spelling) size r.spelled) refl refl shape large;
+        whole = large_counted r.spelling l.operand new.rest l.reason_is
+            (subst (λ (k : ℕ). UnsignedLeb k r.spelling) size r.spelled) (l.code, l.takes, refl) refl l.whole l.large;
       };
-      none = none_in_count h n length_place start counted old middle new fault some r t
-          (large_discriminator operand reason place whole shape large);
+      none = none_in_count h n length_place start counted old middle new fault some r t (large_number l);
     }

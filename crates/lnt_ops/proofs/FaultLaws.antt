@@ -42,8 +42,8 @@ pub op_fault : (h : HeaderParts) (reason : Reason) (before left : List ℕ) → 
     → IsOpFault h.address_size reason before left
 op_fault h reason before left (no_opcode e b l) = cut_field e (number 1 (omega arith) (omega (arith, ap length l)))
 op_fault h reason before left (unsigned_operand k takes lt b p) = unsigned_so h.address_size reason before left p
-op_fault h reason before left (signed_operand lt b p) = signed_so h.address_size reason before left p
-op_fault h reason before left (fixed_operand e lt b short) = cut_field e (number 2 (omega arith) short)
+op_fault h reason before left (signed_operand k takes lt b p) = signed_so h.address_size reason before left p
+op_fault h reason before left (fixed_operand k e takes lt b short) = cut_field e (number 2 (omega arith) short)
 op_fault h reason before left (unknown_operand k operands spelling some lt each fewer b p) = unsigned_so h.address_size reason before left p
 op_fault h reason before left (no_length b p) = unsigned_so h.address_size reason before left p
 op_fault h reason before left (cut_counted n spelling e p b short) = cut_field e (operation n [] spelling p b short)

@@ -1,6 +1,5 @@
 -- Where no operation begins some bytes, its first fault is one; and so is that of a program. Crates above cite these.
-use Rattle.std.proofs.Common.{◌≡◌, ℕ, ◌+◌, ◌<◌, ◌≤◌, List, [], ◌∷◌, ◌++◌, length, get_or, refl, sym, ap, subst, ◌∙◌, append_assoc, arith}
-use Rattle.std.proofs.Common.{inl, inr}
+use Rattle.std.proofs.Common.{◌≡◌, ℕ, ◌+◌, ◌<◌, List, [], ◌∷◌, ◌++◌, length, refl, sym, ap, subst, ◌∙◌, append_assoc, arith}
 use Rattle.std.proofs.lemmas.List.{append-nil, get_or_past, length-append}
 use Rattle.lnt_wire.specs.Bytes.{Exactly, NoneSpelled}
 use Rattle.lnt_wire.specs.Leb128.{IsLeb, UnsignedLeb, SignedLeb, IsLargeUnsigned, IsLargeSigned, IsLebFault}
@@ -17,15 +16,16 @@ use Rattle.lnt_header.specs.FirstFaults.{FirstOfSeveral}
 use Rattle.lnt_header.specs.FirstFaults.FirstOfSeveral.{next}
 use Rattle.lnt_header.specs.HeaderRules.{HasHeaderNumbers}
 use Rattle.lnt_header.specs.Joins.{Each, Several}
-use Rattle.lnt_header.specs.OpRules.{Coding, coding, Operand, standard_length}
+use Rattle.lnt_header.specs.OpRules.{Coding, coding, FitsTaken, Following, following, known_followings, last_known, Operand}
+use Rattle.lnt_header.specs.OpRules.{standard_length, Taken, taken_by}
+use Rattle.lnt_header.specs.OpRules.Following.{as_listed, by_length, nothing_more, one_signed, one_unsigned, two_bytes}
+use Rattle.lnt_header.specs.OpRules.Taken.{takes_address, takes_any, takes_nothing, takes_number}
 use Rattle.lnt_header.specs.declared.header.HeaderParts.{HeaderParts}
-use Rattle.lnt_header.specs.declared.op.Op.{Op}
-use Rattle.lnt_header.specs.declared.op.Op.TheVariants.{Special}
 use Rattle.lnt_header.proofs.FirstFaultLaws.{AreOne, each_one, field_fault, IsHere, IsOneFault, several_of}
-use Rattle.lnt_ops.proofs.OpLaws.{op_code, op_is_some}
+use Rattle.lnt_ops.proofs.ExtendedReaders.{right_of, unknown_takes}
+use Rattle.lnt_ops.proofs.OpLaws.{follows, op_code, op_is_some, takes_its, TakesIts}
 use Rattle.lnt_ops.specs.OpBytes.{CodingBytes, Extended, OpBytes, OperandBytes, Standard}
-use Rattle.lnt_ops.specs.OpFaults.{Following, following, IsFirstFault, TakesUnsigned}
-use Rattle.lnt_ops.specs.OpFaults.Following.{counted, unsigned, signed, fixed, bare, listed}
+use Rattle.lnt_ops.specs.OpFaults.{IsFirstFault}
 use Rattle.lnt_ops.specs.OpFaults.IsFirstFault.{no_opcode, unsigned_operand, signed_operand, fixed_operand, unknown_operand, no_length}
 use Rattle.lnt_ops.specs.OpFaults.IsFirstFault.{cut_counted, wrong_counted, large_counted}
 use Rattle.lnt_ops.specs.OpSteps.{IsRightOperand}
@@ -41,8 +41,8 @@ data IsExtendedFault (address_size : ℕ) (reason : Reason) (past left : List �
   wrong : (spelling operation rest : List ℕ) → reason ≡ ExtendedLength → past ≡ [] → UnsignedLeb (length operation) spelling
       → left ≡ spelling ++ (operation ++ rest)
       → IsWrongOperand address_size operation → IsExtendedFault address_size reason past left
-  large : (spelling operand rest : List ℕ) → reason ≡ LebTooLarge → UnsignedLeb (length operand + 1) spelling → past ≡ spelling ++ 4 ∷ []
-      → left ≡ operand ++ rest → IsLeb operand
+  large : (code : ℕ) (spelling operand rest : List ℕ) → reason ≡ LebTooLarge → taken_by code ≡ takes_number
+      → UnsignedLeb (length operand + 1) spelling → past ≡ spelling ++ code ∷ [] → left ≡ operand ++ rest → IsLeb operand
       → IsLargeUnsigned operand → IsExtendedFault address_size reason past left
 
 -- what stands from the length on
@@ -53,10 +53,10 @@ wrong_joined : (spelling operation rest past left : List ℕ) → past ≡ [] �
     → past ++ left ≡ spelling ++ (operation ++ rest)
 wrong_joined spelling operation rest past left nothing e = ap (λ (z : List ℕ). z ++ left) nothing ∙ e
 
-large_joined : (spelling operand rest past left : List ℕ) → past ≡ spelling ++ 4 ∷ [] → left ≡ operand ++ rest
-    → past ++ left ≡ spelling ++ ((4 ∷ operand) ++ rest)
-large_joined spelling operand rest past left e f =
-    ap (λ (z : List ℕ). z ++ left) e ∙ append_assoc spelling (4 ∷ []) left ∙ ap (λ (z : List ℕ). spelling ++ 4 ∷ z) f
+large_joined : (code : ℕ) (spelling operand rest past left : List ℕ) → past ≡ spelling ++ code ∷ [] → left ≡ operand ++ rest
+    → past ++ left ≡ spelling ++ ((code ∷ operand) ++ rest)
+large_joined code spelling operand rest past left e f =
+    ap (λ (z : List ℕ). z ++ left) e ∙ append_assoc spelling (code ∷ []) left ∙ ap (λ (z : List ℕ). spelling ++ code ∷ z) f
 
 -- the same length in front, and what follows it
 record SameCount (m n : ℕ) (x y r s : List ℕ) : Type 0 where
@@ -69,13 +69,12 @@ same_count m n x y r s p q e =
     let found = unsigned_code.one m n x y r s p q e in record { count = found.0; bytes = found.1; past = same_rest x y r s found.1 e }
 
 -- a number that is too large fills no operation wrongly
-not_wrong : (address_size : ℕ) (operation operand : List ℕ) → operation ≡ 4 ∷ operand → IsLeb operand
+not_wrong : (address_size code : ℕ) (operation operand : List ℕ) → taken_by code ≡ takes_number → operation ≡ code ∷ operand → IsLeb operand
     → IsWrongOperand address_size operation → ⊥
-not_wrong address_size operation operand e shape w = elim (subst (IsWrongOperand address_size) e w) [
-  | inl h ↦ omega (arith, h.0)
-  | inr (inl h) ↦ omega (arith, h.0)
-  | inr (inr h) ↦ h.1 shape
-]
+not_wrong address_size code operation operand takes e shape w =
+    let fits : FitsTaken address_size (taken_by code) operand =
+    subst (λ (t : Taken). FitsTaken address_size t operand) (sym takes) shape in
+    subst (IsWrongOperand address_size) e w fits
 
 extended_one : (address_size : ℕ) → AreOne (IsExtendedFault address_size)
 extended_one size reason other past past' left left' (missing nothing h) (missing nothing' k) e =
@@ -87,9 +86,9 @@ extended_one size reason other past past' left left' (missing nothing h) (short 
 extended_one size reason other past past' left left' (missing nothing h) (wrong x op rest is nothing' p joined w) e =
     absurd (unsigned_fault.none reason left h (length op) x (op ++ rest) p
     (sym (ap (λ (z : List ℕ). z ++ left) (sym nothing) ∙ e ∙ wrong_joined x op rest past' left' nothing' joined)))
-extended_one size reason other past past' left left' (missing nothing h) (large x o rest is p joined joined' shape much) e =
-    absurd (unsigned_fault.none reason left h (length o + 1) x ((4 ∷ o) ++ rest) p
-    (sym (ap (λ (z : List ℕ). z ++ left) (sym nothing) ∙ e ∙ large_joined x o rest past' left' joined joined')))
+extended_one size reason other past past' left left' (missing nothing h) (large c x o rest is takes p joined joined' shape much) e =
+    absurd (unsigned_fault.none reason left h (length o + 1) x ((c ∷ o) ++ rest) p
+    (sym (ap (λ (z : List ℕ). z ++ left) (sym nothing) ∙ e ∙ large_joined c x o rest past' left' joined joined')))
 extended_one size reason other past past' left left' (short n x is p joined lt) (missing nothing k) e =
     absurd (unsigned_fault.none other left' k n x left p
     (sym (ap (λ (z : List ℕ). z ++ left') (sym nothing) ∙ sym e ∙ short_joined x past left joined)))
@@ -102,10 +101,10 @@ extended_one size reason other past past' left left' (short n x is p joined lt) 
     same_count n (length op) x x' left (op ++ rest) p p'
     (sym (short_joined x past left joined) ∙ e ∙ wrong_joined x' op rest past' left' nothing joined') in
     absurd (omega (arith, lt, found.count, ap length found.past, length-append op rest))
-extended_one size reason other past past' left left' (short n x is p joined lt) (large x' o rest is' p' joined' f shape much) e =
+extended_one size reason other past past' left left' (short n x is p joined lt) (large c x' o rest is' takes p' joined' f shape much) e =
     let found =
-    same_count n (length o + 1) x x' left ((4 ∷ o) ++ rest) p p'
-    (sym (short_joined x past left joined) ∙ e ∙ large_joined x' o rest past' left' joined' f) in
+    same_count n (length o + 1) x x' left ((c ∷ o) ++ rest) p p'
+    (sym (short_joined x past left joined) ∙ e ∙ large_joined c x' o rest past' left' joined' f) in
     absurd (omega (arith, lt, found.count, ap length found.past, length-append o rest))
 extended_one size reason other past past' left left' (wrong x op rest is nothing p joined w) (missing nothing' k) e =
     absurd (unsigned_fault.none other left' k (length op) x (op ++ rest) p
@@ -118,39 +117,41 @@ extended_one size reason other past past' left left' (wrong x op rest is nothing
 extended_one size reason other past past' left left' (wrong x op rest is nothing p joined w)
     (wrong x' op' rest' is' nothing' p' joined' w') e = (is ∙ sym is', nothing ∙ sym nothing')
 extended_one size reason other past past' left left' (wrong x op rest is nothing p joined w)
-    (large x' o rest' is' p' joined' f shape much) e =
+    (large c x' o rest' is' takes p' joined' f shape much) e =
     let found =
-    same_count (length op) (length o + 1) x x' (op ++ rest) ((4 ∷ o) ++ rest') p p'
-    (sym (wrong_joined x op rest past left nothing joined) ∙ e ∙ large_joined x' o rest' past' left' joined' f) in
-    let same : op ≡ 4 ∷ o = same_front op (4 ∷ o) rest rest' (omega (arith, found.count)) found.past in
-    absurd (not_wrong size op o same shape w)
-extended_one size reason other past past' left left' (large x o rest is p joined f shape much) (missing nothing k) e =
-    absurd (unsigned_fault.none other left' k (length o + 1) x ((4 ∷ o) ++ rest) p
-    (sym (ap (λ (z : List ℕ). z ++ left') (sym nothing) ∙ sym e ∙ large_joined x o rest past left joined f)))
-extended_one size reason other past past' left left' (large x o rest is p joined f shape much) (short n x' is' p' joined' lt) e =
+    same_count (length op) (length o + 1) x x' (op ++ rest) ((c ∷ o) ++ rest') p p'
+    (sym (wrong_joined x op rest past left nothing joined) ∙ e ∙ large_joined c x' o rest' past' left' joined' f) in
+    let same : op ≡ c ∷ o = same_front op (c ∷ o) rest rest' (omega (arith, found.count)) found.past in
+    absurd (not_wrong size c op o takes same shape w)
+extended_one size reason other past past' left left' (large c x o rest is takes p joined f shape much) (missing nothing k) e =
+    absurd (unsigned_fault.none other left' k (length o + 1) x ((c ∷ o) ++ rest) p
+    (sym (ap (λ (z : List ℕ). z ++ left') (sym nothing) ∙ sym e ∙ large_joined c x o rest past left joined f)))
+extended_one size reason other past past' left left' (large c x o rest is takes p joined f shape much) (short n x' is' p' joined' lt) e =
     let found =
-    same_count (length o + 1) n x x' ((4 ∷ o) ++ rest) left' p p'
-    (sym (large_joined x o rest past left joined f) ∙ e ∙ short_joined x' past' left' joined') in
+    same_count (length o + 1) n x x' ((c ∷ o) ++ rest) left' p p'
+    (sym (large_joined c x o rest past left joined f) ∙ e ∙ short_joined x' past' left' joined') in
     absurd (omega (arith, lt, found.count, ap length found.past, length-append o rest))
-extended_one size reason other past past' left left' (large x o rest is p joined f shape much)
+extended_one size reason other past past' left left' (large c x o rest is takes p joined f shape much)
     (wrong x' op rest' is' nothing p' joined' w) e =
     let found =
-    same_count (length o + 1) (length op) x x' ((4 ∷ o) ++ rest) (op ++ rest') p p'
-    (sym (large_joined x o rest past left joined f) ∙ e ∙ wrong_joined x' op rest' past' left' nothing joined') in
-    let same : op ≡ 4 ∷ o = same_front op (4 ∷ o) rest' rest (omega (arith, found.count)) (sym found.past) in
-    absurd (not_wrong size op o same shape w)
-extended_one size reason other past past' left left' (large x o rest is p joined f shape much)
-    (large x' o' rest' is' p' joined' f' shape' much') e =
+    same_count (length o + 1) (length op) x x' ((c ∷ o) ++ rest) (op ++ rest') p p'
+    (sym (large_joined c x o rest past left joined f) ∙ e ∙ wrong_joined x' op rest' past' left' nothing joined') in
+    let same : op ≡ c ∷ o = same_front op (c ∷ o) rest' rest (omega (arith, found.count)) (sym found.past) in
+    absurd (not_wrong size c op o takes same shape w)
+extended_one size reason other past past' left left' (large c x o rest is takes p joined f shape much)
+    (large c' x' o' rest' is' takes' p' joined' f' shape' much') e =
     let found =
-    same_count (length o + 1) (length o' + 1) x x' ((4 ∷ o) ++ rest) ((4 ∷ o') ++ rest') p p'
-    (sym (large_joined x o rest past left joined f) ∙ e ∙ large_joined x' o' rest' past' left' joined' f') in
-    (is ∙ sym is', joined ∙ ap (λ (z : List ℕ). z ++ 4 ∷ []) found.bytes ∙ sym joined')
+    same_count (length o + 1) (length o' + 1) x x' ((c ∷ o) ++ rest) ((c' ∷ o') ++ rest') p p'
+    (sym (large_joined c x o rest past left joined f) ∙ e ∙ large_joined c' x' o' rest' past' left' joined' f') in
+    let heads : c ∷ (o ++ rest) ≡ c' ∷ (o' ++ rest') = found.past in
+    let codes : c ≡ c' = cc in
+    (is ∙ sym is', joined ∙ ap (λ (z : List ℕ). z ++ c ∷ []) found.bytes ∙ ap (λ (a : ℕ). x' ++ a ∷ []) codes ∙ sym joined')
 
--- no right operation has such a fault: one whose operand fits its code, and whose discriminator is in range
+-- no right operation has such a fault: one whose operand fits its code, and whose number, if it takes one, is in range
 extended_none : (address_size : ℕ) (reason : Reason) (past left : List ℕ) (code : ℕ) (operand spelling more : List ℕ)
     → IsExtendedFault address_size reason past left
     → UnsignedLeb (length (code ∷ operand)) spelling → IsRightOperand address_size (code ∷ operand)
-    → (code ≡ 4 → IsLargeUnsigned operand → ⊥)
+    → (taken_by code ≡ takes_number → IsLargeUnsigned operand → ⊥)
     → spelling ++ ((code ∷ operand) ++ more) ≡ past ++ left → ⊥
 extended_none size reason past left code operand spelling more (missing nothing h) p right small e =
     unsigned_fault.none reason left h (length (code ∷ operand)) spelling ((code ∷ operand) ++ more) p
@@ -164,29 +165,25 @@ extended_none size reason past left code operand spelling more (wrong x op rest 
     same_count (length (code ∷ operand)) (length op) spelling x ((code ∷ operand) ++ more) (op ++ rest) p q
     (e ∙ wrong_joined x op rest past left nothing joined) in
     let same : op ≡ code ∷ operand = same_front op (code ∷ operand) rest more (sym found.count) (sym found.past) in
-    elim (subst (IsWrongOperand size) same w) [
-      | inl h ↦ h.1 (right.0 h.0)
-      | inr (inl h) ↦ h.1 (right.1 h.0)
-      | inr (inr h) ↦ h.1 (right.2 h.0)
-    ]
-extended_none size reason past left code operand spelling more (large x o rest is q joined f shape much) p right small e =
+    subst (IsWrongOperand size) same w right
+extended_none size reason past left code operand spelling more (large c x o rest is takes q joined f shape much) p right small e =
     let found =
-    same_count (length (code ∷ operand)) (length o + 1) spelling x ((code ∷ operand) ++ more) ((4 ∷ o) ++ rest) p q
-    (e ∙ large_joined x o rest past left joined f) in
-    let same : code ∷ operand ≡ 4 ∷ o = same_front (code ∷ operand) (4 ∷ o) more rest (omega (arith, found.count)) found.past in
-    let codes : code ≡ 4 = cc in
+    same_count (length (code ∷ operand)) (length o + 1) spelling x ((code ∷ operand) ++ more) ((c ∷ o) ++ rest) p q
+    (e ∙ large_joined c x o rest past left joined f) in
+    let same : code ∷ operand ≡ c ∷ o = same_front (code ∷ operand) (c ∷ o) more rest (omega (arith, found.count)) found.past in
+    let codes : code ≡ c = cc in
     let operands : o ≡ operand = cc in
-    small codes (subst IsLargeUnsigned operands much)
+    small (ap taken_by codes ∙ takes) (subst IsLargeUnsigned operands much)
 
 -- ---- operands, by their opcodes
 
 abbrev OfOperand : HeaderParts → ℕ → Following → Reason → List ℕ → List ℕ → Type 0
-OfOperand h code counted reason past left = IsExtendedFault h.address_size reason past left
-OfOperand h code unsigned reason past left = IsHere (IsLebFault IsLargeUnsigned) reason past left
-OfOperand h code signed reason past left = IsHere (IsLebFault IsLargeSigned) reason past left
-OfOperand h code fixed reason past left = IsHere (IsCutShort 2) reason past left
-OfOperand h code bare reason past left = ⊥
-OfOperand h code listed reason past left =
+OfOperand h code by_length reason past left = IsExtendedFault h.address_size reason past left
+OfOperand h code one_unsigned reason past left = IsHere (IsLebFault IsLargeUnsigned) reason past left
+OfOperand h code one_signed reason past left = IsHere (IsLebFault IsLargeSigned) reason past left
+OfOperand h code two_bytes reason past left = IsHere (IsCutShort 2) reason past left
+OfOperand h code nothing_more reason past left = ⊥
+OfOperand h code as_listed reason past left =
     FirstOfSeveral (standard_length h code) UnsignedLeb (IsHere (IsLebFault IsLargeUnsigned)) reason past left
 
 unsigned_here : IsOneFault UnsignedLeb (IsHere (IsLebFault IsLargeUnsigned))
@@ -202,13 +199,14 @@ listed_here : (n : ℕ) → IsOneFault (Several n UnsignedLeb) (FirstOfSeveral n
 listed_here n = several_of UnsignedLeb (IsHere (IsLebFault IsLargeUnsigned)) unsigned_code unsigned_here n
 
 operand_one : (h : HeaderParts) (code : ℕ) (kind : Following) → AreOne (OfOperand h code kind)
-operand_one h code counted reason other before before' left left' p q e =
+operand_one h code by_length reason other before before' left left' p q e =
     extended_one h.address_size reason other before before' left left' p q e
-operand_one h code unsigned reason other before before' left left' p q e = unsigned_here.one reason other before before' left left' p q e
-operand_one h code signed reason other before before' left left' p q e = signed_here.one reason other before before' left left' p q e
-operand_one h code fixed reason other before before' left left' p q e = (fixed_here h).one reason other before before' left left' p q e
-operand_one h code bare reason other before before' left left' p q e = absurd p
-operand_one h code listed reason other before before' left left' p q e =
+operand_one h code one_unsigned reason other before before' left left' p q e =
+    unsigned_here.one reason other before before' left left' p q e
+operand_one h code one_signed reason other before before' left left' p q e = signed_here.one reason other before before' left left' p q e
+operand_one h code two_bytes reason other before before' left left' p q e = (fixed_here h).one reason other before before' left left' p q e
+operand_one h code nothing_more reason other before before' left left' p q e = absurd p
+operand_one h code as_listed reason other before before' left left' p q e =
     (listed_here (standard_length h code)).one reason other before before' left left' p q e
 
 -- the fault of an operand stands after an opcode that isn't special
@@ -223,10 +221,8 @@ data IsOpcodeFault (h : HeaderParts) (reason : Reason) (before left : List ℕ) 
   nothing : reason ≡ Truncated → before ≡ [] → left ≡ [] → IsOpcodeFault h reason before left
   operand : IsOperandFault h reason before left → IsOpcodeFault h reason before left
 
-takes_listed : (code : ℕ) → 13 ≤ code → following code ≡ listed
-takes_listed code le =
-    get_or_past (counted ∷ bare ∷ unsigned ∷ signed ∷ unsigned ∷ unsigned ∷ bare ∷ bare ∷ bare ∷ fixed ∷ bare ∷ bare ∷ unsigned ∷ []) code
-    listed le
+takes_listed : (code : ℕ) → last_known < code → following code ≡ as_listed
+takes_listed code le = get_or_past known_followings code as_listed le
 
 opcode_fault : (h : HeaderParts) (reason : Reason) (before left : List ℕ) → 0 < h.opcode_base → IsFirstFault h reason before left
     → IsOpcodeFault h reason before left
@@ -240,10 +236,24 @@ opcode_fault h reason before left some (unsigned_operand k takes lt b p) =
       fault = subst (λ (kind : Following). OfOperand h k kind reason [] left)
           (sym takes) (refl, p);
     })
-opcode_fault h reason before left some (signed_operand lt b p) =
-    operand (record { code = 3; past = []; within = lt; joined = b; fault = (refl, p) })
-opcode_fault h reason before left some (fixed_operand e lt b cut) =
-    operand (record { code = 9; past = []; within = lt; joined = b; fault = (refl, record { reason_is = e; short = cut }) })
+opcode_fault h reason before left some (signed_operand k takes lt b p) =
+    operand (record {
+      code = k;
+      past = [];
+      within = lt;
+      joined = b;
+      fault = subst (λ (kind : Following). OfOperand h k kind reason [] left)
+          (sym takes) (refl, p);
+    })
+opcode_fault h reason before left some (fixed_operand k e takes lt b cut) =
+    operand (record {
+      code = k;
+      past = [];
+      within = lt;
+      joined = b;
+      fault = subst (λ (kind : Following). OfOperand h k kind reason [] left)
+          (sym takes) (refl, record { reason_is = e; short = cut });
+    })
 opcode_fault h reason before left some (unknown_operand k numbers spelling le lt each fewer b p) =
     operand (record {
       code = k;
@@ -262,7 +272,7 @@ opcode_fault h reason before left some (wrong_counted e b w) =
     { code = 0; past = []; within = some; joined = b; fault = wrong w.0 w.1 w.2 e refl w.3 (w.4 ∙ append_assoc w.0 w.1 w.2) w.5 })
 opcode_fault h reason before left some (large_counted spelling o rest e p b l shape much) =
     operand (record
-    { code = 0; past = spelling ++ 4 ∷ []; within = some; joined = b; fault = large spelling o rest e p refl l shape much })
+    { code = 0; past = spelling ++ b.0 ∷ []; within = some; joined = b.2; fault = large b.0 spelling o rest e b.1 p refl l shape much })
 
 opcode_one : (h : HeaderParts) → AreOne (IsOpcodeFault h)
 opcode_one h reason other before before' left left' (nothing is b l) (nothing is' b' l') e = (is ∙ sym is', b ∙ sym b')
@@ -311,7 +321,8 @@ standard_at h k OfOpcode reason before left x more f p e =
 extended_at : (h : HeaderParts) (code : ℕ) (OfCode : List ℕ → Type 0) (reason : Reason) (before left x more : List ℕ)
     → IsOperandFault h reason before left → Extended code OfCode x
     → x ++ more ≡ before ++ left
-    → ((bytes : List ℕ) → OfCode bytes → IsRightOperand h.address_size (code ∷ bytes) × (code ≡ 4 → IsLargeUnsigned bytes → ⊥)) → ⊥
+    → ((bytes : List ℕ) → OfCode bytes → IsRightOperand h.address_size (code ∷ bytes)
+    × (taken_by code ≡ takes_number → IsLargeUnsigned bytes → ⊥)) → ⊥
 extended_at h code OfCode reason before left x more f p e right =
     let bytes = p.1.back in
     let rest : p.0 ≡ code ∷ bytes = p.1.joined ∙ ap (λ (z : List ℕ). z ++ bytes) p.1.first in
@@ -331,27 +342,8 @@ extended_at h code OfCode reason before left x more f p e right =
     extended_none h.address_size reason f.past left code bytes inner.front more fault spelled is.0 is.1
     (sym (append_assoc inner.front (code ∷ bytes) more) ∙ tails)
 
--- the operand that a standard opcode is coded with
-abbrev coded : Operand → Following
-coded Operand.bare = bare
-coded (Operand.unsigned n) = unsigned
-coded (Operand.signed z) = signed
-coded (Operand.half n) = fixed
-
--- Each opcode is coded with the operand that it takes.
-abbrev TakesIts : Coding → Type 0
-TakesIts (Coding.standard k taken) = following k ≡ coded taken
-TakesIts (Coding.extended code) = code ≡ 1
-TakesIts (Coding.extended_number code n) = code ≡ 4
-TakesIts (Coding.extended_address code address) = code ≡ 2
-TakesIts c = c ≡ c
-
-takes_its : (op : Op) → TakesIts (coding op)
-takes_its (Special c) = refl
-takes_its op = refl
-
 fault_none : (h : HeaderParts) (k : ℕ) (taken : Operand) (reason : Reason) (more past left : List ℕ)
-    → (s : StandardAt h k (OperandBytes h taken) reason more past left) → OfOperand h k (coded taken) reason past left → ⊥
+    → (s : StandardAt h k (OperandBytes h taken) reason more past left) → OfOperand h k (follows taken) reason past left → ⊥
 fault_none h k Operand.bare reason more past left s fault = fault
 fault_none h k (Operand.unsigned n) reason more past left s fault =
     unsigned_here.none reason past left fault n s.bytes more s.spelled s.joined
@@ -374,33 +366,30 @@ coding_none h reason before left (Coding.standard k taken) x more takes f p e =
     (subst (λ (kind : Following). OfOperand h k kind reason f.past left) takes s.fault)
 coding_none h reason before left (Coding.unknown_standard k numbers) x more takes f p e =
     let s = standard_at h k (Each UnsignedLeb numbers) reason before left x more f p.2 e in
-    let fault : OfOperand h k listed reason f.past left =
+    let fault : OfOperand h k as_listed reason f.past left =
     subst (λ (kind : Following). OfOperand h k kind reason f.past left) (takes_listed k p.0) s.fault in
     (listed_here (standard_length h k)).none reason f.past left fault numbers s.bytes more (p.1, s.spelled) s.joined
 coding_none h reason before left (Coding.extended code) x more takes f p e =
     extended_at h code (Exactly []) reason before left x more f p e (λ bytes q. (
-      (λ _. q, λ two. absurd (omega (arith, takes, two)), λ four. absurd (omega (arith, takes, four))),
-      λ four. absurd (omega (arith, takes, four)),
+      right_of h.address_size code takes_nothing bytes takes q,
+      λ number. let other : takes_nothing ≡ takes_number = sym takes ∙ number in absurd cc,
     ))
 coding_none h reason before left (Coding.extended_address code address) x more takes f p e =
     extended_at h code (NumberBytes h.order h.address_size address) reason before left x more f p e (λ bytes q. (
-      (
-        λ one. absurd (omega (arith, takes, one)),
-        λ _. ap length q.spelled
-            ∙ length-number_bytes h.order h.address_size address,
-        λ four. absurd (omega (arith, takes, four)),
-      ),
-      λ four. absurd (omega (arith, takes, four)),
+      right_of h.address_size code takes_address bytes takes
+          (ap length q.spelled ∙ length-number_bytes h.order h.address_size address),
+      λ number. let other : takes_address ≡ takes_number = sym takes ∙ number in absurd cc,
     ))
 coding_none h reason before left (Coding.extended_number code n) x more takes f p e =
     extended_at h code (UnsignedLeb n) reason before left x more f p e (λ bytes q. (
-      (λ one. absurd (omega (arith, takes, one)), λ two. absurd (omega (arith, takes, two)), λ _. q.shape),
+      right_of h.address_size code takes_number bytes takes q.shape,
       λ _ much. omega (arith, much, q.value, q.fits),
     ))
 coding_none h reason before left (Coding.unknown_extended code taken) x more takes f p e =
-    extended_at h code (Exactly taken) reason before left x more f p.4 e (λ bytes q. (
-      (λ one. absurd (p.0 one), λ two. absurd (p.1 two), λ four. absurd (p.2 four)),
-      λ four. absurd (p.2 four),
+    let any = unknown_takes code p.0 in
+    extended_at h code (Exactly taken) reason before left x more f p.2 e (λ bytes q. (
+      right_of h.address_size code takes_any bytes any tt,
+      λ number. let other : takes_any ≡ takes_number = sym any ∙ number in absurd cc,
     ))
 
 opcode_none : (h : HeaderParts) (reason : Reason) (before left : List ℕ) → IsOpcodeFault h reason before left

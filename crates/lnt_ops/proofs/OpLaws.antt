@@ -1,7 +1,8 @@
 -- Under one header an operation has one value for its bytes, and none begins another.
-use Rattle.std.proofs.Common.{◌≡◌, ℕ, ◌+◌, ◌*◌, ◌<◌, ◌≤◌, inl, inr, List, [], ◌∷◌, ◌++◌, length, refl, sym, ap, subst}
+use Rattle.std.proofs.Common.{◌≡◌, ℕ, ◌+◌, ◌*◌, ◌^◌, ◌<◌, ◌≤◌, inl, inr, List, [], ◌∷◌, ◌++◌, length, refl, sym, ap, subst}
 use Rattle.std.proofs.Common.{◌∙◌, append_assoc, arith}
 use Rattle.std.proofs.lemmas.List.{length-append, append-nil}
+use Rattle.std.specs.List.{AllByRecursion}
 use Rattle.std.specs.Prelude.{ℤ}
 use Rattle.lnt_wire.specs.Bytes.{Exactly, IsCode}
 use Rattle.lnt_wire.specs.Leb128.{UnsignedLeb}
@@ -14,9 +15,33 @@ use Rattle.lnt_header.specs.HeaderRules.{IsAddressSize, HasHeaderNumbers}
 use Rattle.lnt_header.specs.Joins.{Each}
 use Rattle.lnt_header.proofs.ListLaws.{same_each}
 use Rattle.lnt_header.proofs.ByteLaws.{byte_code}
-use Rattle.lnt_header.specs.OpRules.{Coding, coding, Operand, standard_length}
+use Rattle.lnt_header.specs.OpRules.{Admits, AdmitsCoding, Coding, coding, Following, following, Operand, standard_length, taken_by}
+use Rattle.lnt_header.specs.OpRules.Following.{nothing_more, one_signed, one_unsigned, two_bytes}
+use Rattle.lnt_header.specs.OpRules.Taken.{takes_address, takes_nothing, takes_number}
 use Rattle.lnt_ops.specs.Laws.{OneProgram}
-use Rattle.lnt_ops.specs.OpBytes.{CodingBytes, Standard, Extended, OpBytes}
+use Rattle.lnt_ops.specs.OpBytes.{CodingBytes, Standard, Extended, OpBytes, OperandBytes}
+use Rattle.lnt_ops.specs.Spelled.{FitsCoding, FitsOp, FitsOperand}
+
+-- ---- what follows an opcode, and a code
+
+-- what follows a standard opcode with this operand
+abbrev pub follows : Operand → Following
+follows Operand.bare = nothing_more
+follows (Operand.unsigned n) = one_unsigned
+follows (Operand.signed z) = one_signed
+follows (Operand.half n) = two_bytes
+
+-- The opcode or the code takes the operand that it is coded with.
+abbrev pub TakesIts : Coding → Type 0
+TakesIts (Coding.standard k operand) = following k ≡ follows operand
+TakesIts (Coding.extended code) = taken_by code ≡ takes_nothing
+TakesIts (Coding.extended_number code n) = taken_by code ≡ takes_number
+TakesIts (Coding.extended_address code address) = taken_by code ≡ takes_address
+TakesIts c = c ≡ c
+
+pub takes_its : (op : Op) → TakesIts (coding op)
+takes_its (Special c) = refl
+takes_its op = refl
 
 -- ---- which operation it is
 
@@ -70,7 +95,7 @@ coding_shape h (Coding.unknown_standard k operands) x some p = standard_shape h 
 coding_shape h (Coding.extended code) x some p = extended_shape h code (2 * code + 2) _ x refl p
 coding_shape h (Coding.extended_number code n) x some p = extended_shape h code (2 * code + 2) _ x refl p
 coding_shape h (Coding.extended_address code address) x some p = extended_shape h code (2 * code + 2) _ x refl p
-coding_shape h (Coding.unknown_extended code operand) x some p = extended_shape h code (2 * code + 2) _ x refl p.4
+coding_shape h (Coding.unknown_extended code operand) x some p = extended_shape h code (2 * code + 2) _ x refl p.2
 
 shape_of : (h : HeaderParts) (op : Op) (x : List ℕ) → OpBytes h op x → Shape h.opcode_base (tag op) x
 shape_of h op x p = coding_shape h (coding op) x (positive op) p
@@ -248,7 +273,7 @@ same_coding h width (Coding.extended_number c m) (Coding.extended_number d n) x 
     same_extended_operand unsigned_code Coding.extended_number c d m n x y r s p q e
 same_coding h width (Coding.extended_address c m) (Coding.extended_address d n) x y r s t p q e =
     same_extended_operand (number_code h.order h.address_size width) Coding.extended_address c d m n x y r s p q e
-same_coding h width (Coding.unknown_extended c m) (Coding.unknown_extended d n) x y r s t p q e = same_unknown c d m n x y r s p.4 q.4 e
+same_coding h width (Coding.unknown_extended c m) (Coding.unknown_extended d n) x y r s t p q e = same_unknown c d m n x y r s p.2 q.2 e
 same_coding h width c d x y r s t p q e = absurd (omega arith)
 
 -- each coding is that of one operation
@@ -280,6 +305,45 @@ some_shape base t x (extended code u l tag leb p) = omega (arith, ap length p)
 
 pub op_is_some : (h : HeaderParts) (op : Op) (x : List ℕ) → OpBytes h op x → 0 < length x
 op_is_some h op x p = some_shape h.opcode_base (tag op) x (shape_of h op x p)
+
+-- ---- what is spelled is allowed
+
+numbers_fit : (numbers : List ℕ) (x : List ℕ) → Each UnsignedLeb numbers x → AllByRecursion (λ n. n < 2 ^ 64) numbers
+numbers_fit [] x p = tt
+numbers_fit (n ∷ numbers) x p = (p.first.fits, numbers_fit numbers p.back p.second)
+
+operand_fits : (h : HeaderParts) (operand : Operand) (x : List ℕ) → OperandBytes h operand x → FitsOperand operand
+operand_fits h Operand.bare x p = tt
+operand_fits h (Operand.unsigned n) x p = p.fits
+operand_fits h (Operand.signed z) x p = p.fits
+operand_fits h (Operand.half n) x p = omega (arith, p.fits)
+
+coding_allowed : (h : HeaderParts) (c : Coding) (x : List ℕ) → CodingBytes h c x → AdmitsCoding h c × FitsCoding c
+coding_allowed h (Coding.special c) x p = (p.0, omega (arith, p.1))
+coding_allowed h (Coding.standard k operand) x p = (p.0, operand_fits h operand p.1.back p.1.second)
+coding_allowed h (Coding.unknown_standard k operands) x p = ((p.0, p.2.0, p.1), numbers_fit operands p.2.1.back p.2.1.second)
+coding_allowed h (Coding.extended code) x p = (tt, tt)
+coding_allowed h (Coding.extended_number code n) x p = (tt, p.1.second.fits)
+coding_allowed h (Coding.extended_address code address) x p = (p.1.second.fits, tt)
+coding_allowed h (Coding.unknown_extended code operand) x p =
+    let body = p.2.1 in (
+      p.0,
+      (
+        omega (arith, p.1),
+        omega (
+          arith,
+          p.2.2.second.first.fits,
+          ap length body.joined,
+          length-append body.front body.back,
+          ap length body.first,
+          ap length
+              body.second,
+        ),
+      ),
+    )
+
+pub op_allowed : (h : HeaderParts) (op : Op) (x : List ℕ) → OpBytes h op x → Admits h op × FitsOp op
+op_allowed h op x p = coding_allowed h (coding op) x p
 
 -- ---- programs
 

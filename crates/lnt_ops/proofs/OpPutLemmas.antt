@@ -15,20 +15,18 @@ use Rattle.lnt_wire.specs.Numbers.{NumberBytes}
 use Rattle.lnt_wire.proofs.LengthLaws.{length-number_bytes}
 use Rattle.lnt_header.specs.declared.header.HeaderParts.{HeaderParts}
 use Rattle.lnt_header.specs.declared.op.Op.{Op}
-use Rattle.lnt_header.specs.declared.op.Op.TheVariants.{Copy, AdvancePc, AdvanceLine, SetFile, SetColumn}
-use Rattle.lnt_header.specs.declared.op.Op.TheVariants.{NegateStmt, SetBasicBlock, ConstAddPc, FixedAdvancePc}
-use Rattle.lnt_header.specs.declared.op.Op.TheVariants.{SetPrologueEnd, SetEpilogueBegin, SetIsa, UnknownStandard}
-use Rattle.lnt_header.specs.declared.op.Op.TheVariants.{SetAddress, SetDiscriminator, UnknownExtended}
+use Rattle.lnt_header.specs.declared.op.Op.TheVariants.{UnknownStandard}
 use Rattle.lnt_header.specs.declared.op.OpView.{OpView}
 use Rattle.lnt_header.specs.declared.op.OpView.TheVariants as views
 use Rattle.lnt_header.specs.declared.op.Operands.{Operands}
 use Rattle.lnt_header.specs.declared.op.Operands.TheVariants.{Spelled, Listed}
-use Rattle.lnt_header.specs.OpRules.{AreOperands, StandsFor, op_of, operands_of, Admits, AdmitsCoding, Coding, coding, Operand}
+use Rattle.lnt_header.specs.OpRules.{AreOperands, StandsFor, op_of, operands_of, Admits, AdmitsCoding, Coding, coding, coding_of}
+use Rattle.lnt_header.specs.OpRules.{Operand}
 use Rattle.lnt_header.specs.Joins.{Each}
 use Rattle.lnt_header.proofs.PutLaws.{put_as, each_begun, each_put, each_more, each_done}
 use Rattle.lnt_ops.proofs.OpLaws.{same_whole}
 use Rattle.lnt_ops.proofs.ViewLaws.{leb_is_some, is_op_of}
-use Rattle.lnt_ops.specs.OpBytes.{CodingBytes, OpBytes, OperandBytes, Standard, Extended}
+use Rattle.lnt_ops.specs.OpBytes.{CodingBytes, OpBytes, Standard, Extended}
 use Rattle.lnt_ops.specs.OpPuts.{IsOpOf, AddsView}
 use Rattle.lnt_ops.specs.Stepping.{AddsSpelled, AddsOperands}
 use Rattle.lnt_ops.specs.OperandLists.{SpellsNumbers, NumbersSoFar}
@@ -182,14 +180,14 @@ extended_put code count operand old middle new s put is =
     let p = exactly_put operand middle in
     rw put (extended_after Exactly code count operand old middle (middle ++ operand) s p (omega (arith, is, ap length p.spelled.spelled)))
 
-pub address_put : (order : Order) (size address count : ℕ) (old middle new : List ℕ) → Appends (ExtendedStart 2) count old middle
+pub address_put : (order : Order) (code size address count : ℕ) (old middle new : List ℕ) → Appends (ExtendedStart code) count old middle
     → count ≡ size + 1 → Appends (NumberBytes order size) address middle new
-    → Appends (ExtendedCoded 2 (NumberBytes order size)) address old new
-address_put order size address count old middle new s is p =
-    extended_after (NumberBytes order size) 2 count address old middle new s p
+    → Appends (ExtendedCoded code (NumberBytes order size)) address old new
+address_put order code size address count old middle new s is p =
+    extended_after (NumberBytes order size) code count address old middle new s p
     (omega (arith, is, ap length p.spelled.spelled.spelled, length-number_bytes order size address))
 
--- ---- a discriminator, whose length is written last
+-- ---- a number, whose length is written last
 
 -- what stands after some bytes, after its first but one was changed
 second_set : (old : List ℕ) (a b v : ℕ) (past : List ℕ) → slice_set (old ++ a ∷ b ∷ past) (length old + 1) v ≡ old ++ a ∷ v ∷ past
@@ -199,9 +197,9 @@ second_set (x ∷ old) a b v past =
     rw at (ap (λ (z : List ℕ). x ∷ z) (second_set old a b v past))
 
 -- a byte is enough for the length
-pub discriminator_room : (n : ℕ) (old middle new : List ℕ) → middle ≡ old ++ 0 ∷ 0 ∷ 4 ∷ [] → Appends UnsignedLeb n middle new
+pub counted_room : (code n : ℕ) (old middle new : List ℕ) → middle ≡ old ++ 0 ∷ 0 ∷ code ∷ [] → Appends UnsignedLeb n middle new
     → length new - (length middle - 2) - 1 < 128
-discriminator_room n old middle new three p =
+counted_room code n old middle new three p =
     omega (
       arith,
       ap length p.joined,
@@ -209,47 +207,27 @@ discriminator_room n old middle new three p =
       at_most_ten n p.spelling p.spelled,
       ap length three,
       length-append
-          old (0 ∷ 0 ∷ 4 ∷ []),
+          old (0 ∷ 0 ∷ code ∷ []),
     )
 
-pub discriminator_put : (n place size : ℕ) (old middle new : List ℕ) → middle ≡ old ++ 0 ∷ 0 ∷ 4 ∷ [] → Appends UnsignedLeb n middle new
+pub counted_put : (code n place size : ℕ) (old middle new : List ℕ) → middle ≡ old ++ 0 ∷ 0 ∷ code ∷ [] → Appends UnsignedLeb n middle new
     → place ≡ length middle - 2 → size ≡ length new - place - 1
-    → Appends (ExtendedCoded 4 UnsignedLeb) n old (slice_set new place size)
-discriminator_put n place size old middle new three p at is =
+    → Appends (ExtendedCoded code UnsignedLeb) n old (slice_set new place size)
+counted_put code n place size old middle new three p at is =
     let x = p.spelling in
-    let all : new ≡ old ++ 0 ∷ 0 ∷ 4 ∷ x = p.joined ∙ ap (λ (z : List ℕ). z ++ x) three ∙ append_assoc old (0 ∷ 0 ∷ 4 ∷ []) x in
-    let here : place ≡ length old + 1 = omega (arith, at, ap length three, length-append old (0 ∷ 0 ∷ 4 ∷ [])) in
-    let counted : size ≡ suc (length x) = omega (arith, is, here, ap length all, length-append old (0 ∷ 0 ∷ 4 ∷ x)) in
+    let all : new ≡ old ++ 0 ∷ 0 ∷ code ∷ x = p.joined ∙ ap (λ (z : List ℕ). z ++ x) three ∙ append_assoc old (0 ∷ 0 ∷ code ∷ []) x in
+    let here : place ≡ length old + 1 = omega (arith, at, ap length three, length-append old (0 ∷ 0 ∷ code ∷ [])) in
+    let counted : size ≡ suc (length x) = omega (arith, is, here, ap length all, length-append old (0 ∷ 0 ∷ code ∷ x)) in
     let low : suc (length x) < 128 = omega (arith, at_most_ten n x p.spelled) in
-    let changed : slice_set new place size ≡ old ++ 0 ∷ suc (length x) ∷ 4 ∷ x = rw (all, here, counted)
-    (second_set old 0 0 (suc (length x)) (4 ∷ x)) in
+    let changed : slice_set new place size ≡ old ++ 0 ∷ suc (length x) ∷ code ∷ x = rw (all, here, counted)
+    (second_set old 0 0 (suc (length x)) (code ∷ x)) in
     record {
-      spelling = 0 ∷ suc (length x) ∷ 4 ∷ x;
-      spelled = shortest_extended UnsignedLeb 4 n (suc (length x) ∷ []) x (one_group (suc (length x)) low) p.spelled;
+      spelling = 0 ∷ suc (length x) ∷ code ∷ x;
+      spelled = shortest_extended UnsignedLeb code n (suc (length x) ∷ []) x (one_group (suc (length x)) low) p.spelled;
       joined = changed;
     }
 
--- ---- single operations
-
-standard_as : {X : Type 0} (Operand : X → List ℕ → Type 0) (h : HeaderParts) (code : ℕ) (x : X) (op : Op) (old new : List ℕ)
-    → ((y : List ℕ) → Standard h code (Operand x) y → OpBytes h op y)
-    → ((y : List ℕ) → OpBytes h op y → Standard h code (Operand x) y) → code < h.opcode_base → Appends (Coded code Operand) x old new
-    → Appends (OpBytes h) op old new
-standard_as Operand h code x op old new to from low p =
-    put_as (Coded code Operand) (OpBytes h) x op old new
-    (λ y t. to y (low, record { front = code ∷ []; back = t.operand; first = refl; second = t.spelled; joined = t.joined }))
-    (λ y t. let s = (from y t).1 in record {
-      operand = s.back;
-      spelled = s.second;
-      joined = s.joined ∙ ap (λ (z : List ℕ). z ++ s.back) s.first;
-    }) p
-
-extended_as : {X : Type 0} (Operand : X → List ℕ → Type 0) (h : HeaderParts) (code : ℕ) (x : X) (op : Op) (old new : List ℕ)
-    → ((y : List ℕ) → Extended code (Operand x) y → OpBytes h op y)
-    → ((y : List ℕ) → OpBytes h op y → Extended code (Operand x) y) → Appends (ExtendedCoded code Operand) x old new
-    → Appends (OpBytes h) op old new
-extended_as Operand h code x op old new to from p =
-    put_as (ExtendedCoded code Operand) (OpBytes h) x op old new (λ y t. to y t.spelled) (λ y t. record { spelled = from y t }) p
+-- ---- single operations, by how they are coded
 
 -- an opcode alone
 alone : (code : ℕ) (old new : List ℕ) → new ≡ old ++ code ∷ [] → Appends (Coded code Exactly) [] old new
@@ -262,93 +240,119 @@ alone code old new put = record {
   joined = put;
 }
 
--- what was put is of the operation that a view stands for
-put_known : (h : HeaderParts) (op known : Op) (old new : List ℕ) → op ≡ known → Admits h op
-    → (Admits h known → Appends (OpBytes h) known old new) → Appends (OpBytes h) op old new
-put_known h op known old new is admits put = subst (λ (o : Op). Appends (OpBytes h) o old new) (sym is) (put (subst (Admits h) is admits))
+-- whether the operands of an unknown standard operation are asked for
+abbrev IsListed : Coding → Type 0
+IsListed (Coding.unknown_standard k operands) = Unit {0}
+IsListed c = ⊥
 
-put_of : (order : Order) (size : ℕ) (view known : OpView) (old new : List ℕ) → view ≡ known
-    → ((h : HeaderParts) (op : Op) → h.order ≡ order → h.address_size ≡ size → StandsFor known op → Admits h (op_of known (operands_of op))
-    → Appends (OpBytes h) (op_of known (operands_of op)) old new)
+coded_alike : (view : OpView) (operands : List ℕ) → (IsListed (coding_of view) → ⊥) → coding (op_of view operands) ≡ coding_of view
+coded_alike (views.UnknownStandard j spelled) operands known = absurd (known tt)
+coded_alike view operands known = refl
+
+-- how an operation is coded that the view stands for
+is_coded : (view : OpView) (op : Op) (c : Coding) → StandsFor view op → coding_of view ≡ c → (IsListed c → ⊥) → coding op ≡ c
+is_coded view op c stands e known =
+    ap coding (is_op_of view op stands) ∙ coded_alike view (operands_of op) (λ listed. known (subst IsListed e listed)) ∙ e
+
+-- what was put is of the operation that is coded so
+of_coding : (h : HeaderParts) (op : Op) (c : Coding) (old new : List ℕ) → coding op ≡ c → Appends (CodingBytes h) c old new
+    → Appends (OpBytes h) op old new
+of_coding h op c old new is p =
+    put_as (CodingBytes h) (OpBytes h) c op old new (λ y t. subst (λ (d : Coding). CodingBytes h d y) (sym is) t)
+    (λ y t. subst (λ (d : Coding). CodingBytes h d y) is t) p
+
+view_put : (order : Order) (size : ℕ) (view : OpView) (c : Coding) (old new : List ℕ) → coding_of view ≡ c → (IsListed c → ⊥)
+    → ((h : HeaderParts) → h.order ≡ order → h.address_size ≡ size → AdmitsCoding h c → Appends (CodingBytes h) c old new)
     → AddsView order size view old new
-put_of order size view known old new is put = record {
+view_put order size view c old new e known put = record {
   adds = λ h op ordered sized stands admits.
-      let s : StandsFor known op = subst (λ (v : OpView). StandsFor v op) is stands in
-      put_known h op (op_of known (operands_of op)) old new (is_op_of known op s) admits (put h op ordered sized s);
+      let is : coding op ≡ c = is_coded view op c stands e known in
+      of_coding h op c old new is (put h ordered sized (subst (AdmitsCoding h) is admits));
 }
 
--- ---- standard operations, by how they are coded
-
--- how the operations that a view stands for are coded, but for the operands of an unknown standard one
-abbrev pub coded : OpView → Coding
-coded view = coding (op_of view [])
-
-coded_alike : (view : OpView) (operands : List ℕ) (k : ℕ) (taken : Operand) → coded view ≡ Coding.standard k taken
-    → coding (op_of view operands) ≡ Coding.standard k taken
-coded_alike (views.UnknownStandard j spelled) operands k taken e = absurd cc
-coded_alike view operands k taken e = e
-
-coded_as : {X : Type 0} (Spells : X → List ℕ → Type 0) (x : X) (h : HeaderParts) (k : ℕ) (taken : Operand) (op : Op) (old new : List ℕ)
-    → coding op ≡ Coding.standard k taken → ((y : List ℕ) → Spells x y → OperandBytes h taken y)
-    → ((y : List ℕ) → OperandBytes h taken y → Spells x y) → Admits h op → Appends (Coded k Spells) x old new
-    → Appends (OpBytes h) op old new
-coded_as Spells x h k taken op old new is to from admits p =
-    let low : k < h.opcode_base = subst (AdmitsCoding h) is admits in
-    put_as (Coded k Spells) (OpBytes h) x op old new
-    (λ y t.
-    let s : Standard h k (OperandBytes h taken) y = (
-      low,
-      record {
-        front = k ∷ [];
-        back = t.operand;
-        first = refl;
-        second = to t.operand t.spelled;
-        joined = t.joined;
-      },
-    ) in
-    subst (λ (c : Coding). CodingBytes h c y) (sym is) s)
-    (λ y t.
-    let s : Standard h k (OperandBytes h taken) y = subst (λ (c : Coding). CodingBytes h c y) is t in
-    record {
-      operand = s.1.back;
-      spelled = from s.1.back s.1.second;
-      joined = s.1.joined ∙ ap (λ (z : List ℕ). z ++ s.1.back) s.1.first;
+standard_as : {X : Type 0} (Spells : X → List ℕ → Type 0) (x : X) (h : HeaderParts) (k : ℕ) (c : Coding) (old new : List ℕ)
+    → ((y : List ℕ) → Standard h k (Spells x) y → CodingBytes h c y) → ((y : List ℕ) → CodingBytes h c y → Standard h k (Spells x) y)
+    → k < h.opcode_base → Appends (Coded k Spells) x old new → Appends (CodingBytes h) c old new
+standard_as Spells x h k c old new to from low p =
+    put_as (Coded k Spells) (CodingBytes h) x c old new
+    (λ y t. to y (low, record { front = k ∷ []; back = t.operand; first = refl; second = t.spelled; joined = t.joined }))
+    (λ y t. let s = (from y t).1 in record {
+      operand = s.back;
+      spelled = s.second;
+      joined = s.joined ∙ ap (λ (z : List ℕ). z ++ s.back) s.first;
     }) p
 
-view_put : (order : Order) (size : ℕ) (view : OpView) (k : ℕ) (taken : Operand) (old new : List ℕ) → coded view ≡ Coding.standard k taken
-    → ((h : HeaderParts) (op : Op) → h.order ≡ order → coding op ≡ Coding.standard k taken → Admits h op → Appends (OpBytes h) op old new)
-    → AddsView order size view old new
-view_put order size view k taken old new e put = record {
-  adds = λ h op ordered sized stands admits.
-      put h op ordered (ap coding (is_op_of view op stands) ∙ coded_alike view (operands_of op) k taken e) admits;
-}
+extended_as : {X : Type 0} (Spells : X → List ℕ → Type 0) (x : X) (h : HeaderParts) (code : ℕ) (c : Coding) (old new : List ℕ)
+    → ((y : List ℕ) → Extended code (Spells x) y → CodingBytes h c y) → ((y : List ℕ) → CodingBytes h c y → Extended code (Spells x) y)
+    → Appends (ExtendedCoded code Spells) x old new → Appends (CodingBytes h) c old new
+extended_as Spells x h code c old new to from p =
+    put_as (ExtendedCoded code Spells) (CodingBytes h) x c old new (λ y t. to y t.spelled) (λ y t. record { spelled = from y t }) p
 
-pub plain_put : (order : Order) (size : ℕ) (view : OpView) (k : ℕ) (old new : List ℕ) → coded view ≡ Coding.standard k Operand.bare
+pub special_put : (order : Order) (size : ℕ) (view : OpView) (c : ℕ) (old new : List ℕ) → coding_of view ≡ Coding.special c → c < 256
+    → new ≡ old ++ c ∷ [] → AddsView order size view old new
+special_put order size view c old new e low put =
+    view_put order size view (Coding.special c) old new e (λ listed. listed) (λ h o s a. record {
+      spelling = c ∷ [];
+      spelled = record { spelled = (a, low, refl); shortest = λ other q. omega (arith, ap length q.2) };
+      joined = put;
+    })
+
+pub plain_put : (order : Order) (size : ℕ) (view : OpView) (k : ℕ) (old new : List ℕ) → coding_of view ≡ Coding.standard k Operand.bare
     → new ≡ old ++ k ∷ [] → AddsView order size view old new
 plain_put order size view k old new e put =
-    view_put order size view k Operand.bare old new e
-    (λ h op o is a. coded_as Exactly [] h k Operand.bare op old new is (λ y t. t) (λ y t. t) a (alone k old new put))
+    view_put order size view (Coding.standard k Operand.bare) old new e (λ listed. listed)
+    (λ h o s a. standard_as Exactly [] h k (Coding.standard k Operand.bare) old new (λ y t. t) (λ y t. t) a (alone k old new put))
 
 pub unsigned_put : (order : Order) (size : ℕ) (view : OpView) (k n : ℕ) (old new : List ℕ)
-    → coded view ≡ Coding.standard k (Operand.unsigned n) → Appends (Coded k UnsignedLeb) n old new → AddsView order size view old new
+    → coding_of view ≡ Coding.standard k (Operand.unsigned n) → Appends (Coded k UnsignedLeb) n old new → AddsView order size view old new
 unsigned_put order size view k n old new e p =
-    view_put order size view k (Operand.unsigned n) old new e
-    (λ h op o is a. coded_as UnsignedLeb n h k (Operand.unsigned n) op old new is (λ y t. t) (λ y t. t) a p)
+    view_put order size view (Coding.standard k (Operand.unsigned n)) old new e (λ listed. listed)
+    (λ h o s a. standard_as UnsignedLeb n h k (Coding.standard k (Operand.unsigned n)) old new (λ y t. t) (λ y t. t) a p)
 
 pub signed_put : (order : Order) (size : ℕ) (view : OpView) (k : ℕ) (z : ℤ) (old new : List ℕ)
-    → coded view ≡ Coding.standard k (Operand.signed z) → Appends (Coded k SignedLeb) z old new → AddsView order size view old new
+    → coding_of view ≡ Coding.standard k (Operand.signed z) → Appends (Coded k SignedLeb) z old new → AddsView order size view old new
 signed_put order size view k z old new e p =
-    view_put order size view k (Operand.signed z) old new e
-    (λ h op o is a. coded_as SignedLeb z h k (Operand.signed z) op old new is (λ y t. t) (λ y t. t) a p)
+    view_put order size view (Coding.standard k (Operand.signed z)) old new e (λ listed. listed)
+    (λ h o s a. standard_as SignedLeb z h k (Coding.standard k (Operand.signed z)) old new (λ y t. t) (λ y t. t) a p)
 
-pub half_put : (order : Order) (size : ℕ) (view : OpView) (k n : ℕ) (old new : List ℕ) → coded view ≡ Coding.standard k (Operand.half n)
-    → Appends (Coded k (NumberBytes order 2)) n old new → AddsView order size view old new
+pub half_put : (order : Order) (size : ℕ) (view : OpView) (k n : ℕ) (old new : List ℕ)
+    → coding_of view ≡ Coding.standard k (Operand.half n) → Appends (Coded k (NumberBytes order 2)) n old new
+    → AddsView order size view old new
 half_put order size view k n old new e p =
-    view_put order size view k (Operand.half n) old new e
-    (λ h op o is a. coded_as (NumberBytes h.order 2) n h k (Operand.half n) op old new is (λ y t. t) (λ y t. t) a
+    view_put order size view (Coding.standard k (Operand.half n)) old new e (λ listed. listed)
+    (λ h o s a. standard_as (NumberBytes h.order 2) n h k (Coding.standard k (Operand.half n)) old new (λ y t. t) (λ y t. t) a
     (subst (λ (w : Order). Appends (Coded k (NumberBytes w 2)) n old new) (sym o) p))
 
--- ---- the others
+pub bare_extended_put : (order : Order) (size : ℕ) (view : OpView) (code : ℕ) (old new : List ℕ)
+    → coding_of view ≡ Coding.extended code → Appends (ExtendedCoded code Exactly) [] old new → AddsView order size view old new
+bare_extended_put order size view code old new e p =
+    view_put order size view (Coding.extended code) old new e (λ listed. listed)
+    (λ h o s a. extended_as Exactly [] h code (Coding.extended code) old new (λ y t. t) (λ y t. t) p)
+
+pub extended_number_put : (order : Order) (size : ℕ) (view : OpView) (code n : ℕ) (old new : List ℕ)
+    → coding_of view ≡ Coding.extended_number code n → Appends (ExtendedCoded code UnsignedLeb) n old new → AddsView order size view old new
+extended_number_put order size view code n old new e p =
+    view_put order size view (Coding.extended_number code n) old new e (λ listed. listed)
+    (λ h o s a. extended_as UnsignedLeb n h code (Coding.extended_number code n) old new (λ y t. t) (λ y t. t) p)
+
+pub extended_address_put : (order : Order) (size : ℕ) (view : OpView) (code address : ℕ) (old new : List ℕ)
+    → coding_of view ≡ Coding.extended_address code address → Appends (ExtendedCoded code (NumberBytes order size)) address old new
+    → AddsView order size view old new
+extended_address_put order size view code address old new e p =
+    view_put order size view (Coding.extended_address code address) old new e (λ listed. listed) (λ h o s a.
+    let here : Appends (ExtendedCoded code (NumberBytes h.order h.address_size)) address old new =
+    subst (λ (w : Order). Appends (ExtendedCoded code (NumberBytes w h.address_size)) address old new) (sym o)
+    (subst (λ (k : ℕ). Appends (ExtendedCoded code (NumberBytes order k)) address old new) (sym s) p) in
+    extended_as (NumberBytes h.order h.address_size) address h code (Coding.extended_address code address) old new (λ y t. t) (λ y t. t)
+    here)
+
+pub unknown_extended_put : (order : Order) (size : ℕ) (view : OpView) (code : ℕ) (bytes : Bor (List ℕ)) (old new : List ℕ)
+    → view ≡ views.UnknownExtended code bytes → code < 256 → Appends (ExtendedCoded code Exactly) bytes.now old new
+    → AddsView order size view old new
+unknown_extended_put order size view code bytes old new is low p =
+    let c = Coding.unknown_extended code bytes.now in
+    view_put order size view c old new (ap coding_of is) (λ listed. listed)
+    (λ h o s a. extended_as Exactly bytes.now h code c old new (λ y t. (a, low, t)) (λ y t. t.2) p)
 
 -- the operands of an unknown standard operation
 are_operands : (k : ℕ) (operands : Operands) (op : Op) → StandsFor (views.UnknownStandard k operands) op
@@ -358,39 +362,26 @@ are_operands k operands op p = absurd p
 
 pub unknown_standard_put : (order : Order) (size : ℕ) (view : OpView) (k : ℕ) (operands : Operands) (old new : List ℕ)
     → view ≡ views.UnknownStandard k operands → AddsOperands k operands old new → AddsView order size view old new
-unknown_standard_put order size view k operands old new is p =
-    put_of order size view (views.UnknownStandard k operands) old new is
-    (λ h op o s stands a.
-    let numbers = operands_of op in
-    standard_as (Each UnsignedLeb) h k numbers (UnknownStandard k numbers) old new (λ y t. (a.0, a.2, t)) (λ y t. t.2) a.1
-    (p.adds numbers (are_operands k operands op stands)))
+unknown_standard_put order size view k operands old new is p = record {
+  adds = λ h op ordered sized stands admits.
+      let s : StandsFor (views.UnknownStandard k operands) op = subst (λ (v : OpView). StandsFor v op) is stands in
+      let numbers = operands_of op in
+      let c = Coding.unknown_standard k numbers in
+      let coded : coding op ≡ c = ap coding (is_op_of (views.UnknownStandard k operands) op s) in
+      let a : AdmitsCoding h c = subst (AdmitsCoding h) coded admits in
+      of_coding h op c old new coded
+      (standard_as (Each UnsignedLeb) numbers h k c old new (λ y t. (a.0, a.2, t)) (λ y t. t.2) a.1
+      (p.adds numbers (are_operands k operands op s)));
+}
 
-address_as : (h : HeaderParts) (order : Order) (size address : ℕ) (old new : List ℕ) → h.order ≡ order → h.address_size ≡ size
-    → Appends (ExtendedCoded 2 (NumberBytes order size)) address old new → Appends (OpBytes h) (SetAddress address) old new
-address_as h order size address old new o s p =
-    let here : Appends (ExtendedCoded 2 (NumberBytes h.order h.address_size)) address old new =
-    subst (λ (w : Order). Appends (ExtendedCoded 2 (NumberBytes w h.address_size)) address old new) (sym o)
-    (subst (λ (k : ℕ). Appends (ExtendedCoded 2 (NumberBytes order k)) address old new) (sym s) p) in
-    extended_as (NumberBytes h.order h.address_size) h 2 address (SetAddress address) old new (λ y t. t) (λ y t. t) here
-
-pub set_address_put : (order : Order) (size : ℕ) (view : OpView) (address : ℕ) (old new : List ℕ) → view ≡ views.SetAddress address
-    → Appends (ExtendedCoded 2 (NumberBytes order size)) address old new → AddsView order size view old new
-set_address_put order size view address old new is p =
-    put_of order size view (views.SetAddress address) old new is (λ h op o s stands a. address_as h order size address old new o s p)
-
-pub set_discriminator_put : (order : Order) (size : ℕ) (view : OpView) (n : ℕ) (old new : List ℕ) → view ≡ views.SetDiscriminator n
-    → Appends (ExtendedCoded 4 UnsignedLeb) n old new → AddsView order size view old new
-set_discriminator_put order size view n old new is p =
-    put_of order size view (views.SetDiscriminator n) old new is
-    (λ h op o s stands a. extended_as UnsignedLeb h 4 n (SetDiscriminator n) old new (λ y t. t) (λ y t. t) p)
-
-pub unknown_extended_put : (order : Order) (size : ℕ) (view : OpView) (code : ℕ) (bytes : Bor (List ℕ)) (old new : List ℕ)
-    → view ≡ views.UnknownExtended code bytes → code < 256 → Appends (ExtendedCoded code Exactly) bytes.now old new
-    → AddsView order size view old new
-unknown_extended_put order size view code bytes old new is low p =
-    put_of order size view (views.UnknownExtended code bytes) old new is
-    (λ h op o s stands a. extended_as Exactly h code bytes.now (UnknownExtended code bytes.now) old new (λ y t. (a.0, a.1, a.2, low, t))
-    (λ y t. t.4) p)
+-- the operation's address is one of those of the size
+pub address_fits : (size : ℕ) (view : OpView) (code address : ℕ) → IsOpOf size view
+    → coding_of view ≡ Coding.extended_address code address → address < 256 ^ size
+address_fits size view code address v e =
+    let c = Coding.extended_address code address in
+    let admits : address < 256 ^ v.header.address_size = subst (AdmitsCoding v.header) (is_coded view v.op c v.stands e (λ listed. listed))
+    v.admitted in
+    subst (λ (s : ℕ). address < 256 ^ s) v.size_is admits
 
 -- ---- what a view is of
 

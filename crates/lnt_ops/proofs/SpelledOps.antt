@@ -19,6 +19,7 @@ use Rattle.lnt_ops.specs.Laws.{AllowedOpsAreSpelled}
 use Rattle.lnt_ops.specs.OpBytes.{CodingBytes, Extended, OpBytes, OperandBytes, Standard}
 use Rattle.lnt_ops.specs.Spelled.{FitsCoding, FitsOp, FitsOperand}
 use Rattle.lnt_ops.proofs.LebSizes.{at_most_ten, shortest_of_less}
+use Rattle.lnt_ops.proofs.OpLaws.{op_allowed}
 
 -- ---- bytes of a kind than which none of the kind are fewer
 
@@ -149,7 +150,7 @@ least_coding law h (Coding.extended_address code address) numbers admits fits =
 least_coding law h (Coding.unknown_extended code operand) numbers admits fits =
     let one = least_extended law code (Exactly operand) (least_exactly operand)
     (omega (arith, fits.1, ap length (least_exactly operand).is)) in
-    record { bytes = one.bytes; is = (admits.0, admits.1, admits.2, omega (arith, fits.0), one.is); least = λ other p. one.least other p.4 }
+    record { bytes = one.bytes; is = (admits, omega (arith, fits.0), one.is); least = λ other p. one.least other p.2 }
 
 op_spelled : wire.SpelledValues → (h : HeaderParts) (op : Op) → HasHeaderNumbers h → Admits h op → FitsOp op → HasShortest (OpBytes h) op
 op_spelled law h op numbers admits fits = shortest_of (OpBytes h) op (least_coding law h (coding op) numbers admits fits)
@@ -161,43 +162,6 @@ ops_spelled law h (op ∷ ops) numbers admits fits =
     (op_spelled law h op numbers admits.0 fits.0, ops_spelled law h ops numbers admits.1 fits.1)
 
 -- ---- what is spelled
-
-numbers_fit : (numbers : List ℕ) (x : List ℕ) → Each UnsignedLeb numbers x → AllByRecursion (λ n. n < 2 ^ 64) numbers
-numbers_fit [] x p = tt
-numbers_fit (n ∷ numbers) x p = (p.first.fits, numbers_fit numbers p.back p.second)
-
-operand_fits : (h : HeaderParts) (operand : Operand) (x : List ℕ) → OperandBytes h operand x → FitsOperand operand
-operand_fits h Operand.bare x p = tt
-operand_fits h (Operand.unsigned n) x p = p.fits
-operand_fits h (Operand.signed z) x p = p.fits
-operand_fits h (Operand.half n) x p = omega (arith, p.fits)
-
-coding_allowed : (h : HeaderParts) (c : Coding) (x : List ℕ) → CodingBytes h c x → AdmitsCoding h c × FitsCoding c
-coding_allowed h (Coding.special c) x p = (p.0, omega (arith, p.1))
-coding_allowed h (Coding.standard k operand) x p = (p.0, operand_fits h operand p.1.back p.1.second)
-coding_allowed h (Coding.unknown_standard k operands) x p = ((p.0, p.2.0, p.1), numbers_fit operands p.2.1.back p.2.1.second)
-coding_allowed h (Coding.extended code) x p = (tt, tt)
-coding_allowed h (Coding.extended_number code n) x p = (tt, p.1.second.fits)
-coding_allowed h (Coding.extended_address code address) x p = (p.1.second.fits, tt)
-coding_allowed h (Coding.unknown_extended code operand) x p =
-    let body = p.4.1 in (
-      (p.0, p.1, p.2),
-      (
-        omega (arith, p.3),
-        omega (
-          arith,
-          p.4.2.second.first.fits,
-          ap length body.joined,
-          length-append body.front body.back,
-          ap length body.first,
-          ap length
-              body.second,
-        ),
-      ),
-    )
-
-op_allowed : (h : HeaderParts) (op : Op) (x : List ℕ) → OpBytes h op x → Admits h op × FitsOp op
-op_allowed h op x p = coding_allowed h (coding op) x p
 
 ops_allowed : (h : HeaderParts) (ops : List Op) (x : List ℕ) → Each (OpBytes h) ops x → AllByRecursion (Admits h) ops
     × AllByRecursion FitsOp ops

@@ -1,5 +1,5 @@
 -- The operands of standard operations.
-use Rattle.std.proofs.Common.{◌≡◌, ℕ, ◌+◌, ◌*◌, ◌<◌, List, [], ◌∷◌, ◌++◌, refl, sym, ap, subst, ◌∙◌, add-zero, arith, inl, inr}
+use Rattle.std.proofs.Common.{◌≡◌, ℕ, ◌+◌, ◌*◌, ◌<◌, List, [], ◌∷◌, ◌++◌, refl, sym, ap, subst, ◌∙◌, add-zero, arith}
 use Rattle.std.specs.Prelude.{ℤ}
 use Rattle.lnt_wire.specs.At.{At}
 use Rattle.lnt_wire.specs.Bytes.{Exactly, Then}
@@ -13,10 +13,11 @@ use Rattle.lnt_header.specs.declared.header.HeaderParts.{HeaderParts}
 use Rattle.lnt_header.specs.declared.op.Op.{Op}
 use Rattle.lnt_header.specs.declared.op.Op.TheVariants as ops
 use Rattle.lnt_header.specs.declared.op.OpView.TheVariants as views
+use Rattle.lnt_header.specs.OpRules.{following}
 use Rattle.lnt_header.proofs.ReaderLaws.{reads_map}
 use Rattle.lnt_ops.proofs.OpLaws.{tag, standard_tag}
 use Rattle.lnt_ops.specs.OpBytes.{Standard, OpBytes}
-use Rattle.lnt_ops.specs.OpFaults.{following, IsFirstFault}
+use Rattle.lnt_ops.specs.OpFaults.{IsFirstFault}
 use Rattle.lnt_ops.specs.OpFaults.IsFirstFault.{unsigned_operand, signed_operand, fixed_operand}
 use Rattle.lnt_ops.specs.OpSteps.{BytesAfter, IsFaultAfter, GivesAfter}
 
@@ -214,7 +215,7 @@ pub refuses_advance_line : (h : HeaderParts) (k : ℕ) (old : At) (fault : Fault
     → Refuses (IsFaultAfter h k) (BytesAfter h k) old fault
 refuses_advance_line h k old fault e lt r =
     operand_refused SignedLeb h k 3 old fault e (omega arith) lt (operand_3 h)
-    (λ p. signed_operand (omega (arith, e, lt)) (ap (λ (i : ℕ). i ∷ []) e) p) r
+    (λ p. signed_operand k (ap following e) lt refl p) r
 
 pub refuses_set_file : (h : HeaderParts) (k : ℕ) (old : At) (fault : Fault) → k ≡ 4 → k < h.opcode_base
     → RefusesField (IsLebFault IsLargeUnsigned) UnsignedLeb old fault
@@ -235,7 +236,7 @@ refuses_fixed_advance_pc h k old fault e lt order r =
     let s : RefusesField (IsCutShort 2) (NumberBytes h.order 2) old fault = subst
     (λ (o : Order). RefusesField (IsCutShort 2) (NumberBytes o 2) old fault) order r in
     operand_refused (NumberBytes h.order 2) h k 9 old fault e (omega arith) lt (operand_9 h)
-    (λ p. fixed_operand p.reason_is (omega (arith, e, lt)) (ap (λ (i : ℕ). i ∷ []) e) p.short) s
+    (λ p. fixed_operand k p.reason_is (ap following e) lt refl p.short) s
 
 pub refuses_set_isa : (h : HeaderParts) (k : ℕ) (old : At) (fault : Fault) → k ≡ 12 → k < h.opcode_base
     → RefusesField (IsLebFault IsLargeUnsigned) UnsignedLeb old fault

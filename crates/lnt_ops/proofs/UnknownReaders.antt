@@ -1,5 +1,5 @@
--- The operands of standard operations from 13 on.
-use Rattle.std.proofs.Common.{◌≡◌, ℕ, ◌+◌, ◌-◌, ◌*◌, ◌<◌, ◌≤◌, List, [], ◌∷◌, ◌++◌, length, take, refl, sym, ap, subst, ◌∙◌, arith}
+-- The operands of unknown standard operations.
+use Rattle.std.proofs.Common.{◌≡◌, ℕ, ◌+◌, ◌-◌, ◌*◌, ◌<◌, List, [], ◌∷◌, ◌++◌, length, take, refl, sym, ap, subst, ◌∙◌, arith}
 use Rattle.std.proofs.Math.Seq.{take-append_seam}
 use Rattle.std.proofs.lemmas.List.{length-append}
 use Rattle.lnt_wire.specs.At.{At}
@@ -14,7 +14,7 @@ use Rattle.lnt_header.specs.declared.op.OpView.{OpView}
 use Rattle.lnt_header.specs.HeaderRules.{IsHeader}
 use Rattle.lnt_header.specs.Joins.{Each, Several}
 use Rattle.lnt_header.proofs.ReaderLaws.{any_local, nothing_asked, moved_field, reads_none, reads_more, refuses_more, reads_map}
-use Rattle.lnt_header.specs.OpRules.{standard_length, StandsFor}
+use Rattle.lnt_header.specs.OpRules.{last_known, standard_length, StandsFor}
 use Rattle.lnt_ops.proofs.StandardReaders.{standard, after_byte}
 use Rattle.lnt_ops.proofs.OpLaws.{tag, standard_tag}
 use Rattle.lnt_ops.specs.OpBytes.{OpBytes}
@@ -47,10 +47,10 @@ refuses_operands n count old middle fault p lt r =
 -- ---- the operation
 
 -- the header says how many operands it has
-pub opcode_there : (h : HeaderParts) (k : ℕ) → IsHeader h → 13 ≤ k → k < h.opcode_base → k - 1 < length h.standard_lengths
+pub opcode_there : (h : HeaderParts) (k : ℕ) → IsHeader h → last_known < k → k < h.opcode_base → k - 1 < length h.standard_lengths
 opcode_there h k header some lt = omega (arith, header.numbers.opcode_base, some, lt)
 
-pub gives_unknown : (h : HeaderParts) (k count : ℕ) (view : OpView) (old new : At) → 13 ≤ k → k < h.opcode_base
+pub gives_unknown : (h : HeaderParts) (k count : ℕ) (view : OpView) (old new : At) → last_known < k → k < h.opcode_base
     → count ≡ standard_length h k → PassesOperands count old new
     → ((operands : List ℕ) → Each UnsignedLeb operands (take (length old.rest - length new.rest) old.rest)
     → StandsFor view (ops.UnknownStandard k operands)) → GivesAfter h k view old new
@@ -70,14 +70,15 @@ gives_unknown h k count view old new some lt counted p stands =
           (λ y q. record { whole = (some, several, standard h k k (Each UnsignedLeb p.operands) y refl lt q) }) r;
     }
 
-unknown_operands : (h : HeaderParts) (op : Op) (k : ℕ) (y : List ℕ) → 13 ≤ k → tag op ≡ 2 * k + 1 → OpBytes h op (k ∷ y)
+unknown_operands : (h : HeaderParts) (op : Op) (k : ℕ) (y : List ℕ) → last_known < k → tag op ≡ 2 * k + 1 → OpBytes h op (k ∷ y)
     → (operands : List ℕ) × Several (standard_length h k) UnsignedLeb operands y
 unknown_operands h (ops.UnknownStandard j operands) k y some t p =
     let same : j ≡ k = omega arith in
     (operands, (p.1 ∙ ap (standard_length h) same, after_byte k j (Each UnsignedLeb operands) y p.2.1))
 unknown_operands h op k y some t p = absurd (omega arith)
 
-pub refuses_unknown : (h : HeaderParts) (k count : ℕ) (old : At) (fault : Fault) → 13 ≤ k → k < h.opcode_base → count ≡ standard_length h k
+pub refuses_unknown : (h : HeaderParts) (k count : ℕ) (old : At) (fault : Fault) → last_known < k → k < h.opcode_base
+    → count ≡ standard_length h k
     → Refuses (IsOperandFault count) (Several count UnsignedLeb) old fault → Refuses (IsFaultAfter h k) (BytesAfter h k) old fault
 refuses_unknown h k count old fault some lt counted r = record {
   before = r.before;

@@ -1,12 +1,12 @@
 -- The operations of a line number program (DWARF 5, sections 6.2.5 and 7.22).
-use Rattle.std.specs.Prelude.{◌≡◌, ◌≢◌, ℕ, ◌<◌, ◌≤◌, List, [], ◌∷◌, length}
+use Rattle.std.specs.Prelude.{◌≡◌, ℕ, ◌<◌, ◌≤◌, List, [], ◌∷◌, length}
 use Rattle.lnt_wire.specs.Bytes.{Exactly, ◌⨾◌}
 use Rattle.lnt_wire.specs.Leb128.{UnsignedLeb, SignedLeb}
 use Rattle.lnt_wire.specs.Numbers.{NumberBytes}
 use Rattle.lnt_header.specs.declared.header.HeaderParts.{HeaderParts}
 use Rattle.lnt_header.specs.declared.op.Op.{Op}
 use Rattle.lnt_header.specs.Joins.{Each}
-use Rattle.lnt_header.specs.OpRules.{Coding, coding, Operand, standard_length}
+use Rattle.lnt_header.specs.OpRules.{Coding, coding, IsUnknownCode, last_known, Operand, standard_length}
 use Rattle.lnt_header.specs.OpRules.Coding.{special, standard, unknown_standard, extended, extended_number, extended_address}
 use Rattle.lnt_header.specs.OpRules.Coding.{unknown_extended}
 use Rattle.lnt_header.specs.OpRules.Operand.{bare, unsigned, signed, half}
@@ -32,12 +32,12 @@ abbrev pub CodingBytes : HeaderParts → Coding → List ℕ → Type 0
 CodingBytes h (special c) bytes = (h.opcode_base ≤ c) × (c < 256) × (bytes ≡ c ∷ [])
 CodingBytes h (standard k operand) bytes = Standard h k (OperandBytes h operand) bytes
 CodingBytes h (unknown_standard k operands) bytes =
-    (13 ≤ k) × (length operands ≡ standard_length h k) × Standard h k (Each UnsignedLeb operands) bytes
+    (last_known < k) × (length operands ≡ standard_length h k) × Standard h k (Each UnsignedLeb operands) bytes
 CodingBytes h (extended code) bytes = Extended code (Exactly []) bytes
 CodingBytes h (extended_number code n) bytes = Extended code (UnsignedLeb n) bytes
 CodingBytes h (extended_address code address) bytes = Extended code (NumberBytes h.order h.address_size address) bytes
 CodingBytes h (unknown_extended code operand) bytes =
-    (code ≢ 1) × (code ≢ 2) × (code ≢ 4) × (code < 256) × Extended code (Exactly operand) bytes
+    IsUnknownCode code × (code < 256) × Extended code (Exactly operand) bytes
 
 -- The bytes of an operation in a unit with this header.
 abbrev pub OpBytes : HeaderParts → Op → List ℕ → Type 0

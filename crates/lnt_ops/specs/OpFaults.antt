@@ -1,14 +1,16 @@
 -- What is wrong where no operation begins some bytes (DWARF 5, section 6.2.5).
 --     before   the bytes up to the place of the fault
 --     left     the bytes from the place on, up to the end of the program
-use Rattle.std.specs.Prelude.{◌≡◌, ℕ, ◌+◌, ◌<◌, ◌≤◌, List, [], ◌∷◌, ◌++◌, get_or, length}
+use Rattle.std.specs.Prelude.{◌≡◌, ℕ, ◌+◌, ◌<◌, List, [], ◌∷◌, ◌++◌, length}
 use Rattle.lnt_wire.specs.declared.fault.Reason.{Reason}
 use Rattle.lnt_wire.specs.declared.fault.Reason.TheVariants.{Truncated, LebTooLarge, ExtendedLength}
 use Rattle.lnt_wire.specs.Leb128.{IsLeb, UnsignedLeb, IsLargeUnsigned, IsLargeSigned, IsLebFault}
 use Rattle.lnt_header.specs.declared.header.HeaderParts.{HeaderParts}
 use Rattle.lnt_header.specs.FieldFaults.{IsCutField, IsLargeLeb, IsWrongLength}
 use Rattle.lnt_header.specs.Joins.{Each}
-use Rattle.lnt_header.specs.OpRules.{standard_length}
+use Rattle.lnt_header.specs.OpRules.{following, last_known, standard_length, taken_by}
+use Rattle.lnt_header.specs.OpRules.Following.{one_signed, one_unsigned, two_bytes}
+use Rattle.lnt_header.specs.OpRules.Taken.{takes_number}
 
 -- A field is cut, a number is out of range, or a length after a zero byte is none that its operation fills.
 pub data IsOpFault (address_size : ℕ) (reason : Reason) (before left : List ℕ) : Type 0 where
@@ -17,33 +19,21 @@ pub data IsOpFault (address_size : ℕ) (reason : Reason) (before left : List �
   wrong_length : (earlier : List ℕ) → reason ≡ ExtendedLength → before ≡ earlier ++ 0 ∷ [] → IsWrongLength address_size left
       → IsOpFault address_size reason before left
 
--- what follows an opcode that isn't special: a length and as many bytes, a number, nothing, or as many numbers as the header lists
-pub data Following : Type 0 where
-  counted : Following
-  unsigned : Following
-  signed : Following
-  fixed : Following
-  bare : Following
-  listed : Following
-
--- the opcodes from 0 on, and those from 13 on
-abbrev pub following : ℕ → Following
-following code =
-    get_or (counted ∷ bare ∷ unsigned ∷ signed ∷ unsigned ∷ unsigned ∷ bare ∷ bare ∷ bare ∷ fixed ∷ bare ∷ bare ∷ unsigned ∷ []) code listed
-
--- the standard opcodes up to 12 with an unsigned LEB128 as operand
-abbrev pub TakesUnsigned : ℕ → Type 0
-TakesUnsigned k = following k ≡ unsigned
+-- Before the number of an extended operation stand a zero byte, the length, and a code that takes a number.
+abbrev pub IsBeforeNumber : List ℕ → List ℕ → Type 0
+IsBeforeNumber spelling before = (code : ℕ) × (taken_by code ≡ takes_number) × (before ≡ 0 ∷ (spelling ++ code ∷ []))
 
 -- The first field of an operation that isn't there, by the fields of the operation before it. Where the bytes that a length
 -- counts are all there, they are judged as one.
 pub data IsFirstFault (h : HeaderParts) (reason : Reason) (before left : List ℕ) : Type 0 where
   no_opcode : reason ≡ Truncated → before ≡ [] → left ≡ [] → IsFirstFault h reason before left
-  unsigned_operand : (k : ℕ) → TakesUnsigned k → k < h.opcode_base → before ≡ k ∷ [] → IsLebFault IsLargeUnsigned reason left
+  unsigned_operand : (k : ℕ) → following k ≡ one_unsigned → k < h.opcode_base → before ≡ k ∷ [] → IsLebFault IsLargeUnsigned reason left
       → IsFirstFault h reason before left
-  signed_operand : 3 < h.opcode_base → before ≡ 3 ∷ [] → IsLebFault IsLargeSigned reason left → IsFirstFault h reason before left
-  fixed_operand : reason ≡ Truncated → 9 < h.opcode_base → before ≡ 9 ∷ [] → length left < 2 → IsFirstFault h reason before left
-  unknown_operand : (k : ℕ) (operands spelling : List ℕ) → 13 ≤ k → k < h.opcode_base → Each UnsignedLeb operands spelling
+  signed_operand : (k : ℕ) → following k ≡ one_signed → k < h.opcode_base → before ≡ k ∷ [] → IsLebFault IsLargeSigned reason left
+      → IsFirstFault h reason before left
+  fixed_operand : (k : ℕ) → reason ≡ Truncated → following k ≡ two_bytes → k < h.opcode_base → before ≡ k ∷ [] → length left < 2
+      → IsFirstFault h reason before left
+  unknown_operand : (k : ℕ) (operands spelling : List ℕ) → last_known < k → k < h.opcode_base → Each UnsignedLeb operands spelling
       → length operands < standard_length h k → before ≡ k ∷ spelling
       → IsLebFault IsLargeUnsigned reason left → IsFirstFault h reason before left
   no_length : before ≡ 0 ∷ [] → IsLebFault IsLargeUnsigned reason left → IsFirstFault h reason before left
@@ -51,5 +41,5 @@ pub data IsFirstFault (h : HeaderParts) (reason : Reason) (before left : List �
       → IsFirstFault h reason before left
   wrong_counted : reason ≡ ExtendedLength → before ≡ 0 ∷ [] → IsWrongLength h.address_size left → IsFirstFault h reason before left
   large_counted : (spelling operand rest : List ℕ) → reason ≡ LebTooLarge → UnsignedLeb (length operand + 1) spelling
-      → before ≡ 0 ∷ (spelling ++ 4 ∷ []) → left ≡ operand ++ rest → IsLeb operand
+      → IsBeforeNumber spelling before → left ≡ operand ++ rest → IsLeb operand
       → IsLargeUnsigned operand → IsFirstFault h reason before left

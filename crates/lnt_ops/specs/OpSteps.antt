@@ -1,5 +1,5 @@
 -- What the steps of reading an operation have found.
-use Rattle.std.specs.Prelude.{◌≡◌, ◌≢◌, ℕ, ◌+◌, ◌<◌, List, [], ◌∷◌, length}
+use Rattle.std.specs.Prelude.{◌≡◌, ℕ, ◌+◌, ◌<◌, List, [], ◌∷◌, length}
 use Rattle.lnt_wire.specs.At.{At}
 use Rattle.lnt_wire.specs.Bytes.{Exactly, ◌⨾◌}
 use Rattle.lnt_wire.specs.declared.fault.Fault.{Fault}
@@ -10,11 +10,12 @@ use Rattle.lnt_wire.specs.Numbers.{NumberBytes}
 use Rattle.lnt_wire.specs.Reading.{Reads}
 use Rattle.lnt_header.specs.declared.header.HeaderParts.{HeaderParts}
 use Rattle.lnt_header.specs.declared.op.Op.{Op}
-use Rattle.lnt_header.specs.declared.op.Op.TheVariants.{EndSequence, SetAddress, SetDiscriminator, UnknownExtended}
 use Rattle.lnt_header.specs.declared.op.OpView.{OpView}
 use Rattle.lnt_header.specs.FieldFaults.{IsWrongOperand}
 use Rattle.lnt_header.specs.Joins.{Each}
-use Rattle.lnt_header.specs.OpRules.{Admits, StandsFor}
+use Rattle.lnt_header.specs.OpRules.{Admits, Coding, coding, FitsTaken, IsUnknownCode, StandsFor, taken_by}
+use Rattle.lnt_header.specs.OpRules.Coding.{extended, extended_number, extended_address, unknown_extended}
+use Rattle.lnt_header.specs.OpRules.Taken.{takes_number}
 use Rattle.lnt_ops.specs.OpBytes.{OpBytes}
 use Rattle.lnt_ops.specs.OpFaults.{IsFirstFault}
 
@@ -51,32 +52,39 @@ pub record IsOperandFault (count : ℕ) (reason : Reason) (before left : List �
 -- ---- extended operations
 
 -- the bytes that the length of an extended operation counts: a code and its operand
-abbrev pub CountedBytes : HeaderParts → Op → List ℕ → Type 0
-CountedBytes h EndSequence bytes = (Exactly (1 ∷ []) ⨾ Exactly []) bytes
-CountedBytes h (SetAddress address) bytes = (Exactly (2 ∷ []) ⨾ NumberBytes h.order h.address_size address) bytes
-CountedBytes h (SetDiscriminator n) bytes = (Exactly (4 ∷ []) ⨾ UnsignedLeb n) bytes
-CountedBytes h (UnknownExtended code operand) bytes =
-    (code ≢ 1) × (code ≢ 2) × (code ≢ 4) × (code < 256) × (Exactly (code ∷ []) ⨾ Exactly operand) bytes
-CountedBytes h op bytes = ⊥
+abbrev pub CountedBytes : HeaderParts → Coding → List ℕ → Type 0
+CountedBytes h (extended code) bytes = (Exactly (code ∷ []) ⨾ Exactly []) bytes
+CountedBytes h (extended_number code n) bytes = (Exactly (code ∷ []) ⨾ UnsignedLeb n) bytes
+CountedBytes h (extended_address code address) bytes = (Exactly (code ∷ []) ⨾ NumberBytes h.order h.address_size address) bytes
+CountedBytes h (unknown_extended code operand) bytes = IsUnknownCode code × (code < 256) × (Exactly (code ∷ []) ⨾ Exactly operand) bytes
+CountedBytes h c bytes = ⊥
 
 -- a code, and an operand that fits it in length and shape
 abbrev pub IsRightOperand : ℕ → List ℕ → Type 0
 IsRightOperand address_size [] = ⊥
-IsRightOperand address_size (code ∷ operand) =
-    (code ≡ 1 → operand ≡ []) × (code ≡ 2 → length operand ≡ address_size) × (code ≡ 4 → IsLeb operand)
+IsRightOperand address_size (code ∷ operand) = FitsTaken address_size (taken_by code) operand
 
 -- an operation by the bytes that its length counts
 pub record GivesCounted (h : HeaderParts) (view : OpView) (bytes : List ℕ) : Type 0 where
   pub op : Op
   pub stands : StandsFor view op
   pub admitted : Admits h op
-  pub spelled : CountedBytes h op bytes
+  pub spelled : CountedBytes h (coding op) bytes
+
+-- The bytes, which stand at the place `start`, are a code that takes a number, and a whole number that is out of range.
+pub record IsLargeNumber (start : ℕ) (fault : Fault) (bytes : List ℕ) : Type 0 where
+  pub code : ℕ
+  pub operand : List ℕ
+  pub reason_is : fault.reason ≡ LebTooLarge
+  pub place_is : fault.place ≡ start + 1
+  pub takes : taken_by code ≡ takes_number
+  pub joined : bytes ≡ code ∷ operand
+  pub whole : IsLeb operand
+  pub large : IsLargeUnsigned operand
 
 -- The bytes that a length counts, from the place `start` on, are no operation: they don't fit the length, which stands at its own
--- place, or they are a discriminator that is out of range.
+-- place, or their number is out of range.
 pub data IsCountedFault (address_size length_place start : ℕ) (fault : Fault) (bytes : List ℕ) : Type 0 where
   wrong_operand : fault.reason ≡ ExtendedLength → fault.place ≡ length_place → IsWrongOperand address_size bytes
       → IsCountedFault address_size length_place start fault bytes
-  large_discriminator : (operand : List ℕ) → fault.reason ≡ LebTooLarge → fault.place ≡ start + 1 → bytes ≡ 4 ∷ operand → IsLeb operand
-      → IsLargeUnsigned operand
-      → IsCountedFault address_size length_place start fault bytes
+  large_number : IsLargeNumber start fault bytes → IsCountedFault address_size length_place start fault bytes

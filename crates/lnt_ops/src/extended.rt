@@ -1,10 +1,13 @@
 //! Extended operations (DWARF 5, section 6.2.5.3).
-ghost use Rattle.std.specs.Prelude.{◌≡◌, ◌↔◌, ◌+◌, ◌^◌, ◌<◌, length, IfOk, IfErr, OnErr, IsTrue, MatchBool};
-ghost use Rattle.lnt_wire.specs.Leb128.{IsLeb};
+ghost use Rattle.std.specs.Prelude.{◌≡◌, ◌↔◌, ◌+◌, ◌^◌, ◌<◌, drop, get_or, length, IfOk, IfErr, OnErr, IsTrue, MatchBool};
+ghost use Rattle.lnt_wire.specs.Leb128.{IsLeb, UnsignedLeb};
 ghost use Rattle.lnt_wire.specs.Numbers.{NumberBytes};
 ghost use Rattle.lnt_wire.specs.Reading.{Refuses};
 ghost use Rattle.lnt_header.specs.FieldFaults.{IsWrongOperand};
+ghost use Rattle.lnt_header.specs.OpRules.{taken_by};
+ghost use Rattle.lnt_header.specs.OpRules.Taken.{takes_number};
 ghost use Rattle.lnt_ops.specs.OpSteps.{BytesAfter, IsFaultAfter, GivesAfter, IsRightOperand, GivesCounted, IsCountedFault};
+ghost use Rattle.lnt_ops.specs.OpSteps.{IsLargeNumber};
 
 use lnt_header::{Header, OpView};
 use lnt_wire::{Cursor, Fault, Reason};
@@ -29,7 +32,7 @@ pub(crate) fn read_extended<'a>(
 
 // The operation of these bytes, a code and its operand, which stand at the offset `start` of the section. `length_place` is
 // that of their length.
-#[tactic(auto, using(crate::proofs::ExtendedReaders::address_whole, crate::proofs::ExtendedReaders::gives_end, crate::proofs::ExtendedReaders::gives_address, crate::proofs::ExtendedReaders::gives_discriminator, crate::proofs::ExtendedReaders::gives_other, crate::proofs::ExtendedReaders::refuses_discriminator))]
+#[tactic(auto, using(crate::proofs::ExtendedReaders::address_whole, crate::proofs::ExtendedReaders::gives_end, crate::proofs::ExtendedReaders::gives_address, crate::proofs::ExtendedReaders::gives_discriminator, crate::proofs::ExtendedReaders::gives_other, crate::proofs::ExtendedReaders::takes_discriminator, crate::proofs::ExtendedReaders::number_is_fault))]
 fn read_counted<'a>(
     bytes: &'a [u8],
     length_place: u64,
@@ -40,26 +43,28 @@ fn read_counted<'a>(
     ensures ok { IfOk result (λ view. GivesCounted header.now view bytes.now) }
     ensures err { IfErr result (λ fault. IsCountedFault header.now.address_size length_place start fault bytes.now) }
 {
-    if !has_right_operand(bytes, header.address_size()) {
+    if !has_right_operand(bytes, header) {
         return Err(Fault {
             place: length_place,
             reason: Reason::ExtendedLength,
         });
     }
     let (_, operand) = bytes.split_at(1);
-    let mut cursor = Cursor::new(operand, start + 1, header.order());
     match bytes[0] {
         1 => Ok(OpView::EndSequence),
-        2 => Ok(OpView::SetAddress(read_address(&mut cursor, header)?)),
-        4 => Ok(OpView::SetDiscriminator(cursor.uleb()?)),
+        2 => {
+            let mut cursor = Cursor::new(operand, start + 1, header.order());
+            Ok(OpView::SetAddress(read_address(&mut cursor, header)?))
+        }
+        4 => Ok(OpView::SetDiscriminator(read_number(bytes, start, header)?)),
         code => Ok(OpView::UnknownExtended(code, operand)),
     }
 }
 
 // Whether these bytes are a code and an operand that fits it in length and shape.
-#[tactic(auto, using(crate::proofs::ExtendedReaders::right_operand, crate::proofs::ExtendedReaders::wrong_end, crate::proofs::ExtendedReaders::wrong_address, crate::proofs::ExtendedReaders::wrong_discriminator, crate::proofs::ExtendedReaders::no_code))]
-fn has_right_operand(bytes: &[u8], address_size: u8) -> bool
-    ensures { MatchBool result (IsRightOperand address_size bytes.now) (IsWrongOperand address_size bytes.now) }
+#[tactic(auto, using(crate::proofs::ExtendedReaders::right_end, crate::proofs::ExtendedReaders::right_address, crate::proofs::ExtendedReaders::right_discriminator, crate::proofs::ExtendedReaders::right_other, crate::proofs::ExtendedReaders::wrong_end, crate::proofs::ExtendedReaders::wrong_address, crate::proofs::ExtendedReaders::wrong_discriminator, crate::proofs::ExtendedReaders::no_code))]
+fn has_right_operand(bytes: &[u8], header: &Header) -> bool
+    ensures { MatchBool result (IsRightOperand header.now.address_size bytes.now) (IsWrongOperand header.now.address_size bytes.now) }
 {
     if bytes.is_empty() {
         return false;
@@ -67,7 +72,7 @@ fn has_right_operand(bytes: &[u8], address_size: u8) -> bool
     let (_, operand) = bytes.split_at(1);
     match bytes[0] {
         1 => operand.is_empty(),
-        2 => operand.len() == usize::from(address_size),
+        2 => operand.len() == usize::from(header.address_size()),
         4 => is_leb(operand),
         _ => true,
     }
@@ -84,6 +89,20 @@ fn is_leb(bytes: &[u8]) -> bool
         }
     }
     false
+}
+
+// Reads the number after a code that takes one. The bytes, which stand at the offset `start` of the section, are the code and the
+// whole number.
+#[tactic(auto, using(crate::proofs::ExtendedReaders::gives_number, crate::proofs::ExtendedReaders::refuses_number))]
+fn read_number(bytes: &[u8], start: u64, header: &Header) -> Result<u64, Fault>
+    requires room { start + length bytes.now < 2 ^ 64 }
+    requires right { IsRightOperand header.now.address_size bytes.now }
+    requires takes { taken_by (get_or bytes.now 0 0) ≡ takes_number }
+    ensures ok { IfOk result (λ n. UnsignedLeb n (drop 1 bytes.now)) }
+    ensures err { IfErr result (λ fault. IsLargeNumber start fault bytes.now) }
+{
+    let (_, operand) = bytes.split_at(1);
+    Cursor::new(operand, start + 1, header.order()).uleb()
 }
 
 // Reads an address. The cursor has just as many bytes left as an address has.

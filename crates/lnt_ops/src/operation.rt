@@ -1,7 +1,7 @@
 //! One operation: read from its first byte on, and kept.
-ghost use Rattle.std.specs.Prelude.{◌≡◌, ◌<◌, ◌≤◌, ◌⊎◌, IfOk, IfErr, OnErr};
+ghost use Rattle.std.specs.Prelude.{◌≡◌, ◌<◌, ◌⊎◌, IfOk, IfErr, OnErr};
 ghost use Rattle.lnt_wire.specs.Reading.{Refuses};
-ghost use Rattle.lnt_header.specs.OpRules.{StandsFor};
+ghost use Rattle.lnt_header.specs.OpRules.{last_known, StandsFor};
 ghost use Rattle.lnt_ops.specs.OpBytes.{OpBytes};
 ghost use Rattle.lnt_ops.specs.OpFaults.{IsFirstFault, IsOpFault};
 ghost use Rattle.lnt_ops.specs.OpReading.{GivesOp};
@@ -78,7 +78,7 @@ fn read_operand<'a>(
 #[inline(always)]
 fn read_apart<'a>(cursor: &mut Cursor<'a>, header: &Header, opcode: u8) -> Result<OpView<'a>, Fault>
     requires standard { opcode < header.now.opcode_base }
-    requires rare { (opcode ≡ 0) ⊎ (13 ≤ opcode) }
+    requires rare { (opcode ≡ 0) ⊎ (last_known < opcode) }
     requires order { cursor.old.order ≡ header.now.order }
     ensures ok { IfOk result (λ view. GivesAfter header.now opcode view cursor.old cursor.new) }
     ensures err { IfErr result (λ fault. Refuses (IsFaultAfter header.now opcode) (BytesAfter header.now opcode) cursor.old fault) }

@@ -13,7 +13,7 @@ ghost use Rattle.lnt_ops.specs.OpPuts.{AddsView, IsOpOf};
 ghost use Rattle.lnt_ops.specs.Stepping.{AddsOperands, AddsSpelled};
 ghost use Rattle.lnt_ops.specs.OpSpellings.{Coded, ExtendedCoded, ExtendedStart};
 
-use lnt_header::{Header, Op, OpView, Operands};
+use lnt_header::{CodedOp, Header, Op, OpView, Operands};
 use lnt_wire::{Cursor, Order, put_sleb, put_u16, put_u32, put_u64, put_uleb};
 use std::alloc::AllocError;
 
@@ -73,25 +73,19 @@ pub fn put_view(
     ensures ok { OnOk result (AddsView order address_size view.entry out.old.items out.new.items) }
     ensures extends { OnErr result (Extends out.old.items out.new.items) }
 {
-    match view {
-        OpView::Special(opcode) => add_code(out, opcode),
-        OpView::Copy => add_code(out, 1),
-        OpView::AdvancePc(n) => add_unsigned(out, 2, n),
-        OpView::AdvanceLine(z) => add_signed(out, 3, z),
-        OpView::SetFile(n) => add_unsigned(out, 4, n),
-        OpView::SetColumn(n) => add_unsigned(out, 5, n),
-        OpView::NegateStmt => add_code(out, 6),
-        OpView::SetBasicBlock => add_code(out, 7),
-        OpView::ConstAddPc => add_code(out, 8),
-        OpView::FixedAdvancePc(n) => add_number(out, 9, n, order),
-        OpView::SetPrologueEnd => add_code(out, 10),
-        OpView::SetEpilogueBegin => add_code(out, 11),
-        OpView::SetIsa(n) => add_unsigned(out, 12, n),
-        OpView::UnknownStandard(opcode, operands) => add_operands(out, opcode, operands),
-        OpView::EndSequence => add_extended(out, 1, &[]),
-        OpView::SetAddress(address) => add_address(out, address, address_size, order),
-        OpView::SetDiscriminator(n) => add_discriminator(out, n),
-        OpView::UnknownExtended(code, bytes) => add_extended(out, code, bytes),
+    match view.coded() {
+        CodedOp::Special(opcode) => add_code(out, opcode),
+        CodedOp::Bare(opcode) => add_code(out, opcode),
+        CodedOp::Unsigned(opcode, n) => add_unsigned(out, opcode, n),
+        CodedOp::Signed(opcode, z) => add_signed(out, opcode, z),
+        CodedOp::Half(opcode, n) => add_number(out, opcode, n, order),
+        CodedOp::UnknownStandard(opcode, operands) => add_operands(out, opcode, operands),
+        CodedOp::Extended(code) => add_extended(out, code, &[]),
+        CodedOp::ExtendedNumber(code, n) => add_counted(out, code, n),
+        CodedOp::ExtendedAddress(code, address) => {
+            add_address(out, code, address, address_size, order)
+        }
+        CodedOp::UnknownExtended(code, bytes) => add_extended(out, code, bytes),
     }
 }
 
@@ -198,15 +192,21 @@ fn start_extended(out: &mut Vec<u8>, count: u64, code: u8) -> Result<(), AllocEr
     Ok(())
 }
 
-// Adds the operation that sets the address.
+// Adds an extended operation with an address.
 #[tactic(auto, using(crate::proofs::OpPutLemmas::address_put))]
-fn add_address(out: &mut Vec<u8>, address: u64, size: u8, order: Order) -> Result<(), AllocError>
+fn add_address(
+    out: &mut Vec<u8>,
+    code: u8,
+    address: u64,
+    size: u8,
+    order: Order,
+) -> Result<(), AllocError>
     requires size { IsAddressSize size }
     requires fits { address < 256 ^ size }
-    ensures ok { OnOk result (Appends (ExtendedCoded 2 (NumberBytes order size)) address out.old.items out.new.items) }
+    ensures ok { OnOk result (Appends (ExtendedCoded code (NumberBytes order size)) address out.old.items out.new.items) }
     ensures extends { OnErr result (Extends out.old.items out.new.items) }
 {
-    start_extended(out, u64::from(size) + 1, 2)?;
+    start_extended(out, u64::from(size) + 1, code)?;
     add_sized(out, address, size, order)
 }
 
@@ -224,12 +224,12 @@ fn add_sized(out: &mut Vec<u8>, n: u64, size: u8, order: Order) -> Result<(), Al
     }
 }
 
-// Adds the operation that sets the discriminator. Its length, of one byte, is written once it is known.
-fn add_discriminator(out: &mut Vec<u8>, n: u64) -> Result<(), AllocError>
-    ensures ok { OnOk result (Appends (ExtendedCoded 4 UnsignedLeb) n out.old.items out.new.items) }
+// Adds an extended operation with an unsigned number. Its length, of one byte, is written once it is known.
+fn add_counted(out: &mut Vec<u8>, code: u8, n: u64) -> Result<(), AllocError>
+    ensures ok { OnOk result (Appends (ExtendedCoded code UnsignedLeb) n out.old.items out.new.items) }
     ensures extends { OnErr result (Extends out.old.items out.new.items) }
 {
-    out.extend_from_slice(&[0, 0, 4])?;
+    out.extend_from_slice(&[0, 0, code])?;
     let place = out.len() - 2;
     put_uleb(out, n)?;
     out[place] = (out.len() - place - 1) as u8;

@@ -1,14 +1,15 @@
 //! Standard operations that DWARF 5 doesn't know (DWARF 5, section 6.2.5.2).
-ghost use Rattle.std.specs.Prelude.{◌<◌, ◌≤◌, IfOk, IfErr, OnOk};
+ghost use Rattle.std.specs.Prelude.{◌<◌, IfOk, IfErr, OnOk};
 ghost use Rattle.lnt_wire.specs.Leb128.{UnsignedLeb};
 ghost use Rattle.lnt_wire.specs.Reading.{Refuses};
 ghost use Rattle.lnt_header.specs.Joins.{Several};
+ghost use Rattle.lnt_header.specs.OpRules.{last_known};
 ghost use Rattle.lnt_ops.specs.OpSteps.{BytesAfter, IsFaultAfter, GivesAfter, PassesOperands, IsOperandFault};
 
 use lnt_header::{Header, OpView, Operands};
 use lnt_wire::{Cursor, Fault};
 
-/// Reads the operands of a standard operation from 13 on: as many numbers as the header lists, which stay where they lie.
+/// Reads the operands of an unknown standard operation: as many numbers as the header lists, which stay where they lie.
 #[inline(never)]
 #[tactic(auto, using(crate::proofs::UnknownReaders::opcode_there, crate::proofs::UnknownReaders::gives_unknown, crate::proofs::UnknownReaders::refuses_unknown))]
 pub(crate) fn read_unknown<'a>(
@@ -16,7 +17,7 @@ pub(crate) fn read_unknown<'a>(
     header: &Header,
     opcode: u8,
 ) -> Result<OpView<'a>, Fault>
-    requires unknown { 13 ≤ opcode }
+    requires unknown { last_known < opcode }
     requires standard { opcode < header.now.opcode_base }
     ensures ok { IfOk result (λ view. GivesAfter header.now opcode view cursor.old cursor.new) }
     ensures err { IfErr result (λ fault. Refuses (IsFaultAfter header.now opcode) (BytesAfter header.now opcode) cursor.old fault) }

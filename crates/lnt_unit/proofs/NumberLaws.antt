@@ -65,8 +65,8 @@ first_by_numbers : (h : HeaderParts) (reason : Reason) (before left : List ℕ) 
     → IsFirstFault h reason before left
 first_by_numbers h reason before left (no_opcode a b c) = no_opcode a b c
 first_by_numbers h reason before left (unsigned_operand k a b c d) = unsigned_operand k a b c d
-first_by_numbers h reason before left (signed_operand a b c) = signed_operand a b c
-first_by_numbers h reason before left (fixed_operand a b c d) = fixed_operand a b c d
+first_by_numbers h reason before left (signed_operand k a b c d) = signed_operand k a b c d
+first_by_numbers h reason before left (fixed_operand k a b c d e) = fixed_operand k a b c d e
 first_by_numbers h reason before left (unknown_operand k operands spelling a b c d e f) = unknown_operand k operands spelling a b c d e f
 first_by_numbers h reason before left (no_length a b) = no_length a b
 first_by_numbers h reason before left (cut_counted n spelling a b c d) = cut_counted n spelling a b c d
