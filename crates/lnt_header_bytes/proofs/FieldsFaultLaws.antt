@@ -12,7 +12,7 @@ use Rattle.lnt_header_bytes.specs.FieldsBytes.{AfterLengths, AfterSingles, After
 use Rattle.lnt_header_bytes.specs.FieldsBytes.{TwoTablesFault}
 use Rattle.lnt_header_bytes.specs.HeaderFaults.{AreCutSingles, IsLengthsFault, IsSinglesFault, LengthsBytes, SinglesBytes}
 use Rattle.lnt_header.specs.HeaderRules.{AreStandardLengths}
-use Rattle.lnt_header.specs.OpRules.{known_lengths}
+use Rattle.lnt_header.specs.OpRules.{known_lengths, last_known}
 use Rattle.lnt_header_bytes.specs.TableBytes.{TableOf}
 use Rattle.lnt_header_bytes.specs.TableFaults.{IsTableFault}
 use Rattle.lnt_header_bytes.specs.declared.numbers.Singles.{Singles}
@@ -154,12 +154,13 @@ get_after (a ∷ x) y b = get_after x y b
 
 -- where lengths are standard ones, none of them is another
 standard_none : (lengths more before past : List ℕ) (given : ℕ) → AreStandardLengths lengths → length before < length lengths
-    → length before < 12
+    → length before < last_known
     → given ≢ get_or known_lengths (length before) 0 → lengths ++ more ≡ before ++ given ∷ past → ⊥
 standard_none lengths more before past given standard lt few other e =
     let i = length before in
     let known : get_or lengths i 0 ≡ get_or known_lengths i 0 =
-    sym (get_or-take 12 lengths i 0 few) ∙ ap (λ (z : List ℕ). get_or z i 0) standard ∙ get_or-take (length lengths) known_lengths i 0 lt in
+    sym (get_or-take last_known lengths i 0 few) ∙ ap (λ (z : List ℕ). get_or z i 0) standard
+    ∙ get_or-take (length lengths) known_lengths i 0 lt in
     other (sym (get_after before past given) ∙ ap (λ (z : List ℕ). get_or z i 0) (sym e) ∙ get_front lengths more i lt ∙ known)
 
 lengths_none : (opcode_base : ℕ) (reason : Reason) (before left : List ℕ) → IsLengthsFault opcode_base reason before left

@@ -21,7 +21,7 @@ use Rattle.lnt_header_bytes.specs.FieldsBytes.{IsHeaderFault}
 use Rattle.lnt_header_bytes.proofs.TableLaws.{same_table}
 use Rattle.lnt_header_bytes.specs.declared.numbers.Singles.{Singles}
 use Rattle.lnt_header.specs.HeaderRules.{AreStandardLengths}
-use Rattle.lnt_header.specs.OpRules.{known_lengths}
+use Rattle.lnt_header.specs.OpRules.{known_lengths, last_known}
 use Rattle.lnt_header_bytes.specs.HeaderFaults.{SinglesBytes, AreCutSingles, IsSinglesFault, LengthsBytes, AreCutLengths, IsLengthsFault}
 
 -- a fault after so many bytes
@@ -171,20 +171,20 @@ split_at zero n = inr (omega arith)
 split_at (suc k) zero = inl (omega arith)
 split_at (suc k) (suc n) = elim (split_at k n) [ inl lt ↦ inl (omega arith) | inr le ↦ inr (omega arith) ]
 
-split_lt : (n : ℕ) → (n < 12) ⊎ (12 ≤ n)
-split_lt n = split_at 12 n
+split_lt : (n : ℕ) → (n < last_known) ⊎ (last_known ≤ n)
+split_lt n = split_at last_known n
 
 -- given_lengths that agree with the table are the table's front
-standard_at : (given_lengths : List ℕ) (i : ℕ) → AreStandardLengths given_lengths → i < 12 → i < length given_lengths
+standard_at : (given_lengths : List ℕ) (i : ℕ) → AreStandardLengths given_lengths → i < last_known → i < length given_lengths
     → get_or given_lengths i 0 ≡ get_or known_lengths i 0
 standard_at given_lengths i h small lt =
-    sym (get_or-take 12 given_lengths i 0 small) ∙ ap (λ (z : List ℕ). get_or z i 0) h
+    sym (get_or-take last_known given_lengths i 0 small) ∙ ap (λ (z : List ℕ). get_or z i 0) h
     ∙ get_or-take (length given_lengths) known_lengths i 0 lt
 
-below : (j n size : ℕ) → j < 12 → j < size → (n < 12 → size ≤ n) → j < n
+below : (j n size : ℕ) → j < last_known → j < size → (n < last_known → size ≤ n) → j < n
 below j n size lt small short = elim (split_lt n) [ inl less ↦ omega (arith, short less) | inr more ↦ omega arith ]
 
-pub are_standard : (bytes : List ℕ) (n : ℕ) → Agrees n bytes → (n < 12 → length bytes ≤ n) → AreStandardLengths bytes
+pub are_standard : (bytes : List ℕ) (n : ℕ) → Agrees n bytes → (n < last_known → length bytes ≤ n) → AreStandardLengths bytes
 are_standard bytes n h short = agreed bytes known_lengths (λ j lt small. h.at j (below j n (length bytes) lt small short) small)
 
 agrees_front : (x y bytes : List ℕ) (n : ℕ) → bytes ≡ x ++ y → Agrees n bytes → Agrees n x
@@ -193,14 +193,14 @@ agrees_front x y bytes n e h = record {
       ∙ h.at j lt (omega (arith, ap length e, length-append x y));
 }
 
-none_length : (opcode_base i : ℕ) (bytes : List ℕ) → i + 1 < opcode_base → i < 12 → get_or bytes i 0 ≢ get_or known_lengths i 0
+none_length : (opcode_base i : ℕ) (bytes : List ℕ) → i + 1 < opcode_base → i < last_known → get_or bytes i 0 ≢ get_or known_lengths i 0
     → NoneSpelled (LengthsBytes opcode_base) bytes
 none_length opcode_base i bytes lt small other ls x more p e =
     let long : i < length ls = omega (arith, p.0) in
     other (ap (λ (z : List ℕ). get_or z i 0) (sym e ∙ ap (λ (z : List ℕ). z ++ more) p.2) ∙ get_front ls more i long
     ∙ standard_at ls i p.1 small long)
 
-pub refuses_length : (opcode_base i opcode given : ℕ) (old : At) (fault : Fault) → Agrees i old.rest → i + 1 < opcode_base → i < 12
+pub refuses_length : (opcode_base i opcode given : ℕ) (old : At) (fault : Fault) → Agrees i old.rest → i + 1 < opcode_base → i < last_known
     → i < length old.rest → given ≡ get_or old.rest i 0 → given ≢ get_or known_lengths i 0
     → opcode ≡ i + 1 → fault.place ≡ old.place + i → fault.reason ≡ StandardLength opcode given
     → Refuses (IsLengthsFault opcode_base) (LengthsBytes opcode_base) old fault
@@ -223,7 +223,7 @@ refuses_length opcode_base i opcode given old fault h lt small long given_is oth
     (none_length opcode_base i old.rest lt small (λ e. other (given_is ∙ e)))
 
 pub cut_lengths : (opcode_base n : ℕ) (old : At) (fault : Fault) → 0 < opcode_base → length old.rest < opcode_base - 1 → Agrees n old.rest
-    → (n < 12 → opcode_base ≡ n + 1) → fault.place ≡ old.place + length old.rest
+    → (n < last_known → opcode_base ≡ n + 1) → fault.place ≡ old.place + length old.rest
     → fault.reason ≡ Truncated → Refuses (IsLengthsFault opcode_base) (LengthsBytes opcode_base) old fault
 cut_lengths opcode_base n old fault some lt h all place reason =
     let cut_there : AreCutLengths opcode_base old.rest [] =
@@ -232,7 +232,7 @@ cut_lengths opcode_base n old fault some lt h all place reason =
     (λ ls x more p e. omega (arith, ap length e, length-append x more, ap length p.2, p.0))
 
 pub reads_lengths : (opcode_base n : ℕ) (given_lengths : List ℕ) (old new : At) → 0 < opcode_base
-    → Reads (TakenBytes (opcode_base - 1)) given_lengths old new → Agrees n old.rest → (n < 12 → opcode_base ≡ n + 1)
+    → Reads (TakenBytes (opcode_base - 1)) given_lengths old new → Agrees n old.rest → (n < last_known → opcode_base ≡ n + 1)
     → Reads (LengthsBytes opcode_base) given_lengths old new
 reads_lengths opcode_base n given_lengths old new some r h all =
     let whole : old.rest ≡ given_lengths ++ new.rest = r.whole ∙ ap (λ (z : List ℕ). z ++ new.rest) (sym r.spelled.taken_is) in

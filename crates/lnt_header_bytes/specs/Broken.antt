@@ -17,7 +17,7 @@ use Rattle.lnt_wire.specs.FrameBytes.{version_five}
 use Rattle.lnt_wire.specs.FrameFaults.{InFrame, IsCutFrame, IsReserved, IsOtherVersion, IsFrameFault}
 use Rattle.lnt_header.specs.FieldFaults.{IsCutField, IsLargeLeb, IsWrongLength}
 use Rattle.lnt_header.specs.HeaderRules.{IsAddressSize, AreStandardLengths}
-use Rattle.lnt_header.specs.OpRules.{known_lengths}
+use Rattle.lnt_header.specs.OpRules.{known_lengths, last_known}
 use Rattle.lnt_header_bytes.specs.FieldsBytes.{IsHeaderFault}
 use Rattle.lnt_header_bytes.specs.HeaderBytes.{HeaderBytesIn}
 use Rattle.lnt_header_bytes.specs.StartBytes.{IsStartFault}
@@ -75,7 +75,7 @@ IsAt order OpcodeBaseZero before from =
     × InHeader order (minimum ∷ max_ops ∷ default_is_stmt ∷ line_base ∷ line_range ∷ []) (0 ∷ left) before from
 IsAt order (StandardLength opcode given) before from =
     (minimum max_ops default_is_stmt line_base line_range opcode_base : ℕ) × (lengths left : List ℕ) × (0 < max_ops) × (0 < line_range)
-    × AreStandardLengths lengths × (opcode ≡ length lengths + 1) × (opcode < opcode_base) × (opcode ≤ 12)
+    × AreStandardLengths lengths × (opcode ≡ length lengths + 1) × (opcode < opcode_base) × (opcode ≤ last_known)
     × (given ≢ slice_index known_lengths (length lengths))
     × InHeader order (minimum ∷ max_ops ∷ default_is_stmt ∷ line_base ∷ line_range ∷ opcode_base ∷ lengths) (given ∷ left) before from
 IsAt order (UnknownForm code) before from =

@@ -5,7 +5,7 @@ use Rattle.lnt_wire.specs.declared.fault.Reason.{Reason}
 use Rattle.lnt_wire.specs.declared.fault.Reason.TheVariants.{Truncated, MaxOpsZero, LineRangeZero, OpcodeBaseZero, StandardLength}
 use Rattle.lnt_header_bytes.specs.declared.numbers.Singles.{Singles}
 use Rattle.lnt_header.specs.HeaderRules.{AreStandardLengths}
-use Rattle.lnt_header.specs.OpRules.{known_lengths}
+use Rattle.lnt_header.specs.OpRules.{known_lengths, last_known}
 
 -- The bytes of the six fields before the standard opcode lengths.
 pub record SinglesBytes (s : Singles) (bytes : List ℕ) : Type 0 where
@@ -47,6 +47,6 @@ pub record AreCutLengths (opcode_base : ℕ) (before left : List ℕ) : Type 0 w
 abbrev pub IsLengthsFault : ℕ → Reason → List ℕ → List ℕ → Type 0
 IsLengthsFault opcode_base Truncated before left = AreCutLengths opcode_base before left
 IsLengthsFault opcode_base (StandardLength opcode given) before left =
-    (more : List ℕ) × AreStandardLengths before × (opcode ≡ length before + 1) × (opcode < opcode_base) × (opcode ≤ 12)
+    (more : List ℕ) × AreStandardLengths before × (opcode ≡ length before + 1) × (opcode < opcode_base) × (opcode ≤ last_known)
     × (given ≢ slice_index known_lengths (length before)) × (left ≡ given ∷ more)
 IsLengthsFault opcode_base _ before left = ⊥

@@ -1,10 +1,10 @@
 //! The fields of one byte of a header.
 ghost use Rattle.std.specs.Prelude.{◌≡◌, ◌≢◌, ◌-◌, ◌+◌, ◌<◌, ◌≤◌, ◌^◌, ℕ, length, take, slice_index, IfOk, IfErr};
 ghost use Rattle.lnt_wire.specs.Reading.{Reads, Refuses};
-ghost use Rattle.lnt_header.specs.OpRules.{known_lengths};
+ghost use Rattle.lnt_header.specs.OpRules.{known_lengths, last_known};
 ghost use Rattle.lnt_header_bytes.specs.HeaderFaults.{SinglesBytes, IsSinglesFault, LengthsBytes, IsLengthsFault};
 
-use lnt_header::known_length;
+use lnt_header::{LAST_KNOWN, known_length};
 use lnt_wire::{Cursor, Fault, Reason};
 
 /// The six fields of one byte each that stand before the standard opcode lengths.
@@ -60,13 +60,13 @@ pub(crate) fn read_singles(cursor: &mut Cursor<'_>) -> Result<Singles, Fault>
     }
 }
 
-/// Where the known standard opcodes end: at `opcode_base`, or at 13 where that is more.
+/// Where the known standard opcodes end: at `opcode_base`, or after the last one where that is less.
 fn known_end(opcode_base: u8) -> u8
     ensures low { result ≤ opcode_base }
-    ensures high { result ≤ 13 }
-    ensures whole { result < 13 → result ≡ opcode_base }
+    ensures high { result ≤ last_known + 1 }
+    ensures whole { result < last_known + 1 → result ≡ opcode_base }
 {
-    if opcode_base < 13 { opcode_base } else { 13 }
+    opcode_base.min(LAST_KNOWN + 1)
 }
 
 /// Reads the lengths of the standard opcodes, `opcode_base - 1` bytes, which stay where they lie. It refuses the first one

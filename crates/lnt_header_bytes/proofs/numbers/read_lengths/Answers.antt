@@ -1,4 +1,5 @@
 use Rattle.std.proofs.Common.{◌≡◌, ◌-◌, ◌+◌, ◌<◌, ℕ, List, length, get_or, refl, arith, ap, subst, sym, ◌∙◌}
+use Rattle.lnt_header.specs.OpRules.{last_known}
 use Rattle.lnt_header_bytes.proofs.HeaderReaders.{Agrees, refuses_length, cut_lengths}
 use Rattle.lnt_header_bytes.proofs.numbers.read_lengths.Goals as goal
 
@@ -22,7 +23,7 @@ returns-in-Err-clause-err c =
     let i = c.loop-opcode.opcode - 1 in
     let agrees : Agrees i c.args.cursor.now.rest = subst (λ (z : List ℕ). Agrees i z) same c.loop-opcode.invariant.1 in
     let low = c.loop-opcode.invariant.0 in
-    let all : i < 12 → c.args.opcode_base ≡ i + 1 =
+    let all : i < last_known → c.args.opcode_base ≡ i + 1 =
     λ lt.
     let whole = c.known_end-known.ensures.whole (omega (arith, low, lt, c.loop-opcode-test.false)) in
     omega (arith, low, whole, c.loop-opcode-test.false, c.loop-opcode.auto.opcode-end) in
