@@ -8,10 +8,12 @@ use Rattle.std.proofs.Math.Pow.{pow_pos}
 use Rattle.std.proofs.lemmas.Int.{ints}
 use Rattle.lnt_header.specs.declared.header.HeaderParts.{HeaderParts}
 use Rattle.lnt_header.specs.declared.op.Op.{Op}
-use Rattle.lnt_header.specs.declared.op.Op.TheVariants.{Special, Copy, SetFile, SetColumn, SetIsa, EndSequence, SetDiscriminator}
+use Rattle.lnt_header.specs.declared.op.Op.TheVariants.{Special, Copy, EndSequence}
 use Rattle.lnt_header.specs.HeaderRules.{HasHeaderNumbers, IsAddressSize}
 use Rattle.lnt_header.specs.Joins.{Each}
+use Rattle.lnt_ops.proofs.OpLaws.{op_allowed}
 use Rattle.lnt_ops.specs.OpBytes.{OpBytes}
+use Rattle.lnt_ops.specs.Spelled.{FitsOp}
 use Rattle.lnt_unit.specs.declared.unit.Parts.{Parts}
 use Rattle.lnt_machine.specs.declared.row.Row.{Row}
 use Rattle.lnt_machine.specs.declared.row.Sequence.{Sequence}
@@ -66,59 +68,36 @@ fitting_start h (EndSequence ∷ back) start = record {
 }
 fitting_start h (op ∷ back) start = absurd start
 
--- an operand is of at most 64 bits where bytes spell it
+-- an operand is put in a register as it is, or not at all
+fitting_by : (h : HeaderParts) (back : List Op) (op : Op) → LeaveFitting h back → FitsOp op → IsLine (line h (op ∷ back))
+    → LeaveFitting h (op ∷ back)
+fitting_by h back Copy f says fits = record {
+  file = f.file;
+  column = f.column;
+  isa = f.isa;
+  discriminator = omega arith;
+  line = fits;
+}
+fitting_by h back (Special c) f says fits = record {
+  file = f.file;
+  column = f.column;
+  isa = f.isa;
+  discriminator = omega arith;
+  line = fits;
+}
+fitting_by h back EndSequence f says fits = fitting_start h (EndSequence ∷ back) tt
+fitting_by h back op f says fits = record {
+  file = omega (arith, f.file);
+  column = omega (arith, f.column);
+  isa = omega (arith, f.isa);
+  discriminator = omega (arith, f.discriminator);
+  line = fits;
+}
+
+-- what bytes spell is of at most 64 bits
 fitting_more : (h : HeaderParts) (back : List Op) (op : Op) (x : List ℕ) → LeaveFitting h back → OpBytes h op x
     → IsLine (line h (op ∷ back)) → LeaveFitting h (op ∷ back)
-fitting_more h back (SetFile n) x f p fits = record {
-  file = p.1.second.fits;
-  column = f.column;
-  isa = f.isa;
-  discriminator = f.discriminator;
-  line = fits;
-}
-fitting_more h back (SetColumn n) x f p fits = record {
-  file = f.file;
-  column = p.1.second.fits;
-  isa = f.isa;
-  discriminator = f.discriminator;
-  line = fits;
-}
-fitting_more h back (SetIsa n) x f p fits = record {
-  file = f.file;
-  column = f.column;
-  isa = p.1.second.fits;
-  discriminator = f.discriminator;
-  line = fits;
-}
-fitting_more h back (SetDiscriminator n) x f p fits = record {
-  file = f.file;
-  column = f.column;
-  isa = f.isa;
-  discriminator = p.1.second.fits;
-  line = fits;
-}
-fitting_more h back Copy x f p fits = record {
-  file = f.file;
-  column = f.column;
-  isa = f.isa;
-  discriminator = omega arith;
-  line = fits;
-}
-fitting_more h back (Special c) x f p fits = record {
-  file = f.file;
-  column = f.column;
-  isa = f.isa;
-  discriminator = omega arith;
-  line = fits;
-}
-fitting_more h back EndSequence x f p fits = fitting_start h (EndSequence ∷ back) tt
-fitting_more h back op x f p fits = record {
-  file = f.file;
-  column = f.column;
-  isa = f.isa;
-  discriminator = f.discriminator;
-  line = fits;
-}
+fitting_more h back op x f p fits = fitting_by h back op f (op_allowed h op x p).1 fits
 
 size_fits : (size : ℕ) → IsAddressSize size → 2 ^ (8 * size) ≤ 2 ^ 64
 size_fits size (inl is) = rw is (omega arith)
