@@ -72,9 +72,14 @@ fn print_section<W: Write>(
     let mut page = Vec::new(alloc);
     let mut cursor = Cursor::new(bytes, 0, order);
     while !cursor.rest().is_empty() {
-        let Ok(()) = convert_unit(alloc, &mut cursor, order, format, to, &mut page) else {
-            return Err(Halt::Memory);
-        };
+        match convert_unit(alloc, &mut cursor, order, format, to, &mut page) {
+            Ok(()) => {}
+            Err(stop) => match stop {
+                ConvertFault::Memory => return Err(Halt::Memory),
+                // Each unit of a section that converts does.
+                _ => unreachable!(),
+            },
+        }
         if page.len() >= PAGE {
             write_whole(out, &page)?;
             page.clear();

@@ -1,7 +1,8 @@
-use Rattle.std.proofs.Common.{◌≡◌, ℕ, List, length, sym, ap, subst, ◌∙◌, arith}
-use Rattle.std.proofs.lemmas.Bool.{eqb-true}
+use Rattle.std.proofs.Common.{◌≡◌, ◌<◌, ◌++◌, ℕ, List, length, sym, ap, subst, ◌∙◌, arith}
+use Rattle.std.proofs.lemmas.Bool.{eqb-false, eqb-true}
 use Rattle.std.specs.Io.KnownBytes.{Appends}
 use Rattle.lnt_output.specs.Fronts.{AppendsFront}
+use Rattle.lnt_unit.proofs.ConvertedLaws.{stops_by_memory}
 use Rattle.lnt_output.proofs.FrontLaws.{so_stopped}
 use Rattle.lnt_dump.proofs.SectionFronts.{section_cut, section_stopped}
 use Rattle.lnt_dump.proofs.Sections.{section_more, section_handed_on, section_printed}
@@ -33,8 +34,8 @@ returns-clause-ok g c =
     section_printed c.args.order c.args.bytes.now c.args.format c.args.to at _ _ _ c.loop-cursor.page.items c.loop-cursor.invariant ended
     written
 
-pub returns-in_default-clause-front : goal.returns-in_default-clause-front
-returns-in_default-clause-front g c =
+pub returns-in-Memory-clause-front : goal.returns-in-Memory-clause-front
+returns-in-Memory-clause-front g c =
     section_stopped c.args.order c.args.bytes.now c.args.format c.args.to c.loop-cursor.cursor (g.W.Write.contents c.args.out.now)
     (g.W.Write.contents c.loop-cursor.out) c.loop-cursor.page.items c.loop-cursor.invariant c.requires
 
@@ -59,3 +60,12 @@ returns-in_err-write_whole-2-clause-front g c =
     (section_cut c.args.order c.args.bytes.now c.args.format c.args.to c.loop-cursor.cursor (g.W.Write.contents c.args.out.now)
     (g.W.Write.contents c.loop-cursor.out) (g.W.Write.contents c.write_whole-2.new.out) c.loop-cursor.page.items c.loop-cursor.invariant
     c.requires front)
+
+pub unreachable-requires : goal.unreachable-requires
+unreachable-requires g c =
+    let at = c.loop-cursor.cursor in
+    let so = c.loop-cursor.invariant in
+    let some : 0 < length at.rest =
+    omega (arith, eqb-false _ _ (sym c.is_empty.ensures ∙ c.loop-cursor-test.true), ap length c.rest.ensures) in
+    c.in_default.not-Memory (stops_by_memory c.args.order c.args.bytes.now c.args.format c.args.to at (so.done ++ c.loop-cursor.page.items)
+    c.in-Err.stop c.requires so.so some c.in-Err.ensures.err)
