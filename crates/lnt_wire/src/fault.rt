@@ -27,7 +27,7 @@ pub enum Reason {
     LineRangeZero,
     /// 9: `opcode_base` is 0.
     OpcodeBaseZero,
-    /// 10: `standard_opcode_lengths` has for this standard opcode, from 1 to 12, this number of operands, which isn't the
+    /// 10: `standard_opcode_lengths` has for this standard opcode, a known one, this number of operands, which isn't the
     /// one that the opcode has (DWARF 5, section 6.2.5.2).
     StandardLength(u8, u8),
     /// 11: the format of a table of directories or files names the form of this code, which is none of those in `Form`.
