@@ -3,7 +3,6 @@ ghost use Rattle.std.specs.Prelude.{◌≡◌, ◌++◌, IfErr, IfOk, OnErr, OnO
 ghost use Rattle.std.specs.Io.KnownBytes.{Appends};
 ghost use Rattle.csv.specs.Writing as csv;
 ghost use Rattle.lnt_output.specs.Fronts.{AppendsFront};
-ghost use Rattle.lnt_sources.specs.declared.halt.Halt.TheVariants.{Memory};
 ghost use Rattle.lnt_sources.specs.declared.status.Status.TheVariants.{Done};
 ghost use Rattle.lnt_sources.specs.Halts.{IsPrinting};
 ghost use Rattle.lnt_lines.specs.Indexed.{file_path_in, file_sum_in};
@@ -13,7 +12,7 @@ use csv::Writer;
 use lnt_lines::Index;
 use lnt_output::write_whole;
 use lnt_sources::{Halt, Status};
-use std::alloc::Global;
+use std::alloc::{AllocError, Global};
 use std::io::Write;
 
 /// Prints a header, `unit,file,path,md5`, and after it a record for each file of each unit: the unit's offset and the file's
@@ -81,11 +80,10 @@ fn put_file(
     unit: u64,
     file: u64,
     records: &mut Writer<Vec<u8>>,
-) -> Result<(), Halt>
+) -> Result<(), AllocError>
     requires fields { csv.fields_written records.old ≡ 0 }
     requires clean { csv.has_written records.old ≡ false }
     requires setup { csv.writer_setup records.old ≡ csv.default_writer }
-    ensures err { IfErr result (λ halt. halt ≡ Memory) }
     ensures record { OnOk result (Appends (csv.text_written (λ bytes. Some bytes.items) records.old)
         (csv.text_written (λ bytes. Some bytes.items) records.new) (file_record index.now unit file)) }
     ensures fields { OnOk result (csv.fields_written records.new ≡ 0) }
@@ -102,9 +100,10 @@ fn put_file(
         path.as_slice(),
         sum.as_bytes(),
     ];
+    // A vector refuses a record only for want of memory.
     match records.write_fields(&fields) {
         Ok(()) => Ok(()),
-        Err(_) => Err(Halt::Memory),
+        Err(_) => Err(AllocError),
     }
 }
 
@@ -114,21 +113,18 @@ pub(crate) fn path_of(
     index: &Index<'_>,
     unit: u64,
     file: u64,
-) -> Result<Vec<u8>, Halt>
-    ensures ok { IfOk result (λ path. path.items ≡ path_field (file_path_in index.now unit file)) }
-    ensures err { IfErr result (λ halt. halt ≡ Memory) }
+) -> Result<Vec<u8>, AllocError>
+    ensures { IfOk result (λ path. path.items ≡ path_field (file_path_in index.now unit file)) }
 {
-    match index.path_of(alloc, unit, file) {
-        Ok(Some(path)) => Ok(path),
-        Ok(None) => Ok(Vec::new(alloc)),
-        Err(_) => Err(Halt::Memory),
+    match index.path_of(alloc, unit, file)? {
+        Some(path) => Ok(path),
+        None => Ok(Vec::new(alloc)),
     }
 }
 
 // The listed sum of a file in hexadecimal digits; empty where none is listed.
-fn sum_of(alloc: Global, index: &Index<'_>, unit: u64, file: u64) -> Result<String, Halt>
-    ensures ok { IfOk result (λ sum. string_bytes sum ≡ sum_field (file_sum_in index.now unit file)) }
-    ensures err { IfErr result (λ halt. halt ≡ Memory) }
+fn sum_of(alloc: Global, index: &Index<'_>, unit: u64, file: u64) -> Result<String, AllocError>
+    ensures { IfOk result (λ sum. string_bytes sum ≡ sum_field (file_sum_in index.now unit file)) }
 {
     match index.listed(unit, file) {
         Some(sum) => Ok(hex::encode(alloc, sum.as_slice())?),

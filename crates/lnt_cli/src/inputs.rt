@@ -63,7 +63,7 @@ pub(crate) fn open_section<'c, O: Opener>(
     ensures later { TellsNoMore (O.tells opener.old) (O.tells opener.new) }
 {
     match opener.reader_of(name) {
-        Some(reader) => source_of(alloc, Watched::new(reader, seen)),
+        Some(reader) => Ok(source_of(alloc, Watched::new(reader, seen))?),
         None => Err(Halt::Read),
     }
 }

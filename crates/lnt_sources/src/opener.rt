@@ -2,11 +2,11 @@
 ghost use Rattle.std.specs.Prelude.{◌≡◌, ◌≢◌, ◌^◌, ℕ, List, Option, IfOk, IfErr, IfSome, ⊤, false};
 ghost use Rattle.lnt_sources.specs.Files.{AreBytesOf, TellsNoMore};
 ghost use Rattle.lnt_sources.specs.Halts.{IsOpening};
-ghost use Rattle.lnt_sources.specs.declared.halt.Halt.TheVariants.{Memory, Write};
+ghost use Rattle.lnt_sources.specs.declared.halt.Halt.TheVariants.{Write};
 
 use crate::halt::Halt;
 use lnt_wire::{Counted, Source, read_all};
-use std::alloc::Global;
+use std::alloc::{AllocError, Global};
 use std::io::{BufReader, Read};
 
 /// The most bytes that are read of a file, 2^40.
@@ -60,25 +60,27 @@ pub fn open_file<O: Opener>(
     ensures err { IfErr result IsOpening }
 {
     match opener.reader_of(name) {
-        Some(reader) => source_of(alloc, reader),
+        Some(reader) => Ok(source_of(alloc, reader)?),
         None => Err(Halt::Read),
     }
 }
 
 /// A reader's bytes as a source, read block by block, as they are asked for.
 ///
-/// The source has not failed, wasn't found too long, and may give 2^40 bytes: those that the reader has to give. It
-/// answers `Memory`, and nothing else.
-pub fn source_of<R: Read + Drop>(alloc: Global, reader: R) -> Result<Counted<BufReader<R>>, Halt>
+/// The source has not failed, wasn't found too long, and may give 2^40 bytes: those that the reader has to give. The one
+/// error is that memory ran out.
+pub fn source_of<R: Read + Drop>(
+    alloc: Global,
+    reader: R,
+) -> Result<Counted<BufReader<R>>, AllocError>
     ensures failures { IfOk result (λ source. ⟦<Counted<BufReader<R>> as Source>⟧.failures source ≡ 0) }
     ensures too_long { IfOk result (λ source. ⟦<Counted<BufReader<R>> as Source>⟧.too_long source ≡ false) }
     ensures left { IfOk result (λ source. ⟦<Counted<BufReader<R>> as Source>⟧.left source ≡ 2 ^ 40) }
     ensures remaining { IfOk result (λ source. ⟦<Counted<BufReader<R>> as Source>⟧.remaining source ≡ R.remaining reader) }
-    ensures err { IfErr result (λ halt. halt ≡ Memory) }
 {
     match BufReader::with_capacity(alloc, BLOCK, reader) {
         Ok(reader) => Ok(Counted::new(reader, LIMIT)),
-        Err(_) => Err(Halt::Memory),
+        Err(_) => Err(AllocError),
     }
 }
 
