@@ -1,7 +1,7 @@
 # For `linetab`, `library` and `test`, which set $top: the built program, and whether it is that of the sources as they are.
 program=$top/crates/linetab/out/linetab
 built_of=$program.sources
-# The sum of the sources that the gate has proved, where all of it passed, or the launcher, which asks the gate.
+# The sum of the sources that the gate has proved, where all of it passed.
 proved_of=$top/crates/lnt_ffi/out/gate.sources
 
 # One sum over the names and bytes of all that the program is proved and built from.
