@@ -63,7 +63,8 @@ HasRoom view watched = (view.place + length view.program < 2 ^ 64) × (watched.l
 abbrev pub GoesOn : OpView → ℕ → Watched → Watched → Collected → Collected → List ℕ → List ℕ → Type 0
 GoesOn item left watched watched' now now' places places' =
     (dead : Option ℕ) (view : View) (files : ℕ) (old : Collected) (walk walk' : Walk)
-    → RunsSoFar dead view files watched old now walk places → walks.Steps item walk walk' → HasRoom view watched → left ≡ length walk'.at.rest
+    → RunsSoFar dead view files watched old now walk places → walks.Steps item walk walk'
+    → HasRoom view watched → left ≡ length walk'.at.rest
     → RunsSoFar dead view files watched' old now' walk' places'
 
 -- Whatever was run so far, it goes on up to where the walk stands then.
