@@ -33,8 +33,8 @@ plainly() {
   sed -E "s|[0-9]+ s\$|N s|; s|$work|WORK|g" "$work/said" >&2
   return $status
 }
-# The crates below the program: all but those of tests, of the bench and of the library.
-all=$(cd crates && printf '%s\n' */ | grep -cvE '^(linetab|lnt_(bench|ffi|samples))/|_tests/$')
+# The crates below the program: all but those of tests and of the library.
+all=$(cd crates && printf '%s\n' */ | grep -cvE '^(linetab|lnt_(ffi|samples))/|_tests/$')
 section=$top/examples/hello.debug_line
 
 expect 'no program and no toolchain' 127 '' "linetab: the program isn't built: it would be WORK/tree/crates/linetab/out/linetab. To prove and build it, install the Rattle toolchain, so that its command rt is on the PATH"$'\n' \
