@@ -1,4 +1,5 @@
-# For the scripts of tests/: runs a command and compares what it writes and its exit status with what is wanted.
+# For the scripts of tests/: runs a command and compares what it writes and its exit status with what is wanted. That python3 is
+# here is taken for granted, since the toolchain's command `rt` is written in it.
 passed=0
 failed=0
 skipped=0
@@ -50,6 +51,14 @@ is_written() {
 skip() { # TEXT
   skipped=$((skipped + 1))
   echo "skipped: $1"
+}
+
+# here NAME TOOL..: whether the tools are here. Else what needs them is left out, and told by its name with the first that is missing.
+here() {
+  local tool
+  for tool in "${@:2}"; do
+    command -v "$tool" >/dev/null || { skip "$tool isn't here: $1"; return 1; }
+  done
 }
 
 # Prints the counts, with what was left out, and ends the script.

@@ -11,26 +11,11 @@ cd "$(dirname "$0")/.." || exit 1
 top=$PWD
 . ./sources.bash
 work=$(cd "$work" && pwd -P)
-skipped=0
 prefix=$work/prefix
 hello=(examples/hello.debug_line examples/hello.debug_line_str)
 callers=()
 strict=(-O1 -Wall -Wextra -Werror -Wno-format-nonliteral -I"$prefix/include")
 
-# Leaves something out, and says why.
-skip() { # TEXT
-  echo "skipped: $1"
-  skipped=$((skipped + 1))
-}
-here() { # TOOL
-  command -v "$1" >/dev/null || { skip "$1 isn't here"; return 1; }
-}
-# The counts, with those that were left out.
-end() {
-  echo "$passed passed, $failed failed, $skipped skipped"
-  [ "$failed" -eq 0 ]
-  exit
-}
 # What the program prints of the example.
 lookup() { # ADDRESS..
   ./linetab lookup "${hello[0]}" "$@" --line-str "${hello[1]}" --quiet
@@ -46,7 +31,7 @@ expect 'beside the programs' 0 '' '' ./install --library "$work/installed"
 expect 'in a release' 0 "linetab-$(<VERSION)-x86_64-linux/lib/liblinetab.a"$'\n' '' \
   bash -c './release --library "$0" >"$0/sum" && tar --list --file="$(echo "$0"/linetab-*.tar.gz)" | grep "[.]a$"' "$work"
 expect 'the same library there' 0 '' '' cmp "$work/installed/lib/liblinetab.a" "$prefix/lib/liblinetab.a"
-here cc || end
+here 'the library, called from C and others' cc || finish
 library=$prefix/lib/liblinetab.a
 heap=$prefix/share/linetab/linetab_heap.c
 expect 'nothing but its heap and copies of bytes is asked of the host' 0 \
@@ -74,7 +59,7 @@ expect 'the page compiles' 0 '' '' cc "${strict[@]}" -I"$work" -std=c11 -o "$wor
 expect 'what the page prints' 0 $'/w/src/small/a.c:1\n' '' "$work/page" "${hello[@]}" 0x1137
 expect 'what the page prints of no section' 25 '' '' "$work/page" docs/EMBEDDING.md "${hello[1]}" 0x1137
 callers+=(--caller "$work/lookup")
-if here g++; then
+if here 'the library, called from C++' g++; then
   expect 'C++ compiles' 0 '' '' \
     bash -c 'cc -c -I"$1/include" -o "$2/heap.o" "$1/share/linetab/linetab_heap.c" && g++ -std=c++11 "${@:3}" -o "$2/lookup_cc" examples/cpp/lookup.cc "$2/heap.o" "$1/lib/liblinetab.a"' \
     '' "$prefix" "$work" "${strict[@]}"
@@ -84,7 +69,7 @@ if here g++; then
     g++ -std=c++11 "${strict[@]}" -o "$work/checks_cc" tests/embedding/checks.cc "$work/heap.o" "$library"
   expect 'C++: tables by path' 0 "$checked" '' "$work/checks_cc" "${hello[@]}" "${tables[@]}"
 fi
-if here cargo; then
+if here 'the library, called from Rust' cargo; then
   cp -r examples/rust "$work/rust"
   install -D tests/embedding/checks.rs "$work/rust/src/bin/checks.rs"
   expect 'Rust compiles, and looks up' 0 "$wanted" '' \
@@ -95,13 +80,11 @@ if here cargo; then
     bash -c 'LINETAB=$1 cargo run --offline --quiet --manifest-path "$2/rust/Cargo.toml" --bin checks -- "${@:3}"' \
     '' "$prefix" "$work" "${hello[@]}" "${tables[@]}"
 fi
-if here python3; then
-  expect 'a shared object' 0 '' '' cc -shared -fPIC -I"$prefix/include" -o "$work/liblinetab.so" -Wl,--whole-archive "$library" -Wl,--no-whole-archive "$heap"
-  expect 'Python: lookups' 0 "$wanted" '' python3 examples/python/lookup.py "$work/liblinetab.so" "${hello[@]}" 0x1129 0x1137 0x1
-  callers+=(--caller "python3 examples/python/lookup.py $work/liblinetab.so")
-  expect 'Python: tables by path' 0 "$checked" '' \
-    python3 tests/embedding/checks.py examples/python "$work/liblinetab.so" "${hello[@]}" "${tables[@]}"
-fi
+expect 'a shared object' 0 '' '' cc -shared -fPIC -I"$prefix/include" -o "$work/liblinetab.so" -Wl,--whole-archive "$library" -Wl,--no-whole-archive "$heap"
+expect 'Python: lookups' 0 "$wanted" '' python3 examples/python/lookup.py "$work/liblinetab.so" "${hello[@]}" 0x1129 0x1137 0x1
+callers+=(--caller "python3 examples/python/lookup.py $work/liblinetab.so")
+expect 'Python: tables by path' 0 "$checked" '' \
+  python3 tests/embedding/checks.py examples/python "$work/liblinetab.so" "${hello[@]}" "${tables[@]}"
 
 # ---- each call beside the program, on the generated cases
 sanitizers=(-fsanitize=address,undefined -fno-sanitize-recover=all)
@@ -145,4 +128,4 @@ large=(examples/powerpc64.debug_line examples/powerpc64.debug_line_str)
 expect 'each request refused, of a large table' 0 "$refused" '' "$work/refusing" "${large[@]}" "$work/large" "$work/other_large" --big
 calls threads tests/embedding/threads.c "$heap"
 expect 'eight threads' 0 $'all alike\n' '' "$work/threads" "${hello[@]}" examples/hello.csv
-end
+finish

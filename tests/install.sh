@@ -8,10 +8,6 @@ prefix=$work/prefix
 linetab=$prefix/bin/linetab
 hello=(examples/hello.debug_line examples/hello.csv --line-str examples/hello.debug_line_str)
 
-# Whether a tool is here; else this is told, and what needs it is left out.
-here() {
-  command -v "$1" >/dev/null || { skip "$1 isn't here"; return 1; }
-}
 # The words of the help, and the options of one of them, or of none, each on a line, in order.
 words() {
   "$linetab" --help | sed -n '/^Commands:/,/^$/s/^  \([a-z0-9]*\) .*/\1/p' | sort
@@ -45,7 +41,7 @@ manual() {
   done
   same 'the exit statuses are those of README.md' "$(grep '^The exit status is' README.md | tr -d '`')" \
     "$(sed -n 's/\\-/-/g; /^The exit status is/p' "$page")"
-  here mandoc || return
+  here 'the man page, as mandoc reads it' mandoc || return
   expect 'man pages without faults' 0 '' '' mandoc -T lint -W error "$page" "$prefix/share/man/man1/linetab-object.1"
 }
 
@@ -68,7 +64,7 @@ in_bash() {
 
 in_fish() {
   local word
-  here fish || return
+  here 'completions of fish' fish || return
   # Files of this folder are offered beside; there are none.
   offered() {
     (cd "$work/none" && HOME=$work fish --no-config -c "source '$prefix/share/fish/vendor_completions.d/linetab.fish'
@@ -86,7 +82,7 @@ in_fish() {
 
 in_zsh() {
   local word
-  here zsh || return
+  here 'completions of zsh' zsh || return
   # What the completion hands to zsh's own functions, which are other ones here.
   offered() {
     zsh -fc 'file=$1; shift; words=("$@"); CURRENT=$#words

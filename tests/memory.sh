@@ -3,7 +3,7 @@
 # library tried again in another way. It never gives another answer. With ample memory it isn't stopped for want of it.
 cd "$(dirname "$0")/.." || exit 1
 . tests/check.bash
-command -v cc >/dev/null || { skip "cc isn't here"; finish; }
+here 'requests for memory that are refused' cc || finish
 cc -O1 -shared -fPIC -o "$work/refuse.so" tests/refuse_memory.c -ldl || exit 1
 program=crates/linetab/out/linetab
 

@@ -30,13 +30,6 @@ agrees() { # NAME FILE EXAMPLE ERROR [OPTION..]
 refuses() { # NAME FILE REASON
   expect "$1" 3 '' "$says $work/$2: $3"$'\n' object table "$work/$2"
 }
-# Whether the tools of a case are here; else it is left out, and told with the first that is missing.
-here() { # NAME TOOL..
-  local tool
-  for tool in "${@:2}"; do
-    command -v "$tool" >/dev/null || { skip "$tool isn't here: $1"; return 1; }
-  done
-}
 
 formats() {
   local format
@@ -345,7 +338,6 @@ installed() {
     "$says note: the debug information of $file is in $found"$'\n' object units "$file"
 }
 
-command -v python3 >/dev/null || { skip "python3 isn't here"; finish; }
 # The interpreter itself, where python3 is a script that looks for one.
 PATH=$(dirname "$(python3 -c 'import sys; print(sys.executable)')"):$PATH
 formats

@@ -86,9 +86,7 @@ by_addr2line() {
   expect "a program and the table of its lines by addr2line" 0 $'yes\n' '' ./linetab-object check "$work/loop" "$work/theirs"
 }
 
-for tool in llvm-objcopy llvm-dwarfdump readelf; do
-  command -v "$tool" >/dev/null || { skip "$tool isn't here"; finish; }
-done
+here 'what others say of a section' llvm-objcopy llvm-dwarfdump readelf || finish
 if [ $# -eq 0 ]; then
   for name in hello hello-clang; do
     set -- "$@" "examples/$name.debug_line" "examples/$name.debug_line_str" little -
@@ -96,10 +94,7 @@ if [ $# -eq 0 ]; then
   set -- "$@" examples/gc-sections.debug_line examples/gc-sections.debug_line_str little 0x0000000000000000
   set -- "$@" examples/powerpc64.debug_line examples/powerpc64.debug_line_str big -
 fi
-for tool in cc addr2line; do
-  command -v "$tool" >/dev/null || { skip "$tool isn't here"; without=$tool; }
-done
-[ -n "${without:-}" ] || by_addr2line
+! here 'a table by addr2line' cc addr2line || by_addr2line
 while [ $# -ge 4 ]; do
   compare "$1" "$2" "$3" "$4"
   shift 4

@@ -10,10 +10,8 @@ there=$work/there
 # A tool that a command needs, or that makes the file which it reads, isn't here.
 lacks() { # COMMAND
   local tool
-  for tool in parallel make python3; do
-    [[ " $1" == *" $tool "* || $tool == python3 && $1 == *linetab-object* || $tool == parallel && $1 == *tables.log* ]] &&
-      ! command -v "$tool" >/dev/null &&
-      skip "$tool isn't here: $1" && return
+  for tool in parallel make; do
+    [[ " $1" != *" $tool "* && ($tool != parallel || $1 != *tables.log*) ]] || here "$1" "$tool" || return 0
   done
   return 1
 }
@@ -72,16 +70,14 @@ expect 'the table of app' 0 '' '' cmp "$there/app.csv" examples/hello.csv
 page docs/STORES.md
 # The Python of a page, block after block: a table that is the program's own, and an answer from it.
 sed -n '/^```python$/,/^```$/{/^```/!p}' docs/TABLES.md >"$work/page.py"
-if command -v python3 >/dev/null; then
-  expect "a table of one's own, and an answer from it" 0 $'/w/src/small/a.c 2\n' '' bash -c 'cd "$0" && python3 "$1"' "$there" "$work/page.py"
-  expect 'it is the one that is printed' 0 "$(<"$there/mine.csv")"$'\n' '' \
-    ./linetab table --lines examples/hello.debug_line --line-str examples/hello.debug_line_str
-  expect 'it is checked' 0 $'yes\n' '' \
-    ./linetab check examples/hello.debug_line "$there/mine.csv" --line-str examples/hello.debug_line_str
-  expect 'it is checked with another line' 1 $'no 40 differs at 0x117f,0 table "/w/src/small/a.c",4 section "/w/src/small/a.c",3\n' '' \
-    ./linetab check examples/hello.debug_line - --line-str examples/hello.debug_line_str < <(sed 's/,3$/,4/' "$there/mine.csv")
-fi
-command -v make >/dev/null && expect 'the answers of a store' 0 $'yes\nyes\n' '' bash -c 'cat "$0"/store/*/*.answer' "$there"
+expect "a table of one's own, and an answer from it" 0 $'/w/src/small/a.c 2\n' '' bash -c 'cd "$0" && python3 "$1"' "$there" "$work/page.py"
+expect 'it is the one that is printed' 0 "$(<"$there/mine.csv")"$'\n' '' \
+  ./linetab table --lines examples/hello.debug_line --line-str examples/hello.debug_line_str
+expect 'it is checked' 0 $'yes\n' '' \
+  ./linetab check examples/hello.debug_line "$there/mine.csv" --line-str examples/hello.debug_line_str
+expect 'it is checked with another line' 1 $'no 40 differs at 0x117f,0 table "/w/src/small/a.c",4 section "/w/src/small/a.c",3\n' '' \
+  ./linetab check examples/hello.debug_line - --line-str examples/hello.debug_line_str < <(sed 's/,3$/,4/' "$there/mine.csv")
+! here 'the answers of a store' make || expect 'the answers of a store' 0 $'yes\nyes\n' '' bash -c 'cat "$0"/store/*/*.answer' "$there"
 while IFS= read -r command; do
   runs "$command"
 done < <(grep -oE '`\./linetab[^`]*`' examples/README.md | tr -d '`')

@@ -2,9 +2,7 @@
 # The listed sum of a program that clang compiled, where it is here: its source as it was, changed and gone.
 cd "$(dirname "$0")/.." || exit 1
 . tests/check.bash
-for tool in clang objcopy; do
-  command -v "$tool" >/dev/null || { skip "$tool isn't here"; finish; }
-done
+here 'the sum of a program that clang compiled' clang objcopy || finish
 folder=$(cd "$work" && pwd -P)
 source=$folder/sum.c
 echo 'int main(void) { return 0; }' >"$source"
