@@ -11,6 +11,7 @@ use Rattle.lnt_unit.specs.declared.unit.Parts.{Parts}
 use Rattle.lnt_spans.specs.declared.answer.Version.{Version}
 use Rattle.lnt_spans.specs.declared.position.Position.{Position}
 use Rattle.lnt_spans.specs.declared.span.Span.{Span}
+use Rattle.lnt_spans.specs.AnyStretches.{Stretch}
 use Rattle.lnt_sources.specs.declared.status.Status.{Status}
 use Rattle.lnt_lines.specs.Indexed.{Indexed}
 use Rattle.lnt_records.specs.Table.{BeginsWith, column_names}
@@ -21,7 +22,7 @@ use Rattle.lnt_paths.specs.declared.version.PathVersion.{PathVersion}
 use Rattle.lnt_paths.specs.Held.{held_span}
 use Rattle.lnt_paths.specs.PathAnswers.{PathAnswer}
 use Rattle.lnt_paths.specs.PathSpans.{StandInOrder, path_span_answer}
-use Rattle.lnt_paths.specs.PathStretches.{ArePathStretches, Stretch, stretch_of, stretches_of}
+use Rattle.lnt_paths.specs.PathStretches.{ArePathStretches, stretch_of, stretches_of}
 use Rattle.lnt_paths.specs.PathTables.{IsPathTableOf}
 use Rattle.lnt_paths.specs.Stretching.{HasToldByPath}
 use Rattle.lnt_paths.proofs.CompletionLaws.{path_stretches_on}

@@ -9,6 +9,7 @@ use Rattle.lnt_spans.specs.declared.position.Position.{Position}
 use Rattle.lnt_spans.specs.declared.span.Span.{Span}
 use Rattle.lnt_spans.specs.Spans.{span_answer}
 use Rattle.lnt_spans.specs.Stretches.{AreStretches}
+use Rattle.lnt_spans.specs.AnyStretches.{AreAllStretches as AreAllByPath, Stretch}
 use Rattle.lnt_records.specs.declared.fault.TableFault.{TableFault}
 use Rattle.lnt_records.specs.declared.fault.TableFault.TheVariants as fault
 use Rattle.lnt_records.specs.Faults.{IsFault}
@@ -17,7 +18,6 @@ use Rattle.lnt_paths.specs.declared.version.PathVersion.{PathVersion}
 use Rattle.lnt_paths.specs.PathAnswers.{PathAnswer}
 use Rattle.lnt_paths.specs.PathFaults.{IsPathFault}
 use Rattle.lnt_paths.specs.PathSpans.{PathSpan, path_span_answer}
-use Rattle.lnt_paths.specs.PathStretches.{AreStretches as AreAllByPath, Stretch}
 use Rattle.lnt_paths.specs.PathTables.{IsPathTableOf}
 use Rattle.lnt_table.specs.ByPath.{told_path}
 use Rattle.lnt_table.specs.Headline.{told_answer}

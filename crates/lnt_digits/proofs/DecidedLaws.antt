@@ -4,7 +4,7 @@ use Rattle.std.proofs.lemmas.Bool.{cases_eq, cases_lt}
 use Rattle.std.specs.List.{AllByRecursion}
 use Rattle.lnt_digits.specs.declared.radix.Radix.{Radix}
 use Rattle.lnt_digits.specs.declared.radix.Radix.TheVariants.{Ten, Sixteen}
-use Rattle.lnt_digits.specs.Digits.{IsAddress, IsDecimal, IsDigit, IsNumber, base, digits_value, most_digits}
+use Rattle.lnt_digits.specs.Digits.{IsAddress, IsDecimal, IsDigit, IsNumber, radix_base, digits_value, most_digits}
 
 -- ---- digits
 
@@ -54,9 +54,9 @@ decide_number radix text = elim (decide_digits radix text) [
   | inl digits ↦ elim (cases_lt 0 (length text)) [
     | inl some ↦ elim (cases_lt (most_digits radix) (length text)) [
       | inl many ↦ inr (λ n so. omega (arith, many, so.few))
-      | inr few ↦ elim (cases_lt (digits_value (base radix) 0 text) (2 ^ 64)) [
+      | inr few ↦ elim (cases_lt (digits_value (radix_base radix) 0 text) (2 ^ 64)) [
         | inl fits ↦ inl (
-          digits_value (base radix) 0 text,
+          digits_value (radix_base radix) 0 text,
           record { digits = digits; some = some; few = few; value = refl; fits = fits },
         )
         | inr large ↦ inr (λ n so. omega (arith, large, so.value, so.fits))

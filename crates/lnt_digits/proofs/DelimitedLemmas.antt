@@ -9,7 +9,7 @@ use Rattle.std.specs.List.{AllByRecursion}
 use Rattle.std.specs.Prelude.{◌&&◌}
 use Rattle.lnt_digits.specs.declared.radix.Radix.{Radix}
 use Rattle.lnt_digits.specs.declared.radix.Radix.TheVariants.{Ten, Sixteen}
-use Rattle.lnt_digits.specs.Digits.{IsAddress, IsDigit, IsHexadecimalDigit, IsNumber, base, digit_value, digits_value}
+use Rattle.lnt_digits.specs.Digits.{IsAddress, IsDigit, IsHexadecimalDigit, IsNumber, radix_base, digit_value, digits_value}
 use Rattle.lnt_digits.specs.Delimited.{Begins}
 
 all_push : (P : ℕ → Type 0) (front : List ℕ) (b : ℕ) → AllByRecursion P front → P b → AllByRecursion P (front ++ b ∷ [])
@@ -27,21 +27,22 @@ pub record HasDigits (radix : Radix) (text : List ℕ) (at i value : ℕ) : Type
   pub joined : drop at text ≡ front ++ drop i text
   pub count : at + length front ≡ i
   pub digits : AllByRecursion (IsDigit radix) front
-  pub value_is : value ≡ digits_value (base radix) 0 front
-  pub bound : value < base radix ^ length front
+  pub value_is : value ≡ digits_value (radix_base radix) 0 front
+  pub bound : value < radix_base radix ^ length front
 
-bound_more : (radix : Radix) (value d k : ℕ) → value < base radix ^ k → d < base radix → value * base radix + d < base radix ^ (k + 1)
+bound_more : (radix : Radix) (value d k : ℕ) → value < radix_base radix ^ k → d < radix_base radix
+    → value * radix_base radix + d < radix_base radix ^ (k + 1)
 bound_more Ten value d k h lt = omega (arith, h, lt, pow_more 10 k)
 bound_more Sixteen value d k h lt = omega (arith, h, lt, pow_more 16 k)
 
 pub digits_more : (radix : Radix) (text : List ℕ) (at i value d more : ℕ) → i < length text → HasDigits radix text at i value
     → IsDigit radix (get_or text i 0)
-    → d ≡ digit_value (get_or text i 0) → d < base radix → more ≡ value * base radix + d → HasDigits radix text at (i + 1) more
+    → d ≡ digit_value (get_or text i 0) → d < radix_base radix → more ≡ value * radix_base radix + d → HasDigits radix text at (i + 1) more
 digits_more radix text at i value d more lt h is e small m =
     let c : ℕ = get_or text i 0 in
     let long : length (h.front ++ c ∷ []) ≡ length h.front + 1 = length-append h.front (c ∷ []) in
     let before = h.value_is in
-    let pushed = value_push (base radix) 0 c h.front in
+    let pushed = value_push (radix_base radix) 0 c h.front in
     record {
       front = h.front ++ c ∷ [];
       joined =

@@ -5,29 +5,29 @@ use Rattle.std.proofs.lemmas.Bool.Decides.{nat_tests, leb_tells}
 use Rattle.std.proofs.lemmas.Grind.{pow_more}
 use Rattle.lnt_digits.specs.declared.radix.Radix.{Radix}
 use Rattle.lnt_digits.specs.declared.radix.Radix.TheVariants.{Ten, Sixteen}
-use Rattle.lnt_digits.specs.Digits.{IsDigit, IsLower, base, digit_code, digit_value, digits_value}
+use Rattle.lnt_digits.specs.Digits.{IsDigit, IsLower, radix_base, digit_code, digit_value, digits_value}
 
 -- ---- the base
 
-pub base_some : (radix : Radix) → 0 < base radix
+pub base_some : (radix : Radix) → 0 < radix_base radix
 base_some Ten = omega arith
 base_some Sixteen = omega arith
 
 -- a number, by its last digit and those before it
-pub last_digit : (radix : Radix) (n : ℕ) → n / base radix * base radix + n % base radix ≡ n
+pub last_digit : (radix : Radix) (n : ℕ) → n / radix_base radix * radix_base radix + n % radix_base radix ≡ n
 last_digit Ten n = omega arith
 last_digit Sixteen n = omega arith
 
-pub last_digit_below : (radix : Radix) (n : ℕ) → n % base radix < base radix
+pub last_digit_below : (radix : Radix) (n : ℕ) → n % radix_base radix < radix_base radix
 last_digit_below Ten n = omega arith
 last_digit_below Sixteen n = omega arith
 
 -- a number below the base is its last digit
-pub lone_digit : (radix : Radix) (n : ℕ) → n / base radix ≡ 0 → n % base radix ≡ n
+pub lone_digit : (radix : Radix) (n : ℕ) → n / radix_base radix ≡ 0 → n % radix_base radix ≡ n
 lone_digit Ten n e = omega (arith, e)
 lone_digit Sixteen n e = omega (arith, e)
 
-pub fewer_digits : (radix : Radix) (n room : ℕ) → n < base radix ^ (room + 1) → n / base radix < base radix ^ room
+pub fewer_digits : (radix : Radix) (n room : ℕ) → n < radix_base radix ^ (room + 1) → n / radix_base radix < radix_base radix ^ room
 fewer_digits Ten n room h = omega (arith, h, pow_more 10 room)
 fewer_digits Sixteen n room h = omega (arith, h, pow_more 16 room)
 
@@ -51,7 +51,7 @@ code_worth d = elim (leb_tells 10 d) [
   | inr low ↦ rw (code_low d low.1) (worth_low d low.1)
 ]
 
-pub code_is_digit : (radix : Radix) (d : ℕ) → d < base radix → IsDigit radix (digit_code d)
+pub code_is_digit : (radix : Radix) (d : ℕ) → d < radix_base radix → IsDigit radix (digit_code d)
 code_is_digit Ten d h = rw (code_low d h) (omega (arith, h), omega (arith, h))
 code_is_digit Sixteen d h = elim (leb_tells 10 d) [
   | inl high ↦ rw (code_high d high.1) (inr (inr (omega (arith, high.1), omega (arith, h))))

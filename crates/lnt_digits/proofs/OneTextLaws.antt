@@ -5,10 +5,10 @@ use Rattle.std.proofs.lemmas.Bool.Decides.{nat_tests}
 use Rattle.std.specs.List.{AllByRecursion}
 use Rattle.lnt_digits.specs.declared.radix.Radix.{Radix}
 use Rattle.lnt_digits.specs.declared.radix.Radix.TheVariants.{Ten, Sixteen}
-use Rattle.lnt_digits.specs.Digits.{IsDigit, IsLower, IsPlain, base, digit_value, digits_value}
+use Rattle.lnt_digits.specs.Digits.{IsDigit, IsLower, IsPlain, radix_base, digit_value, digits_value}
 use Rattle.lnt_digits.specs.Laws.{OneAddress, OneDecimal}
 
-worth_below : (radix : Radix) (c : ℕ) → IsDigit radix c → digit_value c < base radix
+worth_below : (radix : Radix) (c : ℕ) → IsDigit radix c → digit_value c < radix_base radix
 worth_below Ten c h = grind (arith, nat_tests)
 worth_below Sixteen c (inl h) = grind (arith, nat_tests)
 worth_below Sixteen c (inr (inl h)) = grind (arith, nat_tests)
@@ -35,7 +35,8 @@ same_digit : (radix : Radix) (a b : ℕ) → IsDigit radix a → IsLower a → I
 same_digit radix a b h l k m e = same_worth a b (code_of radix a h l) (code_of radix b k m) e
 
 -- numbers with one more digit each are the same only where the digits are, and what stands before them
-parts_same : (radix : Radix) (v w a b : ℕ) → a < base radix → b < base radix → v * base radix + a ≡ w * base radix + b → (v ≡ w) × (a ≡ b)
+parts_same : (radix : Radix) (v w a b : ℕ) → a < radix_base radix → b < radix_base radix
+    → v * radix_base radix + a ≡ w * radix_base radix + b → (v ≡ w) × (a ≡ b)
 parts_same Ten v w a b h k e = (omega (arith, h, k, e), omega (arith, h, k, e))
 parts_same Sixteen v w a b h k e = (omega (arith, h, k, e), omega (arith, h, k, e))
 
@@ -46,12 +47,12 @@ record Same (s t : List ℕ) (v w : ℕ) : Type 0 where
 
 same_length : (radix : Radix) (s t : List ℕ) (v w : ℕ) → AllByRecursion (IsDigit radix) s → AllByRecursion IsLower s
     → AllByRecursion (IsDigit radix) t → AllByRecursion IsLower t
-    → length s ≡ length t → digits_value (base radix) v s ≡ digits_value (base radix) w t → Same s t v w
+    → length s ≡ length t → digits_value (radix_base radix) v s ≡ digits_value (radix_base radix) w t → Same s t v w
 same_length radix [] [] v w ds ls dt lt n e = record { text = refl; before = e }
 same_length radix [] (b ∷ t) v w ds ls dt lt n e = absurd (omega (arith, n))
 same_length radix (a ∷ s) [] v w ds ls dt lt n e = absurd (omega (arith, n))
 same_length radix (a ∷ s) (b ∷ t) v w ds ls dt lt n e =
-    let rest = same_length radix s t (v * base radix + digit_value a) (w * base radix + digit_value b) ds.1 ls.1 dt.1 lt.1
+    let rest = same_length radix s t (v * radix_base radix + digit_value a) (w * radix_base radix + digit_value b) ds.1 ls.1 dt.1 lt.1
     (omega (arith, n)) e in
     let parts = parts_same radix v w (digit_value a) (digit_value b) (worth_below radix a ds.0) (worth_below radix b dt.0) rest.before in
     let first = same_digit radix a b ds.0 ls.0 dt.0 lt.0 parts.1 in
@@ -63,7 +64,7 @@ same_length radix (a ∷ s) (b ∷ t) v w ds ls dt lt n e =
 -- the text with so many digits left, and what stands before them
 longer : (radix : Radix) (s t : List ℕ) (v : ℕ) → AllByRecursion (IsDigit radix) s → AllByRecursion IsLower s
     → AllByRecursion (IsDigit radix) t → AllByRecursion IsLower t
-    → length s ≤ length t → 0 < v → digits_value (base radix) 0 s ≡ digits_value (base radix) v t → ⊥
+    → length s ≤ length t → 0 < v → digits_value (radix_base radix) 0 s ≡ digits_value (radix_base radix) v t → ⊥
 longer radix s [] v ds ls dt lt n some e =
     let same = same_length radix s [] 0 v ds ls dt lt (omega (arith, n)) e in
     omega (arith, same.before, some)
@@ -71,10 +72,10 @@ longer radix s (b ∷ t) v ds ls dt lt n some e = elim (cases_lt (length t) (len
   | inl all ↦
       let same = same_length radix s (b ∷ t) 0 v ds ls dt lt (omega (arith, n, all)) e in
       omega (arith, same.before, some)
-  | inr more ↦ longer radix s t (v * base radix + digit_value b) ds ls dt.1 lt.1 more (grows radix v (digit_value b) some) e
+  | inr more ↦ longer radix s t (v * radix_base radix + digit_value b) ds ls dt.1 lt.1 more (grows radix v (digit_value b) some) e
 ]
   where
-    grows : (r : Radix) (k d : ℕ) → 0 < k → 0 < k * base r + d
+    grows : (r : Radix) (k d : ℕ) → 0 < k → 0 < k * radix_base r + d
     grows Ten k d h = omega (arith, h)
     grows Sixteen k d h = omega (arith, h)
 
@@ -89,7 +90,7 @@ no_longer : (radix : Radix) (s t : List ℕ) (n : ℕ) → IsPlain radix s n →
 no_longer radix s [] n p q lt = omega (arith, lt)
 no_longer radix s (b ∷ []) n p q lt = omega (arith, lt, p.number.some)
 no_longer radix s (b ∷ c ∷ t) n p q lt =
-    longer radix s (c ∷ t) (0 * base radix + digit_value b) p.number.digits p.lower q.number.digits.1 q.lower.1 (omega (arith, lt))
+    longer radix s (c ∷ t) (0 * radix_base radix + digit_value b) p.number.digits p.lower q.number.digits.1 q.lower.1 (omega (arith, lt))
     (omega (arith, worth_some radix b q.number.digits.0 q.no_zero)) (sym p.number.value ∙ q.number.value)
 
 pub one_plain : (radix : Radix) (s t : List ℕ) (n : ℕ) → IsPlain radix s n → IsPlain radix t n → s ≡ t

@@ -7,7 +7,7 @@ use Rattle.std.proofs.lemmas.List.{drop-set-lt, drop_all, length-take-le, take_a
 use Rattle.std.specs.List.{AllByRecursion}
 use Rattle.lnt_digits.specs.declared.radix.Radix.{Radix}
 use Rattle.lnt_digits.specs.declared.radix.Radix.TheVariants.{Ten, Sixteen}
-use Rattle.lnt_digits.specs.Digits.{HasNoLeadingZero, IsDigit, IsLower, IsPlain, IsPlainAddress, IsPlainDecimal, base, digit_code}
+use Rattle.lnt_digits.specs.Digits.{HasNoLeadingZero, IsDigit, IsLower, IsPlain, IsPlainAddress, IsPlainDecimal, radix_base, digit_code}
 use Rattle.lnt_digits.specs.Digits.{digit_value, digits_value, most_digits}
 use Rattle.lnt_digits.proofs.DigitLemmas.{code_is_digit, code_is_lower, code_not_zero, code_worth, fewer_digits}
 use Rattle.lnt_digits.proofs.DigitLemmas.{last_digit, last_digit_below, lone_digit}
@@ -25,7 +25,7 @@ drop_put buf i v lt = rw add-one (drop_put_suc buf i v lt)
 pub record IsPut (radix : Radix) (n : ℕ) (text : List ℕ) (left : ℕ) : Type 0 where
   pub digits : AllByRecursion (IsDigit radix) text
   pub some : 0 < length text
-  pub value : digits_value (base radix) left text ≡ n
+  pub value : digits_value (radix_base radix) left text ≡ n
   pub lower : AllByRecursion IsLower text
   pub no_zero : left ≡ 0 → HasNoLeadingZero text
 
@@ -33,32 +33,32 @@ no_zero_first : (c : ℕ) (text : List ℕ) → 48 < c → HasNoLeadingZero (c �
 no_zero_first c [] h = tt
 no_zero_first c (d ∷ text) h = h
 
-value_put : (radix : Radix) (n : ℕ) (text : List ℕ) (left : ℕ) → digits_value (base radix) left text ≡ n
-    → digits_value (base radix) (left / base radix) (digit_code (left % base radix) ∷ text) ≡ n
+value_put : (radix : Radix) (n : ℕ) (text : List ℕ) (left : ℕ) → digits_value (radix_base radix) left text ≡ n
+    → digits_value (radix_base radix) (left / radix_base radix) (digit_code (left % radix_base radix) ∷ text) ≡ n
 value_put radix n text left e =
-    let back : left / base radix * base radix + digit_value (digit_code (left % base radix)) ≡ left =
-    ap (λ (d : ℕ). left / base radix * base radix + d) (code_worth (left % base radix)) ∙ last_digit radix left in
-    ap (λ (v : ℕ). digits_value (base radix) v text) back ∙ e
+    let back : left / radix_base radix * radix_base radix + digit_value (digit_code (left % radix_base radix)) ≡ left =
+    ap (λ (d : ℕ). left / radix_base radix * radix_base radix + d) (code_worth (left % radix_base radix)) ∙ last_digit radix left in
+    ap (λ (v : ℕ). digits_value (radix_base radix) v text) back ∙ e
 
 -- one digit before them
 pub digit_put : (radix : Radix) (n : ℕ) (text : List ℕ) (left : ℕ) → IsPut radix n text left → 0 < left
-    → IsPut radix n (digit_code (left % base radix) ∷ text) (left / base radix)
+    → IsPut radix n (digit_code (left % radix_base radix) ∷ text) (left / radix_base radix)
 digit_put radix n text left p some = record {
-  digits = (code_is_digit radix (left % base radix) (last_digit_below radix left), p.digits);
+  digits = (code_is_digit radix (left % radix_base radix) (last_digit_below radix left), p.digits);
   some = omega arith;
   value = value_put radix n text left p.value;
-  lower = (code_is_lower (left % base radix), p.lower);
-  no_zero = λ e. no_zero_first (digit_code (left % base radix)) text
-      (code_not_zero (left % base radix) (omega (arith, some, lone_digit radix left e)));
+  lower = (code_is_lower (left % radix_base radix), p.lower);
+  no_zero = λ e. no_zero_first (digit_code (left % radix_base radix)) text
+      (code_not_zero (left % radix_base radix) (omega (arith, some, lone_digit radix left e)));
 }
 
 -- the last digit
-pub digit_first : (radix : Radix) (n : ℕ) → IsPut radix n (digit_code (n % base radix) ∷ []) (n / base radix)
+pub digit_first : (radix : Radix) (n : ℕ) → IsPut radix n (digit_code (n % radix_base radix) ∷ []) (n / radix_base radix)
 digit_first radix n = record {
-  digits = (code_is_digit radix (n % base radix) (last_digit_below radix n), tt);
+  digits = (code_is_digit radix (n % radix_base radix) (last_digit_below radix n), tt);
   some = omega arith;
   value = value_put radix n [] n refl;
-  lower = (code_is_lower (n % base radix), tt);
+  lower = (code_is_lower (n % radix_base radix), tt);
   no_zero = λ e. tt;
 }
 
@@ -71,11 +71,11 @@ pub record Stands (radix : Radix) (n end : ℕ) (digits : List ℕ) (start left 
   pub few : most_digits radix ≤ end
   pub room : ℕ
   pub room_is : start + most_digits radix ≡ room + end
-  pub bound : left < base radix ^ room
+  pub bound : left < radix_base radix ^ room
   pub put : IsPut radix n (drop start digits) left
 
 first_bound : (radix : Radix) (n end : ℕ) → n < 2 ^ 64 → 0 < end → (room : ℕ) × (end - 1 + most_digits radix ≡ room + end)
-    × (n / base radix < base radix ^ room)
+    × (n / radix_base radix < radix_base radix ^ room)
 first_bound Ten n end fits some = (19, omega (arith, some), omega (arith, fits))
 first_bound Sixteen n end fits some = (15, omega (arith, some), omega (arith, fits))
 
@@ -84,12 +84,12 @@ most_some Ten = omega arith
 most_some Sixteen = omega arith
 
 stands_first : (radix : Radix) (n end : ℕ) (digits : List ℕ) → n < 2 ^ 64 → length digits ≡ end → most_digits radix ≤ end
-    → Stands radix n end (slice_set digits (end - 1) (digit_code (n % base radix))) (end - 1) (n / base radix)
+    → Stands radix n end (slice_set digits (end - 1) (digit_code (n % radix_base radix))) (end - 1) (n / radix_base radix)
 stands_first radix n end digits fits long few =
     let some : 0 < end = omega (arith, few, most_some radix) in
     let lt : end - 1 < length digits = omega (arith, long, some) in
     let none : drop (end - 1 + 1) digits ≡ [] = drop_all (end - 1 + 1) digits (omega (arith, long)) in
-    let code : ℕ = digit_code (n % base radix) in
+    let code : ℕ = digit_code (n % radix_base radix) in
     let e : drop (end - 1) (slice_set digits (end - 1) code) ≡ code ∷ [] = drop_put digits (end - 1) code lt
     ∙ ap (λ (xs : List ℕ). code ∷ xs) none in
     let b = first_bound radix n end fits some in
@@ -100,32 +100,33 @@ stands_first radix n end digits fits long few =
       room = b.0;
       room_is = b.1;
       bound = b.2;
-      put = subst (λ (text : List ℕ). IsPut radix n text (n / base radix)) (sym e) (digit_first radix n);
+      put = subst (λ (text : List ℕ). IsPut radix n text (n / radix_base radix)) (sym e) (digit_first radix n);
     }
 
-pub no_room : (radix : Radix) (left : ℕ) → left < base radix ^ 0 → left ≡ 0
+pub no_room : (radix : Radix) (left : ℕ) → left < radix_base radix ^ 0 → left ≡ 0
 no_room Ten left h = omega (arith, h)
 no_room Sixteen left h = omega (arith, h)
 
 -- while something is left to write, there is room for it
-some_room : (radix : Radix) (room left : ℕ) → left < base radix ^ room → 0 < left → 0 < room
+some_room : (radix : Radix) (room left : ℕ) → left < radix_base radix ^ room → 0 < left → 0 < room
 some_room radix zero left h some = absurd (omega (arith, some, no_room radix left h))
 some_room radix (suc room) left h some = omega arith
 
 start_some : (radix : Radix) (n end : ℕ) (digits : List ℕ) (start left : ℕ) → Stands radix n end digits start left → 0 < left → 0 < start
 start_some radix n end digits start left s some = omega (arith, some_room radix s.room left s.bound some, s.room_is, s.few)
 
-bound_less : (radix : Radix) (room left : ℕ) → left < base radix ^ room → 0 < room → left / base radix < base radix ^ (room - 1)
+bound_less : (radix : Radix) (room left : ℕ) → left < radix_base radix ^ room → 0 < room
+    → left / radix_base radix < radix_base radix ^ (room - 1)
 bound_less radix room left h some =
     let back : room - 1 + 1 ≡ room = omega (arith, some) in
-    fewer_digits radix left (room - 1) (subst (λ (k : ℕ). left < base radix ^ k) (sym back) h)
+    fewer_digits radix left (room - 1) (subst (λ (k : ℕ). left < radix_base radix ^ k) (sym back) h)
 
 stands_more : (radix : Radix) (n end : ℕ) (digits : List ℕ) (start left : ℕ) → Stands radix n end digits start left → 0 < left
-    → Stands radix n end (slice_set digits (start - 1) (digit_code (left % base radix))) (start - 1) (left / base radix)
+    → Stands radix n end (slice_set digits (start - 1) (digit_code (left % radix_base radix))) (start - 1) (left / radix_base radix)
 stands_more radix n end digits start left s some =
     let room = some_room radix s.room left s.bound some in
     let before = start_some radix n end digits start left s some in
-    let code : ℕ = digit_code (left % base radix) in
+    let code : ℕ = digit_code (left % radix_base radix) in
     let lt : start - 1 < length digits = omega (arith, s.long, s.within) in
     let back : start - 1 + 1 ≡ start = omega (arith, before) in
     let e : drop (start - 1) (slice_set digits (start - 1) code) ≡ code ∷ drop start digits =
@@ -137,7 +138,7 @@ stands_more radix n end digits start left s some =
       room = s.room - 1;
       room_is = omega (arith, room, before, s.room_is);
       bound = bound_less radix s.room left s.bound room;
-      put = subst (λ (text : List ℕ). IsPut radix n text (left / base radix)) (sym e)
+      put = subst (λ (text : List ℕ). IsPut radix n text (left / radix_base radix)) (sym e)
           (digit_put radix n (drop start digits) left s.put some);
     }
 
@@ -148,7 +149,7 @@ stands_all radix n end digits start left fits s e = record {
     digits = s.put.digits;
     some = s.put.some;
     few = omega (arith, length-drop start digits, s.long, s.room_is);
-    value = sym s.put.value ∙ ap (λ (v : ℕ). digits_value (base radix) v (drop start digits)) e;
+    value = sym s.put.value ∙ ap (λ (v : ℕ). digits_value (radix_base radix) v (drop start digits)) e;
     fits = fits;
   };
   no_zero = s.put.no_zero e;
@@ -168,13 +169,13 @@ take_long : (end : ℕ) (text : List ℕ) → end ≤ length text → length (ta
 take_long end text long = length-take-le end text long
 
 pub written_first : (radix : Radix) (n end : ℕ) (text : List ℕ) → n < 2 ^ 64 → most_digits radix ≤ end → end ≤ length text
-    → Written radix n end text (slice_set text (end - 1) (digit_code (n % base radix))) (end - 1) (n / base radix)
+    → Written radix n end text (slice_set text (end - 1) (digit_code (n % radix_base radix))) (end - 1) (n / radix_base radix)
 written_first radix n end text fits few long =
     let lt : end - 1 < end = omega (arith, few, most_some radix) in
-    let code : ℕ = digit_code (n % base radix) in
+    let code : ℕ = digit_code (n % radix_base radix) in
     record {
       long = omega (arith, long, length-set text (end - 1) code);
-      stands = subst (λ (z : List ℕ). Stands radix n end z (end - 1) (n / base radix)) (sym (take-set-lt end text (end - 1) code lt))
+      stands = subst (λ (z : List ℕ). Stands radix n end z (end - 1) (n / radix_base radix)) (sym (take-set-lt end text (end - 1) code lt))
           (stands_first radix n end (take end text) fits (take_long end text long) few);
       before = λ k here. take-set-le k text (end - 1) code here;
       after = drop-set-lt end text (end - 1) code lt;
@@ -185,13 +186,14 @@ pub written_some : (radix : Radix) (n end : ℕ) (old text : List ℕ) (start le
 written_some radix n end old text start left w some = start_some radix n end (take end text) start left w.stands some
 
 pub written_more : (radix : Radix) (n end : ℕ) (old text : List ℕ) (start left : ℕ) → Written radix n end old text start left → 0 < left
-    → Written radix n end old (slice_set text (start - 1) (digit_code (left % base radix))) (start - 1) (left / base radix)
+    → Written radix n end old (slice_set text (start - 1) (digit_code (left % radix_base radix))) (start - 1) (left / radix_base radix)
 written_more radix n end old text start left w some =
     let lt : start - 1 < end = omega (arith, w.stands.within) in
-    let code : ℕ = digit_code (left % base radix) in
+    let code : ℕ = digit_code (left % radix_base radix) in
     record {
       long = omega (arith, w.long, length-set text (start - 1) code);
-      stands = subst (λ (z : List ℕ). Stands radix n end z (start - 1) (left / base radix)) (sym (take-set-lt end text (start - 1) code lt))
+      stands = subst (λ (z : List ℕ). Stands radix n end z (start - 1) (left / radix_base radix))
+          (sym (take-set-lt end text (start - 1) code lt))
           (stands_more radix n end (take end text) start left w.stands some);
       before = λ k here. take-set-le k text (start - 1) code here ∙ w.before k (omega (arith, here));
       after = drop-set-lt end text (start - 1) code lt ∙ w.after;

@@ -28,9 +28,9 @@ digit_code d = if nat_lt d 10 then 48 + d else 87 + d
 
 -- ---- numbers
 
-abbrev pub base : Radix → ℕ
-base Ten = 10
-base Sixteen = 16
+abbrev pub radix_base : Radix → ℕ
+radix_base Ten = 10
+radix_base Sixteen = 16
 
 abbrev pub most_digits : Radix → ℕ
 most_digits Ten = 20
@@ -46,7 +46,7 @@ pub record IsNumber (radix : Radix) (text : List ℕ) (n : ℕ) : Type 0 where
   pub digits : AllByRecursion (IsDigit radix) text
   pub some : 0 < length text
   pub few : length text ≤ most_digits radix
-  pub value : n ≡ digits_value (base radix) 0 text
+  pub value : n ≡ digits_value (radix_base radix) 0 text
   pub fits : n < 2 ^ 64
 
 abbrev pub IsDecimal : List ℕ → ℕ → Type 0

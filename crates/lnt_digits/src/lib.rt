@@ -13,5 +13,4 @@ mod read;
 
 pub use delimited::{address_until, decimal_until, past};
 pub use put::{address_before, decimal_before, put_address, put_decimal};
-pub use radix::Radix;
 pub use read::{address, decimal};

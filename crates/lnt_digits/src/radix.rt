@@ -1,14 +1,14 @@
 //! Digits and their values.
 ghost use Rattle.std.specs.Prelude.{◌≡◌, ◌+◌, ◌<◌, ◌≤◌, MatchOption};
 ghost use Rattle.std.specs.Bool.{MatchBool};
-ghost use Rattle.lnt_digits.specs.Digits.{IsDecimalDigit, IsDigit, IsHexadecimalDigit, base, digit_code, digit_value, most_digits};
+ghost use Rattle.lnt_digits.specs.Digits.{IsDecimalDigit, IsDigit, IsHexadecimalDigit, radix_base, digit_code, digit_value, most_digits};
 
-/// The digits that a number is written in.
+// The digits that a number is written in.
 #[derive(Clone, Copy)]
-pub enum Radix {
-    /// Decimal ones.
+pub(crate) enum Radix {
+    // Decimal ones.
     Ten,
-    /// Hexadecimal ones.
+    // Hexadecimal ones.
     Sixteen,
 }
 
@@ -16,7 +16,7 @@ impl Radix {
     // The base: 10 or 16.
     #[inline(always)]
     pub(crate) fn base(self) -> u64
-        ensures value { result ≡ base self }
+        ensures value { result ≡ radix_base self }
         ensures range { (10 ≤ result) × (result ≤ 16) }
     {
         match self {
@@ -39,7 +39,7 @@ impl Radix {
     // The value of a digit of this base. None where the byte is no such digit.
     #[inline(always)]
     pub(crate) fn value_of(self, byte: u8) -> Option<u64>
-        ensures { MatchOption result (IsDigit self byte → ⊥) (λ d. IsDigit self byte × (d ≡ digit_value byte) × (d < base self)) }
+        ensures { MatchOption result (IsDigit self byte → ⊥) (λ d. IsDigit self byte × (d ≡ digit_value byte) × (d < radix_base self)) }
     {
         match self {
             Radix::Ten => decimal_value(byte),
@@ -48,9 +48,9 @@ impl Radix {
     }
 }
 
-/// The value of a decimal digit. None where the byte is no such digit.
+// The value of a decimal digit. None where the byte is no such digit.
 #[inline(always)]
-pub fn decimal_value(byte: u8) -> Option<u64>
+pub(crate) fn decimal_value(byte: u8) -> Option<u64>
     ensures { MatchOption result (IsDecimalDigit byte → ⊥) (λ d. IsDecimalDigit byte × (d ≡ digit_value byte) × (d < 10)) }
 {
     match byte {
@@ -71,19 +71,19 @@ fn hexadecimal_value(byte: u8) -> Option<u64>
     }
 }
 
-/// Whether a byte is a hexadecimal digit of either case.
+// Whether a byte is a hexadecimal digit of either case.
 #[inline(always)]
-pub fn is_hexadecimal(byte: u8) -> bool
+pub(crate) fn is_hexadecimal(byte: u8) -> bool
     ensures { MatchBool result (IsHexadecimalDigit byte) (IsHexadecimalDigit byte → ⊥) }
 {
     is_between(byte, b'0', b'9') | is_between(byte, b'A', b'F') | is_between(byte, b'a', b'f')
 }
 
-/// The value of a hexadecimal digit of either case: its low half, and 9 more where it is a letter. It doesn't branch on
-/// that, since a processor can't predict which of the two comes. For a byte that is no such digit it gives some number
-/// below 64.
+// The value of a hexadecimal digit of either case: its low half, and 9 more where it is a letter. It doesn't branch on
+// that, since a processor can't predict which of the two comes. For a byte that is no such digit it gives some number
+// below 64.
 #[inline(always)]
-pub fn letter_or_digit_value(byte: u8) -> u64
+pub(crate) fn letter_or_digit_value(byte: u8) -> u64
     ensures value { IsHexadecimalDigit byte → (result ≡ digit_value byte) × (result < 16) }
     ensures range { result < 64 }
 {

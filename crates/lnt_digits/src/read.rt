@@ -1,6 +1,6 @@
 //! Numbers read from text.
 ghost use Rattle.std.specs.Prelude.{◌≡◌, ℕ, ◌+◌, ◌*◌, ◌^◌, ◌<◌, ◌≤◌, MatchOption};
-ghost use Rattle.lnt_digits.specs.Digits.{IsAddress, IsDecimal, IsNumber, base};
+ghost use Rattle.lnt_digits.specs.Digits.{IsAddress, IsDecimal, IsNumber, radix_base};
 
 use crate::radix::Radix;
 
@@ -45,7 +45,8 @@ fn number(digits: &[u8], radix: Radix) -> Option<u64>
 // The number with one more digit after its last. None where that is 2^64 or more.
 #[inline(always)]
 fn with_digit(value: u64, radix: Radix, digit: u64) -> Option<u64>
-    ensures { MatchOption result (2 ^ 64 ≤ value * base radix + digit) (λ more. (more ≡ value * base radix + digit) × (more < 2 ^ 64)) }
+    ensures { MatchOption result (2 ^ 64 ≤ value * radix_base radix + digit)
+        (λ more. (more ≡ value * radix_base radix + digit) × (more < 2 ^ 64)) }
 {
     value.checked_mul(radix.base())?.checked_add(digit)
 }

@@ -23,7 +23,8 @@ use Rattle.lnt_unit.specs.UnitBytes.{SectionBytes, UnitBytesIn, UnitsFrom}
 use Rattle.lnt_unit.specs.declared.convert.ConvertFault.{ConvertFault}
 use Rattle.lnt_unit.specs.declared.convert.ConvertFault.TheVariants.{Malformed, Memory, TooLarge}
 use Rattle.lnt_unit.specs.declared.unit.Parts.{Parts}
-use Rattle.lnt_dump.specs.Printed.{IsConversionBegun, IsFrontIn, refusal_text}
+use Rattle.lnt_dump.specs.Printed.{IsConversionBegun, refusal_text}
+use Rattle.lnt_dump.specs.Stepping.{IsFrontIn}
 use Rattle.lnt_dump.proofs.Sections.{PrintedTo}
 
 -- ---- the rest of a section

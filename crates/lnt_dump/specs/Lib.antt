@@ -1,5 +1,5 @@
-pub mod Nexts
 pub mod Printed
 pub mod Rows
+pub mod Stepping
 pub mod Units
 pub mod Widths

@@ -1,7 +1,7 @@
 -- What a writer has gained where a section was converted, or wasn't, and where that was stopped.
 use Rattle.std.specs.Prelude.{◌≢◌, ◌⊎◌, ℕ, List, [], ◌++◌, Option, codes}
 use Rattle.std.specs.Io.KnownBytes.{Appends, Keeps}
-use Rattle.lnt_output.specs.Fronts.{AppendsFront, HasBegun}
+use Rattle.lnt_output.specs.Fronts.{HasBegun}
 use Rattle.lnt_sources.specs.declared.status.Status.{Status}
 use Rattle.lnt_sources.specs.declared.status.Status.TheVariants.{Done, No}
 use Rattle.lnt_wire.specs.declared.format.Format.{Format}
@@ -41,7 +41,3 @@ IsConversionTold order section format to old new No = IsRefusalTold order sectio
 abbrev pub IsConversionBegun : Order → List ℕ → Format → Order → Option (List ℕ) → Option (List ℕ) → Type 0
 IsConversionBegun order section format to old new =
     Keeps old new ⊎ HasBegun (IsConversionTold order section format to old) old new
-
--- a writer that held these bytes has gained a front of such a text, and nothing else
-abbrev pub IsFrontIn : (List ℕ → Type 0) → Option (List ℕ) → Option (List ℕ) → Type 0
-IsFrontIn Is old new = (text : List ℕ) × Is text × AppendsFront old new text

@@ -1,4 +1,4 @@
--- The line that `dump --rows` prints of a row.
+-- The line that `dump --rows` prints of a row. No public contract speaks of it.
 use Rattle.std.specs.Prelude.{◌≡◌, ◌||◌, ℕ, Bool, cond, List, [], ◌∷◌, ◌++◌, codes, if◌then◌else◌}
 use Rattle.lnt_digits.specs.Digits.{IsPlainAddress, IsPlainDecimal}
 use Rattle.lnt_machine.specs.declared.row.Row.{Row}

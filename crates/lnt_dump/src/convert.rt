@@ -6,18 +6,17 @@ ghost use Rattle.lnt_sources.specs.Halts.{IsPrinting};
 ghost use Rattle.lnt_sources.specs.declared.status.Status.TheVariants.{Done, No};
 ghost use Rattle.lnt_unit.specs.ConvertedUnits.{Converts};
 ghost use Rattle.lnt_unit.specs.Converting.{IsConverted};
-ghost use Rattle.lnt_dump.specs.Printed.{IsConversionBegun, IsFrontIn, IsPrintedIn, IsRefusalTold, refusal_text, too_large_text};
+ghost use Rattle.lnt_dump.specs.Printed.{IsConversionBegun, IsPrintedIn, IsRefusalTold, refusal_text, too_large_text};
+ghost use Rattle.lnt_dump.specs.Stepping.{IsFrontIn};
 
 use crate::faults::print_fault;
+use crate::page::PAGE;
 use lnt_output::write_whole;
 use lnt_sources::{Halt, Status};
 use lnt_unit::{ConvertFault, convert_unit, judge_conversion};
 use lnt_wire::{Cursor, Format, Order, Source, read_all};
 use std::alloc::Global;
 use std::io::Write;
-
-// A page is handed to the writer once it has so many bytes.
-const PAGE: usize = 1 << 16;
 
 /// Prints the section that the source has to give in the format and in the byte order `to`, or why that can't be.
 ///

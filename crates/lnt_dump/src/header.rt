@@ -1,5 +1,5 @@
 //! How headers are printed, with their entries read one by one where they lie.
-ghost use Rattle.std.specs.Prelude.{◌≡◌, ◌<◌, OnOk};
+ghost use Rattle.std.specs.Prelude.{◌<◌, OnOk};
 ghost use Rattle.lnt_wire.specs.Bytes.{NoneSpelled};
 ghost use Rattle.lnt_header_bytes.specs.Stepping.{Passes};
 ghost use Rattle.lnt_header_bytes.specs.TableBytes.{EntryBytes};

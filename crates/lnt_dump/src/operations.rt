@@ -1,4 +1,10 @@
 //! How operations are printed.
+ghost use Rattle.std.specs.Prelude.{ℕ, List};
+ghost use Rattle.lnt_header.specs.Joins.{Each};
+ghost use Rattle.lnt_header.specs.OpRules.{AreOperands, StandsFor};
+ghost use Rattle.lnt_header.specs.declared.op.Op.{Op};
+ghost use Rattle.lnt_wire.specs.Leb128.{UnsignedLeb};
+
 use crate::dump::PrintStop;
 use crate::page::{Page, Sheet, turn_full};
 use crate::run::not_run;
@@ -11,7 +17,7 @@ use std::io::Write;
 
 // Prints a line for each operation of a unit, and judges its program as it goes; where rows are shown too, also whether
 // it runs.
-#[tactic(auto, using(lnt_machine::proofs::WalkLaws::step_allowed))]
+#[tactic(auto, using(lnt_machine::proofs::WalkLaws::step_allowed, crate::proofs::Operands::stands_for))]
 pub(crate) fn print_ops<W: Write>(
     sheet: &Sheet<'_>,
     page: &mut Page,
@@ -41,13 +47,11 @@ fn print_op<W: Write>(
     op: &OpView<'_>,
     page: &mut Page,
     out: &mut W,
-) -> Result<(), PrintStop> {
+) -> Result<(), PrintStop>
+    requires { (done : Op) × StandsFor op.now done }
+{
     put_start(&mut page.text, index)?;
-    if let OpView::UnknownExtended(code, bytes) = op {
-        print_extended(sheet, *code, bytes, page, out)?;
-    } else {
-        put_op(&mut page.text, op)?;
-    }
+    put_op(sheet, op, page, out)?;
     put_one(&mut page.text, b'\n')?;
     turn_full(sheet, page, out)
 }
@@ -60,8 +64,18 @@ fn put_start(text: &mut Vec<u8>, index: u64) -> Result<(), AllocError> {
     put_one(text, b' ')
 }
 
-// Adds the name and the operands of an operation, as its line has them.
-fn put_op(text: &mut Vec<u8>, op: &OpView<'_>) -> Result<(), AllocError> {
+// Adds the name and the operands of an operation, as its line has them. The bytes of an unknown extended operation may fill
+// pages, which are handed on.
+#[tactic(auto, using(crate::proofs::Operands::some_operands))]
+fn put_op<W: Write>(
+    sheet: &Sheet<'_>,
+    op: &OpView<'_>,
+    page: &mut Page,
+    out: &mut W,
+) -> Result<(), PrintStop>
+    requires { (done : Op) × StandsFor op.now done }
+{
+    let text = &mut page.text;
     match op {
         OpView::Special(opcode) => put_named(text, b"special ", u64::from(*opcode)),
         OpView::Copy => text.extend_from_slice(b"copy"),
@@ -76,18 +90,15 @@ fn put_op(text: &mut Vec<u8>, op: &OpView<'_>) -> Result<(), AllocError> {
         OpView::SetPrologueEnd => text.extend_from_slice(b"set_prologue_end"),
         OpView::SetEpilogueBegin => text.extend_from_slice(b"set_epilogue_begin"),
         OpView::SetIsa(n) => put_named(text, b"set_isa ", *n),
-        OpView::UnknownStandard(opcode, operands) => {
-            put_named(text, b"unknown_standard ", u64::from(*opcode))?;
-            put_operands(text, operands)
-        }
+        OpView::UnknownStandard(opcode, operands) => put_standard(text, *opcode, operands),
         OpView::EndSequence => text.extend_from_slice(b"end_sequence"),
-        OpView::SetAddress(address) => {
-            text.extend_from_slice(b"set_address ")?;
-            put_address(text, *address)
-        }
+        OpView::SetAddress(address) => put_set_address(text, *address),
         OpView::SetDiscriminator(n) => put_named(text, b"set_discriminator ", *n),
-        OpView::UnknownExtended(code, _) => put_named(text, b"unknown_extended ", u64::from(*code)),
-    }
+        OpView::UnknownExtended(code, bytes) => {
+            return print_extended(sheet, *code, bytes, page, out);
+        }
+    }?;
+    Ok(())
 }
 
 // Adds a name and a number.
@@ -106,36 +117,44 @@ fn put_line(text: &mut Vec<u8>, change: i64) -> Result<(), AllocError> {
     put_decimal(text, change.unsigned_abs())
 }
 
-// Adds numbers, each after a space.
-fn put_operands(text: &mut Vec<u8>, operands: &Operands<'_>) -> Result<(), AllocError> {
+fn put_set_address(text: &mut Vec<u8>, address: u64) -> Result<(), AllocError> {
+    text.extend_from_slice(b"set_address ")?;
+    put_address(text, address)
+}
+
+// Adds the name, the opcode and the operands of an unknown standard operation.
+fn put_standard(text: &mut Vec<u8>, opcode: u8, operands: &Operands<'_>) -> Result<(), AllocError>
+    requires { (numbers : List ℕ) × AreOperands operands.now numbers }
+{
+    put_named(text, b"unknown_standard ", u64::from(opcode))?;
     match operands {
-        Operands::Listed(numbers) => {
-            for number in *numbers {
-                put_named(text, b" ", *number)?;
-            }
-            Ok(())
-        }
+        Operands::Listed(numbers) => put_listed(text, numbers),
         Operands::Spelled(bytes) => put_spelled(text, bytes),
     }
 }
 
-// Adds the numbers that the bytes spell, each after a space.
-fn put_spelled(text: &mut Vec<u8>, bytes: &[u8]) -> Result<(), AllocError> {
-    // The order of bytes is of no concern to these numbers.
-    let mut cursor = Cursor::new(bytes, 0, Order::Little);
-    // Each number has a byte.
-    for _ in 0..bytes.len() {
-        let Some(number) = next_number(&mut cursor) else {
-            break;
-        };
-        put_named(text, b" ", number)?;
+// Adds numbers, each after a space.
+fn put_listed(text: &mut Vec<u8>, numbers: &[u64]) -> Result<(), AllocError> {
+    for number in numbers {
+        put_named(text, b" ", *number)?;
     }
     Ok(())
 }
 
-// The next number, where there is one.
-fn next_number(cursor: &mut Cursor<'_>) -> Option<u64> {
-    cursor.uleb().ok()
+// Adds the numbers that the bytes spell, one after another up to their end, each after a space.
+#[tactic(auto, using(crate::proofs::Operands::one_there, crate::proofs::Operands::rest_spelled, crate::proofs::Operands::rest_shorter))]
+fn put_spelled(text: &mut Vec<u8>, bytes: &[u8]) -> Result<(), AllocError>
+    requires { (numbers : List ℕ) × Each UnsignedLeb numbers bytes.now }
+{
+    // The order of bytes is of no concern to these numbers.
+    let mut cursor = Cursor::new(bytes, 0, Order::Little);
+    while !cursor.rest().is_empty() {
+        let Ok(number) = cursor.uleb() else {
+            unreachable!()
+        };
+        put_named(text, b" ", number)?;
+    }
+    Ok(())
 }
 
 // Prints an unknown extended operation, with its bytes by their digits, if it has any.

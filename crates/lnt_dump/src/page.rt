@@ -9,7 +9,7 @@ use std::alloc::{AllocError, Global};
 use std::io::Write;
 
 // A page is handed to the writer once it has so many bytes.
-const PAGE: usize = 1 << 16;
+pub(crate) const PAGE: usize = 1 << 16;
 
 // A unit, and what is printed of it.
 #[derive(Drop)]

@@ -2,31 +2,28 @@
 use crate::dump::PrintStop;
 use crate::line::{MOST, row_line};
 use crate::page::{Page, Sheet, turn_full};
-use crate::run::not_run;
-use lnt_machine::{Row, Run};
+use crate::run::rows_end;
+use lnt_machine::{Row, Rows};
 use std::io::Write;
 
 // Prints a line for each row of a unit, and judges its program as it goes.
-#[tactic(auto, using(lnt_machine::proofs::WalkLaws::step_allowed))]
 pub(crate) fn print_rows<W: Write>(
     sheet: &Sheet<'_>,
     page: &mut Page,
     out: &mut W,
 ) -> Result<(), PrintStop> {
     let unit = sheet.unit;
-    let mut run = Run::new(unit.numbers());
     let mut room = [0; MOST];
     let mut index: u64 = 0;
-    for op in unit.ops() {
-        let row = match run.step(&op?) {
-            Ok(Some(row)) => row,
-            Ok(None) => continue,
-            Err(fault) => return Err(not_run(unit, fault)),
+    for row in Rows::new(unit.numbers(), unit.ops()) {
+        let row = match row {
+            Ok(row) => row,
+            Err(fault) => return Err(rows_end(unit, fault)),
         };
         print_row(sheet, index, &row, &mut room, page, out)?;
         index = index.saturating_add(1);
     }
-    run.end().map_err(PrintStop::NotRun)
+    Ok(())
 }
 
 // Prints the line of the `index`th row. The room is for its text.

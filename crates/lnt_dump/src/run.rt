@@ -1,19 +1,25 @@
 //! Whether the program of a unit runs.
 use crate::dump::PrintStop;
-use lnt_machine::{Run, RunFault};
+use lnt_machine::{RowFault, Rows, RunFault};
 use lnt_unit::UnitInPlace;
 
 // Runs the program of a unit. It refuses with the fault of the first operation that isn't there, and else with that of
 // the run.
-#[tactic(auto, using(lnt_machine::proofs::WalkLaws::step_allowed))]
 pub(crate) fn run(unit: &UnitInPlace<'_>) -> Result<(), PrintStop> {
-    let mut run = Run::new(unit.numbers());
-    for op in unit.ops() {
-        if let Err(fault) = run.step(&op?) {
-            return Err(not_run(unit, fault));
+    for row in Rows::new(unit.numbers(), unit.ops()) {
+        if let Err(fault) = row {
+            return Err(rows_end(unit, fault));
         }
     }
-    run.end().map_err(PrintStop::NotRun)
+    Ok(())
+}
+
+// Why the rows of a unit end by a fault.
+pub(crate) fn rows_end(unit: &UnitInPlace<'_>, fault: RowFault) -> PrintStop {
+    match fault {
+        RowFault::Malformed(fault) => PrintStop::Malformed(fault),
+        RowFault::Run(fault) => not_run(unit, fault),
+    }
 }
 
 // Why a program stops that doesn't run: an operation that isn't there comes first, wherever it would stand.

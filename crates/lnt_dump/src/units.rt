@@ -4,7 +4,7 @@ ghost use Rattle.std.specs.Io.KnownBytes.{Appends};
 ghost use Rattle.lnt_output.specs.Fronts.{AppendsFront, HasBegun};
 ghost use Rattle.lnt_stream.specs.declared.reader.Progress.TheVariants.{Reading};
 ghost use Rattle.lnt_stream.specs.Readers.{offset_of, order_of, progress_of, source_of};
-ghost use Rattle.lnt_dump.specs.Nexts.{IsNext, IsUnit};
+ghost use Rattle.lnt_dump.specs.Stepping.{IsNext, IsUnit};
 ghost use Rattle.lnt_dump.specs.Units.{AreBytes, AreUnitsTold, unit_line};
 
 use crate::faults::print_fault;

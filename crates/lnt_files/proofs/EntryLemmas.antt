@@ -23,7 +23,7 @@ use Rattle.lnt_files.specs.declared.components.Places.{Places}
 use Rattle.lnt_files.specs.declared.components.Usual.TheVariants.{Path, IndexedPath, SummedPath}
 use Rattle.lnt_files.specs.declared.walk.EntryView.{EntryView}
 use Rattle.lnt_files.specs.Walks.{Says, contents_of, IsUsual, ArePlaces}
-use Rattle.lnt_files.specs.Stepping.{ReadsEntry, IsKept, AreKept}
+use Rattle.lnt_files.specs.Stepping.{ReadsEntry, IsComponent, AreComponents}
 
 -- ---- the usual formats
 
@@ -219,19 +219,19 @@ get_here [] value = refl
 get_here (v ∷ values) value = get_here values value
 
 pub kept_here : (values : List FormValue) (value : ValueView) (wanted : Option ℕ) (place : ℕ) → length values ≡ place → wanted ≡ Some place
-    → IsKept wanted (values ++ value_of value ∷ []) (Some value)
+    → IsComponent wanted (values ++ value_of value ∷ []) (Some value)
 kept_here values value wanted place count e =
     sym (ap (option_and_then (slice_get (values ++ value_of value ∷ []))) (e ∙ ap (λ (n : ℕ). Some n) (sym count))
     ∙ get_here values (value_of value))
 
 pub kept_earlier : (values : List FormValue) (value : FormValue) (wanted : Option ℕ) (place : ℕ) (component : Option ValueView)
-    → length values ≡ place → wanted ≢ Some place → IsKept wanted values component
-    → IsKept wanted (values ++ value ∷ []) component
+    → length values ≡ place → wanted ≢ Some place → IsComponent wanted values component
+    → IsComponent wanted (values ++ value ∷ []) component
 kept_earlier values value None place component count other h = h
 kept_earlier values value (Some p) place component count other h =
     h ∙ sym (get_earlier values value p (λ e. other (ap (λ (n : ℕ). Some n) (e ∙ count))))
 
-none_kept : (place : Option ℕ) → IsKept place [] None
+none_kept : (place : Option ℕ) → IsComponent place [] None
 none_kept None = refl
 none_kept (Some p) = refl
 
@@ -241,7 +241,7 @@ pub record AreReadAndKept (format : Format) (pairs : List Pair) (places : Places
   pub values : List FormValue
   pub count_is : length values ≡ count
   pub read : AreReadTo format pairs count values old now
-  pub kept : AreKept places values view
+  pub kept : AreComponents places values view
 
 pub nothing_read : (format : Format) (pairs : List Pair) (places : Places) (view : EntryView) (at : At)
     → view ≡ record { path = None; directory = None; sum = None } → AreReadAndKept format pairs places 0 view at at
@@ -257,7 +257,7 @@ nothing_read format pairs places view at view_is =
 pub one_more_read : (format : Format) (pairs : List Pair) (places : Places) (i : ℕ) (d : Pair) (value : FormValue) (view more : EntryView)
     (old middle new : At) → i < length pairs
     → AreReadAndKept format pairs places i view old middle → Reads (ValueBytes format middle.order (get_or pairs i d).form) value middle new
-    → ((values : List FormValue) → length values ≡ i → AreKept places values view → AreKept places (values ++ value ∷ []) more)
+    → ((values : List FormValue) → length values ≡ i → AreComponents places values view → AreComponents places (values ++ value ∷ []) more)
     → AreReadAndKept format pairs places (i + 1) more old new
 one_more_read format pairs places i d value view more old middle new lt p r keeps = record {
   values = p.values ++ value ∷ [];

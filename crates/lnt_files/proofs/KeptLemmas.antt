@@ -12,7 +12,8 @@ use Rattle.lnt_header.specs.declared.header.HeaderParts.{HeaderParts}
 use Rattle.lnt_files.specs.declared.files.Kept.{Kept}
 use Rattle.lnt_files.specs.Contents.{sum_of}
 use Rattle.lnt_files.specs.Files.{KeptFile, kept_path, kept_sum, AreFilesOf}
-use Rattle.lnt_files.specs.Kept.{kept_files, start_of, EndAt, IsKept, Keeps}
+use Rattle.lnt_files.specs.Kept.{kept_files, EndAt}
+use Rattle.lnt_files.specs.Stepping.{start_of, IsKept, Keeps}
 use Rattle.lnt_files.specs.Paths.{file_path}
 
 -- ---- one file of those that are kept

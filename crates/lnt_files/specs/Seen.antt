@@ -1,4 +1,4 @@
--- Entries of a table that a walk has seen.
+-- Entries of a table that a walk has seen. No public contract speaks of it.
 use Rattle.std.specs.Prelude.{◌≡◌, ℕ, ◌<◌, Bool, true, false, List, ◌++◌, length, Option, Some, None}
 use Rattle.std.specs.List.{AllByRecursion, slice_get}
 use Rattle.lnt_header_bytes.specs.Borrowed.{BorrowedTable}

@@ -1,6 +1,6 @@
 -- What the bodies of this crate say of one step. No public contract speaks of it.
-use Rattle.std.specs.Prelude.{◌≡◌, ℕ, List, Option}
-use Rattle.std.specs.List.{slice_get}
+use Rattle.std.specs.Prelude.{◌≡◌, ℕ, zero, suc, List, [], ◌∷◌, length, Option, Some}
+use Rattle.std.specs.List.{AllZip, slice_get}
 use Rattle.std.specs.Option.{option_map, option_and_then}
 use Rattle.lnt_wire.specs.At.{At}
 use Rattle.lnt_wire.specs.Borrowed.{value_of}
@@ -11,10 +11,18 @@ use Rattle.lnt_wire.specs.declared.format.Format.{Format}
 use Rattle.lnt_wire.specs.declared.view.ValueView.{ValueView}
 use Rattle.lnt_header_bytes.specs.TableBytes.{EntryBytes}
 use Rattle.lnt_header.specs.declared.header.Entry.{Entry}
+use Rattle.lnt_header.specs.declared.header.HeaderParts.{HeaderParts}
 use Rattle.lnt_header.specs.declared.header.Pair.{Pair}
 use Rattle.lnt_files.specs.declared.components.Places.{Places}
+use Rattle.lnt_files.specs.declared.files.Kept.{Kept}
 use Rattle.lnt_files.specs.declared.walk.EntryView.{EntryView}
+use Rattle.lnt_files.specs.Contents.{sum_of}
+use Rattle.lnt_files.specs.Files.{KeptFile}
+use Rattle.lnt_files.specs.Kept.{EndAt, kept_files}
+use Rattle.lnt_files.specs.Paths.{file_path}
 use Rattle.lnt_files.specs.Walks.{Says}
+
+-- ---- the components of an entry
 
 -- the read of an entry, and what it says
 pub record ReadsEntry (format : Format) (pairs : List Pair) (view : EntryView) (old new : At) : Type 0 where
@@ -27,10 +35,29 @@ abbrev pub IsPair : ℕ → Form → Pair → Type 0
 IsPair content form pair = (pair.content ≡ content) × (pair.form ≡ form)
 
 -- the component is the value at the place, if that was read
-abbrev pub IsKept : Option ℕ → List FormValue → Option ValueView → Type 0
-IsKept place values kept = option_map value_of kept ≡ option_and_then (slice_get values) place
+abbrev pub IsComponent : Option ℕ → List FormValue → Option ValueView → Type 0
+IsComponent place values kept = option_map value_of kept ≡ option_and_then (slice_get values) place
 
-pub record AreKept (places : Places) (values : List FormValue) (view : EntryView) : Type 0 where
-  pub path : IsKept places.path values view.path
-  pub directory : IsKept places.directory values view.directory
-  pub sum : IsKept places.sum values view.sum
+-- what was kept of these values are the first components of the content types
+pub record AreComponents (places : Places) (values : List FormValue) (view : EntryView) : Type 0 where
+  pub path : IsComponent places.path values view.path
+  pub directory : IsComponent places.directory values view.directory
+  pub sum : IsComponent places.sum values view.sum
+
+-- ---- the files that are kept
+
+-- where the path of a file begins
+abbrev pub start_of : ℕ → List Kept → ℕ → ℕ
+start_of start files zero = start
+start_of start [] (suc number) = start
+start_of start (file ∷ files) (suc number) = start_of file.end files number
+
+-- the path and the sum of an entry
+pub record IsKept (line general : List ℕ) (h : HeaderParts) (file : Entry) (kept : KeptFile) : Type 0 where
+  pub path : file_path line general h file ≡ Some kept.path
+  pub sum : sum_of h.file_format file ≡ kept.listed
+
+-- these paths and ends are those of the entries
+pub record Keeps (line general : List ℕ) (h : HeaderParts) (files : List Entry) (paths : List ℕ) (kept : List Kept) : Type 0 where
+  pub ends : EndAt (length paths) 0 kept
+  pub same : AllZip (IsKept line general h) files (kept_files paths 0 kept)

@@ -1,4 +1,4 @@
--- Entries that are read where they lie, one after another.
+-- Entries that are read where they lie, one after another. No public contract speaks of it.
 use Rattle.std.specs.Prelude.{◌≡◌, ℕ, List, [], ◌∷◌, map, Option, Some, None}
 use Rattle.std.specs.Option.{option_map}
 use Rattle.lnt_wire.specs.At.{At}

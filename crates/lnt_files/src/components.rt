@@ -7,7 +7,7 @@ ghost use Rattle.lnt_wire.specs.declared.form.FormValue.{FormValue};
 ghost use Rattle.lnt_wire.specs.declared.form.Form.TheVariants.{LineStrp, Udata, Data16};
 ghost use Rattle.lnt_files.specs.Contents.{content_path, content_directory_index, content_md5};
 ghost use Rattle.lnt_files.specs.Walks.{IsUsual, ArePlaces};
-ghost use Rattle.lnt_files.specs.Stepping.{IsPair, IsKept, AreKept, ReadsEntry};
+ghost use Rattle.lnt_files.specs.Stepping.{IsPair, IsComponent, AreComponents, ReadsEntry};
 
 use crate::contents::{DIRECTORY_INDEX, MD5, PATH, place_of};
 use crate::walk::EntryView;
@@ -208,8 +208,8 @@ fn with_value<'a>(
     place: usize,
     value: ValueView<'a>,
 ) -> EntryView<'a>
-    ensures { (values : List FormValue) → length values ≡ place → AreKept places values entry.entry
-        → AreKept places (values ++ value_of value.entry ∷ []) result }
+    ensures { (values : List FormValue) → length values ≡ place → AreComponents places values entry.entry
+        → AreComponents places (values ++ value_of value.entry ∷ []) result }
 {
     EntryView {
         path: kept(entry.path, places.path, place, value),
@@ -228,8 +228,8 @@ fn kept<'a>(
     place: usize,
     value: ValueView<'a>,
 ) -> Option<ValueView<'a>>
-    ensures { (values : List FormValue) → length values ≡ place → IsKept wanted values component.entry
-        → IsKept wanted (values ++ value_of value.entry ∷ []) result }
+    ensures { (values : List FormValue) → length values ≡ place → IsComponent wanted values component.entry
+        → IsComponent wanted (values ++ value_of value.entry ∷ []) result }
 {
     if wanted == Some(place) {
         Some(value)

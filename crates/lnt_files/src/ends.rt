@@ -39,17 +39,9 @@ impl<'a> StringEnds<'a> {
         }
     }
 
-    /// The sections.
-    pub fn strings(&self) -> Strings<'a>
-        ensures line { result.line.now ≡ self.now.line }
-        ensures general { result.general.now ≡ self.now.general }
-    {
-        self.strings
-    }
-
     /// Whether the value has a text, as `Strings::text` gives it. It takes the same time whatever the sections are.
     #[inline(always)]
-    pub fn has_text(&self, value: ValueView<'_>) -> bool
+    pub(crate) fn has_text(&self, value: ValueView<'_>) -> bool
         ensures { IsTrue result ↔ IsSome (text_of self.now.line self.now.general (value_of value.entry)) }
     {
         match value {

@@ -3,7 +3,8 @@ ghost use Rattle.std.specs.Prelude.{◌≡◌, ◌+◌, ◌<◌, IfOk, length};
 ghost use Rattle.std.specs.List.{slice_get};
 ghost use Rattle.std.specs.Option.{option_map, option_and_then, option_copied};
 ghost use Rattle.lnt_files.specs.Files.{AreFilesOf, kept_path, kept_sum};
-ghost use Rattle.lnt_files.specs.Kept.{EndAt, kept_files, start_of};
+ghost use Rattle.lnt_files.specs.Kept.{EndAt, kept_files};
+ghost use Rattle.lnt_files.specs.Stepping.{start_of};
 ghost use Rattle.lnt_files.specs.Tables.{AreUsableTables};
 
 use crate::contents::sum_of;

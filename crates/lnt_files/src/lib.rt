@@ -15,4 +15,3 @@ mod walk;
 pub use ends::StringEnds;
 pub use files::Files;
 pub use tables::{EntryTableFault, EntryTableText};
-pub use walk::{Entries, EntryView};

@@ -16,7 +16,7 @@ impl<'a> EntryView<'a> {
     /// Whether the text of the entry's path is there. It takes the same time whatever the sections are.
     #[inline(always)]
     #[tactic(auto, using(crate::proofs::SaidLemmas::has_text, crate::proofs::SaidLemmas::has_none))]
-    pub fn has_path(&self, ends: &StringEnds<'_>) -> bool
+    pub(crate) fn has_path(&self, ends: &StringEnds<'_>) -> bool
         ensures { (pairs : List Pair) (entry : Entry) → Says pairs entry self.now
             → IsTrue result ↔ HasPath ends.now.line ends.now.general pairs entry }
     {
@@ -28,7 +28,7 @@ impl<'a> EntryView<'a> {
 
     /// The text of the entry's path. None where it isn't there.
     #[tactic(auto, using(crate::proofs::SaidLemmas::text_is, crate::proofs::SaidLemmas::no_text_is))]
-    pub fn path_text(&self, strings: Strings<'a>) -> Option<&'a [u8]>
+    pub(crate) fn path_text(&self, strings: Strings<'a>) -> Option<&'a [u8]>
         ensures { (pairs : List Pair) (entry : Entry) → Says pairs entry self.now
             → option_map (λ text. text.now) result ≡ path_text strings.entry.line.now strings.entry.general.now pairs entry }
     {
@@ -41,7 +41,7 @@ impl<'a> EntryView<'a> {
     /// The number of the file's directory. 0 where the entry has none.
     #[inline(always)]
     #[tactic(auto, using(crate::proofs::SaidLemmas::number_is, crate::proofs::SaidLemmas::no_number_is))]
-    pub fn directory_number(&self) -> u64
+    pub(crate) fn directory_number(&self) -> u64
         ensures { (pairs : List Pair) (entry : Entry) → Says pairs entry self.now → result ≡ directory_number pairs entry }
     {
         match self.directory {
@@ -52,7 +52,7 @@ impl<'a> EntryView<'a> {
 
     /// The file's MD5 sum, where it lists one.
     #[tactic(auto, using(crate::proofs::SaidLemmas::sum_is, crate::proofs::SaidLemmas::no_sum_is))]
-    pub fn listed(&self) -> Option<[u8; 16]>
+    pub(crate) fn listed(&self) -> Option<[u8; 16]>
         ensures { (pairs : List Pair) (entry : Entry) → Says pairs entry self.now → result ≡ sum_of pairs entry }
     {
         match self.sum {

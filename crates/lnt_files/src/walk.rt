@@ -11,7 +11,7 @@ use std::marker::Model;
 /// What an entry says by its content types (DWARF 5, section 6.2.4.1), of each of which the first component counts. None
 /// where the entry has no component of a type.
 #[derive(Clone, Copy, Debug)]
-pub struct EntryView<'a> {
+pub(crate) struct EntryView<'a> {
     /// The path.
     pub path: Option<ValueView<'a>>,
     /// The number of the directory.
@@ -24,7 +24,7 @@ pub struct EntryView<'a> {
 ///
 /// Contracts see the table with the entries that are left.
 #[derive(Drop)]
-pub struct Entries<'t> {
+pub(crate) struct Entries<'t> {
     table: &'t TableView<'t>,
     usual: Usual,
     places: Places,
@@ -46,7 +46,7 @@ impl<'t> Model for Entries<'t> {
 impl<'t> Entries<'t> {
     /// A walk before the first entry of the table.
     #[tactic(auto, using(crate::proofs::WalkLemmas::walk_begun, crate::proofs::WalkLemmas::begun_is))]
-    pub fn of(table: &'t TableView<'t>) -> Entries<'t>
+    pub(crate) fn of(table: &'t TableView<'t>) -> Entries<'t>
         ensures { result ≡ table.entry.now }
     {
         let pairs = table.pairs();
@@ -82,7 +82,7 @@ impl<'t> Entries<'t> {
     /// What the next entry says. None after the last one.
     #[inline(always)]
     #[tactic(auto, using(crate::proofs::WalkLemmas::walk_ended, crate::proofs::WalkLemmas::walk_steps, crate::proofs::WalkLemmas::walk_goes_on, crate::proofs::WalkLemmas::walk_never_stops))]
-    pub fn next_entry(&mut self) -> Option<EntryView<'t>>
+    pub(crate) fn next_entry(&mut self) -> Option<EntryView<'t>>
         ensures { EntryStep self.old result self.new }
     {
         if self.left == 0 {

@@ -18,7 +18,7 @@ use Rattle.lnt_header.specs.declared.header.EntryTable.TheVariants.{Directories,
 use Rattle.lnt_header.proofs.FirstLaws.{first_is_wrong}
 use Rattle.lnt_header.specs.HeaderRules.{IsAddressSize, AreStandardLengths, six_bytes, HasHeaderNumbers}
 use Rattle.lnt_header.specs.OpRules.{known_lengths, last_known}
-use Rattle.lnt_header.specs.HeaderRules.{IsEntryOf, IsTable, IsHeader}
+use Rattle.lnt_header.specs.HeaderRules.{IsEntryOf, IsEntryTable, IsHeader}
 use Rattle.lnt_header.specs.HeaderTests.{IsFormat, IsPartsFault, FitsItsForm, HoldsNoZero, FitsPair, IsOfFormat, HasSoundTexts}
 
 -- ---- the standard lengths
@@ -166,7 +166,7 @@ tests_passed h numbers d f of_d of_f text_d text_f = record {
 
 -- ---- what is refused
 
-format_of : (pairs : List Pair) (entries : List Entry) → IsTable pairs entries → IsFormat pairs entries
+format_of : (pairs : List Pair) (entries : List Entry) → IsEntryTable pairs entries → IsFormat pairs entries
 format_of pairs entries t = record { few_pairs = t.few_pairs; none_without_pairs = t.none_without_pairs }
 
 own_form : (value : FormValue) → HasSpelling value → FitsItsForm value

@@ -8,6 +8,7 @@ use Rattle.lnt_header.specs.declared.header.HeaderParts.{HeaderParts}
 use Rattle.lnt_header.specs.declared.header.Pair.{Pair}
 use Rattle.lnt_header.specs.OpRules.{known_lengths, last_known}
 
+-- An address has 2, 4 or 8 bytes.
 abbrev pub IsAddressSize : ℕ → Type 0
 IsAddressSize size = (size ≡ 2) ⊎ (size ≡ 4) ⊎ (size ≡ 8)
 
@@ -41,12 +42,13 @@ pub record IsEntryOf (pairs : List Pair) (entry : Entry) : Type 0 where
   pub spelled : AllByRecursion HasSpelling entry.values
 
 -- A format of at most 255 pairs, and entries of that format. Without pairs there are no entries.
-pub record IsTable (pairs : List Pair) (entries : List Entry) : Type 0 where
+pub record IsEntryTable (pairs : List Pair) (entries : List Entry) : Type 0 where
   pub few_pairs : length pairs < 256
   pub none_without_pairs : pairs ≡ [] → entries ≡ []
   pub of_format : AllByRecursion (IsEntryOf pairs) entries
 
+-- The parts of a header: its numbers, and a format and its entries in each of the two tables.
 pub record IsHeader (h : HeaderParts) : Type 0 where
   pub numbers : HasHeaderNumbers h
-  pub directories : IsTable h.directory_format h.directories
-  pub files : IsTable h.file_format h.files
+  pub directories : IsEntryTable h.directory_format h.directories
+  pub files : IsEntryTable h.file_format h.files

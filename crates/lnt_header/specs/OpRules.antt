@@ -200,8 +200,3 @@ IsCodedAs view (codes.Extended code) = coding_of view ≡ extended code
 IsCodedAs view (codes.ExtendedNumber code n) = coding_of view ≡ extended_number code n
 IsCodedAs view (codes.ExtendedAddress code address) = coding_of view ≡ extended_address code address
 IsCodedAs view (codes.UnknownExtended code bytes) = view ≡ views.UnknownExtended code bytes
-
--- the operands of an unknown standard operation; of others none
-abbrev pub operands_of : Op → List ℕ
-operands_of (UnknownStandard k operands) = operands
-operands_of op = []

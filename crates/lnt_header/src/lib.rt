@@ -9,6 +9,5 @@ mod tested;
 
 pub use fault::UnitFault;
 pub use header::{Entry, EntryTable, Header, HeaderParts, Pair};
-pub use lnt_lists::ShortList;
 pub use op::{CodedOp, LAST_KNOWN, Op, OpView, Operands, known_length};
 pub use tested::is_address_size;

@@ -1,6 +1,6 @@
 //! The operations of a line number program (DWARF 5, sections 6.2.5 and 7.22), with operands of their own and with borrowed
 //! ones, and which of them a header admits.
-ghost use Rattle.std.specs.Prelude.{◌≡◌, ◌+◌, ◌-◌, ◌^◌, ◌<◌, ◌≤◌, ◌↔◌, IsTrue, length, slice_index};
+ghost use Rattle.std.specs.Prelude.{◌≡◌, ◌-◌, ◌^◌, ◌<◌, ◌≤◌, ◌↔◌, IsTrue, length, slice_index};
 ghost use Rattle.lnt_header.specs.HeaderRules.{IsAddressSize, IsHeader};
 ghost use Rattle.lnt_header.specs.OpRules.{Admits, IsUnknownOf, known_lengths, last_known};
 
@@ -13,7 +13,7 @@ pub const LAST_KNOWN: u8 = 12;
 /// How many operands each of the known standard opcodes has (DWARF 5, section 6.2.5.2).
 pub(crate) const KNOWN_LENGTHS: [u8; 12] = [0, 1, 1, 1, 1, 0, 0, 0, 1, 0, 0, 1];
 
-/// How many operands a known standard opcode has (DWARF 5, section 6.2.5.2).
+/// How many operands a known standard opcode has (DWARF 5, section 6.2.5.2). The caller gives one from 1 to `LAST_KNOWN`.
 pub fn known_length(opcode: u8) -> u8
     requires low { 1 ≤ opcode }
     requires high { opcode ≤ last_known }
@@ -233,6 +233,7 @@ fn fits_address(address: u64, size: u8) -> bool
     match size {
         2 => address < 1 << 16,
         4 => address < 1 << 32,
-        _ => true,
+        8 => true,
+        _ => unreachable!(),
     }
 }

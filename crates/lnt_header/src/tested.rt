@@ -4,7 +4,7 @@ ghost use Rattle.std.specs.Int.{w8};
 ghost use Rattle.std.specs.List.{AllByRecursion};
 ghost use Rattle.lnt_header.specs.HeaderRules.{AreStandardLengths, HasHeaderNumbers, IsAddressSize, IsHeader};
 ghost use Rattle.lnt_header.specs.HeaderTests.{FitsItsForm, FitsPair, HoldsNoZero, IsFormat, IsOfFormat, HasSoundTexts};
-ghost use Rattle.lnt_header.specs.HeaderTests.{IsFirstNot, HasNumbersAndFormats, IsPartsFault};
+ghost use Rattle.lnt_header.specs.HeaderTests.{IsFirstNot, IsPartsFault};
 
 use crate::fault::UnitFault;
 use crate::header::{Entry, EntryTable, HeaderParts, Pair};

@@ -11,7 +11,7 @@ use Rattle.lnt_wire.specs.FormBytes.{form_of, HasSpelling, FormBytes}
 use Rattle.lnt_header.specs.declared.header.HeaderParts.{HeaderParts}
 use Rattle.lnt_header.specs.declared.header.Entry.{Entry}
 use Rattle.lnt_header.specs.declared.header.Pair.{Pair}
-use Rattle.lnt_header.specs.HeaderRules.{IsEntryOf, IsTable, IsHeader}
+use Rattle.lnt_header.specs.HeaderRules.{IsEntryOf, IsEntryTable, IsHeader}
 use Rattle.lnt_header_bytes.specs.HeaderBytes.{HeaderFieldsBytes}
 use Rattle.lnt_header_bytes.specs.HeaderReading.{HasFields}
 use Rattle.lnt_header_bytes.specs.TableBytes.{ValuesBytes, EntryBytes, TableBytes}
@@ -54,7 +54,7 @@ spelled_entries format order pairs (entry ∷ entries) x p =
     (record { forms = first.forms; spelled = first.spelled }, spelled_entries format order pairs entries p.back p.second)
 
 spelled_table : (format : Format) (order : Order) (pairs : List Pair) (entries : List Entry) (x : List ℕ)
-    → TableBytes format order pairs entries x → IsTable pairs entries
+    → TableBytes format order pairs entries x → IsEntryTable pairs entries
 spelled_table format order pairs entries x p =
     record {
       few_pairs = p.few_pairs;

@@ -12,7 +12,7 @@ use Rattle.lnt_header_bytes.specs.Borrowed.{first_values, first_values_size, fir
 use Rattle.lnt_header.specs.declared.header.Entry.{Entry}
 use Rattle.lnt_header.specs.declared.header.Pair.{Pair}
 use Rattle.lnt_header.specs.declared.header.HeaderParts.{HeaderParts}
-use Rattle.lnt_header.specs.HeaderRules.{HasHeaderNumbers, IsTable, IsHeader}
+use Rattle.lnt_header.specs.HeaderRules.{HasHeaderNumbers, IsEntryTable, IsHeader}
 use Rattle.lnt_header.specs.Joins.{Each}
 use Rattle.lnt_header_bytes.proofs.TableLaws.{entry_code}
 use Rattle.lnt_header_bytes.specs.Layouts.{entry_of}
@@ -106,7 +106,7 @@ length_found format order pairs (suc count) x =
 
 -- ---- numbers and formats alone
 
-no_entries : (pairs : List Pair) (entries : List Entry) → IsTable pairs entries → IsTable pairs []
+no_entries : (pairs : List Pair) (entries : List Entry) → IsEntryTable pairs entries → IsEntryTable pairs []
 no_entries pairs entries is = record { few_pairs = is.few_pairs; none_without_pairs = λ e. refl; of_format = tt }
 
 same_numbers : (h : HeaderParts) → HasHeaderNumbers h → HasHeaderNumbers (without_entries h)

@@ -20,9 +20,9 @@ use Rattle.lnt_header.specs.declared.header.Entry.{Entry}
 use Rattle.lnt_header.specs.declared.header.HeaderParts.{HeaderParts}
 use Rattle.lnt_header_bytes.specs.HeaderBytes.{HeaderFieldsBytes, HeaderBytesIn, unit_body}
 use Rattle.lnt_header.specs.declared.header.Pair.{Pair}
-use Rattle.lnt_header.specs.Encoding.{RefusedPut, EntryParts}
-use Rattle.lnt_header_bytes.specs.HeaderPuts.{around, AddsAround}
-use Rattle.lnt_header.specs.HeaderRules.{IsEntryOf, IsTable, IsHeader, six_bytes, single_bytes}
+use Rattle.lnt_header.specs.Encoding.{RefusedPut}
+use Rattle.lnt_header_bytes.specs.HeaderPuts.{EntryParts, around, AddsAround}
+use Rattle.lnt_header.specs.HeaderRules.{IsEntryOf, IsEntryTable, IsHeader, six_bytes, single_bytes}
 use Rattle.lnt_header.specs.Joins.{Each}
 use Rattle.lnt_header_bytes.proofs.ProgramLaws.{length-initial-same, length-around, length-body, fits_less}
 use Rattle.lnt_header.proofs.PutLaws.{byte_put, join_put, put_as, each_begun, each_more, each_done, each_refused}
@@ -180,7 +180,7 @@ TableParts format order t bytes =
     Then (Exactly (t.0 ∷ [])) (Then (Each PairBytes t.1.0) (Then (UnsignedLeb t.1.1.0) (Each (EntryParts format order) t.1.1.1))) bytes
 
 pub table_put : (format : Format) (order : Order) (pairs : List Pair) (entries : List Entry) (old m1 m2 m3 new : List ℕ)
-    → IsTable pairs entries → m1 ≡ old ++ length pairs ∷ [] → Appends (Each PairBytes) pairs m1 m2
+    → IsEntryTable pairs entries → m1 ≡ old ++ length pairs ∷ [] → Appends (Each PairBytes) pairs m1 m2
     → Appends UnsignedLeb (length entries) m2 m3 → Appends (Each (EntryParts format order)) entries m3 new
     → Appends (TableOf format order) (pairs, entries) old new
 table_put format order pairs entries old m1 m2 m3 new is pushed p q r =

@@ -15,13 +15,13 @@ use Rattle.lnt_wire.proofs.LengthLaws.{same_front, same_number_front}
 use Rattle.lnt_wire.proofs.ValueLaws.{offset_width}
 use Rattle.lnt_header_bytes.specs.Broken.{InHeader, IsFirstField, sound_start}
 use Rattle.lnt_header_bytes.specs.Broken.IsFirstField.{frame, start, counted}
-use Rattle.lnt_header_bytes.specs.FieldsBytes.{IsHeaderFault}
+use Rattle.lnt_header_bytes.specs.HeaderFaults.{IsHeaderFault}
 use Rattle.lnt_header.specs.HeaderRules.{IsAddressSize}
 use Rattle.lnt_header_bytes.proofs.HeaderLaws.{below}
-use Rattle.lnt_header_bytes.specs.StartBytes.{IsStartFault}
+use Rattle.lnt_header_bytes.specs.StartFaults.{IsStartFault}
 use Rattle.lnt_header.proofs.FirstFaultLaws.{AreOne}
-use Rattle.lnt_header_bytes.proofs.FieldsFaultLaws.{fields_fault}
-use Rattle.lnt_header_bytes.proofs.StartFaultLaws.{start_fault}
+use Rattle.lnt_header_bytes.proofs.FieldsFaultLemmas.{fields_fault}
+use Rattle.lnt_header_bytes.proofs.StartFaultLemmas.{start_fault}
 
 -- ---- the body of a unit
 

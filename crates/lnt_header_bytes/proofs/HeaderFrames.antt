@@ -18,12 +18,14 @@ use Rattle.lnt_header.specs.declared.header.HeaderParts.{HeaderParts}
 use Rattle.lnt_header_bytes.specs.declared.numbers.Singles.{Singles}
 use Rattle.lnt_header_bytes.specs.Broken.{InHeader, sound_start, IsFirstField, BrokenHeader}
 use Rattle.lnt_header_bytes.specs.Broken.IsFirstField.{start}
-use Rattle.lnt_header_bytes.specs.FieldsBytes.{FieldsBytes, IsHeaderFault}
+use Rattle.lnt_header_bytes.specs.FieldsBytes.{FieldsBytes}
+use Rattle.lnt_header_bytes.specs.HeaderFaults.{IsHeaderFault}
 use Rattle.lnt_header_bytes.specs.HeaderBytes.{HeaderFieldsBytes, unit_body, HeaderBytesIn}
 use Rattle.lnt_header_bytes.specs.HeaderReading.{standing, IsAfterVersion, HasFields}
 use Rattle.lnt_header.specs.HeaderRules.{IsAddressSize}
 use Rattle.lnt_header_bytes.proofs.HeaderLaws.{laid, regroup, same_laid, below, length-laid}
-use Rattle.lnt_header_bytes.specs.StartBytes.{StartBytes, IsStartFault}
+use Rattle.lnt_header_bytes.specs.StartBytes.{StartBytes}
+use Rattle.lnt_header_bytes.specs.StartFaults.{IsStartFault}
 use Rattle.lnt_header_bytes.specs.TableBytes.{TableOf}
 use Rattle.lnt_header_bytes.proofs.Places.{at_header, at_start}
 

@@ -16,8 +16,8 @@ use Rattle.lnt_header.specs.declared.header.Entry.{Entry}
 use Rattle.lnt_header.specs.declared.header.Pair.{Pair}
 use Rattle.lnt_header_bytes.specs.TableBytes.{TableOf}
 use Rattle.lnt_header_bytes.specs.TableFaults.{IsTableFault}
-use Rattle.lnt_header_bytes.specs.FieldsBytes.{FieldsBytes, AfterSingles, AfterLengths, TwoTables, TwoTablesFault, AfterSinglesFault}
-use Rattle.lnt_header_bytes.specs.FieldsBytes.{IsHeaderFault}
+use Rattle.lnt_header_bytes.specs.FieldsBytes.{FieldsBytes, AfterSingles, AfterLengths, TwoTables}
+use Rattle.lnt_header_bytes.specs.HeaderFaults.{TwoTablesFault, AfterSinglesFault, IsHeaderFault}
 use Rattle.lnt_header_bytes.proofs.TableLaws.{same_table}
 use Rattle.lnt_header_bytes.specs.declared.numbers.Singles.{Singles}
 use Rattle.lnt_header.specs.HeaderRules.{AreStandardLengths}

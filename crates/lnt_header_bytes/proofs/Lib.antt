@@ -2,7 +2,7 @@ pub mod Allowed
 pub mod BorrowedLaws
 pub mod DecodeLemmas
 pub mod EncodeLemmas
-pub mod FieldsFaultLaws
+pub mod FieldsFaultLemmas
 pub mod FirstFieldLaws
 pub mod HeaderFrames
 pub mod HeaderLaws
@@ -16,9 +16,9 @@ pub mod Places
 pub mod ProgramLaws
 pub mod ShortLemmas
 pub mod SpelledHeaders
-pub mod StartFaultLaws
+pub mod StartFaultLemmas
 pub mod StartReaders
-pub mod TableFaultLaws
+pub mod TableFaultLemmas
 pub mod TableLaws
 pub mod TableReaders
 pub mod ValueLaws

@@ -13,10 +13,10 @@ use Rattle.lnt_wire.specs.declared.format.Format.{Format}
 use Rattle.lnt_header.specs.declared.header.Entry.{Entry}
 use Rattle.lnt_header.specs.declared.header.Pair.{Pair}
 use Rattle.lnt_header_bytes.specs.declared.table.Layout.TheVariants.{Path, IndexedPath, SummedPath}
-use Rattle.lnt_header_bytes.specs.Stepping.{Passes, PassesAll}
+use Rattle.lnt_header_bytes.specs.Stepping.{Passes, PassesAll, IsLayout}
 use Rattle.lnt_header.specs.Joins.{Each, Several}
 use Rattle.lnt_header.proofs.ReaderLaws.{reads_map}
-use Rattle.lnt_header_bytes.specs.Layouts.{IsLayout, entry_of}
+use Rattle.lnt_header_bytes.specs.Layouts.{entry_of}
 use Rattle.lnt_header_bytes.specs.TableBytes.{ValuesBytes, EntryBytes}
 use Rattle.lnt_header_bytes.specs.TableFaults.{IsEntryFault, IsEntriesFault}
 use Rattle.lnt_header_bytes.proofs.ShortLemmas.{path_values, indexed_values, summed_values, entry_refused}

@@ -15,8 +15,8 @@ use Rattle.lnt_header.specs.declared.header.Pair.{Pair}
 use Rattle.lnt_header_bytes.specs.declared.table.Layout.TheVariants.{Path, IndexedPath, SummedPath}
 use Rattle.lnt_header.specs.Joins.{Each}
 use Rattle.lnt_header.proofs.ReaderLaws.{refuses_map, reads_map}
-use Rattle.lnt_header_bytes.specs.Layouts.{forms_of, IsLayout, entry_of}
-use Rattle.lnt_header_bytes.specs.Stepping.{ReadsNext}
+use Rattle.lnt_header_bytes.specs.Layouts.{forms_of, entry_of}
+use Rattle.lnt_header_bytes.specs.Stepping.{IsLayout, ReadsNext}
 use Rattle.lnt_header_bytes.specs.TableBytes.{ValuesBytes, EntryBytes}
 use Rattle.lnt_header_bytes.specs.TableFaults.{IsEntryFault}
 use Rattle.lnt_header_bytes.proofs.ValueLaws.{values_none, values_more}

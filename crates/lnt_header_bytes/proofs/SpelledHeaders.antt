@@ -18,9 +18,9 @@ use Rattle.lnt_wire.specs.Spelled.{FitsForm, HasShortest}
 use Rattle.lnt_header.specs.declared.header.Entry.{Entry}
 use Rattle.lnt_header.specs.declared.header.HeaderParts.{HeaderParts}
 use Rattle.lnt_header.specs.declared.header.Pair.{Pair}
-use Rattle.lnt_header.specs.Encoding.{EntryParts}
+use Rattle.lnt_header_bytes.specs.HeaderPuts.{EntryParts}
 use Rattle.lnt_header_bytes.specs.HeaderBytes.{HeaderBytes, HeaderFieldsBytes, unit_body}
-use Rattle.lnt_header.specs.HeaderRules.{IsEntryOf, IsHeader, IsTable, six_bytes}
+use Rattle.lnt_header.specs.HeaderRules.{IsEntryOf, IsHeader, IsEntryTable, six_bytes}
 use Rattle.lnt_header.specs.Joins.{Each}
 use Rattle.lnt_header_bytes.specs.Laws.{AllowedIsSpelled}
 use Rattle.lnt_header_bytes.proofs.ProgramLaws.{fits_less, length-body}
@@ -89,8 +89,8 @@ entries_spelled law format order pairs (entry ∷ entries) is fits small =
       entries_spelled law format order pairs entries is.1 fits.1 small.1,
     )
 
-table_spelled : wire.SpelledValues → (format : Format) (order : Order) (pairs : List Pair) (entries : List Entry) → IsTable pairs entries
-    → FitsTable pairs entries → OffsetsFit format entries
+table_spelled : wire.SpelledValues → (format : Format) (order : Order) (pairs : List Pair) (entries : List Entry)
+    → IsEntryTable pairs entries → FitsTable pairs entries → OffsetsFit format entries
     → HasShortest (TableOf format order) (pairs, entries)
 table_spelled law format order pairs entries is fits small =
     let p = each_shortest PairBytes pairs (pairs_spelled law pairs fits.contents) in

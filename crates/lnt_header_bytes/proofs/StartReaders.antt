@@ -15,9 +15,9 @@ use Rattle.lnt_wire.proofs.LengthLaws.{same_rest}
 use Rattle.lnt_wire.proofs.ValueLaws.{offset_width}
 use Rattle.lnt_header.specs.HeaderRules.{IsAddressSize}
 use Rattle.lnt_header.proofs.ByteLaws.{byte_code, one_digit}
-use Rattle.lnt_header_bytes.specs.StartBytes.{AddressSizeBytes, IsSizeFault, SelectorBytes, IsSelectorFault, CountedBytes, IsCountedFault}
-use Rattle.lnt_header_bytes.specs.StartBytes.{AfterSize, StartBytes, IsStartFault}
-use Rattle.lnt_header_bytes.specs.StartBytes.IsStartFault.{address_size, selector, header_length}
+use Rattle.lnt_header_bytes.specs.StartBytes.{AddressSizeBytes, SelectorBytes, CountedBytes, AfterSize, StartBytes}
+use Rattle.lnt_header_bytes.specs.StartFaults.{IsAddressSizeFault, IsSelectorFault, IsCountedFault, IsStartFault}
+use Rattle.lnt_header_bytes.specs.StartFaults.IsStartFault.{address_size, selector, header_length}
 use Rattle.lnt_header.specs.Joins.{Both}
 use Rattle.lnt_header.proofs.ReaderLaws.{any_local, nothing_asked, moved_field, refuses_field, reads_map, reads_both, refuses_first}
 use Rattle.lnt_header.proofs.ReaderLaws.{refuses_second}
@@ -36,19 +36,19 @@ pub reads_size : (n : ℕ) (old new : At) → Reads (NumberBytes old.order 1) n 
 reads_size n old new r is = reads_map (NumberBytes old.order 1) AddressSizeBytes n n old new (λ x p. (is, byte_is old.order n x p)) r
 
 pub refuses_size : (old : At) (fault : Fault) → RefusesField (IsCutShort 1) (NumberBytes old.order 1) old fault
-    → RefusesField IsSizeFault AddressSizeBytes old fault
+    → RefusesField IsAddressSizeFault AddressSizeBytes old fault
 refuses_size old fault r = record {
   place = r.place;
-  reason = subst (λ (c : Reason). IsSizeFault c old.rest) (sym r.reason.reason_is) r.reason.short;
+  reason = subst (λ (c : Reason). IsAddressSizeFault c old.rest) (sym r.reason.reason_is) r.reason.short;
   none = λ n x more p e. omega (arith, r.reason.short, ap length e, length-append x more, ap length p.1);
 }
 
 pub refuses_other_size : (n : ℕ) (old new : At) (fault : Fault) → fault.reason ≡ AddressSize n → fault.place ≡ old.place
     → Reads (NumberBytes old.order 1) n old new → (IsAddressSize n → ⊥)
-    → RefusesField IsSizeFault AddressSizeBytes old fault
+    → RefusesField IsAddressSizeFault AddressSizeBytes old fault
 refuses_other_size n old new fault reason place r other = record {
   place = place;
-  reason = subst (λ (c : Reason). IsSizeFault c old.rest) (sym reason) (new.rest, other, first_is n old new r);
+  reason = subst (λ (c : Reason). IsAddressSizeFault c old.rest) (sym reason) (new.rest, other, first_is n old new r);
   none = λ m x more p e.
       let all : m ∷ more ≡ n ∷ new.rest = ap (λ (z : List ℕ). z ++ more) (sym p.1) ∙ e ∙ first_is n old new r in
       let same : m ≡ n = cc in
@@ -137,7 +137,7 @@ size_code = record { one = λ m n x y r s p q e. byte_code.one m n x y r s p.1 q
 selector_code : IsCode SelectorBytes
 selector_code = record { one = λ m n x y r s p q e. (p.0 ∙ sym q.0, p.1 ∙ sym q.1) }
 
-pub size_refused : (format : Format) (old : At) (fault : Fault) → RefusesField IsSizeFault AddressSizeBytes old fault
+pub size_refused : (format : Format) (old : At) (fault : Fault) → RefusesField IsAddressSizeFault AddressSizeBytes old fault
     → Refuses (IsStartFault format old.order) (StartBytes format old.order) old fault
 size_refused format old fault t =
     let at : Refuses (IsStartFault format old.order) AddressSizeBytes old fault = refuses_field old fault (λ so. address_size refl so) t in

@@ -9,7 +9,7 @@ use Rattle.lnt_wire.specs.declared.format.Format.{Format}
 use Rattle.lnt_wire.specs.declared.format.Order.{Order}
 use Rattle.lnt_header.specs.declared.header.Entry.{Entry}
 use Rattle.lnt_header.specs.declared.header.Pair.{Pair}
-use Rattle.lnt_header_bytes.specs.declared.read_table.TableRead.{TableRead}
+use Rattle.lnt_header_bytes.specs.declared.read_table.EntryTableRead.{EntryTableRead}
 use Rattle.lnt_header_bytes.specs.Borrowed.{first_entries, BorrowedTable, borrowed_table, AreEntryBytes, without_entries}
 use Rattle.lnt_header_bytes.specs.Stepping.{PassesAll}
 use Rattle.lnt_header_bytes.specs.Borrowed.{header_over, directories_over, files_over}
@@ -44,7 +44,7 @@ lies_here format pairs count bytes old new p =
     subst (λ (es : List Entry). Each (EntryBytes format old.order pairs) es bytes) (sym (found format pairs count bytes old new p))
     (subst (λ (z : List ℕ). Each (EntryBytes format old.order pairs) p.values z) (sym p.bytes_are) p.read.spelled)
 
-pub table_read : (format : Format) (n size : ℕ) (table : TableRead) (old m1 m2 m3 new : At) → Reads (NumberBytes old.order 1) n old m1
+pub table_read : (format : Format) (n size : ℕ) (table : EntryTableRead) (old m1 m2 m3 new : At) → Reads (NumberBytes old.order 1) n old m1
     → Reads (Several n PairBytes) table.pairs.items m1 m2
     → Reads UnsignedLeb size m2 m3 → (n ≡ 0 → size ≡ 0) → table.entries.count ≡ size
     → PassesAll size (EntryBytes format m3.order table.pairs.items) table.entries.bytes.now m3 new → IsTableRead format table old new
@@ -94,7 +94,7 @@ entries_there table count old is same lies none =
 
 -- ---- headers
 
-pub fields_read : (format : Format) (s : Singles) (ls : List ℕ) (directories files : TableRead) (old m1 m2 m3 new : At)
+pub fields_read : (format : Format) (s : Singles) (ls : List ℕ) (directories files : EntryTableRead) (old m1 m2 m3 new : At)
     → Reads SinglesBytes s old m1 → Reads (LengthsBytes s.opcode_base) ls m1 m2
     → IsTableRead format directories m2 m3 → IsTableRead format files m3 new → AreFieldsRead format s ls directories files old new
 fields_read format s ls directories files old m1 m2 m3 new r t d f =
@@ -137,14 +137,14 @@ plain_is h dc db fc fb extra b e g =
     sym (with_its_own h) ∙ none ∙ with_none h dc db fc fb extra
 
 -- What is read of a header, and its parts.
-pub record IsViewFound (format : Format) (order : Order) (size : ℕ) (bytes : List ℕ) (h : HeaderParts) (directories files : TableRead)
+pub record IsViewFound (format : Format) (order : Order) (size : ℕ) (bytes : List ℕ) (h : HeaderParts) (directories files : EntryTableRead)
     (extra : List ℕ) : Type 0 where
   pub fields : HasFields format order size bytes (header_over h directories.entries.count directories.entries.bytes.now files.entries.count
       files.entries.bytes.now extra)
   pub over : IsHeaderOver h directories.entries.count directories.entries.bytes.now files.entries.count files.entries.bytes.now extra
   pub numbers : IsHeader h
 
-pub view_found : (format : Format) (order : Order) (size : ℕ) (bytes : List ℕ) (s : Singles) (lengths copy : List ℕ) (d f : TableRead)
+pub view_found : (format : Format) (order : Order) (size : ℕ) (bytes : List ℕ) (s : Singles) (lengths copy : List ℕ) (d f : EntryTableRead)
     (extra : List ℕ) (old new : At) (h : HeaderParts)
     → IsAddressSize size → ((i : ℕ) → get_or bytes i 0 < 256) → old.rest ≡ bytes → old.order ≡ order
     → AreFieldsRead format s lengths d f old new → copy ≡ lengths

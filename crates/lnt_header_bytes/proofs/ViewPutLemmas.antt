@@ -3,7 +3,7 @@ use Rattle.std.proofs.Common.{◌≡◌, ℕ, zero, suc, ◌+◌, ◌<◌, ◌�
 use Rattle.std.proofs.Common.{append_assoc, append-nil, arith}
 use Rattle.std.proofs.lemmas.List.{length-append}
 use Rattle.lnt_wire.specs.At.{At}
-use Rattle.lnt_wire.specs.Bytes.{IsShortest, Appends}
+use Rattle.lnt_wire.specs.Bytes.{IsShortest, Appends, NoneSpelled}
 use Rattle.lnt_wire.specs.FormBytes.{FormBytes, ValueBytes, IsTooLarge}
 use Rattle.lnt_wire.specs.InitialLength.{LengthFits}
 use Rattle.lnt_wire.proofs.CodeLaws.{peel_by}
@@ -16,14 +16,14 @@ use Rattle.lnt_wire.specs.declared.put.EncodeFault.{EncodeFault}
 use Rattle.lnt_wire.specs.declared.put.EncodeFault.TheVariants.{TooLarge}
 use Rattle.lnt_header_bytes.specs.Borrowed.{BorrowedTable, AreEntryBytes}
 use Rattle.lnt_header.specs.Conversion.{in_format}
-use Rattle.lnt_header.specs.Encoding.{EntryParts, RefusedPut, NoSpelling}
+use Rattle.lnt_header.specs.Encoding.{RefusedPut, NoSpelling}
+use Rattle.lnt_header_bytes.specs.HeaderPuts.{EntryParts, around, AddsAround, AddsEntry, RefusesEntry}
 use Rattle.lnt_header_bytes.specs.HeaderBytes.{HeaderBytesIn, HeaderFieldsBytes}
-use Rattle.lnt_header_bytes.specs.HeaderPuts.{around, AddsAround, AddsEntry, RefusesEntry}
 use Rattle.lnt_header.specs.Joins.{Each}
 use Rattle.lnt_header_bytes.proofs.BorrowedLaws.{others_spelled}
 use Rattle.lnt_header.proofs.PutLaws.{each_begun, each_put, put_as}
 use Rattle.lnt_header_bytes.proofs.TableLaws.{entry_code}
-use Rattle.lnt_header_bytes.proofs.ValueLaws.{AreReadTo, read_none, read_more, entry_read}
+use Rattle.lnt_header_bytes.proofs.ValueLaws.{AreReadTo, read_none, read_more, entry_read, no_entry}
 use Rattle.lnt_header_bytes.specs.Layouts.{entry_of}
 use Rattle.lnt_header_bytes.specs.TableBytes.{ValuesBytes, EntryBytes}
 use Rattle.lnt_header.specs.declared.header.Entry.{Entry}
@@ -103,6 +103,14 @@ entry_refused from pairs format order i d value old middle new text_old text fau
       (subst (λ (vs : List FormValue). Each (FormBytes format order) vs bytes) all.1 t) in
       large_value format order value one.0 (large is) one.1;
 }
+
+-- where an entry stands, each of its values is there
+pub entry_there : (from : Format) (pairs : List Pair) (format : Format) (order : Order) (i : ℕ) (d : Pair) (old middle : At)
+    (text_old text : List ℕ) → i < length pairs → ValuesPut from pairs format order i old middle text_old text
+    → NoneSpelled (ValueBytes from middle.order (get_or pairs i d).form) middle.rest
+    → (NoneSpelled (EntryBytes from old.order pairs) old.rest → ⊥) → ⊥
+entry_there from pairs format order i d old middle text_old text lt p none there =
+    there (no_entry from pairs i d p.values old middle lt p.read none)
 
 -- ---- the entries of a table
 
@@ -202,6 +210,21 @@ left_refused table format order count done (e ∷ left) at fault all is lt order
     let here : EntryBytes table.format at.order table.pairs e rest.front =
     subst (λ (o : Order). EntryBytes table.format o table.pairs e rest.front) (sym ordered) rest.first in
     refused.none large e rest.front rest.back here rest.joined t.front t.first
+
+-- where entries are left, one stands at the cursor
+entry_left : (table : BorrowedTable) (count : ℕ) (done left : List Entry) (at : At) → table.entries ≡ done ++ left → length done ≡ count
+    → count < length table.entries → at.order ≡ table.order → Each (EntryBytes table.format table.order table.pairs) left at.rest
+    → NoneSpelled (EntryBytes table.format at.order table.pairs) at.rest → ⊥
+entry_left table count done [] at all is lt ordered rest none = absurd (omega (arith, ap length all, length-append done [], is, lt))
+entry_left table count done (e ∷ left) at all is lt ordered rest none =
+    none e rest.front rest.back (subst (λ (o : Order). EntryBytes table.format o table.pairs e rest.front) (sym ordered) rest.first)
+    (sym rest.joined)
+
+pub next_there : (table : BorrowedTable) (format : Format) (order : Order) (count : ℕ) (at : At) (old middle : List ℕ)
+    → count < length table.entries → EntriesPut table format order count at old middle
+    → NoneSpelled (EntryBytes table.format at.order table.pairs) at.rest → ⊥
+next_there table format order count at old middle lt p none =
+    entry_left table count p.done p.left at p.all p.count_is lt p.order_is p.rest none
 
 pub entries_refused : (table : BorrowedTable) (format : Format) (order : Order) (count : ℕ) (at : At) (old middle : List ℕ)
     (fault : EncodeFault) → count < length table.entries → EntriesPut table format order count at old middle

@@ -1,16 +1,14 @@
--- The fields of a header after header_length, one after another, and what is wrong where they aren't read.
+-- The fields that header_length counts, as they are read one after another. No public contract speaks of these: `HeaderFieldsBytes`
+-- has the same fields.
 use Rattle.std.specs.Prelude.{ℕ, List}
 use Rattle.lnt_wire.specs.declared.format.Format.{Format}
 use Rattle.lnt_wire.specs.declared.format.Order.{Order}
-use Rattle.lnt_wire.specs.declared.fault.Reason.{Reason}
-use Rattle.lnt_header.specs.FirstFaults.{FirstOf}
 use Rattle.lnt_header.specs.Joins.{Both}
 use Rattle.lnt_header.specs.declared.header.Entry.{Entry}
 use Rattle.lnt_header.specs.declared.header.Pair.{Pair}
 use Rattle.lnt_header_bytes.specs.declared.numbers.Singles.{Singles}
 use Rattle.lnt_header_bytes.specs.TableBytes.{TableOf}
-use Rattle.lnt_header_bytes.specs.TableFaults.{IsTableFault}
-use Rattle.lnt_header_bytes.specs.HeaderFaults.{SinglesBytes, IsSinglesFault, LengthsBytes, IsLengthsFault}
+use Rattle.lnt_header_bytes.specs.HeaderFaults.{SinglesBytes, LengthsBytes}
 
 abbrev pub Table : Type 0
 Table = List Pair × List Entry
@@ -27,14 +25,3 @@ AfterSingles format order s v bytes = Both (LengthsBytes s.opcode_base) (AfterLe
 -- six fields of one byte, the standard opcode lengths, the directories and the files
 abbrev pub FieldsBytes : Format → Order → Singles × (List ℕ × (Table × Table)) → List ℕ → Type 0
 FieldsBytes format order v bytes = Both SinglesBytes (AfterSingles format order) v bytes
-
--- ---- what is wrong: the first part that isn't there
-
-abbrev pub TwoTablesFault : Format → Order → Reason → List ℕ → List ℕ → Type 0
-TwoTablesFault format order = FirstOf (TableOf format order) (IsTableFault format order) (λ _. IsTableFault format order)
-
-abbrev pub AfterSinglesFault : Format → Order → Singles → Reason → List ℕ → List ℕ → Type 0
-AfterSinglesFault format order s = FirstOf (LengthsBytes s.opcode_base) (IsLengthsFault s.opcode_base) (λ _. TwoTablesFault format order)
-
-abbrev pub IsHeaderFault : Format → Order → Reason → List ℕ → List ℕ → Type 0
-IsHeaderFault format order = FirstOf SinglesBytes IsSinglesFault (AfterSinglesFault format order)

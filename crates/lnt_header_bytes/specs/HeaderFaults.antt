@@ -1,11 +1,20 @@
--- What is wrong with the fields of a header that have one byte each, where one of them isn't there or has a value that none may
--- have.
+-- What is wrong with the fields that header_length counts: the first of them that isn't there, or has a value that none may have
+-- (DWARF 5, section 6.2.4).
+--     before   the bytes from the first field up to the place of the fault
+--     left     the bytes from the place on, up to the end of the header
 use Rattle.std.specs.Prelude.{◌≡◌, ◌≢◌, ℕ, ◌+◌, ◌<◌, ◌≤◌, List, [], ◌∷◌, length, slice_index}
+use Rattle.lnt_wire.specs.declared.format.Format.{Format}
+use Rattle.lnt_wire.specs.declared.format.Order.{Order}
 use Rattle.lnt_wire.specs.declared.fault.Reason.{Reason}
 use Rattle.lnt_wire.specs.declared.fault.Reason.TheVariants.{Truncated, MaxOpsZero, LineRangeZero, OpcodeBaseZero, StandardLength}
 use Rattle.lnt_header_bytes.specs.declared.numbers.Singles.{Singles}
 use Rattle.lnt_header.specs.HeaderRules.{AreStandardLengths}
 use Rattle.lnt_header.specs.OpRules.{known_lengths, last_known}
+use Rattle.lnt_header.specs.FirstFaults.{FirstOf}
+use Rattle.lnt_header_bytes.specs.TableBytes.{TableOf}
+use Rattle.lnt_header_bytes.specs.TableFaults.{IsTableFault}
+
+-- ---- fields of one byte
 
 -- The bytes of the six fields before the standard opcode lengths.
 pub record SinglesBytes (s : Singles) (bytes : List ℕ) : Type 0 where
@@ -50,3 +59,17 @@ IsLengthsFault opcode_base (StandardLength opcode given) before left =
     (more : List ℕ) × AreStandardLengths before × (opcode ≡ length before + 1) × (opcode < opcode_base) × (opcode ≤ last_known)
     × (given ≢ slice_index known_lengths (length before)) × (left ≡ given ∷ more)
 IsLengthsFault opcode_base _ before left = ⊥
+
+-- ---- the first part that isn't there
+
+-- the directories, or the files after them
+abbrev pub TwoTablesFault : Format → Order → Reason → List ℕ → List ℕ → Type 0
+TwoTablesFault format order = FirstOf (TableOf format order) (IsTableFault format order) (λ _. IsTableFault format order)
+
+-- after the six fields: the standard opcode lengths, or the tables after them
+abbrev pub AfterSinglesFault : Format → Order → Singles → Reason → List ℕ → List ℕ → Type 0
+AfterSinglesFault format order s = FirstOf (LengthsBytes s.opcode_base) (IsLengthsFault s.opcode_base) (λ _. TwoTablesFault format order)
+
+-- the six fields, or what comes after them
+abbrev pub IsHeaderFault : Format → Order → Reason → List ℕ → List ℕ → Type 0
+IsHeaderFault format order = FirstOf SinglesBytes IsSinglesFault (AfterSinglesFault format order)

@@ -1,4 +1,4 @@
--- What is written of a header whose entries stay where they lie.
+-- What the private functions write of a header, and why they don't. No public contract speaks of these.
 use Rattle.std.specs.Prelude.{◌≡◌, ℕ, List, [], ◌∷◌, ◌++◌, length}
 use Rattle.lnt_wire.specs.At.{At}
 use Rattle.lnt_wire.specs.Bytes.{Appends}
@@ -10,7 +10,9 @@ use Rattle.lnt_wire.specs.declared.format.Format.{Format}
 use Rattle.lnt_wire.specs.declared.format.Order.{Order}
 use Rattle.lnt_wire.specs.declared.put.EncodeFault.{EncodeFault}
 use Rattle.lnt_wire.specs.declared.put.EncodeFault.TheVariants.{TooLarge}
-use Rattle.lnt_header.specs.Encoding.{EntryParts, NoSpelling}
+use Rattle.lnt_wire.specs.FormBytes.{FormBytes}
+use Rattle.lnt_header.specs.Encoding.{NoSpelling}
+use Rattle.lnt_header.specs.Joins.{Each}
 use Rattle.lnt_header_bytes.specs.TableBytes.{EntryBytes}
 use Rattle.lnt_header.specs.declared.header.Entry.{Entry}
 use Rattle.lnt_header.specs.declared.header.Pair.{Pair}
@@ -24,6 +26,10 @@ around order format size fields program =
 pub record AddsAround (order : Order) (format : Format) (size : ℕ) (fields program old new : List ℕ) : Type 0 where
   pub fits : LengthFits format (length (around order format size fields program))
   pub joined : new ≡ old ++ frame_bytes order format (around order format size fields program)
+
+-- the values of an entry, one after the other
+abbrev pub EntryParts : Format → Order → Entry → List ℕ → Type 0
+EntryParts format order entry bytes = Each (FormBytes format order) entry.values bytes
 
 -- The read moved past the bytes of an entry, and the shortest spelling of its values in this format and order was added.
 pub record AddsEntry (from : Format) (pairs : List Pair) (format : Format) (order : Order) (old new : At)

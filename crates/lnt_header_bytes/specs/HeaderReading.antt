@@ -1,4 +1,4 @@
--- What the steps of decoding a header have found.
+-- What the steps of decoding a header have found. No public contract speaks of it.
 use Rattle.std.specs.Prelude.{◌≡◌, ℕ, ◌+◌, List, ◌++◌, length}
 use Rattle.lnt_wire.specs.At.{At}
 use Rattle.lnt_wire.specs.FrameBytes.{version_five}

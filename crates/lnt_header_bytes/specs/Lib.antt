@@ -12,6 +12,7 @@ pub mod Layouts
 pub mod Marks
 pub mod Spelled
 pub mod StartBytes
+pub mod StartFaults
 pub mod Stepping
 pub mod TableBytes
 pub mod TableFaults

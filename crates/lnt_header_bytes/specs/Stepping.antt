@@ -1,13 +1,18 @@
--- What the bodies of this crate say of one step of a reader that keeps no entry. No public contract speaks of it.
+-- What the bodies of this crate say of one step: of a reader of tables, and of what keeps their entries. No public contract speaks
+-- of it.
 use Rattle.std.specs.Prelude.{◌≡◌, ℕ, List, [], length, ◌∷◌, ◌++◌}
 use Rattle.lnt_wire.specs.declared.format.Order.{Order}
 use Rattle.lnt_wire.specs.declared.format.Format.{Format}
+use Rattle.lnt_wire.specs.declared.form.Form.TheVariants.{LineStrp, Udata, Data16}
 use Rattle.lnt_wire.specs.At.{At}
 use Rattle.lnt_wire.specs.Reading.{Reads}
 use Rattle.lnt_header.specs.declared.header.HeaderParts.{HeaderParts}
 use Rattle.lnt_header.specs.declared.header.Pair.{Pair}
 use Rattle.lnt_header_bytes.specs.declared.numbers.Singles.{Singles}
-use Rattle.lnt_header_bytes.specs.declared.read_table.TableRead.{TableRead}
+use Rattle.lnt_header_bytes.specs.declared.table.Layout.{Layout}
+use Rattle.lnt_header_bytes.specs.declared.table.Layout.TheVariants.{Path, IndexedPath, SummedPath, Other}
+use Rattle.lnt_header_bytes.specs.Layouts.{forms_of}
+use Rattle.lnt_header_bytes.specs.declared.read_table.EntryTableRead.{EntryTableRead}
 use Rattle.lnt_header_bytes.specs.FieldsBytes.{FieldsBytes}
 use Rattle.lnt_header_bytes.specs.HeaderReading.{AreFields}
 use Rattle.lnt_header.specs.Joins.{Each}
@@ -42,16 +47,16 @@ pub record PassesAll {X : Type 0} (count : ℕ) (Spells : X → List ℕ → Typ
   pub bytes_are : bytes ≡ read.spelling
 
 -- what was read of a table: its pairs, and its entries in the format and the order of their bytes
-abbrev pub lying_table : Format → Order → TableRead → BorrowedTable
+abbrev pub lying_table : Format → Order → EntryTableRead → BorrowedTable
 lying_table format order table = borrowed_table format order table.pairs.items table.entries.count table.entries.bytes.now
 
 -- The read gave a table in this format and the order of the bytes that are read, and moved past the bytes that spell it.
-pub record IsTableRead (format : Format) (table : TableRead) (old new : At) : Type 0 where
+pub record IsTableRead (format : Format) (table : EntryTableRead) (old new : At) : Type 0 where
   pub lies : AreEntryBytes (lying_table format old.order table) table.entries.bytes.now
   pub read : Reads (TableOf format old.order) (table.pairs.items, (lying_table format old.order table).entries) old new
 
 -- The read gave the fields of a header up to its file table, and moved past the bytes that spell them.
-pub record AreFieldsRead (format : Format) (singles : Singles) (lengths : List ℕ) (directories files : TableRead) (old new : At) : Type
+pub record AreFieldsRead (format : Format) (singles : Singles) (lengths : List ℕ) (directories files : EntryTableRead) (old new : At) : Type
     0 where
   pub directories_lie : AreEntryBytes (lying_table format old.order directories) directories.entries.bytes.now
   pub files_lie : AreEntryBytes (lying_table format old.order files) files.entries.bytes.now
@@ -75,6 +80,13 @@ pub record ArePlain (format : Format) (order : Order) (address_size : ℕ) (sing
   pub fields : AreFields singles lengths (directories, []) (files, []) [] h
 
 -- ---- layouts
+
+-- the pairs have the layout
+abbrev pub IsLayout : Layout → List Pair → Type 0
+IsLayout Path pairs = forms_of pairs ≡ LineStrp ∷ []
+IsLayout IndexedPath pairs = forms_of pairs ≡ LineStrp ∷ Udata ∷ []
+IsLayout SummedPath pairs = forms_of pairs ≡ LineStrp ∷ Udata ∷ Data16 ∷ []
+IsLayout Other pairs = Unit {0}
 
 -- The read gave one more value.
 pub record ReadsNext {X : Type 0} (Spells : X → List ℕ → Type 0) (before after : List X) (old new : At) : Type 0 where

@@ -1,5 +1,5 @@
 //! Headers, read from the bytes of their units.
-ghost use Rattle.std.specs.Prelude.{◌≡◌, ◌≢◌, Ok, IfOk, IfErr};
+ghost use Rattle.std.specs.Prelude.{◌≢◌, IfOk, IfErr};
 ghost use Rattle.lnt_wire.specs.FrameBytes.{frame_bytes, IsPlacedFrame};
 ghost use Rattle.lnt_header_bytes.specs.Broken.{BrokenHeader};
 ghost use Rattle.lnt_header_bytes.specs.HeaderBytes.{HeaderBytesIn};
@@ -8,13 +8,14 @@ ghost use Rattle.lnt_header_bytes.specs.HeaderReading.{IsAfterVersion};
 use crate::in_place::view_header;
 use lnt_header::Header;
 use lnt_wire::{Cursor, Fault, Format, Frame, Order, Reason};
-use std::alloc::{AllocError, Global};
+use std::alloc::Global;
 
 /// The header of a frame, and the bytes of its program (DWARF 5, section 6.2.4).
 ///
 /// It refuses with `Memory`, and else only where no header with a program is the frame's bytes. The fault is that of
 /// the first field that isn't there whole, or has a value that none may have, and its place is the field's first byte;
-/// where the fields of one byte end too early, that is where they end.
+/// where the fields of one byte end too early, that is where they end. The caller gives a frame as `take_frame` gives it,
+/// and the order in which that was read.
 pub fn decode_header<'a>(
     alloc: Global,
     frame: &Frame<'a>,
@@ -25,26 +26,14 @@ pub fn decode_header<'a>(
     ensures err { IfErr result (λ fault. fault.reason ≢ Reason.Memory
         → BrokenHeader order fault frame.now.offset (frame_bytes order frame.now.format frame.now.body.now)) }
 {
-    let (header, program) = view_header(alloc, frame, order)?;
-    with_program(header.view().to_header(alloc), program, frame.offset)
-}
-
-// The header with its program. Where there was no memory for the header, the fault `Memory` at the unit's offset `place`.
-fn with_program<'a>(
-    header: Result<Header, AllocError>,
-    program: &'a [u8],
-    place: u64,
-) -> Result<(Header, &'a [u8]), Fault>
-    ensures ok { IfOk result (λ found. (header ≡ Ok found.0) × (found.1.now ≡ program.entry.now)) }
-    ensures err { IfErr result (λ fault. fault.reason ≡ Reason.Memory) }
-{
-    match header {
-        Ok(header) => Ok((header, program)),
-        Err(_) => Err(Fault {
-            place,
+    let (view, program) = view_header(alloc, frame, order)?;
+    let Ok(header) = view.view().to_header(alloc) else {
+        return Err(Fault {
+            place: frame.offset,
             reason: Reason::Memory,
-        }),
-    }
+        });
+    };
+    Ok((header, program))
 }
 
 /// A cursor after the version of the frame, which goes to the end of its body.

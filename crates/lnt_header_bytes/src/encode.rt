@@ -5,10 +5,10 @@ ghost use Rattle.lnt_wire.specs.Bytes.{IsShortest, Appends};
 ghost use Rattle.lnt_wire.specs.FormBytes.{HasSpelling, FormBytes};
 ghost use Rattle.lnt_wire.specs.InitialLength.{initial_length, LengthFits};
 ghost use Rattle.lnt_wire.specs.Numbers.{offset_size};
-ghost use Rattle.lnt_header.specs.Encoding.{RefusedPut, EntryParts};
+ghost use Rattle.lnt_header.specs.Encoding.{RefusedPut};
+ghost use Rattle.lnt_header_bytes.specs.HeaderPuts.{EntryParts, around, AddsAround};
 ghost use Rattle.lnt_header_bytes.specs.HeaderBytes.{HeaderFieldsBytes, HeaderBytesIn};
-ghost use Rattle.lnt_header_bytes.specs.HeaderPuts.{around, AddsAround};
-ghost use Rattle.lnt_header.specs.HeaderRules.{IsHeader, IsTable};
+ghost use Rattle.lnt_header.specs.HeaderRules.{IsHeader, IsEntryTable};
 ghost use Rattle.lnt_header_bytes.specs.Large.{HasLargeEntry, HasLargeOffset, HasLargeValue, IfTooLarge, IsTooLong};
 ghost use Rattle.lnt_header.specs.Joins.{Each};
 ghost use Rattle.lnt_header_bytes.specs.TableBytes.{PairBytes, TableOf};
@@ -153,7 +153,7 @@ fn add_table(
     format: Format,
     order: Order,
 ) -> Result<(), EncodeFault>
-    requires { IsTable pairs.now entries.now }
+    requires { IsEntryTable pairs.now entries.now }
     ensures ok { OnOk result (Appends (TableOf format order) (pairs.now, entries.now) out.old.items out.new.items) }
     ensures err { IfErr result (λ fault. RefusedPut (TableOf format order) (pairs.now, entries.now) fault) }
     ensures large { IfErr result (IfTooLarge (HasLargeEntry format entries.now)) }

@@ -37,7 +37,8 @@ impl<'a> Model for HeaderView<'a> {
 
 impl<'a> HeaderView<'a> {
     /// The header of these numbers and formats, with these entries and these bytes between the file table and the
-    /// program; its tables have these marks. It takes no memory.
+    /// program; its tables have these marks. The caller knows the entries to be those of a header, and the marks to be
+    /// theirs. It takes no memory.
     pub fn of(
         numbers: &'a Header,
         directories: EntriesInPlace<'a>,

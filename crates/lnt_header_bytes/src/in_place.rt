@@ -5,7 +5,8 @@ ghost use Rattle.lnt_wire.specs.Reading.{RefusesOr};
 ghost use Rattle.lnt_header_bytes.specs.Borrowed.{without_entries};
 ghost use Rattle.lnt_header_bytes.specs.Stepping.{AreFieldsRead, ArePlain};
 ghost use Rattle.lnt_header_bytes.specs.Broken.{BrokenHeader};
-ghost use Rattle.lnt_header_bytes.specs.FieldsBytes.{FieldsBytes, IsHeaderFault};
+ghost use Rattle.lnt_header_bytes.specs.FieldsBytes.{FieldsBytes};
+ghost use Rattle.lnt_header_bytes.specs.HeaderFaults.{IsHeaderFault};
 ghost use Rattle.lnt_header_bytes.specs.HeaderBytes.{HeaderBytesIn};
 ghost use Rattle.lnt_header_bytes.specs.HeaderReading.{HasFields, standing};
 ghost use Rattle.lnt_header.specs.HeaderRules.{IsAddressSize, IsHeader};
@@ -14,7 +15,7 @@ use crate::decode::after_version;
 use crate::header_view::HeaderView;
 use crate::marks::Marks;
 use crate::numbers::{Singles, read_lengths, read_singles};
-use crate::read_table::{EntriesInPlace, TableRead, read_table};
+use crate::read_table::{EntriesInPlace, EntryTableRead, read_table};
 use crate::start::read_start;
 use lnt_header::{Header, HeaderParts, Pair};
 use lnt_lists::Items;
@@ -75,7 +76,8 @@ impl<'a> HeaderInPlace<'a> {
 /// It refuses with `Memory`, and else only where no header with a program is the frame's bytes. The fault is that of
 /// the first field that isn't there whole, or has a value that none may have, and its place is the field's first byte;
 /// where the fields of one byte end too early, that is where they end. It takes memory for the formats of the entries
-/// and the standard opcode lengths alone.
+/// and the standard opcode lengths alone. The caller gives a frame as `take_frame` gives it, and the order in which that
+/// was read.
 #[tactic(auto, using(crate::proofs::HeaderFrames::refuses_start, crate::proofs::HeaderFrames::refuses_fields, crate::proofs::HeaderFrames::header_found))]
 pub fn view_header<'a>(
     alloc: Global,
@@ -123,7 +125,12 @@ fn view_parts<'a>(
         directories,
         files,
     } = read_fields(alloc, &mut cursor, format)?;
-    let lengths = copied(alloc, lengths, place)?;
+    let Ok(lengths) = copied(alloc, lengths) else {
+        return Err(Fault {
+            place,
+            reason: Reason::Memory,
+        });
+    };
     let (lying_directories, lying_files) = (directories.entries, files.entries);
     let formats = (directories.pairs, files.pairs);
     let numbers = plain_parts(
@@ -180,8 +187,8 @@ fn plain_parts(
 struct FieldsRead<'a> {
     singles: Singles,
     lengths: &'a [u8],
-    directories: TableRead<'a>,
-    files: TableRead<'a>,
+    directories: EntryTableRead<'a>,
+    files: EntryTableRead<'a>,
 }
 
 // The fields up to the file table.

@@ -1,9 +1,8 @@
 //! Entries of a table that are passed: read where they lie, and kept nowhere.
 ghost use Rattle.std.specs.Prelude.{OnOk, IfOk, IfErr};
-ghost use Rattle.lnt_header_bytes.specs.Stepping.{Passes, PassesAll};
+ghost use Rattle.lnt_header_bytes.specs.Stepping.{Passes, PassesAll, IsLayout};
 ghost use Rattle.lnt_header.specs.Joins.{Several};
-ghost use Rattle.lnt_header_bytes.specs.Layouts.{IsLayout};
-ghost use Rattle.lnt_header_bytes.specs.TableBytes.{ValuesBytes, EntryBytes};
+ghost use Rattle.lnt_header_bytes.specs.TableBytes.{EntryBytes};
 ghost use Rattle.lnt_header_bytes.specs.TableFaults.{IsEntryFault, IsEntriesFault};
 ghost use Rattle.lnt_wire.specs.Reading.{Refuses};
 

@@ -22,7 +22,7 @@ pub struct EntriesInPlace<'a> {
 
 /// What was read of a table: its format, and where its entries lie.
 #[derive(Drop)]
-pub(crate) struct TableRead<'a> {
+pub(crate) struct EntryTableRead<'a> {
     pub pairs: Vec<Pair>,
     pub entries: EntriesInPlace<'a>,
 }
@@ -33,7 +33,7 @@ pub(crate) fn read_table<'a>(
     alloc: Global,
     cursor: &mut Cursor<'a>,
     format: Format,
-) -> Result<TableRead<'a>, Fault>
+) -> Result<EntryTableRead<'a>, Fault>
     ensures ok { IfOk result (λ table. IsTableRead format table cursor.old cursor.new) }
     ensures err { IfErr result (λ fault. RefusesOr (IsTableFault format cursor.old.order) (TableOf format cursor.old.order) cursor.old
         fault) }
@@ -50,5 +50,5 @@ pub(crate) fn read_table<'a>(
     }
     let bytes = pass_entries(cursor, format, &pairs, size)?;
     let entries = EntriesInPlace { count: size, bytes };
-    Ok(TableRead { pairs, entries })
+    Ok(EntryTableRead { pairs, entries })
 }

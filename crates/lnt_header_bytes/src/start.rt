@@ -1,8 +1,8 @@
 //! The fields of a header after its version up to header_length.
 ghost use Rattle.std.specs.Prelude.{IfOk, IfErr};
 ghost use Rattle.lnt_wire.specs.Reading.{Reads, RefusesField, Refuses};
-ghost use Rattle.lnt_header_bytes.specs.StartBytes.{AddressSizeBytes, IsSizeFault, SelectorBytes, IsSelectorFault, CountedBytes};
-ghost use Rattle.lnt_header_bytes.specs.StartBytes.{IsCountedFault, StartBytes, IsStartFault};
+ghost use Rattle.lnt_header_bytes.specs.StartBytes.{AddressSizeBytes, SelectorBytes, CountedBytes, StartBytes};
+ghost use Rattle.lnt_header_bytes.specs.StartFaults.{IsAddressSizeFault, IsSelectorFault, IsCountedFault, IsStartFault};
 
 use lnt_header::is_address_size;
 use lnt_wire::{Cursor, Fault, Format, Reason};
@@ -36,7 +36,7 @@ pub(crate) fn read_start<'a>(cursor: &mut Cursor<'a>, format: Format) -> Result<
 #[tactic(auto, using(crate::proofs::StartReaders::reads_size, crate::proofs::StartReaders::refuses_size, crate::proofs::StartReaders::refuses_other_size))]
 fn read_address_size(cursor: &mut Cursor<'_>) -> Result<u8, Fault>
     ensures ok { IfOk result (λ size. Reads AddressSizeBytes size cursor.old cursor.new) }
-    ensures err { IfErr result (λ fault. RefusesField IsSizeFault AddressSizeBytes cursor.old fault) }
+    ensures err { IfErr result (λ fault. RefusesField IsAddressSizeFault AddressSizeBytes cursor.old fault) }
 {
     let place = cursor.place();
     let size = cursor.u8()?;

@@ -1,16 +1,16 @@
-//! The two tables of a header.
-ghost use Rattle.std.specs.Prelude.{◌≡◌, ◌∷◌, ◌++◌, [], length, IfOk, IfErr};
+//! The pairs and the entries of a header's two tables, read from their bytes (DWARF 5, section 6.2.4.1).
+ghost use Rattle.std.specs.Prelude.{◌≡◌, ◌∷◌, ◌++◌, [], IfOk, IfErr, OnOk};
 ghost use Rattle.lnt_header.specs.Joins.{Several};
 ghost use Rattle.lnt_wire.specs.Reading.{Reads, Refuses, RefusesOr};
-ghost use Rattle.lnt_header_bytes.specs.Layouts.{IsLayout, entry_of};
-ghost use Rattle.lnt_header_bytes.specs.Stepping.{ReadsNext};
+ghost use Rattle.lnt_header_bytes.specs.Layouts.{entry_of};
+ghost use Rattle.lnt_header_bytes.specs.Stepping.{IsLayout, ReadsNext};
 ghost use Rattle.lnt_header_bytes.specs.TableBytes.{PairBytes, ValuesBytes, EntryBytes};
 ghost use Rattle.lnt_header_bytes.specs.TableFaults.{IsPairFault, IsPairsFault, IsEntryFault, IsEntriesFault};
 
 use lnt_header::{Entry, Pair};
 use lnt_lists::ShortList;
 use lnt_wire::{Cursor, Fault, Form, FormValue, Format, Reason};
-use std::alloc::Global;
+use std::alloc::{AllocError, Global};
 
 // Reads a pair of a format: a content type and the code of a form.
 #[tactic(auto, using(crate::proofs::TableReaders::reads_pair, crate::proofs::TableReaders::refuses_pair_content, crate::proofs::TableReaders::refuses_pair_form, crate::proofs::TableReaders::refuses_unknown))]
@@ -104,16 +104,17 @@ fn first_room(cursor: &Cursor<'_>, count: u64) -> usize {
     cursor.rest().len().min(count.min(32) as usize)
 }
 
-// Which values the entries of a table have. Each of the layouts that compilers write is read by a function of its own,
-// which makes the entry right in the list.
+// Which forms the entries of a table have. Each of the layouts that compilers write is read by a function of its own,
+// which makes the entry right in the list. The layout says nothing of the content types; its name is what compilers mean by it.
 #[derive(Clone, Copy)]
 pub(crate) enum Layout {
-    // A path in `.debug_line_str`.
+    // A `LineStrp`: a path in `.debug_line_str`.
     Path,
-    // The same, and the index of a directory.
+    // The same, and a `Udata`: the index of a directory.
     IndexedPath,
-    // The same, and an MD5 sum.
+    // The same, and a `Data16`: an MD5 sum.
     SummedPath,
+    // Any forms, those above too.
     Other,
 }
 
@@ -197,7 +198,10 @@ fn read_path(
         (EntryBytes format cursor.old.order pairs.now) cursor.old fault) }
 {
     let path = cursor.form(alloc, Form::LineStrp, format)?;
-    push_entry(cursor, entries, ShortList::one(path))
+    if push_entry(entries, ShortList::one(path)).is_err() {
+        return Err(no_memory(cursor));
+    }
+    Ok(())
 }
 
 // Reads the next path and the index of its directory, and adds them to `entries` as an entry.
@@ -218,7 +222,10 @@ fn read_indexed_path(
 {
     let path = cursor.form(alloc, Form::LineStrp, format)?;
     let directory = cursor.form(alloc, Form::Udata, format)?;
-    push_entry(cursor, entries, ShortList::two(path, directory))
+    if push_entry(entries, ShortList::two(path, directory)).is_err() {
+        return Err(no_memory(cursor));
+    }
+    Ok(())
 }
 
 // Reads the next path, the index of its directory and its MD5 sum, and adds them to `entries` as an entry.
@@ -240,7 +247,10 @@ fn read_summed_path(
     let path = cursor.form(alloc, Form::LineStrp, format)?;
     let directory = cursor.form(alloc, Form::Udata, format)?;
     let sum = cursor.form(alloc, Form::Data16, format)?;
-    push_entry(cursor, entries, ShortList::three(path, directory, sum))
+    if push_entry(entries, ShortList::three(path, directory, sum)).is_err() {
+        return Err(no_memory(cursor));
+    }
+    Ok(())
 }
 
 // Reads the next entry, whatever its forms, and adds it to `entries`.
@@ -258,23 +268,18 @@ fn read_other_entry(
         (EntryBytes format cursor.old.order pairs.now) cursor.old fault) }
 {
     let values = read_values(alloc, cursor, format, pairs)?;
-    push_entry(cursor, entries, values)
-}
-
-// Adds an entry of these values to `entries`. The only error is `Memory`.
-#[inline(always)]
-fn push_entry(
-    cursor: &Cursor<'_>,
-    entries: &mut Vec<Entry>,
-    values: ShortList<FormValue>,
-) -> Result<(), Fault>
-    ensures ok { IfOk result (λ _. entries.new.items ≡ entries.old.items ++ entry_of values ∷ []) }
-    ensures err { IfErr result (λ fault. fault.reason ≡ Reason.Memory) }
-{
-    if entries.push(Entry { values }).is_err() {
+    if push_entry(entries, values).is_err() {
         return Err(no_memory(cursor));
     }
     Ok(())
+}
+
+// Adds an entry of these values to `entries`. The one error is that memory ran out.
+#[inline(always)]
+fn push_entry(entries: &mut Vec<Entry>, values: ShortList<FormValue>) -> Result<(), AllocError>
+    ensures { OnOk result (entries.new.items ≡ entries.old.items ++ entry_of values ∷ []) }
+{
+    Ok(entries.push(Entry { values })?)
 }
 
 // The fault `Memory`, at the place where the cursor stands.

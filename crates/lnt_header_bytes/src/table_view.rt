@@ -11,7 +11,7 @@ use lnt_wire::{Cursor, Format, Order, Reason};
 use std::alloc::{AllocError, Global};
 use std::marker::Model;
 
-/// A format, and its entries, which stay where they lie.
+/// An entry table of a header, of its directories or of its files: a format, and entries, which stay where they lie.
 ///
 /// Contracts see the format and the entries, and how the numbers of these are spelled (`BorrowedTable`).
 #[derive(Drop)]

@@ -1,19 +1,19 @@
 //! Headers whose entries stay where they lie, written in another format and byte order (DWARF 5, sections 6.2.4 and 7.4).
 ghost use Rattle.std.specs.Prelude.{◌≡◌, IfOk, IfErr, OnOk};
-ghost use Rattle.lnt_wire.specs.Bytes.{Appends, IsShortest};
+ghost use Rattle.lnt_wire.specs.Bytes.{Appends, IsShortest, NoneSpelled};
 ghost use Rattle.lnt_header.specs.Conversion.{in_format};
-ghost use Rattle.lnt_header.specs.Encoding.{EntryParts, RefusedPut};
+ghost use Rattle.lnt_header.specs.Encoding.{RefusedPut};
+ghost use Rattle.lnt_header_bytes.specs.HeaderPuts.{EntryParts, AddsEntry, RefusesEntry};
 ghost use Rattle.lnt_header_bytes.specs.HeaderBytes.{HeaderBytesIn, HeaderFieldsBytes};
-ghost use Rattle.lnt_header_bytes.specs.HeaderPuts.{AddsEntry, RefusesEntry};
-ghost use Rattle.lnt_header.specs.HeaderRules.{IsTable};
+ghost use Rattle.lnt_header.specs.HeaderRules.{IsEntryTable};
 ghost use Rattle.lnt_header.specs.Joins.{Each};
-ghost use Rattle.lnt_header_bytes.specs.TableBytes.{TableOf};
+ghost use Rattle.lnt_header_bytes.specs.TableBytes.{EntryBytes, TableOf};
 
 use crate::encode::{add_around, add_pairs};
 use crate::header_view::HeaderView;
 use crate::table_view::TableView;
 use lnt_header::Pair;
-use lnt_wire::{Cursor, EncodeFault, Format, Order, put_form, put_uleb};
+use lnt_wire::{Cursor, EncodeFault, Format, Order, Reason, put_form, put_uleb};
 use std::alloc::Global;
 
 /// Adds the bytes of a unit with this header in the format and order, and with this program, each LEB128 in its
@@ -68,7 +68,7 @@ fn add_table_view(
     format: Format,
     order: Order,
 ) -> Result<(), EncodeFault>
-    requires { IsTable table.now.pairs table.now.entries }
+    requires { IsEntryTable table.now.pairs table.now.entries }
     ensures ok { OnOk result (Appends (TableOf format order) (table.now.pairs, table.now.entries) out.old.items out.new.items) }
     ensures err { IfErr result (λ fault. RefusedPut (TableOf format order) (table.now.pairs, table.now.entries) fault) }
 {
@@ -105,8 +105,8 @@ fn add_entries_view(
     Ok(())
 }
 
-// Adds the values of the entry at the cursor, which is in the format `from`. Where a value stands there, the only reason
-// for which it isn't read is want of memory.
+// Adds the values of the entry at the cursor, which is in the format `from`. The caller sees to it that an entry stands
+// there, so the only reason for which a value isn't read is want of memory.
 #[tactic(auto, using(crate::proofs::ViewPutLemmas::entry_begun, crate::proofs::ViewPutLemmas::entry_done, crate::proofs::Allowed::spelled_value))]
 fn add_entry_view(
     alloc: Global,
@@ -117,14 +117,19 @@ fn add_entry_view(
     format: Format,
     order: Order,
 ) -> Result<(), EncodeFault>
+    requires { NoneSpelled (EntryBytes from cursor.old.order pairs.now) cursor.old.rest → ⊥ }
     ensures ok { OnOk result (AddsEntry from pairs.now format order cursor.old cursor.new out.old.items out.new.items) }
     ensures err { IfErr result (RefusesEntry from pairs.now format order cursor.old) }
 {
     for pair in pairs {
-        let Ok(value) = cursor.form(alloc, pair.form, from) else {
-            return Err(EncodeFault::Memory);
-        };
-        put_form(out, &value, format, order)?;
+        match cursor.form(alloc, pair.form, from) {
+            Ok(value) => put_form(out, &value, format, order)?,
+            Err(fault) => match fault.reason {
+                Reason::Memory => return Err(EncodeFault::Memory),
+                // The value of each pair is there.
+                _ => unreachable!(),
+            },
+        }
     }
     Ok(())
 }

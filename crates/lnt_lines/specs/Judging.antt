@@ -1,4 +1,5 @@
--- What the judgement of one unit says: that it is sound, and what is kept of it; or the first thing that is wrong with it.
+-- What the judgement of one unit says: that it is sound, and what is kept of it; or the first thing that is wrong with it. No
+-- public contract speaks of it.
 --     line, general   the bytes of .debug_line_str and of .debug_str
 --     dead            the address at which sequences of dead code begin, where one is given
 use Rattle.std.specs.Prelude.{◌≡◌, ℕ, List, [], ◌∷◌, ◌++◌, length, drop, Option}

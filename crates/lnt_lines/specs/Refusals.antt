@@ -1,4 +1,4 @@
--- Why there are no lines of a section, as faults, stops and flaws of tables make it.
+-- Why there are no lines of a section, as faults, stops and flaws of tables make it. No public contract speaks of it.
 use Rattle.std.specs.Prelude.{◌≡◌, ◌≢◌, ℕ}
 use Rattle.lnt_wire.specs.declared.fault.Fault.{Fault}
 use Rattle.lnt_wire.specs.declared.fault.Reason.TheVariants.{Memory}

@@ -1,4 +1,4 @@
--- A unit's program, run operation by operation. Contracts of private functions speak of this.
+-- A unit's program, run operation by operation. No public contract speaks of it.
 use Rattle.std.specs.Prelude.{◌≡◌, ◌≢◌, ℕ, ◌+◌, ◌^◌, ◌<◌, ◌≤◌, List, length, reverse, Option}
 use Rattle.lnt_header.specs.declared.op.Op.{Op}
 use Rattle.lnt_header.specs.declared.op.OpView.{OpView}

@@ -116,7 +116,7 @@ impl<'a> Index<'a> {
             return None;
         };
         let Some(rows) = rows_of(&self.units, &self.programs, extent.id) else {
-            return None;
+            unreachable!()
         };
         answer_at(extent.id.unit, rows, position)
     }

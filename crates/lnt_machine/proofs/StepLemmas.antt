@@ -11,8 +11,8 @@ use Rattle.lnt_header.specs.declared.op.Op.TheVariants.{EndSequence, SetAddress}
 use Rattle.lnt_header.specs.declared.op.OpView.{OpView}
 use Rattle.lnt_header.specs.declared.op.OpView.TheVariants as views
 use Rattle.lnt_header.specs.HeaderRules.{IsHeader}
-use Rattle.lnt_header.specs.OpRules.{op_of, operands_of, StandsFor, Admits}
-use Rattle.lnt_ops.proofs.ViewLaws.{is_op_of}
+use Rattle.lnt_header.specs.OpRules.{op_of, StandsFor, Admits}
+use Rattle.lnt_ops.proofs.ViewLaws.{is_op_of, operands_of}
 use Rattle.lnt_machine.specs.declared.row.Row.{Row}
 use Rattle.lnt_machine.specs.Changes.{changed, Changes, initial_registers, IsAllowed, line_reached, made, plain}
 use Rattle.lnt_machine.specs.Matrix.{row_made}

@@ -1,4 +1,4 @@
--- How an operation changes the registers (DWARF 5, section 6.2.5). Contracts of private functions speak of this, and no others.
+-- How an operation changes the registers (DWARF 5, section 6.2.5). No public contract speaks of it.
 use Rattle.std.specs.Prelude.{◌≡◌, ℕ, ◌+◌, ◌*◌, ◌/◌, ◌%◌, ◌^◌, ◌==◌, ◌<◌, ◌≤◌, true, false, not, [], Option, Some, None}
 use Rattle.std.specs.Prelude.{ℤ, pos, ◌+ℤ◌, unsigned_abs}
 use Rattle.lnt_header.specs.declared.header.HeaderParts.{HeaderParts}

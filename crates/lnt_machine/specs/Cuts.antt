@@ -1,4 +1,4 @@
--- Rows cut into sequences, and those that no sequence ends yet (DWARF 5, 6.2.2).
+-- Rows cut into sequences, and those that no sequence ends yet (DWARF 5, section 6.2.2). No public contract speaks of it.
 use Rattle.std.specs.Prelude.{◌≡◌, Bool, true, false, List, [], ◌∷◌, ◌++◌}
 use Rattle.std.specs.List.{AllByRecursion}
 use Rattle.lnt_machine.specs.declared.row.Row.{Row}

@@ -1,7 +1,9 @@
-//! Why a program doesn't run.
-ghost use Rattle.std.specs.Prelude.{Some};
-ghost use Rattle.lnt_machine.specs.FaultTexts.{run_fault_text};
+//! Why a program doesn't run, and why its rows end before it does.
+ghost use Rattle.std.specs.Prelude.{◌≡◌, Some};
+ghost use Rattle.lnt_machine.specs.FaultTexts.{row_fault_text, run_fault_text};
 
+use lnt_wire::Fault;
+use std::alloc::AllocError;
 use std::error::Error;
 use std::fmt;
 
@@ -29,3 +31,55 @@ impl fmt::Display for RunFault {
 }
 
 impl Error for RunFault {}
+
+impl From<AllocError> for RunFault {
+    ghost use Rattle.lnt_machine.specs.declared.fault.RunFault.TheVariants.{Memory};
+
+    ghost from_gives = { λ _ fault. fault ≡ Memory };
+
+    fn from(_error: AllocError) -> RunFault {
+        RunFault::Memory
+    }
+}
+
+/// Why a walk over the rows of a unit ends before its program does. It prints the text of the fault that it has.
+#[derive(Clone, Copy, Debug, PartialEq, Eq)]
+pub enum RowFault {
+    /// No operation begins the bytes that are left of the program.
+    Malformed(Fault),
+    /// The program doesn't run.
+    Run(RunFault),
+}
+
+impl fmt::Display for RowFault {
+    ghost output = { λ fault. Some (row_fault_text fault) };
+
+    fn fmt<W: fmt::Write>(&self, f: &mut fmt::Formatter<W>) -> fmt::Result {
+        match *self {
+            RowFault::Malformed(fault) => write!(f, "{fault}"),
+            RowFault::Run(fault) => write!(f, "{fault}"),
+        }
+    }
+}
+
+impl Error for RowFault {}
+
+impl From<Fault> for RowFault {
+    ghost use Rattle.lnt_machine.specs.declared.fault.RowFault.TheVariants.{Malformed};
+
+    ghost from_gives = { λ fault result. result ≡ Malformed fault };
+
+    fn from(fault: Fault) -> RowFault {
+        RowFault::Malformed(fault)
+    }
+}
+
+impl From<RunFault> for RowFault {
+    ghost use Rattle.lnt_machine.specs.declared.fault.RowFault.TheVariants.{Run};
+
+    ghost from_gives = { λ fault result. result ≡ Run fault };
+
+    fn from(fault: RunFault) -> RowFault {
+        RowFault::Run(fault)
+    }
+}

@@ -15,7 +15,8 @@ use std::marker::Model;
 
 /// The program of a unit as it is run: a machine, and whether rows stand after the last end row.
 ///
-/// A walk over the rows of a unit is a loop of [`Run::step`] over its operations, and [`Run::end`] after the last one.
+/// A walk over the rows of a unit is a loop of [`Run::step`] over its operations, and [`Run::end`] after the last one. For
+/// operations that lie in a unit's bytes, [`Rows`](crate::Rows) is that loop, row by row.
 #[derive(Drop)]
 pub struct Run<'a> {
     machine: Machine<'a>,

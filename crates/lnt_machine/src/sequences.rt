@@ -9,7 +9,7 @@ use crate::row::{Row, Sequence};
 use crate::run::Run;
 use lnt_lists::Items;
 use lnt_unit::Unit;
-use std::alloc::Global;
+use std::alloc::{AllocError, Global};
 use std::mem;
 
 /// The rows of a unit, sequence by sequence, where its program runs (`Runs`; DWARF 5, sections 6.2.2 and 6.2.5).
@@ -36,27 +36,22 @@ pub fn matrix(alloc: Global, unit: &Unit) -> Result<Vec<Sequence>, RunFault>
     Ok(sequences)
 }
 
-// Adds a row to those after the last end row. An end row makes a sequence of them. The only error is `Memory`.
+// Adds a row to those after the last end row. An end row makes a sequence of them.
 #[tactic(auto, using(crate::proofs::SequenceLaws::cut_more, crate::proofs::SequenceLaws::cut_end, crate::proofs::SequenceLaws::some_after))]
 fn add_row(
     alloc: Global,
     row: Row,
     rows: &mut Vec<Row>,
     sequences: &mut Vec<Sequence>,
-) -> Result<(), RunFault>
+) -> Result<(), AllocError>
     ensures ok { OnOk result ((all : List Row) → IsCut all sequences.old.items rows.old.items
         → IsCut (all ++ row ∷ []) sequences.new.items rows.new.items) }
     ensures left { OnOk result (are_some rows.new.items ≡ not row.end_sequence) }
-    ensures err { IfErr result (λ fault. fault ≡ RunFault.Memory) }
 {
-    if rows.push(row).is_err() {
-        return Err(RunFault::Memory);
-    }
+    rows.push(row)?;
     if row.end_sequence {
         let rows = Items::new(mem::replace(rows, Vec::new(alloc)));
-        if sequences.push(Sequence { rows }).is_err() {
-            return Err(RunFault::Memory);
-        }
+        sequences.push(Sequence { rows })?;
     }
     Ok(())
 }

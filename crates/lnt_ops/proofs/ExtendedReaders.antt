@@ -485,3 +485,26 @@ refuses_counted h n length_place start counted old middle new fault some at_leng
       };
       none = none_in_count h n length_place start counted old middle new fault some r t (large_number l);
     }
+
+-- what is read of the bytes that a length counts
+pub ruleset counted_reads = (
+  address_whole,
+  gives_end,
+  gives_address,
+  gives_discriminator,
+  gives_other,
+  takes_discriminator,
+  number_is_fault,
+)
+
+-- which operands fit each code, and which don't
+pub ruleset operand_tests = (
+  right_end,
+  right_address,
+  right_discriminator,
+  right_other,
+  wrong_end,
+  wrong_address,
+  wrong_discriminator,
+  no_code,
+)

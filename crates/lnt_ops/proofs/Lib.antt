@@ -1,6 +1,6 @@
 pub mod ConvertedLemmas
 pub mod ExtendedReaders
-pub mod FaultLaws
+pub mod FaultLemmas
 pub mod LebSizes
 pub mod LeftLaws
 pub mod OpFaultLaws

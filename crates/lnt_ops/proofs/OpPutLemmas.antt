@@ -1,5 +1,5 @@
 -- What is written of operations.
-use Rattle.std.proofs.Common.{Bor, ◌≡◌, ℕ, suc, ◌+◌, ◌-◌, ◌^◌, ◌<◌, ◌≤◌, List, [], ◌∷◌, ◌++◌, length, take, get_or}
+use Rattle.std.proofs.Common.{Bor, ◌≡◌, ℕ, suc, ◌+◌, ◌-◌, ◌<◌, ◌≤◌, List, [], ◌∷◌, ◌++◌, length, take, get_or}
 use Rattle.std.proofs.Common.{refl, sym, ap, subst, ◌∙◌, append_assoc, append-nil, arith}
 use Rattle.std.proofs.lemmas.List.{length-append}
 use Rattle.std.proofs.Math.Seq.{take-append_seam}
@@ -20,12 +20,12 @@ use Rattle.lnt_header.specs.declared.op.OpView.{OpView}
 use Rattle.lnt_header.specs.declared.op.OpView.TheVariants as views
 use Rattle.lnt_header.specs.declared.op.Operands.{Operands}
 use Rattle.lnt_header.specs.declared.op.Operands.TheVariants.{Spelled, Listed}
-use Rattle.lnt_header.specs.OpRules.{AreOperands, StandsFor, op_of, operands_of, Admits, AdmitsCoding, Coding, coding, coding_of}
+use Rattle.lnt_header.specs.OpRules.{AreOperands, StandsFor, op_of, Admits, AdmitsCoding, Coding, coding, coding_of}
 use Rattle.lnt_header.specs.OpRules.{Operand}
 use Rattle.lnt_header.specs.Joins.{Each}
 use Rattle.lnt_header.proofs.PutLaws.{put_as, each_begun, each_put, each_more, each_done}
 use Rattle.lnt_ops.proofs.OpLaws.{same_whole}
-use Rattle.lnt_ops.proofs.ViewLaws.{leb_is_some, is_op_of}
+use Rattle.lnt_ops.proofs.ViewLaws.{leb_is_some, is_op_of, operands_of}
 use Rattle.lnt_ops.specs.OpBytes.{CodingBytes, OpBytes, Standard, Extended}
 use Rattle.lnt_ops.specs.OpPuts.{IsOpOf, AddsView}
 use Rattle.lnt_ops.specs.Stepping.{AddsSpelled, AddsOperands}
@@ -373,15 +373,6 @@ unknown_standard_put order size view k operands old new is p = record {
       (standard_as (Each UnsignedLeb) numbers h k c old new (λ y t. (a.0, a.2, t)) (λ y t. t.2) a.1
       (p.adds numbers (are_operands k operands op s)));
 }
-
--- the operation's address is one of those of the size
-pub address_fits : (size : ℕ) (view : OpView) (code address : ℕ) → IsOpOf size view
-    → coding_of view ≡ Coding.extended_address code address → address < 256 ^ size
-address_fits size view code address v e =
-    let c = Coding.extended_address code address in
-    let admits : address < 256 ^ v.header.address_size = subst (AdmitsCoding v.header) (is_coded view v.op c v.stands e (λ listed. listed))
-    v.admitted in
-    subst (λ (s : ℕ). address < 256 ^ s) v.size_is admits
 
 -- ---- what a view is of
 

@@ -15,7 +15,7 @@ use Rattle.lnt_ops.proofs.OpLaws.{op_is_some}
 use Rattle.lnt_ops.specs.OpBytes.{OpBytes}
 use Rattle.lnt_ops.specs.OpFaults.{IsOpFault, IsFirstFault}
 use Rattle.lnt_ops.specs.OpFaults.IsFirstFault.{no_opcode}
-use Rattle.lnt_ops.proofs.FaultLaws.{refuses_op}
+use Rattle.lnt_ops.proofs.FaultLemmas.{refuses_op}
 use Rattle.lnt_ops.specs.OpReading.{GivesOp}
 use Rattle.lnt_ops.specs.OpSteps.{BytesAfter, IsFaultAfter, GivesAfter}
 

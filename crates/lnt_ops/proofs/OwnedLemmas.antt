@@ -17,7 +17,7 @@ use Rattle.lnt_header.specs.declared.op.Operands.{Operands}
 use Rattle.lnt_ops.proofs.ProgramLaws.{none_filled}
 use Rattle.lnt_ops.proofs.ViewLaws.{leb_is_some}
 use Rattle.lnt_ops.specs.OperandLists.{IsOperands, SpellsNumbers, NumbersSoFar}
-use Rattle.lnt_ops.specs.Programs.{IsView}
+use Rattle.lnt_ops.specs.Stepping.{IsView}
 
 operands_of : (k : ℕ) (operands : Operands) (op : Op) → StandsFor (views.UnknownStandard k operands) op → IsOperands operands
 operands_of k operands (ops.UnknownStandard j numbers) p = record { numbers = numbers; are = p.1 }

@@ -16,14 +16,14 @@ use Rattle.lnt_header.specs.HeaderRules.{IsHeader}
 use Rattle.lnt_header.specs.Joins.{Each}
 use Rattle.lnt_header.proofs.ReaderLaws.{each_more}
 use Rattle.lnt_header.specs.OpRules.{Admits, StandsFor}
-use Rattle.lnt_ops.proofs.FaultLaws.{op_fault, op_later}
+use Rattle.lnt_ops.proofs.FaultLemmas.{op_fault, op_later}
 use Rattle.lnt_ops.proofs.OpLaws.{op_code, op_is_some}
 use Rattle.lnt_ops.proofs.ViewLaws.{same_op}
 use Rattle.lnt_ops.specs.OpBytes.{OpBytes}
 use Rattle.lnt_ops.specs.OpFaults.{IsFirstFault}
 use Rattle.lnt_ops.specs.OpReading.{GivesOp}
-use Rattle.lnt_ops.specs.Programs.{BrokenProgram, IsView}
-use Rattle.lnt_ops.specs.Stepping.{OpsSoFar}
+use Rattle.lnt_ops.specs.Programs.{BrokenProgram}
+use Rattle.lnt_ops.specs.Stepping.{IsView, OpsSoFar}
 use Rattle.lnt_ops.specs.Walks.{Walk, Ends, Steps, Fails}
 
 -- no list fills the bytes, where after some values no other follows

@@ -489,3 +489,23 @@ pub none_other : (h : HeaderParts) (k : ℕ) (bytes : List ℕ) → get_or bytes
 none_other h k bytes is lt n0 n1 n2 n3 n4 n5 n6 n8 =
     long_of h k bytes (drop 1 bytes) is lt refl n1 n6 n8 (λ x. absurd (n2 x)) (λ x. absurd (n4 x)) (λ x. absurd (n5 x)) (λ x. absurd (n3 x))
     (λ x. absurd (n0 x))
+
+-- each short operation that bytes begin with, and why none does
+pub ruleset short_fronts = (
+  front_special,
+  front_copy,
+  front_advance_pc,
+  front_advance_line,
+  front_set_file,
+  front_set_column,
+  front_negate_stmt,
+  front_const_add_pc,
+  front_discriminator,
+  none_empty,
+  none_discriminator,
+  none_advance_pc,
+  none_advance_line,
+  none_set_file,
+  none_set_column,
+  none_other,
+)

@@ -243,3 +243,25 @@ pub refuses_set_isa : (h : HeaderParts) (k : ℕ) (old : At) (fault : Fault) →
     → Refuses (IsFaultAfter h k) (BytesAfter h k) old fault
 refuses_set_isa h k old fault e lt r =
     operand_refused UnsignedLeb h k 12 old fault e (omega arith) lt (operand_12 h) (λ p. unsigned_operand k (ap following e) lt refl p) r
+
+-- what is read after each known standard opcode
+pub ruleset standard_reads = (
+  gives_copy,
+  gives_advance_pc,
+  gives_advance_line,
+  gives_set_file,
+  gives_set_column,
+  gives_negate_stmt,
+  gives_set_basic_block,
+  gives_const_add_pc,
+  gives_fixed_advance_pc,
+  gives_set_prologue_end,
+  gives_set_epilogue_begin,
+  gives_set_isa,
+  refuses_advance_pc,
+  refuses_advance_line,
+  refuses_set_file,
+  refuses_set_column,
+  refuses_fixed_advance_pc,
+  refuses_set_isa,
+)

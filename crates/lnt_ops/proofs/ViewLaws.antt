@@ -8,7 +8,7 @@ use Rattle.lnt_header.specs.declared.op.OpView.{OpView}
 use Rattle.lnt_header.specs.declared.op.OpView.TheVariants as views
 use Rattle.lnt_header.specs.declared.op.Operands.{Operands}
 use Rattle.lnt_header.specs.declared.op.Operands.TheVariants.{Spelled, Listed}
-use Rattle.lnt_header.specs.OpRules.{AreOperands, op_of, operands_of, StandsFor}
+use Rattle.lnt_header.specs.OpRules.{AreOperands, op_of, StandsFor}
 use Rattle.lnt_ops.proofs.OpLaws.{same_whole}
 
 some_leb : (bytes : List ℕ) → IsLeb bytes → 0 < length bytes
@@ -22,6 +22,11 @@ leb_is_some n bytes p = some_leb bytes p.shape
 same_operands : (operands : Operands) (us vs : List ℕ) → AreOperands operands us → AreOperands operands vs → us ≡ vs
 same_operands (Spelled bytes) us vs p q = same_whole unsigned_code leb_is_some us vs bytes.now bytes.now p q refl
 same_operands (Listed listed) us vs p q = sym p ∙ q
+
+-- the operands of an unknown standard operation; of others none
+abbrev pub operands_of : Op → List ℕ
+operands_of (ops.UnknownStandard k operands) = operands
+operands_of op = []
 
 pub is_op_of : (view : OpView) (op : Op) → StandsFor view op → op ≡ op_of view (operands_of op)
 is_op_of (views.UnknownStandard j spelled) (ops.UnknownStandard k operands) p = ap (λ (i : ℕ). ops.UnknownStandard i operands) (sym p.0)

@@ -1,4 +1,5 @@
--- The parts of an operation's bytes, by what its operand is.
+-- The parts of an operation's bytes, by what its operand is, as they are written one after the other. No public contract speaks of
+-- these.
 use Rattle.std.specs.Prelude.{◌≡◌, ℕ, List, [], ◌∷◌, ◌++◌}
 use Rattle.lnt_wire.specs.Leb128.{UnsignedLeb}
 use Rattle.lnt_ops.specs.OpBytes.{Extended}

@@ -1,4 +1,4 @@
--- The operands of unknown standard operations as lists.
+-- The operands of unknown standard operations as lists. No public contract speaks of these.
 use Rattle.std.specs.Prelude.{◌≡◌, ℕ, List, ◌++◌}
 use Rattle.lnt_wire.specs.At.{At}
 use Rattle.lnt_wire.specs.Leb128.{UnsignedLeb}

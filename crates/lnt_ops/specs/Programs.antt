@@ -4,9 +4,7 @@ use Rattle.lnt_wire.specs.declared.fault.Fault.{Fault}
 use Rattle.lnt_wire.specs.declared.fault.Reason.{Reason}
 use Rattle.lnt_header.specs.declared.header.HeaderParts.{HeaderParts}
 use Rattle.lnt_header.specs.declared.op.Op.{Op}
-use Rattle.lnt_header.specs.declared.op.OpView.{OpView}
 use Rattle.lnt_header.specs.Joins.{Each}
-use Rattle.lnt_header.specs.OpRules.{StandsFor}
 use Rattle.lnt_ops.specs.OpBytes.{OpBytes}
 use Rattle.lnt_ops.specs.OpFaults.{IsOpFault, IsFirstFault}
 
@@ -28,8 +26,3 @@ pub record BrokenProgram (h : HeaderParts) (place : ℕ) (program : List ℕ) (f
   pub reason : IsOpFault h.address_size fault.reason before left
   pub first : IsFirstIn h fault.reason before left
   pub none : (ops : List Op) → Each (OpBytes h) ops program → ⊥
-
--- the view stands for some operation
-pub record IsView (view : OpView) : Type 0 where
-  pub op : Op
-  pub stands : StandsFor view op

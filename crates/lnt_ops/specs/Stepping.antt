@@ -34,6 +34,13 @@ pub record IsNextOf (h : HeaderParts) (later : List Op) (view : OpView) (new : W
   pub stands : StandsFor view op
   pub left : IsLeft h others new
 
+-- ---- an operation that is kept
+
+-- the view stands for some operation
+pub record IsView (view : OpView) : Type 0 where
+  pub op : Op
+  pub stands : StandsFor view op
+
 -- ---- operands that are added
 
 -- The numbers that the bytes spell were added, each in its shortest spelling.

@@ -10,7 +10,7 @@ use lnt_wire::{Fault, Order, Reason};
 
 /// Adds the operations of a whole program in a unit with this header, in the byte order `to`: the same operations, each
 /// LEB128 in its shortest spelling (DWARF 5, sections 6.2.5 and 7.22). The program's first byte stands at the offset
-/// `place` of the section. It takes no memory but that of `out`.
+/// `place` of the section, and the offset after its last byte is below 2^64. It takes no memory but that of `out`.
 ///
 /// It refuses only where no operations spell the program, with the fault of the first operation that isn't there, or
 /// with `Memory`. Then the first of them may be there.

@@ -32,7 +32,7 @@ pub(crate) fn read_extended<'a>(
 
 // The operation of these bytes, a code and its operand, which stand at the offset `start` of the section. `length_place` is
 // that of their length.
-#[tactic(auto, using(crate::proofs::ExtendedReaders::address_whole, crate::proofs::ExtendedReaders::gives_end, crate::proofs::ExtendedReaders::gives_address, crate::proofs::ExtendedReaders::gives_discriminator, crate::proofs::ExtendedReaders::gives_other, crate::proofs::ExtendedReaders::takes_discriminator, crate::proofs::ExtendedReaders::number_is_fault))]
+#[tactic(auto, using(crate::proofs::ExtendedReaders::counted_reads))]
 fn read_counted<'a>(
     bytes: &'a [u8],
     length_place: u64,
@@ -62,7 +62,7 @@ fn read_counted<'a>(
 }
 
 // Whether these bytes are a code and an operand that fits it in length and shape.
-#[tactic(auto, using(crate::proofs::ExtendedReaders::right_end, crate::proofs::ExtendedReaders::right_address, crate::proofs::ExtendedReaders::right_discriminator, crate::proofs::ExtendedReaders::right_other, crate::proofs::ExtendedReaders::wrong_end, crate::proofs::ExtendedReaders::wrong_address, crate::proofs::ExtendedReaders::wrong_discriminator, crate::proofs::ExtendedReaders::no_code))]
+#[tactic(auto, using(crate::proofs::ExtendedReaders::operand_tests))]
 fn has_right_operand(bytes: &[u8], header: &Header) -> bool
     ensures { MatchBool result (IsRightOperand header.now.address_size bytes.now) (IsWrongOperand header.now.address_size bytes.now) }
 {
@@ -115,6 +115,7 @@ fn read_address(cursor: &mut Cursor<'_>, header: &Header) -> Result<u64, Fault>
     match header.address_size() {
         2 => Ok(u64::from(cursor.u16()?)),
         4 => Ok(u64::from(cursor.u32()?)),
-        _ => cursor.u64(),
+        8 => cursor.u64(),
+        _ => unreachable!(),
     }
 }

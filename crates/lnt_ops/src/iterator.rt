@@ -64,8 +64,8 @@ impl<'a> Ops<'a> {
         }
     }
 
-    /// The operations of a program from its byte `skipped` on. The program's first byte stands at the offset `place` of the
-    /// section.
+    /// The operations of a program from its byte `skipped` on, which the caller knows to be no further than its end. The
+    /// program's first byte stands at the offset `place` of the section, and the offset after its last byte is below 2^64.
     pub fn after(header: &'a Header, program: &'a [u8], place: u64, skipped: usize) -> Ops<'a>
         requires room { place + length program.now < 2 ^ 64 }
         requires within { skipped ≤ length program.now }

@@ -5,7 +5,7 @@ ghost use Rattle.lnt_header.specs.OpRules.{last_known, StandsFor};
 ghost use Rattle.lnt_ops.specs.OpBytes.{OpBytes};
 ghost use Rattle.lnt_ops.specs.OpFaults.{IsFirstFault, IsOpFault};
 ghost use Rattle.lnt_ops.specs.OpReading.{GivesOp};
-ghost use Rattle.lnt_ops.specs.Programs.{IsView};
+ghost use Rattle.lnt_ops.specs.Stepping.{IsView};
 ghost use Rattle.lnt_ops.specs.OpSteps.{BytesAfter, IsFaultAfter, GivesAfter};
 
 use crate::extended::read_extended;
@@ -16,7 +16,8 @@ use lnt_lists::Items;
 use lnt_wire::{Cursor, Fault};
 use std::alloc::{AllocError, Global};
 
-/// The next operation of a program in a unit with this header (DWARF 5, section 6.2.5). It takes no memory.
+/// The next operation of a program in a unit with this header, in whose byte order the cursor reads (DWARF 5, section
+/// 6.2.5). It takes no memory.
 ///
 /// It refuses only where no front of the bytes that are left spells an operation, and then leaves the cursor as it
 /// was. A number that isn't there whole is `Truncated`, and one out of range is `LebTooLarge`, both at its first byte.
@@ -44,7 +45,7 @@ pub fn read_op<'a>(cursor: &mut Cursor<'a>, header: &Header) -> Result<OpView<'a
 
 // Reads what follows a standard opcode, or the 0 of an extended one. The opcode itself was read.
 #[inline(always)]
-#[tactic(auto, using(crate::proofs::StandardReaders::gives_copy, crate::proofs::StandardReaders::gives_advance_pc, crate::proofs::StandardReaders::gives_advance_line, crate::proofs::StandardReaders::gives_set_file, crate::proofs::StandardReaders::gives_set_column, crate::proofs::StandardReaders::gives_negate_stmt, crate::proofs::StandardReaders::gives_set_basic_block, crate::proofs::StandardReaders::gives_const_add_pc, crate::proofs::StandardReaders::gives_fixed_advance_pc, crate::proofs::StandardReaders::gives_set_prologue_end, crate::proofs::StandardReaders::gives_set_epilogue_begin, crate::proofs::StandardReaders::gives_set_isa, crate::proofs::StandardReaders::refuses_advance_pc, crate::proofs::StandardReaders::refuses_advance_line, crate::proofs::StandardReaders::refuses_set_file, crate::proofs::StandardReaders::refuses_set_column, crate::proofs::StandardReaders::refuses_fixed_advance_pc, crate::proofs::StandardReaders::refuses_set_isa))]
+#[tactic(auto, using(crate::proofs::StandardReaders::standard_reads))]
 fn read_operand<'a>(
     cursor: &mut Cursor<'a>,
     header: &Header,

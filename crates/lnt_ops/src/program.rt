@@ -14,7 +14,7 @@ use lnt_wire::{Fault, Reason};
 use std::alloc::Global;
 
 /// The operations of a whole program in a unit with this header (DWARF 5, section 6.2.5). The program's first byte
-/// stands at the offset `place` of the section.
+/// stands at the offset `place` of the section, and the offset after its last byte is below 2^64.
 ///
 /// It refuses only where no operations spell the program, with the fault of the first operation that isn't there,
 /// or with `Memory`.

@@ -220,7 +220,8 @@ fn add_sized(out: &mut Vec<u8>, n: u64, size: u8, order: Order) -> Result<(), Al
     match size {
         2 => put_u16(out, n as u16, order),
         4 => put_u32(out, n as u32, order),
-        _ => put_u64(out, n, order),
+        8 => put_u64(out, n, order),
+        _ => unreachable!(),
     }
 }
 

@@ -9,7 +9,7 @@ use lnt_header::{Header, OpView};
 /// The operation that the bytes begin with, and how many of them spell it, where it is of a frequent kind and its operand
 /// is short. None where no such operation begins them.
 #[inline(always)]
-#[tactic(auto, using(crate::proofs::ShortLemmas::front_special, crate::proofs::ShortLemmas::front_copy, crate::proofs::ShortLemmas::front_advance_pc, crate::proofs::ShortLemmas::front_advance_line, crate::proofs::ShortLemmas::front_set_file, crate::proofs::ShortLemmas::front_set_column, crate::proofs::ShortLemmas::front_negate_stmt, crate::proofs::ShortLemmas::front_const_add_pc, crate::proofs::ShortLemmas::front_discriminator, crate::proofs::ShortLemmas::none_empty, crate::proofs::ShortLemmas::none_discriminator, crate::proofs::ShortLemmas::none_advance_pc, crate::proofs::ShortLemmas::none_advance_line, crate::proofs::ShortLemmas::none_set_file, crate::proofs::ShortLemmas::none_set_column, crate::proofs::ShortLemmas::none_other))]
+#[tactic(auto, using(crate::proofs::ShortLemmas::short_fronts))]
 pub(crate) fn short_op<'a>(bytes: &'a [u8], header: &Header) -> Option<(OpView<'a>, usize)>
     ensures some { IfSome result (λ found. IsFront header.now found.0 found.1 bytes.now) }
     ensures none { IfNone result (NoneShort header.now bytes.now) }

@@ -5,7 +5,8 @@ use Rattle.std.proofs.lemmas.Bool.{cases_lt}
 use Rattle.lnt_digits.specs.Digits.{IsAddress, IsDecimal}
 use Rattle.lnt_records.specs.declared.fault.TableFault.{TableFault}
 use Rattle.lnt_records.specs.declared.fault.TableFault.TheVariants as fault
-use Rattle.lnt_records.specs.Progress.{BytesReader, HasRead}
+use Rattle.lnt_spans.specs.Remaining.{IsLeft}
+use Rattle.lnt_records.specs.Reading.{BytesReader, HasRead}
 use Rattle.lnt_records.specs.Table.{BeginsWith, Fields, RecordsOf}
 use Rattle.csv.specs.Reading.{reader_state}
 use Rattle.lnt_spans.specs.declared.answer.Answer.{Answer}
@@ -17,19 +18,16 @@ use Rattle.lnt_paths.specs.declared.answer.DifferenceByPath.{DifferenceByPath}
 use Rattle.lnt_paths.specs.declared.comparison.PathComparison.{PathComparison}
 use Rattle.lnt_paths.specs.declared.record.PathRecord.{PathRecord}
 use Rattle.lnt_paths.specs.declared.version.PathVersion.{PathVersion}
-use Rattle.lnt_paths.specs.Merging.{IsLeft, IsMerged, JudgesByPath, answer_told, path_end}
-use Rattle.lnt_paths.specs.PathAnswers.{PathAnswer}
+use Rattle.lnt_paths.specs.Merging.{IsMerged, JudgesByPath, path_end}
+use Rattle.lnt_paths.specs.PathAnswers.{PathAnswer, answer_told}
 use Rattle.lnt_paths.specs.PathDifferences.{AnswersByPath, DiffersByPath, IsLeastPathDifference}
 use Rattle.lnt_paths.specs.PathFaults.{IsFaultyRecord, IsPathFault}
-use Rattle.lnt_paths.specs.PathSpans.{PathSpan, StandInOrder, path_span_answer}
+use Rattle.lnt_paths.specs.PathSpans.{PathSpan, StandInOrder, path_span_answer, whole}
 use Rattle.lnt_paths.specs.PathTables.{IsPathRecord, IsPathTable, SaysPath, path_column_names}
-use Rattle.lnt_paths.specs.Reading.{record_answer, record_span, whole}
-use Rattle.lnt_paths.proofs.MergingLemmas.{low_high, merged_none}
+use Rattle.lnt_paths.specs.Reading.{record_answer, record_span}
+use Rattle.lnt_paths.proofs.MergingLemmas.{low_high, merged_none, origin_first}
 
 -- ---- the order
-
-origin_first : (p : Position) → IsAtMost (whole 0) p
-origin_first p = record { address = omega arith; op = λ e. omega arith }
 
 order_push : (table : List PathSpan) (span : PathSpan) → StandInOrder table → IsAtMost (path_end table) span.low
     → IsBelow span.low span.high

@@ -5,17 +5,19 @@ use Rattle.std.proofs.lemmas.Bool.{cases_eq}
 use Rattle.lnt_spans.specs.declared.position.Position.{Position}
 use Rattle.lnt_spans.specs.declared.span.Span.{Span}
 use Rattle.lnt_spans.specs.Positions.{IsAtMost}
-use Rattle.lnt_spans.proofs.PositionLaws.{at_most_below, at_most_trans, below_is_at_most, order_cases}
+use Rattle.lnt_spans.proofs.PositionLaws.{at_most_below, at_most_trans, below_is_at_most}
 use Rattle.lnt_spans.proofs.RunLaws.{GoesOn, HasRuns, all_told, first_runs, span_runs}
 use Rattle.lnt_spans.proofs.SameLaws.{same_options}
 use Rattle.lnt_paths.specs.declared.stretches.DifferencesByPath.{DifferencesByPath}
 use Rattle.lnt_paths.specs.Held.{held_span}
 use Rattle.lnt_paths.specs.PathAnswers.{path_answer, PathAnswer}
 use Rattle.lnt_paths.specs.PathSpans.{path_span_answer, PathSpan, StandInOrder}
-use Rattle.lnt_paths.specs.PathStretches.{AreStretches, Stretch}
-use Rattle.lnt_paths.specs.Stretching.{AreToldBelow, HasToldByPath, PathsEndAfter}
+use Rattle.lnt_spans.specs.ToldStretches.{AreToldBelow}
+use Rattle.lnt_spans.specs.AnyStretches.{AreAllStretches, Stretch}
+use Rattle.lnt_paths.specs.Stretching.{HasToldByPath, PathsEndAfter}
+use Rattle.lnt_paths.proofs.JoiningLemmas.{made, make}
 use Rattle.lnt_paths.proofs.PathSpanLemmas as table
-use Rattle.lnt_paths.proofs.StretchingLemmas.{told_alike, told_new, told_on}
+use Rattle.lnt_spans.proofs.ToldStretchLaws.{told_all, told_alike, told_new, told_on}
 
 -- ---- deciding whether two answers are the same
 
@@ -27,13 +29,6 @@ same_lists same (x ∷ a) (y ∷ b) = elim (same x y) [
   | inr other ↦ inr (λ e. other (cc e))
   | inl first ↦ elim (same_lists same a b) [ inr other ↦ inr (λ e. other (cc e)) | inl rest ↦ inl cc ]
 ]
-
-make : List ℕ → ℕ → Option ℕ → PathAnswer
-make path line column = record { path = path; line = line; column = column }
-
-made : (a : PathAnswer) → make a.path a.line a.column ≡ a
-unfolding make
-made a = refl
 
 same_path_answers : (a b : PathAnswer) → (a ≡ b) ⊎ (a ≢ b)
 same_path_answers a b = elim (same_lists cases_eq a.path b.path) [
@@ -69,27 +64,23 @@ table_runs (span ∷ more) at answers o past same =
 begun : Position → Option PathAnswer → Option PathAnswer → Stretch PathAnswer
 begun at section table = record { position = at; by_section = section; by_table = table }
 
-goes_on : (f g : Position → Option PathAnswer) → GoesOn f g begun (AreToldBelow f g) (AreStretches f g)
+goes_on : (f g : Position → Option PathAnswer) → GoesOn f g begun (AreToldBelow f g) (AreAllStretches f g)
 unfolding begun
 goes_on f g = record {
   kept = told_on f g;
   alike = told_alike f g;
   other = told_new f g;
-  ended = λ at s t told b none none'. record {
-    each = b.each;
-    rising = b.rising;
-    all = λ p. elim (order_cases p at) [ inl early ↦ b.all p early | inr late ↦ inl (none p late ∙ sym (none' p late)) ];
-  };
+  ended = told_all f g;
 }
 
 -- The stretches given so far begin a list of all of them.
 pub path_stretches_on : {S : Type 0} (to_come : S → List Span → Type 0) (path : ℕ → ℕ → List ℕ) (differences : DifferencesByPath S)
     (by_section by_table : Position → Option PathAnswer) (told : List (Stretch PathAnswer))
     → HasToldByPath to_come path differences by_section by_table told
-    → (more : List (Stretch PathAnswer)) × AreStretches by_section by_table (told ++ more)
+    → (more : List (Stretch PathAnswer)) × AreAllStretches by_section by_table (told ++ more)
 path_stretches_on to_come path differences by_section by_table told h =
     all_told (same_options same_path_answers) by_section by_table begun (AreToldBelow by_section by_table)
-    (AreStretches by_section by_table) (goes_on by_section by_table) differences.at _ _ told
+    (AreAllStretches by_section by_table) (goes_on by_section by_table) differences.at _ _ told
     (span_runs (path_answer differences.version path) h.section.rest differences.at by_section h.section.order h.section.past
     h.section.same)
     (table_runs (map held_span differences.table.now) differences.at by_table h.table.order h.table.past h.table.same) h.below

@@ -18,9 +18,9 @@ use Rattle.lnt_paths.specs.Merging.{path_end}
 use Rattle.lnt_paths.specs.PathAnswers.{PathAnswer}
 use Rattle.lnt_paths.specs.PathDifferences.{told_path_answer}
 use Rattle.lnt_paths.specs.PathFaults.{IsFaultyRecord}
-use Rattle.lnt_paths.specs.PathSpans.{PathSpan}
+use Rattle.lnt_paths.specs.PathSpans.{PathSpan, whole}
 use Rattle.lnt_paths.specs.PathTables.{IsPathRecord, IsPathTable, SaysPath}
-use Rattle.lnt_paths.specs.Reading.{record_answer, record_span, whole}
+use Rattle.lnt_paths.specs.Reading.{record_answer, record_span}
 use Rattle.lnt_paths.proofs.ComparisonLemmas.{says_span, table_push}
 use Rattle.lnt_paths.proofs.MergingLemmas.{low_high}
 

@@ -12,7 +12,7 @@ use Rattle.lnt_spans.specs.Spans.{AreInOrder, is_in_span, span_answer}
 use Rattle.lnt_spans.proofs.AnsweringLaws.{answer_before, answer_after, answer_in, first_holds}
 use Rattle.lnt_spans.proofs.PositionLaws.{at_most_itself, below_at_most, below_is_at_most, not_both, order_cases, order_three}
 use Rattle.lnt_paths.specs.Joining.{AllJoinTo, GoesOn, JoinsTo, grown, tell_span}
-use Rattle.lnt_paths.specs.PathAnswers.{PathAnswer}
+use Rattle.lnt_paths.specs.PathAnswers.{answer_told, PathAnswer}
 use Rattle.lnt_paths.specs.PathSpans.{AreCanonicalOf, PathSpan, PathsDifferWhereTheyTouch, StandInOrder, is_in_path_span, path_span_answer}
 
 -- ---- there is one way to join
@@ -41,10 +41,10 @@ same_column None (Some n) = inr (λ e. cc)
 same_column (Some m) None = inr (λ e. cc)
 same_column (Some m) (Some n) = elim (same_number m n) [ inl e ↦ inl (ap Some e) | inr differs ↦ inr (λ e. differs (cc)) ]
 
-make : List ℕ → ℕ → Option ℕ → PathAnswer
+pub make : List ℕ → ℕ → Option ℕ → PathAnswer
 make path line column = record { path = path; line = line; column = column }
 
-made : (a : PathAnswer) → make a.path a.line a.column ≡ a
+pub made : (a : PathAnswer) → make a.path a.line a.column ≡ a
 unfolding make
 made a = refl
 
@@ -136,12 +136,9 @@ joined_order tell last (next ∷ rest) joined h (inr j) =
 
 -- ---- with the same answers
 
-abbrev by_path : (Answer → PathAnswer) → List Span → Position → Option PathAnswer
-by_path tell list p = option_map tell (span_answer list p)
-
 grown_answer : (tell : Answer → PathAnswer) (last next : Span) (rest : List Span) (p : Position) → GoesOn tell last next
     → AreInOrder (last ∷ next ∷ rest)
-    → by_path tell (grown last next.high ∷ rest) p ≡ by_path tell (last ∷ next ∷ rest) p
+    → answer_told tell (grown last next.high ∷ rest) p ≡ answer_told tell (last ∷ next ∷ rest) p
 grown_answer tell last next rest p goes o =
     let told : Option Answer → Option PathAnswer = option_map tell in
     let one : PathSpan = tell_span tell last in
@@ -169,8 +166,8 @@ grown_answer tell last next rest p goes o =
     ]
 
 -- prepending a span to two lists that agree at p
-same_after : (tell : Answer → PathAnswer) (last : Span) (xs ys : List Span) (p : Position) → by_path tell xs p ≡ by_path tell ys p
-    → by_path tell (last ∷ xs) p ≡ by_path tell (last ∷ ys) p
+same_after : (tell : Answer → PathAnswer) (last : Span) (xs ys : List Span) (p : Position) → answer_told tell xs p ≡ answer_told tell ys p
+    → answer_told tell (last ∷ xs) p ≡ answer_told tell (last ∷ ys) p
 same_after tell last xs ys p e =
     let told : Option Answer → Option PathAnswer = option_map tell in
     elim (order_cases p last.low) [
@@ -183,13 +180,13 @@ same_after tell last xs ys p e =
 
 joined_same : (tell : Answer → PathAnswer) (last : Span) (rest joined : List Span) (p : Position) → AreInOrder (last ∷ rest)
     → JoinsTo tell last rest joined
-    → by_path tell joined p ≡ by_path tell (last ∷ rest) p
-joined_same tell last [] joined p h j = ap (λ (list : List Span). by_path tell list p) j
+    → answer_told tell joined p ≡ answer_told tell (last ∷ rest) p
+joined_same tell last [] joined p h j = ap (λ (list : List Span). answer_told tell list p) j
 joined_same tell last (next ∷ rest) joined p h (inl j) =
     joined_same tell (grown last next.high) rest joined p (grown_order last next rest j.0.0 h) j.1
     ∙ grown_answer tell last next rest p j.0 h
 joined_same tell last (next ∷ rest) joined p h (inr j) =
-    ap (λ (list : List Span). by_path tell list p) j.2
+    ap (λ (list : List Span). answer_told tell list p) j.2
     ∙ same_after tell last j.1 (next ∷ rest) p (joined_same tell next rest j.1 p h.2 j.3)
 
 -- ---- none extends the one before it
@@ -222,11 +219,11 @@ by_paths_order tell (span ∷ []) h = h
 by_paths_order tell (span ∷ next ∷ list) h = (h.0, h.1, by_paths_order tell (next ∷ list) h.2)
 
 by_paths_answer : (tell : Answer → PathAnswer) (list : List Span) (p : Position)
-    → path_span_answer (by_paths tell list) p ≡ by_path tell list p
+    → path_span_answer (by_paths tell list) p ≡ answer_told tell list p
 by_paths_answer tell [] p = refl
 by_paths_answer tell (span ∷ list) p = by (is_in_span p span) (by_paths_answer tell list p)
   where
-    by : (test : Bool) → path_span_answer (by_paths tell list) p ≡ by_path tell list p
+    by : (test : Bool) → path_span_answer (by_paths tell list) p ≡ answer_told tell list p
         → option_map (λ (s : PathSpan). s.answer) (cond test (Some (tell_span tell span)) (find (is_in_path_span p) (by_paths tell list)))
         ≡ option_map tell (option_map (λ (s : Span). s.answer) (cond test (Some span) (find (is_in_span p) list)))
     by true e = refl
@@ -239,7 +236,7 @@ joined_canonical tell [] joined o j = record {
     in_order = subst (λ (xs : List Span). StandInOrder (by_paths tell xs)) (sym j) tt;
     differ = subst (λ (xs : List Span). PathsDifferWhereTheyTouch (by_paths tell xs)) (sym j) tt;
   };
-  same = λ p. by_paths_answer tell joined p ∙ ap (λ (xs : List Span). by_path tell xs p) j;
+  same = λ p. by_paths_answer tell joined p ∙ ap (λ (xs : List Span). answer_told tell xs p) j;
 }
 joined_canonical tell (first ∷ rest) joined o j = record {
   canonical = record {

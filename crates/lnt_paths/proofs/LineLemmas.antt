@@ -163,7 +163,7 @@ unfolding strip_bom is_blank fields_text
 no_mark Three records = refl
 no_mark Four records = refl
 
-names_some : (version : PathVersion) → 2 ≤ length (path_column_names version)
+pub names_some : (version : PathVersion) → 2 ≤ length (path_column_names version)
 names_some Three = omega arith
 names_some Four = omega arith
 

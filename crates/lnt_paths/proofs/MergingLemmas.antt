@@ -18,11 +18,12 @@ use Rattle.lnt_paths.specs.declared.record.PathRecord.{PathRecord}
 use Rattle.lnt_paths.specs.declared.answer.AnswerByPath.{AnswerByPath}
 use Rattle.lnt_paths.specs.declared.answer.DifferenceByPath.{DifferenceByPath}
 use Rattle.lnt_paths.specs.declared.merge.Apart.{Apart}
-use Rattle.lnt_paths.specs.Merging.{AreApart, ArePassed, BeginFrom, IsLeft, IsMerged, answer_told, path_end, table_side}
-use Rattle.lnt_paths.specs.PathAnswers.{PathAnswer}
+use Rattle.lnt_paths.specs.Merging.{AreApart, ArePassed, BeginFrom, IsMerged, path_end, table_side}
+use Rattle.lnt_spans.specs.Remaining.{IsLeft}
+use Rattle.lnt_paths.specs.PathAnswers.{PathAnswer, answer_told}
 use Rattle.lnt_paths.specs.PathDifferences.{DifferFirst, IsLeastPathDifference, told_path_answer}
-use Rattle.lnt_paths.specs.PathSpans.{PathSpan, path_span_answer}
-use Rattle.lnt_paths.specs.Reading.{record_answer, record_span, whole}
+use Rattle.lnt_paths.specs.PathSpans.{PathSpan, path_span_answer, whole}
+use Rattle.lnt_paths.specs.Reading.{record_answer, record_span}
 use Rattle.lnt_paths.proofs.PathSpanLemmas.{answer_before, answer_after, answer_in}
 
 -- ---- the spans that are left
@@ -273,7 +274,7 @@ low_after to_come tell list said at next spans span is le passed =
 
 -- ---- records one after another
 
-origin_first : (p : Position) → IsAtMost (whole 0) p
+pub origin_first : (p : Position) → IsAtMost (whole 0) p
 origin_first p = record { address = omega arith; op = λ e. omega arith }
 
 pub merged_none : {S : Type 0} (to_come : S → List Span → Type 0) (tell : Answer → PathAnswer) (list : List Span) (next : Option Span)

@@ -16,7 +16,8 @@ use Rattle.csv.proofs.RoundTrip.{read-write}
 use Rattle.lnt_digits.specs.Digits.{IsAddress, IsDecimal}
 use Rattle.lnt_records.proofs.ReadingLaws.{no_record}
 use Rattle.lnt_digits.specs.Delimited.{Begins}
-use Rattle.lnt_records.specs.Progress.{BytesReader, HasRead}
+use Rattle.lnt_spans.specs.Remaining.{IsLeft}
+use Rattle.lnt_records.specs.Reading.{BytesReader, HasRead}
 use Rattle.lnt_records.specs.Table.{BeginsWith, Fields, RecordsOf}
 use Rattle.lnt_spans.specs.declared.answer.Answer.{Answer}
 use Rattle.lnt_spans.specs.declared.span.Span.{Span}
@@ -26,14 +27,14 @@ use Rattle.lnt_paths.specs.declared.record.PathRecord.{PathRecord}
 use Rattle.lnt_paths.specs.declared.version.PathVersion.{PathVersion}
 use Rattle.lnt_paths.specs.declared.version.PathVersion.TheVariants.{Three, Four}
 use Rattle.lnt_paths.specs.Joining.{IsPlainByte}
-use Rattle.lnt_paths.specs.Merging.{IsLeft, IsMerged, JudgesByPath}
+use Rattle.lnt_paths.specs.Merging.{IsMerged, JudgesByPath}
 use Rattle.lnt_paths.specs.Passing.{GoesOnAs, HasTaken, IsAfter, IsPathBefore, IsPathLine, IsPlace}
 use Rattle.lnt_paths.specs.PathAnswers.{PathAnswer}
-use Rattle.lnt_paths.specs.PathSpans.{PathSpan}
+use Rattle.lnt_paths.specs.PathSpans.{PathSpan, whole}
 use Rattle.lnt_paths.specs.PathTables.{SaysPath, path_column_names}
-use Rattle.lnt_paths.specs.Reading.{record_answer, record_span, whole}
+use Rattle.lnt_paths.specs.Reading.{record_answer, record_span}
 use Rattle.lnt_paths.proofs.ComparisonLemmas.{begins, record_taken}
-use Rattle.lnt_paths.proofs.LineLemmas.{line_fields, quiet_by_recursion}
+use Rattle.lnt_paths.proofs.LineLemmas.{line_fields, names_some, quiet_by_recursion}
 
 -- ---- parts of a line
 
@@ -263,10 +264,6 @@ unfolding strip_bom is_blank fields_text
 header_mark Three rest = refl
 header_mark Four rest = refl
 
-header_back : (version : PathVersion) → 2 ≤ length (path_column_names version)
-header_back Three = omega arith
-header_back Four = omega arith
-
 one_reached : (bytes rest : List ℕ) (fields : Fields)
     → next_record default_config st.StartRecord [] [] bytes ≡ Some (fields, st.StartRecord, rest)
     → Reached default_config st.StartRecord bytes (fields ∷ []) st.StartRecord rest
@@ -282,7 +279,7 @@ header_passed version bytes header rest e f =
     let plain : strip_bom bytes ≡ row_text default_writer names ++ rest = ap strip_bom whole ∙ header_mark version rest in
     let read : next_record default_config st.StartRecord [] [] (strip_bom bytes) ≡ Some (names, st.StartRecord, rest) =
     ap (λ (t : List ℕ). next_record default_config st.StartRecord [] [] t) plain ∙ read-write names rest
-    ∙ ap (λ (r : Fields). Some (r, st.StartRecord, rest)) (sym (same_back names (header_back version))) in
+    ∙ ap (λ (r : Fields). Some (r, st.StartRecord, rest)) (sym (same_back names (names_some version))) in
     let reached = one_reached (strip_bom bytes) rest names read in
     record { last = names; reached = reached; text_reached = reached }
 

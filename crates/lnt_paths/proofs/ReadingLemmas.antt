@@ -4,8 +4,7 @@ use Rattle.std.specs.Prelude.{codes}
 use Rattle.std.proofs.lemmas.Bool.{cases_lt}
 use Rattle.lnt_digits.specs.Digits.{IsAddress, IsDecimal}
 use Rattle.lnt_records.proofs.HeaderLaws.{all_named}
-use Rattle.lnt_records.specs.Progress.{AreNamed}
-use Rattle.lnt_records.specs.Table.{Fields}
+use Rattle.lnt_records.specs.Table.{AreNamed, Fields}
 use Rattle.lnt_paths.specs.declared.record.FieldFault.{FieldFault}
 use Rattle.lnt_paths.specs.declared.record.FieldFault.TheVariants as fault
 use Rattle.lnt_paths.specs.declared.version.PathVersion.{PathVersion}

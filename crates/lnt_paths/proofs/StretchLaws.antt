@@ -3,10 +3,8 @@ use Rattle.std.proofs.Common.{◌≡◌, ◌∙◌, ◌⊎◌, inl, inr, List, [
 use Rattle.std.specs.List.{AllByRecursion}
 use Rattle.lnt_spans.specs.declared.position.Position.{Position}
 use Rattle.lnt_spans.specs.Positions.{IsBelow}
-use Rattle.lnt_spans.specs.Stretches.{Stay}
+use Rattle.lnt_spans.specs.AnyStretches.{AreAllStretches, AreFirstStretches, AreRising, BeginsStretch, IsInOne, IsInStretch, Stay, Stretch}
 use Rattle.lnt_spans.proofs.PositionLaws.{at_most_itself, below_at_most, below_is_at_most, not_both, order_cases, same_position}
-use Rattle.lnt_paths.specs.PathStretches.{AreFirstStretches, AreRising, AreStretches, BeginsStretch, IsInOne}
-use Rattle.lnt_paths.specs.PathStretches.{IsInStretch, Stretch}
 use Rattle.lnt_paths.specs.Laws.{FirstStretchesBegin}
 
 -- It is one of these.
@@ -130,7 +128,7 @@ is_one f g stretch stretches b (inr h) =
 
 -- The first stretches begin every list of all of them.
 first_begin : {X : Type 0} (f g : Position → Option X) (first all : List (Stretch X)) → AreFirstStretches f g first
-    → AreStretches f g all → (more : List (Stretch X)) × (all ≡ first ++ more)
+    → AreAllStretches f g all → (more : List (Stretch X)) × (all ≡ first ++ more)
 first_begin {X} f g first all some whole = begin_all first all some.rising whole.rising (record {
   within = λ s one. is_one f g s all (each_one (BeginsStretch f g) first s some.each one) (whole.all s.position);
   none_between = λ s later one one' below. is_one f g s first (each_one (BeginsStretch f g) all s whole.each one)

@@ -22,7 +22,7 @@ use Rattle.lnt_paths.specs.declared.version.PathVersion.TheVariants.{Three, Four
 use Rattle.lnt_paths.specs.Borders.{HasNoOperation, HasNoPathOperation}
 use Rattle.lnt_paths.specs.Joining.{AddsPathLine, AllJoinTo, AreFirstOf, HasBegunLines, HasWritten, IsFirstOperation}
 use Rattle.lnt_paths.specs.Joining.{JoinsTo, grown, tell_span}
-use Rattle.lnt_paths.specs.PathAnswers.{PathAnswer}
+use Rattle.lnt_paths.specs.PathAnswers.{answer_told, PathAnswer}
 use Rattle.lnt_paths.specs.PathSpans.{AreCanonicalOf, PathSpan}
 use Rattle.lnt_paths.specs.PathTables.{SaysColumn, SaysPath, path_column_count, path_column_names}
 use Rattle.lnt_paths.specs.Written.{BeginsPathTable, HasOperationIndex, IsCanonicalPathTable, IsPlainPathRecord, records_text}
@@ -135,9 +135,6 @@ plain_records tell version (r ∷ records) [] z h = absurd z
 plain_records tell version (r ∷ records) (s ∷ joined) z h =
     (record { says = z.0; low_op = h.0.0; high_op = h.0.1 }, plain_records tell version records joined z.1 h.1)
 
-abbrev By : (Answer → PathAnswer) → List Span → Position → Option PathAnswer
-By tell list p = option_map tell (span_answer list p)
-
 -- What is known of two lists of spans: they are in order and answer alike.
 pub record AnswerAlike (other list : List Span) : Type 0 where
   pub first : AreInOrder other
@@ -145,13 +142,13 @@ pub record AnswerAlike (other list : List Span) : Type 0 where
   pub same : (p : Position) → span_answer other p ≡ span_answer list p
 
 canonical_of : (tell : Answer → PathAnswer) (other list joined : List Span) → AnswerAlike other list → AllJoinTo tell other joined
-    → AreCanonicalOf (By tell list) (map (tell_span tell) joined)
+    → AreCanonicalOf (answer_told tell list) (map (tell_span tell) joined)
 canonical_of tell other list joined alike j =
     let all = joined_canonical tell other joined alike.first j in
     record { canonical = all.canonical; same = λ p. all.same p ∙ ap (option_map tell) (alike.same p) }
 
 pub operation_found : (tell : Answer → PathAnswer) (other list : List Span) (p : Position) → AnswerAlike other list
-    → ((joined : List Span) → AllJoinTo tell other joined → IsFirstOperation p joined) → HasOperationIndex (By tell list) p
+    → ((joined : List Span) → AllJoinTo tell other joined → IsFirstOperation p joined) → HasOperationIndex (answer_told tell list) p
 operation_found tell other list p alike first =
     let joined = all_join tell other in
     let all = canonical_of tell other list joined.0 alike joined.1 in
@@ -178,7 +175,7 @@ pub table_written : (tell : Answer → PathAnswer) (version : PathVersion) (old 
     → AnswerAlike other list
     → ((whole : List Span) → AllJoinTo tell other whole → AllByRecursion HasNoOperation whole)
     → ((all : List Span) → AllJoinTo tell list all → all ≡ joined) → HasWritten tell version old new joined
-    → (bytes : List ℕ) × Appends old new bytes × IsCanonicalPathTable version (By tell list) bytes
+    → (bytes : List ℕ) × Appends old new bytes × IsCanonicalPathTable version (answer_told tell list) bytes
 table_written tell version old new other list joined alike none are w =
     let all = all_join tell list in
     let joins : AllJoinTo tell list joined = subst (AllJoinTo tell list) (are all.0 all.1) all.1 in
@@ -213,7 +210,7 @@ all_join_none tell (first ∷ rest) joined none j = joins_none tell first rest j
 pub instructions_written : (tell : Answer → PathAnswer) (version : PathVersion) (old new : Option (List ℕ)) (list joined : List Span)
     → AreInOrder list → AllByRecursion HasNoOperation list → ((all : List Span) → AllJoinTo tell list all → all ≡ joined)
     → HasWritten tell version old new joined
-    → (bytes : List ℕ) × Appends old new bytes × IsCanonicalPathTable version (By tell list) bytes
+    → (bytes : List ℕ) × Appends old new bytes × IsCanonicalPathTable version (answer_told tell list) bytes
 instructions_written tell version old new list joined order none are w =
     table_written tell version old new list list joined (record { first = order; second = order; same = λ p. refl })
     (λ whole joins. all_join_none tell list whole none joins) are w
@@ -264,7 +261,7 @@ front_of_whole version answers old new spans first rest records canonical joined
 
 -- before anything was written
 pub table_begun_none : (tell : Answer → PathAnswer) (version : PathVersion) (old : Option (List ℕ)) (list : List Span) → AreInOrder list
-    → BeginsPathTable version (By tell list) old old
+    → BeginsPathTable version (answer_told tell list) old old
 table_begun_none tell version old list order =
     let all = all_join tell list in
     record {
@@ -288,7 +285,7 @@ pub table_begun : (tell : Answer → PathAnswer) (version : PathVersion) (old ne
     → AnswerAlike other list
     → ((whole : List Span) → AllJoinTo tell other whole → AllByRecursion HasNoOperation whole)
     → AreFirstOf tell list first → HasBegunLines tell version old new first
-    → BeginsPathTable version (By tell list) old new
+    → BeginsPathTable version (answer_told tell list) old new
 table_begun tell version old new other list first alike none are begun =
     let all = all_join tell list in
     let left = are all.0 all.1 in
@@ -309,14 +306,14 @@ table_begun tell version old new other list first alike none are begun =
       records = begun.records;
       each = each;
       front = begun.front;
-      of_whole = front_of_whole version (By tell list) old new (map (tell_span tell) all.0) (map (tell_span tell) first)
+      of_whole = front_of_whole version (answer_told tell list) old new (map (tell_span tell) all.0) (map (tell_span tell) first)
           (map (tell_span tell) left.0) begun.records canonical (sym split) each begun.front;
       decided = inr instructions;
     }
 
 pub instructions_begun : (tell : Answer → PathAnswer) (version : PathVersion) (old new : Option (List ℕ)) (list first : List Span)
     → AreInOrder list → AllByRecursion HasNoOperation list → AreFirstOf tell list first → HasBegunLines tell version old new first
-    → BeginsPathTable version (By tell list) old new
+    → BeginsPathTable version (answer_told tell list) old new
 instructions_begun tell version old new list first order none are begun =
     table_begun tell version old new list list first (record { first = order; second = order; same = λ p. refl })
     (λ whole joins. all_join_none tell list whole none joins) are begun

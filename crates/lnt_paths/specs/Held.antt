@@ -5,9 +5,8 @@ use Rattle.lnt_paths.specs.declared.held.HeldTable.{HeldTable}
 use Rattle.lnt_paths.specs.declared.held.HeldTable.TheVariants as held
 use Rattle.lnt_paths.specs.PathDifferences.{told_path_answer}
 use Rattle.lnt_paths.specs.PathFaults.{IsPathFault}
-use Rattle.lnt_paths.specs.PathSpans.{PathSpan, StandInOrder}
+use Rattle.lnt_paths.specs.PathSpans.{PathSpan, StandInOrder, whole}
 use Rattle.lnt_paths.specs.PathTables.{IsPathTableOf}
-use Rattle.lnt_paths.specs.Reading.{whole}
 
 -- the span of a held span, which begins and ends at operation index 0
 abbrev pub held_span : HeldSpan → PathSpan

@@ -1,5 +1,5 @@
--- Spans joined by their answers told by path, and the lines that are written for them. Only the bodies of this crate use
--- this. `tell` tells an answer by path; a joined span keeps the answer of its first part.
+-- Spans joined by their answers told by path, and the lines that are written for them. `tell` tells an answer by path; a joined
+-- span keeps the answer of its first part. No public contract speaks of it.
 use Rattle.std.specs.Prelude.{◌≡◌, ◌≢◌, ◌⊎◌, ℕ, false, List, [], ◌∷◌, ◌++◌, Option, Some, None, IfSome}
 use Rattle.std.specs.Io.KnownBytes.{Appends}
 use Rattle.std.specs.List.{All, AllZip}

@@ -2,6 +2,7 @@
 use Rattle.std.specs.Prelude.{◌≡◌, ℕ, List, Option, ◌++◌}
 use Rattle.std.specs.Option.{option_map}
 use Rattle.lnt_spans.specs.declared.position.Position.{Position}
+use Rattle.lnt_spans.specs.AnyStretches.{AreAllStretches, AreFirstStretches, Stretch}
 use Rattle.lnt_records.specs.declared.fault.TableFault.{TableFault}
 use Rattle.lnt_paths.specs.declared.answer.ComparedByPath.{ComparedByPath}
 use Rattle.lnt_paths.specs.declared.answer.ComparedByPath.TheVariants.{Same, Fault, Differs}
@@ -9,7 +10,6 @@ use Rattle.lnt_paths.specs.declared.version.PathVersion.{PathVersion}
 use Rattle.lnt_paths.specs.PathAnswers.{PathAnswer}
 use Rattle.lnt_paths.specs.PathDifferences.{DifferFirst, IsPathComparison, told_path_answer}
 use Rattle.lnt_paths.specs.PathFaults.{IsPathFault}
-use Rattle.lnt_paths.specs.PathStretches.{AreFirstStretches, AreStretches, Stretch}
 use Rattle.lnt_paths.specs.PathSpans.{AreCanonicalPaths, PathSpan, path_span_answer}
 use Rattle.lnt_paths.specs.PathTables.{IsPathTableOf}
 
@@ -65,4 +65,4 @@ OnePathComparison = (bytes : List ℕ) (section : PathVersion → Position → O
 -- The first stretches begin every list of all of them.
 abbrev pub FirstStretchesBegin : Type 0
 FirstStretchesBegin = (f g : Position → Option PathAnswer) (first all : List (Stretch PathAnswer)) → AreFirstStretches f g first
-    → AreStretches f g all → (more : List (Stretch PathAnswer)) × (all ≡ first ++ more)
+    → AreAllStretches f g all → (more : List (Stretch PathAnswer)) × (all ≡ first ++ more)

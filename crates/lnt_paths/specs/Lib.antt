@@ -11,5 +11,6 @@ pub mod PathSpans
 pub mod PathStretches
 pub mod PathTables
 pub mod Reading
+pub mod Stepping
 pub mod Stretching
 pub mod Written

@@ -1,5 +1,5 @@
--- A section's spans compared with the records of a table by path, as far as these have come. Only the bodies of this crate
--- use this. `tell` tells an answer by path.
+-- A section's spans compared with the records of a table by path, as far as these have come. `tell` tells an answer by path.
+-- No public contract speaks of it.
 use Rattle.std.specs.Prelude.{◌≡◌, ℕ, Bool, true, false, List, [], ◌∷◌, Option, Some, None, IfSome, length}
 use Rattle.std.specs.List.{All}
 use Rattle.std.specs.Option.{option_map}
@@ -8,6 +8,7 @@ use Rattle.lnt_spans.specs.declared.answer.Answer.{Answer}
 use Rattle.lnt_spans.specs.declared.position.Position.{Position}
 use Rattle.lnt_spans.specs.declared.span.Span.{Span}
 use Rattle.lnt_spans.specs.Positions.{IsBelow, IsAtMost}
+use Rattle.lnt_spans.specs.Remaining.{IsLeft}
 use Rattle.lnt_spans.specs.Spans.{AreInOrder, span_answer}
 use Rattle.lnt_paths.specs.declared.answer.DifferenceByPath.{DifferenceByPath}
 use Rattle.lnt_paths.specs.declared.comparison.PathComparison.{PathComparison}
@@ -15,11 +16,11 @@ use Rattle.lnt_paths.specs.declared.known.KnownPath.{KnownPath}
 use Rattle.lnt_paths.specs.declared.merge.Apart.{Apart}
 use Rattle.lnt_paths.specs.declared.record.PathRecord.{PathRecord}
 use Rattle.lnt_paths.specs.declared.version.PathVersion.{PathVersion}
-use Rattle.lnt_paths.specs.PathAnswers.{PathAnswer}
+use Rattle.lnt_paths.specs.PathAnswers.{answer_told, PathAnswer}
 use Rattle.lnt_paths.specs.PathDifferences.{DifferFirst, IsLeastPathDifference}
-use Rattle.lnt_paths.specs.PathSpans.{PathSpan, path_span_answer}
+use Rattle.lnt_paths.specs.PathSpans.{PathSpan, path_span_answer, whole}
 use Rattle.lnt_paths.specs.PathTables.{IsPathTable}
-use Rattle.lnt_paths.specs.Reading.{record_answer, record_span, whole}
+use Rattle.lnt_paths.specs.Reading.{record_answer, record_span}
 
 -- Every cached path is that of its file.
 abbrev pub AreKnownOf : (ℕ → ℕ → List ℕ) → List (Option KnownPath) → Type 0
@@ -27,19 +28,10 @@ AreKnownOf path slots = All (λ slot. IfSome slot (λ kept. kept.path.items ≡ 
 
 -- ---- the section
 
--- These spans are left: the next one is at hand, if there is one, and the others are to come.
-abbrev pub IsLeft : {S : Type 0} → (S → List Span → Type 0) → Option Span → S → List Span → Type 0
-IsLeft to_come next spans [] = next ≡ None
-IsLeft to_come next spans (first ∷ rest) = (next ≡ Some first) × to_come spans rest
-
 -- The first span, if there is one, begins at or above p.
 abbrev pub BeginFrom : Position → List Span → Type 0
 BeginFrom p [] = Unit {0}
 BeginFrom p (span ∷ spans) = IsAtMost p span.low
-
--- what spans answer, told by path
-abbrev pub answer_told : (Answer → PathAnswer) → List Span → Position → Option PathAnswer
-answer_told tell spans p = option_map tell (span_answer spans p)
 
 -- Below `to` the spans answer as the table does, and those that are left answer as they do from there on.
 pub record ArePassed (tell : Answer → PathAnswer) (spans : List Span) (by_table : Position → Option PathAnswer) (to : Position)

@@ -1,4 +1,4 @@
--- A table by path that is parsed line by line, as long as nothing is in quotes. Only the bodies of this crate use this.
+-- A table by path that is parsed line by line, as long as nothing is in quotes. No public contract speaks of it.
 use Rattle.std.specs.Prelude.{◌≡◌, ℕ, ◌+◌, ◌≤◌, List, [], ◌∷◌, ◌++◌, Option, Some, None, length}
 use Rattle.std.specs.List.{All}
 use Rattle.csv.specs.Reading.{Reached, default_config, strip_bom}

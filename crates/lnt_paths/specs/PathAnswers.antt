@@ -23,6 +23,10 @@ abbrev pub path_answer : PathVersion → (ℕ → ℕ → List ℕ) → Answer �
 path_answer version path answer =
     record { path = path answer.unit answer.file; line = answer.line; column = told_column version answer.column }
 
--- what spans answer at a position, told by path
+-- what spans answer at a position, told by path in this way
+abbrev pub answer_told : (Answer → PathAnswer) → List Span → Position → Option PathAnswer
+answer_told tell spans p = option_map tell (span_answer spans p)
+
+-- the same, where these are the paths of the files of units
 abbrev pub spans_by_path : PathVersion → (ℕ → ℕ → List ℕ) → List Span → Position → Option PathAnswer
-spans_by_path version path spans p = option_map (path_answer version path) (span_answer spans p)
+spans_by_path version path spans p = answer_told (path_answer version path) spans p

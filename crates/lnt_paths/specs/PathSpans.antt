@@ -1,10 +1,14 @@
 -- Spans of positions with answers by path: what a list of them answers, and the canonical list for each way to answer.
-use Rattle.std.specs.Prelude.{◌≡◌, ◌≢◌, Bool, ◌&&◌, List, [], ◌∷◌, Option}
+use Rattle.std.specs.Prelude.{◌≡◌, ◌≢◌, ℕ, Bool, ◌&&◌, List, [], ◌∷◌, Option}
 use Rattle.std.specs.List.{find}
 use Rattle.std.specs.Option.{option_map}
 use Rattle.lnt_spans.specs.declared.position.Position.{Position}
 use Rattle.lnt_spans.specs.Positions.{IsBelow, IsAtMost, is_below, is_at_most}
 use Rattle.lnt_paths.specs.PathAnswers.{PathAnswer}
+
+-- the position of a whole instruction
+abbrev pub whole : ℕ → Position
+whole address = record { address = address; op = 0 }
 
 -- the half-open range of positions from `low` up to `high`, with one answer
 pub record PathSpan : Type 0 where

@@ -1,14 +1,13 @@
--- Reading one record of a table by path. Only the bodies of this crate use this.
+-- Reading one record of a table by path. No public contract speaks of it.
 use Rattle.std.specs.Prelude.{◌≡◌, ◌≢◌, ℕ, ◌<◌, [], ◌∷◌, length, get_or, codes}
 use Rattle.lnt_records.specs.Table.{Fields}
-use Rattle.lnt_spans.specs.declared.position.Position.{Position}
 use Rattle.lnt_paths.specs.declared.record.FieldFault.{FieldFault}
 use Rattle.lnt_paths.specs.declared.record.FieldFault.TheVariants as field_fault
 use Rattle.lnt_paths.specs.declared.record.PathRecord.{PathRecord}
 use Rattle.lnt_paths.specs.declared.version.PathVersion.{PathVersion}
 use Rattle.lnt_paths.specs.PathAnswers.{PathAnswer}
 use Rattle.lnt_paths.specs.PathFaults.{IsFaultyField, IsSoundField, PathKind, path_kinds, text}
-use Rattle.lnt_paths.specs.PathSpans.{PathSpan}
+use Rattle.lnt_paths.specs.PathSpans.{PathSpan, whole}
 use Rattle.lnt_paths.specs.PathTables.{path_column_count}
 
 -- the columns that both versions have
@@ -31,10 +30,6 @@ IsFieldFault fields (field_fault.Number i) = IsFaultyField fields i
 abbrev pub IsPathRecordFault : PathVersion → Fields → FieldFault → Type 0
 IsPathRecordFault version fields field_fault.Count = length fields ≢ path_column_count version
 IsPathRecordFault version fields (field_fault.Number i) = (length fields ≡ path_column_count version) × IsFaultyField fields i
-
--- the position of a whole instruction
-abbrev pub whole : ℕ → Position
-whole address = record { address = address; op = 0 }
 
 -- the answer of a record
 abbrev pub record_answer : PathRecord → PathAnswer

@@ -1,28 +1,22 @@
--- How far the stretches of a section and a table by path were given.
-use Rattle.std.specs.Prelude.{◌≡◌, ◌⊎◌, ℕ, ◌+◌, List, [], ◌∷◌, ◌++◌, Option, Some, None, cond, length, map}
-use Rattle.std.specs.List.{AllByRecursion}
+-- How far the stretches of a section and a table by path were given: what contracts see of `DifferencesByPath`.
+use Rattle.std.specs.Prelude.{◌≡◌, ℕ, ◌+◌, List, [], ◌∷◌, Option, cond, length, map}
 use Rattle.std.specs.Option.{option_copied, option_map}
 use Rattle.lnt_spans.specs.declared.answer.Answer.{Answer}
 use Rattle.lnt_spans.specs.declared.position.Position.{Position}
 use Rattle.lnt_spans.specs.declared.span.Span.{Span}
+use Rattle.lnt_spans.specs.AnyStretches.{Stretch}
 use Rattle.lnt_spans.specs.Differing.{runs_left}
 use Rattle.lnt_spans.specs.Positions.{IsBelow, IsAtMost, is_below}
-use Rattle.lnt_spans.specs.Scanning.{EndsAfter}
+use Rattle.lnt_spans.specs.Remaining.{EndsAfter, IsLeft}
 use Rattle.lnt_spans.specs.Spans.{AreInOrder}
-use Rattle.lnt_spans.specs.Stretches.{AreAnswers, Stay}
+use Rattle.lnt_spans.specs.ToldStretches.{AreToldBelow}
 use Rattle.lnt_paths.specs.declared.held.HeldSpan.{HeldSpan}
 use Rattle.lnt_paths.specs.declared.merge.Section.{Section}
-use Rattle.lnt_paths.specs.declared.stretches.Begun.{Begun}
 use Rattle.lnt_paths.specs.declared.stretches.DifferencesByPath.{DifferencesByPath}
-use Rattle.lnt_paths.specs.declared.stretches.Step.{Step}
-use Rattle.lnt_paths.specs.declared.stretches.Step.TheVariants.{Ended, Known, Told}
 use Rattle.lnt_paths.specs.Held.{held_span}
-use Rattle.lnt_paths.specs.Merging.{answer_told, IsLeft}
-use Rattle.lnt_paths.specs.PathAnswers.{path_answer, PathAnswer}
+use Rattle.lnt_paths.specs.PathAnswers.{answer_told, path_answer, PathAnswer}
 use Rattle.lnt_paths.specs.PathDifferences.{told_path_answer}
-use Rattle.lnt_paths.specs.PathSpans.{path_span_answer, PathSpan, StandInOrder}
-use Rattle.lnt_paths.specs.PathStretches.{AreRising, AreStretches, BeginsStretch, IsInOne, Stretch}
-use Rattle.lnt_paths.specs.Reading.{whole}
+use Rattle.lnt_paths.specs.PathSpans.{path_span_answer, PathSpan, StandInOrder, whole}
 
 -- ---- one side
 
@@ -46,11 +40,6 @@ pub record IsTableAt (table : List HeldSpan) (at : Position) (answers : Position
   pub past : PathsEndAfter at (map held_span table)
   pub same : (p : Position) → IsAtMost at p → path_span_answer (map held_span table) p ≡ answers p
 
--- where the table's answer at a position may end
-abbrev pub held_end : Position → List HeldSpan → Option Position
-held_end at [] = None
-held_end at (held ∷ table) = Some (cond (is_below at (whole held.low)) (whole held.low) (whole held.high))
-
 -- 1 if a gap lies between the position and the first span, else 0
 abbrev pub held_gap : Position → List HeldSpan → ℕ
 held_gap at [] = 0
@@ -61,26 +50,6 @@ abbrev pub held_runs : Position → List HeldSpan → ℕ
 held_runs at table = length table + length table + held_gap at table
 
 -- ---- both sides
-
--- The positions from `at` on, for as long as both sides keep these two answers, all lie in one of the stretches given.
-abbrev pub IsOpen : {X : Type 0} → (Position → Option X) → (Position → Option X) → Position → Option X → Option X → List (Stretch X)
-    → Type 0
-IsOpen by_section by_table at section table told =
-    (p : Position) → IsAtMost at p → Stay by_section by_table section table at p → AreAnswers by_section by_table section table p
-    → IsInOne by_section by_table told p
-
--- The stretches given so far are exactly those that begin below `at`.
-pub record AreToldBelow {X : Type 0} (by_section by_table : Position → Option X) (at : Position) (section table : Option X)
-    (told : List (Stretch X)) : Type 0 where
-  pub each : AllByRecursion (BeginsStretch by_section by_table) told
-  pub rising : AreRising told
-  pub below : AllByRecursion (λ stretch. IsBelow stretch.position at) told
-  pub all : (p : Position) → IsBelow p at → (by_section p ≡ by_table p) ⊎ IsInOne by_section by_table told p
-  -- `section` and `table` were the last answers: if they differ, the last stretch lasts as long as they stay
-  pub going : (section ≡ table) ⊎ IsOpen by_section by_table at section table told
-  -- right below `at` both sides have these answers, or answer alike
-  pub last : (p : Position) → IsBelow p at
-      → (q : Position) × IsAtMost p q × IsBelow q at × ((by_section q ≡ by_table q) ⊎ AreAnswers by_section by_table section table q)
 
 -- These stretches were given, and the spans from there on are still to come, where these are the paths of the files of
 -- units.
@@ -97,19 +66,3 @@ abbrev pub path_stretches_left : {S : Type 0} → (S → ℕ) → DifferencesByP
 path_stretches_left of_section differences =
     runs_left differences.at differences.section.next (of_section differences.section.spans)
     + held_runs differences.at differences.table.now
-
--- a stretch that was found, told by path
-abbrev pub stretch_begun : (Answer → PathAnswer) → Begun → Stretch PathAnswer
-stretch_begun tell begun = record {
-  position = begun.position;
-  by_section = option_map tell begun.by_section;
-  by_table = option_map told_path_answer (option_copied begun.by_table);
-}
-
--- what holds after one step, by what the step found
-abbrev pub Steps : {S : Type 0} → (S → List Span → Type 0) → (ℕ → ℕ → List ℕ) → DifferencesByPath S → (Position → Option PathAnswer)
-    → (Position → Option PathAnswer) → List (Stretch PathAnswer) → Step → Type 0
-Steps to_come path differences by_section by_table told Ended = AreStretches by_section by_table told
-Steps to_come path differences by_section by_table told Known = HasToldByPath to_come path differences by_section by_table told
-Steps to_come path differences by_section by_table told (Told begun) = HasToldByPath to_come path differences by_section by_table
-    (told ++ stretch_begun (path_answer differences.version path) begun ∷ [])

@@ -9,9 +9,8 @@ ghost use Rattle.lnt_paths.specs.PathAnswers.{path_answer};
 use crate::joined::Joined;
 use crate::paths::Paths;
 use crate::version::PathVersion;
-use lnt_records::WriteStop;
 use lnt_spans::{Position, SpanSource};
-use std::alloc::Global;
+use std::alloc::{AllocError, Global};
 
 // The first position at which a joined span begins or ends with an operation index other than 0, if there is one.
 pub(crate) fn first_operation<S: SpanSource + Drop, P: Paths>(
@@ -19,7 +18,7 @@ pub(crate) fn first_operation<S: SpanSource + Drop, P: Paths>(
     spans: S,
     paths: &P,
     version: PathVersion,
-) -> Result<Option<Position>, WriteStop>
+) -> Result<Option<Position>, AllocError>
     ensures { IfOk result (λ found. (list joined : List spec.Span) → S.to_come spans list
         → AllJoinTo (path_answer version (P.bytes_of paths.now)) list joined
         → MatchOption found (AllByRecursion HasNoOperation joined) (λ position. IsFirstOperation position joined)) }

@@ -2,20 +2,21 @@
 ghost use Rattle.std.specs.Prelude.{◌≡◌, ◌+◌, ◌^◌, ◌<◌, ◌≤◌, List, [], ◌∷◌, ◌++◌, length, IfOk, MatchOption, None, OnOk, ℕ};
 ghost use Rattle.std.specs.Option.{option_map};
 ghost use Rattle.csv.specs.Records.{fields_of};
-ghost use Rattle.lnt_records.specs.Progress.{HasRead};
+ghost use Rattle.lnt_spans.specs.Remaining.{IsLeft};
+ghost use Rattle.lnt_records.specs.Reading.{HasRead};
 ghost use Rattle.lnt_records.specs.Table.{BeginsWith, Fields};
 ghost use Rattle.lnt_spans.specs.declared.position.Position as position;
 ghost use Rattle.lnt_spans.specs.declared.span.Span as spec;
 ghost use Rattle.lnt_spans.specs.Spans.{AreInOrder};
 ghost use Rattle.lnt_paths.specs.declared.version.PathVersion.{PathVersion};
-ghost use Rattle.lnt_paths.specs.Merging.{AreKnownOf, IsLeft, IsMerged, JudgesByPath, answer_told, table_side};
+ghost use Rattle.lnt_paths.specs.Merging.{AreKnownOf, IsMerged, JudgesByPath, table_side};
 ghost use Rattle.lnt_paths.specs.Passing.{IsAfter};
-ghost use Rattle.lnt_paths.specs.PathAnswers.{path_answer, spans_by_path};
+ghost use Rattle.lnt_paths.specs.PathAnswers.{answer_told, path_answer, spans_by_path};
 ghost use Rattle.lnt_paths.specs.PathDifferences.{IsLeastPathDifference, IsPathComparison, told_path_answer};
 ghost use Rattle.lnt_paths.specs.PathFaults.{IsFaultyRecord};
-ghost use Rattle.lnt_paths.specs.PathSpans.{PathSpan, path_span_answer};
+ghost use Rattle.lnt_paths.specs.PathSpans.{PathSpan, path_span_answer, whole};
 ghost use Rattle.lnt_paths.specs.PathTables.{IsPathTable, path_column_names};
-ghost use Rattle.lnt_paths.specs.Reading.{record_answer, record_span, whole};
+ghost use Rattle.lnt_paths.specs.Reading.{record_answer, record_span};
 
 use crate::answer::{AnswerByPath, ComparedByPath, DifferenceByPath};
 use crate::header::read_header;

@@ -7,7 +7,6 @@ ghost use Rattle.lnt_paths.specs.Joining.{AreFieldsOf, IsPlainByte, field_with_c
 
 use crate::paths::Paths;
 use csv::Writer;
-use lnt_records::WriteStop;
 use std::alloc::{AllocError, Global};
 
 // The number of fields kept at most.
@@ -47,7 +46,7 @@ impl PathFields {
         unit: u64,
         file: u64,
         line: &mut Vec<u8>,
-    ) -> Result<(), WriteStop>
+    ) -> Result<(), AllocError>
         requires { AreFieldsOf (P.bytes_of paths.now) self.old.slots.items }
         ensures kept { OnOk result (AreFieldsOf (P.bytes_of paths.now) self.new.slots.items) }
         ensures added { OnOk result (line.new.items ≡ line.old.items ++ field_with_comma (P.bytes_of paths.now unit file)) }
@@ -69,7 +68,7 @@ impl PathFields {
 }
 
 // The path of a file as a field of a record, with the comma after it.
-fn field_of<P: Paths>(alloc: Global, paths: &P, unit: u64, file: u64) -> Result<Vec<u8>, WriteStop>
+fn field_of<P: Paths>(alloc: Global, paths: &P, unit: u64, file: u64) -> Result<Vec<u8>, AllocError>
     ensures { IfOk result (λ text. text.items ≡ field_with_comma (P.bytes_of paths.now unit file)) }
 {
     let mut path = paths.path_of(alloc, unit, file)?;
@@ -104,17 +103,18 @@ pub(crate) fn calls_for_quotes(byte: u8) -> bool
 }
 
 // A record of the path and an empty field: less its line feed, that is the field with a comma.
-fn record_of(alloc: Global, path: &[u8]) -> Result<Vec<u8>, WriteStop>
+fn record_of(alloc: Global, path: &[u8]) -> Result<Vec<u8>, AllocError>
     ensures { IfOk result (λ text. text.items ≡ row_text default_writer (path.now ∷ [] ∷ [])) }
 {
     let mut record = Writer::from_writer(Vec::new(alloc));
     let fields = [path, b"".as_slice()];
+    // A vector refuses a record only for want of memory.
     match record.write_fields(&fields) {
         Ok(()) => {}
-        Err(_) => return Err(WriteStop::Memory),
+        Err(_) => return Err(AllocError),
     }
     match record.into_inner() {
         Ok(text) => Ok(text),
-        Err(_) => Err(WriteStop::Memory),
+        Err(_) => Err(AllocError),
     }
 }

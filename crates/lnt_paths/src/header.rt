@@ -2,8 +2,8 @@
 ghost use Rattle.std.specs.Prelude.{◌≡◌, ◌≢◌, ◌≤◌, ℕ, List, [], ◌∷◌, length, IfOk, MatchOption};
 ghost use Rattle.std.specs.Bool.{MatchBool};
 ghost use Rattle.csv.specs.Records.{fields_of};
-ghost use Rattle.lnt_records.specs.Progress.{AreNamed, HasRead};
-ghost use Rattle.lnt_records.specs.Table.{BeginsWith};
+ghost use Rattle.lnt_records.specs.Reading.{HasRead};
+ghost use Rattle.lnt_records.specs.Table.{AreNamed, BeginsWith};
 ghost use Rattle.lnt_paths.specs.declared.version.PathVersion.{PathVersion};
 ghost use Rattle.lnt_paths.specs.declared.version.PathVersion.TheVariants as version;
 ghost use Rattle.lnt_paths.specs.PathTables.{path_column_count, path_column_names};

@@ -1,13 +1,13 @@
 //! Reads a table by path and holds its spans.
 ghost use Rattle.std.specs.Prelude.{◌≡◌, ℕ, List, [], ◌∷◌, ◌++◌, length, map, IfOk, MatchOption};
 ghost use Rattle.csv.specs.Records.{fields_of};
-ghost use Rattle.lnt_records.specs.Progress.{HasRead};
+ghost use Rattle.lnt_paths.specs.PathSpans.{whole};
+ghost use Rattle.lnt_records.specs.Reading.{HasRead};
 ghost use Rattle.lnt_records.specs.Table.{Fields};
 ghost use Rattle.lnt_paths.specs.Held.{HoldsInOrder, IsHeld, held_span};
 ghost use Rattle.lnt_paths.specs.Merging.{path_end};
 ghost use Rattle.lnt_paths.specs.PathFaults.{IsFaultyRecord};
 ghost use Rattle.lnt_paths.specs.PathTables.{IsPathTable, path_column_names};
-ghost use Rattle.lnt_paths.specs.Reading.{whole};
 
 use crate::answer::AnswerByPath;
 use crate::comparison::said_of;

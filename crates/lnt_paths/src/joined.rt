@@ -10,9 +10,8 @@ ghost use Rattle.lnt_paths.specs.PathAnswers.{PathAnswer, path_answer, told_colu
 
 use crate::paths::{Paths, same_path};
 use crate::version::PathVersion;
-use lnt_records::WriteStop;
 use lnt_spans::{Answer, Span, SpanSource};
-use std::alloc::Global;
+use std::alloc::{AllocError, Global};
 
 // A source of spans, with its next span already taken out. They are given joined, each with the answer of its first part.
 #[derive(Drop)]
@@ -37,7 +36,7 @@ impl<S: SpanSource> Joined<S> {
         alloc: Global,
         paths: &P,
         version: PathVersion,
-    ) -> Result<Option<Span>, WriteStop>
+    ) -> Result<Option<Span>, AllocError>
         ensures gives { IfOk result (λ given. (joined : List spec.Span)
             → WillGive (path_answer version (P.bytes_of paths.now)) self.old.next (S.to_come self.old.spans) joined
             → GivesFirst (WillGive (path_answer version (P.bytes_of paths.now)) self.new.next (S.to_come self.new.spans)) joined given) }
@@ -65,14 +64,14 @@ fn goes_on<P: Paths>(
     version: PathVersion,
     last: &Span,
     span: &Span,
-) -> Result<bool, WriteStop>
+) -> Result<bool, AllocError>
     ensures { IfOk result (λ goes. MatchBool goes (GoesOn (path_answer version (P.bytes_of paths.now)) last.now span.now)
         (GoesOn (path_answer version (P.bytes_of paths.now)) last.now span.now → ⊥)) }
 {
     if last.high != span.low || !same_place(version, &last.answer, &span.answer) {
         return Ok(false);
     }
-    Ok(same_path(alloc, paths, &last.answer, &span.answer)?)
+    same_path(alloc, paths, &last.answer, &span.answer)
 }
 
 // Whether two answers have the same line, and the same column if the version tells it.

@@ -28,7 +28,6 @@ mod write;
 pub use answer::{AnswerByPath, ComparedByPath, DifferenceByPath};
 pub use comparison::compare_by_path;
 pub use held::{HeldSpan, HeldTable, hold_table};
-pub use lnt_records::WriteStop;
 pub use paths::Paths;
 pub use stretches::DifferencesByPath;
 pub use version::{PathTable, PathVersion};

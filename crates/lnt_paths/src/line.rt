@@ -9,7 +9,6 @@ use crate::field::PathFields;
 use crate::paths::Paths;
 use crate::version::PathVersion;
 use lnt_digits::{put_address, put_decimal};
-use lnt_records::WriteStop;
 use lnt_spans::{Answer, Span};
 use std::alloc::{AllocError, Global};
 
@@ -31,7 +30,7 @@ pub(crate) fn put_line<P: Paths>(
     fields: &mut PathFields,
     span: &Span,
     line: &mut Vec<u8>,
-) -> Result<(), WriteStop>
+) -> Result<(), AllocError>
     requires { AreFieldsOf (P.bytes_of paths.now) fields.old.slots.items }
     ensures kept { OnOk result (AreFieldsOf (P.bytes_of paths.now) fields.new.slots.items) }
     ensures added { OnOk result (AddsPathLine (path_answer version (P.bytes_of paths.now)) version span.now line.old.items line.new.items) }

@@ -5,10 +5,11 @@ ghost use Rattle.lnt_spans.specs.declared.answer.Answer as spec_answer;
 ghost use Rattle.lnt_spans.specs.declared.span.Span as spec;
 ghost use Rattle.lnt_spans.specs.Positions.{IsAtMost, IsBelow};
 ghost use Rattle.lnt_spans.specs.Spans.{AreInOrder};
-ghost use Rattle.lnt_paths.specs.Merging.{AreApart, AreKnownOf, ArePassed, IsLeft};
+ghost use Rattle.lnt_paths.specs.Merging.{AreApart, AreKnownOf, ArePassed};
+ghost use Rattle.lnt_spans.specs.Remaining.{IsLeft};
 ghost use Rattle.lnt_paths.specs.PathAnswers.{path_answer, told_column};
-ghost use Rattle.lnt_paths.specs.PathSpans.{path_span_answer};
-ghost use Rattle.lnt_paths.specs.Reading.{record_answer, record_span, whole};
+ghost use Rattle.lnt_paths.specs.PathSpans.{path_span_answer, whole};
+ghost use Rattle.lnt_paths.specs.Reading.{record_answer, record_span};
 
 use crate::known::KnownPaths;
 use crate::paths::Paths;

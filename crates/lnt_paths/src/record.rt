@@ -6,9 +6,9 @@ ghost use Rattle.lnt_digits.specs.Digits.{IsAddress, IsDecimal};
 ghost use Rattle.lnt_paths.specs.Merging.{path_end};
 ghost use Rattle.lnt_paths.specs.PathFaults as kind;
 ghost use Rattle.lnt_paths.specs.PathFaults.{IsFaultyRecord};
-ghost use Rattle.lnt_paths.specs.PathSpans.{PathSpan};
+ghost use Rattle.lnt_paths.specs.PathSpans.{PathSpan, whole};
 ghost use Rattle.lnt_paths.specs.PathTables.{SaysColumn, SaysPath, path_column_count};
-ghost use Rattle.lnt_paths.specs.Reading.{AreSoundUpTo, IsFieldFault, IsFieldOfKind, IsPathRecordFault, record_answer, whole};
+ghost use Rattle.lnt_paths.specs.Reading.{AreSoundUpTo, IsFieldFault, IsFieldOfKind, IsPathRecordFault, record_answer};
 
 use crate::header::columns;
 use crate::version::PathVersion;

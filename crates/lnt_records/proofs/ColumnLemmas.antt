@@ -5,7 +5,7 @@ use Rattle.csv.specs.Records.{field_at}
 use Rattle.lnt_digits.specs.Digits.{IsAddress, IsDecimal}
 use Rattle.lnt_records.specs.Faults.{IsFaultyColumn}
 use Rattle.lnt_records.specs.Progress.{AreSoundBefore, IsColumnOf}
-use Rattle.lnt_records.specs.Table.{Fields, IsFlag, IsOfKind, IsSound, Kind, address, decimal, flag}
+use Rattle.lnt_records.specs.Table.{Fields, IsFlag, IsOfColumn, IsOfKind, Kind, address, decimal, flag}
 
 pub field_is : (fields : Fields) (i : ℕ) (f : List ℕ) → Some f ≡ field_at fields i → f ≡ get_or fields i []
 unfolding field_at
@@ -21,15 +21,15 @@ field_there (g ∷ fields) (suc i) lt e = field_there fields i (omega arith) e
 
 -- ---- one column more
 
-of_kind : (kind : Kind) (fields : Fields) (i : ℕ) → IsColumnOf kind i → IsOfKind kind (get_or fields i []) → IsSound fields i
+of_kind : (kind : Kind) (fields : Fields) (i : ℕ) → IsColumnOf kind i → IsOfKind kind (get_or fields i []) → IsOfColumn fields i
 of_kind kind fields i e h = subst (λ (k : Kind). IsOfKind k (get_or fields i [])) (sym e) h
 
-not_of_kind : (kind : Kind) (fields : Fields) (i : ℕ) → IsColumnOf kind i → (IsOfKind kind (get_or fields i []) → ⊥) → IsSound fields i → ⊥
+not_of_kind : (kind : Kind) (fields : Fields) (i : ℕ) → IsColumnOf kind i → (IsOfKind kind (get_or fields i []) → ⊥) → IsOfColumn fields i → ⊥
 not_of_kind kind fields i e h s = h (subst (λ (k : Kind). IsOfKind k (get_or fields i [])) e s)
 
-sound_more : (fields : Fields) (i : ℕ) → AreSoundBefore fields i → IsSound fields i → AreSoundBefore fields (i + 1)
+sound_more : (fields : Fields) (i : ℕ) → AreSoundBefore fields i → IsOfColumn fields i → AreSoundBefore fields (i + 1)
 sound_more fields i before s k lt =
-    ⊎_elim (λ (h : k < i). before k h) (λ (h : i ≤ k). subst (IsSound fields) (same h) s) (cases_lt k i)
+    ⊎_elim (λ (h : k < i). before k h) (λ (h : i ≤ k). subst (IsOfColumn fields) (same h) s) (cases_lt k i)
   where
     same : i ≤ k → i ≡ k
     same h = omega (arith, h, lt)

@@ -15,7 +15,8 @@ use Rattle.lnt_records.specs.declared.fault.TableFault.TheVariants as fault
 use Rattle.lnt_records.specs.Faults.{AnswersAs, DiffersSo, IsFault, IsFaulty}
 use Rattle.csv.specs.Reading.{reader_state}
 use Rattle.lnt_records.specs.Passing.{IsCut}
-use Rattle.lnt_records.specs.Progress.{BytesReader, HasRead, Judges}
+use Rattle.lnt_records.specs.Progress.{Judges}
+use Rattle.lnt_records.specs.Reading.{BytesReader, HasRead}
 use Rattle.lnt_records.specs.Table.{BeginsWith, Fields, IsSpanRecord, IsTable, RecordsOf, column_names}
 
 -- ---- one more record

@@ -24,7 +24,8 @@ use Rattle.lnt_records.specs.Differing.{IsDiffering, IsStarted}
 use Rattle.lnt_records.specs.Progress.{GoesOn, IsGathered}
 use Rattle.lnt_records.specs.declared.comparison.Comparison.{Comparison}
 use Rattle.lnt_records.specs.Passing.{IsCut, LeavesOff}
-use Rattle.lnt_records.specs.Progress.{BytesReader, HasRead, Judges}
+use Rattle.lnt_records.specs.Progress.{Judges}
+use Rattle.lnt_records.specs.Reading.{BytesReader, HasRead}
 use Rattle.lnt_records.specs.Table.{BeginsWith, Fields, IsSpanRecord, IsTable, IsTableOf, RecordsOf, column_names}
 use Rattle.lnt_records.proofs.ComparisonLemmas.{HasCompared, Judged, all_after, zip_push}
 use Rattle.lnt_records.proofs.LawLemmas.{one_spans}

@@ -3,8 +3,7 @@ use Rattle.std.proofs.Common.{◌≡◌, ◌≢◌, ℕ, suc, List, [], ◌∷�
 use Rattle.std.specs.Prelude.{codes}
 use Rattle.lnt_spans.specs.declared.answer.Version.{Version}
 use Rattle.lnt_spans.specs.declared.answer.Version.TheVariants.{One, Two}
-use Rattle.lnt_records.specs.Progress.{AreNamed}
-use Rattle.lnt_records.specs.Table.{Fields, column_names, common_names}
+use Rattle.lnt_records.specs.Table.{AreNamed, Fields, column_names, common_names}
 
 named_after : (i : ℕ) (names : Fields) (field : List ℕ) (fields : Fields) → AreNamed (suc i) names (field ∷ fields)
     → AreNamed i names fields

@@ -15,8 +15,8 @@ use Rattle.lnt_spans.proofs.ComingLaws.{HasGiven}
 use Rattle.lnt_spans.proofs.JoinedLaws.{BeginCanonical, joined_rest}
 use Rattle.lnt_spans.specs.Spans.{AreInOrder, IsCanonical, span_answer, version_answer}
 use Rattle.lnt_records.proofs.BegunLaws.{canonical_begins}
-use Rattle.lnt_records.proofs.VersionLaws.{answers_of_version}
-use Rattle.lnt_records.specs.Written.{BeginsCanonicalTable, BeginsTable, IsCanonicalTable, IsOfVersion, TellsAll}
+use Rattle.lnt_records.proofs.VersionLaws.{HasVersion, answers_of_version}
+use Rattle.lnt_records.specs.Written.{BeginsCanonicalTable, BeginsTable, IsCanonicalTable, TellsAll}
 use Rattle.lnt_records.proofs.WriteLemmas.{Lines, begun_sending, begun_so_far, lines_done}
 
 -- ---- answers of the version
@@ -32,9 +32,6 @@ all_left P (x ∷ xs) ys h = (h.0, all_left P xs ys h.1)
 all_right : {X : Type 0} (P : X → Type 0) (xs ys : List X) → AllByRecursion P (xs ++ ys) → AllByRecursion P ys
 all_right P [] ys h = h
 all_right P (x ∷ xs) ys h = all_right P xs ys h.1
-
-abbrev pub HasVersion : Version → Span → Type 0
-HasVersion version span = IsOfVersion version span.answer
 
 to_all : {X : Type 0} (P : X → Type 0) (xs : List X) → AllByRecursion P xs → All P xs
 to_all P [] h = All-nil P

@@ -21,7 +21,8 @@ use Rattle.lnt_spans.proofs.ToldLaws.{told, told_answer, told_order}
 use Rattle.lnt_spans.specs.Coming.{GivesFirst}
 use Rattle.lnt_spans.specs.Spans.{AreInOrder, span_answer, span_in_version, version_answer}
 use Rattle.lnt_records.specs.Lines.{IsLine}
-use Rattle.lnt_records.specs.Passing.{AreLeft, AreLines, Ends, HasPassed, LeavesOff, Passes}
+use Rattle.lnt_records.specs.Passing.{AreLines, Ends, HasPassed, LeavesOff, Passes}
+use Rattle.lnt_records.specs.Remaining.{AreLeft}
 use Rattle.lnt_records.specs.Table.{Fields, IsSpanRecord}
 use Rattle.lnt_records.specs.Written.{line_text, lines_text}
 use Rattle.lnt_records.proofs.ComparisonLemmas.{zip_push}

@@ -14,7 +14,7 @@ use Rattle.csv.specs.declared.parser.State.TheVariants as st
 use Rattle.csv.specs.declared.parser.Terminator.TheVariants as term
 use Rattle.csv.proofs.ReadFacts.{rows-end, rows-more}
 use Rattle.lnt_spans.specs.declared.answer.Version.{Version}
-use Rattle.lnt_records.specs.Progress.{BytesReader, HasRead, bytes_left, known_length}
+use Rattle.lnt_records.specs.Reading.{BytesReader, HasRead, bytes_left, known_length}
 use Rattle.lnt_records.specs.Table.{BeginsWith, Fields, RecordsOf, column_names}
 
 -- ---- a record takes at least one byte

@@ -8,7 +8,7 @@ use Rattle.lnt_spans.specs.declared.answer.More.{More}
 use Rattle.lnt_spans.specs.declared.answer.Version.{Version}
 use Rattle.lnt_spans.specs.declared.answer.Version.TheVariants.{One, Two}
 use Rattle.lnt_spans.specs.declared.span.Span.{Span}
-use Rattle.lnt_records.specs.Table.{AreMore, Fields, IsFlag, IsOfKind, IsSound, IsSpanRecord, Kind, SaysSpan, address, column_count}
+use Rattle.lnt_records.specs.Table.{AreMore, Fields, IsFlag, IsOfColumn, IsOfKind, IsSpanRecord, Kind, SaysSpan, address, column_count}
 use Rattle.lnt_records.specs.Table.{decimal, flag, kinds}
 use Rattle.lnt_records.specs.Written.{IsPlainRecord}
 
@@ -51,7 +51,7 @@ each_holds Address Number Is version fields span h s (suc (suc (suc (suc (suc (s
     absurd (omega (arith, count_at_most version _ lt))
 
 pub sound_column : (version : Version) (fields : Fields) (span : Span) → IsSpanRecord version fields span → (i : ℕ)
-    → i < column_count version → IsSound fields i
+    → i < column_count version → IsOfColumn fields i
 sound_column version fields span s i lt =
     each_holds IsAddress IsDecimal IsOfKind version fields span
     (record { of_address = λ text n h. (n, h); of_number = λ text n h. (n, h); of_flag = λ text on h. (on, h) }) s i lt

@@ -15,7 +15,7 @@ use Rattle.lnt_spans.specs.Positions.{IsAtMost}
 use Rattle.lnt_spans.specs.Spans.{AreInOrder, is_in_span, span_answer, version_answer}
 use Rattle.lnt_records.specs.Written.{IsOfVersion}
 
-abbrev HasVersion : Version → Span → Type 0
+abbrev pub HasVersion : Version → Span → Type 0
 HasVersion version span = IsOfVersion version span.answer
 
 abbrev IsAnswer : Version → Option Answer → Type 0

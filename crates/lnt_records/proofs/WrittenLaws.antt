@@ -14,7 +14,7 @@ use Rattle.lnt_spans.proofs.FittingLaws.{AsTold, Extends, canonical_each, has_fi
 use Rattle.lnt_records.specs.Lines.{AreMoreFields}
 use Rattle.lnt_records.specs.Table.{Fields, IsFlag, column_names}
 use Rattle.lnt_records.specs.Written.{IsCanonicalTable, IsOfVersion, IsPlainRecord, IsWrittenTable, TellsAll, lines_text}
-use Rattle.lnt_records.proofs.JoinedLemmas.{HasVersion}
+use Rattle.lnt_records.proofs.VersionLaws.{HasVersion}
 use Rattle.lnt_records.proofs.LineLemmas.{more_said}
 use Rattle.lnt_records.proofs.WriteLemmas.{written_table}
 

@@ -11,15 +11,15 @@ use Rattle.lnt_records.specs.declared.stream.TableRead.{TableRead}
 use Rattle.lnt_records.specs.declared.stream.TableRead.TheVariants.{Compared as Read, Other}
 use Rattle.lnt_records.specs.declared.fault.TableFault.{TableFault}
 use Rattle.lnt_records.specs.declared.fault.TableFault.TheVariants as fault
-use Rattle.lnt_records.specs.Table.{BeginsWith, Fields, IsSound, IsSpanRecord, IsTable, IsTableOf, column_count, column_names}
+use Rattle.lnt_records.specs.Table.{BeginsWith, Fields, IsOfColumn, IsSpanRecord, IsTable, IsTableOf, column_count, column_names}
 
 -- ---- one record
 
 -- column i is the first whose field isn't of its kind
 pub record IsFaultyColumn (fields : Fields) (i : ℕ) : Type 0 where
   pub there : i < length fields
-  pub before : (k : ℕ) → k < i → IsSound fields k
-  pub faulty : IsSound fields i → ⊥
+  pub before : (k : ℕ) → k < i → IsOfColumn fields k
+  pub faulty : IsOfColumn fields i → ⊥
 
 -- After the records of these spans, the record with this number and these fields has this fault.
 abbrev pub IsFaulty : Version → List Span → ℕ → Fields → TableFault → Type 0

@@ -5,5 +5,7 @@ pub mod Laws
 pub mod Lines
 pub mod Passing
 pub mod Progress
+pub mod Reading
+pub mod Remaining
 pub mod Table
 pub mod Written

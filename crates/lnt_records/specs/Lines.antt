@@ -1,5 +1,4 @@
--- A table that is parsed line by line. Only the bodies of this crate use this, and those of the crate of tables by path use
--- what is said about the beginning of the bytes.
+-- A table that is parsed line by line. No public contract speaks of it.
 use Rattle.std.specs.Prelude.{◌≡◌, ℕ, Bool, List, [], ◌∷◌, ◌++◌, Option, Some, None}
 use Rattle.lnt_digits.specs.Digits.{IsAddress, IsDecimal, IsPlainAddress, IsPlainDecimal}
 use Rattle.lnt_spans.specs.declared.answer.Answer.{Answer}

@@ -1,5 +1,5 @@
--- How far the lines of a table from a source were passed. Only the bodies of this crate use this.
-use Rattle.std.specs.Prelude.{◌≡◌, ℕ, ◌+◌, ◌≤◌, Bool, true, false, List, [], ◌∷◌, ◌++◌, Option, IfSome, length}
+-- How far the lines of a table from a source were passed. No public contract speaks of it.
+use Rattle.std.specs.Prelude.{◌≡◌, ℕ, ◌+◌, ◌≤◌, List, ◌∷◌, ◌++◌, Option, IfSome, length}
 use Rattle.std.specs.List.{AllByRecursion, AllZip}
 use Rattle.csv.specs.Reading.{Reached, default_config, strip_bom}
 use Rattle.csv.specs.declared.parser.State.{State}
@@ -56,11 +56,6 @@ pub record HasPassed {S : Type 0} (to_come : S → List Span → Type 0) (merge 
   pub follows : Follows to_come merge version section table
 
 -- ---- where canonical spans leave off
-
--- These spans are left: those that the source has to come, or none if it is known to have ended.
-abbrev pub AreLeft : Bool → (List Span → Type 0) → List Span → Type 0
-AreLeft true to_come rest = rest ≡ []
-AreLeft false to_come rest = to_come rest
 
 -- The lines in `text` are the first spans of a list in order that answers as the section does, as far as the version tells.
 -- The list's other spans are to come, and the last span of the lines ends at `end`.

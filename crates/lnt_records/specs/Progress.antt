@@ -1,43 +1,32 @@
--- How far a table was read and compared. Only the bodies of this crate and of the crate of tables by path use this.
-use Rattle.std.specs.Prelude.{◌≡◌, ◌≢◌, ℕ, ◌+◌, ◌<◌, ◌≤◌, true, false, List, [], ◌∷◌, Option, Some, None, length, get_or, suc, ◌++◌}
-use Rattle.std.proofs.Common.{Bor}
-use Rattle.csv.specs.Machine.{ends_at_end}
-use Rattle.csv.specs.Reading.{Reached, Ready, default_config, is_flexible, reader_config, reader_state, reader_trim, source_of, strip_bom}
-use Rattle.csv.specs.declared.parser.State.TheVariants as state
-use Rattle.csv.specs.declared.reader.Reader.{Reader}
-use Rattle.csv.specs.declared.reader.Trim.TheVariants as trim
-use Rattle.lnt_spans.specs.declared.answer.Version.{Version}
-use Rattle.lnt_spans.specs.declared.span.Span.{Span}
-use Rattle.lnt_spans.specs.Comparing.{Compares, end_of}
-use Rattle.lnt_records.specs.declared.comparison.Comparison.{Comparison}
-use Rattle.lnt_spans.specs.declared.answer.Answer.{Answer}
-use Rattle.lnt_spans.specs.declared.position.Position.{Position}
+-- How far a table was read and compared. No public contract speaks of it.
+use Rattle.std.specs.Prelude.{◌≡◌, ◌≢◌, ℕ, ◌+◌, ◌<◌, List, [], ◌++◌, Option, length, get_or}
+use Rattle.std.specs.List.{AllZip}
+use Rattle.std.specs.Option.{option_map}
 use Rattle.lnt_digits.specs.Digits.{IsAddress, IsDecimal}
+use Rattle.lnt_spans.specs.declared.answer.Answer.{Answer}
+use Rattle.lnt_spans.specs.declared.answer.Version.{Version}
+use Rattle.lnt_spans.specs.declared.position.Position.{Position}
+use Rattle.lnt_spans.specs.declared.span.Span.{Span}
+use Rattle.lnt_spans.specs.Answers.{in_version}
+use Rattle.lnt_spans.specs.Comparing.{Compares, end_of}
+use Rattle.lnt_spans.specs.Spans.{AreInOrder, version_answer}
+use Rattle.lnt_records.specs.declared.comparison.Comparison.{Comparison}
+use Rattle.lnt_records.specs.declared.gather.Gathered.{Gathered}
+use Rattle.lnt_records.specs.declared.gather.Gathered.TheVariants as gathered
 use Rattle.lnt_records.specs.declared.record.RecordFault.{RecordFault}
 use Rattle.lnt_records.specs.declared.record.RecordFault.TheVariants as record_fault
 use Rattle.lnt_records.specs.Faults.{IsFaultyColumn, IsFault}
-use Rattle.lnt_records.specs.Table.{AreMore, Fields, IsFlag, IsSound, IsTable, Kind, column_count, decimal, kinds, IsTableOf}
-use Rattle.std.specs.List.{AllZip}
+use Rattle.lnt_records.specs.Table.{AreMore, Fields, IsFlag, IsOfColumn, IsTable, IsTableOf, Kind, column_count, decimal, kinds}
 use Rattle.lnt_records.specs.Written.{IsPlainRecord, line_text, lines_text}
-use Rattle.std.specs.Option.{option_map}
-use Rattle.lnt_spans.specs.Answers.{in_version}
-use Rattle.lnt_spans.specs.Spans.{AreInOrder, version_answer}
-use Rattle.lnt_records.specs.declared.gather.Gathered.{Gathered}
-use Rattle.lnt_records.specs.declared.gather.Gathered.TheVariants as gathered
 
 -- ---- one record
-
--- the fields from column i on are these names
-abbrev pub AreNamed : ℕ → Fields → Fields → Type 0
-AreNamed i [] fields = Unit {0}
-AreNamed i (name ∷ names) fields = (get_or fields i [] ≡ name) × AreNamed (suc i) names fields
 
 abbrev pub IsColumnOf : Kind → ℕ → Type 0
 IsColumnOf kind i = get_or kinds i decimal ≡ kind
 
 -- each field before column i is of its column's kind
 abbrev pub AreSoundBefore : Fields → ℕ → Type 0
-AreSoundBefore fields i = (k : ℕ) → k < i → IsSound fields k
+AreSoundBefore fields i = (k : ℕ) → k < i → IsOfColumn fields k
 
 -- the fault names the first column whose field isn't of its kind
 abbrev pub IsColumnFault : Fields → RecordFault → Type 0
@@ -65,30 +54,6 @@ pub record SaysAnswer (version : Version) (fields : Fields) (answer : Answer) : 
 
 -- ---- all records
 
--- a reader of bytes in memory
-abbrev pub BytesReader : Type 0
-BytesReader = Reader (Bor (List ℕ))
-
-abbrev pub bytes_left : BytesReader → Option (List ℕ)
-bytes_left reader = source_of (λ s. Some s.now) reader
-
-abbrev pub known_length : Option (List ℕ) → ℕ
-known_length None = 0
-known_length (Some bytes) = length bytes
-
--- The reader has read these records, the first ones of the bytes, and is between two records. It takes records with any
--- number of fields, so only a lack of memory can make it fail.
-pub record HasRead (reader : BytesReader) (bytes : List ℕ) (records : List Fields) : Type 0 where
-  pub config : reader_config reader ≡ default_config
-  pub flexible : is_flexible reader ≡ true
-  pub trim : reader_trim reader ≡ trim.None
-  pub ready : Ready reader
-  pub between : ends_at_end (reader_state reader) ≡ false
-  pub rest : List ℕ
-  pub left : bytes_left reader ≡ Some rest
-  pub reached : Reached default_config state.StartRecord (strip_bom bytes) records (reader_state reader) rest
-  pub few : length records + length rest ≤ length bytes
-
 -- These records are a table so far, and were compared with the spans of a section.
 pub record Judges {S : Type 0} (to_come : S → List Span → Type 0) (comparison : Comparison S) (section : List Span)
     (records : List Fields) : Type 0 where
@@ -114,8 +79,7 @@ pub record AddsRecords (version : Version) (spans : List Span) (old new : List �
 
 -- ---- differences so far
 
--- After the records of the spans in `table`, the bytes have the records of the gathered spans, or a fault. Only the bodies
--- of this crate use this.
+-- After the records of the spans in `table`, the bytes have the records of the gathered spans, or a fault.
 abbrev pub IsGathered : List ℕ → Version → List Span → Gathered → Type 0
 IsGathered bytes version table (gathered.Fault told) = IsFault bytes told
 IsGathered bytes version table (gathered.Spans spans) = IsTableOf version bytes (table ++ spans.items)

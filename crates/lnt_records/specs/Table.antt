@@ -1,5 +1,5 @@
 -- An address table, in terms of the records that `csv` reads from its bytes.
-use Rattle.std.specs.Prelude.{◌≡◌, ℕ, Bool, true, false, List, [], ◌∷◌, ◌++◌, Option, Some, None, length, get_or, codes}
+use Rattle.std.specs.Prelude.{◌≡◌, ℕ, Bool, true, false, List, [], ◌∷◌, ◌++◌, Option, Some, None, length, get_or, codes, suc}
 use Rattle.std.specs.List.{AllZip}
 use Rattle.csv.specs.Reading.{AreRecords, Reached, default_config, strip_bom}
 use Rattle.csv.specs.declared.parser.State.{State}
@@ -31,6 +31,11 @@ abbrev pub column_count : Version → ℕ
 column_count One = 9
 column_count Two = 11
 
+-- the fields from column i on are these names
+abbrev pub AreNamed : ℕ → Fields → Fields → Type 0
+AreNamed i [] fields = Unit {0}
+AreNamed i (name ∷ names) fields = (get_or fields i [] ≡ name) × AreNamed (suc i) names fields
+
 -- the kinds of columns
 pub data Kind : Type 0 where
   address : Kind
@@ -51,8 +56,8 @@ IsOfKind decimal text = (n : ℕ) × IsDecimal text n
 IsOfKind flag text = (on : Bool) × IsFlag text on
 
 -- the field in column i is of the column's kind
-abbrev pub IsSound : Fields → ℕ → Type 0
-IsSound fields i = IsOfKind (get_or kinds i decimal) (get_or fields i [])
+abbrev pub IsOfColumn : Fields → ℕ → Type 0
+IsOfColumn fields i = IsOfKind (get_or kinds i decimal) (get_or fields i [])
 
 -- ---- a span's record
 

@@ -6,7 +6,8 @@ ghost use Rattle.lnt_spans.specs.declared.position.Position.{Position};
 ghost use Rattle.lnt_spans.specs.Spans.{AreInOrder, version_answer};
 ghost use Rattle.lnt_records.specs.Faults.{IsComparison, IsFaulty};
 ghost use Rattle.lnt_records.specs.Passing.{IsCut};
-ghost use Rattle.lnt_records.specs.Progress.{HasRead, Judges};
+ghost use Rattle.lnt_records.specs.Progress.{Judges};
+ghost use Rattle.lnt_records.specs.Reading.{HasRead};
 ghost use Rattle.lnt_records.specs.Table.{BeginsWith, Fields, IsSpanRecord, IsTable, column_names};
 
 use crate::fault::TableFault;

@@ -100,7 +100,7 @@ pub fn differ_or_take<S: SpanSource + Drop, T: Source>(
     window.fill(alloc, table)?;
     let Some(version) = pass_header(&mut window) else {
         let text = window.rest_after(alloc, &[], table)?;
-        return differ_taken(alloc, text, spans);
+        return told(differ_taken(alloc, text, spans));
     };
     let passed = pass_spans::<S, T, Differing<S>>(alloc, spans, version, table, &mut window)?;
     let text = window.rest_after(alloc, header_line(version), table)?;
@@ -115,23 +115,20 @@ fn differ_taken<S: SpanSource + Drop>(
     alloc: Global,
     text: Vec<u8>,
     spans: S,
-) -> Result<DifferingRead<S>, Stop>
+) -> Result<DifferingRead<S>, AllocError>
     requires { (list : List Span) × S.to_come spans list × AreInOrder list }
     ensures ok { IfOk result (λ read. (list : List Span) (section : Place → Option Answer) → S.to_come spans list → AreInOrder list
         → ((p : Place) → span_answer list p ≡ section p)
         → IsDifferingRead ⟦<Remaining<S> as SpanSource>⟧.to_come ⟦<SpanList as SpanSource>⟧.to_come text.items section read) }
     ensures started { IfOk result (λ read. IsStartedRead ⟦<Remaining<S> as SpanSource>⟧.to_come ⟦<SpanList as SpanSource>⟧.to_come
         read) }
-    ensures not_read { IsErrOf result Stop.Read → ⊥ }
-    ensures not_long { IsErrOf result Stop.TooLong → ⊥ }
 {
-    match header_of(alloc, &text) {
-        Ok(Some(version)) => {
-            let differing = told(differ_text(alloc, &text, spans, version))?;
+    match header_of(alloc, &text)? {
+        Some(version) => {
+            let differing = differ_text(alloc, &text, spans, version)?;
             Ok(DifferingRead::Differing(differing))
         }
-        Ok(None) => Ok(DifferingRead::Other(text)),
-        Err(AllocError) => Err(Stop::Memory),
+        None => Ok(DifferingRead::Other(text)),
     }
 }
 

@@ -4,7 +4,8 @@ ghost use Rattle.csv.specs.Records.{fields_of};
 ghost use Rattle.lnt_spans.specs.declared.span.Span.{Span};
 ghost use Rattle.lnt_records.specs.Progress.{IsGathered};
 ghost use Rattle.lnt_records.specs.Passing.{IsCut};
-ghost use Rattle.lnt_records.specs.Progress.{HasRead, Judges};
+ghost use Rattle.lnt_records.specs.Progress.{Judges};
+ghost use Rattle.lnt_records.specs.Reading.{HasRead};
 ghost use Rattle.lnt_records.specs.Table.{BeginsWith, Fields, column_names};
 
 use crate::comparison::Comparison;

@@ -4,8 +4,7 @@ ghost use Rattle.std.specs.Bool.{MatchBool};
 ghost use Rattle.csv.specs.Records.{fields_of};
 ghost use Rattle.lnt_spans.specs.declared.answer.Version.{Version};
 ghost use Rattle.lnt_spans.specs.declared.answer.Version.TheVariants as version;
-ghost use Rattle.lnt_records.specs.Progress.{AreNamed};
-ghost use Rattle.lnt_records.specs.Table.{column_count, column_names, common_names};
+ghost use Rattle.lnt_records.specs.Table.{AreNamed, column_count, column_names, common_names};
 ghost use Rattle.lnt_records.specs.Written.{line_text};
 
 use crate::column::is_field;

@@ -3,7 +3,7 @@ ghost use Rattle.std.specs.Prelude.{◌≡◌, ◌<◌, ℕ, true, List, [], ◌
 ghost use Rattle.std.specs.Bool.{MatchBool};
 ghost use Rattle.csv.specs.Records.{fields_of};
 ghost use Rattle.lnt_spans.specs.declared.answer.Version.{Version};
-ghost use Rattle.lnt_records.specs.Progress.{HasRead, bytes_left, known_length};
+ghost use Rattle.lnt_records.specs.Reading.{HasRead, bytes_left, known_length};
 ghost use Rattle.lnt_records.specs.Table.{BeginsWith, Fields, RecordsOf, column_names};
 
 use crate::header::version_of;

@@ -3,7 +3,7 @@ ghost use Rattle.std.specs.Prelude.{◌≡◌, ◌+◌, List, [], true, false, S
 ghost use Rattle.std.specs.List.{cons_option};
 ghost use Rattle.lnt_spans.specs.declared.span.Span.{Span};
 ghost use Rattle.lnt_spans.specs.Spans.{span_in_version};
-ghost use Rattle.lnt_records.specs.Passing.{AreLeft};
+ghost use Rattle.lnt_records.specs.Remaining.{AreLeft};
 
 use lnt_spans::{Span, SpanSource, Version};
 

@@ -81,7 +81,7 @@ pub fn compare_or_take<S: SpanSource + Drop, T: Source>(
     window.fill(alloc, table)?;
     let Some(version) = pass_header(&mut window) else {
         let text = window.rest_after(alloc, &[], table)?;
-        return compare_taken(alloc, text, spans);
+        return told(compare_taken(alloc, text, spans));
     };
     let passed = pass_spans::<S, T, Compared>(alloc, spans, version, table, &mut window)?;
     let mut merge = Merge::past(passed.spans, version, passed.end);
@@ -97,18 +97,15 @@ fn compare_taken<S: SpanSource + Drop>(
     alloc: Global,
     text: Vec<u8>,
     spans: S,
-) -> Result<TableRead, Stop>
+) -> Result<TableRead, AllocError>
     requires { (list : List Span) × S.to_come spans list × AreInOrder list }
-    ensures ok { IfOk result (λ read. (list : List Span) → S.to_come spans list → AreInOrder list → IsTableRead text.items list read) }
-    ensures not_read { IsErrOf result Stop.Read → ⊥ }
-    ensures not_long { IsErrOf result Stop.TooLong → ⊥ }
+    ensures { IfOk result (λ read. (list : List Span) → S.to_come spans list → AreInOrder list → IsTableRead text.items list read) }
 {
-    match header_of(alloc, &text) {
-        Ok(Some(_)) => {
-            let compared = told(compare_records(alloc, &text, spans))?;
+    match header_of(alloc, &text)? {
+        Some(_) => {
+            let compared = compare_records(alloc, &text, spans)?;
             Ok(TableRead::Compared(compared))
         }
-        Ok(None) => Ok(TableRead::Other(text)),
-        Err(AllocError) => Err(Stop::Memory),
+        None => Ok(TableRead::Other(text)),
     }
 }

@@ -11,9 +11,10 @@ use Rattle.lnt_sequences.specs.declared.watch.MissingFile.{MissingFile}
 use Rattle.lnt_sequences.specs.declared.watch.Watch.{Watch}
 use Rattle.lnt_sequences.specs.Extents.{extents_of}
 use Rattle.lnt_sequences.specs.Sequences.{Placed}
-use Rattle.lnt_sequences.specs.Watching.{closed, CollectsRows, counted, current_of, extent_from, extent_shown, fall_shown}
-use Rattle.lnt_sequences.specs.Watching.{falls_after, file_shown, gone_on, grown, HasSeen, longer, names_no_file, next}
-use Rattle.lnt_sequences.specs.Watching.{noted, shown, start, Walk, walked}
+use Rattle.lnt_sequences.specs.Stepping.{counted, gone_on, noted}
+use Rattle.lnt_sequences.specs.Watching.{closed, CollectsRows, current_of, extent_from, extent_shown, fall_shown}
+use Rattle.lnt_sequences.specs.Watching.{falls_after, file_shown, grown, HasSeen, longer, names_no_file, next}
+use Rattle.lnt_sequences.specs.Watching.{shown, start, Walk, walked}
 use Rattle.lnt_sequences.proofs.WalkLaws.{first_shown-push, last_after-push, shown-push, walked-append, walked-rows}
 
 -- ---- where the rows have come to

@@ -1,4 +1,4 @@
--- Extents without copies, and an order in which copies stand together.
+-- Extents without copies, and an order in which copies stand together. No public contract speaks of it.
 use Rattle.std.specs.Prelude.{◌≡◌, ℕ, ◌+◌, ◌<◌, Bool, true, false, not, ◌&&◌, List, length, slice_index_or}
 use Rattle.std.specs.List.{filter, list_any}
 use Rattle.lnt_spans.specs.Positions.{IsAtMost}

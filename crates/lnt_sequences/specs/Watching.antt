@@ -1,8 +1,8 @@
--- What a watch has seen of a unit's rows, and what is collected of them.
+-- What a watch has seen of a unit's rows, and what is collected of them, told row by row as a watch remembers them.
 --
--- A caller needs Collects, HasSeen, HasSeenAll and CollectsRows alone. What they say of a whole unit stands in the
--- contracts of `missing_file` and `falls`, and in the law `collected_unit`.
-use Rattle.std.specs.Prelude.{◌≡◌, ℕ, ◌+◌, ◌-◌, ◌^◌, ◌<◌, Bool, false, not, cond, ◌&&◌, nat_le, min, List, [], ◌∷◌}
+-- A caller needs Collects, HasSeen, HasSeenAll and CollectsRows alone. What they come to once all rows of a unit were seen
+-- is said without a watch, in the contracts of `missing_file` and `falls` and in the law `collected_unit`.
+use Rattle.std.specs.Prelude.{◌≡◌, ℕ, ◌+◌, ◌^◌, ◌<◌, Bool, false, not, cond, ◌&&◌, nat_le, List, [], ◌∷◌}
 use Rattle.std.specs.Prelude.{◌++◌, length, Option, Some, None}
 use Rattle.std.specs.Option.{option_or}
 use Rattle.lnt_machine.specs.declared.row.Row.{Row}
@@ -14,17 +14,13 @@ use Rattle.lnt_sequences.specs.declared.watch.Current.{Current}
 use Rattle.lnt_sequences.specs.declared.watch.MissingFile.{MissingFile}
 use Rattle.lnt_sequences.specs.declared.watch.Watch.{Watch}
 use Rattle.lnt_sequences.specs.Extents.{extent_between, extents_of}
-use Rattle.lnt_sequences.specs.Sequences as sequence
-use Rattle.lnt_sequences.specs.Sequences.{position_of, Placed}
+use Rattle.lnt_sequences.specs.Sequences.{begins_live, position_of, Placed}
 
 -- It is collected of these sequences: the extents of those that hold anything.
 pub record Collects (collected : Collected) (sequences : List Placed) : Type 0 where
   pub extents : collected.extents.items ≡ extents_of sequences
 
 -- ---- one more row
-
-abbrev pub begins_live : Option ℕ → Row → Bool
-begins_live dead row = sequence.begins_live dead row
 
 -- the sequence that hasn't ended, with one more row
 abbrev pub grown : Option ℕ → Option Current → Row → Current
@@ -45,26 +41,6 @@ falls_after (Some current) row = is_below (position_of row) current.last
 -- whether a row that is no end row names a file that isn't among so many
 abbrev pub names_no_file : ℕ → Row → Bool
 names_no_file files row = not row.end_sequence && nat_le files row.file
-
--- a watch that has looked at one more row, of a sequence that is live or not
-abbrev pub noted : Watch → Row → Bool → Watch
-noted watch row live = record watch {
-  falls = option_or watch.falls (cond (live && falls_after watch.current row) (Some watch.rows) None);
-  missing_file = option_or watch.missing_file
-      (cond (live && names_no_file watch.files row) (Some (record { row = watch.rows; file = row.file })) None);
-}
-
--- one more, up to the greatest number
-abbrev pub counted : ℕ → ℕ
-counted n = min (n + 1) (2 ^ 64 - 1)
-
--- a watch that counts one more row, with which its sequence is as given
-abbrev pub gone_on : Watch → Row → Current → Watch
-gone_on watch row current = record watch {
-  rows = counted watch.rows;
-  ended = cond row.end_sequence (counted watch.ended) watch.ended;
-  current = cond row.end_sequence None (Some current);
-}
 
 -- ---- rows, one after another
 

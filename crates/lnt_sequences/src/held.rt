@@ -39,8 +39,8 @@ pub fn holder(extents: &[Extent], position: Position, probes: &mut Probes) -> Op
     None
 }
 
-/// The last row of a sequence that isn't above the position.
-pub fn row_at(rows: SequenceRows<'_>, position: Position) -> Option<Row>
+// The last row of a sequence that isn't above the position.
+fn row_at(rows: SequenceRows<'_>, position: Position) -> Option<Row>
     ensures { (list : List spec.Row) → WillGive list rows.entry → result ≡ sequence.row_at position list }
 {
     let mut found = None;

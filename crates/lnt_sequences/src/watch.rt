@@ -3,7 +3,9 @@ ghost use Rattle.std.specs.Prelude.{◌≡◌, ℕ, ◌∷◌, ◌++◌, [], Lis
 ghost use Rattle.lnt_machine.specs.declared.row.Row.{Row};
 ghost use Rattle.lnt_sequences.specs.Evidence.{IsFirstFall, IsFirstMissingFile};
 ghost use Rattle.lnt_sequences.specs.Rules.{AreOrdered, HaveFiles};
+ghost use Rattle.lnt_sequences.specs.Sequences as sequence;
 ghost use Rattle.lnt_sequences.specs.Sequences.{Placed, live_of, placed_rows};
+ghost use Rattle.lnt_sequences.specs.Stepping as step;
 ghost use Rattle.lnt_sequences.specs.Watching as spec;
 ghost use Rattle.lnt_sequences.specs.Watching.{CollectsRows, HasSeen, HasSeenAll};
 
@@ -134,7 +136,7 @@ impl Watch {
     // Remembers the next row if its sequence is live, and it is the first that falls, or the first whose file isn't there.
     #[inline(always)]
     fn note(&mut self, row: &Row, live: bool)
-        ensures { self.new ≡ spec.noted self.old row.now live }
+        ensures { self.new ≡ step.noted self.old row.now live }
     {
         if live && falls_after(&self.current, row) {
             self.falls = self.falls.or(Some(self.rows));
@@ -151,7 +153,7 @@ impl Watch {
     // Counts the row. Its sequence, with the row, goes on, unless it is an end row.
     #[inline(always)]
     fn go_on(&mut self, row: &Row, current: Current)
-        ensures { self.new ≡ spec.gone_on self.old row.now current }
+        ensures { self.new ≡ step.gone_on self.old row.now current }
     {
         self.rows = self.rows.saturating_add(1);
         if row.end_sequence {
@@ -184,7 +186,7 @@ fn grown(dead: Option<u64>, current: Option<Current>, row: &Row) -> Current
 // Whether the sequence that begins with this row is live.
 #[inline(always)]
 fn begins_live(dead: Option<u64>, row: &Row) -> bool
-    ensures { result ≡ spec.begins_live dead row.now }
+    ensures { result ≡ sequence.begins_live dead row.now }
 {
     match dead {
         Some(marker) => row.address != marker,

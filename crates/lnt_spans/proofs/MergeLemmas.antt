@@ -20,7 +20,7 @@ use Rattle.lnt_spans.specs.Comparing.{IsCompared, IsComparedBy, IsTold, Merging,
 use Rattle.lnt_spans.specs.Stepping.{IsNext}
 use Rattle.lnt_spans.specs.Differences.{IsLeastDifference}
 use Rattle.lnt_spans.specs.Positions.{IsBelow, IsAtMost}
-use Rattle.lnt_spans.specs.Scanning.{EndsAfter}
+use Rattle.lnt_spans.specs.Remaining.{EndsAfter}
 use Rattle.lnt_spans.specs.Stepping.{DiffersFirst, IsScanned, Says}
 use Rattle.lnt_spans.specs.Spans.{AreInOrder, span_answer, span_in_version, version_answer}
 use Rattle.lnt_spans.proofs.ScanLemmas.{begins_with, first_is, first_says, gap_says, next_after}
@@ -31,7 +31,7 @@ use Rattle.lnt_spans.proofs.PositionLaws.{below_is_at_most, not_both, order_case
 
 -- ---- one more record, and the order
 
-origin_first : (p : Position) → IsAtMost (record { address = 0; op = 0 }) p
+pub origin_first : (p : Position) → IsAtMost (record { address = 0; op = 0 }) p
 origin_first p = record { address = omega arith; op = λ e. omega arith }
 
 record Follows (records : List Span) (span : Span) : Type 0 where

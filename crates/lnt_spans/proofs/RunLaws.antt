@@ -7,11 +7,11 @@ use Rattle.std.specs.Option.{option_map}
 use Rattle.lnt_spans.specs.declared.answer.Answer.{Answer}
 use Rattle.lnt_spans.specs.declared.position.Position.{Position}
 use Rattle.lnt_spans.specs.declared.span.Span.{Span}
+use Rattle.lnt_spans.specs.AnyStretches.{AreAnswers, Stay}
 use Rattle.lnt_spans.specs.Positions.{IsBelow, IsAtMost}
-use Rattle.lnt_spans.specs.Scanning.{EndsAfter}
+use Rattle.lnt_spans.specs.Remaining.{EndsAfter}
 use Rattle.lnt_spans.specs.Spans.{AreInOrder, span_answer}
 use Rattle.lnt_spans.specs.Stepping.{BeginsWith, IsBefore, IsRun, IsUpTo, run_end}
-use Rattle.lnt_spans.specs.Stretches.{AreAnswers, Stay}
 use Rattle.lnt_spans.proofs.AnsweringLaws.{answer_after, answer_in, first_holds, none_before, rest_in_order}
 use Rattle.lnt_spans.proofs.PositionLaws.{at_most_below, at_most_itself, at_most_trans, below_at_most, below_is_at_most}
 use Rattle.lnt_spans.proofs.PositionLaws.{order_cases, order_three, test_below, test_not_below}

@@ -1,31 +1,32 @@
--- The stretches, given one after another as the spans of both sides come.
-use Rattle.std.proofs.Common.{◌≡◌, ◌≢◌, ◌∙◌, List, [], ◌∷◌, ◌++◌, ◌⊎◌, inl}
-use Rattle.std.proofs.Common.{inr, refl, ap, sym, subst, Some, None, Option, arith}
+-- The spans of both sides, passed as their stretches are told, and where nothing is told yet.
+use Rattle.std.proofs.Common.{◌≡◌, ◌∙◌, List, [], ◌∷◌, ◌++◌, inl}
+use Rattle.std.proofs.Common.{inr, refl, ap, sym, subst, Some, None, Option}
 use Rattle.std.specs.List.{AllByRecursion}
 use Rattle.std.specs.Option.{option_map}
 use Rattle.lnt_spans.specs.declared.ahead.Ahead.{Ahead}
 use Rattle.lnt_spans.specs.declared.answer.Answer.{Answer}
 use Rattle.lnt_spans.specs.declared.answer.Version.{Version}
-use Rattle.lnt_spans.specs.declared.difference.Difference.{Difference}
 use Rattle.lnt_spans.specs.declared.position.Position.{Position}
 use Rattle.lnt_spans.specs.declared.span.Span.{Span}
 use Rattle.lnt_spans.specs.Answers.{in_version}
 use Rattle.lnt_spans.specs.Ahead.{IsAhead}
+use Rattle.lnt_spans.specs.AnyStretches.{AreRising, IsInOne, Stretch}
 use Rattle.lnt_spans.specs.Stepping.{BeginsWith}
 use Rattle.lnt_spans.specs.Comparing.{IsTold, end_of}
-use Rattle.lnt_spans.specs.Differing.{AreToldBelow, HasTold, IsOpen, IsSide}
+use Rattle.lnt_spans.specs.Differing.{HasTold, IsSideAt}
 use Rattle.lnt_spans.specs.Positions.{IsBelow, IsAtMost}
-use Rattle.lnt_spans.specs.Scanning.{EndsAfter}
+use Rattle.lnt_spans.specs.Remaining.{EndsAfter}
 use Rattle.lnt_spans.specs.Spans.{AreInOrder, span_answer, version_answer}
 use Rattle.lnt_spans.specs.Stepping.{IsRun, IsUpTo, run_end}
-use Rattle.lnt_spans.specs.Stretches.{AreRising, BeginsStretch, IsInOne, IsInStretch, Stay}
+use Rattle.lnt_spans.specs.Stretches.{stretch_of, stretches_of}
 use Rattle.lnt_spans.proofs.AnsweringLaws.{answer_after, answer_same, back_in_order, first_holds}
 use Rattle.lnt_spans.proofs.AnsweringLaws.{front_in_order, rest_in_order, rest_none}
-use Rattle.lnt_spans.proofs.PositionLaws.{at_most_below, at_most_itself, at_most_trans, below_at_most}
-use Rattle.lnt_spans.proofs.PositionLaws.{below_is_at_most, not_both, order_cases}
+use Rattle.lnt_spans.proofs.MergeLemmas.{origin_first}
+use Rattle.lnt_spans.proofs.PositionLaws.{at_most_below, at_most_itself, at_most_trans, below_is_at_most, not_both}
 use Rattle.lnt_spans.specs.Laws.{FirstStretch}
-use Rattle.lnt_spans.proofs.RunLaws.{Moves, after_high, last_answers, same_run, stay_on, up_to_high}
+use Rattle.lnt_spans.proofs.RunLaws.{after_high, same_run, up_to_high}
 use Rattle.lnt_spans.proofs.ToldLaws.{told, told_answer}
+use Rattle.lnt_spans.proofs.ToldStretchLaws.{told_none}
 use Rattle.lnt_spans.proofs.ScanLemmas.{begins_with, first_is, next_after}
 
 -- ---- one side
@@ -33,8 +34,8 @@ use Rattle.lnt_spans.proofs.ScanLemmas.{begins_with, first_is, next_after}
 pub side_passed : {S : Type 0} (to_come : S → List Span → Type 0) (version : Version) (old new : Ahead S) (span : Span) (at end : Position)
     (answers : Position → Option Answer) → old.next ≡ Some span → IsAtMost span.high end
     → ((first : Span) (more : List Span) → IsAhead to_come old (first ∷ more) → IsAhead to_come new more)
-    → IsSide to_come version old at answers → IsAtMost at end → IsUpTo end (run_end at old.next)
-    → IsSide to_come version new end answers
+    → IsSideAt to_come version old at answers → IsAtMost at end → IsUpTo end (run_end at old.next)
+    → IsSideAt to_come version new end answers
 side_passed to_come version old new span at end answers some high passes s le up =
     let first = first_is old.next span s.rest some (begins_with to_come old s.rest s.coming) in
     let order : AreInOrder (span ∷ first.0) = subst AreInOrder first.1 s.order in
@@ -50,112 +51,6 @@ side_passed to_come version old new span at end answers some high passes s le up
           ∙ ap (λ (xs : List Span). version_answer version xs p) (sym first.1) ∙ s.same p (at_most_trans le h);
     }
 
--- ---- what is told
-
-pub in_one_more : (f g : Position → Option Answer) (told more : List Difference) (p : Position) → IsInOne f g told p
-    → IsInOne f g (told ++ more) p
-in_one_more f g [] more p h = absurd h
-in_one_more f g (d ∷ told) more p (inl h) = inl h
-in_one_more f g (d ∷ told) more p (inr h) = inr (in_one_more f g told more p h)
-
-pub in_last : (f g : Position → Option Answer) (told : List Difference) (d : Difference) (p : Position) → IsInStretch f g d p
-    → IsInOne f g (told ++ d ∷ []) p
-in_last f g [] d p h = inl h
-in_last f g (e ∷ told) d p h = inr (in_last f g told d p h)
-
-all_push : (P : Difference → Type 0) (told : List Difference) (d : Difference) → AllByRecursion P told → P d
-    → AllByRecursion P (told ++ d ∷ [])
-all_push P [] d h k = (k, tt)
-all_push P (e ∷ told) d h k = (h.0, all_push P told d h.1 k)
-
-all_below : (told : List Difference) (at end : Position) → IsAtMost at end → AllByRecursion (λ (d : Difference). IsBelow d.position at) told
-    → AllByRecursion (λ (d : Difference). IsBelow d.position end) told
-all_below [] at end le h = tt
-all_below (d ∷ told) at end le h = (below_at_most h.0 le, all_below told at end le h.1)
-
-rising_push : (told : List Difference) (d : Difference) → AreRising told
-    → AllByRecursion (λ (e : Difference). IsBelow e.position d.position) told → AreRising (told ++ d ∷ [])
-rising_push [] d r h = tt
-rising_push (e ∷ []) d r h = (h.0, tt)
-rising_push (e ∷ next ∷ told) d r h = (r.0, rising_push (next ∷ told) d r.1 h.1)
-
--- at a position in the run: the last stretch still holds it
-pub told_on : (f g : Position → Option Answer) (at end : Position) (s t : Option Answer) (told : List Difference)
-    → AreToldBelow f g at s t told → IsBelow at end → Stay f g s t at end
-    → AreToldBelow f g end s t told
-told_on f g at end s t told b lt stay = record {
-  each = b.each;
-  rising = b.rising;
-  below = all_below told at end (below_is_at_most lt) b.below;
-  all = λ p h. elim (order_cases p at) [ inl early ↦ b.all p early | inr late ↦ here p late h b.going ];
-  going = later b.going;
-  last = last_answers f g at end s t lt stay;
-}
-  where
-    here : (p : Position) → IsAtMost at p → IsBelow p end → (s ≡ t) ⊎ IsOpen f g at s t told → (f p ≡ g p) ⊎ IsInOne f g told p
-    here p late h (inl same) = let a = stay p late h in inl (a.section ∙ same ∙ sym a.table)
-    here p late h (inr going) = inr (going p late (λ q k l. stay q k (below_at_most l (below_is_at_most h))) (stay p late h))
-
-    later : (s ≡ t) ⊎ IsOpen f g at s t told → (s ≡ t) ⊎ IsOpen f g end s t told
-    later (inl same) = inl same
-    later (inr going) = inr (λ p h more is. going p (at_most_trans (below_is_at_most lt) h) (stay_on f g s t at end p stay more) is)
-
--- both sides answer alike up to the end: no stretch
-pub told_alike : (f g : Position → Option Answer) (at end : Position) (s t s' t' : Option Answer) (told : List Difference)
-    → AreToldBelow f g at s t told → IsBelow at end → Stay f g s' t' at end → s' ≡ t'
-    → AreToldBelow f g end s' t' told
-told_alike f g at end s t s' t' told b lt stay same = record {
-  each = b.each;
-  rising = b.rising;
-  below = all_below told at end (below_is_at_most lt) b.below;
-  all = λ p h. elim (order_cases p at)
-      [ inl early ↦ b.all p early | inr late ↦ let a = stay p late h in inl (a.section ∙ same ∙ sym a.table) ];
-  going = inl same;
-  last = last_answers f g at end s' t' lt stay;
-}
-
--- a new stretch begins
-pub told_new : (f g : Position → Option Answer) (at end : Position) (s t s' t' : Option Answer) (told : List Difference)
-    → AreToldBelow f g at s t told → IsBelow at end → Stay f g s' t' at end
-    → t' ≢ s' → (s' ≡ s → t' ≡ t → ⊥) → AreToldBelow f g end s' t' (told ++ (record { position = at; by_table = t'; by_section = s' }) ∷ [])
-told_new f g at end s t s' t' told b lt stay differ other =
-    let d : Difference = record { position = at; by_table = t'; by_section = s' } in
-    record {
-      each = all_push (BeginsStretch f g) told d b.each
-          (record { here = stay at (at_most_itself at) lt; differ = differ; longest = longest });
-      rising = rising_push told d b.rising b.below;
-      below = all_push (λ (e : Difference). IsBelow e.position end) told d (all_below told at end (below_is_at_most lt) b.below) lt;
-      all = λ p h. elim (order_cases p at) [
-        | inl early ↦ elim (b.all p early) [ inl same ↦ inl same | inr one ↦ inr (in_one_more f g told (d ∷ []) p one) ]
-        | inr late ↦ inr (in_last f g told d p
-            (record { past = late; stay = λ q k l. stay q k (below_at_most l (below_is_at_most h)); here = stay p late h }))
-      ];
-      going = inr (λ p h more is. in_last f g told d p
-          (record { past = at_most_trans (below_is_at_most lt) h; stay = stay_on f g s' t' at end p stay more; here = is }));
-      last = last_answers f g at end s' t' lt stay;
-    }
-  where
-    longest : (p : Position) → IsBelow p at → Stay f g s' t' p at → ⊥
-    longest p below so =
-        let l = b.last p below in
-        let a = so l.0 l.1 l.2 in
-        elim l.3 [
-          | inl same ↦ differ (sym a.table ∙ sym same ∙ a.section)
-          | inr old ↦ other (sym a.section ∙ old.section) (sym a.table ∙ old.table)
-        ]
-
--- at the start: both sides answer alike up to there
-pub told_none : (f g : Position → Option Answer) (at : Position) → ((p : Position) → IsBelow p at → f p ≡ g p)
-    → AreToldBelow f g at None None []
-told_none f g at same = record {
-  each = tt;
-  rising = tt;
-  below = tt;
-  all = λ p h. inl (same p h);
-  going = inl refl;
-  last = λ p h. (p, at_most_itself p, h, inl (same p h));
-}
-
 -- ---- a step
 
 -- the answer of one side, and its end
@@ -165,23 +60,13 @@ Runs version next at answer end =
     → IsRun (version_answer version spans) at answer end
 
 pub side_run : {S : Type 0} (to_come : S → List Span → Type 0) (version : Version) (ahead : Ahead S) (at : Position)
-    (answers : Position → Option Answer) (answer : Option Answer) (end : Option Position) → IsSide to_come version ahead at answers
+    (answers : Position → Option Answer) (answer : Option Answer) (end : Option Position) → IsSideAt to_come version ahead at answers
     → Runs version ahead.next at answer end → IsRun answers at answer end
 side_run to_come version ahead at answers answer end s runs =
     same_run (version_answer version s.rest) answers at answer end s.same
     (runs s.rest (begins_with to_come ahead s.rest s.coming) s.order s.past)
 
-pub step_known : (f g : Position → Option Answer) (at end : Position) (s t s' t' : Option Answer) (told : List Difference)
-    → AreToldBelow f g at s t told → Moves f g at end s' t'
-    → (s' ≡ t') ⊎ (s' ≡ s) × (t' ≡ t) → AreToldBelow f g end s' t' told
-step_known f g at end s t s' t' told b m (inl same) = told_alike f g at end s t s' t' told b m.below m.stay same
-step_known f g at end s t s' t' told b m (inr same) =
-    rw (same.0, same.1) (told_on f g at end s t told b m.below (rw (same.0, same.1) at m.stay))
-
 -- ---- where nothing is told
-
-origin_first : (p : Position) → IsAtMost (record { address = 0; op = 0 }) p
-origin_first p = record { address = omega arith; op = λ e. omega arith }
 
 -- the spans after some others end after them
 ends_after : (passed more : List Span) → AreInOrder (passed ++ more) → EndsAfter (end_of passed) more
@@ -262,11 +147,12 @@ told_after of_section of_table section table version at f passed spans records a
 
 -- ---- the first stretch
 
-not_earlier : (f g : Position → Option Answer) (d : Difference) (list : List Difference) (p : Position) → AreRising (d ∷ list)
-    → IsInOne f g (d ∷ list) p → IsAtMost d.position p
-not_earlier f g d list p rising (inl h) = h.past
-not_earlier f g d [] p rising (inr h) = absurd h
-not_earlier f g d (e ∷ list) p rising (inr h) = at_most_trans (below_is_at_most rising.0) (not_earlier f g e list p rising.1 h)
+not_earlier : {X : Type 0} (f g : Position → Option X) (s : Stretch X) (stretches : List (Stretch X)) (p : Position)
+    → AreRising (s ∷ stretches) → IsInOne f g (s ∷ stretches) p → IsAtMost s.position p
+not_earlier f g s stretches p rising (inl h) = h.past
+not_earlier f g s [] p rising (inr h) = absurd h
+not_earlier f g s (next ∷ stretches) p rising (inr h) =
+    at_most_trans (below_is_at_most rising.0) (not_earlier f g next stretches p rising.1 h)
 
 pub first_stretch : FirstStretch
 first_stretch f g [] h = λ p. elim (h.all p) [ inl same ↦ same | inr one ↦ absurd one ]
@@ -274,5 +160,5 @@ first_stretch f g (d ∷ list) h = record {
   section = sym h.each.0.here.section;
   table = sym h.each.0.here.table;
   differ = h.each.0.differ;
-  least = λ p below. elim (h.all p) [ inl same ↦ same | inr one ↦ absurd (not_both below (not_earlier f g d list p h.rising one)) ];
+  least = λ p below. elim (h.all p) [ inl same ↦ same | inr one ↦ absurd (not_both below (not_earlier f g (stretch_of d) (stretches_of list) p h.rising one)) ];
 }

@@ -1,14 +1,14 @@
--- Spans that come one after another, with one span of lookahead. Only the bodies of this crate use this.
-use Rattle.std.specs.Prelude.{◌≡◌, ℕ, ◌+◌, cond, List, [], ◌∷◌, Option, Some, None}
+-- Spans that come one after another, the next one already at hand: which are still to come, and how many at most.
+use Rattle.std.specs.Prelude.{ℕ, ◌+◌, cond, List, Option, Some, None}
 use Rattle.lnt_spans.specs.declared.position.Position.{Position}
 use Rattle.lnt_spans.specs.declared.span.Span.{Span}
 use Rattle.lnt_spans.specs.declared.ahead.Ahead.{Ahead}
 use Rattle.lnt_spans.specs.Positions.{is_below}
+use Rattle.lnt_spans.specs.Remaining.{IsLeft}
 
 -- These spans, the one at hand included, are still to come.
 abbrev pub IsAhead : {S : Type 0} → (S → List Span → Type 0) → Ahead S → List Span → Type 0
-IsAhead to_come ahead [] = ahead.next ≡ None
-IsAhead to_come ahead (span ∷ spans) = (ahead.next ≡ Some span) × to_come ahead.spans spans
+IsAhead to_come ahead spans = IsLeft to_come ahead.next ahead.spans spans
 
 -- ---- how many there are at most
 

@@ -1,4 +1,4 @@
--- The state of a bisection over spans in order: which spans may still hold the position.
+-- The state of a bisection over spans in order: which spans may still hold the position. No public contract speaks of it.
 use Rattle.std.specs.Prelude.{ℕ, ◌<◌, ◌≤◌, List, get_or, length}
 use Rattle.lnt_spans.specs.declared.position.Position.{Position}
 use Rattle.lnt_spans.specs.declared.span.Span.{Span}

@@ -1,4 +1,4 @@
--- A section's spans compared with the records of a table, as far as these have come.
+-- A section's spans compared with the records of a table, as far as these have come: what contracts see of a `Merge`.
 use Rattle.std.specs.Prelude.{◌≡◌, List, [], ◌∷◌, Option, Some, None}
 use Rattle.lnt_spans.specs.declared.ahead.Ahead.{Ahead}
 use Rattle.lnt_spans.specs.declared.answer.Answer.{Answer}
@@ -9,7 +9,7 @@ use Rattle.lnt_spans.specs.declared.span.Span.{Span}
 use Rattle.lnt_spans.specs.Ahead.{IsAhead}
 use Rattle.lnt_spans.specs.Differences.{IsLeastDifference}
 use Rattle.lnt_spans.specs.Positions.{IsBelow, IsAtMost}
-use Rattle.lnt_spans.specs.Scanning.{EndsAfter}
+use Rattle.lnt_spans.specs.Remaining.{EndsAfter}
 use Rattle.lnt_spans.specs.Spans.{AreInOrder, span_answer, span_in_version, version_answer}
 
 -- what contracts see of a merge: the version of the table, the spans that still matter from `at` on, the end of the records

@@ -1,4 +1,4 @@
--- What the bodies of this crate say of one step. No public contract speaks of it.
+-- What the bodies of this crate say of one step, and those of the crate of tables by path. No public contract speaks of it.
 use Rattle.std.specs.Prelude.{◌≡◌, List, [], ◌∷◌, ◌++◌, Option, Some, None, cond, ◌≢◌, MatchOption, ℕ, ◌+◌, Bool, true}
 use Rattle.lnt_spans.specs.declared.answer.Answer.{Answer}
 use Rattle.lnt_spans.specs.declared.difference.Difference.{Difference}
@@ -12,7 +12,7 @@ use Rattle.lnt_spans.specs.Positions.{IsBelow, IsAtMost, is_below}
 use Rattle.lnt_spans.specs.Stretches.{AreStretches}
 use Rattle.lnt_spans.specs.declared.answer.Version.{Version}
 use Rattle.lnt_spans.specs.Spans.{AreInOrder, span_answer, version_answer, span_in_version}
-use Rattle.lnt_spans.specs.Scanning.{EndsAfter}
+use Rattle.lnt_spans.specs.Remaining.{EndsAfter}
 use Rattle.lnt_spans.specs.Ahead.{gap_before, IsAhead}
 use Rattle.lnt_spans.specs.Comparing.{Merging, State, state_of, IsSound, IsCompared}
 

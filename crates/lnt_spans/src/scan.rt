@@ -5,7 +5,7 @@ ghost use Rattle.lnt_spans.specs.declared.span.Span as spec;
 ghost use Rattle.lnt_spans.specs.Ahead.{IsAhead};
 ghost use Rattle.lnt_spans.specs.Stepping.{BeginsWith, rest_of, steps_left};
 ghost use Rattle.lnt_spans.specs.Positions.{IsBelow, IsAtMost};
-ghost use Rattle.lnt_spans.specs.Scanning.{EndsAfter};
+ghost use Rattle.lnt_spans.specs.Remaining.{EndsAfter};
 ghost use Rattle.lnt_spans.specs.Stepping.{IsScanned, IsStretch};
 ghost use Rattle.lnt_spans.specs.Spans.{AreInOrder};
 

@@ -10,9 +10,9 @@ ghost use Rattle.lnt_spans.specs.declared.span.Span as spec;
 ghost use Rattle.lnt_spans.specs.declared.stretches.Step.TheVariants as step;
 ghost use Rattle.lnt_spans.specs.Stepping.{BeginsWith};
 ghost use Rattle.lnt_spans.specs.Comparing.{IsTold, end_of};
-ghost use Rattle.lnt_spans.specs.Differing.{HasTold, IsSide, runs_left, stretches_left};
+ghost use Rattle.lnt_spans.specs.Differing.{HasTold, IsSideAt, runs_left, stretches_left};
 ghost use Rattle.lnt_spans.specs.Positions.{IsAtMost};
-ghost use Rattle.lnt_spans.specs.Scanning.{EndsAfter};
+ghost use Rattle.lnt_spans.specs.Remaining.{EndsAfter};
 ghost use Rattle.lnt_spans.specs.Spans.{AreInOrder, span_answer, version_answer};
 ghost use Rattle.lnt_spans.specs.Stepping.{IsRun, IsUpTo, Steps, run_end};
 ghost use Rattle.lnt_spans.specs.Stretches.{AreStretches};
@@ -177,9 +177,9 @@ fn earlier_end(one: Option<Position>, other: Option<Position>) -> Option<Positio
 // Drops the next span if it ends at or below `end`.
 fn pass_to<S: SpanSource>(ahead: &mut Ahead<S>, end: Position)
     ensures side { (version : spec_version.Version) (at : spec_position.Position)
-        (answers : spec_position.Position → Option spec_answer.Answer) → IsSide S.to_come version ahead.old at answers → IsAtMost at end
+        (answers : spec_position.Position → Option spec_answer.Answer) → IsSideAt S.to_come version ahead.old at answers → IsAtMost at end
         → IsUpTo end (run_end at ahead.old.next)
-        → IsSide S.to_come version ahead.new end answers }
+        → IsSideAt S.to_come version ahead.new end answers }
     ensures fewer { (at : spec_position.Position) → IsAtMost at end → IsUpTo end (run_end at ahead.old.next)
         → (runs_left end ahead.new.next (S.left ahead.new.spans) ≤ runs_left at ahead.old.next (S.left ahead.old.spans))
         × (run_end at ahead.old.next ≡ Some end

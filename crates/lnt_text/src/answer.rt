@@ -7,7 +7,7 @@ use std::fmt;
 
 /// What is answered, as the fields of a table's record after its positions, or `none`.
 #[derive(Clone, Copy)]
-pub struct AnswerText(pub Option<Answer>);
+pub(crate) struct AnswerText(pub(crate) Option<Answer>);
 
 impl fmt::Display for AnswerText {
     ghost output = { λ text. Some (answer_text text.0) };

@@ -10,7 +10,6 @@ mod position;
 mod quoted;
 mod shown;
 
-pub use answer::AnswerText;
 pub use difference::DifferenceLine;
 pub use fault::{MalformedLine, RunLine};
 pub use note::{Argument, Column, Look, Note, RecordRule, StringSection};

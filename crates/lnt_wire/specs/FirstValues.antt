@@ -1,6 +1,7 @@
 -- The value in a form that bytes begin with, and how many of them spell it, as a reader finds them. Where the bytes begin with no
--- value in the form, these functions give something that means nothing. No public contract speaks of them: that bytes spell a
--- value is `ValueBytes` of `FormBytes`, and `proofs/FirstValueLaws` shows that what is spelled is found.
+-- value in the form, these functions give something that means nothing. That bytes spell a value is `ValueBytes` of `FormBytes`, and
+-- `proofs/FirstValueLaws` shows that what is spelled is found. No contract of this crate speaks of these functions; in
+-- `lnt_header_bytes` they say which entries a table has whose entries stay where they lie (`Borrowed`).
 use Rattle.std.specs.Prelude.{ℕ, zero, suc, ◌+◌, cond, nat_lt, List, [], ◌∷◌, length, take, drop}
 use Rattle.byteorder.specs.Endian.{little_number, big_number}
 use Rattle.lnt_wire.specs.declared.format.Order.{Order}

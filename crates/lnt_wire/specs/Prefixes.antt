@@ -18,11 +18,11 @@ LengthBytes order Two = NumberBytes order 2
 LengthBytes order Four = NumberBytes order 4
 
 -- The length, which is below 2 ^ 64, can be spelled so.
-abbrev pub LengthFits : Prefix → ℕ → Type 0
-LengthFits Leb n = Unit {0}
-LengthFits One n = n < 2 ^ 8
-LengthFits Two n = n < 2 ^ 16
-LengthFits Four n = n < 2 ^ 32
+abbrev pub BlockLengthFits : Prefix → ℕ → Type 0
+BlockLengthFits Leb n = Unit {0}
+BlockLengthFits One n = n < 2 ^ 8
+BlockLengthFits Two n = n < 2 ^ 16
+BlockLengthFits Four n = n < 2 ^ 32
 
 -- Why the bytes begin with no length.
 abbrev pub IsLengthFault : Prefix → Reason → List ℕ → Type 0

@@ -90,7 +90,7 @@ pub enum FormValue {
     LineStrp(u64),
     /// An offset in bytes into the section `.debug_str`.
     Strp(u64),
-    /// The number. It is the same for the next variants, up to `Data8`.
+    /// The number, as in each of the next variants up to `Data8`.
     Udata(u64),
     Data1(u8),
     Data2(u16),
@@ -98,7 +98,7 @@ pub enum FormValue {
     Data8(u64),
     /// The bytes, in the order in which they stand in the section.
     Data16([u8; 16]),
-    /// The bytes after the length, which says how many they are. It is the same for the other blocks below.
+    /// The bytes after the length, which says how many they are, as in each of the blocks below.
     Block(Items<u8>),
     Block1(Items<u8>),
     Block2(Items<u8>),

@@ -1,5 +1,5 @@
 //! The initial length and the version of a unit (DWARF 5, sections 6.2.4 and 7.4).
-ghost use Rattle.std.specs.Prelude.{◌≡◌, ℕ, ◌+◌, ◌^◌, ◌<◌, ◌++◌, List, length, IfOk, IfErr, OnOk};
+ghost use Rattle.std.specs.Prelude.{◌≡◌, ◌+◌, ◌^◌, ◌<◌, length, IfOk, IfErr, OnOk};
 ghost use Rattle.lnt_wire.specs.FrameBytes.{BeginsWithFive};
 ghost use Rattle.lnt_wire.specs.InitialFaults.{IsInitialFault, IsVersionFault};
 ghost use Rattle.lnt_wire.specs.InitialLength.{InitialBytes};

@@ -1,12 +1,12 @@
 //! Numbers and values, written at the end of a vector (DWARF 5, sections 7.4, 7.5.6 and 7.6). A refused call leaves the vector
 //! as it was.
-ghost use Rattle.std.specs.Prelude.{◌≡◌, ◌<◌, ◌↔◌, ◌++◌, Some, pos, length, take, IsErrOf, OnOk, OnErr};
+ghost use Rattle.std.specs.Prelude.{◌≡◌, ◌<◌, ◌↔◌, Some, pos, length, take, IsErrOf, OnOk, OnErr};
 ghost use Rattle.std.specs.Int.{int_rem_euclid};
 ghost use Rattle.lnt_wire.specs.Bytes.{Appends, Extends};
 ghost use Rattle.lnt_wire.specs.FaultTexts.{encode_fault_text};
 ghost use Rattle.lnt_wire.specs.FormBytes.{BlockBytes, FormBytes, HasSpelling, IsTooLarge};
 ghost use Rattle.lnt_wire.specs.Leb128.{UnsignedLeb, SignedLeb};
-ghost use Rattle.lnt_wire.specs.Prefixes.{LengthFits, LengthBytes};
+ghost use Rattle.lnt_wire.specs.Prefixes.{BlockLengthFits, LengthBytes};
 ghost use Rattle.lnt_wire.specs.Numbers.{NumberBytes, OffsetBytes, IsLargeOffset};
 
 use crate::form::{FormValue, Prefix};
@@ -259,7 +259,7 @@ fn add_block(
     prefix: Prefix,
     order: Order,
 ) -> Result<(), AllocError>
-    requires { LengthFits prefix (length block.now) }
+    requires { BlockLengthFits prefix (length block.now) }
     ensures ok { OnOk result
         (Appends (BlockBytes (LengthBytes order prefix)) block.now out.old.items out.new.items) }
     ensures extends { OnErr result (Extends out.old.items out.new.items) }
@@ -276,7 +276,7 @@ fn add_length(
     prefix: Prefix,
     order: Order,
 ) -> Result<(), AllocError>
-    requires { LengthFits prefix length }
+    requires { BlockLengthFits prefix length }
     ensures ok { OnOk result (Appends (LengthBytes order prefix) length out.old.items out.new.items) }
     ensures unchanged { OnErr result (out.new.items ≡ out.old.items) }
 {

@@ -60,7 +60,12 @@ impl<'a> Cursor<'a> {
         let place = self.place();
         let mut ahead = self.fork();
         let view = ahead.value(form, format)?;
-        let value = owned(alloc, view, place)?;
+        let Ok(value) = owned(alloc, view) else {
+            return Err(Fault {
+                place,
+                reason: Reason::Memory,
+            });
+        };
         *self = ahead;
         Ok(value)
     }

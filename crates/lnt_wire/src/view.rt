@@ -1,11 +1,10 @@
 //! Values in the forms of a table, over the bytes of the section that spell them (DWARF 5, section 7.5.6).
-ghost use Rattle.std.specs.Prelude.{◌≡◌, IfOk, IfErr};
+ghost use Rattle.std.specs.Prelude.{◌≡◌, IfOk};
 ghost use Rattle.lnt_wire.specs.Borrowed.{value_of};
 
-use crate::fault::{Fault, Reason};
 use crate::form::FormValue;
 use lnt_lists::Items;
-use std::alloc::Global;
+use std::alloc::{AllocError, Global};
 
 /// A value in one of the forms. Its bytes are those of the section, which aren't copied; `FormValue` has bytes of its own.
 #[derive(Clone, Copy, Debug)]
@@ -16,7 +15,7 @@ pub enum ValueView<'a> {
     LineStrp(u64),
     /// An offset in bytes into the section `.debug_str`.
     Strp(u64),
-    /// The number. It is the same for the next variants, up to `Data8`.
+    /// The number, as in each of the next variants up to `Data8`.
     Udata(u64),
     Data1(u8),
     Data2(u16),
@@ -24,22 +23,20 @@ pub enum ValueView<'a> {
     Data8(u64),
     /// The bytes, in the order in which they stand in the section.
     Data16([u8; 16]),
-    /// The bytes after the length, which says how many they are. It is the same for the other blocks below.
+    /// The bytes after the length, which says how many they are, as in each of the blocks below.
     Block(&'a [u8]),
     Block1(&'a [u8]),
     Block2(&'a [u8]),
     Block4(&'a [u8]),
 }
 
-/// The value that the view stands for, with a copy of its bytes. The only error is `Memory`, at the offset `place` at which
-/// the value was read.
+/// The value that the view stands for, with a copy of its bytes. The one error is that memory ran out.
 #[inline(always)]
-pub(crate) fn owned(alloc: Global, view: ValueView<'_>, place: u64) -> Result<FormValue, Fault>
-    ensures ok { IfOk result (λ value. value ≡ value_of view.entry) }
-    ensures err { IfErr result (λ fault. fault.reason ≡ Reason.Memory) }
+pub(crate) fn owned(alloc: Global, view: ValueView<'_>) -> Result<FormValue, AllocError>
+    ensures { IfOk result (λ value. value ≡ value_of view.entry) }
 {
     match view {
-        ValueView::Text(text) => Ok(FormValue::Text(copied(alloc, text, place)?)),
+        ValueView::Text(text) => Ok(FormValue::Text(copied(alloc, text)?)),
         ValueView::LineStrp(offset) => Ok(FormValue::LineStrp(offset)),
         ValueView::Strp(offset) => Ok(FormValue::Strp(offset)),
         ValueView::Udata(n) => Ok(FormValue::Udata(n)),
@@ -48,24 +45,17 @@ pub(crate) fn owned(alloc: Global, view: ValueView<'_>, place: u64) -> Result<Fo
         ValueView::Data4(n) => Ok(FormValue::Data4(n)),
         ValueView::Data8(n) => Ok(FormValue::Data8(n)),
         ValueView::Data16(bytes) => Ok(FormValue::Data16(bytes)),
-        ValueView::Block(block) => Ok(FormValue::Block(copied(alloc, block, place)?)),
-        ValueView::Block1(block) => Ok(FormValue::Block1(copied(alloc, block, place)?)),
-        ValueView::Block2(block) => Ok(FormValue::Block2(copied(alloc, block, place)?)),
-        ValueView::Block4(block) => Ok(FormValue::Block4(copied(alloc, block, place)?)),
+        ValueView::Block(block) => Ok(FormValue::Block(copied(alloc, block)?)),
+        ValueView::Block1(block) => Ok(FormValue::Block1(copied(alloc, block)?)),
+        ValueView::Block2(block) => Ok(FormValue::Block2(copied(alloc, block)?)),
+        ValueView::Block4(block) => Ok(FormValue::Block4(copied(alloc, block)?)),
     }
 }
 
-/// A copy of the bytes. The only error is `Memory`, at the offset `place` of the section at which they stand.
+/// A copy of the bytes. The one error is that memory ran out.
 #[inline(never)]
-pub fn copied(alloc: Global, bytes: &[u8], place: u64) -> Result<Items<u8>, Fault>
-    ensures ok { IfOk result (λ items. items ≡ bytes.now) }
-    ensures err { IfErr result (λ fault. fault.reason ≡ Reason.Memory) }
+pub fn copied(alloc: Global, bytes: &[u8]) -> Result<Items<u8>, AllocError>
+    ensures { IfOk result (λ items. items ≡ bytes.now) }
 {
-    match Vec::from_slice(alloc, bytes) {
-        Ok(values) => Ok(Items::new(values)),
-        Err(_) => Err(Fault {
-            place,
-            reason: Reason::Memory,
-        }),
-    }
+    Ok(Items::new(Vec::from_slice(alloc, bytes)?))
 }

@@ -4,8 +4,8 @@ use Rattle.clap.proofs.OnLiterals.{clap_on_literals}
 use Rattle.clap.specs.Words.{Row, Text, is_simple, subcommand_name_of, subcommand_rows_of}
 use Rattle.clap.specs.declared.parser.matches.ArgMatches.{ArgMatches}
 use Rattle.clap.specs.declared.parser.matches.ArgMatches.TheViews.{out-ArgMatches}
-use Rattle.lnt_words.specs.Asking.{IsAskedOf, rows_in}
-use Rattle.lnt_words.specs.Described.{IsAskedOfMatches}
+use Rattle.lnt_words.specs.Asking.{IsAskedOf}
+use Rattle.lnt_words.specs.Described.{IsAskedOfMatches, rows_in}
 use Rattle.lnt_words.specs.Words.{linetab}
 use Rattle.lnt_words.specs.declared.request.Asked.{Asked}
 

@@ -2,8 +2,7 @@
 -- and a row for each of its arguments, with the values that it was given or has by default.
 use Rattle.std.specs.Prelude.{◌≡◌, ◌≢◌, ◌⊎◌, Bool, true, false, ℕ, List, Option, Some, None, codes}
 use Rattle.std.specs.Option.{option_copied}
-use Rattle.clap.specs.Words.{Row, Text, first_of, found_of, one_of, rows_of, subcommand_of, takes}
-use Rattle.clap.specs.declared.parser.matches.ArgMatches.{ArgMatches}
+use Rattle.clap.specs.Words.{Row, Text, first_of, one_of, subcommand_of, takes}
 use Rattle.lnt_digits.specs.Digits.{IsAddress}
 use Rattle.lnt_spans.specs.declared.answer.Version.{Version}
 use Rattle.lnt_spans.specs.declared.answer.Version.TheVariants.{One, Two}
@@ -20,10 +19,6 @@ use Rattle.lnt_words.specs.declared.request.Reading.TheVariants.{Units, Dump, Co
 use Rattle.lnt_words.specs.declared.request.Request.{Request}
 use Rattle.lnt_words.specs.declared.request.Request.TheVariants.{Help, Read, Judge, Addresses, Check}
 use Rattle.lnt_words.specs.Words.{linetab}
-
--- the rows that clap found
-abbrev pub rows_in : ArgMatches → List Row
-rows_in matches = rows_of (found_of matches)
 
 -- This is the word that was given for the argument.
 abbrev pub IsWord : List Row → Text → Text → Type 0

@@ -1,13 +1,13 @@
 -- The rules that descriptions of arguments and subcommands stand for, in clap's terms, and the requests that matches make. No
 -- public contract speaks of this.
-use Rattle.std.specs.Prelude.{◌≡◌, Some, codes, false, fold, option_map}
-use Rattle.clap.specs.Words.{App, Rule, Text, app_of, new_app, new_rule, rule_of, with_rule, with_subcommand}
-use Rattle.clap.specs.Words.{subcommand_name_of, subcommand_rows_of}
+use Rattle.std.specs.Prelude.{◌≡◌, List, Some, codes, false, fold, option_map}
+use Rattle.clap.specs.Words.{App, Row, Rule, Text, app_of, new_app, new_rule, rule_of, with_rule, with_subcommand}
+use Rattle.clap.specs.Words.{found_of, rows_of, subcommand_name_of, subcommand_rows_of}
 use Rattle.clap.specs.declared.builder.arg.Arg.{Arg}
 use Rattle.clap.specs.declared.builder.command.Command.{Command}
 use Rattle.clap.specs.declared.builder.command.Command.TheViews.{out-Command as fields_of}
 use Rattle.clap.specs.declared.parser.matches.ArgMatches.{ArgMatches}
-use Rattle.lnt_words.specs.Asking.{IsAskedIn, IsFlag, rows_in}
+use Rattle.lnt_words.specs.Asking.{IsAskedIn, IsFlag}
 use Rattle.lnt_words.specs.declared.request.Asked.{Asked}
 use Rattle.lnt_words.specs.Words.{bound, flag, option, required, several, word}
 use Rattle.lnt_words.specs.declared.description.Argument.{Argument}
@@ -45,6 +45,10 @@ app_in subcommand = fold with_argument_in (fold with_argument_in (new_app subcom
 
 abbrev pub with_subcommand_in : App → Subcommand → App
 with_subcommand_in app subcommand = with_subcommand app (app_in subcommand).top
+
+-- the rows that clap found
+abbrev pub rows_in : ArgMatches → List Row
+rows_in matches = rows_of (found_of matches)
 
 -- The subcommand that clap found, and its matches, ask for this request.
 pub record IsAskedOfMatches (matches : ArgMatches) (asked : Asked) : Type 0 where

@@ -1,10 +1,10 @@
 //! What the words of the command ask for.
 ghost use Rattle.std.specs.Prelude.{◌≡◌, ◌≢◌, ℕ, List, codes, map, option_map, string_bytes, IfOk};
 ghost use Rattle.clap.specs.Words.{first_of, kind_of};
-ghost use Rattle.lnt_words.specs.Described.{IsAskedOfMatches};
+ghost use Rattle.lnt_words.specs.Described.{IsAskedOfMatches, rows_in};
 ghost use Rattle.lnt_digits.specs.Digits.{IsAddress};
 ghost use Rattle.lnt_words.specs.Asking.{IsAskedBy, IsAskedIn, IsFlag, IsHelp, IsJudging, IsOrder, IsQuestion};
-ghost use Rattle.lnt_words.specs.Asking.{IsReading, IsWord, rows_in};
+ghost use Rattle.lnt_words.specs.Asking.{IsReading, IsWord};
 
 use crate::command::command_of;
 use crate::request::{Asked, Judging, Question, Reading, Request};

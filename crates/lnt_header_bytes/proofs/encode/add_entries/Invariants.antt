@@ -1,6 +1,6 @@
 use Rattle.std.proofs.Common.{take}
 use Rattle.lnt_wire.specs.Bytes.{Appends}
-use Rattle.lnt_header.specs.Encoding.{EntryParts}
+use Rattle.lnt_header_bytes.specs.HeaderPuts.{EntryParts}
 use Rattle.lnt_header.specs.Joins.{Each}
 use Rattle.lnt_header_bytes.proofs.encode.add_entries.Given as goal
 

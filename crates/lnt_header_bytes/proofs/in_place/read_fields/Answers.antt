@@ -1,7 +1,8 @@
 use Rattle.std.proofs.lemmas.Result.{err_from_is_err_and}
 use Rattle.lnt_wire.specs.Reading.{RefusesOr}
 use Rattle.lnt_header_bytes.specs.Stepping.{lying_table}
-use Rattle.lnt_header_bytes.specs.FieldsBytes.{FieldsBytes, IsHeaderFault}
+use Rattle.lnt_header_bytes.specs.FieldsBytes.{FieldsBytes}
+use Rattle.lnt_header_bytes.specs.HeaderFaults.{IsHeaderFault}
 use Rattle.lnt_header_bytes.proofs.HeaderReaders.{refuses_directories, refuses_files}
 use Rattle.lnt_header_bytes.proofs.in_place.read_fields.Goals as goal
 

@@ -1,9 +1,11 @@
 use Rattle.std.proofs.Common.{◌<◌, List, length, subst, arith}
 use Rattle.std.proofs.lemmas.Result.{err_from_is_err_and}
+use Rattle.lnt_wire.specs.Bytes.{NoneSpelled}
 use Rattle.lnt_wire.specs.declared.format.Format.{Format}
 use Rattle.lnt_header_bytes.specs.HeaderPuts.{AddsEntry, RefusesEntry}
+use Rattle.lnt_header_bytes.specs.TableBytes.{EntryBytes}
 use Rattle.lnt_header.specs.declared.header.Pair.{Pair}
-use Rattle.lnt_header_bytes.proofs.ViewPutLemmas.{entries_more, entries_refused}
+use Rattle.lnt_header_bytes.proofs.ViewPutLemmas.{entries_more, entries_refused, next_there}
 use Rattle.lnt_header_bytes.proofs.view_encode.add_entries_view.Goals as goal
 
 pub returns-in_err-add_entry_view-clause-err : goal.returns-in_err-add_entry_view-clause-err
@@ -18,6 +20,15 @@ returns-in_err-add_entry_view-clause-err c =
     c.in_err-add_entry_view.ensures.err) in
     rw (p.1, p.2) (entries_refused table c.args.format c.args.order c.loop.counter c.loop.cursor c.args.out.now.items c.loop.out.items fault
     lt c.loop.invariant refused)
+
+pub add_entry_view-requires : goal.add_entry_view-requires
+add_entry_view-requires c none =
+    let table = c.args.table.now in
+    let lt : c.loop.counter < length table.entries = omega (arith, c.loop-test.true, c.count-end.ensures) in
+    next_there table c.args.format c.args.order c.loop.counter c.loop.cursor c.args.out.now.items c.loop.out.items lt c.loop.invariant
+    (subst (λ (f : Format). NoneSpelled (EntryBytes f c.loop.cursor.order table.pairs) c.loop.cursor.rest) c.format.ensures
+    (subst (λ (pairs : List Pair). NoneSpelled (EntryBytes c.format.result c.loop.cursor.order pairs) c.loop.cursor.rest) c.pairs.ensures
+    none))
 
 pub loop-preserved : goal.loop-preserved
 loop-preserved c =

@@ -1,5 +1,5 @@
 use Rattle.std.specs.Prelude.{◌≡◌, ◌+◌, ◌∷◌, ◌++◌, ℕ, List, [], length}
-use Rattle.lnt_records.specs.Progress.{HasRead, bytes_left, known_length}
+use Rattle.lnt_records.specs.Reading.{HasRead, bytes_left, known_length}
 use Rattle.lnt_records.specs.Table.{Fields}
 use Rattle.lnt_spans.specs.declared.span.Span.{Span}
 use Rattle.lnt_paths.specs.Merging.{AreKnownOf, JudgesByPath}

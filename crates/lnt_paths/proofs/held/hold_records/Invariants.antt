@@ -1,5 +1,5 @@
 use Rattle.std.specs.Prelude.{◌∷◌, ℕ, List, [], map}
-use Rattle.lnt_records.specs.Progress.{HasRead, bytes_left, known_length}
+use Rattle.lnt_records.specs.Reading.{HasRead, bytes_left, known_length}
 use Rattle.lnt_records.specs.Table.{Fields}
 use Rattle.lnt_paths.specs.Held.{held_span}
 use Rattle.lnt_paths.specs.PathTables.{IsPathTable, path_column_names}

@@ -3,7 +3,7 @@ use Rattle.lnt_spans.specs.declared.position.Position.{Position}
 use Rattle.lnt_spans.specs.Positions.{IsAtMost}
 use Rattle.lnt_spans.proofs.PositionLaws.{at_most_itself, below_is_at_most}
 use Rattle.lnt_paths.specs.PathAnswers.{path_answer}
-use Rattle.lnt_paths.specs.Reading.{whole}
+use Rattle.lnt_paths.specs.PathSpans.{whole}
 use Rattle.lnt_paths.proofs.MergingLemmas.{apart_before, apart_gap, apart_other, begun, low_after, low_high, passed_whole, passed_within}
 use Rattle.lnt_paths.proofs.merge.first_apart.Goals as goal
 

@@ -3,9 +3,10 @@ use Rattle.lnt_spans.specs.declared.span.Span.{Span}
 use Rattle.lnt_spans.specs.Ahead.{count_ahead}
 use Rattle.lnt_spans.specs.Positions.{IsAtMost}
 use Rattle.lnt_spans.specs.Spans.{AreInOrder}
-use Rattle.lnt_paths.specs.Merging.{AreKnownOf, ArePassed, IsLeft}
+use Rattle.lnt_paths.specs.Merging.{AreKnownOf, ArePassed}
+use Rattle.lnt_paths.specs.PathSpans.{whole}
+use Rattle.lnt_spans.specs.Remaining.{IsLeft}
 use Rattle.lnt_paths.specs.PathAnswers.{path_answer}
-use Rattle.lnt_paths.specs.Reading.{whole}
 use Rattle.lnt_paths.proofs.MergingLemmas.{alone}
 use Rattle.lnt_paths.proofs.merge.first_apart.Given as goal
 

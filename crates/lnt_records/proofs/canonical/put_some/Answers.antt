@@ -2,7 +2,7 @@ use Rattle.std.proofs.Common.{Option, subst}
 use Rattle.std.specs.Prelude.{IfSome}
 use Rattle.std.proofs.lemmas.Result.{on_ok_weaker}
 use Rattle.lnt_spans.specs.declared.span.Span.{Span}
-use Rattle.lnt_records.proofs.JoinedLemmas.{HasVersion}
+use Rattle.lnt_records.proofs.VersionLaws.{HasVersion}
 use Rattle.lnt_records.proofs.WriteLemmas.{some_put}
 use Rattle.lnt_records.proofs.canonical.put_some.Goals as goal
 

@@ -11,11 +11,12 @@ use Rattle.lnt_records.proofs.differing.differ_or_take.Goals as goal
 
 pub returns-in_default-clause-ok : goal.returns-in_default-clause-ok
 returns-in_default-clause-ok g c =
-    IfOk-weaker c.differ_taken.result _ _
+    IfOk-weaker c.told.result _ _
     (λ read is list section coming order answers.
     all_bytes _ _ _ _ c.new-window.result c.fill.new.self c.pass_header.new.window c.in_ok-text.text.items _ c.new-window.ensures
-    c.in_ok-fill.ensures.taken c.in_default.ensures c.in_ok-text.ensures.ok (is list section coming order answers))
-    c.differ_taken.ensures.ok
+    c.in_ok-fill.ensures.taken c.in_default.ensures c.in_ok-text.ensures.ok
+    ((rw is at c.differ_taken.ensures.ok) list section coming order answers))
+    c.told.ensures.ok
 
 pub gather_after-gathered-requires-clause-begins : goal.gather_after-gathered-requires-clause-begins
 gather_after-gathered-requires-clause-begins g c =

@@ -1,5 +1,5 @@
 use Rattle.std.specs.Prelude.{◌∷◌, ℕ, List, []}
-use Rattle.lnt_records.specs.Progress.{HasRead, bytes_left, known_length}
+use Rattle.lnt_records.specs.Reading.{HasRead, bytes_left, known_length}
 use Rattle.lnt_records.specs.Table.{column_names}
 use Rattle.lnt_records.proofs.GatherLemmas.{HasGathered}
 use Rattle.lnt_records.proofs.gather.gather_rest.Given as goal

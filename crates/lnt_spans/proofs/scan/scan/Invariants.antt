@@ -2,7 +2,7 @@ use Rattle.std.specs.Prelude.{◌+◌, List}
 use Rattle.lnt_spans.specs.declared.span.Span.{Span}
 use Rattle.lnt_spans.specs.Ahead.{count_ahead, IsAhead}
 use Rattle.lnt_spans.specs.Stepping.{steps_left}
-use Rattle.lnt_spans.specs.Scanning.{EndsAfter}
+use Rattle.lnt_spans.specs.Remaining.{EndsAfter}
 use Rattle.lnt_spans.specs.Spans.{AreInOrder}
 use Rattle.lnt_spans.proofs.ScanLemmas.{SoFar}
 use Rattle.lnt_spans.proofs.scan.scan.Given as goal

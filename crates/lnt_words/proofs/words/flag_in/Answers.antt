@@ -1,7 +1,7 @@
 use Rattle.std.proofs.Common.{◌≡◌, ◌∙◌}
 use Rattle.clap.proofs.WalkLemmas.{one_text-rows}
 use Rattle.clap.specs.Words.{found_of, one_of, one_text}
-use Rattle.lnt_words.specs.Asking.{rows_in}
+use Rattle.lnt_words.specs.Described.{rows_in}
 use Rattle.lnt_words.proofs.words.flag_in.Goals as goal
 
 pub returns : goal.returns

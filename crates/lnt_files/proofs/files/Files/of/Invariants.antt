@@ -1,5 +1,5 @@
 use Rattle.std.proofs.Common.{take}
-use Rattle.lnt_files.specs.Kept.{Keeps}
+use Rattle.lnt_files.specs.Stepping.{Keeps}
 use Rattle.lnt_files.proofs.files.Files.of.Given as goal
 
 abbrev pub invariant-loop-file : goal.invariant-loop-file

@@ -2,7 +2,7 @@ use Rattle.std.proofs.Common.{◌∙◌, subst, sym, List, ℕ}
 use Rattle.lnt_machine.specs.Walking.{Kept}
 use Rattle.lnt_sequences.specs.declared.extent.Extent.{Extent}
 use Rattle.lnt_sequences.specs.Extents.{IsHolder, NoneHolds}
-use Rattle.lnt_lines.specs.Indexed.{Indexed, IsIndexOf, IsSequenceIn}
+use Rattle.lnt_lines.specs.Indexed.{Indexed, IsIndex, IsIndexOf, IsSequenceIn}
 use Rattle.lnt_lines.proofs.IndexLemmas.{found_answer, found_none, Answers}
 use Rattle.lnt_lines.proofs.index.Index.lookup.Goals as goal
 
@@ -19,8 +19,8 @@ returns-in_default-clause-answer c dead skip units is =
     found_none dead skip units index c.args.position c.holder_answers.ensures of_index
     (subst (λ (es : List Extent). NoneHolds es c.args.position) c.deref.ensures.value c.in_default.ensures.found)
 
-pub returns-in_default-rows_of-clause-answer : goal.returns-in_default-rows_of-clause-answer
-returns-in_default-rows_of-clause-answer c dead skip units is =
+pub unreachable-requires : goal.unreachable-requires
+unreachable-requires c =
     let index : Indexed = record {
       line = c.self.inside.strings.line.now;
       general = c.self.inside.strings.general.now;
@@ -28,9 +28,9 @@ returns-in_default-rows_of-clause-answer c dead skip units is =
       units = c.self.inside.units.items;
       programs = c.self.inside.programs.items;
     } in
-    let of_index : IsIndexOf dead skip units index = subst (IsIndexOf dead skip units) (sym c.self.view_is) is in
-    let found : Answers dead skip units index c.args.position c.in-Some.extent.id =
-    found_answer dead skip units index c.args.position c.in-Some.extent c.holder_answers.ensures of_index
+    let is : IsIndex index = c.self.invariant in
+    let found : Answers is.dead is.skip is.units index c.args.position c.in-Some.extent.id =
+    found_answer is.dead is.skip is.units index c.args.position c.in-Some.extent c.holder_answers.ensures is.index_is
     (subst (λ (es : List Extent). IsHolder es c.args.position c.in-Some.extent) c.deref.ensures.value c.in-Some.ensures.found) in
     let sequence : IsSequenceIn c.deref-2.result.now c.deref-3.result.now c.in-Some.extent.id found.rows =
     subst (λ (us : List ℕ). IsSequenceIn us c.deref-3.result.now c.in-Some.extent.id found.rows) (sym c.deref-2.ensures.value)

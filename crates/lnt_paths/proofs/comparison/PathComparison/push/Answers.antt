@@ -1,8 +1,10 @@
 use Rattle.std.proofs.Common.{◌++◌, ◌∷◌, [], Option, subst, sym}
 use Rattle.lnt_paths.specs.declared.answer.DifferenceByPath.{DifferenceByPath}
-use Rattle.lnt_paths.specs.Merging.{IsLeft, IsMerged}
+use Rattle.lnt_paths.specs.Merging.{IsMerged}
+use Rattle.lnt_paths.specs.PathSpans.{whole}
+use Rattle.lnt_spans.specs.Remaining.{IsLeft}
 use Rattle.lnt_paths.specs.PathAnswers.{path_answer}
-use Rattle.lnt_paths.specs.Reading.{record_span, whole}
+use Rattle.lnt_paths.specs.Reading.{record_span}
 use Rattle.lnt_paths.proofs.MergingLemmas.{follows, merged_apart, merged_on, merged_still, not_found}
 use Rattle.lnt_paths.proofs.comparison.PathComparison.push.Goals as goal
 

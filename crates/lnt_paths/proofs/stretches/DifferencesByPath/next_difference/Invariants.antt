@@ -1,7 +1,7 @@
 use Rattle.std.proofs.Common.{◌≤◌, List, Option}
 use Rattle.lnt_spans.specs.declared.position.Position.{Position}
 use Rattle.lnt_paths.specs.PathAnswers.{PathAnswer}
-use Rattle.lnt_paths.specs.PathStretches.{Stretch}
+use Rattle.lnt_spans.specs.AnyStretches.{Stretch}
 use Rattle.lnt_paths.specs.Stretching.{HasToldByPath, path_stretches_left}
 use Rattle.lnt_paths.proofs.stretches.DifferencesByPath.next_difference.Given as goal
 

@@ -7,7 +7,8 @@ use Rattle.lnt_spans.proofs.RunLaws.{both_fewer}
 use Rattle.lnt_paths.specs.PathAnswers.{path_answer}
 use Rattle.lnt_paths.specs.PathDifferences.{told_path_answer}
 use Rattle.lnt_paths.specs.Stretching.{held_runs}
-use Rattle.lnt_paths.proofs.StretchingLemmas.{both_move, step_known, told_new}
+use Rattle.lnt_paths.proofs.StretchingLemmas.{both_move}
+use Rattle.lnt_spans.proofs.ToldStretchLaws.{step_known, told_new}
 use Rattle.lnt_paths.proofs.stretches.DifferencesByPath.step.Goals as goal
 
 pub returns-then-is_known-clause-told : goal.returns-then-is_known-clause-told

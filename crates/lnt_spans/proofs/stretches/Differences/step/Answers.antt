@@ -1,8 +1,11 @@
 use Rattle.std.proofs.Common.{subst}
 use Rattle.lnt_spans.specs.Stepping.{IsUpTo}
+use Rattle.lnt_spans.specs.Stretches.{stretches_of}
 use Rattle.lnt_spans.proofs.PositionLaws.{below_is_at_most}
 use Rattle.lnt_spans.proofs.RunLaws.{both_fewer, moves}
-use Rattle.lnt_spans.proofs.StretchLemmas.{side_run, step_known, told_new}
+use Rattle.lnt_spans.proofs.StretchLaws.{told_more}
+use Rattle.lnt_spans.proofs.StretchLemmas.{side_run}
+use Rattle.lnt_spans.proofs.ToldStretchLaws.{step_known, told_new}
 use Rattle.lnt_spans.proofs.stretches.Differences.step.Goals as goal
 
 pub returns-then-is_known-clause-told : goal.returns-then-is_known-clause-told
@@ -20,8 +23,8 @@ returns-then-is_known-clause-told g c f f' told h =
           (subst (IsUpTo end) c.run_at-section.ensures.end c.in-Some.ensures.0);
       table = c.pass_to-2.ensures.side own.version own.at f' h.table (below_is_at_most moves.below)
           (subst (IsUpTo end) c.run_at-table.ensures.end c.in-Some.ensures.1);
-      below = step_known f f' own.at end own.by_section own.by_table c.run_at-section.result.answer c.run_at-table.result.answer told
-          h.below moves c.if-is_known.ensures;
+      below = step_known f f' own.at end own.by_section own.by_table c.run_at-section.result.answer c.run_at-table.result.answer
+          (stretches_of told) h.below moves c.if-is_known.ensures;
     }
 
 pub returns-then-is_known-clause-fewer : goal.returns-then-is_known-clause-fewer
@@ -55,8 +58,10 @@ returns-clause-told g c f f' told h =
           (subst (IsUpTo end) c.run_at-section.ensures.end c.in-Some.ensures.0);
       table = c.pass_to-2.ensures.side own.version own.at f' h.table (below_is_at_most moves.below)
           (subst (IsUpTo end) c.run_at-table.ensures.end c.in-Some.ensures.1);
-      below = told_new f f' own.at end own.by_section own.by_table c.run_at-section.result.answer c.run_at-table.result.answer told h.below
-          moves.below moves.stay c.if-is_known.ensures.0 c.if-is_known.ensures.1;
+      below = told_more f f' end c.run_at-section.result.answer c.run_at-table.result.answer told (record
+          { position = own.at; by_table = c.run_at-table.result.answer; by_section = c.run_at-section.result.answer })
+          (told_new f f' own.at end own.by_section own.by_table c.run_at-section.result.answer c.run_at-table.result.answer
+          (stretches_of told) h.below moves.below moves.stay c.if-is_known.ensures.0 c.if-is_known.ensures.1);
     }
 
 pub returns-clause-fewer : goal.returns-clause-fewer

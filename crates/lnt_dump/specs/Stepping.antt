@@ -1,9 +1,12 @@
--- What a reader of a section gives next: a unit, a fault, or the end of the section.
+-- What the bodies of this crate say of one step. No public contract speaks of it.
 use Rattle.std.specs.Prelude.{◌≡◌, ℕ, ◌+◌, List, length, Option, Some, None}
 use Rattle.lnt_wire.specs.declared.format.Order.{Order}
+use Rattle.lnt_output.specs.Fronts.{AppendsFront}
 use Rattle.lnt_stream.specs.Units.{IsNextUnit, SectionEndsBy}
 use Rattle.lnt_dump.specs.declared.units.Next.{Next}
 use Rattle.lnt_dump.specs.declared.units.Next.TheVariants.{Unit as NextUnit, Fault as NextFault, End}
+
+-- ---- what a reader of a section gives next: a unit, a fault, or the end of the section
 
 -- a unit
 abbrev pub IsUnit : Next → Type 0
@@ -16,3 +19,9 @@ abbrev pub IsNext : ℕ → ℕ → Order → Option (List ℕ) → Option (List
 IsNext offset after order old new (NextUnit unit) = IsNextUnit offset order old new unit × (after ≡ offset + length unit.bytes)
 IsNext offset after order old new (NextFault fault) = SectionEndsBy offset order old (Some fault)
 IsNext offset after order old new End = SectionEndsBy offset order old None
+
+-- ---- what a writer has gained where printing was stopped
+
+-- a writer that held these bytes has gained a front of such a text (Is), and nothing else
+abbrev pub IsFrontIn : (List ℕ → Type 0) → Option (List ℕ) → Option (List ℕ) → Type 0
+IsFrontIn Is old new = (text : List ℕ) × Is text × AppendsFront old new text

@@ -8,8 +8,8 @@ use Rattle.lnt_wire.specs.declared.fault.Reason.TheVariants.{LineRangeZero, MaxO
 use Rattle.lnt_wire.specs.declared.format.Format.{Format}
 use Rattle.lnt_wire.specs.declared.format.Order.{Order}
 use Rattle.lnt_wire.proofs.LengthLaws.{same_front, same_rest}
-use Rattle.lnt_header_bytes.specs.FieldsBytes.{AfterLengths, AfterSingles, AfterSinglesFault, FieldsBytes, IsHeaderFault, TwoTables}
-use Rattle.lnt_header_bytes.specs.FieldsBytes.{TwoTablesFault}
+use Rattle.lnt_header_bytes.specs.FieldsBytes.{AfterLengths, AfterSingles, FieldsBytes, TwoTables}
+use Rattle.lnt_header_bytes.specs.HeaderFaults.{AfterSinglesFault, IsHeaderFault, TwoTablesFault}
 use Rattle.lnt_header_bytes.specs.HeaderFaults.{AreCutSingles, IsLengthsFault, IsSinglesFault, LengthsBytes, SinglesBytes}
 use Rattle.lnt_header.specs.HeaderRules.{AreStandardLengths}
 use Rattle.lnt_header.specs.OpRules.{known_lengths, last_known}
@@ -18,7 +18,7 @@ use Rattle.lnt_header_bytes.specs.TableFaults.{IsTableFault}
 use Rattle.lnt_header_bytes.specs.declared.numbers.Singles.{Singles}
 use Rattle.lnt_header.proofs.FirstFaultLaws.{AreOne, first_of, IsOneFault}
 use Rattle.lnt_header_bytes.proofs.HeaderReaders.{lengths_code, singles_code, table_code}
-use Rattle.lnt_header_bytes.proofs.TableFaultLaws.{table_fault}
+use Rattle.lnt_header_bytes.proofs.TableFaultLemmas.{table_fault}
 
 -- ---- the six fields of one byte
 

@@ -12,14 +12,14 @@ use Rattle.lnt_wire.proofs.LengthLaws.{length-number_bytes, same_number_front}
 use Rattle.lnt_wire.proofs.ValueLaws.{offset_width}
 use Rattle.lnt_header.specs.HeaderRules.{IsAddressSize}
 use Rattle.lnt_header.proofs.ByteLaws.{byte_code}
-use Rattle.lnt_header_bytes.specs.StartBytes.{AddressSizeBytes, AfterSize, CountedBytes, IsCountedFault, IsSelectorFault, IsSizeFault}
-use Rattle.lnt_header_bytes.specs.StartBytes.{IsStartFault, SelectorBytes, StartBytes}
-use Rattle.lnt_header_bytes.specs.StartBytes.IsStartFault.{address_size, selector, header_length}
+use Rattle.lnt_header_bytes.specs.StartBytes.{AddressSizeBytes, AfterSize, CountedBytes, SelectorBytes, StartBytes}
+use Rattle.lnt_header_bytes.specs.StartFaults.{IsCountedFault, IsSelectorFault, IsAddressSizeFault, IsStartFault}
+use Rattle.lnt_header_bytes.specs.StartFaults.IsStartFault.{address_size, selector, header_length}
 use Rattle.lnt_header.specs.FirstFaults.{FirstOf}
 use Rattle.lnt_header.specs.FirstFaults.FirstOf.{first, second}
 use Rattle.lnt_header.proofs.FirstFaultLaws.{fault_as, field_fault, first_of, IsHere, IsOneFault}
 
-size_none : (reason : Reason) (bytes : List ℕ) → IsSizeFault reason bytes → NoneSpelled AddressSizeBytes bytes
+size_none : (reason : Reason) (bytes : List ℕ) → IsAddressSizeFault reason bytes → NoneSpelled AddressSizeBytes bytes
 size_none Truncated bytes h size x more p e = omega (arith, h, ap length e, length-append x more, ap length p.1)
 size_none (AddressSize other) bytes h size x more p e =
     let all : size ∷ more ≡ other ∷ h.0 = ap (λ (z : List ℕ). z ++ more) (sym p.1) ∙ e ∙ h.2 in
@@ -27,7 +27,7 @@ size_none (AddressSize other) bytes h size x more p e =
     h.1 (subst IsAddressSize same p.0)
 size_none reason bytes h size x more p e = absurd h
 
-size_one : (reason other : Reason) (bytes : List ℕ) → IsSizeFault reason bytes → IsSizeFault other bytes → reason ≡ other
+size_one : (reason other : Reason) (bytes : List ℕ) → IsAddressSizeFault reason bytes → IsAddressSizeFault other bytes → reason ≡ other
 size_one Truncated Truncated bytes h k = refl
 size_one Truncated (AddressSize size) bytes h k = absurd (omega (arith, h, ap length k.2))
 size_one Truncated other bytes h k = absurd k
@@ -39,7 +39,7 @@ size_one (AddressSize size) (AddressSize size') bytes h k =
 size_one (AddressSize size) other bytes h k = absurd k
 size_one reason other bytes h k = absurd h
 
-size_fault : IsOneFieldFault AddressSizeBytes IsSizeFault
+size_fault : IsOneFieldFault AddressSizeBytes IsAddressSizeFault
 size_fault = record { none = size_none; one = size_one }
 
 selector_none : (reason : Reason) (bytes : List ℕ) → IsSelectorFault reason bytes → NoneSpelled SelectorBytes bytes
@@ -119,7 +119,7 @@ counted_fault format order = record { none = counted_none format order; one = co
 -- the fields after the version as parts that are joined
 abbrev FirstOfStart : Format → Order → Reason → List ℕ → List ℕ → Type 0
 FirstOfStart format order =
-    FirstOf AddressSizeBytes (IsHere IsSizeFault)
+    FirstOf AddressSizeBytes (IsHere IsAddressSizeFault)
     (λ _. FirstOf SelectorBytes (IsHere IsSelectorFault) (λ _. IsHere (IsCountedFault format order)))
 
 first_of_start : (format : Format) (order : Order) (reason : Reason) (before left : List ℕ) → IsStartFault format order reason before left
@@ -145,6 +145,6 @@ selector_on format order size =
 pub start_fault : (format : Format) (order : Order) → IsOneFault (StartBytes format order) (IsStartFault format order)
 start_fault format order =
     fault_as (StartBytes format order) (FirstOfStart format order) (IsStartFault format order) (first_of_start format order)
-    (first_of AddressSizeBytes (IsHere IsSizeFault)
+    (first_of AddressSizeBytes (IsHere IsAddressSizeFault)
     (λ _. FirstOf SelectorBytes (IsHere IsSelectorFault) (λ _. IsHere (IsCountedFault format order))) size_code (AfterSize format order)
-    (field_fault AddressSizeBytes IsSizeFault size_fault) (selector_on format order))
+    (field_fault AddressSizeBytes IsAddressSizeFault size_fault) (selector_on format order))
