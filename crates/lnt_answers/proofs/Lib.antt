@@ -2,7 +2,6 @@ pub mod AddressFronts
 pub mod AddressLemmas
 pub mod AddressWholes
 pub mod CommaLemmas
-pub mod DifferenceLemmas
 pub mod FileLemmas
 pub mod RoomLaws
 pub mod SumFronts

@@ -14,8 +14,8 @@ use Rattle.lnt_sums.specs.declared.sums.Agreement.{Agreement}
 use Rattle.lnt_text.specs.Quotes.{quoted_text}
 use Rattle.lnt_lines.specs.Indexed.{file_path_in, file_sum_in, Indexed}
 use Rattle.lnt_answers.specs.FileLines.{path_field}
-use Rattle.lnt_answers.specs.SumLines.{AreSumsTold, Finding, IsFound, IsTrueFinding, found_status, found_text, head_text}
-use Rattle.lnt_answers.specs.SumLines.{listed_at, listed_below, listed_in, place_of, sum_line, sums_status}
+use Rattle.lnt_answers.specs.SumLines.{AreSumsTold, Finding, IsTrueOfFile, IsTrueFinding, found_status, found_text, head_text}
+use Rattle.lnt_answers.specs.SumLines.{listed_at, listed_below, listed_in, file_of, sum_line, sums_status}
 use Rattle.lnt_answers.proofs.SumLaws.{true_later}
 use Rattle.lnt_answers.proofs.SumLemmas.{sum_listed, true_joined, units_more}
 
@@ -23,7 +23,7 @@ use Rattle.lnt_answers.proofs.SumLemmas.{sum_listed, true_joined, units_more}
 record HasBegunSums (tells : List ℕ → Option (List ℕ) → Type 0) (index : Indexed) (files : List (ℕ × ℕ)) (old new : Option (List ℕ)) : Type
     0 where
   pub findings : List Finding
-  pub places : map place_of findings ≡ files
+  pub places : map file_of findings ≡ files
   pub are_true : AllByRecursion (IsTrueFinding tells index) findings
   pub front : AppendsFront old new (flat_map (sum_line index) findings)
 
@@ -32,12 +32,12 @@ record HasBegunSums (tells : List ℕ → Option (List ℕ) → Type 0) (index :
 unread : ℕ × ℕ → Finding
 unread place = record { unit = place.0; file = place.1; found = None }
 
-unread_places : (files : List (ℕ × ℕ)) → map place_of (map unread files) ≡ files
+unread_places : (files : List (ℕ × ℕ)) → map file_of (map unread files) ≡ files
 unfolding unread
 unread_places [] = refl
 unread_places (place ∷ files) = ap (λ (list : List (ℕ × ℕ)). place ∷ list) (unread_places files)
 
-unread_one : (tells : Option (List ℕ) → Type 0) (sum : Option (List ℕ)) → IfSome sum (λ listed. IsFound tells listed None)
+unread_one : (tells : Option (List ℕ) → Type 0) (sum : Option (List ℕ)) → IfSome sum (λ listed. IsTrueOfFile tells listed None)
 unread_one tells None = tt
 unread_one tells (Some listed) = tt
 
@@ -56,7 +56,7 @@ begun_before : (tells : List ℕ → Option (List ℕ) → Type 0) (index : Inde
     → HasBegunSums tells index files old new → HasBegunSums tells index (files ++ more) old new
 begun_before tells index files more old new so = record {
   findings = so.findings ++ map unread more;
-  places = map-append place_of so.findings (map unread more) ∙ ap (λ list. list ++ map place_of (map unread more)) so.places
+  places = map-append file_of so.findings (map unread more) ∙ ap (λ list. list ++ map file_of (map unread more)) so.places
       ∙ ap (λ list. files ++ list) (unread_places more);
   are_true = true_joined tells index so.findings (map unread more) so.are_true (unread_true tells index more);
   front = front_same old new _ _ (sym (flat_map-append (sum_line index) so.findings (map unread more)))
@@ -68,7 +68,7 @@ begun_after : (tells tells' : List ℕ → Option (List ℕ) → Type 0) (index 
     → HasBegunSums tells index (files ++ more) a c
 begun_after tells tells' index files more a b c s later so next = record {
   findings = so.findings ++ next.findings;
-  places = map-append place_of so.findings next.findings ∙ ap (λ list. list ++ map place_of next.findings) so.places
+  places = map-append file_of so.findings next.findings ∙ ap (λ list. list ++ map file_of next.findings) so.places
       ∙ ap (λ list. files ++ list) next.places;
   are_true = true_joined tells index so.findings next.findings so.are_true
       (true_later tells tells' index next.findings later next.are_true);
@@ -122,7 +122,7 @@ sums_unbegun tells index files old =
 pub sum_stopped : (tells : List ℕ → Option (List ℕ) → Type 0) (index : Indexed) (unit file : ℕ) (a b : Option (List ℕ))
     (listed path shown bytes : List ℕ) (found : Option Agreement) → file_sum_in index unit file ≡ Some listed
     → path ≡ path_field (file_path_in index unit file) → shown ≡ path_field (file_path_in index unit file)
-    → IsFound (tells path) listed found
+    → IsTrueOfFile (tells path) listed found
     → bytes ≡ (head_text unit file ++ found_text found) ++ (codes " " ++ (quoted_text shown ++ codes "\n"))
     → AppendsFront a b bytes → HasBegun (AreSumsTold tells index (listed_at index unit file) a) a b
 sum_stopped tells index unit file a b listed path shown bytes found is path_is shown_is so same f =

@@ -6,16 +6,16 @@ use Rattle.lnt_sources.specs.declared.status.Status.{Status}
 use Rattle.lnt_sums.specs.declared.sums.Agreement.{Agreement}
 use Rattle.lnt_lines.specs.Indexed.{file_path_in, file_sum_in, Indexed}
 use Rattle.lnt_answers.specs.FileLines.{path_field}
-use Rattle.lnt_answers.specs.SumLines.{AreSumsTold, Finding, IsFound, IsTrueFinding}
+use Rattle.lnt_answers.specs.SumLines.{AreSumsTold, Finding, IsTrueOfFile, IsTrueFinding}
 
 found_later : (tells tells' : Option (List ℕ) → Type 0) (listed : List ℕ) (found : Option Agreement)
-    → ((told : Option (List ℕ)) → tells' told → tells told) → IsFound tells' listed found → IsFound tells listed found
+    → ((told : Option (List ℕ)) → tells' told → tells told) → IsTrueOfFile tells' listed found → IsTrueOfFile tells listed found
 found_later tells tells' listed None later so = tt
 found_later tells tells' listed (Some agreement) later so = (so.0, later so.0 so.1, so.2)
 
 true_of_sum : (tells tells' : Option (List ℕ) → Type 0) (sum : Option (List ℕ)) (found : Option Agreement)
-    → ((told : Option (List ℕ)) → tells' told → tells told) → IfSome sum (λ listed. IsFound tells' listed found)
-    → IfSome sum (λ listed. IsFound tells listed found)
+    → ((told : Option (List ℕ)) → tells' told → tells told) → IfSome sum (λ listed. IsTrueOfFile tells' listed found)
+    → IfSome sum (λ listed. IsTrueOfFile tells listed found)
 true_of_sum tells tells' None found later so = tt
 true_of_sum tells tells' (Some listed) found later so = found_later tells tells' listed found later so
 

@@ -16,8 +16,8 @@ use Rattle.lnt_text.specs.Quotes.{quoted_text}
 use Rattle.lnt_lines.specs.Indexed.{file_path_in, file_sum_in, Indexed}
 use Rattle.lnt_answers.specs.FileLines.{path_field}
 use Rattle.lnt_answers.proofs.SumLaws.{true_later}
-use Rattle.lnt_answers.specs.SumLines.{AreSumsTold, Finding, IsFound, IsTrueFinding, both, found_status, listed_at, listed_below, listed_in}
-use Rattle.lnt_answers.specs.SumLines.{found_text, head_text, place_of, sum_line, sums_status}
+use Rattle.lnt_answers.specs.SumLines.{AreSumsTold, Finding, IsTrueFinding, IsTrueOfFile, both, file_of, found_status, found_text}
+use Rattle.lnt_answers.specs.SumLines.{head_text, listed_at, listed_below, listed_in, sum_line, sums_status}
 
 -- ---- joins
 
@@ -47,7 +47,7 @@ sums_joined : (tells tells' : List ℕ → Option (List ℕ) → Type 0) (index 
     → AreSumsTold tells index (files ++ more) a c (both s t)
 sums_joined tells tells' index files more a b c s t later so next = record {
   findings = so.findings ++ next.findings;
-  places = map-append place_of so.findings next.findings ∙ ap (λ list. list ++ map place_of next.findings) so.places
+  places = map-append file_of so.findings next.findings ∙ ap (λ list. list ++ map file_of next.findings) so.places
       ∙ ap (λ list. files ++ list) next.places;
   are_true = true_joined tells index so.findings next.findings so.are_true
       (true_later tells tells' index next.findings later next.are_true);
@@ -63,12 +63,12 @@ sums_joined tells tells' index files more a b c s t later so next = record {
 pub sum_listed : (tells : List ℕ → Option (List ℕ) → Type 0) (index : Indexed) (unit file : ℕ) (a b : Option (List ℕ))
     (listed path shown : List ℕ) (found : Option Agreement) (status : Status) → file_sum_in index unit file ≡ Some listed
     → path ≡ path_field (file_path_in index unit file) → shown ≡ path_field (file_path_in index unit file)
-    → IsFound (tells path) listed found
+    → IsTrueOfFile (tells path) listed found
     → Appends a b ((head_text unit file ++ found_text found) ++ (codes " " ++ (quoted_text shown ++ codes "\n")))
     → status ≡ found_status found → AreSumsTold tells index (listed_at index unit file) a b status
 sum_listed tells index unit file a b listed path shown found status is path_is shown_is so printed status_is =
     let finding : Finding = record { unit = unit; file = file; found = found } in
-    let named = subst (λ (name : List ℕ). IsFound (tells name) listed found) path_is so in
+    let named = subst (λ (name : List ℕ). IsTrueOfFile (tells name) listed found) path_is so in
     let line = subst (λ (name : List ℕ). Appends a b ((head_text unit file ++ found_text found)
     ++ (codes " " ++ (quoted_text name ++ codes "\n")))) shown_is printed in
     record {
@@ -76,7 +76,7 @@ sum_listed tells index unit file a b listed path shown found status is path_is s
       places = sym (ap (λ (listed' : Option (List ℕ)). option_map_or (λ _. (unit, file) ∷ []) listed' []) is);
       are_true = (
         subst (λ (listed' : Option (List ℕ)). IfSome listed' (λ bytes.
-            IsFound (tells (path_field (file_path_in index unit file))) bytes found)) (sym is) named,
+            IsTrueOfFile (tells (path_field (file_path_in index unit file))) bytes found)) (sym is) named,
         tt,
       );
       printed = subst (Appends a b) (sym (append-nil (sum_line index finding))) line;

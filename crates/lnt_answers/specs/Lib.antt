@@ -1,6 +1,5 @@
 pub mod AddressBlocks
 pub mod AddressLines
-pub mod DifferenceLines
 pub mod FileLines
 pub mod Laws
 pub mod Lines

@@ -22,9 +22,9 @@ IsIndexGiven (Good index) = Unit {0}
 IsIndexGiven (Bad reason) = ⊥
 
 -- A writer that held these bytes has gained the line of the reason why the section isn't good; nothing for a good one.
-abbrev pub IsTold : JudgedIndex → Option (List ℕ) → Option (List ℕ) → Type 0
-IsTold (Good index) old new = Keeps old new
-IsTold (Bad reason) old new = Appends old new (no_text reason ++ codes "\n")
+abbrev pub IsReasonTold : JudgedIndex → Option (List ℕ) → Option (List ℕ) → Type 0
+IsReasonTold (Good index) old new = Keeps old new
+IsReasonTold (Bad reason) old new = Appends old new (no_text reason ++ codes "\n")
 
 -- A writer that held these bytes has gained a front of the line of a true reason why the section isn't good, and nothing else.
 --     IsSo    which judgements are true of the section
@@ -48,15 +48,15 @@ row_text answer = codes "line "
     ++ (decimal answer.column ++ (codes " stmt " ++ decimal (if answer.is_stmt then 1 else 0)))))
 
 -- the end of the line: the path of the file, where there is one
-abbrev pub path_text : Option (List ℕ) → List ℕ
-path_text (Some path) = codes " path " ++ (quoted_text path ++ codes "\n")
-path_text None = codes "\n"
+abbrev pub path_end : Option (List ℕ) → List ℕ
+path_end (Some path) = codes " path " ++ (quoted_text path ++ codes "\n")
+path_end None = codes "\n"
 
 -- the line of the answer at a position
 abbrev pub answer_line : Indexed → Position → Option Answer → List ℕ
 answer_line index position None = none_text position
 answer_line index position (Some answer) =
-    (place_text position answer ++ row_text answer) ++ path_text (file_path_in index answer.unit answer.file)
+    (place_text position answer ++ row_text answer) ++ path_end (file_path_in index answer.unit answer.file)
 
 -- the line of the answer that the kept sequences of these units give at a position
 abbrev pub lookup_line : Indexed → Option ℕ → Bool → List (ℕ × Parts) → Position → List ℕ

@@ -39,21 +39,21 @@ pub record Finding : Type 0 where
   pub file : ℕ
   pub found : Option Agreement
 
-abbrev pub place_of : Finding → ℕ × ℕ
-place_of finding = (finding.unit, finding.file)
+abbrev pub file_of : Finding → ℕ × ℕ
+file_of finding = (finding.unit, finding.file)
 
 -- The agreement is true of what is told of the file, where that is its bytes. None, for a file that couldn't be read, claims
 -- nothing.
-abbrev pub IsFound : (Option (List ℕ) → Type 0) → List ℕ → Option Agreement → Type 0
-IsFound tells listed None = Unit {0}
-IsFound tells listed (Some agreement) =
+abbrev pub IsTrueOfFile : (Option (List ℕ) → Type 0) → List ℕ → Option Agreement → Type 0
+IsTrueOfFile tells listed None = Unit {0}
+IsTrueOfFile tells listed (Some agreement) =
     (told : Option (List ℕ)) × tells told × IfSome told (λ bytes. Agrees agreement (md5 bytes) listed)
 
 -- The finding is true of the file at its listed path and of its listed sum.
 abbrev pub IsTrueFinding : (List ℕ → Option (List ℕ) → Type 0) → Indexed → Finding → Type 0
 IsTrueFinding tells index finding =
     IfSome (file_sum_in index finding.unit finding.file)
-    (λ listed. IsFound (tells (path_field (file_path_in index finding.unit finding.file))) listed finding.found)
+    (λ listed. IsTrueOfFile (tells (path_field (file_path_in index finding.unit finding.file))) listed finding.found)
 
 -- ---- what is printed
 
@@ -91,7 +91,7 @@ sums_status (finding ∷ findings) = both (found_status finding.found) (sums_sta
 pub record AreSumsTold (tells : List ℕ → Option (List ℕ) → Type 0) (index : Indexed) (files : List (ℕ × ℕ)) (old new : Option (List ℕ))
     (status : Status) : Type 0 where
   pub findings : List Finding
-  pub places : map place_of findings ≡ files
+  pub places : map file_of findings ≡ files
   pub are_true : AllByRecursion (IsTrueFinding tells index) findings
   pub printed : Appends old new (flat_map (sum_line index) findings)
   pub status_is : status ≡ sums_status findings

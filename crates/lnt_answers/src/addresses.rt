@@ -27,7 +27,7 @@ use std::io::Write;
 // The number of bytes that a pull asks the source for: as many as the buffer of a file holds, so that a pull is one read.
 const BLOCK: usize = 1 << 16;
 
-/// Prints a line for each line of the text that the source has to give: the answer at its position, as `print_lookup`
+/// Prints a line for each line of the text that the source has to give: the answer at its position, as `print_lookups`
 /// prints it, or that the line is bad.
 ///
 /// A line is `ADDRESS` or `ADDRESS,N`, and ends with a line feed, with a carriage return and a line feed, or with the text.

@@ -1,5 +1,5 @@
 //! The files of a good section, as comma-separated values.
-ghost use Rattle.std.specs.Prelude.{◌≡◌, ◌++◌, IfErr, IfOk, OnErr, OnOk, Some, false, string_bytes};
+ghost use Rattle.std.specs.Prelude.{◌≡◌, IfErr, IfOk, OnErr, OnOk, Some, false, string_bytes};
 ghost use Rattle.std.specs.Io.KnownBytes.{Appends};
 ghost use Rattle.csv.specs.Writing as csv;
 ghost use Rattle.lnt_output.specs.Fronts.{AppendsFront};

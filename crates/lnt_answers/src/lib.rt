@@ -2,11 +2,10 @@
 //!
 //! [`judge_section`] gives the index of a good section, and prints why another one isn't good. From the index
 //! [`print_lookups`] and [`print_addresses`] print the answers at positions, [`print_files`] the files, and [`print_sums`]
-//! whether the files have their listed MD5 sums. [`print_differences`] prints where a table's answers differ.
+//! whether the files have their listed MD5 sums.
 #![tactic(auto)]
 
 mod addresses;
-mod differences;
 mod files;
 mod judge;
 pub mod laws;
@@ -14,8 +13,7 @@ mod lookup;
 mod sums;
 
 pub use addresses::print_addresses;
-pub use differences::print_differences;
 pub use files::print_files;
 pub use judge::judge_section;
-pub use lookup::{print_lookup, print_lookups};
+pub use lookup::print_lookups;
 pub use sums::{lists_sums, print_sums};

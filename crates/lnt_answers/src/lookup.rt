@@ -17,12 +17,12 @@ use lnt_text::{PositionText, Quoted};
 use std::alloc::Global;
 use std::io::Write;
 
-/// Prints the line with the answer at the position and the path of its file, or that there is no answer. The line is made in
-/// `room` first, whose old contents are dropped.
-///
-/// It answers `Done`. It stops by `Write` where the writer failed, and by `Memory`. Where it stops, the writer has gained
-/// a front of the line, and nothing else.
-pub fn print_lookup<W: Write>(
+// Prints the line with the answer at the position and the path of its file, or that there is no answer. The line is made in
+// `room` first, whose old contents are dropped.
+//
+// It answers `Done`. It stops by `Write` where the writer failed, and by `Memory`. Where it stops, the writer has gained
+// a front of the line, and nothing else.
+pub(crate) fn print_lookup<W: Write>(
     alloc: Global,
     index: &Index<'_>,
     position: Position,
@@ -81,8 +81,11 @@ fn print_answered<W: Write>(
     Ok(())
 }
 
-/// Prints the lines of `print_lookup` for these positions, in their order. It answers and stops as `print_lookup` does: where
-/// it stops, the writer has gained a front of these lines, and nothing else.
+/// Prints a line for each of these positions, in their order: the answer there and the path of its file, or that there is no
+/// answer.
+///
+/// It answers `Done`. It stops by `Write` where the writer failed, and by `Memory`. Where it stops, the writer has gained
+/// a front of these lines, and nothing else.
 pub fn print_lookups<W: Write>(
     alloc: Global,
     index: &Index<'_>,

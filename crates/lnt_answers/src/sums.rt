@@ -5,7 +5,7 @@ ghost use Rattle.lnt_output.specs.Fronts.{HasBegun};
 ghost use Rattle.lnt_sources.specs.Files.{TellsNoMore};
 ghost use Rattle.lnt_sources.specs.Halts.{IsPrinting};
 ghost use Rattle.lnt_text.specs.Quotes.{quoted_text};
-ghost use Rattle.lnt_answers.specs.SumLines.{AreSumsTold, IsFound, both, found_status, found_text, head_text};
+ghost use Rattle.lnt_answers.specs.SumLines.{AreSumsTold, IsTrueOfFile, both, found_status, found_text, head_text};
 ghost use Rattle.lnt_answers.specs.SumLines.{listed_at, listed_files, listed_in};
 
 use crate::files::path_of;
@@ -105,7 +105,7 @@ fn print_sum<O: Opener, W: Write>(
 // Whether the file at the path has the sum. None where it can't be read.
 fn found_of<O: Opener>(path: &[u8], listed: &[u8; 16], opener: &mut O) -> Option<Agreement>
     ensures later { TellsNoMore (O.tells opener.old) (O.tells opener.new) }
-    ensures found { IsFound (O.tells opener.old path.now) listed.now result }
+    ensures found { IsTrueOfFile (O.tells opener.old path.now) listed.now result }
 {
     let name = str::from_utf8(path).ok()?;
     if name == "-" {

@@ -21,33 +21,36 @@ use Rattle.lnt_answers.specs.Lines.{HasBegunLine}
 use Rattle.lnt_answers.specs.SumLines.{listed_files}
 use Rattle.lnt_lines.specs.FaultTexts.{no_text}
 use Rattle.lnt_answers.proofs.SumLaws.{sums_later}
+use Rattle.lnt_verdicts.specs.Stretches.{AreStretchesBegun}
+use Rattle.lnt_verdicts.specs.Verdicts.{checked_line, checked_status}
 use Rattle.lnt_cli.specs.Answered.{AnswersCheck, AreTextsOf, IsChecked, options_in}
 use Rattle.lnt_cli.specs.Stopped.{ArePlacesBegun, BeginsGood, BeginsJudged, BeginsOfFile, BeginsPlaces, BeginsQuestion}
-use Rattle.lnt_cli.specs.Stretches.{AreStretchesBegun}
-use Rattle.lnt_cli.specs.Verdicts.{checked_status, checked_text}
 
 -- a front of the line of a check's result, which is the answer once its line is printed
 check_begun : (tells : List ℕ → Option (List ℕ) → Type 0) (from : Judging) (table : List ℕ) (checked : Checked) (old new : Option (List ℕ))
-    → ((before after : Option (List ℕ)) → Appends before after (checked_text checked) → IsChecked tells from table before after checked)
-    → AppendsFront old new (checked_text checked) → HasBegun (AnswersCheck tells from table old) old new
+    → ((before after : Option (List ℕ)) → Appends before after (checked_line checked) → IsChecked tells from table before after checked)
+    → AppendsFront old new (checked_line checked) → HasBegun (AnswersCheck tells from table old) old new
 check_begun tells from table checked old new so front = record {
-  whole = checked_text checked;
+  whole = checked_line checked;
   ending = checked_status checked;
   is_end = record {
     checked = checked;
-    so = so old (append_known old (checked_text checked)) (appends_known old (checked_text checked));
+    so = so old (append_known old (checked_line checked)) (appends_known old (checked_line checked));
     status_is = refl;
   };
   front = front;
 }
 
--- the same where the check was stopped
-pub check_stopped : {T E : Type 0} (tells : List ℕ → Option (List ℕ) → Type 0) (from : Judging) (table : List ℕ) (checked : Checked)
-    (old new : Option (List ℕ)) (ended : Result T E)
-    → ((before after : Option (List ℕ)) → Appends before after (checked_text checked) → IsChecked tells from table before after checked)
-    → AppendsFront old new (checked_text checked) → OnErr ended (Keeps old new ⊎ HasBegun (AnswersCheck tells from table old) old new)
-check_stopped tells from table checked old new (Ok status) so front = tt
-check_stopped tells from table checked old new (Err stop) so front = inr (check_begun tells from table checked old new so front)
+-- the same where the printing of that line stopped the run
+pub check_stopped : {R T S E : Type 0} (tells : List ℕ → Option (List ℕ) → Type 0) (from : Judging) (table : List ℕ) (checked : Checked)
+    (old new : Option (List ℕ)) (printed : Result R E) (ended : Result T S)
+    → ((before after : Option (List ℕ)) → Appends before after (checked_line checked) → IsChecked tells from table before after checked)
+    → OnErr ended (IsErr printed) → OnErr printed (AppendsFront old new (checked_line checked))
+    → OnErr ended (Keeps old new ⊎ HasBegun (AnswersCheck tells from table old) old new)
+check_stopped tells from table checked old new printed (Ok status) so is front = tt
+check_stopped tells from table checked old new (Ok value) (Err stop) so is front = absurd (false≢true is)
+check_stopped tells from table checked old new (Err halt) (Err stop) so is front =
+    inr (check_begun tells from table checked old new so front)
 
 -- ---- sections that are read
 

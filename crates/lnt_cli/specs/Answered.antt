@@ -18,10 +18,10 @@ use Rattle.lnt_words.specs.declared.request.Request.{Request}
 use Rattle.lnt_words.specs.declared.request.Request.TheVariants.{Help, Read, Judge, Addresses, Check}
 use Rattle.lnt_table.specs.declared.by_path.Checked.{Checked}
 use Rattle.lnt_table.specs.AnyVersion.{IsTrueCheck}
+use Rattle.lnt_verdicts.specs.Verdicts.{checked_line, checked_status}
+use Rattle.lnt_cli.specs.Places.{ArePlacesTold}
 use Rattle.lnt_cli.specs.Questions.{AnswersAddressesJudged, AnswersJudged}
 use Rattle.lnt_cli.specs.Readings.{AnswersReading}
-use Rattle.lnt_cli.specs.Stretches.{ArePlacesTold}
-use Rattle.lnt_cli.specs.Verdicts.{checked_status, checked_text}
 
 -- the options with which a section is read and judged
 abbrev pub options_in : Judging → Options
@@ -50,7 +50,7 @@ pub record IsChecked (tells : List ℕ → Option (List ℕ) → Type 0) (from :
   pub of_table : tells table table_bytes
   pub is_true : IfSome section_bytes (λ section. IfSome table_bytes (λ text.
       IsTrueCheck line general (options_in from) section text checked))
-  pub printed : Appends old new (checked_text checked)
+  pub printed : Appends old new (checked_line checked)
 
 -- The writer has gained the line of such an answer, and the run ends with that answer's status.
 pub record AnswersCheck (tells : List ℕ → Option (List ℕ) → Type 0) (from : Judging) (table : List ℕ)

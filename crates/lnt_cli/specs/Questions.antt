@@ -25,7 +25,7 @@ use Rattle.lnt_answers.specs.FileLines.{files_text}
 use Rattle.lnt_answers.specs.Lines.{lookup_line}
 use Rattle.lnt_answers.specs.SumLines.{AreSumsTold, listed_files}
 use Rattle.lnt_lines.specs.FaultTexts.{no_text}
-use Rattle.lnt_cli.specs.PathTables.{IsPrintedTable}
+use Rattle.lnt_verdicts.specs.PathTables.{IsPrintedTable}
 
 -- It holds for all units that the index may have been made of, with these options.
 abbrev pub ForUnitsOf : Options → Indexed → (List (ℕ × Parts) → Type 0) → Type 0

@@ -3,7 +3,8 @@ ghost use Rattle.std.specs.Prelude.{◌≡◌, IfErr, IfOk, IsErr, Ok, OnErr};
 ghost use Rattle.std.specs.Option.{option_copied};
 ghost use Rattle.lnt_sources.specs.Files.{TellsNoMore};
 ghost use Rattle.lnt_cli.specs.Answered.{AreStringsOf, AreTextsOf};
-ghost use Rattle.lnt_cli.specs.Stops.{IsFileStop, IsUsage};
+ghost use Rattle.lnt_cli.specs.Stepping.{IsFileStop};
+ghost use Rattle.lnt_cli.specs.Stops.{IsUsage};
 
 use crate::stop::CliStop;
 use lnt_notes::{Seen, Watched};

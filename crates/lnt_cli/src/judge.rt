@@ -3,22 +3,22 @@ ghost use Rattle.std.specs.Prelude.{◌≡◌, ◌⊎◌, ℕ, List, Option, IfE
 ghost use Rattle.std.specs.Io.KnownBytes.{Appends, Keeps};
 ghost use Rattle.lnt_output.specs.Fronts.{HasBegun};
 ghost use Rattle.lnt_cli.specs.Answered.{AnswersCheck, AnswersPlaces, IsChecked, options_in};
+ghost use Rattle.lnt_cli.specs.Stepping.{places_status};
 ghost use Rattle.lnt_cli.specs.Stopped.{BeginsPlaces};
 ghost use Rattle.lnt_cli.specs.Stops.{IsUsage};
-ghost use Rattle.lnt_cli.specs.Stretches.{places_status};
-ghost use Rattle.lnt_cli.specs.Verdicts.{checked_status, checked_text, compared_status, verdict_status};
+ghost use Rattle.lnt_verdicts.specs.Verdicts.{checked_line, checked_status, compared_status, verdict_status};
 
 use crate::inputs::{of_file, open_both};
 use crate::question::judge;
 use crate::session::Session;
 use crate::stop::CliStop;
-use crate::stretches::{Places, Stretches, print_stretches};
-use crate::table::print_checked;
 use lnt_lines::{JudgedIndex, No, Options};
 use lnt_notes::{Columns, Given, Hints, Seen, tell_agreed, tell_bad, tell_good, tell_table};
+use lnt_paths::ComparedByPath;
 use lnt_records::TableFault;
 use lnt_sources::{Halt, Opener, Status};
-use lnt_table::{Checked, ComparedByPath, TableNo, Verdict, check_any};
+use lnt_table::{Checked, TableNo, Verdict, check_any};
+use lnt_verdicts::{Stretches, print_checked, print_stretches};
 use lnt_wire::Source;
 use lnt_words::Judging;
 use std::alloc::Global;
@@ -61,7 +61,8 @@ impl<O: Opener, W: Write, N: Write> Session<'_, '_, '_, O, W, N> {
     {
         let seen = Cell::new(Seen::nothing());
         let checked = judge_table(self.alloc, from, table, self.opener, &seen)?;
-        print_checked(self.alloc, &checked, self.out)?;
+        let printed = print_checked(self.alloc, &checked, self.out);
+        of_file(self.alloc, table, printed)?;
         Ok(self.tell_checked(&checked, &seen.get(), from, table))
     }
 }
@@ -76,7 +77,7 @@ fn judge_table<O: Opener>(
     seen: &Cell<Seen>,
 ) -> Result<Checked, CliStop>
     ensures usage { IfErr result (λ stop. IsUsage stop → ⊥) }
-    ensures checked { IfOk result (λ checked. (old new : Option (List ℕ)) → Appends old new (checked_text checked)
+    ensures checked { IfOk result (λ checked. (old new : Option (List ℕ)) → Appends old new (checked_line checked)
         → IsChecked (O.tells opener.old) from.now table.now old new checked) }
 {
     let opened = open_both(alloc, opener, from, table, seen)?;
@@ -96,6 +97,15 @@ fn judge_table<O: Opener>(
             Err(CliStop::of_file(alloc, name, Halt::from(stop)))
         }
     }
+}
+
+// What was printed about a section and a table, where all places are asked for.
+#[derive(Drop)]
+pub(crate) enum Places {
+    // The section isn't good, for this reason.
+    Section(No),
+    // The section is good, and this was printed about the table.
+    Table(Stretches),
 }
 
 // All places at which a table answers otherwise.

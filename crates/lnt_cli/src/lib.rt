@@ -7,14 +7,10 @@
 
 mod inputs;
 mod judge;
-mod path_table;
 mod program;
 mod question;
 mod session;
 mod stop;
-mod stretches;
-mod table;
-mod verdict;
 
 pub use lnt_sources::{Opener, Status};
 pub use lnt_sums::{Agreement, md5_agrees, sum_of};

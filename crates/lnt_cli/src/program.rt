@@ -1,5 +1,5 @@
 //! One run of the command.
-ghost use Rattle.std.specs.Prelude.{◌≡◌, ◌⊎◌, map, string_bytes, IfErr, IfOk, OnErr};
+ghost use Rattle.std.specs.Prelude.{◌⊎◌, map, string_bytes, IfErr, IfOk, OnErr};
 ghost use Rattle.std.specs.Io.KnownBytes.{Keeps};
 ghost use Rattle.lnt_cli.specs.Answered.{IsAnswered};
 ghost use Rattle.lnt_cli.specs.Runs.{AnswersWords, StopsWords};

@@ -2,7 +2,7 @@
 ghost use Rattle.std.specs.Prelude.{◌≡◌, ◌-◌, ◌^◌, ◌<◌, ◌⊎◌, IfErr, IfOk, IfSome, OnErr};
 ghost use Rattle.std.specs.Io.KnownBytes.{Keeps};
 ghost use Rattle.lnt_answers.specs.AddressLines.{AreAddressesBegun, AreAddressesTold};
-ghost use Rattle.lnt_answers.specs.Lines.{HasBegunLine, IsIndexGiven, IsTold};
+ghost use Rattle.lnt_answers.specs.Lines.{HasBegunLine, IsIndexGiven, IsReasonTold};
 ghost use Rattle.lnt_cli.specs.Answered.{AnswersAddresses, AnswersQuestion, options_in};
 ghost use Rattle.lnt_cli.specs.Questions.{AnswersAddressesJudged, AnswersGood, AnswersJudged};
 ghost use Rattle.lnt_cli.specs.Stopped.{BeginsAddresses, BeginsAddressesJudged, BeginsGood, BeginsJudged, BeginsQuestion};
@@ -13,18 +13,17 @@ ghost use Rattle.lnt_lines.specs.declared.section.JudgedIndex.{JudgedIndex};
 
 use crate::inputs::{Texts, of_file, open_both, open_judged};
 use crate::judge::options_of;
-use crate::path_table::print_path_table;
 use crate::session::Session;
 use crate::stop::CliStop;
-use crate::table::print_table;
 use lnt_answers::{
     judge_section, lists_sums, print_addresses, print_files, print_lookups, print_sums,
 };
 use lnt_lines::{Index, JudgedIndex, No};
 use lnt_notes::{Hints, Seen, hints_of};
 use lnt_output::write_whole;
+use lnt_paths::PathVersion;
 use lnt_sources::{Halt, Opener, Status};
-use lnt_table::PathVersion;
+use lnt_verdicts::{print_path_table, print_table};
 use lnt_wire::Source;
 use lnt_words::{Judging, Question};
 use std::alloc::Global;
@@ -251,7 +250,7 @@ pub(crate) fn judge<'t, R: Source, W: Write>(
     ensures usage { IfErr result (λ stop. IsUsage stop → ⊥) }
     ensures judged { IfOk result (λ judged. IfSome (R.remaining section.old) (λ bytes.
         IsJudgedIndex texts.now.line.items texts.now.general.items (options_in from.now) bytes judged)) }
-    ensures told { IfOk result (λ judged. IsTold judged (W.contents out.old) (W.contents out.new)) }
+    ensures told { IfOk result (λ judged. IsReasonTold judged (W.contents out.old) (W.contents out.new)) }
     ensures silent { IfOk result (λ judged. IsIndexGiven judged → out.new ≡ out.old) }
     ensures stopped { OnErr result (Keeps (W.contents out.old) (W.contents out.new) ⊎ HasBegunLine (λ judged.
         IfSome (R.remaining section.old) (λ bytes.

@@ -1,10 +1,10 @@
 //! Why a run is stopped.
 ghost use Rattle.std.specs.Prelude.{◌≡◌, IfOk, OnErr};
-ghost use Rattle.lnt_cli.specs.Stops.{IsFileStop, IsUsage, halt_of_write};
+ghost use Rattle.lnt_cli.specs.Stepping.{IsFileStop};
+ghost use Rattle.lnt_cli.specs.Stops.{IsUsage};
 ghost use Rattle.lnt_cli.specs.declared.stop.CliStop.TheVariants.{Memory, Write};
 
 use lnt_sources::Halt;
-use lnt_table::WriteStop;
 use lnt_text::Shown;
 use lnt_words::WordsStop;
 use std::alloc::{AllocError, Global};
@@ -55,16 +55,6 @@ impl CliStop {
             Halt::Write => CliStop::Write,
             Halt::Memory => CliStop::Memory,
         })
-    }
-}
-
-// The stop of the work on a section whose table couldn't be written.
-pub(crate) fn halt_of(stop: WriteStop) -> Halt
-    ensures { result ≡ halt_of_write stop }
-{
-    match stop {
-        WriteStop::Memory => Halt::Memory,
-        WriteStop::Write => Halt::Write,
     }
 }
 

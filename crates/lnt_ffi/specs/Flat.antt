@@ -1,5 +1,5 @@
 -- Sections, answers and spans as C sees them, and what they stand for.
-use Rattle.std.specs.Prelude.{◌≡◌, if◌then◌else◌, true, false, None, Option, Some}
+use Rattle.std.specs.Prelude.{if◌then◌else◌, true, false, None, Option, Some}
 use Rattle.lnt_wire.specs.declared.format.Order.TheVariants.{Big, Little}
 use Rattle.lnt_lines.specs.declared.options.Options.{Options}
 use Rattle.lnt_spans.specs.declared.answer.Answer.{Answer}
@@ -57,8 +57,3 @@ flat_answer answer = widened (narrow_answer answer) answer.more
 abbrev pub flat_side : Option Answer → FlatAnswer
 flat_side None = nothing
 flat_side (Some answer) = flat_answer answer
-
--- ---- what isn't too long has no more bytes than it may give
-
-pub is_never_too_long : {A : Type 0} → false ≡ true → A
-is_never_too_long e = cc

@@ -1,4 +1,5 @@
 pub mod ByPath
+pub mod ByteSources
 pub mod Flat
 pub mod Index
 pub mod Told

@@ -20,7 +20,7 @@ impl<'a> Bytes<'a> {
 
 impl Source for Bytes<'_> {
     ghost use Rattle.std.specs.Prelude.{Some, false, length};
-    ghost use Rattle.lnt_ffi.specs.Flat.{is_never_too_long};
+    ghost use Rattle.lnt_ffi.specs.ByteSources.{is_never_too_long};
 
     ghost remaining = { λ s. Some s.rest.now };
 

@@ -1,7 +1,7 @@
 //! The positions at which sequences of a section begin and end.
 ghost use Rattle.std.specs.Prelude.{◌-◌, ◌^◌, ◌<◌};
 
-use lnt_machine::Run;
+use lnt_machine::Rows;
 use lnt_sequences::SeqId;
 use lnt_spans::Position;
 use lnt_stream::{SectionReader, UnitBuffer};
@@ -53,37 +53,25 @@ fn ends_in(alloc: Global, buffer: &UnitBuffer, index: u64) -> Option<Ends> {
 
 // The ends of the sequence with this index in the unit. None where the unit has fewer sequences, or its program doesn't run
 // that far.
-#[tactic(auto, using(lnt_machine::proofs::WalkLaws::step_allowed))]
 fn ends_of(unit: &UnitView<'_>, index: u64) -> Option<Ends> {
-    let mut run = Run::new(unit.header());
     let mut ended: u64 = 0;
     let mut first = None;
-    for op in unit.ops() {
-        let Ok(op) = op else {
-            return None;
-        };
-        let begins = !run.is_open();
-        let row = match run.step(&op) {
-            Ok(Some(row)) => row,
-            Ok(None) => continue,
-            Err(_) => return None,
-        };
+    for row in Rows::new(unit.header(), unit.ops()) {
+        let row = row.ok()?;
         let last = Position {
             address: row.address,
             op: row.op_index,
         };
-        if begins {
-            first = Some(last);
+        let low = first.unwrap_or(last);
+        if !row.end_sequence {
+            first = Some(low);
+            continue;
         }
-        if row.end_sequence {
-            if ended == index {
-                return Some(Ends {
-                    first: first?,
-                    last,
-                });
-            }
-            ended = ended.saturating_add(1);
+        if ended == index {
+            return Some(Ends { first: low, last });
         }
+        ended = ended.saturating_add(1);
+        first = None;
     }
     None
 }

@@ -6,15 +6,15 @@
 #![tactic(auto)]
 
 mod ends;
-mod lines;
 mod look;
 mod marks;
+mod records;
 mod survey;
 mod tell;
 mod texts;
 mod watched;
 
-pub use lines::Columns;
+pub use records::Columns;
 pub use tell::{
     Given, Hints, hints_of, print_note, tell_agreed, tell_bad, tell_good, tell_refused, tell_table,
 };

@@ -1,4 +1,4 @@
-//! The lines at which records of a table begin, and the kinds of its columns.
+//! The records of a table: the line of the text at which one begins, and the kinds of its columns.
 use csv::{ByteRecord, Reader, ReaderBuilder};
 use lnt_text::Column;
 use std::alloc::Global;
@@ -46,37 +46,40 @@ pub enum Columns {
     ByPath,
 }
 
-// The kind of the column with this index, counted from 0, in a table with these columns.
-pub(crate) fn column_at(columns: Columns, index: u64) -> Column {
+// The kind of the column with this index, counted from 0, in a table with these columns. None where any bytes may stand in
+// it, or the table has no such column.
+pub(crate) fn column_at(columns: Columns, index: u64) -> Option<Column> {
     match columns {
         Columns::Numbered => numbered_column(index),
         Columns::ByPath => path_column(index),
     }
 }
 
-// The kind of this column in versions 3 and 4. Column 2, the path, has no case of its own: a path may be any bytes.
-fn path_column(index: u64) -> Column {
+// The kind of this column in versions 3 and 4. Column 2 has none: a path may be any bytes.
+fn path_column(index: u64) -> Option<Column> {
     match index {
-        0 => Column::Low,
-        1 => Column::High,
-        3 => Column::Line,
-        _ => Column::Column,
+        0 => Some(Column::Low),
+        1 => Some(Column::High),
+        3 => Some(Column::Line),
+        4 => Some(Column::Column),
+        _ => None,
     }
 }
 
 // The kind of this column in versions 1 and 2.
-fn numbered_column(index: u64) -> Column {
+fn numbered_column(index: u64) -> Option<Column> {
     match index {
-        0 => Column::Low,
-        1 => Column::LowOp,
-        2 => Column::High,
-        3 => Column::HighOp,
-        4 => Column::Unit,
-        5 => Column::File,
-        6 => Column::Line,
-        7 => Column::Column,
-        8 => Column::IsStmt,
-        9 => Column::Isa,
-        _ => Column::Discriminator,
+        0 => Some(Column::Low),
+        1 => Some(Column::LowOp),
+        2 => Some(Column::High),
+        3 => Some(Column::HighOp),
+        4 => Some(Column::Unit),
+        5 => Some(Column::File),
+        6 => Some(Column::Line),
+        7 => Some(Column::Column),
+        8 => Some(Column::IsStmt),
+        9 => Some(Column::Isa),
+        10 => Some(Column::Discriminator),
+        _ => None,
     }
 }

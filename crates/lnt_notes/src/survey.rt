@@ -2,7 +2,7 @@
 ghost use Rattle.std.specs.Prelude.{◌-◌, ◌^◌, ◌<◌};
 
 use crate::marks::is_mark;
-use lnt_machine::{Row, Run};
+use lnt_machine::{Row, Rows};
 use lnt_stream::{SectionReader, UnitBuffer};
 use lnt_unit::UnitInPlace;
 use lnt_wire::{Order, Source};
@@ -45,24 +45,16 @@ impl Survey {
         }
     }
 
-    // Adds the sequences of a unit. None where its program doesn't run to its end.
-    #[tactic(auto, using(lnt_machine::proofs::WalkLaws::step_allowed))]
+    // Adds the sequences of a unit. None where its program doesn't run.
     fn see_unit(&mut self, unit: &UnitInPlace<'_>) -> Option<()> {
         let numbers = unit.numbers();
-        let mut run = Run::new(numbers);
-        for op in unit.ops() {
-            let Ok(op) = op else {
-                return None;
-            };
-            let begins = !run.is_open();
-            let row = match run.step(&op) {
-                Ok(Some(row)) => row,
-                Ok(None) => continue,
-                Err(_) => return None,
-            };
+        let mut begins = true;
+        for row in Rows::new(numbers, unit.ops()) {
+            let row = row.ok()?;
             if begins {
                 self.see(&row, numbers.address_size());
             }
+            begins = row.end_sequence;
         }
         Some(())
     }

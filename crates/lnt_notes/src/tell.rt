@@ -4,9 +4,9 @@ ghost use Rattle.std.specs.Io.KnownBytes.{Appends};
 ghost use Rattle.lnt_text.specs.Notes.{note_line};
 
 use crate::ends::end_alike;
-use crate::lines::{Columns, column_at, line_of};
 use crate::look::look_of;
 use crate::marks::may_be_mark;
+use crate::records::{Columns, column_at, line_of};
 use crate::survey::{Survey, survey_of};
 use crate::texts::strings_of;
 use crate::watched::Seen;
@@ -297,8 +297,11 @@ pub fn tell_table<O: Opener, N: Write>(
             Note::TableRecord(line, RecordRule::Fields)
         }
         TableFault::Number(record, column) => {
+            let Some(column) = column_at(columns, column) else {
+                return Ok(());
+            };
             let line = line_again(alloc, record, table, opener);
-            Note::TableRecord(line, RecordRule::Kind(column_at(columns, column)))
+            Note::TableRecord(line, RecordRule::Kind(column))
         }
         TableFault::Order(record) => {
             let line = line_again(alloc, record, table, opener);

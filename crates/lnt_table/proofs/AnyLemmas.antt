@@ -28,9 +28,8 @@ use Rattle.lnt_table.specs.declared.verdict.Verdict.{Verdict}
 use Rattle.lnt_table.specs.declared.verdict.Verdict.TheVariants.{No}
 use Rattle.lnt_table.specs.AnyVersion.{IsComparedByPath, IsTrueCheck, IsTrueCheckOfSection}
 use Rattle.lnt_table.specs.ByPath.{path_at, told_path}
-use Rattle.lnt_table.specs.Comparisons.{IsCheckedWith, IsOfGood}
 use Rattle.lnt_table.specs.Headline.{IsTrueOfSection, IsTrueVerdict}
-use Rattle.lnt_table.specs.Verdicts.{IsComparedWith, verdict_of}
+use Rattle.lnt_table.specs.Stepping.{IsCheckedWith, IsComparedWith, IsOfGood, verdict_of}
 use Rattle.lnt_table.proofs.CheckLemmas.{compared_told, good_told}
 
 -- a comparison with the answers of `f` is one with the same answers given by `g`

@@ -19,7 +19,7 @@ use Rattle.lnt_lines.specs.declared.options.Options.{Options}
 use Rattle.lnt_lines.specs.Drafts.{IsIndexOfSection}
 use Rattle.lnt_lines.specs.Indexed.{Indexed, IsIndexOf}
 use Rattle.lnt_table.specs.Headline.{IsFaultyTable, IsTrueOfSection, IsTrueVerdict, told_answer}
-use Rattle.lnt_table.specs.Verdicts.{IsComparedWith, verdict_of}
+use Rattle.lnt_table.specs.Stepping.{IsComparedWith, verdict_of}
 
 -- Spans that answer as the rows do also answer so as each version tells answers.
 pub told_so : (version : Version) (dead : Option ℕ) (skip : Bool) (units : List (ℕ × Parts)) (spans : List Span)

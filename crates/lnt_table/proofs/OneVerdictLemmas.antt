@@ -24,7 +24,7 @@ use Rattle.lnt_table.specs.declared.verdict.Verdict.{Verdict}
 use Rattle.lnt_table.specs.declared.verdict.Verdict.TheVariants.{Yes, No}
 use Rattle.lnt_table.specs.Headline.{AnswersOtherwise, AnswersRight, IsFaultyTable, IsTrueVerdict, told_answer}
 use Rattle.lnt_table.specs.Laws.{OneVerdict, OnlyYes}
-use Rattle.lnt_table.specs.Verdicts.{verdict_of}
+use Rattle.lnt_table.specs.Stepping.{verdict_of}
 
 -- ---- the least difference
 

@@ -42,5 +42,3 @@ IsTrueCheck line general options section table (ByPath compared) = IsTrueByPath 
 abbrev pub IsTrueCheckOfSection : List ℕ → List ℕ → Options → List ℕ → Checked → Type 0
 IsTrueCheckOfSection line general options section (Numbered verdict) = IsTrueOfSection line general options section verdict
 IsTrueCheckOfSection line general options section (ByPath compared) = IsGoodSection line general options section
-
--- ---- the answer for a good section, by a comparison; for contracts within this crate

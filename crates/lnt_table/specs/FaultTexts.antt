@@ -1,8 +1,17 @@
--- The line that says why a table doesn't answer as a section does, as its type prints it.
+-- The lines that say whether a table answers as a section does, as their types print them.
 use Rattle.std.specs.Prelude.{ℕ, List, ◌++◌, codes, decimal}
 use Rattle.lnt_table.specs.declared.verdict.TableNo.{TableNo}
 use Rattle.lnt_table.specs.declared.verdict.TableNo.TheVariants as no
+use Rattle.lnt_table.specs.declared.verdict.Verdict.{Verdict}
+use Rattle.lnt_table.specs.declared.verdict.Verdict.TheVariants.{Yes, No}
+use Rattle.lnt_table.specs.declared.by_path.Checked.{Checked}
+use Rattle.lnt_table.specs.declared.by_path.Checked.TheVariants.{Numbered, ByPath}
+use Rattle.lnt_table.specs.PathTexts.{path_stretch_text}
+use Rattle.lnt_table.specs.Verdicts.{no_of_fault}
 use Rattle.lnt_lines.specs.FaultTexts.{no_text}
+use Rattle.lnt_paths.specs.declared.answer.ComparedByPath.{ComparedByPath}
+use Rattle.lnt_paths.specs.declared.answer.ComparedByPath.TheVariants.{Same, Fault, Differs}
+use Rattle.lnt_paths.specs.PathStretches.{stretch_of}
 use Rattle.lnt_text.specs.Texts.{difference_text}
 
 -- why a table doesn't answer as the section does
@@ -15,3 +24,19 @@ table_no_text (no.Number record_number column) =
 table_no_text (no.Order record_number) = codes "no 39 table order record " ++ decimal record_number
 table_no_text (no.Differs position by_table by_section) =
     difference_text (record { position = position; by_table = by_table; by_section = by_section })
+
+-- the verdict on a table of version 1 or 2
+abbrev pub verdict_text : Verdict → List ℕ
+verdict_text Yes = codes "yes"
+verdict_text (No reason) = table_no_text reason
+
+-- the outcome of a comparison by path
+abbrev pub compared_text : ComparedByPath → List ℕ
+compared_text Same = codes "yes"
+compared_text (Fault told) = table_no_text (no_of_fault told)
+compared_text (Differs difference) = path_stretch_text (stretch_of difference)
+
+-- a check's answer, of a table of any version
+abbrev pub checked_text : Checked → List ℕ
+checked_text (Numbered verdict) = verdict_text verdict
+checked_text (ByPath compared) = compared_text compared

@@ -1,9 +1,10 @@
 pub mod AnyVersion
 pub mod ByPath
-pub mod Comparisons
 pub mod FaultTexts
 pub mod Headline
 pub mod Laws
+pub mod PathTexts
+pub mod Stepping
 pub mod Stretches
 pub mod Verdicts
 pub mod Written

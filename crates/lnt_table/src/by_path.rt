@@ -1,13 +1,15 @@
 //! Checks a section against an address table of any version.
-ghost use Rattle.std.specs.Prelude.{◌≡◌, ◌≢◌, ◌+◌, ◌-◌, ◌^◌, ◌<◌, ◌⊎◌, Bool, ℕ, List, Option, IfOk, IfSome, IsErrOf};
+ghost use Rattle.std.specs.Prelude.{◌≡◌, ◌≢◌, ◌+◌, ◌-◌, ◌^◌, ◌<◌, ◌⊎◌, Bool, ℕ, List, Option, IfOk, IfSome, IsErrOf, Some};
 ghost use Rattle.lnt_lines.specs.declared.no.No.{No as SectionNo};
 ghost use Rattle.lnt_wire.specs.declared.stop.Stop.TheVariants.{Read, TooLong};
 ghost use Rattle.lnt_unit.specs.declared.unit.Parts.{Parts};
 ghost use Rattle.lnt_lines.specs.Indexed.{IsIndexOf};
 ghost use Rattle.lnt_table.specs.AnyVersion.{IsTrueCheck, IsTrueCheckOfSection};
-ghost use Rattle.lnt_table.specs.Comparisons.{IsCheckedWith, IsOfGood};
+ghost use Rattle.lnt_table.specs.FaultTexts.{checked_text};
 ghost use Rattle.lnt_table.specs.Headline.{IsTooLong};
+ghost use Rattle.lnt_table.specs.Stepping.{IsCheckedWith, IsOfGood};
 
+use crate::path_lines::PathDifferenceLine;
 use crate::paths::IndexPaths;
 use crate::verdict::{TableNo, Verdict, verdict_of};
 use lnt_lines::{Index, JudgedIndex, Options, index_section};
@@ -15,6 +17,7 @@ use lnt_paths::{ComparedByPath, compare_by_path};
 use lnt_records::{TableRead, compare_or_take};
 use lnt_wire::{Source, Stop, Strings};
 use std::alloc::{AllocError, Global};
+use std::fmt;
 
 /// The answer of `check_any`.
 #[derive(Drop)]
@@ -24,6 +27,24 @@ pub enum Checked {
     /// The section is good, and the table begins with the header of neither version 1 nor 2. This is the outcome of its
     /// comparison with the section in versions 3 and 4: `Fault` of the header, where it begins with neither of theirs.
     ByPath(ComparedByPath),
+}
+
+/// The line that says so, without its line feed.
+impl fmt::Display for Checked {
+    ghost output = { λ checked. Some (checked_text checked) };
+
+    fn fmt<W: fmt::Write>(&self, f: &mut fmt::Formatter<W>) -> fmt::Result {
+        match self {
+            Checked::Numbered(verdict) => write!(f, "{verdict}"),
+            Checked::ByPath(ComparedByPath::Same) => write!(f, "yes"),
+            Checked::ByPath(ComparedByPath::Fault(fault)) => {
+                write!(f, "{}", TableNo::from(*fault))
+            }
+            Checked::ByPath(ComparedByPath::Differs(difference)) => {
+                write!(f, "{}", PathDifferenceLine(difference))
+            }
+        }
+    }
 }
 
 /// Checks a section as `check` does, against an address table of any of the four versions.

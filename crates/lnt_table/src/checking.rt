@@ -1,11 +1,11 @@
 //! Checks a section against an address table.
-ghost use Rattle.std.specs.Prelude.{◌≡◌, ◌≢◌, ◌+◌, ◌-◌, ◌^◌, ◌<◌, ◌⊎◌, Bool, ℕ, List, Option, IfOk, IfErr, IfSome, IsErrOf};
+ghost use Rattle.std.specs.Prelude.{◌≡◌, ◌≢◌, ◌+◌, ◌-◌, ◌^◌, ◌<◌, ◌⊎◌, Bool, ℕ, List, Option, IfOk, IfSome, IsErrOf};
 ghost use Rattle.lnt_lines.specs.declared.no.No.{No as SectionNo};
-ghost use Rattle.lnt_wire.specs.declared.stop.Stop.TheVariants.{Memory, Read, TooLong};
+ghost use Rattle.lnt_wire.specs.declared.stop.Stop.TheVariants.{Read, TooLong};
 ghost use Rattle.lnt_unit.specs.declared.unit.Parts.{Parts};
 ghost use Rattle.lnt_lines.specs.Indexed.{IsIndexOf};
 ghost use Rattle.lnt_table.specs.Headline.{IsTooLong, IsTrueOfSection, IsTrueVerdict};
-ghost use Rattle.lnt_table.specs.Verdicts.{IsComparedWith};
+ghost use Rattle.lnt_table.specs.Stepping.{IsComparedWith};
 
 use crate::verdict::{TableNo, Verdict, verdict_of};
 use lnt_lines::{Index, JudgedIndex, Options, index_section};

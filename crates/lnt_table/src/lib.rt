@@ -10,6 +10,7 @@
 mod by_path;
 mod checking;
 pub mod laws;
+mod path_lines;
 mod paths;
 mod stretches;
 mod verdict;
@@ -24,6 +25,7 @@ pub use lnt_paths::{
 };
 pub use lnt_records::{Differing, TableFault, WriteStop};
 pub use lnt_wire::Stop;
+pub use path_lines::{OperationLine, PathDifferenceLine};
 pub use paths::{IndexPaths, write_paths};
 pub use stretches::{AnyDiffering, differences, differences_any, differences_by_path};
 pub use verdict::{TableNo, Verdict};

@@ -1,8 +1,9 @@
 //! The answer of a check.
 ghost use Rattle.std.specs.Prelude.{◌≡◌, ◌≢◌, IfNone, IfSome, Some};
 ghost use Rattle.lnt_records.specs.declared.fault.TableFault.{TableFault as TableFaultSpec};
-ghost use Rattle.lnt_table.specs.FaultTexts.{table_no_text};
-ghost use Rattle.lnt_table.specs.Verdicts.{no_of_fault, verdict_of};
+ghost use Rattle.lnt_table.specs.FaultTexts.{table_no_text, verdict_text};
+ghost use Rattle.lnt_table.specs.Stepping.{verdict_of};
+ghost use Rattle.lnt_table.specs.Verdicts.{no_of_fault};
 
 use lnt_lines::No;
 use lnt_records::{Compared, TableFault};
@@ -17,6 +18,18 @@ pub enum Verdict {
     Yes,
     /// One of these doesn't hold. This is the first reason.
     No(TableNo),
+}
+
+/// The line that says so, without its line feed.
+impl fmt::Display for Verdict {
+    ghost output = { λ verdict. Some (verdict_text verdict) };
+
+    fn fmt<W: fmt::Write>(&self, f: &mut fmt::Formatter<W>) -> fmt::Result {
+        match *self {
+            Verdict::Yes => write!(f, "yes"),
+            Verdict::No(no) => write!(f, "{no}"),
+        }
+    }
 }
 
 /// The first reason why a table doesn't answer as a section does. Each kind of reason has a number, from 25 to 32 for the

@@ -1,8 +1,10 @@
+use Rattle.lnt_output.proofs.FrontLaws.{so_stopped}
 use Rattle.lnt_cli.proofs.StopLemmas.{check_stopped}
 use Rattle.lnt_cli.proofs.session.Session.check_table.Goals as goal
 
-pub returns-in_err-print_checked-clause-stopped : goal.returns-in_err-print_checked-clause-stopped
-returns-in_err-print_checked-clause-stopped g c =
+pub returns-in_err-of_file-clause-stopped : goal.returns-in_err-of_file-clause-stopped
+returns-in_err-of_file-clause-stopped g c =
     check_stopped (g.O.Opener.tells c.args.self.now.opener.now) c.args.from.now c.args.table.now c.in_ok-checked.checked
-    (g.W.Write.contents c.args.self.now.out.now) (g.W.Write.contents c.print_checked.new.out)
-    c.from_residual-in_err-print_checked.result c.in_ok-checked.ensures.checked c.in_err-print_checked.ensures.front
+    (g.W.Write.contents c.args.self.now.out.now) (g.W.Write.contents c.print_checked-printed.new.out) c.print_checked-printed.result
+    c.from_residual-in_err-of_file.result c.in_ok-checked.ensures.checked
+    (so_stopped c.from_residual-in_err-of_file.result _ c.in_err-of_file.ensures.err) c.print_checked-printed.ensures.front

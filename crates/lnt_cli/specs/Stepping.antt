@@ -1,0 +1,26 @@
+-- What the bodies of this crate say of the work on one file. No public contract speaks of it.
+use Rattle.std.specs.Prelude.{◌≡◌, ℕ, List, string_bytes}
+use Rattle.lnt_sources.specs.declared.halt.Halt.{Halt}
+use Rattle.lnt_sources.specs.declared.halt.Halt.TheVariants as halt
+use Rattle.lnt_sources.specs.declared.status.Status.{Status}
+use Rattle.lnt_sources.specs.declared.status.Status.TheVariants as ending
+use Rattle.lnt_verdicts.specs.Stretches.{told_status}
+use Rattle.lnt_cli.specs.declared.judge.Places.{Places}
+use Rattle.lnt_cli.specs.declared.judge.Places.TheVariants.{Section, Table}
+use Rattle.lnt_cli.specs.declared.stop.CliStop.{CliStop}
+use Rattle.lnt_cli.specs.declared.stop.CliStop.TheVariants.{Read, TooLong, Write, Memory}
+
+-- The stop of a run where the work on the file of this name was stopped. Where the stop has the name, it may be Memory instead,
+-- since memory may run out for a copy of the name.
+abbrev pub IsFileStop : Halt → List ℕ → CliStop → Type 0
+IsFileStop halt.Read name (Read told) = string_bytes told ≡ name
+IsFileStop halt.Read name stop = stop ≡ Memory
+IsFileStop halt.TooLong name (TooLong told) = string_bytes told ≡ name
+IsFileStop halt.TooLong name stop = stop ≡ Memory
+IsFileStop halt.Write name stop = stop ≡ Write
+IsFileStop halt.Memory name stop = stop ≡ Memory
+
+-- how a run ends where this was printed of a section and a table
+abbrev pub places_status : Places → Status
+places_status (Section reason) = ending.No
+places_status (Table told) = told_status told

@@ -1,0 +1,73 @@
+//! The lines that are printed of tables by path: where one and a section differ, and that there can't be one.
+ghost use Rattle.std.specs.Prelude.{Some};
+ghost use Rattle.std.specs.Option.{option_map};
+ghost use Rattle.lnt_paths.specs.PathDifferences.{told_path_answer};
+ghost use Rattle.lnt_paths.specs.PathStretches.{stretch_of};
+ghost use Rattle.lnt_table.specs.PathTexts.{column_text, operation_text, path_answer_text, path_stretch_text};
+
+use lnt_paths::{AnswerByPath, DifferenceByPath};
+use lnt_spans::Position;
+use lnt_text::{PositionText, Quoted};
+use std::fmt;
+
+/// The line of a position at which a table by path and a section answer differently, with both answers, without its line feed.
+#[derive(Clone, Copy)]
+pub struct PathDifferenceLine<'a>(pub &'a DifferenceByPath);
+
+impl fmt::Display for PathDifferenceLine<'_> {
+    ghost output = { λ line. Some (path_stretch_text (stretch_of line.0.now)) };
+
+    fn fmt<W: fmt::Write>(&self, f: &mut fmt::Formatter<W>) -> fmt::Result {
+        let at = PositionText(self.0.position);
+        let table = PathAnswerText(&self.0.by_table);
+        let section = PathAnswerText(&self.0.by_section);
+        write!(f, "no 40 differs at {at} table {table} section {section}")
+    }
+}
+
+// An answer by path, as the fields of a table's record after the positions, with the path always in quotes; or `none`.
+#[derive(Clone, Copy)]
+struct PathAnswerText<'a>(&'a Option<AnswerByPath>);
+
+impl fmt::Display for PathAnswerText<'_> {
+    ghost output = { λ text. Some (path_answer_text (option_map told_path_answer text.0.now)) };
+
+    fn fmt<W: fmt::Write>(&self, f: &mut fmt::Formatter<W>) -> fmt::Result {
+        let Some(answer) = self.0 else {
+            return write!(f, "none");
+        };
+        let path = Quoted(&answer.path);
+        let line = answer.line;
+        let column = ColumnText(answer.column);
+        write!(f, "{path},{line}{column}")
+    }
+}
+
+// A comma and the column of an answer, where the version has columns; else nothing.
+#[derive(Clone, Copy)]
+struct ColumnText(Option<u64>);
+
+impl fmt::Display for ColumnText {
+    ghost output = { λ text. Some (column_text text.0) };
+
+    fn fmt<W: fmt::Write>(&self, f: &mut fmt::Formatter<W>) -> fmt::Result {
+        match self.0 {
+            Some(column) => write!(f, ",{column}"),
+            None => Ok(()),
+        }
+    }
+}
+
+/// The line that a span begins or ends at this position, with an operation index other than 0, so that no table by path can
+/// tell it: 43, without its line feed.
+#[derive(Clone, Copy)]
+pub struct OperationLine(pub Position);
+
+impl fmt::Display for OperationLine {
+    ghost output = { λ line. Some (operation_text line.0) };
+
+    fn fmt<W: fmt::Write>(&self, f: &mut fmt::Formatter<W>) -> fmt::Result {
+        let at = PositionText(self.0);
+        write!(f, "no 43 operation index at {at}")
+    }
+}

@@ -1,0 +1,166 @@
+//! All stretches of positions at which a table answers otherwise than a good section.
+ghost use Rattle.std.specs.Prelude.{◌≡◌, ◌-◌, ◌^◌, ◌<◌, ◌+◌, ◌++◌, ◌⊎◌, [], Bool, ℕ, List, Option, IfErr, IfOk, IfSome, IsErrOf};
+ghost use Rattle.std.specs.Prelude.{OnErr, OnOk, codes, string_bytes};
+ghost use Rattle.std.specs.Io.KnownBytes.{Appends, Keeps};
+ghost use Rattle.lnt_verdicts.specs.Stretches.{ArePathDifferencesBegun, AreStretchesBegun, AreStretchesOf, IsFaultTold};
+ghost use Rattle.lnt_verdicts.specs.Verdicts.{path_stretch_line, path_stretches_status, path_stretches_text};
+ghost use Rattle.lnt_table.specs.FaultTexts.{table_no_text};
+ghost use Rattle.lnt_lines.specs.Indexed.{IsIndexOf};
+ghost use Rattle.lnt_paths.specs.declared.answer.DifferenceByPath.{DifferenceByPath as Spec};
+ghost use Rattle.lnt_paths.specs.PathAnswers.{PathAnswer};
+ghost use Rattle.lnt_paths.specs.PathStretches.{ArePathStretches, stretch_of, stretches_of};
+ghost use Rattle.lnt_paths.specs.Stretching.{HasToldByPath};
+ghost use Rattle.lnt_output.specs.Fronts.{AppendsFront};
+ghost use Rattle.lnt_sources.specs.Halts.{IsPrinting};
+ghost use Rattle.lnt_spans.specs.declared.position.Position.{Position};
+ghost use Rattle.lnt_table.specs.Verdicts.{no_of_fault};
+ghost use Rattle.lnt_unit.specs.declared.unit.Parts.{Parts};
+
+use crate::differences::print_differences;
+use lnt_lines::Index;
+use lnt_output::write_whole;
+use lnt_paths::{DifferenceByPath, DifferencesByPath, HeldTable, Paths};
+use lnt_records::{Differing, TableFault};
+use lnt_sources::{Halt, Status};
+use lnt_spans::SpanSource;
+use lnt_table::{
+    AnyDiffering, IndexPaths, PathDifferenceLine, TableNo, differences_any, differences_by_path,
+};
+use lnt_wire::Source;
+use std::alloc::{AllocError, Global};
+use std::io::Write;
+
+/// What was printed about a table that was compared with a good section at every position.
+#[derive(Drop)]
+pub enum Stretches {
+    /// The header is that of version 1 or 2, but the bytes are no table: the first fault.
+    Faulty(TableFault),
+    /// A table of version 1 or 2: the places at which it answers otherwise; `Done` where there is none.
+    Told(Status),
+    /// The header is another, and the bytes are no table by path: the first fault.
+    FaultyByPath(TableFault),
+    /// A table by path: the places at which it answers otherwise, with the paths of files; `Done` where there is none.
+    ToldByPath(Status),
+}
+
+/// Prints a line for each stretch of positions at which the table that a source has to give, of any version, answers otherwise
+/// than a good section, in rising order, or `yes` where there is none; or the line of the table's first fault. A line tells the
+/// first position of its stretch, with both answers.
+///
+/// The result says which of these was printed. It stops by `Read` only where the source failed, by `TooLong` where the source
+/// has more bytes than it may give, by `Write` where the writer failed, and by `Memory`. Where it stops, the writer has gained
+/// nothing, or a front of these lines. The caller sees to it that the number of the source's failures is below `u64::MAX`.
+///
+/// It is never inlined: its frame is large, the stack is short, and its caller's other frames are not to hold it too.
+#[inline(never)]
+pub fn print_stretches<T: Source, W: Write>(
+    alloc: Global,
+    table: &mut T,
+    index: &Index<'_>,
+    out: &mut W,
+) -> Result<Stretches, Halt>
+    requires { T.failures table.old < 2 ^ 64 - 1 }
+    ensures told { IfOk result (λ told. (dead : Option ℕ) (skip : Bool) (units : List (ℕ × Parts)) → IsIndexOf dead skip units index.now
+        → IfSome (T.remaining table.old) (λ text. AreStretchesOf index.now dead skip units text
+        (W.contents out.old) (W.contents out.new) told)) }
+    ensures faulty { IfOk result (λ told. IsFaultTold told (W.contents out.old) (W.contents out.new)) }
+    ensures read { IsErrOf result Halt.Read → T.failures table.new ≡ T.failures table.old + 1 }
+    ensures begun { OnErr result (Keeps (W.contents out.old) (W.contents out.new)
+        ⊎ ((dead : Option ℕ) (skip : Bool) (units : List (ℕ × Parts)) → IsIndexOf dead skip units index.now
+        → IfSome (T.remaining table.old) (λ text. AreStretchesBegun index.now dead skip units text
+        (W.contents out.old) (W.contents out.new)))) }
+{
+    match differences_any(alloc, table, index) {
+        Ok(AnyDiffering::Numbered(Differing::Table(differences))) => {
+            let status = print_differences(alloc, differences, out)?;
+            Ok(Stretches::Told(status))
+        }
+        Ok(AnyDiffering::Numbered(Differing::Fault(fault))) => {
+            print_fault(alloc, fault, out)?;
+            Ok(Stretches::Faulty(fault))
+        }
+        Ok(AnyDiffering::ByPath(HeldTable::Table(version, spans))) => {
+            let differences = differences_by_path(index, &spans, version);
+            let status = print_path_differences(alloc, differences, &IndexPaths::of(index), out)?;
+            Ok(Stretches::ToldByPath(status))
+        }
+        Ok(AnyDiffering::ByPath(HeldTable::Fault(fault))) => {
+            print_fault(alloc, fault, out)?;
+            Ok(Stretches::FaultyByPath(fault))
+        }
+        Err(stop) => Err(Halt::from(stop)),
+    }
+}
+
+// Prints the line of a table's fault; where it stops, a front of that line.
+fn print_fault<W: Write>(alloc: Global, fault: TableFault, out: &mut W) -> Result<(), Halt>
+    ensures err { IfErr result IsPrinting }
+    ensures line { OnOk result (Appends (W.contents out.old) (W.contents out.new) (table_no_text (no_of_fault fault) ++ codes "\n")) }
+    ensures front { OnErr result (AppendsFront (W.contents out.old) (W.contents out.new)
+        (table_no_text (no_of_fault fault) ++ codes "\n")) }
+{
+    let line = fault_line(alloc, fault)?;
+    write_whole(out, line.as_bytes())?;
+    Ok(())
+}
+
+// The line that `print_fault` prints.
+fn fault_line(alloc: Global, fault: TableFault) -> Result<String, AllocError>
+    ensures { IfOk result (λ line. string_bytes line ≡ table_no_text (no_of_fault fault) ++ codes "\n") }
+{
+    format!(in alloc; "{}\n", TableNo::from(fault))
+}
+
+// Prints a line for each stretch of positions at which a table by path answers otherwise than a section, in rising order, or
+// `yes` where there is none. It stops where memory ran out or the writer failed. Where it stops, the writer has gained a front
+// of these lines.
+#[inline(never)]
+fn print_path_differences<S: SpanSource + Drop, P: Paths, W: Write>(
+    alloc: Global,
+    differences: DifferencesByPath<'_, S>,
+    paths: &P,
+    out: &mut W,
+) -> Result<Status, Halt>
+    requires { (by_section : Position → Option PathAnswer) × (by_table : Position → Option PathAnswer)
+        × HasToldByPath S.to_come (P.bytes_of paths.now) differences by_section by_table [] }
+    ensures err { IfErr result IsPrinting }
+    ensures lines { IfOk result (λ status. (by_section by_table : Position → Option PathAnswer)
+        → HasToldByPath S.to_come (P.bytes_of paths.now) differences.entry by_section by_table []
+        → (list : List Spec) × ArePathStretches by_section by_table list
+        × Appends (W.contents out.old) (W.contents out.new) (path_stretches_text (stretches_of list))
+        × (status ≡ path_stretches_status (stretches_of list))) }
+    ensures begun { OnErr result ((by_section by_table : Position → Option PathAnswer)
+        → HasToldByPath S.to_come (P.bytes_of paths.now) differences.entry by_section by_table []
+        → ArePathDifferencesBegun by_section by_table (W.contents out.old) (W.contents out.new)) }
+{
+    let mut differences = differences;
+    let Some(first) = differences.next_difference(alloc, paths)? else {
+        write_whole(out, b"yes\n")?;
+        return Ok(Status::Done);
+    };
+    let mut room = Vec::new(alloc);
+    print_path_difference(&first, &mut room, out)?;
+    while let Some(difference) = differences.next_difference(alloc, paths)? {
+        print_path_difference(&difference, &mut room, out)?;
+    }
+    Ok(Status::No)
+}
+
+// Prints the line of a stretch. The line is made in `room` first, whose old contents are dropped.
+fn print_path_difference<W: Write>(
+    difference: &DifferenceByPath,
+    room: &mut Vec<u8>,
+    out: &mut W,
+) -> Result<(), Halt>
+    ensures err { IfErr result IsPrinting }
+    ensures line { OnOk result (Appends (W.contents out.old) (W.contents out.new) (path_stretch_line (stretch_of difference.now))) }
+    ensures front { OnErr result (AppendsFront (W.contents out.old) (W.contents out.new) (path_stretch_line (stretch_of difference.now))) }
+{
+    room.clear();
+    // A vector refuses a piece of the line only for want of memory.
+    let Ok(()) = writeln!(room, "{}", PathDifferenceLine(difference)) else {
+        return Err(Halt::Memory);
+    };
+    write_whole(out, room.as_slice())?;
+    Ok(())
+}
