@@ -1,3 +1,4 @@
+use Rattle.std.proofs.Common.{rules}
 use Rattle.lnt_output.proofs.FrontLaws.{front_since, so_stopped}
 use Rattle.lnt_verdicts.specs.PathTables.{operation_line}
 use Rattle.lnt_verdicts.proofs.PathTableLemmas.{line_begun, table_begun}
@@ -20,3 +21,6 @@ pub returns-in-Err-clause-begun : goal.returns-in-Err-clause-begun
 returns-in-Err-clause-begun g c dead skip units is =
     table_begun c.args.version (told_path c.args.version c.args.index.now dead skip units) (g.W.Write.contents c.args.out.now)
     (g.W.Write.contents c.write_paths.new.out) (c.in-Err.ensures.begun dead skip units is)
+
+pub returns-in_ok-print_operation-in-Ok-OperationIndex-clause-table : goal.returns-in_ok-print_operation-in-Ok-OperationIndex-clause-table
+returns-in_ok-print_operation-in-Ok-OperationIndex-clause-table g c = search rules

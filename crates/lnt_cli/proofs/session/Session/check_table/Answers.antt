@@ -1,3 +1,4 @@
+use Rattle.std.proofs.Common.{rules}
 use Rattle.lnt_output.proofs.FrontLaws.{so_stopped}
 use Rattle.lnt_cli.proofs.StopLemmas.{check_stopped}
 use Rattle.lnt_cli.proofs.session.Session.check_table.Goals as goal
@@ -8,3 +9,6 @@ returns-in_err-of_file-clause-stopped g c =
     (g.W.Write.contents c.args.self.now.out.now) (g.W.Write.contents c.print_checked-printed.new.out) c.print_checked-printed.result
     c.from_residual-in_err-of_file.result c.in_ok-checked.ensures.checked
     (so_stopped c.from_residual-in_err-of_file.result _ c.in_err-of_file.ensures.err) c.print_checked-printed.ensures.front
+
+pub returns-clause-answer : goal.returns-clause-answer
+returns-clause-answer g c = search rules
