@@ -3,15 +3,11 @@
 # what is printed of units, and what it says of words that it doesn't take.
 cd "$(dirname "$0")/.." || exit 1
 . tests/check.bash
+. tests/unit.bash
 top=$PWD
 
 # ---- units, in hexadecimal digits: little-endian and in the 32-bit format unless said otherwise
 
-numbers=010101fb0e0d                     # one operation an instruction; lines from -5 on, 14 of them; opcodes from 13 on
-lengths=000101010100000001000001
-directories=010108012f7300               # one, /s
-files=020108020b02612e630000612e630000   # a.c twice, in directory 0
-header=0500080029000000$numbers$lengths$directories$files
 at() { # ADDRESS: sets it, of 16 digits
   local digits=$1 place
   printf 000902
@@ -43,29 +39,29 @@ cut_at() { # UNIT COUNT: its first bytes
   printf %s "${1:0:2 * $2}"
 }
 
-plain=43000000$header$plain_program
-two_rows_at_one_address=45000000$header${at_1000}140306010204000101
-empty_sequence=51000000$header$plain_program$at_1002$end
+plain=43000000$start$header$plain_program
+two_rows_at_one_address=45000000$start$header${at_1000}140306010204000101
+empty_sequence=51000000$start$header$plain_program$at_1002$end
 three_operations=4a00000005000800290000001003${numbers:4}$lengths$directories$files${at_2000}1402020102020301010202$end
-const_add_pc=44000000$header${at_1000}1408010201$end
+const_add_pc=44000000$start$header${at_1000}1408010201$end
 fixed_advance_pc=4800000005000800290000000402${numbers:4}$lengths$directories$files${at_1000}140201090500010202$end
 opcode_base_10=410000000500080026000000010101fb0e0a000101010100000001$directories$files${at_1000}03090a0202$end
 opcode_base_15=49000000050008002b000000010101fb0e0f${lengths}0200$directories$files${at_1000}0d8001050e160202$end
-line_below_zero=44000000$header${at_1000}037e010202$end
+line_below_zero=44000000$start$header${at_1000}037e010202$end
 one_file=3e0000000500080024000000$numbers$lengths${directories}020108020b01612e630000$plain_program
 file_zero=400000000500080024000000$numbers$lengths${directories}020108020b01612e630000${at_1000}0400144b0202$end
-address_wraps=42000000$header$(at fffffffffffffff0)140210$end
-marks=49000000$header${at_1000}000204070a07144b0202$end
-two_sequences=54000000$header${at_1000}06140201$end${at_2000}140201$end
+address_wraps=42000000$start$header$(at fffffffffffffff0)140210$end
+marks=49000000$start$header${at_1000}000204070a07144b0202$end
+two_sequences=54000000$start$header${at_1000}06140201$end${at_2000}140201$end
 line_strings=44000000050008002a000000$numbers${lengths}01011f0100000000$files$plain_program
-padded_operand=44000000$header${at_1000}144b028200$end
+padded_operand=44000000$start$header${at_1000}144b028200$end
 wide=ffffffff0000000000000047000508000000000000000029$numbers$lengths$directories${files}0009020000000000001000144b0202$end
 listed=3e0000000500080036000000$numbers$lengths${directories}030108020b051e01612e630000d41d8cd98f00b204e9800998ecf8427e
 block_1=49000000050008002f000000$numbers${lengths}02010881400a012f730002aabb$files$plain_program
 block_2=4a0000000500080030000000$numbers${lengths}020108814003012f73000200aabb$files$plain_program
 block_4=4c0000000500080032000000$numbers${lengths}020108814004012f730002000000aabb$files$plain_program
-touching=53000000$header${at_1000}140201$end${at_1001}140201$end
-parted=53000000$header${at_1000}140201$end${at_2000}140201$end
+touching=53000000$start$header${at_1000}140201$end${at_1001}140201$end
+parted=53000000$start$header${at_1000}140201$end${at_2000}140201$end
 later=$(with "$plain" 56 05)
 
 # ---- how the program is asked

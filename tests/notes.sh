@@ -2,6 +2,7 @@
 # The notes on standard error: each kind of them, after what is printed without them, and none with --quiet.
 cd "$(dirname "$0")/.." || exit 1
 . tests/check.bash
+. tests/unit.bash
 program=$PWD/crates/linetab/out/linetab
 hello=(examples/hello.debug_line --line-str examples/hello.debug_line_str)
 truncated=$'no 25 malformed at 0x0: truncated\n'
@@ -80,7 +81,7 @@ for word in verify files table md5 'lookup 0x1137' 'check examples/hello.csv'; d
 done
 silent 'strings that are too few' 1 $'no 28 string outside unit 0x0 directories entry 0\n' verify examples/hello.debug_line --line-str /dev/null
 # A unit whose directory is a string.
-put strp "4400000005000800 2a000000 010101fb0e0d 000101010100000001000001 01010e 01 00000000 020108020b02612e630000612e630000 0009020010000000000000 144b0202 000101"
+put strp "4400000005000800 2a000000 $numbers $lengths 01010e 01 00000000 $files 0009020010000000000000 144b0202 000101"
 notes 'no general strings' 1 $'no 28 string outside unit 0x0 directories entry 0\n' '' \
   "its text lies in .debug_str, which wasn't given; --str FILE names that section's bytes" verify "$work/strp"
 notes 'no general strings, with others' 1 $'no 28 string outside unit 0x0 directories entry 0\n' '' \
@@ -106,14 +107,14 @@ notes 'no discarded code' 0 $'yes\n' '' 'no sequence begins at 0x0, so --dead le
 notes 'no discarded code, checked' 0 $'yes\n' '' 'no sequence begins at 0x0, so --dead leaves nothing out' \
   check "${hello[@]:0:1}" examples/hello.csv "${hello[@]:1}" --dead 0x0
 # One sequence, which begins at 0.
-put zero "4300000005000800 29000000 010101fb0e0d 000101010100000001000001 01010801 2f7300 020108020b02612e630000612e630000 0009020000000000000000 144b0202 000101"
+put zero "43000000 $start $header 0009020000000000000000 144b0202 000101"
 notes 'a good section with code at 0' 0 $'yes\n' '' \
   'sequences begin at 0x0, where linkers leave discarded code (1 of them); --dead 0x0 leaves them out' verify "$work/zero"
 # One of four bytes before the end of the addresses, and one that would pass it.
-put last "4300000005000800 29000000 010101fb0e0d 000101010100000001000001 01010801 2f7300 020108020b02612e630000612e630000 000902feffffffffffffff 01020113 000101"
+put last "43000000 $start $header 000902feffffffffffffff 01020113 000101"
 notes 'a good section with code at the end' 0 $'yes\n' '' \
   'sequences begin at 0xfffffffffffffffe, where linkers leave discarded code (1 of them); --dead 0xfffffffffffffffe leaves them out' verify "$work/last"
-put falls "4300000005000800 29000000 010101fb0e0d 000101010100000001000001 01010801 2f7300 020108020b02612e630000612e630000 000902ffffffffffffffff 144b0202 000101"
+put falls "43000000 $start $header 000902ffffffffffffffff 144b0202 000101"
 notes 'code that passes the end' 1 $'no 31 falls unit 0x0 row 1\n' '' \
   'sequences begin at 0xffffffffffffffff, where linkers leave discarded code (1 of them); --dead 0xffffffffffffffff leaves them out' verify "$work/falls"
 

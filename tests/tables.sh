@@ -2,6 +2,7 @@
 # Tables of the example sections, checked against them, whole and changed; sections converted and back.
 cd "$(dirname "$0")/.." || exit 1
 . tests/check.bash
+. tests/unit.bash
 
 # Changes one digit of the last number of a record.
 changed() { # RECORD FILE
@@ -57,9 +58,7 @@ convert() { # NAME [--big]
 # A thousand units, each of two rows at an address of its own.
 many() {
   local all address k
-  local start=430000000500080029000000 numbers=010101fb0e0d000101010100000001000001
-  local directories=010108012f7300 files=020108020b02612e630000612e630000
-  all=$(awk -v header="$start$numbers$directories$files" 'BEGIN {
+  all=$(awk -v header="43000000$start$header" 'BEGIN {
     for (k = 0; k < 1000; k++) {
       address = 4096 + 16 * k
       printf "%s000902%02x%02x000000000000144b0202000101", header, address % 256, int(address / 256)

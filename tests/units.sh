@@ -3,6 +3,7 @@
 # what it says of units that are cut or at fault.
 cd "$(dirname "$0")/.." || exit 1
 . tests/check.bash
+. tests/unit.bash
 program=crates/linetab/out/linetab
 
 # Units and their parts are hexadecimal digits here. A number of 4 bytes, low byte first.
@@ -43,20 +44,11 @@ repeated() { # BYTE COUNT
 }
 
 # Two rows and an end, one directory, two files. In the 64-bit format and big-endian it is the second.
-plain=430000000500080029000000010101fb0e0d000101010100000001000001010108012f7300020108020b02612e630000612e630000
-plain+=0009020010000000000000144b0202000101
-wide=ffffffff0000000000000047000508000000000000000029010101fb0e0d000101010100000001000001010108012f7300
-wide+=020108020b02612e630000612e6300000009020000000000001000144b0202000101
-
-# The parts of its header: fields up to opcode_base, lengths of the standard opcodes, and tables.
-numbers=010101fb0e0d
-lengths=000101010100000001000001
-directory=010108012f7300
-files=020108020b02612e630000612e630000
-header=$numbers$lengths$directory$files
+plain=43000000$start${header}0009020010000000000000144b0202000101
+wide=ffffffff0000000000000047000508000000000000000029${header}0009020000000000001000144b0202000101
 
 # A header with two opcodes that DWARF 5 doesn't know: 13 has two operands, and 14 has none.
-unknown=010101fb0e0f${lengths}0200$directory$files
+unknown=010101fb0e0f${lengths}0200$directories$files
 
 # Sets the address 0x1000; makes the rows of the plain unit; ends the sequence.
 at=0009020010000000000000
@@ -156,7 +148,7 @@ worked_units() {
     $'header 8 4 2 1 -5 14 13\n'"$tables" \
     'set_address 0x1000;special 20;advance_pc 1;fixed_advance_pc 5;copy;advance_pc 2;end_sequence' \
     '0x1000 0 1 3 0 1 - 0 0;0x1005 0 1 3 0 1 - 0 0;0x1009 0 1 3 0 1 e 0 0'
-  worked 'nine standard opcodes' "$(unit "010101fb0e0a 000101010100000001 $directory $files" "$at 0309 0a 0202 $end")" \
+  worked 'nine standard opcodes' "$(unit "010101fb0e0a 000101010100000001 $directories $files" "$at 0309 0a 0202 $end")" \
     $'header 8 1 1 1 -5 14 10\n'"$tables" \
     'set_address 0x1000;advance_line 9;special 10;advance_pc 2;end_sequence' \
     '0x1000 0 1 5 0 1 - 0 0;0x1002 0 1 5 0 1 e 0 0'
@@ -164,9 +156,9 @@ worked_units() {
     $'header 8 1 1 1 -5 14 15\n'"$tables" \
     'set_address 0x1000;unknown_standard 13 128 5;unknown_standard 14;special 22;advance_pc 2;end_sequence' \
     '0x1000 0 1 3 0 1 - 0 0;0x1002 0 1 3 0 1 e 0 0'
-  worked 'one file' "$(unit "${numbers}${lengths}${directory}020108020b01612e630000" "$at $rows $end")" \
+  worked 'one file' "$(unit "${numbers}${lengths}${directories}020108020b01612e630000" "$at $rows $end")" \
     "$fields"$'dir 0 1="/s"\nfile 0 1="a.c" 2=0\n' "$plain_ops" "$plain_rows"
-  worked 'rows of file 0' "$(unit "${numbers}${lengths}${directory}020108020b01612e630000" "$at 0400 $rows $end")" \
+  worked 'rows of file 0' "$(unit "${numbers}${lengths}${directories}020108020b01612e630000" "$at 0400 $rows $end")" \
     "$fields"$'dir 0 1="/s"\nfile 0 1="a.c" 2=0\n' \
     'set_address 0x1000;set_file 0;special 20;special 75;advance_pc 2;end_sequence' \
     '0x1000 0 0 3 0 1 - 0 0;0x1004 0 0 4 0 1 - 0 0;0x1006 0 0 4 0 1 e 0 0'
@@ -195,7 +187,7 @@ worked_units() {
   worked 'a directory among the line strings' "$(unit "${numbers}${lengths}01011f0100000000$files" "$at $rows $end")" \
     "$fields"$'dir 0 1=line_strp:0x0\nfile 0 1="a.c" 2=0\nfile 1 1="a.c" 2=0\n' "$plain_ops" "$plain_rows"
   worked 'a sum and no program' \
-    "$(unit "${numbers}${lengths}${directory}030108020b051e01612e630000d41d8cd98f00b204e9800998ecf8427e" '')" \
+    "$(unit "${numbers}${lengths}${directories}030108020b051e01612e630000d41d8cd98f00b204e9800998ecf8427e" '')" \
     "$fields"$'dir 0 1="/s"\nfile 0 1="a.c" 2=0 5=d41d8cd98f00b204e9800998ecf8427e\n' '' ''
   local block=$'dir 0 1="/s" 8193=block:aabb\nfile 0 1="a.c" 2=0\nfile 1 1="a.c" 2=0\n'
   worked 'a block with a length of 1 byte' "$(unit "${numbers}${lengths}020108 81400a 01 2f7300 02aabb $files" "$at $rows $end")" \
@@ -318,8 +310,8 @@ faults_of_headers() {
     $'unit 0x0 32 44\n'"$fields"$'file 0 1="a.c" 2=0\nfile 1 1="a.c" 2=0\n' dump
   local most
   most=$(repeated ff 9)
-  faulty 'files without end' "$(unit "${numbers}${lengths}${directory}020108020b${most}01${files:12}" "$at $rows $end")" 0x3e truncated
-  faulty 'too many files' "$(unit "${numbers}${lengths}${directory}020108020b${most}02${files:12}" "$at $rows $end")" 0x2a 'number too large'
+  faulty 'files without end' "$(unit "${numbers}${lengths}${directories}020108020b${most}01${files:12}" "$at $rows $end")" 0x3e truncated
+  faulty 'too many files' "$(unit "${numbers}${lengths}${directories}020108020b${most}02${files:12}" "$at $rows $end")" 0x2a 'number too large'
 }
 
 # The unit with a directory of this form, and nothing after the value.
@@ -569,8 +561,8 @@ claims() {
   claim '2^30 directories' "$(unit "${numbers}${lengths}010108 8080808004 00" '')" 'no 25 malformed at 0x27: truncated' dump
   claim '2^30 directories, converted' "$(unit "${numbers}${lengths}010108 8080808004 00" '')" \
     'no 25 malformed at 0x27: truncated' convert --format 32 --order little
-  claim '2^30 files' "$(unit "${numbers}${lengths}${directory}020108020b 8080808004 ${files:12}" '')" 'no 25 malformed at 0x39: truncated' dump
-  claim '2^64 - 1 files' "$(unit "${numbers}${lengths}${directory}020108020b $(repeated ff 9)01 ${files:12}" '')" \
+  claim '2^30 files' "$(unit "${numbers}${lengths}${directories}020108020b 8080808004 ${files:12}" '')" 'no 25 malformed at 0x39: truncated' dump
+  claim '2^64 - 1 files' "$(unit "${numbers}${lengths}${directories}020108020b $(repeated ff 9)01 ${files:12}" '')" \
     'no 25 malformed at 0x3e: truncated' dump
   claim 'a block of 2^31 bytes' "$(of_form 04 0000008000)" 'no 25 malformed at 0x22: truncated' dump
   claim 'an operation of 2^30 bytes' "$(unit "$header" '00 8080808004 80')" 'no 25 malformed at 0x3b: truncated' \
