@@ -21,7 +21,7 @@ use Rattle.lnt_spans.proofs.EachTwoLaws.{pairs_cons, pairs_nil}
 use Rattle.lnt_lines.specs.declared.draft.Draft.{Draft}
 use Rattle.lnt_lines.specs.Contents.{AreRising}
 use Rattle.lnt_lines.specs.Stepping.{HasAdded, IsDraftOf}
-use Rattle.lnt_lines.specs.Good.{IsSound}
+use Rattle.lnt_lines.specs.Good.{IsSoundUnit}
 use Rattle.lnt_lines.specs.Indexed.{IsIndexOf}
 use Rattle.lnt_lines.specs.Judging.{IsJudgedSound}
 
@@ -51,7 +51,7 @@ added text general dead buffer old new offset kept judged at offsets programs = 
   unit = judged.unit;
   spelled = judged.spelled;
   drafts = λ units draft. record {
-    sound = all_push (IsSound text general dead) units (buffer.offset, judged.unit) draft.sound judged.sound;
+    sound = all_push (IsSoundUnit text general dead) units (buffer.offset, judged.unit) draft.sound judged.sound;
     collects = judged.collects units draft.collects;
     offsets = offsets ∙ ap (λ (n : ℕ). old.units.items ++ n ∷ []) at ∙ ap (λ (list : List ℕ). list ++ buffer.offset ∷ []) draft.offsets
         ∙ sym (offsets_push units (buffer.offset, judged.unit));
@@ -96,15 +96,15 @@ pub distinct : (order : Order) (dead : Option ℕ) (units : List (ℕ × Parts))
 distinct order dead units bytes u = distinct_sequences dead units (offsets_differ order 0 units bytes u)
 
 -- the live sequences of sound units are in order
-pub all_ordered : (text general : List ℕ) (dead : Option ℕ) (units : List (ℕ × Parts)) → AllByRecursion (IsSound text general dead) units
-    → AreOrdered (live_sequences dead units)
+pub all_ordered : (text general : List ℕ) (dead : Option ℕ) (units : List (ℕ × Parts))
+    → AllByRecursion (IsSoundUnit text general dead) units → AreOrdered (live_sequences dead units)
 all_ordered text general dead [] all = tt
 all_ordered text general dead (unit ∷ units) all =
     ordered-append (live_in dead unit) (live_sequences dead units) all.0.ordered (all_ordered text general dead units all.1)
 
 -- ---- the index
 
-usable_tables : (text general : List ℕ) (dead : Option ℕ) (units : List (ℕ × Parts)) → AllByRecursion (IsSound text general dead) units
+usable_tables : (text general : List ℕ) (dead : Option ℕ) (units : List (ℕ × Parts)) → AllByRecursion (IsSoundUnit text general dead) units
     → AllByRecursion (λ (unit : ℕ × Parts). AreUsableTables text general unit.1.header) units
 usable_tables text general dead [] all = tt
 usable_tables text general dead (unit ∷ units) all = (all.0.well_formed.tables, usable_tables text general dead units all.1)

@@ -23,7 +23,7 @@ use Rattle.lnt_sequences.specs.Sequences.{kept_sequences, placed_in}
 use Rattle.lnt_lines.specs.declared.no.No.{No}
 use Rattle.lnt_lines.specs.declared.no.No.TheVariants as no
 use Rattle.lnt_lines.specs.declared.options.Options.{Options}
-use Rattle.lnt_lines.specs.Good.{IsGood, IsSound}
+use Rattle.lnt_lines.specs.Good.{IsGood, IsSoundUnit}
 use Rattle.lnt_lines.specs.Laws.{GoodHasNoFlaw}
 use Rattle.lnt_lines.specs.Nos.{IsFirstFlaw, IsFlaw}
 
@@ -43,7 +43,7 @@ tables_well text general h (table.StringOutside Files entry) usable f = first_is
 tables_well text general h (table.DirectoryNumber file) usable f = first_is_wrong f.2 usable.numbers
 
 pub sound_well : FallIsNotOrdered → MissingFileIsNotThere → (text general : List ℕ) (dead : Option ℕ) (unit : ℕ × Parts) (reason : No)
-    → IsSound text general dead unit → IsFlaw text general dead unit reason → ⊥
+    → IsSoundUnit text general dead unit → IsFlaw text general dead unit reason → ⊥
 sound_well falls missing text general dead unit (no.Malformed fault) s f = f
 sound_well falls missing text general dead unit (no.Run offset fault) s f = runs_well unit.1 fault s.well_formed.runs f.1 f.2
 sound_well falls missing text general dead unit (no.EntryFormat offset which) s f =
@@ -97,8 +97,8 @@ no_first_flaw : FallIsNotOrdered → MissingFileIsNotThere
 no_first_flaw falls missing text general options section units reason good f =
     let more = units_begin options.order 0 (f.units ++ f.unit ∷ []) units f.front f.rest section f.spelled good.spelled f.split in
     sound_well falls missing text general options.dead f.unit reason
-    (all_at (IsSound text general options.dead) f.units more.0 f.unit
-    (subst (AllByRecursion (IsSound text general options.dead)) more.1 good.sound)) f.flaw
+    (all_at (IsSoundUnit text general options.dead) f.units more.0 f.unit
+    (subst (AllByRecursion (IsSoundUnit text general options.dead)) more.1 good.sound)) f.flaw
 
 pub no_flaw : FallIsNotOrdered → MissingFileIsNotThere → OverlapIsNotApart → GoodHasNoFlaw
 no_flaw falls missing overlaps text general options section units (no.Malformed fault) good f = f.broken.none units good.spelled

@@ -18,7 +18,7 @@ use Rattle.lnt_sequences.specs.Sequences.{kept_sequences, live_sequences}
 use Rattle.lnt_lines.specs.declared.no.No.{No}
 use Rattle.lnt_lines.specs.declared.no.No.TheVariants as no
 use Rattle.lnt_lines.specs.declared.options.Options.{Options}
-use Rattle.lnt_lines.specs.Good.{IsSound}
+use Rattle.lnt_lines.specs.Good.{IsSoundUnit}
 use Rattle.lnt_lines.specs.Laws.{OneNo}
 use Rattle.lnt_lines.specs.Nos.{IsFirstFlaw, IsFlaw, IsMalformed, IsOverlap, IsTrueNo}
 use Rattle.lnt_lines.proofs.DraftLemmas.{distinct}
@@ -48,7 +48,7 @@ module _ (falls : FallIsNotOrdered) (missing : MissingFileIsNotThere) (text gene
   -- after sound units the first with a flaw is one
   same_flawed : (offset : ℕ) (us vs : List (ℕ × Parts)) (u v : ℕ × Parts) (x y r s : List ℕ) (one two : No)
       → UnitsFrom order offset (us ++ u ∷ []) x → UnitsFrom order offset (vs ++ v ∷ []) y
-      → x ++ r ≡ y ++ s → AllByRecursion (IsSound text general dead) us → AllByRecursion (IsSound text general dead) vs
+      → x ++ r ≡ y ++ s → AllByRecursion (IsSoundUnit text general dead) us → AllByRecursion (IsSoundUnit text general dead) vs
       → IsFlaw text general dead u one → IsFlaw text general dead v two → u ≡ v
   same_flawed offset [] [] u v x y r s one two p q e sound sound' f g =
       (same_head order offset u v p.0 q.0 p.1 q.1 r s p.2 q.2 p.3 q.3
@@ -56,11 +56,11 @@ module _ (falls : FallIsNotOrdered) (missing : MissingFileIsNotThere) (text gene
   same_flawed offset [] (w ∷ vs) u v x y r s one two p q e sound sound' f g =
       let h = same_head order offset u w p.0 q.0 p.1 q.1 r s p.2 q.2 p.3 q.3
       (ap (λ (z : List ℕ). z ++ r) (sym p.4) ∙ e ∙ ap (λ (z : List ℕ). z ++ s) q.4) in
-      absurd (sound_well falls missing text general dead u one (subst (IsSound text general dead) (sym h.unit) sound'.0) f)
+      absurd (sound_well falls missing text general dead u one (subst (IsSoundUnit text general dead) (sym h.unit) sound'.0) f)
   same_flawed offset (w ∷ us) [] u v x y r s one two p q e sound sound' f g =
       let h = same_head order offset w v p.0 q.0 p.1 q.1 r s p.2 q.2 p.3 q.3
       (ap (λ (z : List ℕ). z ++ r) (sym p.4) ∙ e ∙ ap (λ (z : List ℕ). z ++ s) q.4) in
-      absurd (sound_well falls missing text general dead v two (subst (IsSound text general dead) h.unit sound.0) g)
+      absurd (sound_well falls missing text general dead v two (subst (IsSoundUnit text general dead) h.unit sound.0) g)
   same_flawed offset (a ∷ us) (b ∷ vs) u v x y r s one two p q e sound sound' f g =
       let h = same_head order offset a b p.0 q.0 p.1 q.1 r s p.2 q.2 p.3 q.3
       (ap (λ (z : List ℕ). z ++ r) (sym p.4) ∙ e ∙ ap (λ (z : List ℕ). z ++ s) q.4) in
@@ -71,8 +71,8 @@ module _ (falls : FallIsNotOrdered) (missing : MissingFileIsNotThere) (text gene
   -- where no unit stands after sound ones, none has a flaw
   none_flawed : (offset : ℕ) (us vs : List (ℕ × Parts)) (v : ℕ × Parts) (x y r s : List ℕ) (two : No) → UnitsFrom order offset us x
       → UnitsFrom order offset (vs ++ v ∷ []) y
-      → x ++ r ≡ y ++ s → NoneSpelled (UnitBytesIn order) r → AllByRecursion (IsSound text general dead) us → IsFlaw text general dead v two
-      → ⊥
+      → x ++ r ≡ y ++ s → NoneSpelled (UnitBytesIn order) r → AllByRecursion (IsSoundUnit text general dead) us
+      → IsFlaw text general dead v two → ⊥
   none_flawed offset [] [] v x y r s two p q e none sound g =
       none v.1 q.0 (q.1 ++ s) q.3 (sym (append_assoc q.0 q.1 s) ∙ ap (λ (z : List ℕ). z ++ s) (sym q.4) ∙ sym e
       ∙ ap (λ (z : List ℕ). z ++ r) p)
@@ -82,7 +82,7 @@ module _ (falls : FallIsNotOrdered) (missing : MissingFileIsNotThere) (text gene
   none_flawed offset (a ∷ us) [] v x y r s two p q e none sound g =
       let h = same_head order offset a v p.0 q.0 p.1 q.1 r s p.2 q.2 p.3 q.3
       (ap (λ (z : List ℕ). z ++ r) (sym p.4) ∙ e ∙ ap (λ (z : List ℕ). z ++ s) q.4) in
-      sound_well falls missing text general dead v two (subst (IsSound text general dead) h.unit sound.0) g
+      sound_well falls missing text general dead v two (subst (IsSoundUnit text general dead) h.unit sound.0) g
   none_flawed offset (a ∷ us) (b ∷ vs) v x y r s two p q e none sound g =
       let h = same_head order offset a b p.0 q.0 p.1 q.1 r s p.2 q.2 p.3 q.3
       (ap (λ (z : List ℕ). z ++ r) (sym p.4) ∙ e ∙ ap (λ (z : List ℕ). z ++ s) q.4) in
@@ -119,8 +119,8 @@ flaw_and_overlap : FallIsNotOrdered → MissingFileIsNotThere
 flaw_and_overlap falls missing text general options section reason overlap f o =
     let more = units_begin options.order 0 (f.units ++ f.unit ∷ []) o.units f.front f.rest section f.spelled o.spelled f.split in
     sound_well falls missing text general options.dead f.unit reason
-    (all_at (IsSound text general options.dead) f.units more.0 f.unit
-    (subst (AllByRecursion (IsSound text general options.dead)) more.1 o.sound)) f.flaw
+    (all_at (IsSoundUnit text general options.dead) f.units more.0 f.unit
+    (subst (AllByRecursion (IsSoundUnit text general options.dead)) more.1 o.sound)) f.flaw
 
 flaw_and_malformed : FallIsNotOrdered → MissingFileIsNotThere
     → (text general : List ℕ) (options : Options) (section : List ℕ) (reason : No) (fault : Fault)

@@ -18,7 +18,7 @@ pub record IsWellFormed (line general : List ℕ) (unit : Parts) : Type 0 where
 
 -- A well-formed unit, which stands at an offset. The rows of its live sequences name files that are there, and their
 -- positions never fall.
-pub record IsSound (line general : List ℕ) (dead : Option ℕ) (unit : ℕ × Parts) : Type 0 where
+pub record IsSoundUnit (line general : List ℕ) (dead : Option ℕ) (unit : ℕ × Parts) : Type 0 where
   pub well_formed : IsWellFormed line general unit.1
   pub files : HaveFiles (length unit.1.header.files) (live_in dead unit)
   pub ordered : AreOrdered (live_in dead unit)
@@ -27,5 +27,5 @@ pub record IsSound (line general : List ℕ) (dead : Option ℕ) (unit : ℕ × 
 -- the live ones, less the copies where these are skipped.
 pub record IsGood (line general : List ℕ) (options : Options) (section : List ℕ) (units : List (ℕ × Parts)) : Type 0 where
   pub spelled : SectionBytes options.order units section
-  pub sound : AllByRecursion (IsSound line general options.dead) units
+  pub sound : AllByRecursion (IsSoundUnit line general options.dead) units
   pub apart : AreApart (kept_sequences options.dead options.skip_copies units)

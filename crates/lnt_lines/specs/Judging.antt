@@ -22,7 +22,7 @@ use Rattle.lnt_lines.specs.declared.no.No.TheVariants as no
 use Rattle.lnt_lines.specs.declared.refusal.Refusal.{Refusal}
 use Rattle.lnt_lines.specs.declared.refusal.Refusal.TheVariants as refusal
 use Rattle.lnt_wire.specs.declared.stop.Stop.TheVariants as stop
-use Rattle.lnt_lines.specs.Good.{IsSound}
+use Rattle.lnt_lines.specs.Good.{IsSoundUnit}
 use Rattle.lnt_lines.specs.Nos.{IsFlaw}
 
 -- The bytes of the buffer are those of a unit with this flaw.
@@ -67,7 +67,7 @@ kept_of buffer unit = record { header = unit.header; program = drop unit.start b
 pub record IsJudgedSound (line general : List ℕ) (dead : Option ℕ) (buffer : UnitBytes) (old new : Collected) (kept : Kept) : Type 0 where
   pub unit : Parts
   pub spelled : UnitBytesIn buffer.order unit buffer.bytes
-  pub sound : IsSound line general dead (buffer.offset, unit)
+  pub sound : IsSoundUnit line general dead (buffer.offset, unit)
   pub keeps : Keeps kept unit
   pub collects : (units : List (ℕ × Parts)) → Collects old (live_sequences dead units)
       → Collects new (live_sequences dead (units ++ (buffer.offset, unit) ∷ []))

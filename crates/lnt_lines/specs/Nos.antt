@@ -19,7 +19,7 @@ use Rattle.lnt_sequences.specs.Sequences.{kept_sequences, live_in, placed_in}
 use Rattle.lnt_lines.specs.declared.no.No.{No}
 use Rattle.lnt_lines.specs.declared.no.No.TheVariants as no
 use Rattle.lnt_lines.specs.declared.options.Options.{Options}
-use Rattle.lnt_lines.specs.Good.{IsSound, IsWellFormed}
+use Rattle.lnt_lines.specs.Good.{IsSoundUnit, IsWellFormed}
 
 -- The unit at this offset has the flaw that is told, and none of a lower number; and it is the first of its number.
 -- What isn't of one unit is no flaw.
@@ -47,19 +47,19 @@ pub record IsFirstFlaw (line general : List ℕ) (options : Options) (section : 
   pub rest : List ℕ
   pub spelled : SectionBytes options.order (units ++ unit ∷ []) front
   pub split : section ≡ front ++ rest
-  pub sound : AllByRecursion (IsSound line general options.dead) units
+  pub sound : AllByRecursion (IsSoundUnit line general options.dead) units
   pub flaw : IsFlaw line general options.dead unit reason
 
 -- No list of units spells the section. It begins with sound units, and no unit begins the bytes after them, for the fault.
 pub record IsMalformed (line general : List ℕ) (options : Options) (section : List ℕ) (fault : Fault) : Type 0 where
   pub broken : BrokenSection options.order fault section
-  pub sound : AllByRecursion (IsSound line general options.dead) broken.true_fault.units
+  pub sound : AllByRecursion (IsSoundUnit line general options.dead) broken.true_fault.units
 
 -- The section is the bytes of sound units, and of their kept sequences these are the first that overlap.
 pub record IsOverlap (line general : List ℕ) (options : Options) (section : List ℕ) (overlap : Overlap) : Type 0 where
   pub units : List (ℕ × Parts)
   pub spelled : SectionBytes options.order units section
-  pub sound : AllByRecursion (IsSound line general options.dead) units
+  pub sound : AllByRecursion (IsSoundUnit line general options.dead) units
   pub first : IsFirstOverlap (kept_sequences options.dead options.skip_copies units) overlap
 
 -- What is told is wrong with the section, and it is the first thing that is.

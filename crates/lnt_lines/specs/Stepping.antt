@@ -14,7 +14,7 @@ use Rattle.lnt_lines.specs.declared.options.Options.{Options}
 use Rattle.lnt_lines.specs.declared.refusal.Refusal.{Refusal}
 use Rattle.lnt_lines.specs.declared.refusal.Refusal.TheVariants as refusal
 use Rattle.lnt_lines.specs.Contents.{AreRising}
-use Rattle.lnt_lines.specs.Good.{IsSound}
+use Rattle.lnt_lines.specs.Good.{IsSoundUnit}
 use Rattle.lnt_lines.specs.Nos.{IsTrueNo}
 use Rattle.lnt_spans.specs.declared.span.Span.{Span}
 use Rattle.lnt_spans.specs.Coming.{GivesFirst}
@@ -22,7 +22,7 @@ use Rattle.lnt_lines.specs.Cursors.{Cursor, ComeLater, AreToCome}
 
 -- The draft is of these units, all of which are sound.
 pub record IsDraftOf (line general : List ℕ) (dead : Option ℕ) (units : List (ℕ × Parts)) (draft : Draft) : Type 0 where
-  pub sound : AllByRecursion (IsSound line general dead) units
+  pub sound : AllByRecursion (IsSoundUnit line general dead) units
   pub collects : Collects draft.collected (live_sequences dead units)
   pub offsets : draft.units.items ≡ map (λ unit. unit.0) units
   pub programs : AllZip (λ unit kept. Keeps kept unit.1) units draft.programs.items
