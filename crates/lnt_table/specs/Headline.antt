@@ -84,6 +84,6 @@ IsTrueOfSection line general options section other = IsGoodSection line general 
 -- ---- a stop
 
 -- A source was found to have more bytes than the `left` that it may give. Where its bytes are known, they are more than these.
-pub record IsTooLong (found : Bool) (remaining : Option (List ℕ)) (left : ℕ) : Type 0 where
+pub record IsFoundTooLong (found : Bool) (remaining : Option (List ℕ)) (left : ℕ) : Type 0 where
   pub is_found : IsTrue found
   pub more : HasMoreThan remaining left

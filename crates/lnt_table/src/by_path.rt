@@ -6,7 +6,7 @@ ghost use Rattle.lnt_unit.specs.declared.unit.Parts.{Parts};
 ghost use Rattle.lnt_lines.specs.Indexed.{IsIndexOf};
 ghost use Rattle.lnt_table.specs.AnyVersion.{IsTrueCheck, IsTrueCheckOfSection};
 ghost use Rattle.lnt_table.specs.FaultTexts.{checked_text};
-ghost use Rattle.lnt_table.specs.Headline.{IsTooLong};
+ghost use Rattle.lnt_table.specs.Headline.{IsFoundTooLong};
 ghost use Rattle.lnt_table.specs.Stepping.{IsCheckedWith, IsOfGood};
 
 use crate::path_lines::PathDifferenceLine;
@@ -74,8 +74,8 @@ pub fn check_any<R: Source, T: Source>(
         + 1 }
     ensures section_fine { result ≢ Err Stop.Read → R.failures section.new ≡ R.failures section.old }
     ensures table_fine { result ≢ Err Stop.Read → T.failures table.new ≡ T.failures table.old }
-    ensures too_long { IsErrOf result Stop.TooLong → IsTooLong (R.too_long section.new) (R.remaining section.old) (R.left section.old)
-        ⊎ IsTooLong (T.too_long table.new) (T.remaining table.old) (T.left table.old) }
+    ensures too_long { IsErrOf result Stop.TooLong → IsFoundTooLong (R.too_long section.new) (R.remaining section.old) (R.left section.old)
+        ⊎ IsFoundTooLong (T.too_long table.new) (T.remaining table.old) (T.left table.old) }
 {
     let index = match index_section(alloc, section, strings, options)? {
         JudgedIndex::Good(index) => index,
@@ -93,7 +93,7 @@ fn check_index<T: Source>(alloc: Global, table: &mut T, index: &Index<'_>) -> Re
     ensures good { IfOk result (λ checked. IsOfGood checked) }
     ensures read { IsErrOf result Stop.Read → T.failures table.new ≡ T.failures table.old + 1 }
     ensures no_failure { result ≢ Err Stop.Read → T.failures table.new ≡ T.failures table.old }
-    ensures too_long { IsErrOf result Stop.TooLong → IsTooLong (T.too_long table.new) (T.remaining table.old) (T.left table.old) }
+    ensures too_long { IsErrOf result Stop.TooLong → IsFoundTooLong (T.too_long table.new) (T.remaining table.old) (T.left table.old) }
 {
     let read = compare_or_take(alloc, table, index.spans())?;
     let text = match read {

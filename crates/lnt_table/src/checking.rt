@@ -4,7 +4,7 @@ ghost use Rattle.lnt_lines.specs.declared.no.No.{No as SectionNo};
 ghost use Rattle.lnt_wire.specs.declared.stop.Stop.TheVariants.{Read, TooLong};
 ghost use Rattle.lnt_unit.specs.declared.unit.Parts.{Parts};
 ghost use Rattle.lnt_lines.specs.Indexed.{IsIndexOf};
-ghost use Rattle.lnt_table.specs.Headline.{IsTooLong, IsTrueOfSection, IsTrueVerdict};
+ghost use Rattle.lnt_table.specs.Headline.{IsFoundTooLong, IsTrueOfSection, IsTrueVerdict};
 ghost use Rattle.lnt_table.specs.Stepping.{IsComparedWith};
 
 use crate::verdict::{TableNo, Verdict, verdict_of};
@@ -66,8 +66,8 @@ pub fn check<R: Source, T: Source>(
         + 1 }
     ensures section_fine { result ≢ Err Stop.Read → R.failures section.new ≡ R.failures section.old }
     ensures table_fine { result ≢ Err Stop.Read → T.failures table.new ≡ T.failures table.old }
-    ensures too_long { IsErrOf result Stop.TooLong → IsTooLong (R.too_long section.new) (R.remaining section.old) (R.left section.old)
-        ⊎ IsTooLong (T.too_long table.new) (T.remaining table.old) (T.left table.old) }
+    ensures too_long { IsErrOf result Stop.TooLong → IsFoundTooLong (R.too_long section.new) (R.remaining section.old) (R.left section.old)
+        ⊎ IsFoundTooLong (T.too_long table.new) (T.remaining table.old) (T.left table.old) }
 {
     let index = match index_section(alloc, section, strings, options)? {
         JudgedIndex::Good(index) => index,
@@ -88,7 +88,7 @@ fn compare_index<T: Source>(
         → IfSome (T.remaining table.old) (λ text. IsComparedWith dead skip units text compared)) }
     ensures read { IsErrOf result Stop.Read → T.failures table.new ≡ T.failures table.old + 1 }
     ensures no_failure { result ≢ Err Stop.Read → T.failures table.new ≡ T.failures table.old }
-    ensures too_long { IsErrOf result Stop.TooLong → IsTooLong (T.too_long table.new) (T.remaining table.old) (T.left table.old) }
+    ensures too_long { IsErrOf result Stop.TooLong → IsFoundTooLong (T.too_long table.new) (T.remaining table.old) (T.left table.old) }
 {
     let compared = compare_table(alloc, table, index.spans())?;
     Ok(compared)

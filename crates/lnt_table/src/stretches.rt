@@ -9,7 +9,7 @@ ghost use Rattle.lnt_paths.specs.PathAnswers.{PathAnswer};
 ghost use Rattle.lnt_paths.specs.PathSpans.{StandInOrder, path_span_answer};
 ghost use Rattle.lnt_paths.specs.Stretching.{HasToldByPath};
 ghost use Rattle.lnt_table.specs.ByPath.{path_at, told_path};
-ghost use Rattle.lnt_table.specs.Headline.{IsTooLong};
+ghost use Rattle.lnt_table.specs.Headline.{IsFoundTooLong};
 ghost use Rattle.lnt_table.specs.Stretches.{IsAnyDiffering, IsDifferingFrom, IsStartedAny};
 ghost use Rattle.lnt_unit.specs.declared.unit.Parts.{Parts};
 
@@ -41,7 +41,7 @@ pub fn differences<'i, T: Source>(
         differing) }
     ensures read { IsErrOf result Stop.Read → T.failures table.new ≡ T.failures table.old + 1 }
     ensures no_failure { result ≢ Err Stop.Read → T.failures table.new ≡ T.failures table.old }
-    ensures too_long { IsErrOf result Stop.TooLong → IsTooLong (T.too_long table.new) (T.remaining table.old) (T.left table.old) }
+    ensures too_long { IsErrOf result Stop.TooLong → IsFoundTooLong (T.too_long table.new) (T.remaining table.old) (T.left table.old) }
 {
     let differing = compare_all(alloc, table, index.spans())?;
     Ok(differing)
@@ -78,7 +78,7 @@ pub fn differences_any<'i, T: Source>(
         any) }
     ensures read { IsErrOf result Stop.Read → T.failures table.new ≡ T.failures table.old + 1 }
     ensures no_failure { result ≢ Err Stop.Read → T.failures table.new ≡ T.failures table.old }
-    ensures too_long { IsErrOf result Stop.TooLong → IsTooLong (T.too_long table.new) (T.remaining table.old) (T.left table.old) }
+    ensures too_long { IsErrOf result Stop.TooLong → IsFoundTooLong (T.too_long table.new) (T.remaining table.old) (T.left table.old) }
 {
     let read = differ_or_take(alloc, table, index.spans())?;
     let text = match read {
