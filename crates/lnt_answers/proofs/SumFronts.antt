@@ -12,8 +12,7 @@ use Rattle.lnt_sources.specs.Files.{TellsNoMore}
 use Rattle.lnt_sources.specs.declared.status.Status.{Status}
 use Rattle.lnt_sums.specs.declared.sums.Agreement.{Agreement}
 use Rattle.lnt_text.specs.Quotes.{quoted_text}
-use Rattle.lnt_lines.specs.Indexed.{file_path_in, file_sum_in, Indexed}
-use Rattle.lnt_answers.specs.FileLines.{path_field}
+use Rattle.lnt_lines.specs.Indexed.{file_path_in, file_sum_in, Indexed, path_or_empty}
 use Rattle.lnt_answers.specs.SumLines.{AreSumsTold, Finding, IsTrueOfFile, IsTrueFinding, found_status, found_text, head_text}
 use Rattle.lnt_answers.specs.SumLines.{listed_at, listed_below, listed_in, file_of, sum_line, sums_status}
 use Rattle.lnt_answers.proofs.SumLaws.{true_later}
@@ -46,7 +45,7 @@ unread_true : (tells : List ℕ → Option (List ℕ) → Type 0) (index : Index
 unfolding unread
 unread_true tells index [] = tt
 unread_true tells index (place ∷ files) = (
-  unread_one (tells (path_field (file_path_in index place.0 place.1))) (file_sum_in index place.0 place.1),
+  unread_one (tells (path_or_empty (file_path_in index place.0 place.1))) (file_sum_in index place.0 place.1),
   unread_true tells index files,
 )
 
@@ -121,7 +120,7 @@ sums_unbegun tells index files old =
 -- the writer stopped within the line of a file
 pub sum_stopped : (tells : List ℕ → Option (List ℕ) → Type 0) (index : Indexed) (unit file : ℕ) (a b : Option (List ℕ))
     (listed path shown bytes : List ℕ) (found : Option Agreement) → file_sum_in index unit file ≡ Some listed
-    → path ≡ path_field (file_path_in index unit file) → shown ≡ path_field (file_path_in index unit file)
+    → path ≡ path_or_empty (file_path_in index unit file) → shown ≡ path_or_empty (file_path_in index unit file)
     → IsTrueOfFile (tells path) listed found
     → bytes ≡ (head_text unit file ++ found_text found) ++ (codes " " ++ (quoted_text shown ++ codes "\n"))
     → AppendsFront a b bytes → HasBegun (AreSumsTold tells index (listed_at index unit file) a) a b

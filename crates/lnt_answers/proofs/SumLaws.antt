@@ -4,8 +4,7 @@ use Rattle.std.specs.List.{AllByRecursion}
 use Rattle.lnt_sources.specs.Files.{TellsNoMore}
 use Rattle.lnt_sources.specs.declared.status.Status.{Status}
 use Rattle.lnt_sums.specs.declared.sums.Agreement.{Agreement}
-use Rattle.lnt_lines.specs.Indexed.{file_path_in, file_sum_in, Indexed}
-use Rattle.lnt_answers.specs.FileLines.{path_field}
+use Rattle.lnt_lines.specs.Indexed.{file_path_in, file_sum_in, Indexed, path_or_empty}
 use Rattle.lnt_answers.specs.SumLines.{AreSumsTold, Finding, IsTrueOfFile, IsTrueFinding}
 
 found_later : (tells tells' : Option (List ℕ) → Type 0) (listed : List ℕ) (found : Option Agreement)
@@ -24,9 +23,9 @@ pub true_later : (tells tells' : List ℕ → Option (List ℕ) → Type 0) (ind
     → AllByRecursion (IsTrueFinding tells' index) findings → AllByRecursion (IsTrueFinding tells index) findings
 true_later tells tells' index [] later so = tt
 true_later tells tells' index (finding ∷ findings) later so = (
-  true_of_sum (tells (path_field (file_path_in index finding.unit finding.file)))
-      (tells' (path_field (file_path_in index finding.unit finding.file))) (file_sum_in index finding.unit finding.file) finding.found
-      (later (path_field (file_path_in index finding.unit finding.file))) so.0,
+  true_of_sum (tells (path_or_empty (file_path_in index finding.unit finding.file)))
+      (tells' (path_or_empty (file_path_in index finding.unit finding.file))) (file_sum_in index finding.unit finding.file) finding.found
+      (later (path_or_empty (file_path_in index finding.unit finding.file))) so.0,
   true_later tells tells' index findings later so.1,
 )
 

@@ -13,8 +13,7 @@ use Rattle.lnt_sources.specs.declared.status.Status.TheVariants.{Done, No}
 use Rattle.lnt_sums.specs.declared.sums.Agreement.{Agreement}
 use Rattle.lnt_sums.specs.declared.sums.Agreement.TheVariants.{Same, Differs}
 use Rattle.lnt_text.specs.Quotes.{quoted_text}
-use Rattle.lnt_lines.specs.Indexed.{file_path_in, file_sum_in, Indexed}
-use Rattle.lnt_answers.specs.FileLines.{path_field}
+use Rattle.lnt_lines.specs.Indexed.{file_path_in, file_sum_in, Indexed, path_or_empty}
 use Rattle.lnt_answers.proofs.SumLaws.{true_later}
 use Rattle.lnt_answers.specs.SumLines.{AreSumsTold, Finding, IsTrueFinding, IsTrueOfFile, both, file_of, found_status, found_text}
 use Rattle.lnt_answers.specs.SumLines.{head_text, listed_at, listed_below, listed_in, sum_line, sums_status}
@@ -62,7 +61,7 @@ sums_joined tells tells' index files more a b c s t later so next = record {
 -- a file with a listed sum, its path and the finding
 pub sum_listed : (tells : List ℕ → Option (List ℕ) → Type 0) (index : Indexed) (unit file : ℕ) (a b : Option (List ℕ))
     (listed path shown : List ℕ) (found : Option Agreement) (status : Status) → file_sum_in index unit file ≡ Some listed
-    → path ≡ path_field (file_path_in index unit file) → shown ≡ path_field (file_path_in index unit file)
+    → path ≡ path_or_empty (file_path_in index unit file) → shown ≡ path_or_empty (file_path_in index unit file)
     → IsTrueOfFile (tells path) listed found
     → Appends a b ((head_text unit file ++ found_text found) ++ (codes " " ++ (quoted_text shown ++ codes "\n")))
     → status ≡ found_status found → AreSumsTold tells index (listed_at index unit file) a b status
@@ -76,7 +75,7 @@ sum_listed tells index unit file a b listed path shown found status is path_is s
       places = sym (ap (λ (listed' : Option (List ℕ)). option_map_or (λ _. (unit, file) ∷ []) listed' []) is);
       are_true = (
         subst (λ (listed' : Option (List ℕ)). IfSome listed' (λ bytes.
-            IsTrueOfFile (tells (path_field (file_path_in index unit file))) bytes found)) (sym is) named,
+            IsTrueOfFile (tells (path_or_empty (file_path_in index unit file))) bytes found)) (sym is) named,
         tt,
       );
       printed = subst (Appends a b) (sym (append-nil (sum_line index finding))) line;

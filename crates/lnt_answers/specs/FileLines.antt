@@ -3,12 +3,7 @@ use Rattle.std.specs.Prelude.{ℕ, List, [], ◌∷◌, ◌++◌, Option, None, 
 use Rattle.std.specs.List.{flat_map}
 use Rattle.csv.specs.Writing.{default_writer, row_text}
 use Rattle.hex.specs.Hex.{encode_lower}
-use Rattle.lnt_lines.specs.Indexed.{file_count_in, file_path_in, file_sum_in, Indexed}
-
--- the bytes of a path; empty where there is none
-abbrev pub path_field : Option (List ℕ) → List ℕ
-path_field (Some path) = path
-path_field None = []
+use Rattle.lnt_lines.specs.Indexed.{file_count_in, file_path_in, file_sum_in, Indexed, path_or_empty}
 
 -- the hexadecimal digits of a sum; empty where none is listed
 abbrev pub sum_field : Option (List ℕ) → List ℕ
@@ -18,7 +13,7 @@ sum_field None = []
 -- the record of a file: its unit's offset, its index, its whole path and its listed sum
 abbrev pub file_record : Indexed → ℕ → ℕ → List ℕ
 file_record index unit file =
-    row_text default_writer (decimal unit ∷ decimal file ∷ path_field (file_path_in index unit file)
+    row_text default_writer (decimal unit ∷ decimal file ∷ path_or_empty (file_path_in index unit file)
     ∷ sum_field (file_sum_in index unit file) ∷ [])
 
 -- the records of the first `count` files of a unit

@@ -12,8 +12,7 @@ use Rattle.lnt_sums.specs.declared.sums.Agreement.{Agreement}
 use Rattle.lnt_sums.specs.declared.sums.Agreement.TheVariants.{Same, Differs}
 use Rattle.lnt_sums.specs.Agreements.{Agrees}
 use Rattle.lnt_text.specs.Quotes.{quoted_text}
-use Rattle.lnt_lines.specs.Indexed.{file_count_in, file_path_in, file_sum_in, Indexed}
-use Rattle.lnt_answers.specs.FileLines.{path_field}
+use Rattle.lnt_lines.specs.Indexed.{file_count_in, file_path_in, file_sum_in, Indexed, path_or_empty}
 
 -- ---- the files with a listed sum, each by its unit's offset and its index, in the order of the section
 
@@ -53,7 +52,7 @@ IsTrueOfFile tells listed (Some agreement) =
 abbrev pub IsTrueFinding : (List ℕ → Option (List ℕ) → Type 0) → Indexed → Finding → Type 0
 IsTrueFinding tells index finding =
     IfSome (file_sum_in index finding.unit finding.file)
-    (λ listed. IsTrueOfFile (tells (path_field (file_path_in index finding.unit finding.file))) listed finding.found)
+    (λ listed. IsTrueOfFile (tells (path_or_empty (file_path_in index finding.unit finding.file))) listed finding.found)
 
 -- ---- what is printed
 
@@ -69,7 +68,7 @@ head_text unit file = codes "unit " ++ (decimal unit ++ (codes " file " ++ (deci
 abbrev pub sum_line : Indexed → Finding → List ℕ
 sum_line index finding =
     (head_text finding.unit finding.file ++ found_text finding.found)
-    ++ (codes " " ++ (quoted_text (path_field (file_path_in index finding.unit finding.file)) ++ codes "\n"))
+    ++ (codes " " ++ (quoted_text (path_or_empty (file_path_in index finding.unit finding.file)) ++ codes "\n"))
 
 -- the status for a finding
 abbrev pub found_status : Option Agreement → Status

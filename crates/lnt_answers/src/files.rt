@@ -5,8 +5,8 @@ ghost use Rattle.csv.specs.Writing as csv;
 ghost use Rattle.lnt_output.specs.Fronts.{AppendsFront};
 ghost use Rattle.lnt_sources.specs.declared.status.Status.TheVariants.{Done};
 ghost use Rattle.lnt_sources.specs.Halts.{IsPrinting};
-ghost use Rattle.lnt_lines.specs.Indexed.{file_path_in, file_sum_in};
-ghost use Rattle.lnt_answers.specs.FileLines.{file_record, files_text, path_field, sum_field, unit_records};
+ghost use Rattle.lnt_lines.specs.Indexed.{file_path_in, file_sum_in, path_or_empty};
+ghost use Rattle.lnt_answers.specs.FileLines.{file_record, files_text, sum_field, unit_records};
 
 use csv::Writer;
 use lnt_lines::Index;
@@ -114,7 +114,7 @@ pub(crate) fn path_of(
     unit: u64,
     file: u64,
 ) -> Result<Vec<u8>, AllocError>
-    ensures { IfOk result (λ path. path.items ≡ path_field (file_path_in index.now unit file)) }
+    ensures { IfOk result (λ path. path.items ≡ path_or_empty (file_path_in index.now unit file)) }
 {
     match index.path_of(alloc, unit, file)? {
         Some(path) => Ok(path),

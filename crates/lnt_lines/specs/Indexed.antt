@@ -1,6 +1,6 @@
 -- What is kept of a good section by its sequences: where each lies, the programs of the units that they are in, and the
 -- string sections.
-use Rattle.std.specs.Prelude.{◌≡◌, ◌<◌, ◌==◌, Bool, ℕ, List, length, map, get_or, Option, Some}
+use Rattle.std.specs.Prelude.{◌≡◌, ◌<◌, ◌==◌, Bool, ℕ, List, [], length, map, get_or, Option, None, Some}
 use Rattle.std.specs.List.{AllByRecursion, AllZip, position, slice_get}
 use Rattle.std.specs.List.Sorted.{IsPermutation}
 use Rattle.std.specs.Option.{option_and_then, option_map, option_map_or}
@@ -63,6 +63,11 @@ file_count_in index unit = option_map_or (λ header. length header.files) (heade
 -- the path of one of its files, if that is there
 abbrev pub file_path_in : Indexed → ℕ → ℕ → Option (List ℕ)
 file_path_in index unit file = option_and_then (λ header. path_bytes index.line index.general header file) (header_in index unit)
+
+-- what is written of a path in a field of a record; empty where there is none, but each file that a good section's rows name has one
+abbrev pub path_or_empty : Option (List ℕ) → List ℕ
+path_or_empty (Some path) = path
+path_or_empty None = []
 
 -- the MD5 sum that is listed of one of its files
 abbrev pub file_sum_in : Indexed → ℕ → ℕ → Option (List ℕ)

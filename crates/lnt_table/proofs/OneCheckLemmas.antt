@@ -17,12 +17,12 @@ use Rattle.lnt_paths.specs.Laws.{OnePathComparison, told_by_path}
 use Rattle.lnt_paths.specs.PathAnswers.{path_answer}
 use Rattle.lnt_lines.specs.declared.options.Options.{Options}
 use Rattle.lnt_lines.specs.Drafts.{IsIndexOfSection}
-use Rattle.lnt_lines.specs.Indexed.{file_path_in, header_in, Indexed, IsIndexOf}
+use Rattle.lnt_lines.specs.Indexed.{file_path_in, header_in, Indexed, IsIndexOf, path_or_empty}
 use Rattle.lnt_table.specs.declared.by_path.Checked.{Checked}
 use Rattle.lnt_table.specs.declared.by_path.Checked.TheVariants.{Numbered, ByPath}
 use Rattle.lnt_table.specs.declared.verdict.Verdict.{Verdict}
 use Rattle.lnt_table.specs.AnyVersion.{IsTrueByPath, IsTrueCheck}
-use Rattle.lnt_table.specs.ByPath.{path_at, path_bytes_of, told_path}
+use Rattle.lnt_table.specs.ByPath.{path_at, told_path}
 use Rattle.lnt_table.specs.Laws.{OneCheck, OneNumbered, OnePath, OneVerdict, SayTheSame}
 use Rattle.lnt_table.proofs.AnyLemmas.{compared_so}
 
@@ -87,11 +87,10 @@ one_path = record { one = path_in }
 answer_alike : (version : PathVersion) (one other : Indexed) (found : Option Answer)
     → ((unit file : ℕ) → file_path_in one unit file ≡ file_path_in other unit file)
     → option_map (path_answer version (path_at one)) found ≡ option_map (path_answer version (path_at other)) found
-unfolding path_at path_bytes_of
 answer_alike version one other None same = refl
 answer_alike version one other (Some answer) same =
     let path : path_at one answer.unit answer.file ≡ path_at other answer.unit answer.file =
-    ap path_bytes_of (same answer.unit answer.file) in
+    ap path_or_empty (same answer.unit answer.file) in
     rw path refl
 
 told_alike : OnePath → (line general : List ℕ) (options : Options) (section : List ℕ) (one other : Indexed)

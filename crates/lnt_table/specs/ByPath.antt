@@ -1,21 +1,16 @@
 -- The answers of a section by path.
-use Rattle.std.specs.Prelude.{Bool, ℕ, List, [], Option, None, Some}
+use Rattle.std.specs.Prelude.{Bool, ℕ, List, Option}
 use Rattle.std.specs.Option.{option_map}
 use Rattle.lnt_unit.specs.declared.unit.Parts.{Parts}
 use Rattle.lnt_spans.specs.declared.position.Position.{Position}
 use Rattle.lnt_sequences.specs.Sequences.{line_answer}
-use Rattle.lnt_lines.specs.Indexed.{Indexed, file_path_in}
+use Rattle.lnt_lines.specs.Indexed.{Indexed, file_path_in, path_or_empty}
 use Rattle.lnt_paths.specs.declared.version.PathVersion.{PathVersion}
 use Rattle.lnt_paths.specs.PathAnswers.{PathAnswer, path_answer}
 
--- the bytes of a path; empty where there is none, but each file that a good section's rows name has one
-abbrev pub path_bytes_of : Option (List ℕ) → List ℕ
-path_bytes_of (Some path) = path
-path_bytes_of None = []
-
 -- the whole path of a file of a unit
 abbrev pub path_at : Indexed → ℕ → ℕ → List ℕ
-path_at index unit file = path_bytes_of (file_path_in index unit file)
+path_at index unit file = path_or_empty (file_path_in index unit file)
 
 -- the answer of the units' rows at a position, by path, as this version tells answers
 abbrev pub told_path : PathVersion → Indexed → Option ℕ → Bool → List (ℕ × Parts) → Position → Option PathAnswer
