@@ -1,4 +1,4 @@
-use Rattle.std.proofs.Common.{subst, arith, Some, Result}
+use Rattle.std.proofs.Common.{subst, arith, rules, Some, Result}
 use Rattle.std.proofs.lemmas.Result.{err_from_is_err_and}
 use Rattle.lnt_wire.specs.declared.fault.Fault.{Fault}
 use Rattle.lnt_header.specs.declared.op.OpView.{OpView}
@@ -24,3 +24,6 @@ loop-op-preserved c =
       passes_more c.in_ok-op.field-0 c.args.run.now c.loop-op.run c.args.ops.now c.loop-op.ops c.step.new.self c.next.new.self _
           c.loop-op.invariant.2 step c.in_ok-row.ensures.ok c.in_default-2.not-Some,
     )
+
+pub returns-then-is_open-clause-ok : goal.returns-then-is_open-clause-ok
+returns-then-is_open-clause-ok c = search rules
