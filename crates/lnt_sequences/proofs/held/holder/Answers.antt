@@ -1,4 +1,4 @@
-use Rattle.std.proofs.Common.{arith}
+use Rattle.std.proofs.Common.{arith, rules}
 use Rattle.lnt_spans.proofs.BisectionLaws.{bounded_half, bounded_next}
 use Rattle.lnt_sequences.proofs.HolderLemmas.{bracket_above, bracket_below, found_inside, found_nowhere}
 use Rattle.lnt_sequences.proofs.held.holder.Goals as goal
@@ -27,3 +27,6 @@ loop-low-preserved c = record {
 
 pub returns-clause-found : goal.returns-clause-found
 returns-clause-found c = found_nowhere _ _ _ _ c.loop-low.invariant.bracket (omega arith)
+
+pub loop-low-init : goal.loop-low-init
+loop-low-init c = search rules
