@@ -20,8 +20,15 @@ ln -s "$(python3 -c 'import sys; print(sys.executable)')" "$work/without/python3
 cat >"$work/bin/rt" <<END
 #!/usr/bin/env bash
 echo "\$1" >>"$work/asked"
+# As the real one, it refuses a list with a crate that has no folder.
+all_there() {
+  local name
+  for name in \$(sed -n 's/^\([a-z_]*\)[ a-z]*:.*/\1/p' ../../crates.txt); do
+    [ -d "../\$name/src" ] || return
+  done
+}
 case \$1 in
-  lib) echo "of \${PWD##*/}"; [ ! -e "$work/no_\${PWD##*/}" ] && mkdir -p out/rlib && touch out/rlib/stamp ;;
+  lib) echo "of \${PWD##*/}"; all_there && [ ! -e "$work/no_\${PWD##*/}" ] && mkdir -p out/rlib && touch out/rlib/stamp ;;
   run) sleep 1; mkdir -p out && cp "$top/crates/linetab/out/linetab" out/linetab && [ ! -e "$work/broken" ] ;;
 esac
 END
