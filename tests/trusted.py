@@ -122,7 +122,7 @@ def main():
     of_yes, _ = closure([HEADLINE])
     with open(os.path.join(TOP, "docs", "TRUSTED.md"), encoding="utf-8") as file:
         page = file.read()
-    listed = re.findall(r"(?m)^\| `(crates/\S+\.antt)` \|", page)
+    listed = re.findall(r"(?m)^\| \[`(crates/\S+\.antt)`\]\(\.\./\1\) \|", page)
     passed = sum(listed.count(name) == 1 for name in lines)
     wrong = ["%s isn't listed, or twice" % name for name in lines if listed.count(name) != 1]
     wrong += ["%s is listed, and nothing leads to it" % name for name in listed if name not in lines]
