@@ -1,6 +1,6 @@
 """Makes good sections of shapes that cost a careless reader much, looks up an address in each, and lists its files. A section
 of four times the size has to take less than eight times the processor time. The memory of each word has to stay within four times the
-bytes that are given and 8 MB. The last line is 'N passed, M failed'."""
+bytes that are given and 8 MB. With the word --figures it also prints what each took. The last line is 'N passed, M failed'."""
 
 import os
 import subprocess
@@ -143,32 +143,36 @@ def memory_fault(status, memory, given):
     return None
 
 
-def fault_of_timed(measured, text, small, large):
-    """What is wrong with the time and memory of a word, if anything."""
+def times_given(memory, given):
+    return "%.1f times the bytes given" % (memory / given)
+
+
+def judged_timed(measured, text, small, large):
+    """What is wrong with the time and memory of a word, if anything, and what it took."""
     least = [None, None]
     for _ in range(TURNS):
         for which, given in enumerate((small, large)):
             status, seconds, memory = taken(measured, given.words(text))
-            fault = memory_fault(status, memory, given.bytes)
+            figures, fault = times_given(memory, given.bytes), memory_fault(status, memory, given.bytes)
             if fault:
-                return fault
+                return fault, figures
             least[which] = seconds if least[which] is None else min(least[which], seconds)
-    if least[1] > MOST_GROWTH * least[0] + TICKS:
-        return "%.3f s, and %.3f s for four times the size" % tuple(least)
-    return None
+    times = "%.3f s, and %.3f s for four times the size" % tuple(least)
+    return times if least[1] > MOST_GROWTH * least[0] + TICKS else None, times + ", " + figures
 
 
-def faults_of(shape, measured, folder):
-    """What each word does wrong with a shape: pairs of the word and the fault, or None."""
+def judged(shape, measured, folder):
+    """Each word with a shape: the word, what it does wrong, or None, and what it took."""
     count = SHAPES[shape][2]
     small, given, large = [Given(shape, size, folder) for size in (count // 2, count, 2 * count)]
     for text in TIMED:
         if (text, shape) != ("files", LONG_PATHS):
-            yield text, fault_of_timed(measured, text, small, large)
+            yield text, *judged_timed(measured, text, small, large)
     table = given.table()
     for text in BARE + WITH_STRINGS:
         status, _, memory = taken(measured, given.words(text))
-        yield text, memory_fault(status, memory, given.bytes + (table if "TABLE" in text else 0))
+        all_given = given.bytes + (table if "TABLE" in text else 0)
+        yield text, memory_fault(status, memory, all_given), times_given(memory, all_given)
 
 
 def main():
@@ -177,7 +181,9 @@ def main():
         measured = os.path.join(folder, "measured")
         subprocess.run(["cc", "-O2", "-o", measured, "bench/peers/measured.c"], check=True)
         for shape in SHAPES:
-            for text, fault in faults_of(shape, measured, folder):
+            for text, fault, figures in judged(shape, measured, folder):
+                if "--figures" in sys.argv:
+                    print("%s: %s: %s" % (text, shape, figures), flush=True)
                 if fault:
                     failed += 1
                     print("failed: %s: %s: %s" % (text, shape, fault))
