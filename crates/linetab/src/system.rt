@@ -5,13 +5,13 @@ use std::cell::Cell;
 use std::fs::{self, File};
 use std::io::{self, Read, Stdin};
 
-// Files that hold the places of standard input, standard output and standard error, where the process was started without them.
+// Files that hold the descriptors of standard input, output and error, where the process was started without them.
 #[derive(Drop)]
 pub(crate) struct Held(Option<File>, Option<File>, Option<File>);
 
-/// Opens the root folder three times, before any other file. A file gets the first place that is free, so where the
+/// Opens the root folder three times, before any other file. A file gets the least descriptor that is free, so where the
 /// process was started without standard input, the first file that the words name would be read as standard input too.
-/// A folder in that place can neither be read nor written, so `-` is refused, and so is what would be printed.
+/// A folder there can neither be read nor written, so `-` is refused, and so is what would be printed.
 pub(crate) fn hold_standard_places(rt: &HostRuntime) -> Held {
     let open = || fs::open(rt, "/").ok();
     Held(open(), open(), open())

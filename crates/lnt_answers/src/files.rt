@@ -66,6 +66,7 @@ fn print_file<W: Write>(
 {
     let mut records = Writer::from_writer(Vec::new(alloc));
     put_file(alloc, index, unit, file, &mut records)?;
+    // A vector refuses to be flushed only for want of memory.
     let Ok(bytes) = records.into_inner() else {
         return Err(Halt::Memory);
     };
@@ -107,7 +108,7 @@ fn put_file(
     }
 }
 
-// The whole path of a file; empty where there is none.
+// The whole path of a file; empty where there is none, which is never so of a file that a good section lists.
 pub(crate) fn path_of(
     alloc: Global,
     index: &Index<'_>,

@@ -75,14 +75,15 @@ fn print_answered<W: Write>(
     print_answer(position, answer, out)?;
     match index.path_of(alloc, answer.unit, answer.file) {
         Ok(Some(path)) => writeln!(out, " path {}", Quoted(&path))?,
+        // Never for a file that a row of a good section names; the index's invariant doesn't say so.
         Ok(None) => writeln!(out)?,
         Err(_) => return Err(Halt::Memory),
     }
     Ok(())
 }
 
-/// Prints a line for each of these positions, in their order: the answer there and the path of its file, or that there is no
-/// answer.
+/// Prints a line for each of these positions, in their order: `0xADDRESS,OP unit U file F line L column C stmt S path "PATH"`,
+/// with the unit's offset in the section and the file's index from 0, both decimal; or `0xADDRESS,OP none`.
 ///
 /// It answers `Done`. It stops by `Write` where the writer failed, and by `Memory`. Where it stops, the writer has gained
 /// a front of these lines, and nothing else.

@@ -19,9 +19,10 @@ use std::alloc::Global;
 use std::io::Write;
 use std::str;
 
-/// Prints a line for each file with a listed MD5 sum, unit by unit: that the bytes which the opener gives for its path have
-/// this sum; or that they don't, and the sum that they have; or that the file can't be read. A file named `-` is never read:
-/// it counts as one that can't be.
+/// Prints a line for each file with a listed MD5 sum (`DW_LNCT_MD5` of DWARF 5, section 6.2.4.1), unit by unit:
+/// `unit U file F same "PATH"` where the bytes that the opener gives for its path have this sum, or `differs SUM` with the sum
+/// that they have, or `unreadable` in place of `same`. Unreadable is a file that can't be opened or read, has more than 2^40
+/// bytes, has a path that isn't UTF-8, or is named `-`, which is never read.
 ///
 /// It answers `Done` where all of them have their sums, and `No` where one has another sum or can't be read. It stops by
 /// `Write` where the writer failed, and by `Memory`. Where it stops, the writer has gained a front of lines that are true of

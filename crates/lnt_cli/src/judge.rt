@@ -185,6 +185,7 @@ impl<O: Opener, W: Write, N: Write> Session<'_, '_, '_, O, W, N> {
         }
     }
 
+    // Writes the notes to what a check answers, and gives the status with which the run ends.
     fn tell_checked(
         &mut self,
         checked: &Checked,
@@ -201,6 +202,7 @@ impl<O: Opener, W: Write, N: Write> Session<'_, '_, '_, O, W, N> {
         }
     }
 
+    // The same of what a check of a table by path answers.
     fn tell_compared(
         &mut self,
         compared: &ComparedByPath,
@@ -217,6 +219,7 @@ impl<O: Opener, W: Write, N: Write> Session<'_, '_, '_, O, W, N> {
         }
     }
 
+    // The same of what a check of a table of version 1 or 2 answers.
     fn tell_verdict(
         &mut self,
         verdict: &Verdict,
@@ -241,6 +244,7 @@ impl<O: Opener, W: Write, N: Write> Session<'_, '_, '_, O, W, N> {
         }
     }
 
+    // The same where the table answers as the section does.
     fn tell_agreed(&mut self, from: &Judging<'_>, table: &str) -> Status
         ensures status { result ≡ Status.Done }
         ensures same { self.new.out ≡ self.old.out }
@@ -252,6 +256,7 @@ impl<O: Opener, W: Write, N: Write> Session<'_, '_, '_, O, W, N> {
         Status::Done
     }
 
+    // The same of a fault of the table.
     fn tell_fault(&mut self, fault: TableFault, columns: Columns, table: &str) -> Status
         ensures status { result ≡ Status.No }
         ensures same { self.new.out ≡ self.old.out }

@@ -1,4 +1,4 @@
-//! The command `linetab`, over an opener of files and a writer.
+//! The command `linetab`, over an opener of files and two writers, of the answer and of notes.
 //!
 //! [`run`] reads the words of the command, opens the files that they name, and writes the answer to one writer and notes to
 //! another; [`answer`] does the same for a request that was read already. Neither calls the system: a program hands it an

@@ -62,7 +62,7 @@ pub fn run<O: Opener, W: Write, N: Write>(
 ///
 /// Where it stops, and the request was for help, a list of units, a conversion, a check of a table, all places at which a table
 /// answers otherwise, a question about a section, or the lines of a file, `out` has gained a front of an answer, and nothing
-/// else (`IsStopped`): there is such an answer also where nobody reached its end. It stops as `run` does, and never by
+/// else (`IsStopped`): there is such an answer also where the run stopped before its end. It stops as `run` does, and never by
 /// `Usage`.
 ///
 /// Nothing is said of what dumps print.

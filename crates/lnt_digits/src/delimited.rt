@@ -11,7 +11,7 @@ const DECIMAL_DIGITS: usize = 18;
 
 const HEXADECIMAL_DIGITS: usize = 16;
 
-/// Parses 1 to 18 decimal digits at `at`, then `end`; gives the value and the next index. `None` says nothing about the
+/// Parses 1 to 18 decimal digits at `at`, then `end`; gives the value and the index after `end`. `None` says nothing about the
 /// text: a longer number may stand there, and is left to `decimal`.
 #[inline(always)]
 pub fn decimal_until(text: &[u8], at: usize, end: u8) -> Option<(u64, usize)>

@@ -26,13 +26,13 @@ refusal_text (Malformed fault) = malformed_text fault ++ codes "\n"
 refusal_text (TooLarge offset) = too_large_text offset
 refusal_text Memory = []
 
--- A writer that held these bytes has gained the line that says why the section isn't converted, which is so. That memory ran out isn't
--- told so: it stops the work.
+-- A writer that held these bytes has gained the line that says why the section isn't converted, and that is true. Want of memory has
+-- no line: it stops the work.
 abbrev pub IsRefusalTold : Order → List ℕ → Format → Order → Option (List ℕ) → Option (List ℕ) → Type 0
 IsRefusalTold order section format to old new =
     (fault : ConvertFault) × (fault ≢ Memory) × IsConvertFault order section format to fault × Appends old new (refusal_text fault)
 
--- how the work on a section ends: it was printed converted, or the line was that says why there is no conversion
+-- how the work on a section ends: the converted section was printed, or the line that says why there is none
 abbrev pub IsConversionTold : Order → List ℕ → Format → Order → Option (List ℕ) → Option (List ℕ) → Status → Type 0
 IsConversionTold order section format to old new Done = IsPrintedIn (IsConverted order section format to) old new
 IsConversionTold order section format to old new No = IsRefusalTold order section format to old new

@@ -13,8 +13,8 @@ abbrev pub IsUnit : Next → Type 0
 IsUnit (NextUnit unit) = Unit {0}
 IsUnit _ = ⊥
 
--- So it is of the bytes at the offset, which the source had to give (old); the others after a unit are left (new), and the offset is
--- then that of its end (after).
+-- This comes next in the bytes that the source had to give (old), which begin at the offset. After a unit the source has the bytes
+-- after it left to give (new), and the reader stands at the offset of its end (after).
 abbrev pub IsNext : ℕ → ℕ → Order → Option (List ℕ) → Option (List ℕ) → Next → Type 0
 IsNext offset after order old new (NextUnit unit) = IsNextUnit offset order old new unit × (after ≡ offset + length unit.bytes)
 IsNext offset after order old new (NextFault fault) = SectionEndsBy offset order old (Some fault)

@@ -18,7 +18,8 @@ use lnt_wire::{Cursor, Format, Order, Source, read_all};
 use std::alloc::Global;
 use std::io::Write;
 
-/// Prints the section that the source has to give in the format and in the byte order `to`, or why that can't be.
+/// Reads the section that the source has to give, in the byte order `order`, and prints it in the format `format` and the byte
+/// order `to`; or the line that says why there is no such section: `no 25 ..` or `no 20 ..`.
 ///
 /// Where it answers `Done`, the writer has gained the converted section, and nothing else. Where it answers `No`, the
 /// section is malformed, or a unit of it is too large for the format, and the writer has gained the line that says so

@@ -52,7 +52,9 @@ impl From<AllocError> for PrintStop {
     }
 }
 
-/// Prints the units that the source has to give, each with its header, its tables, and what else is shown.
+/// Prints the units that the source has to give: for each a line `unit` (offset, format, length), a line `header` (the numbers
+/// of the header in their order), and a line `dir` or `file` for each entry, counted from 0 (DWARF 5, section 6.2.4); then what
+/// `shown` asks for.
 ///
 /// It answers `Done` where all of them were printed. At the first unit with a fault it prints the line of the fault,
 /// and nothing else of that unit, and answers `No`. It stops by `Read` where the source failed, by `TooLong` where it

@@ -30,6 +30,7 @@ pub(crate) fn print_header<W: Write>(
     print_entries(alloc, "file", header.files(), out)
 }
 
+// Prints the line of the header's numbers, in the order in which the header has them.
 fn print_numbers<W: Write>(header: &Header, out: &mut W) -> Result<(), Halt> {
     let address_size = header.address_size();
     let minimum = header.minimum_instruction_length();

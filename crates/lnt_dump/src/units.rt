@@ -16,7 +16,8 @@ use lnt_wire::{Fault, Frame, Order, Source};
 use std::alloc::Global;
 use std::io::Write;
 
-/// Prints a line for each unit that the source has to give: its offset, the width of its format, and its length.
+/// Prints a line `0xOFFSET 32|64 LENGTH` for each unit that the source has to give: its offset in the section, the bits of an
+/// offset in its format, and its `unit_length`, the bytes after that field, in decimal (DWARF 5, sections 6.2.4 and 7.4).
 ///
 /// It answers `Done` where all of them were printed. Where no unit begins what is left, it prints the line of the
 /// fault, and answers `No`. In both cases the writer has gained the lines of the section's frames (`AreFrames` of

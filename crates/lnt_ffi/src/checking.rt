@@ -11,9 +11,9 @@ use crate::verdict::{FlatVerdict, verdict_of_stop};
 use lnt_table::{Checked, check_any};
 use std::alloc::Global;
 
-/// Checks a section against the bytes of an address table of any version. The verdict is yes, or it tells the first thing that
-/// stands against it, with the evidence: where the two differ (40), the least position at which they do, and both answers
-/// there, of a table by path but for the paths, of which it tells how long they are.
+/// Checks a section against the bytes of an address table of any version. `verdict` becomes yes (0), the first thing against it
+/// with the evidence, or 33 where memory ran out. Where the two differ (40) it has the least position at which they do, and both
+/// answers there; of a table by path it has the lengths of the paths in bytes, and not the paths.
 #[unsafe(no_mangle)]
 pub extern "C" fn linetab_check(
     alloc: Global,

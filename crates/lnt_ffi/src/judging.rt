@@ -41,6 +41,7 @@ pub extern "C" fn linetab_verify(
             *verdict = YES;
             count
         }
+        // Never: a section has fewer spans than bytes.
         None => {
             *verdict = verdict_of_stop(Stop::Memory);
             0
@@ -64,8 +65,8 @@ pub(crate) fn index_of<'a>(
     }
 }
 
-// Puts the spans into the front of the room, as far as it goes, and answers how many they are: None where they are too
-// many to count.
+// Puts the spans into the front of the room, as far as it goes, and answers how many they are. None where they are 2^64 or
+// more, which the spans of a section never are: no clause says so.
 fn put_spans<S: SpanSource + Drop>(spans: S, room: &mut [FlatSpan]) -> Option<usize>
     ensures length { length room.new ≡ length room.old }
     ensures count { IfSome result (λ count. (list : List spec.Span) → S.to_come spans list → count ≡ length list) }

@@ -41,7 +41,7 @@ impl<'a> FlatSection<'a> {
         }
     }
 
-    // Where the texts of its forms lie.
+    // Its string sections.
     pub(crate) fn strings(&self) -> Strings<'a>
         ensures line { result.line.now ≡ self.now.line_str.now }
         ensures general { result.general.now ≡ self.now.general.now }

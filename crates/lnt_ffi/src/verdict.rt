@@ -17,7 +17,7 @@ use lnt_wire::{Fault, Reason, Stop};
 #[repr(C)]
 #[derive(Clone, Copy)]
 pub struct FlatVerdict {
-    /// 0 for yes, else the number of the reason: 25 to 32 of a section (`No`), 33 to 35 of a stop (`Stop`), 36 to 40 of a
+    /// 0 for yes, else the number of the reason: 25 to 32 of a section (`No`), 33 where memory ran out (`Stop`), 36 to 40 of a
     /// table (`TableNo`).
     pub number: u32,
     /// The number of what is wrong with the bytes (`Reason`) or with the program (`RunFault`), or 1 for the table of files and 0 for
@@ -35,7 +35,7 @@ pub struct FlatVerdict {
     pub other_index: u64,
     /// The address of the position.
     pub address: u64,
-    /// The operation of the position.
+    /// The operation index of the position.
     pub op: u64,
     /// Whether the table answers something there.
     pub table_answers: bool,

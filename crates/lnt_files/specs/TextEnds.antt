@@ -1,4 +1,4 @@
--- Which offsets into a string section have a text: those before its last zero byte and that byte's own (DWARF 5, section 7.26).
+-- Which offsets into a string section have a text: those before its last zero byte and that byte's own (DWARF 5, section 7.5.5).
 use Rattle.std.specs.Prelude.{ℕ, ◌<◌, ◌↔◌, List, drop, IsSome}
 use Rattle.lnt_wire.specs.Texts.{up_to_zero}
 

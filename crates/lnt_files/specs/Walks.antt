@@ -36,10 +36,11 @@ EntryStep old (Some view) new = GivesEntry old view new
 
 -- ---- how it is read
 
--- these content types, in these forms
+-- the content types of the pairs
 abbrev pub contents_of : List Pair → List ℕ
 contents_of pairs = map (λ pair. pair.content) pairs
 
+-- The pairs have the content types and the forms of this one of the usual formats; of another format nothing is said.
 abbrev pub IsUsual : Usual → List Pair → Type 0
 IsUsual Path pairs = (contents_of pairs ≡ content_path ∷ []) × (forms_of pairs ≡ LineStrp ∷ [])
 IsUsual IndexedPath pairs = (contents_of pairs ≡ content_path ∷ content_directory_index ∷ []) × (forms_of pairs ≡ LineStrp ∷ Udata ∷ [])
@@ -47,6 +48,7 @@ IsUsual SummedPath pairs =
     (contents_of pairs ≡ content_path ∷ content_directory_index ∷ content_md5 ∷ []) × (forms_of pairs ≡ LineStrp ∷ Udata ∷ Data16 ∷ [])
 IsUsual Other pairs = Unit {0}
 
+-- the first component of each of the three content types stands at these places
 pub record ArePlaces (places : Places) (pairs : List Pair) : Type 0 where
   pub path : places.path ≡ place_of content_path pairs
   pub directory : places.directory ≡ place_of content_directory_index pairs

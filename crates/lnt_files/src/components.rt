@@ -14,7 +14,7 @@ use crate::walk::EntryView;
 use lnt_header::Pair;
 use lnt_wire::{Cursor, Fault, Form, Format, ValueView};
 
-/// The formats that compilers write. Their entries are read without a look at the format.
+/// Which of the formats that compilers write a table has. Entries of the first three are read without a look at the format.
 #[derive(Clone, Copy)]
 pub(crate) enum Usual {
     /// A path in `.debug_line_str`.
@@ -23,6 +23,7 @@ pub(crate) enum Usual {
     IndexedPath,
     /// The same, and an MD5 sum.
     SummedPath,
+    /// Any other format.
     Other,
 }
 

@@ -1,4 +1,4 @@
-//! Which offsets into the string sections have a text (DWARF 5, section 7.26).
+//! Which offsets into the string sections have a text (DWARF 5, section 7.5.5).
 ghost use Rattle.std.specs.Prelude.{◌≡◌, ◌↔◌, IsTrue, IsSome};
 ghost use Rattle.lnt_wire.specs.Borrowed.{value_of};
 ghost use Rattle.lnt_wire.specs.Texts.{text_of, up_to_zero};

@@ -20,7 +20,7 @@ pub data IsCutField (before left : List ℕ) : Type 0 where
   operation : (n : ℕ) (earlier spelling : List ℕ) → UnsignedLeb n spelling → before ≡ earlier ++ 0 ∷ spelling → length left < n
       → IsCutField before left
 
--- a whole LEB128 whose value no field of its kind has
+-- a whole LEB128 number that doesn't fit 64 bits, read as an unsigned or as a signed one
 abbrev pub IsLargeLeb : List ℕ → Type 0
 IsLargeLeb left =
     (spelling : List ℕ) × (rest : List ℕ) × IsLeb spelling × (left ≡ spelling ++ rest) × (IsLargeUnsigned spelling ⊎ IsLargeSigned spelling)

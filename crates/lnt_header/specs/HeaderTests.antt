@@ -27,12 +27,13 @@ pub record IsFormat (pairs : List Pair) (entries : List Entry) : Type 0 where
   pub few_pairs : length pairs < 256
   pub none_without_pairs : pairs ≡ [] → entries ≡ []
 
+-- the numbers of a header, and two formats
 pub record HasNumbersAndFormats (h : HeaderParts) : Type 0 where
   pub numbers : HasHeaderNumbers h
   pub directories : IsFormat h.directory_format h.directories
   pub files : IsFormat h.file_format h.files
 
--- a value other than a text that has a spelling: a block fits its length
+-- any text; or another value that has a spelling, so that a block fits its length
 abbrev pub FitsItsForm : FormValue → Type 0
 FitsItsForm (Text text) = Unit {0}
 FitsItsForm value = HasSpelling value
@@ -42,7 +43,7 @@ abbrev pub HoldsNoZero : FormValue → Type 0
 HoldsNoZero (Text text) = HasSpelling (Text text)
 HoldsNoZero value = Unit {0}
 
--- a value in the pair's form
+-- a value in the pair's form, which, where it is a block, has no more bytes than its length can count
 abbrev pub FitsPair : Pair → FormValue → Type 0
 FitsPair pair value = (form_of value ≡ pair.form) × FitsItsForm value
 
@@ -50,9 +51,11 @@ FitsPair pair value = (form_of value ≡ pair.form) × FitsItsForm value
 abbrev pub IsOfFormat : List Pair → Entry → Type 0
 IsOfFormat pairs entry = AllZip FitsPair pairs entry.values
 
+-- no text of the entry has a zero byte
 abbrev pub HasSoundTexts : Entry → Type 0
 HasSoundTexts entry = AllByRecursion HoldsNoZero entry.values
 
+-- each entry of both tables has its table's format
 pub record AreOfFormats (h : HeaderParts) : Type 0 where
   pub directories : AllByRecursion (IsOfFormat h.directory_format) h.directories
   pub files : AllByRecursion (IsOfFormat h.file_format) h.files

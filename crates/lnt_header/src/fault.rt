@@ -9,9 +9,9 @@ use std::fmt;
 /// Why no unit has the parts that are given. Each reason has a number, from 16 to 19. Indices count from 0.
 #[derive(Clone, Copy, Debug, PartialEq, Eq)]
 pub enum UnitFault {
-    /// 18: a number of the header, its standard lengths or a format that no header has: an address size other than 2, 4 and
-    /// 8; a zero; lengths that don't fit `opcode_base` or those of the known opcodes; more than 255 pairs; entries without
-    /// a pair.
+    /// 18: a number, the standard opcode lengths or a format that no header has: an address size other than 2, 4 and 8; a
+    /// zero in `max_ops`, `line_range` or `opcode_base`; lengths whose count isn't `opcode_base` - 1, or that aren't those of
+    /// the known opcodes; more than 255 pairs; entries without a pair.
     HeaderNumber,
     /// 17: the first entry that hasn't one value for each pair of its format, in the pair's form, or that has a block of
     /// more bytes than its length can count.

@@ -25,10 +25,12 @@ pub struct Entry {
     pub values: ShortList<FormValue>,
 }
 
-/// One of the two tables of a header.
+/// One of the two tables of a header (DWARF 5, section 6.2.4.1).
 #[derive(Clone, Copy, Debug, PartialEq, Eq)]
 pub enum EntryTable {
+    /// The directories.
     Directories,
+    /// The files.
     Files,
 }
 
@@ -44,7 +46,7 @@ impl fmt::Display for EntryTable {
     }
 }
 
-/// What a header is made of, but for the lengths, which follow from it.
+/// What a header is made of, without `unit_length` and `header_length`, which follow from it (DWARF 5, section 6.2.4).
 #[derive(Debug, Drop, PartialEq, Eq)]
 pub struct HeaderParts {
     /// The format of the unit.
@@ -55,7 +57,7 @@ pub struct HeaderParts {
     pub address_size: u8,
     /// How many bytes the smallest instruction has.
     pub minimum_instruction_length: u8,
-    /// How many operations an instruction has at most.
+    /// `maximum_operations_per_instruction`: how many operations an instruction has at most.
     pub max_ops: u8,
     /// Whether a row begins a statement by default: where it isn't 0.
     pub default_is_stmt: u8,
@@ -65,7 +67,7 @@ pub struct HeaderParts {
     pub line_range: u8,
     /// The first special opcode.
     pub opcode_base: u8,
-    /// How many operands each opcode from 1 on below `opcode_base` has.
+    /// `standard_opcode_lengths`: how many operands each opcode from 1 to `opcode_base` - 1 has.
     pub standard_lengths: Items<u8>,
     /// What each directory consists of.
     pub directory_format: Items<Pair>,
@@ -98,7 +100,8 @@ impl HeaderParts {
     }
 }
 
-/// A header as a reader may have read it from some bytes. Contracts see its parts.
+/// A header: parts that some bytes spell in the 64-bit format, where its lengths fit (DWARF 5, section 6.2.4). Contracts
+/// see its parts.
 #[derive(Debug, Drop)]
 pub struct Header {
     parts: HeaderParts,
@@ -120,9 +123,10 @@ impl Header {
     ghost use Rattle.lnt_header.specs.HeaderRules.{IsAddressSize, IsHeader};
     ghost use Rattle.lnt_header.specs.HeaderTests.{IsPartsFault};
 
-    /// The header of the parts, if some header that was decoded can have them, its lengths and the offsets of the
-    /// 32-bit format aside. It takes no memory, and hands the parts back with the first fault: `HeaderNumber`,
-    /// then `EntryNotOfFormat`, then `TextHoldsZero`, each of the directories before the files. Then no header has them.
+    /// The header of these parts, where some bytes spell it in the 64-bit format, lengths aside. It takes no memory.
+    ///
+    /// Else it hands the parts back with the first fault: `HeaderNumber`, then `EntryNotOfFormat`, then `TextHoldsZero`,
+    /// each of the directories before the files; no header has such parts.
     #[tactic(auto, using(crate::proofs::TestLemmas::no_header))]
     pub fn new(parts: HeaderParts) -> Result<Header, (UnitFault, HeaderParts)>
         ensures ok { IfOk result (λ header. header ≡ parts) }
@@ -255,7 +259,7 @@ impl Header {
         self.parts.opcode_base
     }
 
-    /// How many operands each opcode from 1 on below `opcode_base` has.
+    /// `standard_opcode_lengths`: how many operands each opcode from 1 to `opcode_base` - 1 has.
     #[inline(always)]
     pub fn standard_lengths(&self) -> &[u8]
         ensures value { result.now ≡ self.now.standard_lengths }

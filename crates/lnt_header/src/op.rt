@@ -22,7 +22,7 @@ pub fn known_length(opcode: u8) -> u8
     KNOWN_LENGTHS[usize::from(opcode) - 1]
 }
 
-/// An operation that owns its operands.
+/// An operation that owns its operands (DWARF 5, section 6.2.5).
 #[derive(Debug, Drop, PartialEq, Eq)]
 pub enum Op {
     /// A special opcode: it advances address and line, and appends a row.
@@ -183,9 +183,9 @@ impl<'a> OpView<'a> {
 }
 
 impl Header {
-    /// Whether a unit with this header can have the operation: its opcode is one of the header's of its kind, an
-    /// unknown standard one has as many operands as the header says, and an address fits the header's address size.
-    /// It takes no memory.
+    /// Whether a unit with this header can have the operation: a special opcode isn't below `opcode_base`, and a standard
+    /// one is; an unknown standard operation has as many operands as the header lists; an address fits the address size; and
+    /// the code of an unknown extended operation is none of 1, 2 and 4 (DWARF 5, section 6.2.5). It takes no memory.
     pub fn admits(&self, op: &Op) -> bool
         ensures { IsTrue result ↔ Admits self.now op.now }
     {

@@ -103,6 +103,7 @@ fn first_of_no_format(entries: &[Entry], pairs: &[Pair]) -> Option<u64>
     None
 }
 
+// Whether the entry has one value for each pair, in the pair's form.
 #[tactic(auto, using(crate::proofs::TestLemmas::zip_start, crate::proofs::TestLemmas::zip_more, crate::proofs::TestLemmas::zip_not, crate::proofs::TestLemmas::zip_end, crate::proofs::TestLemmas::other_lengths))]
 fn is_of_format(entry: &Entry, pairs: &[Pair]) -> bool
     ensures { IsTrue result ↔ IsOfFormat pairs.now entry.now }
@@ -119,7 +120,7 @@ fn is_of_format(entry: &Entry, pairs: &[Pair]) -> bool
     true
 }
 
-// Whether the value has the pair's form, and a number of bytes that this can count.
+// Whether the value is in the pair's form, and, where it is a block, has no more bytes than its length can count.
 fn fits_pair(value: &FormValue, pair: &Pair) -> bool
     ensures { IsTrue result ↔ FitsPair pair.now value.now }
 {
@@ -148,6 +149,7 @@ fn first_with_zero(entries: &[Entry]) -> Option<u64>
     None
 }
 
+// Whether no text of the entry has a zero byte.
 #[tactic(auto, using(crate::proofs::FirstLaws::all_more, crate::proofs::FirstLaws::all_taken, crate::proofs::FirstLaws::not_all))]
 fn has_sound_texts(entry: &Entry) -> bool
     ensures { IsTrue result ↔ HasSoundTexts entry.now }

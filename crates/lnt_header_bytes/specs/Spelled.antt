@@ -17,6 +17,7 @@ pub record FitsTable (pairs : List Pair) (entries : List Entry) : Type 0 where
   pub count : length entries < 2 ^ 64
   pub values : AllByRecursion (λ (entry : Entry). AllByRecursion FitsForm entry.values) entries
 
+-- the numbers of both tables fit their fields
 pub record FitsFields (h : HeaderParts) : Type 0 where
   pub directories : FitsTable h.directory_format h.directories
   pub files : FitsTable h.file_format h.files
@@ -25,6 +26,7 @@ pub record FitsFields (h : HeaderParts) : Type 0 where
 abbrev pub OffsetsFit : Format → List Entry → Type 0
 OffsetsFit format entries = AllByRecursion (λ (entry : Entry). AllByRecursion (λ value. IsTooLarge format value → ⊥) entry.values) entries
 
+-- the format can say each offset of both tables
 pub record HasSmallOffsets (h : HeaderParts) : Type 0 where
   pub directories : OffsetsFit h.format h.directories
   pub files : OffsetsFit h.format h.files

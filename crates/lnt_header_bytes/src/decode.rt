@@ -12,7 +12,7 @@ use std::alloc::Global;
 
 /// The header of a frame, and the bytes of its program (DWARF 5, section 6.2.4).
 ///
-/// It refuses with `Memory`, and else only where no header with a program is the frame's bytes. The fault is that of
+/// It refuses with `Memory`, and else only where the frame's bytes spell no header with a program. The fault is that of
 /// the first field that isn't there whole, or has a value that none may have, and its place is the field's first byte;
 /// where the fields of one byte end too early, that is where they end. The caller gives a frame as `take_frame` gives it,
 /// and the order in which that was read.

@@ -49,7 +49,7 @@ impl<'a> Model for HeaderInPlace<'a> {
 }
 
 impl<'a> HeaderInPlace<'a> {
-    /// The header, as it is seen by what needs no more than its numbers and a look at its entries.
+    /// A view of the header, whose entries are read where they lie. It takes no memory, and has no marks.
     pub fn view(&self) -> HeaderView<'_>
         ensures { result ≡ self.now }
     {
@@ -73,7 +73,7 @@ impl<'a> HeaderInPlace<'a> {
 
 /// The header of a frame, whose entries stay where they lie, and the bytes of its program (DWARF 5, section 6.2.4).
 ///
-/// It refuses with `Memory`, and else only where no header with a program is the frame's bytes. The fault is that of
+/// It refuses with `Memory`, and else only where the frame's bytes spell no header with a program. The fault is that of
 /// the first field that isn't there whole, or has a value that none may have, and its place is the field's first byte;
 /// where the fields of one byte end too early, that is where they end. It takes memory for the formats of the entries
 /// and the standard opcode lengths alone. The caller gives a frame as `take_frame` gives it, and the order in which that

@@ -51,7 +51,7 @@ impl Model for KeptHeader {
 }
 
 impl KeptHeader {
-    /// The header, as it is seen by what needs no more than its numbers and a look at its entries. It takes no memory.
+    /// A view of the header, whose entries are read where they lie, with its marks. It takes no memory.
     pub fn view(&self) -> HeaderView<'_>
         ensures { result ≡ self.now }
     {

@@ -60,8 +60,8 @@ pub(crate) fn marks_of(
     Ok(marks)
 }
 
-/// The last marked entry up to the one of this number: its own number, and the index of its first byte among those of the
-/// entries. None where no entry up to that one is marked.
+/// The entry whose number is the greatest multiple of 64 that isn't above this one: that number, and the index of its first
+/// byte among those of the entries. None where it is 0, or has no mark.
 pub(crate) fn marked_before(marks: &[usize], number: u64) -> Option<(u64, usize)>
     ensures before { IfSome result (λ found. found.0 ≤ number) }
     ensures begins { IfSome result (λ found. (table : BorrowedTable) (bytes : List ℕ) → AreMarks table bytes marks.now

@@ -10,7 +10,8 @@ use crate::table::{Layout, layout_of};
 use lnt_header::Pair;
 use lnt_wire::{Cursor, Fault, Form, Format};
 
-/// Moves the cursor past `count` entries, and gives their bytes. It takes no memory.
+/// Moves the cursor past `count` entries, and gives their bytes. It refuses with the fault of the first value that isn't
+/// there. It takes no memory.
 #[tactic(auto, using(crate::proofs::PassLemmas::none_passed, crate::proofs::PassLemmas::one_more_passed, crate::proofs::PassLemmas::all_passed, crate::proofs::PassLemmas::refuses_passed))]
 pub(crate) fn pass_entries<'a>(
     cursor: &mut Cursor<'a>,

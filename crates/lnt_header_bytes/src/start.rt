@@ -7,7 +7,7 @@ ghost use Rattle.lnt_header_bytes.specs.StartFaults.{IsAddressSizeFault, IsSelec
 use lnt_header::is_address_size;
 use lnt_wire::{Cursor, Fault, Format, Reason};
 
-/// The address size, and the bytes that header_length counts.
+/// The address size, the segment selector size, which is 0, and the bytes that `header_length` counts.
 #[derive(Clone, Copy)]
 pub(crate) struct Start<'a> {
     pub address_size: u8,
@@ -33,6 +33,7 @@ pub(crate) fn read_start<'a>(cursor: &mut Cursor<'a>, format: Format) -> Result<
     })
 }
 
+// Reads the size of an address: 2, 4 or 8.
 #[tactic(auto, using(crate::proofs::StartReaders::reads_size, crate::proofs::StartReaders::refuses_size, crate::proofs::StartReaders::refuses_other_size))]
 fn read_address_size(cursor: &mut Cursor<'_>) -> Result<u8, Fault>
     ensures ok { IfOk result (λ size. Reads AddressSizeBytes size cursor.old cursor.new) }

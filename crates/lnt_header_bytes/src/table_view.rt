@@ -89,8 +89,8 @@ impl<'a> TableView<'a> {
         Cursor::new(self.entries.bytes, 0, self.order)
     }
 
-    /// A cursor before the entry of this number or an earlier one, and the number of that entry. Where the table has
-    /// marks, fewer than 64 entries stand between the two.
+    /// A cursor before the entry of this number or an earlier one, and the number of that entry. Where entries 64, 128 and
+    /// so on are all marked, fewer than 64 entries stand between the two.
     pub fn cursor_before(&self, number: u64) -> (u64, Cursor<'_>)
         ensures before { result.0 ≤ number }
         ensures there { result.0 ≤ length self.now.entries }

@@ -52,8 +52,8 @@ path_in contents unit file = option_and_then (λ files. kept_path files file) (f
 abbrev pub sum_in : Contents → ℕ → ℕ → Option (List ℕ)
 sum_in contents unit file = option_and_then (λ files. kept_sum files file) (files_of contents unit)
 
--- What is held is of the units: the spans of their kept sequences, each once, in order, which answer as their rows do at each
--- position; their offsets; and their files.
+-- The contents are those of the units: the spans of their kept sequences, each once and in order, which answer at each position as
+-- the rows do; the units' offsets; and their files.
 pub record TellsOf (line general : List ℕ) (dead : Option ℕ) (skip : Bool) (units : List (ℕ × Parts)) (contents : Contents) : Type 0 where
   pub spans_are : IsPermutation (spans_of (kept_sequences dead skip units)) contents.spans
   pub in_order : AreInOrder contents.spans

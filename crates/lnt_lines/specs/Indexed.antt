@@ -29,8 +29,8 @@ pub record Indexed : Type 0 where
   pub units : List ℕ
   pub programs : List Kept
 
--- It is that of the kept sequences of these units, no two of which hold one position. In no live sequence positions fall. The
--- units stand in order, and the tables of each are usable.
+-- The index is that of the kept sequences of these units, no two of which hold one position. Positions fall in no live sequence.
+-- The units stand in order, and the tables of each are usable.
 pub record IsIndexOf (dead : Option ℕ) (skip : Bool) (units : List (ℕ × Parts)) (index : Indexed) : Type 0 where
   pub settled : AreSettled index.entries
   pub entries : IsPermutation (extents_of (kept_sequences dead skip units)) index.entries

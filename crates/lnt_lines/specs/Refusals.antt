@@ -12,12 +12,12 @@ use Rattle.lnt_lines.specs.declared.refusal.Refusal.{Refusal}
 use Rattle.lnt_lines.specs.declared.refusal.Refusal.TheVariants.{No, Stop}
 use Rattle.lnt_wire.specs.declared.stop.Stop.TheVariants as stop
 
--- what a fault of a unit makes of the section: bytes that are malformed, or want of memory
+-- the refusal for a fault of a unit: memory ran out, or the section is malformed
 pub data IsFaultRefusal (fault : Fault) (refusal : Refusal) : Type 0 where
   memory : fault.reason ≡ Memory → refusal ≡ Stop stop.Memory → IsFaultRefusal fault refusal
   malformed : fault.reason ≢ Memory → refusal ≡ No (Malformed fault) → IsFaultRefusal fault refusal
 
--- What a stop of the section's reader makes of the section. A reader that wasn't stopped before gives no Failed, of which nothing is made.
+-- The refusal for a stop of the section's reader. A reader that wasn't stopped before never gives Failed, so there is none for it.
 abbrev pub IsStopRefusal : SectionStop → Refusal → Type 0
 IsStopRefusal (section.Fault fault) refusal = refusal ≡ No (Malformed fault)
 IsStopRefusal section.Memory refusal = refusal ≡ Stop stop.Memory

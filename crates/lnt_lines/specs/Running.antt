@@ -26,8 +26,8 @@ use Rattle.lnt_lines.specs.declared.run.Watched.{Watched}
 use Rattle.lnt_wire.specs.declared.stop.Stop.TheVariants as stop
 use Rattle.lnt_lines.specs.Judging.{IsTold}
 
--- What was run so far: the operations that the walk has given, whose rows the watch has seen. Those of sequences that have
--- ended stand in sequences, of which the places are known. It is run by a header that needn't have its files: so many there are.
+-- What was run so far: the operations that the walk has given, whose rows the watch has seen. Of each sequence that has ended the
+-- place where it begins in the program is known. The machine's header needn't list the unit's files, so their number is given: files.
 pub record RanSoFar (dead : Option ℕ) (view : View) (files : ℕ) (old now : Collected) (walk : Walk) (run : RunState) (watch : Watch)
     (places : List ℕ) (place : ℕ) : Type 0 where
   pub ops : List Op
@@ -89,8 +89,8 @@ pub record IsOut (dead : Option ℕ) (view : View) (files : ℕ) (old : Collecte
   pub leaves : LeavesRange item run.machine
   pub fault_is : fault ≡ LineOutOfRange run.machine.count
 
--- The run stops at an operation, or somewhere after a walk, which is an operation out of the range of lines, but for want
--- of memory.
+-- The run stops at this operation (StopsAt), or at one somewhere after the walk (StopsAfter). Unless memory ran out, that operation
+-- leads out of the range of lines.
 abbrev pub StopsAt : OpView → Watched → Collected → List ℕ → RunFault → Type 0
 StopsAt item watched now places fault =
     fault ≢ Memory → (dead : Option ℕ) (view : View) (files : ℕ) (old : Collected) (walk walk' : Walk)

@@ -1,7 +1,8 @@
 //! A whole line number section of DWARF 5, judged in one pass, and what a good one answers.
 //!
 //! [`verify`] takes the section unit by unit from a source, keeps no operation and no row, and gives its [`Lines`], or
-//! the first thing that is wrong with it as a [`No`].
+//! the first thing that is wrong with it as a [`No`]. [`index_section`] judges alike, and gives an [`Index`], which decodes
+//! rows where they are asked for.
 #![tactic(auto)]
 
 mod draft;

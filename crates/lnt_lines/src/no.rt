@@ -25,7 +25,8 @@ pub enum No {
     /// 27: in the unit at this offset, this table has entries, and its format has no path, or has a path, a directory
     /// number or an MD5 sum in a form that it may not have (section 6.2.4.1).
     EntryFormat(u64, EntryTable),
-    /// 28: in the unit at this offset, this entry of this table is the first whose path has no text.
+    /// 28: in the unit at this offset, this entry of this table is the first whose path has no text: its offset lies outside of
+    /// the section of strings, or no zero byte follows there (section 7.5.5).
     StringOutside(u64, EntryTable, u64),
     /// 29: in the unit at this offset, this file is the first whose directory isn't there.
     DirectoryNumber(u64, u64),

@@ -19,7 +19,7 @@ pub(crate) enum Refusal {
 }
 
 impl Refusal {
-    // What a stop of the section's reader makes of the section. A reader that wasn't stopped before gives no `Failed`.
+    // The refusal for a stop of the section's reader. A reader that wasn't stopped before never gives `Failed`.
     pub(crate) fn of_stop(stop: SectionStop) -> Refusal
         requires { stop ≢ SectionStop.Failed }
         ensures { IsStopRefusal stop result }

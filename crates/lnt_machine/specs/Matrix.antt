@@ -11,7 +11,8 @@ use Rattle.lnt_machine.specs.declared.row.Row.{Row}
 use Rattle.lnt_machine.specs.declared.row.Sequence.{Sequence}
 use Rattle.lnt_machine.specs.Registers.{registers_after, discriminator, basic_block, prologue_end, epilogue_begin, line, IsLine}
 
--- The row of a Copy or a Special that comes after `back`: the registers with it, but the marks and the discriminator without it.
+-- The row of a Copy or a Special after `back`: the registers after it, but with the discriminator and the marks that were set before
+-- it.
 abbrev pub row_of : HeaderParts → List Op → Op → Row
 row_of h back op = record (registers_after h (op ∷ back)) {
   discriminator = discriminator back;

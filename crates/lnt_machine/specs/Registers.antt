@@ -19,7 +19,7 @@ abbrev pub since : (Op → Bool) → List Op → List Op
 since test [] = []
 since test (op ∷ back) = cond (test op) [] (op ∷ since test back)
 
--- what the last operation gives that gives something, or a default where none does
+-- what the newest operation gives of those for which `gives` has a value, or the default where it has none
 abbrev pub newest : {X : Type 0} → (Op → Option X) → X → List Op → X
 newest gives default [] = default
 newest gives default (op ∷ back) = unwrap_or (gives op) (newest gives default back)
@@ -62,7 +62,7 @@ advances h (SetAddress a ∷ back) = 0
 advances h (FixedAdvancePc n ∷ back) = 0
 advances h (op ∷ back) = advance_of h op + advances h back
 
--- the address that so many operations after an instruction's address stand at
+-- the address after an operation advance of n from operation 0 of the instruction at `from` (DWARF 5, section 6.2.5.1)
 abbrev pub moved : HeaderParts → ℕ → ℕ → ℕ
 moved h from n = (from + h.minimum_instruction_length * (n / h.max_ops)) % 2 ^ (8 * h.address_size)
 
@@ -165,7 +165,7 @@ epilogue_begin back = list_any is_set_epilogue_begin (after_row back)
 
 -- ---- all of them
 
--- The registers between two operations. The line is that of above wherever that is not below 0.
+-- The registers between two operations. The line is the absolute value of `line`, which is the same wherever that isn't below 0.
 abbrev pub registers_after : HeaderParts → List Op → Row
 registers_after h back = record {
   address = address h back;

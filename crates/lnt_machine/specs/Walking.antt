@@ -73,7 +73,8 @@ pub record Kept : Type 0 where
   pub program : List ℕ
   pub places : List ℕ
 
--- The program is that of the unit, and the places are those of its sequences, in order.
+-- The header is the unit's, and the places are those of its sequences in this program, in order. So where the unit has a sequence,
+-- the program spells its operations.
 pub record Keeps (kept : Kept) (unit : Parts) : Type 0 where
   pub header_is : kept.header ≡ unit.header
   pub count : length kept.places ≡ length (sequences unit)

@@ -33,8 +33,9 @@ impl Model for Program {
 }
 
 impl Program {
-    /// The program of a unit: the end of `bytes`, from index `start` on. `places` are the indices in it at which the first
-    /// operation of each of the unit's sequences begins. It takes no memory.
+    /// The program of a unit that runs: the end of `bytes`, from index `start` on. `places` are the indices in it at which the
+    /// first operation of each of the unit's sequences begins, in order. The caller sees to both, and that `start` isn't above
+    /// the length of `bytes`. It takes no memory.
     pub fn of(header: KeptHeader, bytes: Vec<u8>, start: usize, places: Vec<usize>) -> Program
         requires kept { IsKept (record { header = header; program = drop start bytes.items; places = places.items }) }
         requires within { start ≤ length bytes.items }
@@ -62,7 +63,8 @@ impl Program {
         &self.header
     }
 
-    /// The rows of the sequence with an index, decoded where they lie. None where there are not so many. It takes no memory.
+    /// The rows of the sequence with this index, the first being 0, decoded from the kept bytes. None where there are only
+    /// `index` sequences or fewer. It takes no memory.
     pub fn sequence(&self, index: usize) -> Option<SequenceRows<'_>>
         ensures none { IfNone result (length self.now.places ≤ index) }
         ensures left { IfSome result (λ walk. length walk.walk.at.rest ≤ length self.now.program) }

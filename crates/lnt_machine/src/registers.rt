@@ -213,7 +213,8 @@ fn within(header: &Header, address: u64) -> u64
     match header.address_size() {
         8 => address,
         4 => address % (1 << 32),
-        _ => address % (1 << 16),
+        2 => address % (1 << 16),
+        _ => unreachable!(),
     }
 }
 

@@ -20,7 +20,7 @@ use std::marker::Model;
 /// - `Run` with `LineOutOfRange` (22) where the next operation leads to a line below 0, or of 2^32 or more, and with
 ///   `OpenSequence` (23) where the program has ended and rows stand after the last end row.
 ///
-/// None comes where the program has ended and no rows stand open, and after that, or after a fault, always.
+/// It gives None where the program has ended and no rows are open, and in each call after that or after a fault.
 #[derive(Drop)]
 pub struct Rows<'a> {
     run: Run<'a>,

@@ -37,7 +37,9 @@ impl<'a> Model for SequenceRows<'a> {
 impl<'a> SequenceRows<'a> {
     /// The rows of the sequence whose first operation begins at the index `place` of the program. It takes no memory.
     ///
-    /// They are the rows of the operations from there on, up to and with the first end row.
+    /// They are the rows of the operations from there on, up to and with the first end row. The caller sees to it that
+    /// `place` isn't above the program's length. Where no sequence begins there, or the program doesn't run, nothing is said
+    /// of the rows, and an operation that is refused ends them as an end row does.
     pub fn at(header: &'a Header, program: &'a [u8], place: usize) -> SequenceRows<'a>
         requires within { place ≤ length program.now }
         ensures left { length result.walk.at.rest ≤ length program.entry.now }

@@ -88,7 +88,7 @@ fn holds(index: &Index<'_>, address: u64) -> bool {
     index.lookup(position, &mut Probes::new()).is_some()
 }
 
-/// Prints the line of a note.
+/// Prints the line of a note. It fails only where the writer does; then a front of this line may be written.
 pub fn print_note<N: Write>(note: Note, notes: &mut N) -> io::Result<()>
     ensures { OnOk result (Appends (N.contents notes.old) (N.contents notes.new) (note_line note)) }
 {
@@ -96,7 +96,8 @@ pub fn print_note<N: Write>(note: Note, notes: &mut N) -> io::Result<()>
 }
 
 /// Prints the note to a refusal, where the section was read in this byte order and its lines weren't judged: what the file
-/// looks like instead, if it looks like something else.
+/// looks like instead, if it looks like something else. It fails only where the writer does; then a front of the note may be
+/// written.
 pub fn tell_refused<N: Write>(seen: &Seen, order: Order, notes: &mut N) -> io::Result<()> {
     match look_of(seen, order) {
         Some(look) => print_note(Note::NotRaw(look), notes),
@@ -104,7 +105,8 @@ pub fn tell_refused<N: Write>(seen: &Seen, order: Order, notes: &mut N) -> io::R
     }
 }
 
-/// Prints the notes to the reason why a section isn't good.
+/// Prints the notes to the reason why a section isn't good. It fails only where the writer does; then a front of these notes
+/// may be written.
 pub fn tell_bad<O: Opener, N: Write>(
     alloc: Global,
     no: &No,
@@ -134,7 +136,7 @@ pub fn tell_bad<O: Opener, N: Write>(
     }
 }
 
-/// Prints the notes to a good section.
+/// Prints the notes to a good section. It fails only where the writer does; then a front of these notes may be written.
 pub fn tell_good<O: Opener, N: Write>(
     alloc: Global,
     hints: &Hints,
@@ -197,7 +199,8 @@ fn strings_again<O: Opener>(
 
 // Prints the notes that sequences begin where linkers leave discarded code, and that none begins at the address given for such
 // code. Where the section can't be read again, the only note is one about `known`, if there is such an address, with no count
-// of sequences.
+// of sequences. Unless `all` is asked for, the section is read only up to the unit in which a sequence begins at the given
+// address.
 fn tell_dead<O: Opener, N: Write>(
     alloc: Global,
     known: Option<u64>,
@@ -260,7 +263,8 @@ fn alike_again<O: Opener>(
     end_alike(alloc, &mut source, given.order, first, second)
 }
 
-/// Prints the notes to a table, in the file of this name, that answers as a good section does.
+/// Prints the notes to a table, in the file of this name, that answers as a good section does. It fails only where the writer
+/// does; then a front of these notes may be written.
 pub fn tell_agreed<O: Opener, N: Write>(
     alloc: Global,
     given: &Given<'_>,
@@ -281,7 +285,8 @@ pub fn tell_agreed<O: Opener, N: Write>(
 }
 
 /// Prints the note to a fault of the table in the file of this name, which was read as one with these columns. For a fault of
-/// the header the columns don't count: the header is that of no version.
+/// the header the columns don't count: the header is that of no version. It fails only where the writer does; then a front of
+/// the note may be written.
 pub fn tell_table<O: Opener, N: Write>(
     alloc: Global,
     fault: TableFault,

@@ -13,7 +13,7 @@ use lnt_wire::{Fault, Order, Reason};
 /// `place` of the section, and the offset after its last byte is below 2^64. It takes no memory but that of `out`.
 ///
 /// It refuses only where no operations spell the program, with the fault of the first operation that isn't there, or
-/// with `Memory`. Then the first of them may be there.
+/// with `Memory`. Then `out` may have gained the first of them, and a part of the next.
 #[tactic(auto, using(crate::proofs::ConvertedLemmas::converted_none, crate::proofs::ConvertedLemmas::converted_more, crate::proofs::ConvertedLemmas::converted_all, crate::proofs::ConvertedLemmas::view_of_header))]
 pub fn convert_ops(
     out: &mut Vec<u8>,

@@ -64,7 +64,7 @@ impl<'a> Ops<'a> {
         }
     }
 
-    /// The operations of a program from its byte `skipped` on, which the caller knows to be no further than its end. The
+    /// The operations of a program without its first `skipped` bytes; the caller sees to it that it has as many. The
     /// program's first byte stands at the offset `place` of the section, and the offset after its last byte is below 2^64.
     pub fn after(header: &'a Header, program: &'a [u8], place: u64, skipped: usize) -> Ops<'a>
         requires room { place + length program.now < 2 ^ 64 }
@@ -80,7 +80,7 @@ impl<'a> Ops<'a> {
         Ops::new(header, rest, place + skipped as u64)
     }
 
-    /// Another walk at the same place. A call that isn't in line works on it, so that this one stays in registers.
+    /// Another walk at the same place. It is lent to a call that isn't inlined, so that this one can stay in registers.
     #[inline(always)]
     pub fn fork(&self) -> Ops<'a>
         ensures { result ≡ self.now }
@@ -101,9 +101,10 @@ impl<'a> Ops<'a> {
         self.rest.len()
     }
 
-    /// The next operation, where it is of a frequent kind and its operand is short: one that `next` would give now. It is
-    /// read in line, for loops that do many. None where no such operation comes next, or one was refused; then the walk is
-    /// as it was, and `next` tells what comes.
+    /// The next operation, where it is frequent and short: a special opcode, `Copy`, `NegateStmt` or `ConstAddPc`; an
+    /// `AdvancePc`, `SetFile`, `SetColumn` or `SetDiscriminator` whose number has one byte; or an `AdvanceLine` whose number
+    /// has one or two. It is the one that `next` would give, read inline for loops that do many. None where no such operation
+    /// comes next, or one was refused; then the walk is as it was, and `next` tells what comes.
     #[inline(always)]
     #[tactic(auto, using(crate::proofs::ShortLemmas::steps_short))]
     pub fn next_short(&mut self) -> Option<OpView<'a>>

@@ -7,8 +7,8 @@ use std::io::{self, ErrorKind, Write};
 
 /// Writes all of these bytes, in order, as `write_all` does.
 ///
-/// On an error the writer, which failed or took nothing, has gained a front of the bytes and nothing else. A write that was
-/// interrupted is tried again.
+/// On an error the writer, which failed, took nothing, or was interrupted in all of 2^64 - 1 writes, has gained a front of the
+/// bytes and nothing else. A write that was interrupted is tried again until then.
 pub fn write_whole<W: Write>(out: &mut W, bytes: &[u8]) -> io::Result<()>
     ensures whole { OnOk result (Appends (W.contents out.old) (W.contents out.new) bytes.now) }
     ensures front { OnErr result (AppendsFront (W.contents out.old) (W.contents out.new) bytes.now) }

@@ -24,7 +24,8 @@ field_there (g ∷ fields) (suc i) lt e = field_there fields i (omega arith) e
 of_kind : (kind : Kind) (fields : Fields) (i : ℕ) → IsColumnOf kind i → IsOfKind kind (get_or fields i []) → IsOfColumn fields i
 of_kind kind fields i e h = subst (λ (k : Kind). IsOfKind k (get_or fields i [])) (sym e) h
 
-not_of_kind : (kind : Kind) (fields : Fields) (i : ℕ) → IsColumnOf kind i → (IsOfKind kind (get_or fields i []) → ⊥) → IsOfColumn fields i → ⊥
+not_of_kind : (kind : Kind) (fields : Fields) (i : ℕ) → IsColumnOf kind i → (IsOfKind kind (get_or fields i []) → ⊥)
+    → IsOfColumn fields i → ⊥
 not_of_kind kind fields i e h s = h (subst (λ (k : Kind). IsOfKind k (get_or fields i [])) e s)
 
 sound_more : (fields : Fields) (i : ℕ) → AreSoundBefore fields i → IsOfColumn fields i → AreSoundBefore fields (i + 1)

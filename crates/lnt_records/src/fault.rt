@@ -21,7 +21,7 @@ pub enum TableFault {
     Order(u64),
 }
 
-/// What it says of the table, as the line of a No tells it after its number.
+/// What is wrong with the table: in a line `no N ..`, the words after the number.
 impl fmt::Display for TableFault {
     ghost output = { λ fault. Some (table_fault_text fault) };
 

@@ -37,6 +37,7 @@ impl Window {
         }
     }
 
+    // The bytes at hand.
     #[inline(always)]
     pub(crate) fn bytes(&self) -> &[u8]
         ensures { result.now ≡ self.now }

@@ -77,10 +77,10 @@ impl Read for Pieces<'_> {
     }
 }
 
-/// Takes ten bytes at a time, and refuses a certain write.
+/// Takes ten bytes at a time. After some writes it refuses each further one.
 #[derive(Drop)]
 pub struct Refusing {
-    /// How many writes go well before the one that is refused.
+    /// How many writes go well before the first that is refused.
     pub writes_until_fault: u64,
 }
 

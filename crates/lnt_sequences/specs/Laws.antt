@@ -1,4 +1,4 @@
--- What the laws of rows say.
+-- What the laws of sequences, their spans and their extents say.
 use Rattle.std.specs.Prelude.{◌≡◌, ◌≢◌, ℕ, ◌^◌, ◌<◌, Bool, true, false, List, ◌∷◌, ◌++◌, get_or, length, None, Some, Option}
 use Rattle.std.specs.List.{AllByRecursion, AllPairs, Contains}
 use Rattle.std.specs.Option.{option_map}

@@ -32,9 +32,9 @@ impl Collected {
         }
     }
 
-    /// The extents of the kept sequences, in order, where no position is held by two of them. All are kept, or where copies
-    /// are skipped all but these: a sequence that holds a position is a copy where one that stands before it in the
-    /// section begins and ends at the same positions.
+    /// The extents of the collected sequences, by first position, where no position is held by two of them. Where copies are
+    /// skipped, a sequence that holds a position is left out where one that stands before it in the section begins and ends
+    /// at the same positions.
     ///
     /// Else it tells the first overlap: two different sequences that hold one position, where no lower position is held
     /// by two, the first two that hold it by their first positions and then by their places in the section. A sequence

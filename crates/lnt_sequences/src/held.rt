@@ -52,7 +52,8 @@ fn row_at(rows: SequenceRows<'_>, position: Position) -> Option<Row>
     found
 }
 
-/// What a sequence of the unit at an offset answers at a position that it holds.
+/// What a sequence answers at a position: what the last of these rows says that isn't above it. `unit` is the offset of its
+/// unit in the section. None where no row stands at or below the position. It takes no memory.
 pub fn answer_at(unit: u64, rows: SequenceRows<'_>, position: Position) -> Option<Answer>
     ensures { (list : List spec.Row) → WillGive list rows.entry
         → result ≡ option_map (sequence.answer_of unit) (sequence.row_at position list) }

@@ -1,7 +1,7 @@
 //! The names of sequences, by which they are told apart.
 
-/// Names a sequence of a section. Ordered by `unit` and then by `index`, as dictionaries are, ids are in the order of the
-/// sequences in the section.
+/// Which sequence of a section it is. Ids that are compared by `unit` and then by `index` have the order of the sequences in
+/// the section.
 #[derive(Clone, Copy, Debug, PartialEq, Eq)]
 pub struct SeqId {
     /// The offset of its unit in the section.

@@ -10,6 +10,6 @@ pub struct Difference {
     pub position: Position,
     /// What the table answers there.
     pub by_table: Option<Answer>,
-    /// What the section answers there, as a table of this version tells it.
+    /// What the section answers there, as a table of the version that was compared tells it.
     pub by_section: Option<Answer>,
 }

@@ -50,7 +50,7 @@ pub enum Side {
 }
 
 /// Compares a position with the half-open range from `low` up to `high`, and counts the comparison. A search compares
-/// positions in no other way.
+/// positions in no other way. The caller sees to it that the count is below 2^64 - 1.
 #[inline(always)]
 pub fn probe(low: Position, high: Position, position: Position, probes: &mut Probes) -> Side
     requires { probes.old + 1 < 2 ^ 64 }

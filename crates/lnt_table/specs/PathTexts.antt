@@ -22,6 +22,6 @@ path_stretch_text stretch =
     codes "no 40 differs at " ++ (position_text stretch.position ++ (codes " table " ++
     (path_answer_text stretch.by_table ++ (codes " section " ++ path_answer_text stretch.by_section))))
 
--- that a span begins or ends at this position, with an operation index other than 0
+-- the line with number 43: a span begins or ends at this position, whose operation index isn't 0
 abbrev pub operation_text : Position → List ℕ
 operation_text position = codes "no 43 operation index at " ++ position_text position

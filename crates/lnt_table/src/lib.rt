@@ -2,7 +2,8 @@
 //!
 //! [`check`] answers whether a table gives the section's answer at every address and operation index, and if not, the first
 //! thing that is wrong. [`differences`] gives all positions at which the two answers differ. [`check_any`] and
-//! [`differences_any`] take a table of any version. [`write_table`] writes the one shortest table of a section's lines, and
+//! [`differences_any`] take a table of any version: of 1 or 2, which names a file by its unit and number (a table *by number*),
+//! or of 3 or 4, which names it by its path (*by path*). [`write_table`] writes the one shortest table of a section's lines, and
 //! [`write_index`] that of an index, without a list of its spans; [`write_paths`] writes the table by path of an index. The
 //! records of a table are those of `lnt_records`.
 #![tactic(auto)]

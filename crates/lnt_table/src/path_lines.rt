@@ -58,8 +58,8 @@ impl fmt::Display for ColumnText {
     }
 }
 
-/// The line that a span begins or ends at this position, with an operation index other than 0, so that no table by path can
-/// tell it: 43, without its line feed.
+/// The line with number 43, without its line feed: a span begins or ends at this position, whose operation index isn't 0, so that
+/// no table by path can tell it.
 #[derive(Clone, Copy)]
 pub struct OperationLine(pub Position);
 

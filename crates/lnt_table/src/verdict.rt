@@ -41,11 +41,12 @@ impl fmt::Display for Verdict {
 pub enum TableNo {
     /// 25 to 32: the section isn't good, for this reason.
     Section(No),
-    /// 36: the table has no record 0, or record 0 has the column names of neither version.
+    /// 36: the table has no record 0, or one with the column names of no version: of 1 and 2 for `check`, of 1 to 4 for
+    /// `check_any`.
     Header,
     /// 37: this record hasn't as many fields as the table has columns.
     Fields(u64),
-    /// 38: a field of a record is no number of its column's kind.
+    /// 38: a field of a record is no value of its column's kind.
     Number {
         /// The record.
         record: u64,

@@ -7,7 +7,8 @@ use crate::position::PositionText;
 use lnt_spans::Difference;
 use std::fmt;
 
-/// The line of a position at which the answers of a table and of a section differ, with both answers, without its line feed.
+/// The line of a position at which the answers of a table and of a section differ (number 40), with both answers, without
+/// its line feed.
 #[derive(Clone, Copy)]
 pub struct DifferenceLine(pub Difference);
 

@@ -6,7 +6,7 @@ use lnt_machine::RunFault;
 use lnt_wire::Fault;
 use std::fmt;
 
-/// The line that says which bytes are refused, and why, without its line feed.
+/// The line that says which bytes are refused, and why (number 25), without its line feed.
 #[derive(Clone, Copy)]
 pub struct MalformedLine(pub Fault);
 
@@ -18,7 +18,8 @@ impl fmt::Display for MalformedLine {
     }
 }
 
-/// The line that says why the program of the unit at the offset doesn't run, without its line feed.
+/// The line that says why a program doesn't run (number 26), without its line feed: the offset of its unit in the section,
+/// and the reason.
 #[derive(Clone, Copy)]
 pub struct RunLine(pub u64, pub RunFault);
 

@@ -63,7 +63,7 @@ pub fn convert_section(
     Ok(out)
 }
 
-/// Whether the section `bytes`, whose byte order is `order`, has a conversion to the format and the byte order `to`. It
+/// Tests that the section `bytes`, whose byte order is `order`, has a conversion to the format and the byte order `to`. It
 /// takes the memory of one converted unit.
 ///
 /// It refuses as `convert_section` does.

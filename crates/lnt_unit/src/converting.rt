@@ -18,7 +18,7 @@ use std::alloc::Global;
 ///
 /// It refuses with `Malformed` where no unit begins the bytes that are left, with the fault of `decode_unit`; with
 /// `TooLarge` and the unit's offset where nothing spells it in the format; and else with `Memory`. Then the cursor is as
-/// it was.
+/// it was, and `out` may have gained a part of the unit.
 #[tactic(auto, using(crate::proofs::UnitReaders::frame_placed, crate::proofs::UnitReaders::frame_end, crate::proofs::ConvertedLemmas::unit_converted))]
 pub fn convert_unit(
     alloc: Global,

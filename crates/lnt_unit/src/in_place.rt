@@ -102,7 +102,7 @@ impl<'a> UnitInPlace<'a> {
     ///
     /// They are read by the header's numbers alone, which tell as much of them as the header does. Once all were given,
     /// the bytes are those of the unit of the header and these operations; where one is refused, they are those of no
-    /// unit (`given_all_by_numbers`, `given_broken_by_numbers`).
+    /// unit (`laws::whole_walk`).
     pub fn ops(&self) -> Ops<'_>
         ensures header { result.header ≡ without_entries self.now.header }
         ensures place { result.at.place ≡ self.now.place }

@@ -18,7 +18,7 @@ pub struct Parts {
     pub ops: Items<Op>,
 }
 
-/// A unit as a reader may have read it from some bytes. Contracts see its parts.
+/// A unit: a header, and operations that it admits (DWARF 5, section 6.2.4). Contracts see its parts.
 #[derive(Debug, Drop)]
 pub struct Unit {
     header: Header,
@@ -43,9 +43,10 @@ impl Unit {
     ghost use Rattle.lnt_unit.specs.Converting.{unit_in_format};
     ghost use Rattle.lnt_unit.specs.UnitTests.{IsUnitFault};
 
-    /// The unit of the parts, if some unit that was decoded can have them, its lengths and the offsets of the 32-bit
-    /// format aside. It takes no memory, and hands the parts back with the first fault: those of `Header::new`, and
-    /// then `OpNotOfUnit` with the first operation that the header doesn't admit. Then no unit has them.
+    /// The unit of these parts, where some bytes spell it in the 64-bit format, lengths aside. It takes no memory.
+    ///
+    /// Else it hands the parts back with the first fault: those of `Header::new`, then `OpNotOfUnit` with the index of the
+    /// first operation, from 0, that the header doesn't admit; no unit has such parts.
     #[tactic(auto, using(crate::proofs::UnitLemmas::no_header_first, crate::proofs::UnitLemmas::no_ops, crate::proofs::UnitLemmas::header_fault))]
     pub fn new(parts: Parts) -> Result<Unit, (UnitFault, Parts)>
         ensures ok { IfOk result (λ unit. unit ≡ parts) }

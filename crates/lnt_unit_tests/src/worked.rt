@@ -1,4 +1,4 @@
-//! Units of bytes.
+//! What several tests share: the unit that begins some bytes, and bytes joined.
 use lnt_unit::{Unit, decode_unit};
 use lnt_wire::{Cursor, Order};
 use std::alloc::Global;

@@ -10,7 +10,7 @@ use Rattle.lnt_paths.specs.Written.{HasOperationIndex, IsCanonicalPathTable}
 use Rattle.lnt_spans.specs.declared.position.Position.{Position}
 use Rattle.lnt_table.specs.PathTexts.{operation_text}
 
--- the line that a span begins or ends at this position, with an operation index other than 0
+-- the line that says that a span begins or ends at this position, whose operation index isn't 0
 abbrev pub operation_line : Position → List ℕ
 operation_line position = operation_text position ++ codes "\n"
 

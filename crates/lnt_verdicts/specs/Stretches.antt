@@ -54,14 +54,14 @@ pub record AreToldByPath (index : Indexed) (dead : Option ℕ) (skip : Bool) (un
   pub printed : Appends old new (path_stretches_text stretches)
   pub status_is : status ≡ path_stretches_status stretches
 
--- The bytes begin with the header of neither version 1 nor 2, and this is their first fault as a table by path: that of the
--- header, where they begin with the header of neither of these.
+-- The bytes begin with the header of neither version 1 nor 2, and this is their first fault as a table by path: `Header` where
+-- they begin with the header of neither version 3 nor 4.
 pub record IsFaultByPath (table : List ℕ) (told : TableFault) : Type 0 where
   pub unnumbered : (version : Version) → BeginsWith table (column_names version ∷ []) → ⊥
   pub fault : IsPathFault table told
 
--- Those are the stretches of the table, by its version, or that is the first fault of the bytes. Of a table with the header of
--- neither version 1 nor 2 nothing is told as of one of these.
+-- What is told is true of the bytes: the stretches at which the table answers otherwise, or its first fault. Of bytes with the header
+-- of version 1 or 2 it is Faulty or Told, of all others FaultyByPath or ToldByPath.
 abbrev pub AreStretchesOf : Indexed → Option ℕ → Bool → List (ℕ × Parts) → List ℕ → Option (List ℕ) → Option (List ℕ) → Stretches → Type 0
 AreStretchesOf index dead skip units table old new (Faulty told) = IsFault table told × (told ≢ fault.Header)
 AreStretchesOf index dead skip units table old new (Told status) = AreToldOf dead skip units table old new status
@@ -92,8 +92,8 @@ pub record ArePathDifferencesBegun (by_section by_table : Position → Option Pa
   pub are_all : AreAllByPath by_section by_table stretches
   pub front : AppendsFront old new (path_stretches_text stretches)
 
--- Something that is so wrong with the table, and a front of its line.
---     IsSo    that it is wrong with the table
+-- The writer has gained a front of the line of a fault of the table.
+--     IsSo    which faults the table has
 pub record IsFaultBegun (IsSo : TableFault → Type 0) (old new : Option (List ℕ)) : Type 0 where
   pub told : TableFault
   pub is_so : IsSo told

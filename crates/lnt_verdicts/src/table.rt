@@ -72,7 +72,7 @@ pub fn print_path_table<W: Write>(
     }
 }
 
-// Prints the line that a span begins or ends at this position, with an operation index other than 0; where it stops, a front
+// Prints the line that says that a span begins or ends at this position, whose operation index isn't 0; where it stops, a front
 // of that line.
 fn print_operation<W: Write>(alloc: Global, position: Position, out: &mut W) -> Result<(), Halt>
     ensures err { IfErr result IsPrinting }

@@ -16,7 +16,7 @@ use std::alloc::{AllocError, AllocFailed};
 use std::error::Error;
 use std::fmt;
 
-/// Why a value isn't written. Nothing of it is.
+/// Why a value, a header or a unit isn't written. Each function says what is then left in the output.
 #[derive(Clone, Copy, Debug, PartialEq, Eq)]
 pub enum EncodeFault {
     /// 20: a length or an offset is larger than the 32-bit format can say.

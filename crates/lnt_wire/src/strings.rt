@@ -1,4 +1,4 @@
-//! The texts of values: the string sections, and where in them an offset leads (DWARF 5, sections 7.5.5 and 7.26).
+//! The texts of values: the string sections, and where in them an offset leads (DWARF 5, sections 7.5.5 and 7.5.6).
 ghost use Rattle.std.specs.Prelude.{◌≡◌, ◌<◌, length, take, drop, get_or, MatchOption};
 ghost use Rattle.std.specs.Option.{option_map};
 ghost use Rattle.lnt_wire.specs.Borrowed.{value_of};

@@ -16,7 +16,7 @@ pub struct Asked<'a> {
 pub enum Request<'a> {
     /// This text, of help or of the version.
     Help(String),
-    /// What the units of a section are.
+    /// What a section holds, or the section in another format; its lines aren't judged.
     Read {
         /// The file of the section.
         section: &'a str,
@@ -47,7 +47,7 @@ pub enum Request<'a> {
         from: Judging<'a>,
         /// The file of the table.
         table: &'a str,
-        /// Whether every place is told where it doesn't.
+        /// Whether all places at which it doesn't are told, and not the first alone.
         all: bool,
     },
 }
@@ -69,7 +69,7 @@ pub struct Judging<'a> {
     pub skip_copies: bool,
 }
 
-/// How a section is read whose lines aren't judged.
+/// How a section is read, where its lines aren't judged.
 #[derive(Clone, Copy)]
 pub enum Reading {
     /// A line for each unit.
