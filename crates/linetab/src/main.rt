@@ -13,10 +13,10 @@ use std::cell::Cell;
 use std::env;
 use std::io::{self, BufWriter, ErrorKind, Write};
 use std::process::ExitCode;
-use system::{System, hold_standard_places};
+use system::{System, hold_standard_descriptors};
 
 fn main(rt: HostRuntime) -> ExitCode {
-    let _held = hold_standard_places(&rt);
+    let _held = hold_standard_descriptors(&rt);
     let mut notes = Vec::new(rt.alloc());
     let is_unread = Cell::new(false);
     let ended = run_words(&rt, &is_unread, &mut notes);

@@ -12,7 +12,7 @@ pub(crate) struct Held(Option<File>, Option<File>, Option<File>);
 /// Opens the root folder three times, before any other file. A file gets the least descriptor that is free, so where the
 /// process was started without standard input, the first file that the words name would be read as standard input too.
 /// A folder there can neither be read nor written, so `-` is refused, and so is what would be printed.
-pub(crate) fn hold_standard_places(rt: &HostRuntime) -> Held {
+pub(crate) fn hold_standard_descriptors(rt: &HostRuntime) -> Held {
     let open = || fs::open(rt, "/").ok();
     Held(open(), open(), open())
 }

@@ -35,8 +35,8 @@ use Rattle.lnt_cli.specs.Readings.{BeginsReading}
 -- ---- sections that are judged
 
 -- a front of the table by path of the units' answers, or of the line that there can't be one
-abbrev pub BeginsPathTable : PathVersion → Options → Indexed → Option (List ℕ) → Option (List ℕ) → Type 0
-BeginsPathTable version options index old new =
+abbrev pub BeginsPathTableText : PathVersion → Options → Indexed → Option (List ℕ) → Option (List ℕ) → Type 0
+BeginsPathTableText version options index old new =
     ForUnitsOf options index (λ units. BeginsPrintedTable version (told_path version index options.dead options.skip_copies units) old new)
 
 -- A front of the answer for a good section with this index.
@@ -49,8 +49,8 @@ BeginsGood tells options Files index old new = AppendsFront old new (files_text 
 BeginsGood tells options Md5 index old new = HasBegun (AreSumsTold tells index (listed_files index) old) old new
 BeginsGood tells options (Table version) index old new =
     ForUnitsOf options index (λ units. BeginsTableOfUnits version options.dead options.skip_copies units old new)
-BeginsGood tells options (TableByPath true) index old new = BeginsPathTable Three options index old new
-BeginsGood tells options (TableByPath false) index old new = BeginsPathTable Four options index old new
+BeginsGood tells options (TableByPath true) index old new = BeginsPathTableText Three options index old new
+BeginsGood tells options (TableByPath false) index old new = BeginsPathTableText Four options index old new
 
 -- A front of the answer for a section with this judgement.
 abbrev pub BeginsJudged : (List ℕ → Option (List ℕ) → Type 0) → Options → Question → JudgedIndex → Option (List ℕ) → Option (List ℕ)

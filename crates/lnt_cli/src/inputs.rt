@@ -7,7 +7,7 @@ ghost use Rattle.lnt_cli.specs.Stepping.{IsFileStop};
 ghost use Rattle.lnt_cli.specs.Stops.{IsUsage};
 
 use crate::stop::CliStop;
-use lnt_notes::{Seen, Watched};
+use lnt_notes::{Seen, WatchedReader};
 use lnt_sources::{Halt, Opener, bytes_of_file, open_file, source_of};
 use lnt_wire::{Counted, Source, Strings};
 use lnt_words::Judging;
@@ -15,8 +15,8 @@ use std::alloc::Global;
 use std::cell::Cell;
 use std::io::{BufReader, Read};
 
-// A section, read from its file. `Watched` keeps its first bytes and counts all of them, for notes.
-pub(crate) type Section<'c, R> = Counted<BufReader<Watched<'c, R>>>;
+// A section, read from its file. `WatchedReader` keeps its first bytes and counts all of them, for notes.
+pub(crate) type Section<'c, R> = Counted<BufReader<WatchedReader<'c, R>>>;
 
 // The bytes of both string sections.
 #[derive(Drop)]
@@ -58,13 +58,13 @@ pub(crate) fn open_section<'c, O: Opener>(
     seen: &'c Cell<Seen>,
 ) -> Result<Section<'c, O::Reader>, Halt>
     ensures failures { IfOk result (λ source.
-        ⟦<Counted<BufReader<Watched<'c, O::Reader>>> as Source>⟧.failures source ≡ 0) }
+        ⟦<Counted<BufReader<WatchedReader<'c, O::Reader>>> as Source>⟧.failures source ≡ 0) }
     ensures told { IfOk result (λ source.
-        O.tells opener.old name.now (⟦<Counted<BufReader<Watched<'c, O::Reader>>> as Source>⟧.remaining source)) }
+        O.tells opener.old name.now (⟦<Counted<BufReader<WatchedReader<'c, O::Reader>>> as Source>⟧.remaining source)) }
     ensures later { TellsNoMore (O.tells opener.old) (O.tells opener.new) }
 {
     match opener.reader_of(name) {
-        Some(reader) => Ok(source_of(alloc, Watched::new(reader, seen))?),
+        Some(reader) => Ok(source_of(alloc, WatchedReader::new(reader, seen))?),
         None => Err(Halt::Read),
     }
 }
@@ -87,9 +87,9 @@ pub(crate) fn open_judged<'c, O: Opener>(
     ensures texts { IfOk result (λ opened.
         AreTextsOf (O.tells opener.old) from.now opened.texts.line.items opened.texts.general.items) }
     ensures failures { IfOk result (λ opened.
-        ⟦<Counted<BufReader<Watched<'c, O::Reader>>> as Source>⟧.failures opened.section ≡ 0) }
+        ⟦<Counted<BufReader<WatchedReader<'c, O::Reader>>> as Source>⟧.failures opened.section ≡ 0) }
     ensures told { IfOk result (λ opened. O.tells opener.old from.now.section.now
-        (⟦<Counted<BufReader<Watched<'c, O::Reader>>> as Source>⟧.remaining opened.section)) }
+        (⟦<Counted<BufReader<WatchedReader<'c, O::Reader>>> as Source>⟧.remaining opened.section)) }
     ensures later { TellsNoMore (O.tells opener.old) (O.tells opener.new) }
 {
     let texts = read_texts(alloc, opener, from)?;
@@ -134,9 +134,9 @@ pub(crate) fn open_both<'c, O: Opener>(
     ensures texts { IfOk result (λ opened.
         AreTextsOf (O.tells opener.old) from.now opened.texts.line.items opened.texts.general.items) }
     ensures section_fails { IfOk result (λ opened.
-        ⟦<Counted<BufReader<Watched<'c, O::Reader>>> as Source>⟧.failures opened.section ≡ 0) }
+        ⟦<Counted<BufReader<WatchedReader<'c, O::Reader>>> as Source>⟧.failures opened.section ≡ 0) }
     ensures section_told { IfOk result (λ opened. O.tells opener.old from.now.section.now
-        (⟦<Counted<BufReader<Watched<'c, O::Reader>>> as Source>⟧.remaining opened.section)) }
+        (⟦<Counted<BufReader<WatchedReader<'c, O::Reader>>> as Source>⟧.remaining opened.section)) }
     ensures file_fails { IfOk result (λ opened. ⟦<Counted<BufReader<O::Reader>> as Source>⟧.failures opened.file ≡ 0) }
     ensures file_told { IfOk result (λ opened.
         O.tells opener.old name.now (⟦<Counted<BufReader<O::Reader>> as Source>⟧.remaining opened.file)) }

@@ -12,7 +12,7 @@ use Rattle.lnt_wire.specs.Frames.{AreFrames, EndsBy}
 use Rattle.lnt_wire.specs.declared.fault.Fault.{Fault}
 use Rattle.lnt_wire.specs.declared.format.Order.{Order}
 use Rattle.lnt_wire.specs.declared.frame.Frame.{Frame}
-use Rattle.lnt_stream.specs.Units.{IsNextUnit, SectionEndsBy, UnitBytes}
+use Rattle.lnt_stream.specs.Units.{IsNextUnit, SectionEndsBy, BufferedUnit}
 use Rattle.lnt_sources.specs.declared.halt.Halt.{Halt}
 use Rattle.lnt_sources.specs.declared.status.Status.{Status}
 use Rattle.lnt_dump.specs.Units.{AreBytes, AreUnitsTold, end_line, end_status, unit_line}
@@ -87,7 +87,7 @@ units_stopped order start now old new of_reader offset told are =
 
 -- of the line of a unit a front is written
 pub units_cut : (order : Order) (start mid now old then new : Option (List ℕ)) (of_reader next_order : Order) (offset after : ℕ)
-    (unit : UnitBytes) (frame : Frame)
+    (unit : BufferedUnit) (frame : Frame)
     → next_order ≡ of_reader → FramesTold order start mid old then of_reader offset → IsNextUnit offset of_reader mid now unit
     → after ≡ offset + length unit.bytes
     → frame.offset ≡ unit.offset → frame_bytes unit.order frame.format frame.body.now ≡ unit.bytes → IsPlacedFrame unit.order frame

@@ -14,7 +14,7 @@ use Rattle.lnt_wire.specs.declared.format.Order.{Order}
 use Rattle.lnt_wire.specs.declared.frame.Frame.{Frame}
 use Rattle.lnt_wire.proofs.FrameListLaws.{FramesSoFar, no_frames, one_more_frame}
 use Rattle.lnt_wire.proofs.PullLaws.{pulls_none, pulls_append}
-use Rattle.lnt_stream.specs.Units.{IsNextUnit, SectionEndsBy, UnitBytes}
+use Rattle.lnt_stream.specs.Units.{IsNextUnit, SectionEndsBy, BufferedUnit}
 use Rattle.lnt_sources.specs.declared.halt.Halt.{Halt}
 use Rattle.lnt_sources.specs.declared.status.Status.{Status}
 use Rattle.lnt_sources.specs.declared.status.Status.TheVariants.{No}
@@ -77,14 +77,14 @@ line_more frames frame old now new before here =
     subst (Appends old new) (line_joined frames frame)
     (Appends-trans old now new (flat_map unit_line frames) (unit_line frame) before here)
 
-framed : (order : Order) (unit : UnitBytes) (frame : Frame) → unit.order ≡ order
+framed : (order : Order) (unit : BufferedUnit) (frame : Frame) → unit.order ≡ order
     → frame_bytes unit.order frame.format frame.body.now ≡ unit.bytes → IsPlacedFrame unit.order frame → IsFrame order frame unit.bytes
 framed order unit frame ordered bytes placed =
     subst (λ (o : Order). IsFrame o frame unit.bytes) ordered (subst (λ (z : List ℕ). IsFrame unit.order frame z) bytes placed.is)
 
 -- the frame of a unit that the source gave
 pub read_more : (order : Order) (start mid now : Option (List ℕ)) (frames : List Frame) (of_reader next_order : Order) (offset after : ℕ)
-    (unit : UnitBytes) (frame : Frame)
+    (unit : BufferedUnit) (frame : Frame)
     → next_order ≡ of_reader → FramesRead order start mid frames of_reader offset → IsNextUnit offset of_reader mid now unit
     → after ≡ offset + length unit.bytes
     → frame.offset ≡ unit.offset → frame_bytes unit.order frame.format frame.body.now ≡ unit.bytes → IsPlacedFrame unit.order frame
@@ -100,7 +100,7 @@ read_more order start mid now frames of_reader next_order offset after unit fram
 
 -- and its line was printed
 pub frames_more : (order : Order) (start mid now old then new : Option (List ℕ)) (of_reader next_order : Order) (offset after : ℕ)
-    (unit : UnitBytes) (frame : Frame)
+    (unit : BufferedUnit) (frame : Frame)
     → next_order ≡ of_reader → FramesTold order start mid old then of_reader offset → IsNextUnit offset of_reader mid now unit
     → after ≡ offset + length unit.bytes
     → frame.offset ≡ unit.offset → frame_bytes unit.order frame.format frame.body.now ≡ unit.bytes → IsPlacedFrame unit.order frame

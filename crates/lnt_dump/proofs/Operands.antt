@@ -14,11 +14,11 @@ use Rattle.lnt_header.specs.declared.op.Op.TheVariants as ops
 use Rattle.lnt_header.specs.declared.op.Operands.{Operands}
 use Rattle.lnt_header.specs.declared.op.OpView.{OpView}
 use Rattle.lnt_header.specs.declared.op.OpView.TheVariants as views
-use Rattle.lnt_ops.specs.Walks.{Steps, Walk}
+use Rattle.lnt_ops.specs.Walks.{GivesOperation, Walk}
 use Rattle.lnt_ops.proofs.ViewLaws.{leb_is_some}
 
 -- what a walk gives stands for an operation
-pub stands_for : (view : OpView) (old new : Walk) → Steps view old new → (done : Op) × StandsFor view done
+pub stands_for : (view : OpView) (old new : Walk) → GivesOperation view old new → (done : Op) × StandsFor view done
 stands_for view old new step = (step.gives.op, step.gives.stands)
 
 operands_of : (k : ℕ) (operands : Operands) (op : Op) → StandsFor (views.UnknownStandard k operands) op

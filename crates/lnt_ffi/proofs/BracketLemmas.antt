@@ -16,7 +16,7 @@ use Rattle.lnt_spans.proofs.BetweenLaws.{ends_before, none_empty}
 use Rattle.lnt_spans.specs.Brackets.{IsBracket}
 use Rattle.lnt_ffi.specs.declared.flat.FlatSpan.{FlatSpan}
 use Rattle.lnt_ffi.specs.Flat.{nothing, span_of}
-use Rattle.lnt_ffi.specs.Index.{begins_below, bucket, first_low, IsIndex, last_low, spans_below}
+use Rattle.lnt_ffi.specs.Index.{begins_below, bucket, first_low, IsBucketIndex, last_low, spans_below}
 use Rattle.lnt_ffi.proofs.IndexLemmas.{more_below}
 use Rattle.lnt_ffi.proofs.LookLemmas.{at}
 
@@ -145,7 +145,7 @@ bracketed spans shift number low high p o upto within below at_most above no_mor
     }
 
 -- what is read in the index of the spans, and what comes of it
-pub by_index : (spans : List FlatSpan) (index : List ℕ) (p : Position) (made : IsIndex spans index) → made.shift < 63
+pub by_index : (spans : List FlatSpan) (index : List ℕ) (p : Position) (made : IsBucketIndex spans index) → made.shift < 63
     → AreInOrder (map span_of spans) → length spans < 2 ^ 32 → 0 < length spans → 3 ≤ length index
     → (offset number places low high : ℕ) → offset ≡ p.address - low_of spans 0 → places ≡ offset / 2 ^ (get_or index 0 0 % 64)
     → number ≡ min places (length index - 3) → high ≡ min (get_or index (number + 2) 0) (length spans)

@@ -3,7 +3,7 @@ use Rattle.std.proofs.Common.{◌≡◌, ◌∙◌, ℕ, ◌+◌, ◌<◌, ◌�
 use Rattle.std.proofs.Common.{arith}
 use Rattle.std.proofs.lemmas.List.{length-append, map-append, take_more_set}
 use Rattle.lnt_spans.specs.declared.span.Span.{Span}
-use Rattle.lnt_spans.specs.Coming.{GivesFirst}
+use Rattle.lnt_spans.specs.Coming.{GivesFirstSpan}
 use Rattle.lnt_spans.proofs.ComingLaws.{HasGiven, one_given}
 use Rattle.lnt_ffi.specs.declared.flat.FlatSpan.{FlatSpan}
 use Rattle.lnt_ffi.specs.Flat.{span_of}
@@ -26,7 +26,7 @@ stored room place flat span is few =
     ∙ ap (λ (last : Span). map span_of (take place room) ++ last ∷ []) is
 
 pub one_put : (list : List Span) (count count' : ℕ) (room room' : List FlatSpan) (span : Span) (AreLeft AreLeft' : List Span → Type 0)
-    → HasPut list count room AreLeft → ((spans : List Span) → AreLeft spans → GivesFirst AreLeft' spans (Some span))
+    → HasPut list count room AreLeft → ((spans : List Span) → AreLeft spans → GivesFirstSpan AreLeft' spans (Some span))
     → length room' ≡ length room → (count < length room → map span_of (take (count + 1) room') ≡ map span_of (take count room) ++ span ∷ [])
     → count' ≡ count + 1 → HasPut list count' room' AreLeft'
 one_put list count count' room room' span AreLeft AreLeft' h gives same there next =

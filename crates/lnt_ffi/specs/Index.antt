@@ -29,7 +29,7 @@ spans_below spans shift number = prefix_len (begins_below (first_low spans) shif
 
 -- The index has the shift, and then an entry for each bucket from 0 on, the greatest number where there is no room for more.
 -- The shift is the least one that leaves room for the bucket in which the last span begins, and for the one after it.
-pub record IsIndex (spans : List FlatSpan) (index : List ℕ) : Type 0 where
+pub record IsBucketIndex (spans : List FlatSpan) (index : List ℕ) : Type 0 where
   pub shift : ℕ
   pub small : shift < 64
   pub has_room : shift < 63 → bucket (first_low spans) shift (last_low spans) + 2 < length index

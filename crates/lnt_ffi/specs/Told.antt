@@ -51,11 +51,11 @@ pub record AreSpansOf (section : FlatSection) (spans : List Span) : Type 0 where
   pub answers : (p : Position) → span_answer spans p ≡ line_answer (options_of section).dead section.skip_copies units p
 
 -- The section is good, and this is its index.
-abbrev pub IsIndexOf : FlatSection → Indexed → Type 0
-IsIndexOf section index = IsIndexOfSection section.line_str.now section.general.now (options_of section) section.line.now index
+abbrev pub IsIndexOfFlat : FlatSection → Indexed → Type 0
+IsIndexOfFlat section index = IsIndexOfSection section.line_str.now section.general.now (options_of section) section.line.now index
 
 -- The section is good, and the bytes are the table of its units.
-pub record IsTableOf (section : FlatSection) (version : Version) (bytes : List ℕ) : Type 0 where
+pub record IsTableOfFlat (section : FlatSection) (version : Version) (bytes : List ℕ) : Type 0 where
   pub units : List (ℕ × Parts)
   pub good : IsGood section.line_str.now section.general.now (options_of section) section.line.now units
   pub table : IsTableOfUnits version (options_of section).dead section.skip_copies units bytes
@@ -87,7 +87,7 @@ abbrev pub version_of : Bool → Version
 version_of is_wide = if is_wide then Two else One
 
 pub data IsToldOfWriting (section : FlatSection) (is_wide : Bool) (count : ℕ) (room : List ℕ) (told : FlatVerdict) : Type 0 where
-  good : (bytes : List ℕ) → IsTableOf section (version_of is_wide) bytes → count ≡ length bytes → HoldsAll room count bytes
+  good : (bytes : List ℕ) → IsTableOfFlat section (version_of is_wide) bytes → count ≡ length bytes → HoldsAll room count bytes
       → told ≡ yes → IsToldOfWriting section is_wide count room told
   refused : IsRefused section told → count ≡ 0 → IsToldOfWriting section is_wide count room told
 
@@ -98,15 +98,16 @@ abbrev pub unit_in : Indexed → ℕ → FlatUnit
 unit_in index offset = record { offset = offset; files = file_count_in index offset }
 
 pub data IsToldOfUnits (section : FlatSection) (count : ℕ) (room : List FlatUnit) (told : FlatVerdict) : Type 0 where
-  good : (index : Indexed) → IsIndexOf section index → count ≡ length index.units → HoldsAll room count (map (unit_in index) index.units)
+  good : (index : Indexed) → IsIndexOfFlat section index → count ≡ length index.units
+      → HoldsAll room count (map (unit_in index) index.units)
       → told ≡ yes → IsToldOfUnits section count room told
   refused : IsRefused section told → count ≡ 0 → IsToldOfUnits section count room told
 
 pub data IsToldOfPath (section : FlatSection) (unit file : ℕ) (is_there : Bool) (count : ℕ) (room : List ℕ) (told : FlatVerdict) : Type
     0 where
-  found : (index : Indexed) → IsIndexOf section index → (path : List ℕ) → file_path_in index unit file ≡ Some path
+  found : (index : Indexed) → IsIndexOfFlat section index → (path : List ℕ) → file_path_in index unit file ≡ Some path
       → is_there ≡ true → count ≡ length path → HoldsAll room count path → told ≡ yes
       → IsToldOfPath section unit file is_there count room told
-  nowhere : (index : Indexed) → IsIndexOf section index → file_path_in index unit file ≡ None
+  nowhere : (index : Indexed) → IsIndexOfFlat section index → file_path_in index unit file ≡ None
       → is_there ≡ false → count ≡ 0 → told ≡ yes → IsToldOfPath section unit file is_there count room told
   refused : IsRefused section told → is_there ≡ false → count ≡ 0 → IsToldOfPath section unit file is_there count room told

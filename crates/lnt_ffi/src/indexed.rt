@@ -4,7 +4,7 @@ ghost use Rattle.std.specs.Bool.{MatchBool};
 ghost use Rattle.lnt_spans.specs.Brackets.{IsBracket};
 ghost use Rattle.lnt_spans.specs.Spans.{AreInOrder, span_answer};
 ghost use Rattle.lnt_ffi.specs.Flat.{answer_of, span_of};
-ghost use Rattle.lnt_ffi.specs.Index.{IsIndex};
+ghost use Rattle.lnt_ffi.specs.Index.{IsBucketIndex};
 
 use crate::flat::{FlatAnswer, FlatSpan};
 use crate::looking::linetab_lookup;
@@ -51,7 +51,7 @@ pub extern "C" fn linetab_lookup_indexed(
 fn bracket_of(spans: &[FlatSpan], index: &[u32], address: u64) -> (usize, usize)
     ensures upto { result.0 ≤ result.1 }
     ensures within { result.1 ≤ length spans.now }
-    ensures index { (made : IsIndex spans.now index.now) → made.shift < 63 → AreInOrder (map span_of spans.now)
+    ensures index { (made : IsBucketIndex spans.now index.now) → made.shift < 63 → AreInOrder (map span_of spans.now)
         → length spans.now < 2 ^ 32 → (op : ℕ)
         → IsBracket (map span_of spans.now) (record { address = address; op = op }) result.0 result.1 }
 {

@@ -3,7 +3,7 @@
 //! The addresses from the first span on are cut into buckets of as many each, a power of two. The index tells of each
 //! bucket how many spans begin below it, so those that begin in it lie between its number and the next one's.
 ghost use Rattle.std.specs.Prelude.{◌≡◌, ◌+◌, ◌-◌, ◌/◌, ◌^◌, ◌<◌, ◌≤◌, ℕ, length, min};
-ghost use Rattle.lnt_ffi.specs.Index.{IsIndex, begins_below, first_low, last_low, spans_below};
+ghost use Rattle.lnt_ffi.specs.Index.{IsBucketIndex, begins_below, first_low, last_low, spans_below};
 
 use crate::flat::FlatSpan;
 
@@ -12,7 +12,7 @@ use crate::flat::FlatSpan;
 #[unsafe(no_mangle)]
 pub extern "C" fn linetab_index(spans: &[FlatSpan], index: &mut [u32])
     ensures length { length index.new ≡ length index.old }
-    ensures index { IsIndex spans.now index.new }
+    ensures index { IsBucketIndex spans.now index.new }
 {
     let first = first_low(spans);
     let shift = shift_of(last_low(spans).saturating_sub(first), index.len());

@@ -2,7 +2,7 @@
 ghost use Rattle.std.specs.Prelude.{◌≡◌, ◌+◌, ◌<◌, ◌≤◌, List, [], ◌∷◌, ◌++◌, IfErr, IfOk, IfSome, length, map, take};
 ghost use Rattle.lnt_spans.specs.declared.span.Span as spec;
 ghost use Rattle.lnt_ffi.specs.Flat.{options_of, span_of};
-ghost use Rattle.lnt_ffi.specs.Told.{IsIndexOf, IsRefused, IsToldOfSpans};
+ghost use Rattle.lnt_ffi.specs.Told.{IsIndexOfFlat, IsRefused, IsToldOfSpans};
 
 use crate::bytes::Bytes;
 use crate::flat::{FlatSpan, flat_span};
@@ -54,7 +54,7 @@ pub(crate) fn index_of<'a>(
     alloc: Global,
     section: &FlatSection<'a>,
 ) -> Result<Index<'a>, FlatVerdict>
-    ensures good { IfOk result (IsIndexOf section.now) }
+    ensures good { IfOk result (IsIndexOfFlat section.now) }
     ensures refused { IfErr result (IsRefused section.now) }
 {
     let mut source = Bytes::of(section.line);

@@ -1,6 +1,6 @@
 //! Address tables written.
 ghost use Rattle.std.specs.Prelude.{◌≡◌, IfErr, IfOk, length};
-ghost use Rattle.lnt_ffi.specs.Told.{IsRefused, IsTableOf, IsToldOfWriting, version_of};
+ghost use Rattle.lnt_ffi.specs.Told.{IsRefused, IsTableOfFlat, IsToldOfWriting, version_of};
 
 use crate::judging::index_of;
 use crate::room::put_bytes;
@@ -42,7 +42,7 @@ pub extern "C" fn linetab_table(
 
 // The table of a good section, or the verdict of another one.
 fn table_of(alloc: Global, section: &FlatSection<'_>, is_wide: bool) -> Result<Vec<u8>, FlatVerdict>
-    ensures good { IfOk result (λ table. IsTableOf section.now (version_of is_wide) table.items) }
+    ensures good { IfOk result (λ table. IsTableOfFlat section.now (version_of is_wide) table.items) }
     ensures refused { IfErr result (IsRefused section.now) }
 {
     let index = index_of(alloc, section)?;

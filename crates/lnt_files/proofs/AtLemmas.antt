@@ -13,7 +13,7 @@ use Rattle.lnt_header.specs.declared.header.Pair.{Pair}
 use Rattle.lnt_files.specs.declared.walk.EntryView.{EntryView}
 use Rattle.lnt_files.specs.Contents.{bytes_of_sum, content_md5, path_text, place_of, sum_of}
 use Rattle.lnt_files.specs.Paths.{directory_text, file_path, listed_sum}
-use Rattle.lnt_files.specs.Seen.{EntryAt, HasSeen}
+use Rattle.lnt_files.specs.Seen.{EntryAt, HasSeenEntries}
 use Rattle.lnt_files.specs.Tables.{AreUsableTables}
 use Rattle.lnt_files.specs.Walks.{Says, EntryStep}
 use Rattle.lnt_files.proofs.PathLemmas.{path_there, within}
@@ -22,7 +22,7 @@ use Rattle.lnt_files.proofs.JudgedLemmas.{seen_more, says_in, some_left}
 -- a walk stands after so many entries
 pub record IsAfter (table walk : BorrowedTable) (count : ℕ) : Type 0 where
   pub seen : List Entry
-  pub has_seen : HasSeen seen table walk count
+  pub has_seen : HasSeenEntries seen table walk count
 
 pub after_first : (table walk : BorrowedTable) (first : ℕ) → first ≤ length table.entries → walk ≡ from_entry first table
     → IsAfter table walk first

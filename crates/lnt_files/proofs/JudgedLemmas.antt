@@ -14,17 +14,17 @@ use Rattle.lnt_files.specs.declared.tables.EntryTableFault.TheVariants.{StringOu
 use Rattle.lnt_header.specs.declared.header.EntryTable.TheVariants.{Files}
 use Rattle.lnt_files.specs.declared.walk.EntryView.{EntryView}
 use Rattle.lnt_files.specs.Contents.{directory_number}
-use Rattle.lnt_files.specs.Seen.{first_missing, IsBelow, HasAll, IsFilesFault, HasSeen}
+use Rattle.lnt_files.specs.Seen.{first_missing, NamesDirectoryBelow, HasAll, IsFilesFault, HasSeenEntries}
 use Rattle.lnt_files.specs.Tables.{HasUsableFormat, HasPath, HasDirectory, AreUsableTables, IsTablesFault}
 use Rattle.lnt_files.specs.Walks.{Says, EntryStep, GivesEntry}
 
 -- ---- what was seen
 
-pub seen_none : (table : BorrowedTable) → HasSeen [] table table 0
+pub seen_none : (table : BorrowedTable) → HasSeenEntries [] table table 0
 seen_none table = record { joined = refl; count_is = refl; pairs_are = refl }
 
-pub seen_more : (seen : List Entry) (table old new : BorrowedTable) (count : ℕ) (view : EntryView) → HasSeen seen table old count
-    → (g : GivesEntry old view new) → HasSeen (seen ++ g.entry ∷ []) table new (count + 1)
+pub seen_more : (seen : List Entry) (table old new : BorrowedTable) (count : ℕ) (view : EntryView) → HasSeenEntries seen table old count
+    → (g : GivesEntry old view new) → HasSeenEntries (seen ++ g.entry ∷ []) table new (count + 1)
 seen_more seen table old new count view s g = record {
   joined = s.joined ∙ ap (λ (es : List Entry). seen ++ es) g.entries_are ∙ sym (append_assoc seen (g.entry ∷ []) new.entries);
   count_is = omega (arith, s.count_is, length-append seen (g.entry ∷ []));
@@ -32,7 +32,7 @@ seen_more seen table old new count view s g = record {
 }
 
 -- what it says by the table's format
-pub says_in : (seen : List Entry) (table old new : BorrowedTable) (count : ℕ) (view : EntryView) → HasSeen seen table old count
+pub says_in : (seen : List Entry) (table old new : BorrowedTable) (count : ℕ) (view : EntryView) → HasSeenEntries seen table old count
     → (g : GivesEntry old view new) → Says table.pairs g.entry view
 says_in seen table old new count view s g = subst (λ (ps : List Pair). Says ps g.entry view) s.pairs_are g.says
 
@@ -40,14 +40,15 @@ empty : {X : Type 0} (xs : List X) → length xs ≡ 0 → xs ≡ []
 empty [] e = refl
 empty (x ∷ xs) e = absurd (omega arith)
 
-pub seen_all : (seen : List Entry) (table walk : BorrowedTable) (count : ℕ) → HasSeen seen table walk count → length table.entries ≤ count
+pub seen_all : (seen : List Entry) (table walk : BorrowedTable) (count : ℕ) → HasSeenEntries seen table walk count
+    → length table.entries ≤ count
     → seen ≡ table.entries
 seen_all seen table walk count s le =
     let none : walk.entries ≡ [] =
     empty walk.entries (omega (arith, ap length s.joined, length-append seen walk.entries, s.count_is, le)) in
     sym (append-nil seen) ∙ ap (λ (es : List Entry). seen ++ es) (sym none) ∙ sym s.joined
 
-pub some_left : (seen : List Entry) (table old new : BorrowedTable) (count : ℕ) → HasSeen seen table old count
+pub some_left : (seen : List Entry) (table old new : BorrowedTable) (count : ℕ) → HasSeenEntries seen table old count
     → count < length table.entries → EntryStep old None new → ⊥
 some_left seen table old new count s lt ends =
     omega (arith, ap length s.joined, length-append seen old.entries, s.count_is, lt, ap length ends.0)
@@ -61,7 +62,7 @@ all_push P (y ∷ xs) x h p = (h.0, all_push P xs x h.1 p)
 -- each of the first entries has the text of its path
 pub record AllHavePaths (line general : List ℕ) (table walk : BorrowedTable) (count : ℕ) : Type 0 where
   pub seen : List Entry
-  pub has_seen : HasSeen seen table walk count
+  pub has_seen : HasSeenEntries seen table walk count
   pub all : AllByRecursion (HasPath line general table.pairs) seen
 
 pub all_begun : (line general : List ℕ) (table walk : BorrowedTable) → walk ≡ table → AllHavePaths line general table walk 0
@@ -146,9 +147,9 @@ no_more P xs x k None false count tells m = here P xs x k count m (λ p. false_i
 -- what the first files are, up to the first of them without its directory
 pub record FilesSeen (line general : List ℕ) (directories : ℕ) (table walk : BorrowedTable) (count : ℕ) (missing : Option ℕ) : Type 0 where
   pub seen : List Entry
-  pub has_seen : HasSeen seen table walk count
+  pub has_seen : HasSeenEntries seen table walk count
   pub paths : AllByRecursion (HasPath line general table.pairs) seen
-  pub numbers : Missing (IsBelow directories table.pairs) seen missing
+  pub numbers : Missing (NamesDirectoryBelow directories table.pairs) seen missing
 
 their_paths : (line general : List ℕ) (directories : ℕ) (table walk : BorrowedTable) (count : ℕ) (missing : Option ℕ)
     → FilesSeen line general directories table walk count missing → AllHavePaths line general table walk count
@@ -176,7 +177,7 @@ files_stepped line general directories table old new count missing view told bel
       seen = s.seen ++ g.entry ∷ [];
       has_seen = seen_more s.seen table old new count view s.has_seen g;
       paths = all_push (HasPath line general table.pairs) s.seen g.entry s.paths ((tells table.pairs g.entry says).0 is);
-      numbers = no_more (IsBelow directories table.pairs) s.seen g.entry count missing below s.has_seen.count_is
+      numbers = no_more (NamesDirectoryBelow directories table.pairs) s.seen g.entry count missing below s.has_seen.count_is
           ((λ t. omega (arith, lower.0 t, number_is)), (λ lt. lower.1 (omega (arith, lt, number_is)))) s.numbers;
     }
 
@@ -194,17 +195,18 @@ files_but line general directories table old new count missing view told s g tel
 
 numbers_done : (line general : List ℕ) (directories : ℕ) (table walk : BorrowedTable) (count : ℕ) (missing : Option ℕ)
     → (s : FilesSeen line general directories table walk count missing) → length table.entries ≤ count
-    → Missing (IsBelow directories table.pairs) table.entries missing
+    → Missing (NamesDirectoryBelow directories table.pairs) table.entries missing
 numbers_done line general directories table walk count missing s le =
-    subst (λ (es : List Entry). Missing (IsBelow directories table.pairs) es missing) (seen_all s.seen table walk count s.has_seen le)
+    subst (λ (es : List Entry). Missing (NamesDirectoryBelow directories table.pairs) es missing)
+        (seen_all s.seen table walk count s.has_seen le)
     s.numbers
 
 pub files_sound : (line general : List ℕ) (directories : ℕ) (table walk : BorrowedTable) (count : ℕ) (missing : Option ℕ)
     → FilesSeen line general directories table walk count missing → length table.entries ≤ count
     → missing ≡ None → HasAll line general directories table
 files_sound line general directories table walk count missing s le e =
-    let numbers : Missing (IsBelow directories table.pairs) table.entries None = subst
-    (Missing (IsBelow directories table.pairs) table.entries) e
+    let numbers : Missing (NamesDirectoryBelow directories table.pairs) table.entries None = subst
+    (Missing (NamesDirectoryBelow directories table.pairs) table.entries) e
     (numbers_done line general directories table walk count missing s le) in
     record {
       paths = all_done line general table walk count (their_paths line general directories table walk count missing s) le;
@@ -215,8 +217,8 @@ pub files_missing : (line general : List ℕ) (directories : ℕ) (table walk : 
     → FilesSeen line general directories table walk count missing → length table.entries ≤ count
     → missing ≡ Some index → IsFilesFault line general directories table (DirectoryNumber index)
 files_missing line general directories table walk count index missing s le e =
-    let numbers : Missing (IsBelow directories table.pairs) table.entries (Some index) = subst
-    (Missing (IsBelow directories table.pairs) table.entries) e
+    let numbers : Missing (NamesDirectoryBelow directories table.pairs) table.entries (Some index) = subst
+    (Missing (NamesDirectoryBelow directories table.pairs) table.entries) e
     (numbers_done line general directories table walk count missing s le) in
     (all_done line general table walk count (their_paths line general directories table walk count missing s) le, numbers)
 
@@ -263,10 +265,10 @@ count_of : (line general : List ℕ) (h : HeaderParts) (d f : BorrowedTable) (co
 count_of line general h d f count j = j.count_is ∙ ap length j.directories
 
 numbers_of : (line general : List ℕ) (h : HeaderParts) (d f : BorrowedTable) (count : ℕ) → AreJudged line general h d f count
-    → AllByRecursion (IsBelow count f.pairs) f.entries → AllByRecursion (HasDirectory h) h.files
+    → AllByRecursion (NamesDirectoryBelow count f.pairs) f.entries → AllByRecursion (HasDirectory h) h.files
 numbers_of line general h d f count j p =
-    subst (λ (n : ℕ). AllByRecursion (IsBelow n h.file_format) h.files) (count_of line general h d f count j)
-    (moved (λ ps es. AllByRecursion (IsBelow count ps) es) f.pairs h.file_format f.entries h.files j.file_pairs j.files p)
+    subst (λ (n : ℕ). AllByRecursion (NamesDirectoryBelow n h.file_format) h.files) (count_of line general h d f count j)
+    (moved (λ ps es. AllByRecursion (NamesDirectoryBelow count ps) es) f.pairs h.file_format f.entries h.files j.file_pairs j.files p)
 
 pub judged : (line general : List ℕ) (h : HeaderParts) (d f : BorrowedTable) (count : ℕ) (found : Option EntryTableFault)
     → AreJudged line general h d f count
@@ -285,7 +287,8 @@ judged line general h d f count (Some (StringOutside Files index)) j m = (
 judged line general h d f count (Some (DirectoryNumber index)) j m = (
   record { format = directory_format_of line general h d f count j; paths = directory_paths_of line general h d f count j },
   record { format = file_format_of line general h d f count j; paths = file_paths_of line general h d f count j m.0 },
-  subst (λ (n : ℕ). IsFirstNot (IsBelow n h.file_format) h.files index) (count_of line general h d f count j)
-      (moved (λ ps es. IsFirstNot (IsBelow count ps) es index) f.pairs h.file_format f.entries h.files j.file_pairs j.files m.1),
+  subst (λ (n : ℕ). IsFirstNot (NamesDirectoryBelow n h.file_format) h.files index) (count_of line general h d f count j)
+      (moved (λ ps es. IsFirstNot (NamesDirectoryBelow count ps) es index) f.pairs h.file_format f.entries h.files j.file_pairs j.files
+      m.1),
 )
 judged line general h d f count (Some fault) j m = absurd m

@@ -9,38 +9,39 @@ use Rattle.std.specs.List.{AllZip, slice_get, slice_range}
 use Rattle.std.specs.Option.{option_map, option_and_then}
 use Rattle.lnt_header.specs.declared.header.Entry.{Entry}
 use Rattle.lnt_header.specs.declared.header.HeaderParts.{HeaderParts}
-use Rattle.lnt_files.specs.declared.files.Kept.{Kept}
+use Rattle.lnt_files.specs.declared.files.PathEnd.{PathEnd}
 use Rattle.lnt_files.specs.Contents.{sum_of}
 use Rattle.lnt_files.specs.Files.{KeptFile, kept_path, kept_sum, AreFilesOf}
 use Rattle.lnt_files.specs.Kept.{kept_files, EndAt}
-use Rattle.lnt_files.specs.Stepping.{start_of, IsKept, Keeps}
+use Rattle.lnt_files.specs.Stepping.{start_of, IsKeptFile, KeepsFiles}
 use Rattle.lnt_files.specs.Paths.{file_path}
 
 -- ---- one file of those that are kept
 
-pub kept_length : (paths : List ℕ) (start : ℕ) (files : List Kept) → length (kept_files paths start files) ≡ length files
+pub kept_length : (paths : List ℕ) (start : ℕ) (files : List PathEnd) → length (kept_files paths start files) ≡ length files
 kept_length paths start [] = refl
 kept_length paths start (file ∷ files) = ap suc (kept_length paths file.end files)
 
-pub kept_sum_is : (paths : List ℕ) (start : ℕ) (files : List Kept) (n : ℕ)
+pub kept_sum_is : (paths : List ℕ) (start : ℕ) (files : List PathEnd) (n : ℕ)
     → kept_sum (kept_files paths start files) n ≡ option_and_then (λ file. file.listed) (slice_get files n)
 kept_sum_is paths start [] n = refl
 kept_sum_is paths start (file ∷ files) zero = refl
 kept_sum_is paths start (file ∷ files) (suc n) = kept_sum_is paths file.end files n
 
-pub kept_path_is : (paths : List ℕ) (start : ℕ) (files : List Kept) (n : ℕ)
+pub kept_path_is : (paths : List ℕ) (start : ℕ) (files : List PathEnd) (n : ℕ)
     → kept_path (kept_files paths start files) n ≡ option_map (λ file. slice_range paths (start_of start files n) file.end)
     (slice_get files n)
 kept_path_is paths start [] n = refl
 kept_path_is paths start (file ∷ files) zero = refl
 kept_path_is paths start (file ∷ files) (suc n) = kept_path_is paths file.end files n
 
-start_after : (start : ℕ) (files : List Kept) (n : ℕ) (d : Kept) → n < length files → start_of start files (suc n) ≡ (get_or files n d).end
+start_after : (start : ℕ) (files : List PathEnd) (n : ℕ) (d : PathEnd) → n < length files
+    → start_of start files (suc n) ≡ (get_or files n d).end
 start_after start [] n d lt = absurd (omega arith)
 start_after start (file ∷ files) zero d lt = refl
 start_after start (file ∷ files) (suc n) d lt = start_after file.end files n d (omega arith)
 
-pub start_is_end : (start : ℕ) (files : List Kept) (n : ℕ) (d : Kept) → 0 < n → n < length files
+pub start_is_end : (start : ℕ) (files : List PathEnd) (n : ℕ) (d : PathEnd) → 0 < n → n < length files
     → start_of start files n ≡ (get_or files (n - 1) d).end
 start_is_end start files zero d some lt = absurd (omega arith)
 start_is_end start files (suc n) d some lt =
@@ -49,7 +50,7 @@ start_is_end start files (suc n) d some lt =
 
 -- ---- the ends
 
-ends_below : (last start : ℕ) (files : List Kept) → EndAt last start files → start ≤ last
+ends_below : (last start : ℕ) (files : List PathEnd) → EndAt last start files → start ≤ last
 ends_below last start [] h = omega (arith, h)
 ends_below last start (file ∷ files) h = let more : file.end ≤ last = ends_below last file.end files h.1 in omega (arith, h.0)
 
@@ -58,37 +59,38 @@ pub record IsEnd (start end last : ℕ) : Type 0 where
   pub past : start ≤ end
   pub within : end ≤ last
 
-pub end_is_after : (last start : ℕ) (files : List Kept) (n : ℕ) (file : Kept) → EndAt last start files → slice_get files n ≡ Some file
+pub end_is_after : (last start : ℕ) (files : List PathEnd) (n : ℕ) (file : PathEnd) → EndAt last start files → slice_get files n ≡ Some file
     → IsEnd (start_of start files n) file.end last
 end_is_after last start [] n file h e = absurd cc
 end_is_after last start (first ∷ files) zero file h e =
     let same : first ≡ file = cc in
-    subst (λ (f : Kept). IsEnd start f.end last) same (record { past = h.0; within = ends_below last first.end files h.1 })
+    subst (λ (f : PathEnd). IsEnd start f.end last) same (record { past = h.0; within = ends_below last first.end files h.1 })
 end_is_after last start (first ∷ files) (suc n) file h e = end_is_after last first.end files n file h.1 e
 
-pub within : (kept : List Kept) (n : ℕ) (file : Kept) → Some file ≡ slice_get kept n → n < length kept
+pub within : (kept : List PathEnd) (n : ℕ) (file : PathEnd) → Some file ≡ slice_get kept n → n < length kept
 within kept n file e = slice_get_within kept n file (sym e)
 
 same_part : (paths : List ℕ) (start end : ℕ) → drop start (take end paths) ≡ slice_range paths start end
 same_part paths start end = sym (between_is paths start end)
 
-pub path_is : (paths : List ℕ) (kept : List Kept) (n start : ℕ) (file : Kept) → Some file ≡ slice_get kept n → start ≡ start_of 0 kept n
+pub path_is : (paths : List ℕ) (kept : List PathEnd) (n start : ℕ) (file : PathEnd) → Some file ≡ slice_get kept n
+    → start ≡ start_of 0 kept n
     → Some (drop start (take file.end paths)) ≡ kept_path (kept_files paths 0 kept) n
 path_is paths kept n start file e s =
     let whole = kept_path_is paths 0 kept n in
     let found : slice_get kept n ≡ Some file = sym e in
     ap (λ (z : List ℕ). Some z) (same_part paths start file.end)
     ∙ subst (λ (m : ℕ). Some (slice_range paths m file.end) ≡ kept_path (kept_files paths 0 kept) n) (sym s)
-    (sym (whole ∙ ap (λ (o : Option Kept). option_map (λ file. slice_range paths (start_of 0 kept n) file.end) o) found))
+    (sym (whole ∙ ap (λ (o : Option PathEnd). option_map (λ file. slice_range paths (start_of 0 kept n) file.end) o) found))
 
-pub no_path_is : (paths : List ℕ) (kept : List Kept) (n : ℕ) → None ≡ slice_get kept n → None ≡ kept_path (kept_files paths 0 kept) n
+pub no_path_is : (paths : List ℕ) (kept : List PathEnd) (n : ℕ) → None ≡ slice_get kept n → None ≡ kept_path (kept_files paths 0 kept) n
 no_path_is paths kept n e =
-    sym (kept_path_is paths 0 kept n ∙ ap (λ (o : Option Kept). option_map (λ file. slice_range paths (start_of 0 kept n) file.end) o)
+    sym (kept_path_is paths 0 kept n ∙ ap (λ (o : Option PathEnd). option_map (λ file. slice_range paths (start_of 0 kept n) file.end) o)
     (sym e))
 
 -- ---- one file more
 
-ends_more : (last start : ℕ) (files : List Kept) (file : Kept) → EndAt last start files → last ≤ file.end
+ends_more : (last start : ℕ) (files : List PathEnd) (file : PathEnd) → EndAt last start files → last ≤ file.end
     → EndAt file.end start (files ++ file ∷ [])
 ends_more last start [] file h le = (omega (arith, h), refl)
 ends_more last start (first ∷ files) file h le = (h.0, ends_more last first.end files file h.1 le)
@@ -105,7 +107,7 @@ last_range paths more start end e f =
     ap (λ (z : List ℕ). take (end - start) z) (drop_at paths more start (sym e))
     ∙ take_all (end - start) more (omega (arith, e, f))
 
-kept_more : (paths more : List ℕ) (start : ℕ) (files : List Kept) (file : Kept) → EndAt (length paths) start files
+kept_more : (paths more : List ℕ) (start : ℕ) (files : List PathEnd) (file : PathEnd) → EndAt (length paths) start files
     → file.end ≡ length paths + length more
     → kept_files (paths ++ more) start (files ++ file ∷ [])
     ≡ kept_files paths start files ++ record { path = more; listed = file.listed } ∷ []
@@ -117,46 +119,46 @@ kept_more paths more start (first ∷ files) file h e =
     ap (λ (z : List ℕ). record { path = z; listed = first.listed } ∷ kept_files (paths ++ more) first.end (files ++ file ∷ [])) same
     ∙ ap (λ (z : List KeptFile). record { path = slice_range paths start first.end; listed = first.listed } ∷ z) rest
 
-pub keeps_none : (line general : List ℕ) (h : HeaderParts) (files : List Entry) → Keeps line general h (take 0 files) [] []
+pub keeps_none : (line general : List ℕ) (h : HeaderParts) (files : List Entry) → KeepsFiles line general h (take 0 files) [] []
 keeps_none line general h files = record { ends = refl; same = tt }
 
-keeps_path : (line general : List ℕ) (h : HeaderParts) (files : List Entry) (i : ℕ) (d : Entry) (paths more : List ℕ) (kept : List Kept)
-    (file : Kept)
-    → Keeps line general h (take i files) paths kept → i < length files
+keeps_path : (line general : List ℕ) (h : HeaderParts) (files : List Entry) (i : ℕ) (d : Entry) (paths more : List ℕ) (kept : List PathEnd)
+    (file : PathEnd)
+    → KeepsFiles line general h (take i files) paths kept → i < length files
     → file_path line general h (get_or files i d) ≡ Some more → sum_of h.file_format (get_or files i d) ≡ file.listed
     → file.end ≡ length (paths ++ more)
-    → Keeps line general h (take (i + 1) files) (paths ++ more) (kept ++ file ∷ [])
+    → KeepsFiles line general h (take (i + 1) files) (paths ++ more) (kept ++ file ∷ [])
 keeps_path line general h files i d paths more kept file k lt path sum end =
     let long : file.end ≡ length paths + length more = end ∙ length-append paths more in
     let next : KeptFile = record { path = more; listed = file.listed } in
-    let one : IsKept line general h (get_or files i d) next = record { path = path; sum = sum } in
-    let all = all_zipped_more (IsKept line general h) (take i files) (kept_files paths 0 kept) (get_or files i d) next k.same one in
+    let one : IsKeptFile line general h (get_or files i d) next = record { path = path; sum = sum } in
+    let all = all_zipped_more (IsKeptFile line general h) (take i files) (kept_files paths 0 kept) (get_or files i d) next k.same one in
     let ends = ends_more (length paths) 0 kept file k.ends (omega (arith, long)) in
     record {
       ends = subst (λ (n : ℕ). EndAt n 0 (kept ++ file ∷ [])) end ends;
-      same = subst (λ (z : List Entry). AllZip (IsKept line general h) z (kept_files (paths ++ more) 0 (kept ++ file ∷ [])))
+      same = subst (λ (z : List Entry). AllZip (IsKeptFile line general h) z (kept_files (paths ++ more) 0 (kept ++ file ∷ [])))
           (sym (take_more files i d lt))
-          (subst (λ (z : List KeptFile). AllZip (IsKept line general h) (take i files ++ get_or files i d ∷ []) z)
+          (subst (λ (z : List KeptFile). AllZip (IsKeptFile line general h) (take i files ++ get_or files i d ∷ []) z)
           (sym (kept_more paths more 0 kept file k.ends long)) all);
     }
 
 pub keeps_more : (line general : List ℕ) (h : HeaderParts) (files : List Entry) (i : ℕ) (entry : Entry) (paths new : List ℕ)
-    (kept : List Kept) (file : Kept)
-    → Keeps line general h (take i h.files) paths kept → files ≡ h.files → i < length files → entry ≡ get_or files i entry
+    (kept : List PathEnd) (file : PathEnd)
+    → KeepsFiles line general h (take i h.files) paths kept → files ≡ h.files → i < length files → entry ≡ get_or files i entry
     → option_map (λ path. paths ++ path) (file_path line general h entry) ≡ Some new → sum_of h.file_format entry ≡ file.listed
     → file.end ≡ length new
-    → Keeps line general h (take (i + 1) h.files) new (kept ++ file ∷ [])
+    → KeepsFiles line general h (take (i + 1) h.files) new (kept ++ file ∷ [])
 keeps_more line general h files i entry paths new kept file k those lt is path sum end = by_path (file_path line general h entry) refl path
   where
     by_path : (o : Option (List ℕ)) → file_path line general h entry ≡ o → option_map (λ path. paths ++ path) o ≡ Some new
-        → Keeps line general h (take (i + 1) h.files) new (kept ++ file ∷ [])
+        → KeepsFiles line general h (take (i + 1) h.files) new (kept ++ file ∷ [])
     by_path None e p = absurd cc
     by_path (Some more) e p =
         let same : paths ++ more ≡ new = cc in
         let at : entry ≡ get_or h.files i entry = subst (λ (z : List Entry). entry ≡ get_or z i entry) those is in
         let path' = subst (λ (f : Entry). file_path line general h f ≡ Some more) at e in
         let sum' = subst (λ (f : Entry). sum_of h.file_format f ≡ file.listed) at sum in
-        subst (λ (z : List ℕ). Keeps line general h (take (i + 1) h.files) z (kept ++ file ∷ [])) same
+        subst (λ (z : List ℕ). KeepsFiles line general h (take (i + 1) h.files) z (kept ++ file ∷ [])) same
         (keeps_path line general h h.files i entry paths more kept file k (subst (λ (z : List Entry). i < length z) those lt) path' sum'
         (end ∙ ap length (sym same)))
 
@@ -169,7 +171,7 @@ same_count R (x ∷ xs) [] h = absurd h
 same_count R (x ∷ xs) (y ∷ ys) h = ap suc (same_count R xs ys h.1)
 
 same_path : (line general : List ℕ) (h : HeaderParts) (files : List Entry) (kept : List KeptFile) (n : ℕ)
-    → AllZip (IsKept line general h) files kept
+    → AllZip (IsKeptFile line general h) files kept
     → kept_path kept n ≡ option_and_then (file_path line general h) (slice_get files n)
 same_path line general h [] [] n all = refl
 same_path line general h [] (k ∷ kept) n all = absurd all
@@ -178,7 +180,7 @@ same_path line general h (file ∷ files) (k ∷ kept) zero all = sym all.0.path
 same_path line general h (file ∷ files) (k ∷ kept) (suc n) all = same_path line general h files kept n all.1
 
 same_sum : (line general : List ℕ) (h : HeaderParts) (files : List Entry) (kept : List KeptFile) (n : ℕ)
-    → AllZip (IsKept line general h) files kept
+    → AllZip (IsKeptFile line general h) files kept
     → kept_sum kept n ≡ option_and_then (sum_of h.file_format) (slice_get files n)
 same_sum line general h [] [] n all = refl
 same_sum line general h [] (k ∷ kept) n all = absurd all
@@ -186,14 +188,14 @@ same_sum line general h (file ∷ files) [] n all = absurd all
 same_sum line general h (file ∷ files) (k ∷ kept) zero all = sym all.0.sum
 same_sum line general h (file ∷ files) (k ∷ kept) (suc n) all = same_sum line general h files kept n all.1
 
-pub kept_all : (line general : List ℕ) (h : HeaderParts) (n : ℕ) (paths : List ℕ) (kept : List Kept)
-    → Keeps line general h (take n h.files) paths kept → length h.files ≤ n
+pub kept_all : (line general : List ℕ) (h : HeaderParts) (n : ℕ) (paths : List ℕ) (kept : List PathEnd)
+    → KeepsFiles line general h (take n h.files) paths kept → length h.files ≤ n
     → AreFilesOf line general h (kept_files paths 0 kept)
 kept_all line general h n paths kept k le =
-    let all : AllZip (IsKept line general h) h.files (kept_files paths 0 kept) =
-    subst (λ (z : List Entry). AllZip (IsKept line general h) z (kept_files paths 0 kept)) (take_all n h.files le) k.same in
+    let all : AllZip (IsKeptFile line general h) h.files (kept_files paths 0 kept) =
+    subst (λ (z : List Entry). AllZip (IsKeptFile line general h) z (kept_files paths 0 kept)) (take_all n h.files le) k.same in
     record {
-      count = same_count (IsKept line general h) h.files (kept_files paths 0 kept) all;
+      count = same_count (IsKeptFile line general h) h.files (kept_files paths 0 kept) all;
       paths = λ number. same_path line general h h.files (kept_files paths 0 kept) number all;
       sums = λ number. same_sum line general h h.files (kept_files paths 0 kept) number all;
     }

@@ -20,19 +20,19 @@ first_missing None index true = None
 first_missing None index false = Some index
 
 -- a file whose directory number is below the count
-abbrev pub IsBelow : ℕ → List Pair → Entry → Type 0
-IsBelow count pairs file = directory_number pairs file < count
+abbrev pub NamesDirectoryBelow : ℕ → List Pair → Entry → Type 0
+NamesDirectoryBelow count pairs file = directory_number pairs file < count
 
 -- each file has the text of its path and its directory
 pub record HasAll (line general : List ℕ) (count : ℕ) (files : BorrowedTable) : Type 0 where
   pub paths : AllByRecursion (HasPath line general files.pairs) files.entries
-  pub numbers : AllByRecursion (IsBelow count files.pairs) files.entries
+  pub numbers : AllByRecursion (NamesDirectoryBelow count files.pairs) files.entries
 
 -- the first file without the text of its path; else the first without its directory
 abbrev pub IsFilesFault : List ℕ → List ℕ → ℕ → BorrowedTable → EntryTableFault → Type 0
 IsFilesFault line general count files (StringOutside Files index) = IsFirstNot (HasPath line general files.pairs) files.entries index
 IsFilesFault line general count files (DirectoryNumber index) =
-    AllByRecursion (HasPath line general files.pairs) files.entries × IsFirstNot (IsBelow count files.pairs) files.entries index
+    AllByRecursion (HasPath line general files.pairs) files.entries × IsFirstNot (NamesDirectoryBelow count files.pairs) files.entries index
 IsFilesFault line general count files fault = ⊥
 
 -- what the entry of this number says, if it is there
@@ -41,7 +41,7 @@ EntryAt table number None = slice_get table.entries number ≡ None
 EntryAt table number (Some view) = (entry : Entry) × (slice_get table.entries number ≡ Some entry) × Says table.pairs entry view
 
 -- A walk over the table stands after these entries.
-pub record HasSeen (seen : List Entry) (table walk : BorrowedTable) (count : ℕ) : Type 0 where
+pub record HasSeenEntries (seen : List Entry) (table walk : BorrowedTable) (count : ℕ) : Type 0 where
   pub joined : table.entries ≡ seen ++ walk.entries
   pub count_is : length seen ≡ count
   pub pairs_are : walk.pairs ≡ table.pairs

@@ -14,7 +14,7 @@ use Rattle.lnt_header.specs.declared.header.Entry.{Entry}
 use Rattle.lnt_header.specs.declared.header.HeaderParts.{HeaderParts}
 use Rattle.lnt_header.specs.declared.header.Pair.{Pair}
 use Rattle.lnt_files.specs.declared.components.Places.{Places}
-use Rattle.lnt_files.specs.declared.files.Kept.{Kept}
+use Rattle.lnt_files.specs.declared.files.PathEnd.{PathEnd}
 use Rattle.lnt_files.specs.declared.walk.EntryView.{EntryView}
 use Rattle.lnt_files.specs.Contents.{sum_of}
 use Rattle.lnt_files.specs.Files.{KeptFile}
@@ -47,17 +47,17 @@ pub record AreComponents (places : Places) (values : List FormValue) (view : Ent
 -- ---- the files that are kept
 
 -- where the path of a file begins
-abbrev pub start_of : ℕ → List Kept → ℕ → ℕ
+abbrev pub start_of : ℕ → List PathEnd → ℕ → ℕ
 start_of start files zero = start
 start_of start [] (suc number) = start
 start_of start (file ∷ files) (suc number) = start_of file.end files number
 
 -- the path and the sum of an entry
-pub record IsKept (line general : List ℕ) (h : HeaderParts) (file : Entry) (kept : KeptFile) : Type 0 where
+pub record IsKeptFile (line general : List ℕ) (h : HeaderParts) (file : Entry) (kept : KeptFile) : Type 0 where
   pub path : file_path line general h file ≡ Some kept.path
   pub sum : sum_of h.file_format file ≡ kept.listed
 
 -- these paths and ends are those of the entries
-pub record Keeps (line general : List ℕ) (h : HeaderParts) (files : List Entry) (paths : List ℕ) (kept : List Kept) : Type 0 where
+pub record KeepsFiles (line general : List ℕ) (h : HeaderParts) (files : List Entry) (paths : List ℕ) (kept : List PathEnd) : Type 0 where
   pub ends : EndAt (length paths) 0 kept
-  pub same : AllZip (IsKept line general h) files (kept_files paths 0 kept)
+  pub same : AllZip (IsKeptFile line general h) files (kept_files paths 0 kept)

@@ -19,7 +19,7 @@ const ROOM: usize = 1024;
 
 // Where the file's path ends, and the MD5 sum that is listed of it.
 #[derive(Clone, Copy, Debug)]
-pub(crate) struct Kept {
+pub(crate) struct PathEnd {
     end: usize,
     listed: Option<[u8; 16]>,
 }
@@ -30,7 +30,7 @@ pub(crate) struct Kept {
 pub struct Files {
     // The paths, one after the other.
     paths: Vec<u8>,
-    kept: Vec<Kept>,
+    kept: Vec<PathEnd>,
 }
 
 impl Model for Files {
@@ -58,7 +58,7 @@ impl Files {
         let mut kept = Vec::with_capacity(alloc, header.files().len())?;
         for file in header.files() {
             add_path(&mut paths, header, strings, file)?;
-            kept.push(Kept {
+            kept.push(PathEnd {
                 end: paths.len(),
                 listed: sum_of(header.file_format(), file),
             })?;
@@ -91,20 +91,20 @@ impl Files {
     }
 }
 
-fn kept_at(kept: &[Kept], file: u64) -> Option<&Kept>
+fn kept_at(kept: &[PathEnd], file: u64) -> Option<&PathEnd>
     ensures { option_copied result ≡ slice_get kept.now file }
 {
     kept.get(file as usize)
 }
 
-fn sum_at(kept: &[Kept], file: u64) -> Option<[u8; 16]>
+fn sum_at(kept: &[PathEnd], file: u64) -> Option<[u8; 16]>
     ensures { result ≡ option_and_then (λ file. file.listed) (slice_get kept.now file) }
 {
     kept_at(kept, file)?.listed
 }
 
 #[tactic(auto, using(crate::proofs::KeptLemmas::path_is, crate::proofs::KeptLemmas::no_path_is, crate::proofs::KeptLemmas::within))]
-fn path_at<'f>(paths: &'f [u8], kept: &[Kept], file: u64) -> Option<&'f [u8]>
+fn path_at<'f>(paths: &'f [u8], kept: &[PathEnd], file: u64) -> Option<&'f [u8]>
     requires { EndAt (length paths.now) 0 kept.now }
     ensures { option_map (λ path. path.now) result ≡ kept_path (kept_files paths.now 0 kept.now) file }
 {
@@ -117,7 +117,7 @@ fn path_at<'f>(paths: &'f [u8], kept: &[Kept], file: u64) -> Option<&'f [u8]>
 
 // Where the path of the file begins.
 #[tactic(auto, using(crate::proofs::KeptLemmas::start_is_end))]
-fn start_of(kept: &[Kept], index: usize) -> usize
+fn start_of(kept: &[PathEnd], index: usize) -> usize
     requires { index < length kept.now }
     ensures { result ≡ start_of 0 kept.now index }
 {

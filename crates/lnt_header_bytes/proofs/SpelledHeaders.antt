@@ -22,7 +22,7 @@ use Rattle.lnt_header_bytes.specs.HeaderPuts.{EntryParts}
 use Rattle.lnt_header_bytes.specs.HeaderBytes.{HeaderBytes, HeaderFieldsBytes, unit_body}
 use Rattle.lnt_header.specs.HeaderRules.{IsEntryOf, IsHeader, IsEntryTable, six_bytes}
 use Rattle.lnt_header.specs.Joins.{Each}
-use Rattle.lnt_header_bytes.specs.Laws.{AllowedIsSpelled}
+use Rattle.lnt_header_bytes.specs.Laws.{AllowedHeaderIsSpelled}
 use Rattle.lnt_header_bytes.proofs.ProgramLaws.{fits_less, length-body}
 use Rattle.lnt_header.proofs.ShortestLaws.{each_shortest}
 use Rattle.lnt_header_bytes.specs.Spelled.{FitsFields, FitsTable, HasSmallOffsets, LengthsFit, OffsetsFit}
@@ -206,5 +206,5 @@ wide h is = record {
   files = subst (λ (format : Format). OffsetsFit format h.files) (sym is) (wide_entries h.files);
 }
 
-pub allowed_is_spelled : wire.SpelledValues → AllowedIsSpelled
+pub allowed_is_spelled : wire.SpelledValues → AllowedHeaderIsSpelled
 allowed_is_spelled law = record { fields = fields_spelled law; unit = unit_spelled law; allowed = allowed law; wide = wide }

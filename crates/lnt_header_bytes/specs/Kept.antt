@@ -9,7 +9,7 @@ abbrev pub kept_header : HeaderParts → KeptEntries → HeaderParts
 kept_header numbers kept = header_in_bytes numbers kept.directories kept.files kept.bytes.items kept.directory_size kept.file_size
 
 -- it is a header, with the marks of its tables
-abbrev pub IsKept : HeaderParts → KeptEntries → Type 0
-IsKept numbers kept =
+abbrev pub IsKeptHeader : HeaderParts → KeptEntries → Type 0
+IsKeptHeader numbers kept =
     IsMarkedHeader numbers kept.directories kept.files kept.bytes.items kept.directory_size kept.file_size
     kept.directory_marks.items kept.file_marks.items

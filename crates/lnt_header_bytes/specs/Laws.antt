@@ -16,7 +16,7 @@ OneHeader = (order : Order) → IsCode (HeaderBytesIn order)
 
 -- A header that `Header::new` allows is spelled by some bytes, with a program, exactly where the format can say its offsets and its
 -- length. In the 64-bit format no offset is too large.
-pub record AllowedIsSpelled : Type 0 where
+pub record AllowedHeaderIsSpelled : Type 0 where
   pub fields : (h : HeaderParts) → IsHeader h → FitsFields h → HasSmallOffsets h → HasShortest HeaderFieldsBytes h
   pub unit : (h : HeaderParts) (program : List ℕ) → IsHeader h → FitsFields h → HasSmallOffsets h → LengthsFit h program
       → (bytes : List ℕ) × HeaderBytes h program bytes

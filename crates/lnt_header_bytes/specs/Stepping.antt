@@ -1,5 +1,5 @@
--- What the bodies of this crate say of one step: of a reader of tables, and of what keeps their entries. No public contract speaks
--- of it.
+-- What the bodies of this crate say of one step: of a reader of tables, and of what keeps their entries. Bodies of
+-- lnt_dump pass over values too. No public contract speaks of it.
 use Rattle.std.specs.Prelude.{◌≡◌, ℕ, List, [], length, ◌∷◌, ◌++◌}
 use Rattle.lnt_wire.specs.declared.format.Order.{Order}
 use Rattle.lnt_wire.specs.declared.format.Format.{Format}
@@ -19,7 +19,7 @@ use Rattle.lnt_header.specs.Joins.{Each}
 use Rattle.lnt_header_bytes.specs.TableBytes.{TableOf}
 use Rattle.lnt_header_bytes.specs.Borrowed.{BorrowedTable, borrowed_table, AreEntryBytes, header_over}
 use Rattle.lnt_header_bytes.specs.declared.kept.KeptEntries.{KeptEntries}
-use Rattle.lnt_header_bytes.specs.Kept.{kept_header, IsKept}
+use Rattle.lnt_header_bytes.specs.Kept.{kept_header, IsKeptHeader}
 
 pub record HasSameForm (one other : HeaderParts) : Type 0 where
   pub format : one.format ≡ other.format
@@ -99,5 +99,5 @@ pub record ReadsNext {X : Type 0} (Spells : X → List ℕ → Type 0) (before a
 -- The entries that were kept are those of the header of these numbers and tables, with their marks.
 pub record AreKept (numbers : HeaderParts) (directories : ℕ) (directory_bytes : List ℕ) (files : ℕ) (file_bytes extra : List ℕ)
     (kept : KeptEntries) : Type 0 where
-  pub is_kept : IsKept numbers kept
+  pub is_kept : IsKeptHeader numbers kept
   pub same : kept_header numbers kept ≡ header_over numbers directories directory_bytes files file_bytes extra

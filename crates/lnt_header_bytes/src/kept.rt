@@ -41,13 +41,13 @@ struct KeptEntries {
 
 impl Model for KeptHeader {
     ghost use Rattle.lnt_header.specs.declared.header.HeaderParts.{HeaderParts};
-    ghost use Rattle.lnt_header_bytes.specs.Kept.{kept_header, IsKept};
+    ghost use Rattle.lnt_header_bytes.specs.Kept.{kept_header, IsKeptHeader};
 
     ghost Value = { HeaderParts };
 
     ghost view = { λ h. kept_header h.numbers.value h.entries };
 
-    ghost invariant = { λ h. IsKept h.numbers.value h.entries };
+    ghost invariant = { λ h. IsKeptHeader h.numbers.value h.entries };
 }
 
 impl KeptHeader {

@@ -1,5 +1,5 @@
 //! Laws of the format, each the contract of a function without parameters that does nothing.
-ghost use Rattle.lnt_header_bytes.specs.Laws.{AllowedIsSpelled, OneHeader};
+ghost use Rattle.lnt_header_bytes.specs.Laws.{AllowedHeaderIsSpelled, OneHeader};
 
 /// Under one byte order no header with its program begins another's bytes, and each spells one header and one
 /// program (DWARF 5, section 6.2.4). So decoding what was encoded gives it back, whatever follows.
@@ -13,7 +13,7 @@ pub fn one_header()
 /// no offset is too large.
 #[tactic(auto, using(crate::proofs::SpelledHeaders::allowed_is_spelled))]
 pub fn allowed_is_spelled()
-    ensures { AllowedIsSpelled }
+    ensures { AllowedHeaderIsSpelled }
 {
     lnt_wire::laws::spelled_values();
 }

@@ -9,13 +9,13 @@ use Rattle.std.proofs.lemmas.List.Sorted.{All-permutation}
 use Rattle.lnt_unit.specs.declared.unit.Parts.{Parts}
 use Rattle.lnt_machine.proofs.FittingLaws.{HasNumbers}
 use Rattle.lnt_machine.specs.declared.row.Row.{Row}
-use Rattle.lnt_machine.specs.Walking.{Kept, SequenceWalk, WillGive}
+use Rattle.lnt_machine.specs.Walking.{KeptProgram, SequenceWalk, WillGive}
 use Rattle.lnt_spans.specs.declared.span.Span.{Span}
-use Rattle.lnt_spans.specs.Coming.{GivesFirst}
+use Rattle.lnt_spans.specs.Coming.{GivesFirstSpan}
 use Rattle.lnt_spans.specs.Fitting.{FitsSpan, FitSpans}
 use Rattle.lnt_sequences.specs.declared.extent.Extent.{Extent}
 use Rattle.lnt_sequences.specs.declared.sequence.SeqId.{SeqId}
-use Rattle.lnt_sequences.specs.InTurn.{EntriesInTurn, IsEntryOf}
+use Rattle.lnt_sequences.specs.InTurn.{EntriesInTurn, IsExtentOf}
 use Rattle.lnt_sequences.proofs.FittingLaws.{kept_spans_fit}
 use Rattle.lnt_sequences.proofs.KeptLaws.{kept_ordered}
 use Rattle.lnt_sequences.specs.RowSpans.{row_spans, spans_of}
@@ -44,9 +44,9 @@ given_by new (span ∷ here) later spans walk (Some made) is come_later are give
       come_later = come_later;
       spans_are = refl;
     } in
-    subst (λ (list : List Span). GivesFirst (AreToCome new) list (Some made)) (sym are) (gives.0, come)
+    subst (λ (list : List Span). GivesFirstSpan (AreToCome new) list (Some made)) (sym are) (gives.0, come)
 
-pub given_here : (units : List ℕ) (programs : List Kept) (entries : List Extent) (unit : ℕ) (rows : Option SequenceWalk)
+pub given_here : (units : List ℕ) (programs : List KeptProgram) (entries : List Extent) (unit : ℕ) (rows : Option SequenceWalk)
     (old new : SequenceWalk) (last last' : Option Row) (result : Option Span) (spans : List Span)
     → rows ≡ Some old → ((here : List Span) → HasSpans unit here old last → GivesSpan unit here result new last')
     → AreToCome (record { units = units; programs = programs; entries = entries; unit = unit; rows = rows; last = last }) spans
@@ -60,10 +60,11 @@ given_here units programs entries unit rows old new last last' result spans is g
 
 -- ---- the next sequence
 
-abbrev IsEntry : List ℕ → List Kept → Extent → Placed → Type 0
+abbrev IsEntry : List ℕ → List KeptProgram → Extent → Placed → Type 0
 IsEntry units programs entry placed = (placed.id ≡ entry.id) × IsSequenceIn units programs entry.id placed.rows
 
-begun_by : (units : List ℕ) (programs : List Kept) (entry : Extent) (entries : List Extent) (placed : Placed) (sequences : List Placed)
+begun_by : (units : List ℕ) (programs : List KeptProgram) (entry : Extent) (entries : List Extent) (placed : Placed)
+    (sequences : List Placed)
     (found : Option SequenceWalk) (spans : List Span)
     → AllZip (IsEntry units programs) entries sequences → placed.id ≡ entry.id → IsSomeAnd found (WillGive placed.rows)
     → spans ≡ spans_of (placed ∷ sequences)
@@ -77,7 +78,7 @@ begun_by units programs entry entries placed sequences (Some walk) spans each sa
   spans_are = are ∙ ap (λ (id : SeqId). row_spans id.unit placed.rows ++ spans_of sequences) same;
 }
 
-begun_from : (units : List ℕ) (programs : List Kept) (entry : Extent) (entries : List Extent) (sequences : List Placed)
+begun_from : (units : List ℕ) (programs : List KeptProgram) (entry : Extent) (entries : List Extent) (sequences : List Placed)
     (found : Option SequenceWalk) (spans : List Span)
     → AllZip (IsEntry units programs) (entry ∷ entries) sequences
     → ((rows : List Row) → IsSequenceIn units programs entry.id rows → IsSomeAnd found (WillGive rows)) → spans ≡ spans_of sequences
@@ -102,11 +103,12 @@ begun cursor entry entries found spans is gives later =
     begun_from cursor.units cursor.programs entry entries later.sequences found spans
     (subst (λ (es : List Extent). AllZip (IsEntry cursor.units cursor.programs) es later.sequences) is later.each) gives later.spans_are
 
-room_some : (list : List Kept) → 0 < room_of list
+room_some : (list : List KeptProgram) → 0 < room_of list
 room_some [] = omega arith
 room_some (first ∷ list) = omega (arith, room_some list)
 
-pub begun_fewer : (programs : List Kept) (all entries : List Extent) (entry : Extent) (found : Option SequenceWalk) → all ≡ entry ∷ entries
+pub begun_fewer : (programs : List KeptProgram) (all entries : List Extent) (entry : Extent) (found : Option SequenceWalk)
+    → all ≡ entry ∷ entries
     → IfSome found (λ walk. rows_left walk < room_of programs)
     → rows_here found + room_for (room_of programs) entries < room_for (room_of programs) all
 begun_fewer programs all entries entry None is left = rw is (omega (arith, room_some programs))
@@ -116,7 +118,7 @@ begun_fewer programs all entries entry (Some walk) is left = rw is (omega (arith
 
 entries_found : (dead : Option ℕ) (skip : Bool) (units : List (ℕ × Parts)) (index : Indexed) (entries : List Extent) (in_turn : List Placed)
     → IsIndexOf dead skip units index
-    → AllZip (IsEntryOf (kept_sequences dead skip units)) entries in_turn → AllZip (IsEntry index.units index.programs) entries in_turn
+    → AllZip (IsExtentOf (kept_sequences dead skip units)) entries in_turn → AllZip (IsEntry index.units index.programs) entries in_turn
 entries_found dead skip units index [] [] is each = tt
 entries_found dead skip units index [] (placed ∷ in_turn) is each = absurd each
 entries_found dead skip units index (entry ∷ entries) [] is each = absurd each

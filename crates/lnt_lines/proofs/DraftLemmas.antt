@@ -5,11 +5,11 @@ use Rattle.std.specs.List.{All, AllByRecursion, AllZip}
 use Rattle.std.proofs.lemmas.List.Elements.{All-cons, All-nil, All-weaker}
 use Rattle.lnt_wire.specs.declared.format.Order.{Order}
 use Rattle.lnt_header.specs.HeaderRules.{HasHeaderNumbers}
-use Rattle.lnt_stream.specs.Units.{UnitBytes}
+use Rattle.lnt_stream.specs.Units.{BufferedUnit}
 use Rattle.lnt_unit.specs.declared.unit.Parts.{Parts}
 use Rattle.lnt_unit.proofs.UnitLaws.{unit_is_some}
 use Rattle.lnt_unit.specs.UnitBytes.{UnitsFrom}
-use Rattle.lnt_machine.specs.Walking.{Kept, Keeps}
+use Rattle.lnt_machine.specs.Walking.{KeptProgram, KeepsProgram}
 use Rattle.lnt_files.specs.Tables.{AreUsableTables}
 use Rattle.lnt_sequences.proofs.UnitLaws.{distinct_sequences, offsets_differ, ordered-append}
 use Rattle.std.specs.List.Sorted.{IsPermutation}
@@ -43,7 +43,7 @@ offsets_push : (units : List (ℕ × Parts)) (unit : ℕ × Parts)
 offsets_push [] unit = refl
 offsets_push (first ∷ units) unit = ap (λ (rest : List ℕ). first.0 ∷ rest) (offsets_push units unit)
 
-pub added : (text general : List ℕ) (dead : Option ℕ) (buffer : UnitBytes) (old new : Draft) (offset : ℕ) (kept : Kept)
+pub added : (text general : List ℕ) (dead : Option ℕ) (buffer : BufferedUnit) (old new : Draft) (offset : ℕ) (kept : KeptProgram)
     → IsJudgedSound text general dead buffer old.collected new.collected kept
     → offset ≡ buffer.offset → new.units.items ≡ old.units.items ++ offset ∷ [] → new.programs.items ≡ old.programs.items ++ kept ∷ []
     → HasAdded text general dead buffer old new
@@ -55,8 +55,9 @@ added text general dead buffer old new offset kept judged at offsets programs = 
     collects = judged.collects units draft.collects;
     offsets = offsets ∙ ap (λ (n : ℕ). old.units.items ++ n ∷ []) at ∙ ap (λ (list : List ℕ). list ++ buffer.offset ∷ []) draft.offsets
         ∙ sym (offsets_push units (buffer.offset, judged.unit));
-    programs = subst (AllZip (λ (unit : ℕ × Parts) (k : Kept). Keeps k unit.1) (units ++ (buffer.offset, judged.unit) ∷ [])) (sym programs)
-        (zip_push (λ (unit : ℕ × Parts) (k : Kept). Keeps k unit.1) units old.programs.items (buffer.offset, judged.unit) kept
+    programs = subst (AllZip (λ (unit : ℕ × Parts) (k : KeptProgram). KeepsProgram k unit.1)
+        (units ++ (buffer.offset, judged.unit) ∷ [])) (sym programs)
+        (zip_push (λ (unit : ℕ × Parts) (k : KeptProgram). KeepsProgram k unit.1) units old.programs.items (buffer.offset, judged.unit) kept
         draft.programs judged.keeps);
   };
 }
@@ -110,9 +111,9 @@ usable_tables text general dead [] all = tt
 usable_tables text general dead (unit ∷ units) all = (all.0.well_formed.tables, usable_tables text general dead units all.1)
 
 -- the kept headers are those of the units
-pub kept_numbers : (units : List (ℕ × Parts)) (programs : List Kept) → AllZip (λ unit kept. Keeps kept unit.1) units programs
+pub kept_numbers : (units : List (ℕ × Parts)) (programs : List KeptProgram) → AllZip (λ unit kept. KeepsProgram kept unit.1) units programs
     → AllByRecursion (λ (unit : ℕ × Parts). HasHeaderNumbers unit.1.header) units
-    → AllByRecursion (λ (kept : Kept). HasHeaderNumbers kept.header) programs
+    → AllByRecursion (λ (kept : KeptProgram). HasHeaderNumbers kept.header) programs
 kept_numbers [] [] keeps all = tt
 kept_numbers [] (kept ∷ programs) keeps all = absurd keeps
 kept_numbers (unit ∷ units) [] keeps all = tt

@@ -8,7 +8,7 @@ use Rattle.std.proofs.lemmas.List.Sums.{position_or_len_is}
 use Rattle.lnt_wire.specs.declared.format.Order.{Order}
 use Rattle.lnt_header.specs.declared.header.HeaderParts.{HeaderParts}
 use Rattle.lnt_unit.specs.declared.unit.Parts.{Parts}
-use Rattle.lnt_machine.specs.Walking.{Keeps, Kept}
+use Rattle.lnt_machine.specs.Walking.{KeepsProgram, KeptProgram}
 use Rattle.lnt_unit.specs.UnitBytes.{SectionBytes}
 use Rattle.lnt_files.specs.Files.{AreFilesOf, KeptFile, kept_path, kept_sum}
 use Rattle.lnt_lines.specs.Contents.{AreRising, Contents, files_at, files_of, TellsOf}
@@ -105,14 +105,14 @@ files_of_units = record {
 
 -- ---- the headers of an index
 
-abbrev say_header : Option Kept → Option HeaderParts
-say_header found = option_map (λ (kept : Kept). kept.header) found
+abbrev say_header : Option KeptProgram → Option HeaderParts
+say_header found = option_map (λ (kept : KeptProgram). kept.header) found
 
 header_found : (dead : Option ℕ) (skip : Bool) (units : List (ℕ × Parts)) (index : Indexed) (unit : ℕ × Parts)
     → IsIndexOf dead skip units index → Contains units unit → header_in index unit.0 ≡ Some unit.1.header
 header_found dead skip units index unit is (k, lt, same) =
     let offsets : List ℕ = map (λ (u : ℕ × Parts). u.0) units in
-    let at = zip_at (λ (u : ℕ × Parts) (kept : Kept). Keeps kept u.1) units index.programs k unit is.programs lt in
+    let at = zip_at (λ (u : ℕ × Parts) (kept : KeptProgram). KeepsProgram kept u.1) units index.programs k unit is.programs lt in
     let few : k < length offsets = omega (arith, lt, as_many units) in
     let place : Some k ≡ position (λ offset. offset == unit.0) offsets =
     place_found offsets unit.0 k (subst AreRising is.offsets is.rising) few

@@ -9,7 +9,7 @@ use Rattle.lnt_unit.specs.declared.unit.Parts.{Parts}
 use Rattle.lnt_machine.specs.declared.row.Sequence.{Sequence}
 use Rattle.lnt_machine.specs.Matrix.{sequences}
 use Rattle.lnt_machine.specs.declared.row.Row.{Row}
-use Rattle.lnt_machine.specs.Walking.{Keeps, Kept, SequenceWalk, WillGive}
+use Rattle.lnt_machine.specs.Walking.{KeepsProgram, KeptProgram, SequenceWalk, WillGive}
 use Rattle.lnt_spans.specs.declared.position.Position as spans
 use Rattle.lnt_header.specs.declared.header.HeaderParts.{HeaderParts}
 use Rattle.lnt_files.specs.Files.{AreFilesOf, KeptFile}
@@ -47,9 +47,10 @@ sequence_in dead skip units index id placed is contained same =
     let offset : get_or index.units one.place 0 ≡ id.unit =
     ap (λ (list : List ℕ). get_or list one.place 0) is.offsets ∙ at.0 ∙ ap (λ (u : ℕ × Parts). u.0) (one.unit_at one.unit) ∙ sym one.unit_is
     ∙ ap (λ (i : SeqId). i.unit) same in
-    let kept : (d : Kept) → Keeps (get_or index.programs one.place d) one.unit.1 × (one.place < length index.programs) =
-    λ d. let z = zip_at (λ (u : ℕ × Parts) (k : Kept). Keeps k u.1) units index.programs one.place one.unit d is.programs one.within in
-    (subst (λ (u : ℕ × Parts). Keeps (get_or index.programs one.place d) u.1) (one.unit_at one.unit) z.0, z.1) in
+    let kept : (d : KeptProgram) → KeepsProgram (get_or index.programs one.place d) one.unit.1 × (one.place < length index.programs) =
+    λ d. let z = zip_at (λ (u : ℕ × Parts) (k : KeptProgram). KeepsProgram k u.1) units index.programs one.place one.unit d is.programs
+    one.within in
+    (subst (λ (u : ℕ × Parts). KeepsProgram (get_or index.programs one.place d) u.1) (one.unit_at one.unit) z.0, z.1) in
     record {
       place = one.place;
       unit = one.unit.1;
@@ -90,21 +91,22 @@ pub same_place : (units : List ℕ) (unit place found : ℕ) → Some place ≡ 
 same_place units unit place found p q = same_Some place found (p ∙ sym q)
 
 -- they come where the unit's program keeps the sequence
-pub rows_come : (kept : Kept) (unit : Parts) (index : ℕ) (rows : List Row) (found : Option SequenceWalk) → Keeps kept unit
+pub rows_come : (kept : KeptProgram) (unit : Parts) (index : ℕ) (rows : List Row) (found : Option SequenceWalk) → KeepsProgram kept unit
     → index < length (sequences unit)
     → ((d : Sequence) → rows ≡ (get_or (sequences unit) index d).rows) → IfNone found (length kept.places ≤ index)
-    → IfSome found (λ walk. (unit : Parts) (d : Sequence) → Keeps kept unit → WillGive (get_or (sequences unit) index d).rows walk)
+    → IfSome found (λ walk. (unit : Parts) (d : Sequence) → KeepsProgram kept unit → WillGive (get_or (sequences unit) index d).rows walk)
     → IsSomeAnd found (WillGive rows)
 rows_come kept unit index rows None keeps few are none some = absurd (omega (arith, none, keeps.count, few))
 rows_come kept unit index rows (Some walk) keeps few are none some =
     let d : Sequence = record { rows = [] } in
     subst (λ (list : List Row). WillGive list walk) (sym (are d)) (some unit d keeps)
 
-room_at : (programs : List Kept) (k : ℕ) (d : Kept) → k < length programs → length (get_or programs k d).program < room_of programs
+room_at : (programs : List KeptProgram) (k : ℕ) (d : KeptProgram) → k < length programs
+    → length (get_or programs k d).program < room_of programs
 room_at [] k d few = absurd (omega arith)
 room_at (kept ∷ programs) zero d few = omega (arith, room_some programs)
   where
-    room_some : (list : List Kept) → 0 < room_of list
+    room_some : (list : List KeptProgram) → 0 < room_of list
     room_some [] = omega arith
     room_some (first ∷ list) = omega (arith, room_some list)
 room_at (kept ∷ programs) (suc k) d few = omega (arith, room_at programs k d (omega arith))
@@ -116,17 +118,17 @@ left_at_most walk = by_end walk.ended
     by_end true = omega arith
     by_end false = omega arith
 
-pub rows_few : (programs : List Kept) (place : ℕ) (kept : Kept) (found : Option SequenceWalk) → place < length programs
+pub rows_few : (programs : List KeptProgram) (place : ℕ) (kept : KeptProgram) (found : Option SequenceWalk) → place < length programs
     → kept ≡ get_or programs place kept
     → IfSome found (λ walk. length walk.walk.at.rest ≤ length kept.program) → IfSome found (λ walk. rows_left walk < room_of programs)
 rows_few programs place kept None few is left = tt
 rows_few programs place kept (Some walk) few is left =
-    omega (arith, left, left_at_most walk, room_at programs place kept few, ap (λ (k : Kept). length k.program) is)
+    omega (arith, left, left_at_most walk, room_at programs place kept few, ap (λ (k : KeptProgram). length k.program) is)
 
 -- ---- tables and files
 
-pub usable_at : (line general : List ℕ) (units : List (ℕ × Parts)) (programs : List Kept) (k : ℕ) (d : Kept)
-    → AllZip (λ (unit : ℕ × Parts) (kept : Kept). Keeps kept unit.1) units programs
+pub usable_at : (line general : List ℕ) (units : List (ℕ × Parts)) (programs : List KeptProgram) (k : ℕ) (d : KeptProgram)
+    → AllZip (λ (unit : ℕ × Parts) (kept : KeptProgram). KeepsProgram kept unit.1) units programs
     → AllByRecursion (λ (unit : ℕ × Parts). AreUsableTables line general unit.1.header) units → k < length programs
     → AreUsableTables line general (get_or programs k d).header
 usable_at line general [] [] k d keeps usable few = absurd (omega arith)
@@ -138,9 +140,9 @@ usable_at line general (unit ∷ units) (kept ∷ programs) (suc k) d keeps usab
     usable_at line general units programs k d keeps.1 usable.1 (omega arith)
 
 -- the files of programs are those of the units
-pub files_zip : (line general : List ℕ) (units : List (ℕ × Parts)) (programs : List Kept) (files : List (List KeptFile))
-    → AllZip (λ (unit : ℕ × Parts) (kept : Kept). Keeps kept unit.1) units programs
-    → AllZip (λ (kept : Kept) (some : List KeptFile). AreFilesOf line general kept.header some) programs files
+pub files_zip : (line general : List ℕ) (units : List (ℕ × Parts)) (programs : List KeptProgram) (files : List (List KeptFile))
+    → AllZip (λ (unit : ℕ × Parts) (kept : KeptProgram). KeepsProgram kept unit.1) units programs
+    → AllZip (λ (kept : KeptProgram) (some : List KeptFile). AreFilesOf line general kept.header some) programs files
     → AllZip (λ (unit : ℕ × Parts) (some : List KeptFile). AreFilesOf line general unit.1.header some) units files
 files_zip line general [] [] [] keeps are = tt
 files_zip line general [] [] (some ∷ files) keeps are = absurd are

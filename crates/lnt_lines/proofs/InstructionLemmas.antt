@@ -12,14 +12,14 @@ use Rattle.lnt_unit.specs.declared.unit.Parts.{Parts}
 use Rattle.lnt_machine.specs.declared.row.Row.{Row}
 use Rattle.lnt_machine.specs.Matrix.{row_made, rows, rows_after}
 use Rattle.lnt_machine.specs.Registers.{advances, op_index}
-use Rattle.lnt_machine.specs.Walking.{Keeps, Kept}
+use Rattle.lnt_machine.specs.Walking.{KeepsProgram, KeptProgram}
 use Rattle.lnt_machine.proofs.SequenceLaws.{each_cut}
 use Rattle.lnt_spans.specs.declared.span.Span.{Span}
 use Rattle.lnt_sequences.specs.RowSpans.{spans_of}
 use Rattle.lnt_sequences.specs.Sequences.{kept_sequences}
 use Rattle.lnt_sequences.proofs.EachLaws.{each_kept_span, EachIn}
 use Rattle.lnt_lines.specs.Indexed.{Indexed, IsIndexOf}
-use Rattle.lnt_lines.specs.Instructions.{IsOfInstructions}
+use Rattle.lnt_spans.specs.Instructions.{IsOfInstructions}
 use Rattle.lnt_lines.specs.Stepping.{HasOneOperation}
 
 -- ---- rows
@@ -50,7 +50,7 @@ all_made h back (op ∷ ops) one = one_made h back op (rows_after h (op ∷ back
 abbrev IsAny : ℕ → Type 0
 IsAny offset = Unit {0}
 
-of_units : (units : List (ℕ × Parts)) (programs : List Kept) → AllZip (λ unit kept. Keeps kept unit.1) units programs
+of_units : (units : List (ℕ × Parts)) (programs : List KeptProgram) → AllZip (λ unit kept. KeepsProgram kept unit.1) units programs
     → AllByRecursion HasOneOperation programs → AllByRecursion (EachIn IsAny IsFirst) units
 of_units [] programs keeps one = tt
 of_units (unit ∷ units) [] keeps one = absurd keeps

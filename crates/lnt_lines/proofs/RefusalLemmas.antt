@@ -3,7 +3,7 @@ use Rattle.std.proofs.Common.{◌≢◌, ℕ, List, sym, subst}
 use Rattle.std.specs.Prelude.{Option}
 use Rattle.lnt_wire.specs.declared.fault.Fault.{Fault}
 use Rattle.lnt_wire.specs.declared.fault.Reason.TheVariants.{Memory}
-use Rattle.lnt_stream.specs.Units.{UnitBytes}
+use Rattle.lnt_stream.specs.Units.{BufferedUnit}
 use Rattle.lnt_unit.specs.BrokenUnits.{BrokenUnit}
 use Rattle.lnt_lines.specs.declared.refusal.Refusal.{Refusal}
 use Rattle.lnt_lines.specs.Judging.{IsUnitRefusal}
@@ -11,7 +11,7 @@ use Rattle.lnt_lines.specs.Refusals.{IsFaultRefusal}
 use Rattle.lnt_lines.specs.Refusals.IsFaultRefusal.{malformed, memory}
 
 -- bytes that are no unit's
-pub fault_refused : (text general : List ℕ) (dead : Option ℕ) (buffer : UnitBytes) (fault : Fault) (refusal : Refusal)
+pub fault_refused : (text general : List ℕ) (dead : Option ℕ) (buffer : BufferedUnit) (fault : Fault) (refusal : Refusal)
     → IsFaultRefusal fault refusal
     → (fault.reason ≢ Memory → BrokenUnit buffer.order fault buffer.offset buffer.bytes) → IsUnitRefusal text general dead buffer refusal
 fault_refused text general dead buffer fault refusal (memory is e) b = subst (IsUnitRefusal text general dead buffer) (sym e) tt

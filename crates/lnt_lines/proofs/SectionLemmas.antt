@@ -15,7 +15,7 @@ use Rattle.lnt_wire.specs.declared.stop.Stop.TheVariants as stops
 use Rattle.lnt_stream.specs.declared.stop.SectionStop.{SectionStop}
 use Rattle.lnt_stream.specs.declared.stop.SectionStop.TheVariants as section
 use Rattle.lnt_stream.specs.Stops.{IfFault}
-use Rattle.lnt_stream.specs.Units.{IsNextUnit, IsWholeUnit, SectionEndsBy, UnitBytes}
+use Rattle.lnt_stream.specs.Units.{IsNextUnit, IsWholeUnit, SectionEndsBy, BufferedUnit}
 use Rattle.lnt_unit.specs.declared.unit.Parts.{Parts}
 use Rattle.lnt_unit.specs.BrokenUnits.{BrokenUnit, IsTrueFault}
 use Rattle.lnt_unit.proofs.BrokenLaws.{frame_broken}
@@ -52,7 +52,7 @@ pub record JudgedSoFar (text general : List ℕ) (options : Options) (old now : 
   pub draft_is : IsDraftOf text general options.dead units draft
 
 pub judged_more : (text general : List ℕ) (options : Options) (old now now' : Option (List ℕ)) (order : Order) (offset offset' : ℕ)
-    (buffer : UnitBytes) (draft draft' : Draft)
+    (buffer : BufferedUnit) (draft draft' : Draft)
     → JudgedSoFar text general options old now offset draft → order ≡ options.order → IsNextUnit offset order now now' buffer
     → offset' ≡ offset + length buffer.bytes
     → HasAdded text general options.dead buffer draft draft' → JudgedSoFar text general options old now' offset' draft'
@@ -82,7 +82,7 @@ frame_is_some order frame bytes f = omega (
 
 -- the unit after the sound ones has the flaw
 first_flaw : (text general : List ℕ) (options : Options) (old now : Option (List ℕ)) (bytes rest : List ℕ) (offset : ℕ) (draft : Draft)
-    (buffer : UnitBytes) (reason : No)
+    (buffer : BufferedUnit) (reason : No)
     → (so_far : JudgedSoFar text general options old now offset draft) → buffer.offset ≡ offset → buffer.order ≡ options.order
     → bytes ≡ so_far.front ++ (buffer.bytes ++ rest)
     → HasFlaw text general options.dead buffer reason → IsFirstFlaw text general options bytes reason
@@ -120,7 +120,7 @@ malformed text general options old now bytes rest offset draft fault so_far whol
     record { broken = record { none = no_section options.order fault bytes t; true_fault = t }; sound = so_far.draft_is.sound }
 
 malformed_in : (text general : List ℕ) (options : Options) (old now : Option (List ℕ)) (bytes rest : List ℕ) (offset : ℕ) (draft : Draft)
-    (buffer : UnitBytes) (fault : Fault)
+    (buffer : BufferedUnit) (fault : Fault)
     → (so_far : JudgedSoFar text general options old now offset draft) → IsWholeUnit buffer → buffer.offset ≡ offset
     → buffer.order ≡ options.order → bytes ≡ so_far.front ++ (buffer.bytes ++ rest)
     → BrokenUnit buffer.order fault buffer.offset buffer.bytes → IsMalformed text general options bytes fault
@@ -134,7 +134,7 @@ malformed_in text general options old now bytes rest offset draft buffer fault s
     (omega (arith, length-append buffer.bytes rest, frame_is_some buffer.order (is.format, is.body) buffer.bytes is.spelled)) here
 
 refused : (text general : List ℕ) (options : Options) (old now : Option (List ℕ)) (bytes rest : List ℕ) (offset : ℕ) (draft : Draft)
-    (buffer : UnitBytes) (reason : No)
+    (buffer : BufferedUnit) (reason : No)
     → (so_far : JudgedSoFar text general options old now offset draft) → IsWholeUnit buffer → buffer.offset ≡ offset
     → buffer.order ≡ options.order → bytes ≡ so_far.front ++ (buffer.bytes ++ rest)
     → IsUnitNo text general options.dead buffer reason → IsTrueNo text general options bytes reason
@@ -156,7 +156,7 @@ refused text general options old now bytes rest offset draft buffer (bad.Falls u
     first_flaw text general options old now bytes rest offset draft buffer (bad.Falls unit row) so_far at same whole h
 
 pub unit_refused : (text general : List ℕ) (options : Options) (old now now' : Option (List ℕ)) (order : Order) (offset : ℕ)
-    (buffer : UnitBytes) (draft : Draft) (told : Refusal)
+    (buffer : BufferedUnit) (draft : Draft) (told : Refusal)
     → JudgedSoFar text general options old now offset draft → order ≡ options.order → IsNextUnit offset order now now' buffer
     → IsUnitRefusal text general options.dead buffer told
     → IfSome old (λ bytes. IsRefusal text general options bytes told)

@@ -4,7 +4,7 @@ use Rattle.std.specs.List.{AllZip}
 use Rattle.std.specs.List.Sorted.{IsPermutation}
 use Rattle.lnt_unit.specs.declared.unit.Parts.{Parts}
 use Rattle.lnt_machine.specs.declared.row.Row.{Row}
-use Rattle.lnt_machine.specs.Walking.{Kept, SequenceWalk}
+use Rattle.lnt_machine.specs.Walking.{KeptProgram, SequenceWalk}
 use Rattle.lnt_spans.specs.declared.position.Position.{Position}
 use Rattle.lnt_spans.specs.declared.span.Span.{Span}
 use Rattle.lnt_spans.specs.Fitting.{FitSpans}
@@ -20,7 +20,7 @@ use Rattle.lnt_lines.specs.Indexed.{IsSequenceIn}
 -- unit at an offset, with its last row so far
 pub record Cursor : Type 0 where
   pub units : List ℕ
-  pub programs : List Kept
+  pub programs : List KeptProgram
   pub entries : List Extent
   pub unit : ℕ
   pub rows : Option SequenceWalk
@@ -60,7 +60,7 @@ pub record GivesAllOf (dead : Option ℕ) (skip : Bool) (units : List (ℕ × Pa
 -- ---- how many there are at most
 
 -- more than the bytes of any of the programs
-abbrev pub room_of : List Kept → ℕ
+abbrev pub room_of : List KeptProgram → ℕ
 room_of [] = 1
 room_of (kept ∷ programs) = length kept.program + room_of programs
 

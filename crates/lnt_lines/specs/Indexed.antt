@@ -10,7 +10,7 @@ use Rattle.lnt_unit.specs.declared.unit.Parts.{Parts}
 use Rattle.lnt_machine.specs.declared.row.Row.{Row}
 use Rattle.lnt_machine.specs.declared.row.Sequence.{Sequence}
 use Rattle.lnt_machine.specs.Matrix.{sequences}
-use Rattle.lnt_machine.specs.Walking.{Keeps, Kept}
+use Rattle.lnt_machine.specs.Walking.{KeepsProgram, KeptProgram}
 use Rattle.lnt_files.specs.Paths.{listed_sum, path_bytes}
 use Rattle.lnt_files.specs.Tables.{AreUsableTables}
 use Rattle.lnt_sequences.specs.declared.extent.Extent.{Extent}
@@ -27,7 +27,7 @@ pub record Indexed : Type 0 where
   pub general : List ℕ
   pub entries : List Extent
   pub units : List ℕ
-  pub programs : List Kept
+  pub programs : List KeptProgram
 
 -- The index is that of the kept sequences of these units, no two of which hold one position. Positions fall in no live sequence.
 -- The units stand in order, and the tables of each are usable.
@@ -38,7 +38,7 @@ pub record IsIndexOf (dead : Option ℕ) (skip : Bool) (units : List (ℕ × Par
   pub ordered : AreOrdered (live_sequences dead units)
   pub rising : AreRising index.units
   pub offsets : index.units ≡ map (λ unit. unit.0) units
-  pub programs : AllZip (λ unit kept. Keeps kept unit.1) units index.programs
+  pub programs : AllZip (λ unit kept. KeepsProgram kept unit.1) units index.programs
   pub tables : AllByRecursion (λ unit. AreUsableTables index.line index.general unit.1.header) units
 
 -- It is that of some units, and the numbers of their headers are such as can be read.
@@ -76,11 +76,11 @@ file_sum_in index unit file = option_and_then (λ header. listed_sum header file
 -- ---- one sequence
 
 -- The sequence with this id has these rows: of these units and their programs.
-pub record IsSequenceIn (units : List ℕ) (programs : List Kept) (id : SeqId) (rows : List Row) : Type 0 where
+pub record IsSequenceIn (units : List ℕ) (programs : List KeptProgram) (id : SeqId) (rows : List Row) : Type 0 where
   pub place : ℕ
   pub unit : Parts
   pub place_is : Some place ≡ position (λ offset. offset == id.unit) units
   pub within : place < length programs
-  pub keeps : (d : Kept) → Keeps (get_or programs place d) unit
+  pub keeps : (d : KeptProgram) → KeepsProgram (get_or programs place d) unit
   pub few : id.index < length (sequences unit)
   pub rows_are : (d : Sequence) → rows ≡ (get_or (sequences unit) id.index d).rows

@@ -4,14 +4,14 @@
 --     dead            the address at which sequences of dead code begin, where one is given
 use Rattle.std.specs.Prelude.{◌≡◌, ℕ, List, [], ◌∷◌, ◌++◌, length, drop, Option}
 use Rattle.lnt_wire.specs.declared.fault.Fault.{Fault}
-use Rattle.lnt_stream.specs.Units.{UnitBytes}
+use Rattle.lnt_stream.specs.Units.{BufferedUnit}
 use Rattle.lnt_unit.specs.declared.unit.Parts.{Parts}
 use Rattle.lnt_unit.specs.BrokenUnits.{BrokenUnit}
 use Rattle.lnt_unit.specs.UnitBytes.{UnitBytesIn}
 use Rattle.lnt_unit.specs.Views.{HasCount, View}
 use Rattle.lnt_machine.specs.declared.fault.RunFault.{RunFault}
 use Rattle.lnt_machine.specs.Matrix.{rows, Runs}
-use Rattle.lnt_machine.specs.Walking.{Keeps, Kept}
+use Rattle.lnt_machine.specs.Walking.{KeepsProgram, KeptProgram}
 use Rattle.lnt_sequences.specs.declared.collected.Collected.{Collected}
 use Rattle.lnt_sequences.specs.declared.watch.Watch.{Watch}
 use Rattle.lnt_sequences.specs.Sequences.{live_sequences, Placed}
@@ -26,28 +26,28 @@ use Rattle.lnt_lines.specs.Good.{IsSoundUnit}
 use Rattle.lnt_lines.specs.Nos.{IsFlaw}
 
 -- The bytes of the buffer are those of a unit with this flaw.
-pub record HasFlaw (line general : List ℕ) (dead : Option ℕ) (buffer : UnitBytes) (reason : No) : Type 0 where
+pub record HasFlaw (line general : List ℕ) (dead : Option ℕ) (buffer : BufferedUnit) (reason : No) : Type 0 where
   pub unit : Parts
   pub spelled : UnitBytesIn buffer.order unit buffer.bytes
   pub flaw : IsFlaw line general dead (buffer.offset, unit) reason
 
 -- What is told of the unit in the buffer is so.
-abbrev pub IsUnitNo : List ℕ → List ℕ → Option ℕ → UnitBytes → No → Type 0
+abbrev pub IsUnitNo : List ℕ → List ℕ → Option ℕ → BufferedUnit → No → Type 0
 IsUnitNo line general dead buffer (no.Malformed fault) = BrokenUnit buffer.order fault buffer.offset buffer.bytes
 IsUnitNo line general dead buffer other = HasFlaw line general dead buffer other
 
 -- A unit is refused for what is wrong with it, or for want of memory.
-abbrev pub IsUnitRefusal : List ℕ → List ℕ → Option ℕ → UnitBytes → Refusal → Type 0
+abbrev pub IsUnitRefusal : List ℕ → List ℕ → Option ℕ → BufferedUnit → Refusal → Type 0
 IsUnitRefusal line general dead buffer (refusal.No reason) = IsUnitNo line general dead buffer reason
 IsUnitRefusal line general dead buffer (refusal.Stop stop.Memory) = Unit {0}
 IsUnitRefusal line general dead buffer (refusal.Stop _) = ⊥
 
 -- What is told where an operation leads out of the range of lines: the fault, where the bytes are those of a unit, and
 -- else why they aren't.
-pub data IsTold (view : View) (unit : ℕ) (fault : RunFault) (told : Refusal) : Type 0 where
-  of_unit : (count : ℕ) → HasCount view count → told ≡ refusal.No (no.Run unit fault) → IsTold view unit fault told
+pub data IsRefusalOfRun (view : View) (unit : ℕ) (fault : RunFault) (told : Refusal) : Type 0 where
+  of_unit : (count : ℕ) → HasCount view count → told ≡ refusal.No (no.Run unit fault) → IsRefusalOfRun view unit fault told
   broken : (first : Fault) → BrokenUnit view.unit.order first view.unit.offset view.unit.bytes → told ≡ refusal.No (no.Malformed first)
-      → IsTold view unit fault told
+      → IsRefusalOfRun view unit fault told
 
 -- The program of the unit ran to its end, all of its rows were seen, and these are the places of its sequences.
 pub record HasRun (dead : Option ℕ) (view : View) (places : List ℕ) (old new : Collected) (watch : Watch) : Type 0 where
@@ -57,18 +57,19 @@ pub record HasRun (dead : Option ℕ) (view : View) (places : List ℕ) (old new
   pub runs : Runs unit
   pub seen : HasSeenAll dead view.unit.offset (length unit.header.files) watch (rows unit)
   pub collects : (sequences : List Placed) → Collects old sequences → CollectsRows dead view.unit.offset new sequences (rows unit)
-  pub kept : Keeps (record { header = view.header; program = view.program; places = places }) unit
+  pub kept : KeepsProgram (record { header = view.header; program = view.program; places = places }) unit
 
 -- what is kept of the unit in the buffer: its program goes to the end of the bytes
-abbrev pub kept_of : UnitBytes → SoundUnit → Kept
-kept_of buffer unit = record { header = unit.header; program = drop unit.start buffer.bytes; places = unit.places.items }
+abbrev pub kept_program_of : BufferedUnit → SoundUnit → KeptProgram
+kept_program_of buffer unit = record { header = unit.header; program = drop unit.start buffer.bytes; places = unit.places.items }
 
 -- The bytes of the buffer are those of a sound unit, whose program is kept. What its live sequences hold was collected.
-pub record IsJudgedSound (line general : List ℕ) (dead : Option ℕ) (buffer : UnitBytes) (old new : Collected) (kept : Kept) : Type 0 where
+pub record IsJudgedSound (line general : List ℕ) (dead : Option ℕ) (buffer : BufferedUnit) (old new : Collected)
+    (kept : KeptProgram) : Type 0 where
   pub unit : Parts
   pub spelled : UnitBytesIn buffer.order unit buffer.bytes
   pub sound : IsSoundUnit line general dead (buffer.offset, unit)
-  pub keeps : Keeps kept unit
+  pub keeps : KeepsProgram kept unit
   pub collects : (units : List (ℕ × Parts)) → Collects old (live_sequences dead units)
       → Collects new (live_sequences dead (units ++ (buffer.offset, unit) ∷ []))
 

@@ -4,7 +4,6 @@ pub mod Drafts
 pub mod FaultTexts
 pub mod Good
 pub mod Indexed
-pub mod Instructions
 pub mod Judging
 pub mod Laws
 pub mod Nos

@@ -24,7 +24,7 @@ use Rattle.lnt_lines.specs.declared.refusal.Refusal.{Refusal}
 use Rattle.lnt_lines.specs.declared.refusal.Refusal.TheVariants as refusal
 use Rattle.lnt_lines.specs.declared.run.Watched.{Watched}
 use Rattle.lnt_wire.specs.declared.stop.Stop.TheVariants as stop
-use Rattle.lnt_lines.specs.Judging.{IsTold}
+use Rattle.lnt_lines.specs.Judging.{IsRefusalOfRun}
 
 -- What was run so far: the operations that the walk has given, whose rows the watch has seen. Of each sequence that has ended the
 -- place where it begins in the program is known. The machine's header needn't list the unit's files, so their number is given: files.
@@ -60,10 +60,10 @@ abbrev pub HasRoom : View → Watched → Type 0
 HasRoom view watched = (view.place + length view.program < 2 ^ 64) × (watched.length ≡ length view.program)
 
 -- Whatever was run so far, it goes on by an operation that the walk gives, after which so many bytes are left.
-abbrev pub GoesOn : OpView → ℕ → Watched → Watched → Collected → Collected → List ℕ → List ℕ → Type 0
-GoesOn item left watched watched' now now' places places' =
+abbrev pub RunsOnBy : OpView → ℕ → Watched → Watched → Collected → Collected → List ℕ → List ℕ → Type 0
+RunsOnBy item left watched watched' now now' places places' =
     (dead : Option ℕ) (view : View) (files : ℕ) (old : Collected) (walk walk' : Walk)
-    → RunsSoFar dead view files watched old now walk places → walks.Steps item walk walk'
+    → RunsSoFar dead view files watched old now walk places → walks.GivesOperation item walk walk'
     → HasRoom view watched → left ≡ length walk'.at.rest
     → RunsSoFar dead view files watched' old now' walk' places'
 
@@ -85,7 +85,7 @@ pub record IsOut (dead : Option ℕ) (view : View) (files : ℕ) (old : Collecte
   pub place : ℕ
   pub item : OpView
   pub ran : RanSoFar dead view files old now walk run watch places place
-  pub step : walks.Steps item walk after
+  pub step : walks.GivesOperation item walk after
   pub leaves : LeavesRange item run.machine
   pub fault_is : fault ≡ LineOutOfRange run.machine.count
 
@@ -95,7 +95,7 @@ abbrev pub StopsAt : OpView → Watched → Collected → List ℕ → RunFault 
 StopsAt item watched now places fault =
     fault ≢ Memory → (dead : Option ℕ) (view : View) (files : ℕ) (old : Collected) (walk walk' : Walk)
     → RunsSoFar dead view files watched old now walk places
-    → walks.Steps item walk walk' → IsOut dead view files old fault
+    → walks.GivesOperation item walk walk' → IsOut dead view files old fault
 
 abbrev pub StopsAfter : Walk → Watched → Collected → List ℕ → RunFault → Type 0
 StopsAfter walk watched now places fault =
@@ -106,4 +106,4 @@ StopsAfter walk watched now places fault =
 -- What is told for the fault of a program.
 abbrev pub IsRefusedFor : View → ℕ → RunFault → Refusal → Type 0
 IsRefusedFor view unit Memory told = told ≡ refusal.Stop stop.Memory
-IsRefusedFor view unit fault told = IsTold view unit fault told
+IsRefusedFor view unit fault told = IsRefusalOfRun view unit fault told

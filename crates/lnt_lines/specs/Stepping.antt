@@ -2,10 +2,10 @@
 use Rattle.std.specs.Prelude.{◌≡◌, ℕ, List, [], ◌∷◌, ◌++◌, map, IfSome, Option, Some, None}
 use Rattle.std.specs.List.{AllByRecursion, AllZip}
 use Rattle.lnt_header.specs.HeaderRules.{HasHeaderNumbers}
-use Rattle.lnt_stream.specs.Units.{UnitBytes}
+use Rattle.lnt_stream.specs.Units.{BufferedUnit}
 use Rattle.lnt_unit.specs.declared.unit.Parts.{Parts}
 use Rattle.lnt_unit.specs.UnitBytes.{SectionBytes, UnitBytesIn}
-use Rattle.lnt_machine.specs.Walking.{Keeps, Kept}
+use Rattle.lnt_machine.specs.Walking.{KeepsProgram, KeptProgram}
 use Rattle.lnt_sequences.specs.Rules.{AreDistinct}
 use Rattle.lnt_sequences.specs.Sequences.{live_sequences}
 use Rattle.lnt_sequences.specs.Watching.{Collects}
@@ -17,7 +17,7 @@ use Rattle.lnt_lines.specs.Contents.{AreRising}
 use Rattle.lnt_lines.specs.Good.{IsSoundUnit}
 use Rattle.lnt_lines.specs.Nos.{IsTrueNo}
 use Rattle.lnt_spans.specs.declared.span.Span.{Span}
-use Rattle.lnt_spans.specs.Coming.{GivesFirst}
+use Rattle.lnt_spans.specs.Coming.{GivesFirstSpan}
 use Rattle.lnt_lines.specs.Cursors.{Cursor, ComeLater, AreToCome}
 
 -- The draft is of these units, all of which are sound.
@@ -25,7 +25,7 @@ pub record IsDraftOf (line general : List ℕ) (dead : Option ℕ) (units : List
   pub sound : AllByRecursion (IsSoundUnit line general dead) units
   pub collects : Collects draft.collected (live_sequences dead units)
   pub offsets : draft.units.items ≡ map (λ unit. unit.0) units
-  pub programs : AllZip (λ unit kept. Keeps kept unit.1) units draft.programs.items
+  pub programs : AllZip (λ unit kept. KeepsProgram kept unit.1) units draft.programs.items
 
 -- The draft is of some units that stand in order, with different sequences, and with headers whose numbers are such as can be read.
 pub record IsWholeDraft (line general : List ℕ) (draft : Draft) : Type 0 where
@@ -45,7 +45,7 @@ pub record IsDraftOfSection (line general : List ℕ) (options : Options) (secti
   pub draft_is : IsDraftOf line general options.dead units draft
 
 -- One more unit is in the draft: that whose bytes are in the buffer.
-pub record HasAdded (line general : List ℕ) (dead : Option ℕ) (buffer : UnitBytes) (old new : Draft) : Type 0 where
+pub record HasAdded (line general : List ℕ) (dead : Option ℕ) (buffer : BufferedUnit) (old new : Draft) : Type 0 where
   pub unit : Parts
   pub spelled : UnitBytesIn buffer.order unit buffer.bytes
   pub drafts : (units : List (ℕ × Parts)) → IsDraftOf line general dead units old
@@ -62,10 +62,10 @@ IsRefusal line general options section (refusal.Stop stop) = Unit {0}
 -- sequences that weren't begun.
 abbrev pub GivesHere : Cursor → List Span → Option Span → Type 0
 GivesHere new spans None = ComeLater spans new
-GivesHere new spans (Some given) = GivesFirst (AreToCome new) spans (Some given)
+GivesHere new spans (Some given) = GivesFirstSpan (AreToCome new) spans (Some given)
 
 -- ---- instructions of one operation
 
 -- no instruction of the program has more than one operation
-abbrev pub HasOneOperation : Kept → Type 0
+abbrev pub HasOneOperation : KeptProgram → Type 0
 HasOneOperation kept = kept.header.max_ops ≡ 1

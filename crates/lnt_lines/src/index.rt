@@ -16,7 +16,7 @@ ghost use Rattle.lnt_spans.specs.declared.span.Span.{Span};
 ghost use Rattle.lnt_lines.specs.Contents.{AreRising, TellsOf};
 ghost use Rattle.lnt_lines.specs.Cursors.{GivesAllOf, room_of};
 ghost use Rattle.lnt_lines.specs.Indexed.{IsIndex, IsIndexOf, IsSequenceIn, file_count_in, file_path_in, file_sum_in, header_in};
-ghost use Rattle.lnt_lines.specs.Instructions.{IsOfInstructions};
+ghost use Rattle.lnt_spans.specs.Instructions.{IsOfInstructions};
 ghost use Rattle.lnt_lines.specs.Stepping.{HasOneOperation};
 
 use crate::lines::place_of;

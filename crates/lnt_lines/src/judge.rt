@@ -1,7 +1,7 @@
 //! One unit, judged.
 ghost use Rattle.std.specs.Prelude.{◌≡◌, ◌≤◌, length, IfOk, IfErr, MatchOption};
 ghost use Rattle.lnt_files.specs.Tables.{AreUsableTables, IsTablesFault};
-ghost use Rattle.lnt_lines.specs.Judging.{IsFlawedRun, IsJudgedSound, IsSoundRun, IsUnitRefusal, kept_of};
+ghost use Rattle.lnt_lines.specs.Judging.{IsFlawedRun, IsJudgedSound, IsSoundRun, IsUnitRefusal, kept_program_of};
 ghost use Rattle.lnt_lines.specs.Refusals.{table_no};
 
 use crate::no::No;
@@ -39,7 +39,7 @@ pub(crate) fn judge_unit(
     other: Option<&KeptHeader>,
 ) -> Result<SoundUnit, Refusal>
     ensures sound { IfOk result (λ unit. IsJudgedSound ends.now.line ends.now.general dead buffer.now collected.old collected.new
-        (kept_of buffer.now unit)) }
+        (kept_program_of buffer.now unit)) }
     ensures within { IfOk result (λ unit. unit.start ≤ length buffer.now.bytes) }
     ensures err { IfErr result (IsUnitRefusal ends.now.line ends.now.general dead buffer.now) }
 {
@@ -101,7 +101,7 @@ fn sound_unit(
     mut places: Vec<usize>,
     other: Option<&KeptHeader>,
 ) -> Result<SoundUnit, AllocError>
-    ensures kept { IfOk result (λ unit. kept_of view.entry.unit unit
+    ensures kept { IfOk result (λ unit. kept_program_of view.entry.unit unit
         ≡ record { header = view.entry.header; program = view.entry.program; places = places.items }) }
     ensures within { IfOk result (λ unit. unit.start ≤ length view.entry.unit.bytes) }
 {

@@ -2,7 +2,7 @@
 ghost use Rattle.std.specs.Prelude.{◌≡◌, ◌<◌, ◌≤◌, ℕ, List, [], None, IfSome, MatchOption, true};
 ghost use Rattle.std.specs.Bool.{MatchBool};
 ghost use Rattle.lnt_spans.specs.declared.span.Span as spec;
-ghost use Rattle.lnt_spans.specs.Coming.{GivesFirst};
+ghost use Rattle.lnt_spans.specs.Coming.{GivesFirstSpan};
 ghost use Rattle.lnt_lines.specs.Contents.{AreRising};
 ghost use Rattle.lnt_lines.specs.Cursors.{AreToCome, ComeLater, most_left, room_for, room_of};
 ghost use Rattle.lnt_lines.specs.Stepping.{GivesHere};

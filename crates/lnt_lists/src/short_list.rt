@@ -1,7 +1,7 @@
 //! Lists that mostly have few values.
 ghost use Rattle.std.specs.Prelude.{◌≡◌, ◌<◌, ◌∷◌, ◌++◌, [], length, IfOk};
 ghost use Rattle.std.specs.Result.{IsOk};
-ghost use Rattle.lnt_lists.specs.ShortLists.{IsKept, listed};
+ghost use Rattle.lnt_lists.specs.ShortLists.{FewAreInPlace, listed};
 
 use std::alloc::{AllocError, Global};
 use std::marker::Model;
@@ -9,7 +9,7 @@ use std::mem;
 
 // The values in order: up to three in place, and more of them in a vector on the heap.
 #[derive(Debug, Drop)]
-enum Kept<T> {
+enum Storage<T> {
     Zero,
     One([T; 1]),
     Two([T; 2]),
@@ -21,18 +21,18 @@ enum Kept<T> {
 /// alone, and not where they are kept.
 #[derive(Debug, Drop)]
 pub struct ShortList<T> {
-    kept: Kept<T>,
+    kept: Storage<T>,
 }
 
 impl<T> Model for ShortList<T> {
     ghost use Rattle.std.specs.Prelude.{List};
-    ghost use Rattle.lnt_lists.specs.ShortLists.{IsKept, listed};
+    ghost use Rattle.lnt_lists.specs.ShortLists.{FewAreInPlace, listed};
 
     ghost Value = { List T };
 
     ghost view = { λ list. listed list.kept };
 
-    ghost invariant = { λ list. IsKept list.kept };
+    ghost invariant = { λ list. FewAreInPlace list.kept };
 }
 
 impl<T> ShortList<T> {
@@ -42,7 +42,7 @@ impl<T> ShortList<T> {
         ensures { result ≡ value ∷ [] }
     {
         ShortList {
-            kept: Kept::One([value]),
+            kept: Storage::One([value]),
         }
     }
 
@@ -52,7 +52,7 @@ impl<T> ShortList<T> {
         ensures { result ≡ first ∷ second ∷ [] }
     {
         ShortList {
-            kept: Kept::Two([first, second]),
+            kept: Storage::Two([first, second]),
         }
     }
 
@@ -62,7 +62,7 @@ impl<T> ShortList<T> {
         ensures { result ≡ first ∷ second ∷ third ∷ [] }
     {
         ShortList {
-            kept: Kept::Three([first, second, third]),
+            kept: Storage::Three([first, second, third]),
         }
     }
 
@@ -71,11 +71,11 @@ impl<T> ShortList<T> {
         ensures { result.now ≡ self.now }
     {
         match &self.kept {
-            Kept::Zero => &[],
-            Kept::One(values) => values,
-            Kept::Two(values) => values,
-            Kept::Three(values) => values,
-            Kept::More(values) => values.as_slice(),
+            Storage::Zero => &[],
+            Storage::One(values) => values,
+            Storage::Two(values) => values,
+            Storage::Three(values) => values,
+            Storage::More(values) => values.as_slice(),
         }
     }
 }
@@ -85,7 +85,7 @@ impl<T: Drop> ShortList<T> {
     pub fn new() -> ShortList<T>
         ensures { result ≡ [] }
     {
-        ShortList { kept: Kept::Zero }
+        ShortList { kept: Storage::Zero }
     }
 
     /// Adds a value at the end. Up to the third it takes no memory, and is never refused.
@@ -104,20 +104,20 @@ impl<T: Drop> ShortList<T> {
 }
 
 // Adds the value after these, and gives them all. After an error all of them are lost.
-fn pushed<T: Drop>(alloc: Global, kept: Kept<T>, value: T) -> Result<Kept<T>, AllocError>
-    requires { IsKept kept }
+fn pushed<T: Drop>(alloc: Global, kept: Storage<T>, value: T) -> Result<Storage<T>, AllocError>
+    requires { FewAreInPlace kept }
     ensures ok { IfOk result (λ more. listed more ≡ listed kept ++ value ∷ []) }
-    ensures is_kept { IfOk result IsKept }
+    ensures is_kept { IfOk result FewAreInPlace }
     ensures short { length (listed kept) < 3 → IsOk result }
 {
     match kept {
-        Kept::Zero => Ok(Kept::One([value])),
-        Kept::One([first]) => Ok(Kept::Two([first, value])),
-        Kept::Two([first, second]) => Ok(Kept::Three([first, second, value])),
-        Kept::Three(three) => Ok(Kept::More(four(alloc, three, value)?)),
-        Kept::More(mut values) => {
+        Storage::Zero => Ok(Storage::One([value])),
+        Storage::One([first]) => Ok(Storage::Two([first, value])),
+        Storage::Two([first, second]) => Ok(Storage::Three([first, second, value])),
+        Storage::Three(three) => Ok(Storage::More(four(alloc, three, value)?)),
+        Storage::More(mut values) => {
             values.push(value)?;
-            Ok(Kept::More(values))
+            Ok(Storage::More(values))
         }
     }
 }

@@ -20,7 +20,7 @@ use Rattle.lnt_machine.specs.declared.row.Sequence.{Sequence}
 use Rattle.lnt_machine.specs.Matrix.{end_row_of, row_made, row_of, rows_after, sequences, sequences_of}
 use Rattle.lnt_machine.specs.Parts.{AtStart, rows_of_ops}
 use Rattle.lnt_machine.specs.Registers.{column, discriminator, file, isa, IsLine, line, registers_after}
-use Rattle.lnt_machine.specs.Walking.{IsPlaceOf, Kept, Keeps, LinesAfter}
+use Rattle.lnt_machine.specs.Walking.{IsPlaceOf, KeptProgram, KeepsProgram, LinesAfter}
 use Rattle.lnt_machine.proofs.PartLaws.{rows_at_start, sequences_of_parts}
 use Rattle.lnt_machine.proofs.SequenceLaws.{each_cut, EachRow}
 use Rattle.lnt_machine.proofs.StepLemmas.{line_bounded}
@@ -185,11 +185,12 @@ fit_from_first unit program place numbers is =
     after_none (first ∷ before) past none fits = absurd (omega arith)
 
 -- the header that is kept has numbers that can be read
-abbrev pub HasNumbers : Kept → Type 0
+abbrev pub HasNumbers : KeptProgram → Type 0
 HasNumbers kept = HasHeaderNumbers kept.header
 
 -- The rows in sequences of a unit whose program is kept fit.
-pub kept_fits : (kept : Kept) (unit : Parts) → HasNumbers kept → Keeps kept unit → AllByRecursion FitsSequence (sequences unit)
+pub kept_fits : (kept : KeptProgram) (unit : Parts) → HasNumbers kept → KeepsProgram kept unit
+    → AllByRecursion FitsSequence (sequences unit)
 kept_fits kept unit numbers keeps = by_first (sequences unit) refl
   where
     by_first : (all : List Sequence) → sequences unit ≡ all → AllByRecursion FitsSequence all

@@ -13,8 +13,8 @@ use Rattle.lnt_machine.specs.Laws.{unit_by_numbers, SameByNumbers}
 use Rattle.lnt_machine.specs.Matrix.{row_of, end_row_of, row_made, rows_after, rows, sequences_of, joined_rows, done}
 use Rattle.lnt_machine.specs.Matrix.{sequences, Runs, IsRunFault}
 use Rattle.lnt_machine.specs.Parts.{first_sequence}
-use Rattle.lnt_machine.specs.Walking.{IsSequencePlace, Kept, Keeps, LinesAfter, WillGive, SequenceWalk}
-use Rattle.lnt_machine.specs.Stepping.{HasPlaces, IsFront}
+use Rattle.lnt_machine.specs.Walking.{IsSequencePlace, KeptProgram, KeepsProgram, LinesAfter, WillGive, SequenceWalk}
+use Rattle.lnt_machine.specs.Stepping.{HasPlaces, IsProgramFront}
 use Rattle.lnt_machine.specs.Registers.{advance_of, advances, moved, base, line_increment, line_sum, line, IsLine, part}
 use Rattle.lnt_machine.specs.Registers.{file, column, isa, discriminator, is_stmt, basic_block, prologue_end}
 use Rattle.lnt_machine.specs.Registers.{epilogue_begin, registers_after}
@@ -184,8 +184,8 @@ place_by_numbers h program earlier later place is =
     }
 
 -- the rows of the sequence with an index, where a walk by the header's numbers gives those from its place on
-pub sequence_by_numbers : (kept : Kept) (numbers : HeaderParts) (unit : Parts) (index place : ℕ) (d : Sequence) (walk : SequenceWalk)
-    → numbers ≡ without_entries kept.header → Keeps kept unit
+pub sequence_by_numbers : (kept : KeptProgram) (numbers : HeaderParts) (unit : Parts) (index place : ℕ) (d : Sequence) (walk : SequenceWalk)
+    → numbers ≡ without_entries kept.header → KeepsProgram kept unit
     → index < length kept.places → slice_index_or kept.places index 0 ≡ place
     → ((earlier later : List Op) → IsSequencePlace numbers kept.program earlier later place
     → WillGive (first_sequence (rows_after numbers (reverse earlier) later)) walk)
@@ -201,8 +201,8 @@ sequence_by_numbers kept numbers unit index place d walk same keeps few at gives
     subst (λ (rows : List Row). WillGive (first_sequence rows) walk) rows_are (gives earlier later begins))
 
 -- a front by the header's numbers is one by the header
-front_by_numbers : (h : HeaderParts) (program : List ℕ) (index place : ℕ) → IsFront (without_entries h) program index place
-    → IsFront h program index place
+front_by_numbers : (h : HeaderParts) (program : List ℕ) (index place : ℕ) → IsProgramFront (without_entries h) program index place
+    → IsProgramFront h program index place
 front_by_numbers h program index place is = record {
   earlier = is.earlier;
   front = is.front;

@@ -13,12 +13,12 @@ use Rattle.lnt_machine.proofs.RowLaws.{cons_option-append, reverse-cons, rows_af
 use Rattle.lnt_machine.specs.Matrix.{onto_first, row_made, rows_after, sequences_of}
 use Rattle.lnt_machine.specs.Parts.{AreWhole, AtStart, first_sequence, rows_of_ops, RowsOfParts}
 use Rattle.lnt_machine.specs.Registers.{advance_of, advances, base, part}
-use Rattle.lnt_machine.specs.State.{StandsAfter, State}
+use Rattle.lnt_machine.specs.State.{StandsAfter, MachineState}
 
 -- ---- looking back
 
 -- a machine that stands after no operation stands after any that end with an EndSequence
-pub stands_at_start : (machine : State) (back : List Op) → AtStart back → StandsAfter machine [] → StandsAfter machine back
+pub stands_at_start : (machine : MachineState) (back : List Op) → AtStart back → StandsAfter machine [] → StandsAfter machine back
 stands_at_start machine [] start stands = stands
 stands_at_start machine (EndSequence ∷ back) start stands = record { registers = stands.registers; line = stands.line }
 stands_at_start machine (op ∷ back) start stands = absurd start

@@ -23,8 +23,8 @@ use Rattle.lnt_machine.proofs.PartLaws.{first_of, rows_at_start, sequences_of_pa
 use Rattle.lnt_machine.specs.Matrix.{done, LinesFit, row_made, rows_after, sequences, sequences_of}
 use Rattle.lnt_machine.specs.Parts.{AtStart, first_sequence, rows_of_ops}
 use Rattle.lnt_machine.specs.Registers.{IsLine, line}
-use Rattle.lnt_machine.specs.Walking.{IsPlaceOf, IsSequencePlace, Kept, Keeps, LinesAfter, SequenceWalk, WillGive}
-use Rattle.lnt_machine.specs.Stepping.{HasPlaces, IsFront}
+use Rattle.lnt_machine.specs.Walking.{IsPlaceOf, IsSequencePlace, KeptProgram, KeepsProgram, LinesAfter, SequenceWalk, WillGive}
+use Rattle.lnt_machine.specs.Stepping.{HasPlaces, IsProgramFront}
 
 -- ---- the rows from a place on
 
@@ -56,7 +56,7 @@ sequence_at unit program index place d is few =
     ∙ ap first_sequence (sym (rows_at_start h (reverse is.earlier) is.later is.place_is.start))
 
 -- the rows of the sequence with an index, where a walk gives those from its place on
-pub kept_sequence : (kept : Kept) (unit : Parts) (index place : ℕ) (d : Sequence) (walk : SequenceWalk) → Keeps kept unit
+pub kept_sequence : (kept : KeptProgram) (unit : Parts) (index place : ℕ) (d : Sequence) (walk : SequenceWalk) → KeepsProgram kept unit
     → index < length kept.places → slice_index_or kept.places index 0 ≡ place
     → ((earlier later : List Op) → IsSequencePlace kept.header kept.program earlier later place
     → WillGive (first_sequence (rows_after kept.header (reverse earlier) later)) walk)
@@ -92,7 +92,7 @@ lines_after h earlier (op ∷ later) fit =
 
 pub place_of_front : (unit : Parts) (program : List ℕ) (index place : ℕ) → IsHeader unit.header
     → Each (OpBytes unit.header) unit.ops program → LinesFit unit (length unit.ops)
-    → IsFront unit.header program index place → IsPlaceOf unit program index place
+    → IsProgramFront unit.header program index place → IsPlaceOf unit program index place
 place_of_front unit program index place valid all fit is =
     let found = place_found unit.header is.earlier unit.ops is.front is.rest program valid is.spelled all is.split in
     record {
@@ -119,18 +119,18 @@ places_none h program = record {
 
 -- the sequence at hand has ended
 pub places_more : (h : HeaderParts) (program : List ℕ) (count : ℕ) (places : List ℕ) (place next : ℕ)
-    → HasPlaces h program count places place → IsFront h program (count + 1) next
+    → HasPlaces h program count places place → IsProgramFront h program (count + 1) next
     → HasPlaces h program (count + 1) (places ++ place ∷ []) next
 places_more h program count places place next has front = record {
   count_is = omega (arith, has.count_is, length-append places (place ∷ []));
   each = λ k d few. elim (cases_lt k (length places)) [
-    | inl earlier ↦ subst (IsFront h program k) (sym (get_or_append_left places (place ∷ []) d k earlier)) (has.each k d earlier)
+    | inl earlier ↦ subst (IsProgramFront h program k) (sym (get_or_append_left places (place ∷ []) d k earlier)) (has.each k d earlier)
     | inr later ↦
         let last : k ≡ length places = omega (arith, length-append places (place ∷ [])) in
         let at : slice_index_or (places ++ place ∷ []) k d ≡ place = ap (λ (i : ℕ). slice_index_or (places ++ place ∷ []) i d) last
         ∙ get_or-append_seam places place [] d in
-        subst (λ (i : ℕ). IsFront h program i (slice_index_or (places ++ place ∷ []) k d)) (sym (last ∙ has.count_is))
-        (subst (IsFront h program count) (sym at) has.next)
+        subst (λ (i : ℕ). IsProgramFront h program i (slice_index_or (places ++ place ∷ []) k d)) (sym (last ∙ has.count_is))
+        (subst (IsProgramFront h program count) (sym at) has.next)
   ];
   next = front;
 }
@@ -138,7 +138,7 @@ places_more h program count places place next has front = record {
 -- whole sequences were read, up to here
 pub front_of : (h : HeaderParts) (start : ℕ) (program : List ℕ) (ops : List Op) (at : At) (count place : ℕ)
     → OpsSoFar h start program ops at → AtStart (reverse ops)
-    → count ≡ length (sequences_of (rows_of_ops h ops)) → place ≡ length program - length at.rest → IsFront h program count place
+    → count ≡ length (sequences_of (rows_of_ops h ops)) → place ≡ length program - length at.rest → IsProgramFront h program count place
 front_of h start program ops at count place so begins count_is place_is = record {
   earlier = ops;
   front = so.front;
@@ -166,7 +166,7 @@ ends_at_start h back op row made ends = absurd (none_is made)
 pub places_kept : (unit : Parts) (header : HeaderParts) (program : List ℕ) (places : List ℕ) (place : ℕ) → IsHeader unit.header
     → header ≡ unit.header → Each (OpBytes unit.header) unit.ops program
     → LinesFit unit (length unit.ops) → HasPlaces unit.header program (length (sequences unit)) places place
-    → Keeps (record { header = header; program = program; places = places }) unit
+    → KeepsProgram (record { header = header; program = program; places = places }) unit
 places_kept unit header program places place valid same all fit has = record {
   header_is = same;
   count = has.count_is;

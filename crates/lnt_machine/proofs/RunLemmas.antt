@@ -8,7 +8,7 @@ use Rattle.lnt_header.specs.declared.op.OpView.{OpView}
 use Rattle.lnt_machine.specs.declared.row.Row.{Row}
 use Rattle.lnt_machine.specs.Matrix.{row_made}
 use Rattle.lnt_machine.specs.Running.{leaves_open, open_with, RunsOn, RunState}
-use Rattle.lnt_machine.specs.State.{State}
+use Rattle.lnt_machine.specs.State.{MachineState}
 use Rattle.lnt_machine.specs.Steps.{Steps}
 
 -- the row of one more operation tells whether rows are left open with it
@@ -23,11 +23,11 @@ pub open_quiet : (before : Bool) (made : Option Row) → ((row : Row) → made �
 open_quiet before None none = refl
 open_quiet before (Some row) none = absurd (none row refl)
 
-abbrev state : State → Bool → RunState
+abbrev state : MachineState → Bool → RunState
 state machine is_open = record { machine = machine; is_open = is_open }
 
 -- the machine stepped, and the row tells whether rows are left open
-pub runs_on : (view : OpView) (run : RunState) (machine machine' : State) (before after : Bool) (row : Option Row)
+pub runs_on : (view : OpView) (run : RunState) (machine machine' : MachineState) (before after : Bool) (row : Option Row)
     → state machine before ≡ run → Steps view machine machine' row → after ≡ open_with before row
     → RunsOn view run (state machine' after) row
 runs_on view run machine machine' before after row e steps open_is =

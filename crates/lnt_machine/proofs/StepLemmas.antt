@@ -17,7 +17,7 @@ use Rattle.lnt_machine.specs.declared.row.Row.{Row}
 use Rattle.lnt_machine.specs.Changes.{changed, Changes, initial_registers, IsAllowed, line_reached, made, plain}
 use Rattle.lnt_machine.specs.Matrix.{row_made}
 use Rattle.lnt_machine.specs.Registers.{IsLine, line, registers_after}
-use Rattle.lnt_machine.specs.State.{IsBounded, StandsAfter, State}
+use Rattle.lnt_machine.specs.State.{IsBounded, StandsAfter, MachineState}
 use Rattle.lnt_machine.specs.Steps.{LeavesRange, Steps}
 use Rattle.lnt_machine.proofs.ChangeLemmas.{changed_after, line_from, line_into, made_after, pow_bytes}
 
@@ -80,13 +80,14 @@ bounded_initial h valid = record { address = pow_pos (8 * h.address_size); op_in
 -- ---- steps
 
 -- the state of a machine
-abbrev state : HeaderParts → Row → ℕ → State
+abbrev state : HeaderParts → Row → ℕ → MachineState
 state h registers count = record { header = h; registers = registers; count = count }
 
-pub step_bounded : (machine : State) (h : HeaderParts) (view : OpView) (old new : Row) (row : Option Row) (m : ℕ) → state h old m ≡ machine
+pub step_bounded : (machine : MachineState) (h : HeaderParts) (view : OpView) (old new : Row) (row : Option Row) (m : ℕ)
+    → state h old m ≡ machine
     → (o : Op) × StandsFor view o × Admits machine.header o → IsBounded h old → Changes h (plain view) old new row → IsBounded h new
 step_bounded machine h view old new row m e (o, w, admits) b c =
-    let a : IsAllowed h (plain view) = allowed h view o w (subst (λ (x : State). Admits x.header o) (sym e) admits) in
+    let a : IsAllowed h (plain view) = allowed h view o w (subst (λ (x : MachineState). Admits x.header o) (sym e) admits) in
     subst (IsBounded h) (sym c.new_is) (bounded_changed h old (plain view) b a c.line)
 
 -- it stands after the operation too
@@ -112,13 +113,14 @@ row_more h view old new row m back op b c s v =
     c.row_is ∙ ap (λ (r : Row). made h r (plain view)) s.registers ∙ made_after h back (plain view) some s.line
     ∙ (does_the_same h back view op v).row
 
-pub steps : (machine : State) (h : HeaderParts) (view : OpView) (old new : Row) (row : Option Row) (m n : ℕ) → state h old m ≡ machine
+pub steps : (machine : MachineState) (h : HeaderParts) (view : OpView) (old new : Row) (row : Option Row) (m n : ℕ)
+    → state h old m ≡ machine
     → (o : Op) × StandsFor view o × Admits machine.header o → IsBounded h old → Changes h (plain view) old new row
     → n ≡ min (m + 1) (2 ^ 64 - 1)
     → Steps view machine (state h new n) row
 steps machine h view old new row m n e (o, w, admits) b c count =
-    let a : IsAllowed h (plain view) = allowed h view o w (subst (λ (x : State). Admits x.header o) (sym e) admits) in
-    subst (λ (x : State). Steps view x (state h new n) row) e (record {
+    let a : IsAllowed h (plain view) = allowed h view o w (subst (λ (x : MachineState). Admits x.header o) (sym e) admits) in
+    subst (λ (x : MachineState). Steps view x (state h new n) row) e (record {
       stands = λ back op s v. stands_more h view old new row m n back op b a c s v;
       row_is = λ back op s v. row_more h view old new row m back op b c s v;
       header = refl;
@@ -133,11 +135,11 @@ refused h view old m back op out s v fits =
     out (subst (λ (r : Row). IsLine (line_reached h r (plain view))) (sym s.registers)
     (line_from h back (plain view) s.line (subst IsLine (sym same.line) fits)))
 
-pub step_refused : (machine : State) (h : HeaderParts) (view : OpView) (old : Row) (m : ℕ) → state h old m ≡ machine
+pub step_refused : (machine : MachineState) (h : HeaderParts) (view : OpView) (old : Row) (m : ℕ) → state h old m ≡ machine
     → (IsLine (line_reached h old (plain view)) → ⊥) → LeavesRange view machine
 step_refused machine h view old m e out = subst (LeavesRange view) e (λ back op s v fits. refused h view old m back op out s v fits)
 
-pub step_in_range : (machine : State) (h : HeaderParts) (view : OpView) (old : Row) (m : ℕ) → state h old m ≡ machine
+pub step_in_range : (machine : MachineState) (h : HeaderParts) (view : OpView) (old : Row) (m : ℕ) → state h old m ≡ machine
     → (IsLine (line_reached h old (plain view)) → ⊥)
     → (back : List Op) (op : Op) → StandsAfter machine back → StandsFor view op → IsLine (line machine.header (op ∷ back)) → false ≡ true
 step_in_range machine h view old m e out back op s v fits = absurd (step_refused machine h view old m e out back op s v fits)

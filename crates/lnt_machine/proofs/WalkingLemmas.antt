@@ -17,26 +17,27 @@ use Rattle.lnt_machine.proofs.PartLaws.{stands_at_start}
 use Rattle.lnt_machine.specs.Matrix.{row_made, rows_after}
 use Rattle.lnt_machine.specs.Parts.{first_sequence}
 use Rattle.lnt_machine.specs.Registers.{IsLine, line}
-use Rattle.lnt_machine.specs.State.{StandsAfter, State}
+use Rattle.lnt_machine.specs.State.{StandsAfter, MachineState}
 use Rattle.lnt_machine.specs.Steps.{LeavesRange, Steps}
-use Rattle.lnt_machine.specs.Walking.{GivesFirst, GivesRow, HasRows, IsSequencePlace, LinesAfter, SequenceWalk, WillGive}
+use Rattle.lnt_machine.specs.Walking.{GivesFirstRow, GivesRow, HasRows, IsSequencePlace, LinesAfter, SequenceWalk, WillGive}
 use Rattle.lnt_machine.specs.Stepping.{GivesNext}
 use Rattle.lnt_machine.specs.Walking.WillGive.{none, some}
 
 -- what the machine may do, where its header is that of the walk
-pub may_step : (view : OpView) (machine : State) (old new : Walk) → machine.header ≡ old.header → walks.Steps view old new → (op : Op)
+pub may_step : (view : OpView) (machine : MachineState) (old new : Walk) → machine.header ≡ old.header
+    → walks.GivesOperation view old new → (op : Op)
     × StandsFor view op × Admits machine.header op
 may_step view machine old new same step =
     (step.gives.op, step.gives.stands, subst (λ (g : HeaderParts). Admits g step.gives.op) (sym same) step.gives.admitted)
 
 -- the rows from the next operation on
-record IsDone (h : HeaderParts) (rows : List Row) (made : Option Row) (machine : State) (walk : Walk) : Type 0 where
+record IsDone (h : HeaderParts) (rows : List Row) (made : Option Row) (machine : MachineState) (walk : Walk) : Type 0 where
   others : List Row
   rows_are : rows ≡ cons_option made others
   has : HasRows h others machine walk
 
-done_one : (h : HeaderParts) (rows : List Row) (view : OpView) (old new : Walk) (machine machine' : State) (made : Option Row)
-    → HasRows h rows machine old → walks.Steps view old new → Steps view machine machine' made → IsDone h rows made machine' new
+done_one : (h : HeaderParts) (rows : List Row) (view : OpView) (old new : Walk) (machine machine' : MachineState) (made : Option Row)
+    → HasRows h rows machine old → walks.GivesOperation view old new → Steps view machine machine' made → IsDone h rows made machine' new
 done_one h rows view old new machine machine' made has step steps =
     let next = left_next h has.later view old new has.valid has.left step in
     let lines : LinesAfter h has.back (next.op ∷ next.others) = subst (LinesAfter h has.back) next.later_is has.lines in
@@ -59,8 +60,9 @@ done_one h rows view old new machine machine' made has step steps =
     }
 
 -- an operation without a row
-pub next_quiet : (h : HeaderParts) (rows : List Row) (view : OpView) (old new : Walk) (machine machine' : State) (made : Option Row)
-    → HasRows h rows machine old → walks.Steps view old new → Steps view machine machine' made → ((row : Row) → made ≡ Some row → ⊥)
+pub next_quiet : (h : HeaderParts) (rows : List Row) (view : OpView) (old new : Walk) (machine machine' : MachineState) (made : Option Row)
+    → HasRows h rows machine old → walks.GivesOperation view old new → Steps view machine machine' made
+    → ((row : Row) → made ≡ Some row → ⊥)
     → HasRows h rows machine' new
 next_quiet h rows view old new machine machine' (Some row) has step steps quiet = absurd (quiet row refl)
 next_quiet h rows view old new machine machine' None has step steps quiet =
@@ -68,9 +70,9 @@ next_quiet h rows view old new machine machine' None has step steps quiet =
     subst (λ (list : List Row). HasRows h list machine' new) (sym one.rows_are) one.has
 
 -- an operation and its row
-pub next_row : (h : HeaderParts) (rows : List Row) (view : OpView) (old new : Walk) (machine machine' : State) (made : Option Row)
+pub next_row : (h : HeaderParts) (rows : List Row) (view : OpView) (old new : Walk) (machine machine' : MachineState) (made : Option Row)
     (row : Row)
-    → HasRows h rows machine old → walks.Steps view old new → Steps view machine machine' made → made ≡ Some row
+    → HasRows h rows machine old → walks.GivesOperation view old new → Steps view machine machine' made → made ≡ Some row
     → GivesNext h rows (Some row) machine' new
 next_row h rows view old new machine machine' made row has step steps is =
     let one = done_one h rows view old new machine machine' made has step steps in
@@ -78,20 +80,20 @@ next_row h rows view old new machine machine' made row has step steps is =
     (sym (one.rows_are ∙ ap (λ (m : Option Row). cons_option m one.others) is)) (refl, one.has)
 
 -- no operation is left
-pub next_ends : (h : HeaderParts) (rows : List Row) (old new : Walk) (machine : State) → HasRows h rows machine old → Ends old new
+pub next_ends : (h : HeaderParts) (rows : List Row) (old new : Walk) (machine : MachineState) → HasRows h rows machine old → Ends old new
     → GivesNext h rows None machine new
 next_ends h rows old new machine has ends =
     let empty : rows ≡ [] = has.rows_are ∙ ap (rows_after h has.back) (left_ends h has.later old new has.left ends) in
     subst (λ (list : List Row). GivesNext h list None machine new) (sym empty) tt
 
 -- no operation is refused
-pub next_fails : (h : HeaderParts) (rows : List Row) (fault : Fault) (old new : Walk) (machine : State) → HasRows h rows machine old
+pub next_fails : (h : HeaderParts) (rows : List Row) (fault : Fault) (old new : Walk) (machine : MachineState) → HasRows h rows machine old
     → Fails fault old new → ⊥
 next_fails h rows fault old new machine has fails = left_fails h has.later fault old new has.left fails
 
 -- no line is out of range
-pub next_out : (h : HeaderParts) (rows : List Row) (view : OpView) (old new : Walk) (machine : State) → HasRows h rows machine old
-    → walks.Steps view old new → LeavesRange view machine → ⊥
+pub next_out : (h : HeaderParts) (rows : List Row) (view : OpView) (old new : Walk) (machine : MachineState) → HasRows h rows machine old
+    → walks.GivesOperation view old new → LeavesRange view machine → ⊥
 next_out h rows view old new machine has step leaves =
     let next = left_next h has.later view old new has.valid has.left step in
     let lines : LinesAfter h has.back (next.op ∷ next.others) = subst (LinesAfter h has.back) next.later_is has.lines in
@@ -107,12 +109,12 @@ ended_by (Some row) = row.end_sequence
 
 gives_by : (h : HeaderParts) (all rows : List Row) (result : Option Row) (new : SequenceWalk) → GivesNext h all result new.machine new.walk
     → new.ended ≡ ended_by result
-    → rows ≡ first_sequence all → GivesFirst rows result new
-gives_by h [] rows None new gives ended are = subst (λ (list : List Row). GivesFirst list None new) (sym are) (none ended refl)
+    → rows ≡ first_sequence all → GivesFirstRow rows result new
+gives_by h [] rows None new gives ended are = subst (λ (list : List Row). GivesFirstRow list None new) (sym are) (none ended refl)
 gives_by h [] rows (Some made) new gives ended are = absurd gives
 gives_by h (row ∷ all) rows None new gives ended are = absurd gives
 gives_by h (row ∷ all) rows (Some made) new gives ended are =
-    subst (λ (list : List Row). GivesFirst list (Some made) new) (sym are)
+    subst (λ (list : List Row). GivesFirstRow list (Some made) new) (sym are)
     (gives.0, by_end row.end_sequence (ended ∙ ap (λ (r : Row). r.end_sequence) gives.0))
   where
     by_end : (t : Bool) → new.ended ≡ t → WillGive (cond t [] (first_sequence all)) new
@@ -125,7 +127,8 @@ pub gives_some : (old new : SequenceWalk) (result : Option Row) → old.ended �
 gives_some old new result going gives ended rows (none e empty) = absurd (true≢false (sym e ∙ going))
 gives_some old new result going gives ended rows (some h all e has are) = gives_by h all rows result new (gives h all has) ended are
 
-pub has_begun : (h : HeaderParts) (program : List ℕ) (earlier later : List Op) (place : ℕ) (machine : State) (walk : Walk) → IsHeader h
+pub has_begun : (h : HeaderParts) (program : List ℕ) (earlier later : List Op) (place : ℕ) (machine : MachineState) (walk : Walk)
+    → IsHeader h
     → IsSequencePlace h program earlier later place
     → machine.header ≡ h → StandsAfter machine [] → walk.header ≡ h → walk.failed ≡ false → walk.at.rest ≡ drop place program
     → HasRows h (rows_after h (reverse earlier) later) machine walk

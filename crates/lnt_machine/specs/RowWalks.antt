@@ -25,7 +25,7 @@ RunsQuietly [] old new = new ≡ old
 RunsQuietly (item ∷ items) old new = (next : RunState) × RunsOn item old next None × RunsQuietly items next new
 
 -- The walk gave some operations, one after another, which were run and made no row.
-pub record Passes (run : RunState) (walk : Walk) (run' : RunState) (walk' : Walk) : Type 0 where
+pub record RunsToRow (run : RunState) (walk : Walk) (run' : RunState) (walk' : Walk) : Type 0 where
   pub items : List OpView
   pub given : GivesEach items walk walk'
   pub quiet : RunsQuietly items run run'
@@ -34,30 +34,30 @@ pub record Passes (run : RunState) (walk : Walk) (run' : RunState) (walk' : Walk
 pub record Makes (row : Row) (run : RunState) (walk : Walk) (run' : RunState) (walk' : Walk) : Type 0 where
   pub run_before : RunState
   pub walk_before : Walk
-  pub passes : Passes run walk run_before walk_before
+  pub passes : RunsToRow run walk run_before walk_before
   pub item : OpView
-  pub step : walks.Steps item walk_before walk'
+  pub step : walks.GivesOperation item walk_before walk'
   pub made : RunsOn item run_before run' (Some row)
 
 -- The program ended, and no further operation makes a row. It is told whether rows stand after the last end row.
 pub record EndsWith (is_open : Bool) (run : RunState) (walk : Walk) (run' : RunState) (walk' : Walk) : Type 0 where
   pub walk_before : Walk
-  pub passes : Passes run walk run' walk_before
+  pub passes : RunsToRow run walk run' walk_before
   pub ends : Ends walk_before walk'
   pub open_is : run'.is_open ≡ is_open
 
 -- Before a further row was made, bytes came that no operation begins.
 pub record Breaks (fault : Fault) (run : RunState) (walk : Walk) (run' : RunState) (walk' : Walk) : Type 0 where
   pub walk_before : Walk
-  pub passes : Passes run walk run' walk_before
+  pub passes : RunsToRow run walk run' walk_before
   pub fails : Fails fault walk_before walk'
 
 -- Before a further row was made, an operation with this index came that leads out of the range of lines. It isn't run.
 pub record LeavesLines (index : ℕ) (run : RunState) (walk : Walk) (run' : RunState) (walk' : Walk) : Type 0 where
   pub walk_before : Walk
-  pub passes : Passes run walk run' walk_before
+  pub passes : RunsToRow run walk run' walk_before
   pub item : OpView
-  pub step : walks.Steps item walk_before walk'
+  pub step : walks.GivesOperation item walk_before walk'
   pub leaves : LeavesRange item run'.machine
   pub index_is : index ≡ run'.machine.count
 

@@ -6,12 +6,12 @@ use Rattle.lnt_header.specs.declared.op.OpView.{OpView}
 use Rattle.lnt_header.specs.OpRules.{StandsFor}
 use Rattle.lnt_machine.specs.declared.row.Row.{Row}
 use Rattle.lnt_machine.specs.Registers.{is_copy_or_special, part}
-use Rattle.lnt_machine.specs.State.{StandsAfter, State}
+use Rattle.lnt_machine.specs.State.{StandsAfter, MachineState}
 use Rattle.lnt_machine.specs.Steps.{Steps}
 
 -- the machine, and whether rows stand after the last end row
 pub record RunState : Type 0 where
-  pub machine : State
+  pub machine : MachineState
   pub is_open : Bool
 
 -- Whether rows stand after the last end row: an operation of the sequence at hand made one.

@@ -1,4 +1,4 @@
--- What the bodies of this crate say of one step. No public contract speaks of it.
+-- What the bodies of this crate say of one step, and of places those of lnt_lines. No public contract speaks of it.
 use Rattle.std.specs.Prelude.{◌≡◌, ℕ, ◌<◌, List, [], ◌∷◌, ◌++◌, length, reverse, slice_index_or, Option, Some, None}
 use Rattle.lnt_header.specs.declared.header.HeaderParts.{HeaderParts}
 use Rattle.lnt_header.specs.declared.op.Op.{Op}
@@ -8,22 +8,22 @@ use Rattle.lnt_ops.specs.Walks.{Walk}
 use Rattle.lnt_machine.specs.declared.row.Row.{Row}
 use Rattle.lnt_machine.specs.Matrix.{sequences_of}
 use Rattle.lnt_machine.specs.Parts.{AtStart, rows_of_ops}
-use Rattle.lnt_machine.specs.State.{State}
+use Rattle.lnt_machine.specs.State.{MachineState}
 use Rattle.lnt_machine.specs.Walking.{HasRows}
 
 -- The first of the rows was made, and the others are to come; or there is none.
-abbrev pub GivesNext : HeaderParts → List Row → Option Row → State → Walk → Type 0
+abbrev pub GivesNext : HeaderParts → List Row → Option Row → MachineState → Walk → Type 0
 GivesNext h [] None machine walk = Unit {0}
 GivesNext h (row ∷ rows) (Some made) machine walk = (made ≡ row) × HasRows h rows machine walk
 GivesNext h _ _ machine walk = ⊥
 
 -- The first of the rows was made, and the others are to come; or none was made yet.
-abbrev pub ComesNext : HeaderParts → List Row → Option Row → State → Walk → Type 0
+abbrev pub ComesNext : HeaderParts → List Row → Option Row → MachineState → Walk → Type 0
 ComesNext h rows None machine walk = HasRows h rows machine walk
 ComesNext h rows (Some made) machine walk = GivesNext h rows (Some made) machine walk
 
 -- A front of the program, of so many whole sequences, ends at this place.
-pub record IsFront (h : HeaderParts) (program : List ℕ) (index place : ℕ) : Type 0 where
+pub record IsProgramFront (h : HeaderParts) (program : List ℕ) (index place : ℕ) : Type 0 where
   pub earlier : List Op
   pub front : List ℕ
   pub rest : List ℕ
@@ -36,5 +36,5 @@ pub record IsFront (h : HeaderParts) (program : List ℕ) (index place : ℕ) : 
 -- So many sequences have ended; their places are known, and that where the next one begins.
 pub record HasPlaces (h : HeaderParts) (program : List ℕ) (count : ℕ) (places : List ℕ) (place : ℕ) : Type 0 where
   pub count_is : length places ≡ count
-  pub each : (k d : ℕ) → k < length places → IsFront h program k (slice_index_or places k d)
-  pub next : IsFront h program count place
+  pub each : (k d : ℕ) → k < length places → IsProgramFront h program k (slice_index_or places k d)
+  pub next : IsProgramFront h program count place

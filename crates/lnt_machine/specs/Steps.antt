@@ -6,17 +6,17 @@ use Rattle.lnt_header.specs.OpRules.{StandsFor}
 use Rattle.lnt_machine.specs.declared.row.Row.{Row}
 use Rattle.lnt_machine.specs.Matrix.{row_made}
 use Rattle.lnt_machine.specs.Registers.{IsLine, line}
-use Rattle.lnt_machine.specs.State.{StandsAfter, State}
+use Rattle.lnt_machine.specs.State.{StandsAfter, MachineState}
 
 -- The operation was done: whatever list the machine stood after, it now stands after that list with this operation added,
 -- and the row is the one that this operation makes after that list. The count rises by 1 up to the greatest.
-pub record Steps (view : OpView) (old new : State) (row : Option Row) : Type 0 where
+pub record Steps (view : OpView) (old new : MachineState) (row : Option Row) : Type 0 where
   pub stands : (back : List Op) (op : Op) → StandsAfter old back → StandsFor view op → StandsAfter new (op ∷ back)
   pub row_is : (back : List Op) (op : Op) → StandsAfter old back → StandsFor view op → row ≡ row_made old.header back op
   pub header : new.header ≡ old.header
   pub count : new.count ≡ min (old.count + 1) (2 ^ 64 - 1)
 
 -- Whatever list the machine stands after, the line is out of range with this operation added.
-abbrev pub LeavesRange : OpView → State → Type 0
+abbrev pub LeavesRange : OpView → MachineState → Type 0
 LeavesRange view machine =
     (back : List Op) (op : Op) → StandsAfter machine back → StandsFor view op → IsLine (line machine.header (op ∷ back)) → ⊥

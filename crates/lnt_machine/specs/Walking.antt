@@ -3,14 +3,14 @@ use Rattle.std.specs.Prelude.{◌≡◌, ℕ, ◌<◌, Bool, true, false, List, 
 use Rattle.lnt_header.specs.declared.header.HeaderParts.{HeaderParts}
 use Rattle.lnt_header.specs.declared.op.Op.{Op}
 use Rattle.lnt_header.specs.HeaderRules.{IsHeader}
-use Rattle.lnt_ops.specs.Left.{IsLeft, IsPlace}
+use Rattle.lnt_ops.specs.Left.{OperationsAreLeft, IsPlace}
 use Rattle.lnt_ops.specs.Walks.{Walk}
 use Rattle.lnt_unit.specs.declared.unit.Parts.{Parts}
 use Rattle.lnt_machine.specs.declared.row.Row.{Row}
 use Rattle.lnt_machine.specs.Matrix.{rows_after, sequences, sequences_of}
 use Rattle.lnt_machine.specs.Parts.{AtStart, first_sequence, rows_of_ops}
 use Rattle.lnt_machine.specs.Registers.{IsLine, line}
-use Rattle.lnt_machine.specs.State.{StandsAfter, State}
+use Rattle.lnt_machine.specs.State.{StandsAfter, MachineState}
 
 -- the line is in range after each of the operations that come after `back`
 abbrev pub LinesAfter : HeaderParts → List Op → List Op → Type 0
@@ -18,13 +18,13 @@ LinesAfter h back [] = Unit {0}
 LinesAfter h back (op ∷ ops) = IsLine (line h (op ∷ back)) × LinesAfter h (op ∷ back) ops
 
 -- A machine and a walk stand between operations of a program, and these rows are still to come.
-pub record HasRows (h : HeaderParts) (rows : List Row) (machine : State) (walk : Walk) : Type 0 where
+pub record HasRows (h : HeaderParts) (rows : List Row) (machine : MachineState) (walk : Walk) : Type 0 where
   pub back : List Op
   pub later : List Op
   pub valid : IsHeader h
   pub header_is : machine.header ≡ h
   pub stands : StandsAfter machine back
-  pub left : IsLeft h later walk
+  pub left : OperationsAreLeft h later walk
   pub lines : LinesAfter h back later
   pub rows_are : rows ≡ rows_after h back later
 
@@ -32,7 +32,7 @@ pub record HasRows (h : HeaderParts) (rows : List Row) (machine : State) (walk :
 
 -- a machine, a walk, and whether the sequence has ended
 pub record SequenceWalk : Type 0 where
-  pub machine : State
+  pub machine : MachineState
   pub walk : Walk
   pub ended : Bool
 
@@ -42,14 +42,14 @@ pub data WillGive (rows : List Row) (walk : SequenceWalk) : Type 0 where
   some : (h : HeaderParts) (all : List Row) → walk.ended ≡ false → HasRows h all walk.machine walk.walk → rows ≡ first_sequence all
       → WillGive rows walk
 
-abbrev pub GivesFirst : List Row → Option Row → SequenceWalk → Type 0
-GivesFirst [] None new = WillGive [] new
-GivesFirst (row ∷ rows) (Some made) new = (made ≡ row) × WillGive rows new
-GivesFirst _ _ new = ⊥
+abbrev pub GivesFirstRow : List Row → Option Row → SequenceWalk → Type 0
+GivesFirstRow [] None new = WillGive [] new
+GivesFirstRow (row ∷ rows) (Some made) new = (made ≡ row) × WillGive rows new
+GivesFirstRow _ _ new = ⊥
 
 -- Whatever rows were to come, the first of them was given; none only where there were none.
 abbrev pub GivesRow : SequenceWalk → Option Row → SequenceWalk → Type 0
-GivesRow old result new = (rows : List Row) → WillGive rows old → GivesFirst rows result new
+GivesRow old result new = (rows : List Row) → WillGive rows old → GivesFirstRow rows result new
 
 -- A sequence begins at this place of the program, after the earlier operations, and the lines of the later ones are in range.
 pub record IsSequencePlace (h : HeaderParts) (program : List ℕ) (earlier later : List Op) (place : ℕ) : Type 0 where
@@ -68,19 +68,19 @@ pub record IsPlaceOf (unit : Parts) (program : List ℕ) (index place : ℕ) : T
   pub index_is : index ≡ length (sequences_of (rows_of_ops unit.header earlier))
 
 -- a header, the bytes of a program, and places in it
-pub record Kept : Type 0 where
+pub record KeptProgram : Type 0 where
   pub header : HeaderParts
   pub program : List ℕ
   pub places : List ℕ
 
 -- The header is the unit's, and the places are those of its sequences in this program, in order. So where the unit has a sequence,
 -- the program spells its operations.
-pub record Keeps (kept : Kept) (unit : Parts) : Type 0 where
+pub record KeepsProgram (kept : KeptProgram) (unit : Parts) : Type 0 where
   pub header_is : kept.header ≡ unit.header
   pub count : length kept.places ≡ length (sequences unit)
   pub places : (k d : ℕ) → k < length kept.places → IsPlaceOf unit kept.program k (slice_index_or kept.places k d)
 
 -- it is kept of some unit
-pub record IsKept (kept : Kept) : Type 0 where
+pub record IsKeptProgram (kept : KeptProgram) : Type 0 where
   pub unit : Parts
-  pub keeps : Keeps kept unit
+  pub keeps : KeepsProgram kept unit

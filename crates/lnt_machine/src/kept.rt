@@ -3,7 +3,7 @@ ghost use Rattle.std.specs.Prelude.{◌≡◌, ◌<◌, ◌≤◌, length, drop,
 ghost use Rattle.lnt_unit.specs.declared.unit.Parts.{Parts};
 ghost use Rattle.lnt_machine.specs.declared.row.Sequence as spec;
 ghost use Rattle.lnt_machine.specs.Matrix.{sequences};
-ghost use Rattle.lnt_machine.specs.Walking.{IsKept, Keeps, WillGive};
+ghost use Rattle.lnt_machine.specs.Walking.{IsKeptProgram, KeepsProgram, WillGive};
 
 use crate::walk::SequenceRows;
 use lnt_header_bytes::{HeaderView, KeptHeader};
@@ -22,13 +22,13 @@ pub struct Program {
 
 impl Model for Program {
     ghost use Rattle.std.specs.Prelude.{◌≤◌, length, drop};
-    ghost use Rattle.lnt_machine.specs.Walking.{IsKept, Kept};
+    ghost use Rattle.lnt_machine.specs.Walking.{IsKeptProgram, KeptProgram};
 
-    ghost Value = { Kept };
+    ghost Value = { KeptProgram };
 
     ghost view = { λ p. record { header = p.header; program = drop p.start p.bytes.items; places = p.places.items } };
 
-    ghost invariant = { λ p. IsKept (record { header = p.header; program = drop p.start p.bytes.items; places = p.places.items })
+    ghost invariant = { λ p. IsKeptProgram (record { header = p.header; program = drop p.start p.bytes.items; places = p.places.items })
         × (p.start ≤ length p.bytes.items) };
 }
 
@@ -37,7 +37,7 @@ impl Program {
     /// first operation of each of the unit's sequences begins, in order. The caller sees to both, and that `start` isn't above
     /// the length of `bytes`. It takes no memory.
     pub fn of(header: KeptHeader, bytes: Vec<u8>, start: usize, places: Vec<usize>) -> Program
-        requires kept { IsKept (record { header = header; program = drop start bytes.items; places = places.items }) }
+        requires kept { IsKeptProgram (record { header = header; program = drop start bytes.items; places = places.items }) }
         requires within { start ≤ length bytes.items }
         ensures { result ≡ record { header = header; program = drop start bytes.items; places = places.items } }
     {
@@ -68,7 +68,7 @@ impl Program {
     pub fn sequence(&self, index: usize) -> Option<SequenceRows<'_>>
         ensures none { IfNone result (length self.now.places ≤ index) }
         ensures left { IfSome result (λ walk. length walk.walk.at.rest ≤ length self.now.program) }
-        ensures rows { IfSome result (λ walk. (unit : Parts) (d : spec.Sequence) → Keeps self.now unit
+        ensures rows { IfSome result (λ walk. (unit : Parts) (d : spec.Sequence) → KeepsProgram self.now unit
             → WillGive (slice_index_or (sequences unit) index d).rows walk) }
     {
         let place = *self.places.get(index)?;

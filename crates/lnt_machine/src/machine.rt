@@ -14,7 +14,7 @@ use std::marker::Model;
 
 /// The registers of a line number program between two of its operations, and how many were done.
 ///
-/// Contracts see the header, the registers and the count (`State`). A machine stands after a list of operations
+/// Contracts see the header, the registers and the count (`MachineState`). A machine stands after a list of operations
 /// (`StandsAfter`) where each register is what DWARF 5 makes of that list in sections 6.2.2 and 6.2.5, as a sum over it
 /// or a look back at the last operation of a kind. The count stays at `u64::MAX` once it is there.
 #[derive(Drop)]
@@ -28,9 +28,9 @@ pub struct Machine<'a> {
 
 impl<'a> Model for Machine<'a> {
     ghost use Rattle.std.specs.Prelude.{◌≡◌, ◌+◌, ◌/◌};
-    ghost use Rattle.lnt_machine.specs.State.{State, IsBounded};
+    ghost use Rattle.lnt_machine.specs.State.{MachineState, IsBounded};
 
-    ghost Value = { State };
+    ghost Value = { MachineState };
 
     ghost view = { λ m. record { header = m.header.now; registers = m.registers; count = m.count } };
 

@@ -1,6 +1,6 @@
 //! Notes: advice for a person beside an answer. They don't change the answer.
 //!
-//! A [`Watched`] reader keeps the first bytes of a section for them. [`tell_bad`], [`tell_good`], [`tell_agreed`],
+//! A [`WatchedReader`] reader keeps the first bytes of a section for them. [`tell_bad`], [`tell_good`], [`tell_agreed`],
 //! [`tell_refused`] and [`tell_table`] print the notes to an answer. Some notes need a file to be read again. That is done only
 //! where the answer makes such a note likely, and only for files that can be read again.
 #![tactic(auto)]
@@ -18,4 +18,4 @@ pub use records::Columns;
 pub use tell::{
     Given, Hints, hints_of, print_note, tell_agreed, tell_bad, tell_good, tell_refused, tell_table,
 };
-pub use watched::{Seen, Watched};
+pub use watched::{Seen, WatchedReader};

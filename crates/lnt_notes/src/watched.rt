@@ -49,21 +49,21 @@ impl Seen {
 
 /// A reader that notes in a cell which bytes it reads.
 #[derive(Drop)]
-pub struct Watched<'a, R> {
+pub struct WatchedReader<'a, R> {
     reader: R,
     seen: &'a Cell<Seen>,
 }
 
-impl<'a, R: Read> Watched<'a, R> {
+impl<'a, R: Read> WatchedReader<'a, R> {
     /// A reader with the same bytes to give as this one. The cell gets what is noted of them, at each read.
-    pub fn new(reader: R, seen: &'a Cell<Seen>) -> Watched<'a, R>
-        ensures { ⟦<Watched<'a, R> as Read>⟧.remaining result ≡ R.remaining reader }
+    pub fn new(reader: R, seen: &'a Cell<Seen>) -> WatchedReader<'a, R>
+        ensures { ⟦<WatchedReader<'a, R> as Read>⟧.remaining result ≡ R.remaining reader }
     {
-        Watched { reader, seen }
+        WatchedReader { reader, seen }
     }
 }
 
-impl<R: Read> Read for Watched<'_, R> {
+impl<R: Read> Read for WatchedReader<'_, R> {
     ghost remaining = { λ w. R.remaining w.reader };
 
     fn read(&mut self, buf: &mut [u8]) -> io::Result<usize> {

@@ -12,7 +12,7 @@ use Rattle.lnt_ops.proofs.ProgramLaws.{ops_none, walk_more, walk_done}
 use Rattle.lnt_ops.specs.OpBytes.{OpBytes}
 use Rattle.lnt_ops.specs.OpPuts.{IsOpOf, AddsView, IsLike, AddsOps}
 use Rattle.lnt_ops.specs.Stepping.{OpsSoFar}
-use Rattle.lnt_ops.specs.Walks.{Walk, Ends, Steps}
+use Rattle.lnt_ops.specs.Walks.{Walk, Ends, GivesOperation}
 
 -- the operations that a walk has given so far were added
 pub record ConvertedSoFar (h : HeaderParts) (place : ℕ) (program : List ℕ) (order : Order) (old : List ℕ) (walk : Walk)
@@ -36,7 +36,7 @@ converted_none h place program order old walk same going placed rest ordered =
     }
 
 pub converted_more : (h : HeaderParts) (place : ℕ) (program : List ℕ) (order : Order) (size : ℕ) (old middle new : List ℕ) (view : OpView)
-    (walk next : Walk) → ConvertedSoFar h place program order old walk middle → Steps view walk next
+    (walk next : Walk) → ConvertedSoFar h place program order old walk middle → GivesOperation view walk next
     → size ≡ h.address_size → AddsView order size view middle new → ConvertedSoFar h place program order old next new
 converted_more h place program order size old middle new view walk next so step sized put =
     let op = step.gives.op in
@@ -54,7 +54,7 @@ converted_more h place program order size old middle new view walk next so step 
 
 -- a view that a walk gives is one of the header's
 pub view_of_header : (h : HeaderParts) (size : ℕ) (view : OpView) (walk next : Walk) → walk.header ≡ h → size ≡ h.address_size
-    → Steps view walk next → IsOpOf size view
+    → GivesOperation view walk next → IsOpOf size view
 view_of_header h size view walk next same sized step =
     record {
       header = walk.header;

@@ -26,8 +26,8 @@ use Rattle.lnt_ops.proofs.StandardReaders.{after_byte}
 use Rattle.lnt_ops.proofs.OpLaws.{extended_tag, tag_of, takes_its, TakesIts}
 use Rattle.lnt_ops.specs.OpBytes.{CodingBytes, Extended}
 use Rattle.lnt_ops.specs.OpFaults.IsFirstFault.{no_length, cut_counted, wrong_counted, large_counted}
-use Rattle.lnt_ops.specs.OpSteps.{BytesAfter, IsFaultAfter, GivesAfter, CountedBytes, IsRightOperand, GivesCounted}
-use Rattle.lnt_ops.specs.OpSteps.{IsCountedFault, IsLargeNumber}
+use Rattle.lnt_ops.specs.OpSteps.{BytesAfter, IsFaultAfter, GivesAfter, ExtendedBody, IsRightOperand, GivesCounted}
+use Rattle.lnt_ops.specs.OpSteps.{IsCountedOpFault, IsLargeNumber}
 use Rattle.lnt_ops.specs.OpSteps.IsCountedFault.{wrong_operand, large_number}
 
 -- ---- a number in groups of seven bits, and nothing else
@@ -260,7 +260,7 @@ refuses_number address_size start bytes at fault right takes same place r =
     large_of start fault bytes at.rest (some_code address_size bytes right) takes same shape (r.place ∙ place) fault.reason refl r.reason
 
 pub number_is_fault : (address_size length_place start : ℕ) (fault : Fault) (bytes : List ℕ) → IsLargeNumber start fault bytes
-    → IsCountedFault address_size length_place start fault bytes
+    → IsCountedOpFault address_size length_place start fault bytes
 number_is_fault address_size length_place start fault bytes large = large_number large
 
 pub takes_discriminator : (bytes : List ℕ) → get_or bytes 0 0 ≡ 4 → taken_by (get_or bytes 0 0) ≡ takes_number
@@ -272,7 +272,7 @@ takes_discriminator bytes e = ap taken_by e
 code_of : (code : ℕ) (Operand : List ℕ → Type 0) (bytes : List ℕ) → (p : (Exactly (code ∷ []) ⨾ Operand) bytes) → bytes ≡ code ∷ p.back
 code_of code Operand bytes p = p.joined ∙ ap (λ (z : List ℕ). z ++ p.back) p.first
 
-right_counted : (h : HeaderParts) (c : Coding) (bytes : List ℕ) → TakesIts c → CountedBytes h c bytes → IsRightOperand h.address_size bytes
+right_counted : (h : HeaderParts) (c : Coding) (bytes : List ℕ) → TakesIts c → ExtendedBody h c bytes → IsRightOperand h.address_size bytes
 right_counted h (Coding.extended code) bytes takes p =
     subst (IsRightOperand h.address_size) (sym (code_of code (Exactly []) bytes p))
     (right_of h.address_size code takes_nothing p.back takes p.second)
@@ -297,7 +297,7 @@ other_code code taken kind Operand operand number takes p =
     sym takes ∙ ap taken_by same ∙ number
 
 none_large : (h : HeaderParts) (c : Coding) (taken : ℕ) (operand : List ℕ) → TakesIts c → taken_by taken ≡ takes_number
-    → IsLargeUnsigned operand → CountedBytes h c (taken ∷ operand) → ⊥
+    → IsLargeUnsigned operand → ExtendedBody h c (taken ∷ operand) → ⊥
 none_large h (Coding.extended code) taken operand takes number large p =
     let other = other_code code taken takes_nothing (Exactly []) operand number takes p in
     absurd cc
@@ -313,22 +313,22 @@ none_large h (Coding.unknown_extended code operand') taken operand takes number 
 none_large h c taken operand takes number large p = p
 
 none_counted : (h : HeaderParts) (length_place start : ℕ) (fault : Fault) (bytes : List ℕ) (op : Op)
-    → IsCountedFault h.address_size length_place start fault bytes → CountedBytes h (coding op) bytes → ⊥
+    → IsCountedOpFault h.address_size length_place start fault bytes → ExtendedBody h (coding op) bytes → ⊥
 none_counted h length_place start fault bytes op (wrong_operand reason place wrong) p =
     right_not_wrong h.address_size bytes (right_counted h (coding op) bytes (takes_its op) p) wrong
 none_counted h length_place start fault bytes op (large_number l) p =
-    none_large h (coding op) l.code l.operand (takes_its op) l.takes l.large (subst (CountedBytes h (coding op)) l.joined p)
+    none_large h (coding op) l.code l.operand (takes_its op) l.takes l.large (subst (ExtendedBody h (coding op)) l.joined p)
 
 -- ---- the length, and what it counts
 
 -- an extended operation after its zero byte
 record InCount (h : HeaderParts) (c : Coding) (bytes : List ℕ) : Type 0 where
   counted : List ℕ
-  is : CountedBytes h c counted
+  is : ExtendedBody h c counted
   spelled : BlockBytes UnsignedLeb counted bytes
 
 in_count : (h : HeaderParts) (c : Coding) (code : ℕ) (Operand : List ℕ → Type 0) (y : List ℕ)
-    → ((x : List ℕ) → (Exactly (code ∷ []) ⨾ Operand) x → CountedBytes h c x) → Extended code Operand (0 ∷ y) → InCount h c y
+    → ((x : List ℕ) → (Exactly (code ∷ []) ⨾ Operand) x → ExtendedBody h c x) → Extended code Operand (0 ∷ y) → InCount h c y
 in_count h c code Operand y is p = record {
   counted = p.0;
   is = is p.0 p.1;
@@ -348,7 +348,7 @@ in_op : (code : ℕ) (Operand : List ℕ → Type 0) (counted y : List ℕ) → 
     → BlockBytes UnsignedLeb counted y → Extended code Operand (0 ∷ y)
 in_op code Operand counted y q p = (counted, q, record { front = 0 ∷ []; back = y; first = refl; second = p; joined = refl })
 
-op_of : (h : HeaderParts) (c : Coding) (counted y : List ℕ) → CountedBytes h c counted → BlockBytes UnsignedLeb counted y
+op_of : (h : HeaderParts) (c : Coding) (counted y : List ℕ) → ExtendedBody h c counted → BlockBytes UnsignedLeb counted y
     → CodingBytes h c (0 ∷ y)
 op_of h (Coding.extended k) counted y q p = in_op k (Exactly []) counted y q p
 op_of h (Coding.extended_number k n) counted y q p = in_op k (UnsignedLeb n) counted y q p
@@ -430,14 +430,14 @@ refuses_cut h n old middle fault some r t = record {
 
 none_in_count : (h : HeaderParts) (n length_place start : ℕ) (counted : List ℕ) (old middle new : At) (fault : Fault) → 0 < h.opcode_base
     → Reads UnsignedLeb n old middle → Reads (TakenBytes n) counted middle new
-    → IsCountedFault h.address_size length_place start fault counted → (op : Op) (y more : List ℕ) → BytesAfter h 0 op y
+    → IsCountedOpFault h.address_size length_place start fault counted → (op : Op) (y more : List ℕ) → BytesAfter h 0 op y
     → y ++ more ≡ old.rest → ⊥
 none_in_count h n length_place start counted old middle new fault some r t f op y more p e =
     let q = counted_at h op y some p in
     let same = same_count h n op y more old middle r q e in
     let size : length q.counted ≡ length t.spelling = same.0 ∙ sym t.spelled.count_is in
     let bytes : q.counted ≡ t.spelling = same_front q.counted t.spelling more new.rest size (same.1 ∙ t.whole) in
-    none_counted h length_place start fault counted op f (subst (CountedBytes h (coding op)) (bytes ∙ sym t.spelled.taken_is) q.is)
+    none_counted h length_place start fault counted op f (subst (ExtendedBody h (coding op)) (bytes ∙ sym t.spelled.taken_is) q.is)
 
 -- the bytes that were read, up to the end of what the length counts
 counted_joined : (n : ℕ) (counted : List ℕ) (old middle new : At) → (r : Reads UnsignedLeb n old middle)
@@ -448,7 +448,7 @@ counted_joined n counted old middle new r t =
 pub refuses_counted : (h : HeaderParts) (n length_place start : ℕ) (counted : List ℕ) (old middle new : At) (fault : Fault)
     → 0 < h.opcode_base → length_place ≡ old.place → start ≡ middle.place
     → Reads UnsignedLeb n old middle → Reads (TakenBytes n) counted middle new
-    → IsCountedFault h.address_size length_place start fault counted → Refuses (IsFaultAfter h 0) (BytesAfter h 0) old fault
+    → IsCountedOpFault h.address_size length_place start fault counted → Refuses (IsFaultAfter h 0) (BytesAfter h 0) old fault
 refuses_counted h n length_place start counted old middle new fault some at_length at_start r t (wrong_operand reason place wrong) =
     let size : n ≡ length counted = sym t.spelled.count_is ∙ ap length (sym t.spelled.taken_is) in
     record {

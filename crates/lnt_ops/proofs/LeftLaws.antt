@@ -14,14 +14,15 @@ use Rattle.lnt_header.specs.HeaderRules.{IsHeader}
 use Rattle.lnt_header.specs.Joins.{Each}
 use Rattle.lnt_header.specs.OpRules.{StandsFor}
 use Rattle.lnt_ops.proofs.OpLaws.{op_code, op_is_some}
-use Rattle.lnt_ops.specs.Left.{IsLeft, IsPlace}
+use Rattle.lnt_ops.specs.Left.{OperationsAreLeft, IsPlace}
 use Rattle.lnt_ops.specs.Stepping.{IsNextOf}
 use Rattle.lnt_ops.specs.OpBytes.{OpBytes}
 use Rattle.lnt_ops.specs.OpReading.{GivesOp}
-use Rattle.lnt_ops.specs.Walks.{Walk, Ends, Steps, Fails}
+use Rattle.lnt_ops.specs.Walks.{Walk, Ends, GivesOperation, Fails}
 
 -- the next operation
-pub left_next : (h : HeaderParts) (later : List Op) (view : OpView) (old new : Walk) → IsHeader h → IsLeft h later old → Steps view old new
+pub left_next : (h : HeaderParts) (later : List Op) (view : OpView) (old new : Walk) → IsHeader h → OperationsAreLeft h later old
+    → GivesOperation view old new
     → IsNextOf h later view new
 left_next h [] view old new header left s =
     let r = s.gives.reads in
@@ -49,7 +50,7 @@ left_next h (op ∷ later) view old new header left s =
     }
 
 -- none is left
-pub left_ends : (h : HeaderParts) (later : List Op) (old new : Walk) → IsLeft h later old → Ends old new → later ≡ []
+pub left_ends : (h : HeaderParts) (later : List Op) (old new : Walk) → OperationsAreLeft h later old → Ends old new → later ≡ []
 left_ends h [] old new left e = refl
 left_ends h (op ∷ later) old new left e = absurd (by_end e.ended)
   where
@@ -59,7 +60,8 @@ left_ends h (op ∷ later) old new left e = absurd (by_end e.ended)
         (arith, empty, ap length t.joined, length-append t.front t.back, op_is_some h op t.front t.first)
 
 -- none is refused
-pub left_fails : (h : HeaderParts) (later : List Op) (fault : Fault) (old new : Walk) → IsLeft h later old → Fails fault old new → ⊥
+pub left_fails : (h : HeaderParts) (later : List Op) (fault : Fault) (old new : Walk) → OperationsAreLeft h later old
+    → Fails fault old new → ⊥
 left_fails h [] fault old new left f = omega (arith, f.some, ap length left.spelled)
 left_fails h (op ∷ later) fault old new left f =
     let t = left.spelled in
@@ -97,7 +99,7 @@ place_found h earlier all front rest program header p q whole =
 -- a walk that begins at a place has the later operations before it
 pub left_at : (h : HeaderParts) (program : List ℕ) (earlier later : List Op) (place : ℕ) (walk : Walk)
     → IsPlace h program earlier later place
-    → walk.header ≡ h → walk.failed ≡ false → walk.at.rest ≡ drop place program → IsLeft h later walk
+    → walk.header ≡ h → walk.failed ≡ false → walk.at.rest ≡ drop place program → OperationsAreLeft h later walk
 left_at h program earlier later place walk is header going rest =
     let past : walk.at.rest ≡ is.rest =
     rest ∙ ap (λ (n : ℕ). drop n program) is.place_is ∙ ap (drop (length is.front)) is.split ∙ drop-append_seam is.front is.rest in

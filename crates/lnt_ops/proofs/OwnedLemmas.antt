@@ -17,13 +17,13 @@ use Rattle.lnt_header.specs.declared.op.Operands.{Operands}
 use Rattle.lnt_ops.proofs.ProgramLaws.{none_filled}
 use Rattle.lnt_ops.proofs.ViewLaws.{leb_is_some}
 use Rattle.lnt_ops.specs.OperandLists.{IsOperands, SpellsNumbers, NumbersSoFar}
-use Rattle.lnt_ops.specs.Stepping.{IsView}
+use Rattle.lnt_ops.specs.Stepping.{StandsForSome}
 
 operands_of : (k : ℕ) (operands : Operands) (op : Op) → StandsFor (views.UnknownStandard k operands) op → IsOperands operands
 operands_of k operands (ops.UnknownStandard j numbers) p = record { numbers = numbers; are = p.1 }
 operands_of k operands op p = absurd p
 
-pub some_operands : (k : ℕ) (operands : Operands) → IsView (views.UnknownStandard k operands) → IsOperands operands
+pub some_operands : (k : ℕ) (operands : Operands) → StandsForSome (views.UnknownStandard k operands) → IsOperands operands
 some_operands k operands v = operands_of k operands v.op v.stands
 
 -- a list that ends where the bytes do

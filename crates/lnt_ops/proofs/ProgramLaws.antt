@@ -23,8 +23,8 @@ use Rattle.lnt_ops.specs.OpBytes.{OpBytes}
 use Rattle.lnt_ops.specs.OpFaults.{IsFirstFault}
 use Rattle.lnt_ops.specs.OpReading.{GivesOp}
 use Rattle.lnt_ops.specs.Programs.{BrokenProgram}
-use Rattle.lnt_ops.specs.Stepping.{IsView, OpsSoFar}
-use Rattle.lnt_ops.specs.Walks.{Walk, Ends, Steps, Fails}
+use Rattle.lnt_ops.specs.Stepping.{StandsForSome, OpsSoFar}
+use Rattle.lnt_ops.specs.Walks.{Walk, Ends, GivesOperation, Fails}
 
 -- no list fills the bytes, where after some values no other follows
 pub none_filled : {X : Type 0} (P : X → List ℕ → Type 0) (us : List X) (x rest bytes : List ℕ) → IsCode P → Each P us x → 0 < length rest
@@ -61,7 +61,7 @@ ops_more h place program ops op view at new so g stands =
       order_is = r.order ∙ so.order_is;
     }
 
-pub is_view : (h : HeaderParts) (view : OpView) (at new : At) → GivesOp h view at new → IsView view
+pub is_view : (h : HeaderParts) (view : OpView) (at new : At) → GivesOp h view at new → StandsForSome view
 is_view h view at new g = record { op = g.op; stands = g.stands }
 
 -- each operation shortens the rest
@@ -99,7 +99,7 @@ ops_broken h place program ops at fault header so some r = record {
 -- ---- walks
 
 pub walk_more : (h : HeaderParts) (place : ℕ) (program : List ℕ) (ops : List Op) (op : Op) (view : OpView) (old new : Walk) → old.header ≡ h
-    → OpsSoFar h place program ops old.at → Steps view old new → StandsFor view op
+    → OpsSoFar h place program ops old.at → GivesOperation view old new → StandsFor view op
     → (new.header ≡ h) × (new.failed ≡ false) × OpsSoFar h place program (ops ++ op ∷ []) new.at
 walk_more h place program ops op view old new same so s stands =
     let gives : GivesOp h view old.at new.at = subst (λ (g : HeaderParts). GivesOp g view old.at new.at) same s.gives in

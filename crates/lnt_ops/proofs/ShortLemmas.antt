@@ -19,9 +19,9 @@ use Rattle.lnt_ops.proofs.StandardReaders.{standard}
 use Rattle.lnt_ops.proofs.WalkLemmas.{steps_on}
 use Rattle.lnt_ops.specs.OpBytes.{Extended, OpBytes, Standard}
 use Rattle.lnt_ops.specs.OpReading.{GivesOp}
-use Rattle.lnt_ops.specs.Short.{IsFront, IsShort, NoneShort}
+use Rattle.lnt_ops.specs.Short.{IsOperationFront, IsShort, NoneShort}
 use Rattle.lnt_ops.specs.Stepping.{IsGroup, NoByte, NoDiscriminator, NoTwoBytes}
-use Rattle.lnt_ops.specs.Walks.{Walk, Steps}
+use Rattle.lnt_ops.specs.Walks.{Walk, GivesOperation}
 
 -- ---- bytes at the front
 
@@ -105,7 +105,7 @@ discriminator_taken bytes n some first second third = rw (three_taken bytes some
 
 front : (h : HeaderParts) (k : ℕ) (view : OpView) (op : Op) (n : ℕ) (bytes operand : List ℕ) → 0 < length bytes → get_or bytes 0 0 ≡ k
     → operand ≡ drop 1 bytes → n ≤ length operand
-    → StandsFor view op → Admits h op → OpBytes h op (k ∷ take n operand) → IsFront h view (n + 1) bytes
+    → StandsFor view op → Admits h op → OpBytes h op (k ∷ take n operand) → IsOperationFront h view (n + 1) bytes
 front h k view op n bytes operand some is same le stands admitted spelled = record {
   op = op;
   stands = stands;
@@ -116,52 +116,52 @@ front h k view op n bytes operand some is same le stands admitted spelled = reco
 }
 
 pub front_special : (h : HeaderParts) (k : ℕ) (bytes : List ℕ) → 0 < length bytes → get_or bytes 0 0 ≡ k → h.opcode_base ≤ k → k < 256
-    → IsFront h (views.Special k) 1 bytes
+    → IsOperationFront h (views.Special k) 1 bytes
 front_special h k bytes some is le byte =
     front h k (views.Special k) (ops.Special k) 0 bytes (drop 1 bytes) some is refl (omega arith) refl le (le, byte, refl)
 
 pub front_copy : (h : HeaderParts) (k : ℕ) (bytes : List ℕ) → 0 < length bytes → get_or bytes 0 0 ≡ k → k < h.opcode_base → k ≡ 1
-    → IsFront h views.Copy 1 bytes
+    → IsOperationFront h views.Copy 1 bytes
 front_copy h k bytes some is lt e =
     front h k views.Copy ops.Copy 0 bytes (drop 1 bytes) some is refl (omega arith) tt (omega (arith, e, lt))
     (standard h k 1 (Exactly []) [] e lt refl)
 
 pub front_negate_stmt : (h : HeaderParts) (k : ℕ) (bytes : List ℕ) → 0 < length bytes → get_or bytes 0 0 ≡ k → k < h.opcode_base → k ≡ 6
-    → IsFront h views.NegateStmt 1 bytes
+    → IsOperationFront h views.NegateStmt 1 bytes
 front_negate_stmt h k bytes some is lt e =
     front h k views.NegateStmt ops.NegateStmt 0 bytes (drop 1 bytes) some is refl (omega arith) tt (omega (arith, e, lt))
     (standard h k 6 (Exactly []) [] e lt refl)
 
 pub front_const_add_pc : (h : HeaderParts) (k : ℕ) (bytes : List ℕ) → 0 < length bytes → get_or bytes 0 0 ≡ k → k < h.opcode_base → k ≡ 8
-    → IsFront h views.ConstAddPc 1 bytes
+    → IsOperationFront h views.ConstAddPc 1 bytes
 front_const_add_pc h k bytes some is lt e =
     front h k views.ConstAddPc ops.ConstAddPc 0 bytes (drop 1 bytes) some is refl (omega arith) tt (omega (arith, e, lt))
     (standard h k 8 (Exactly []) [] e lt refl)
 
 pub front_advance_pc : (h : HeaderParts) (k n : ℕ) (bytes operand : List ℕ) → 0 < length bytes → get_or bytes 0 0 ≡ k → k < h.opcode_base
     → k ≡ 2 → operand ≡ drop 1 bytes
-    → (1 ≤ length operand) × UnsignedLeb n (take 1 operand) → IsFront h (views.AdvancePc n) 2 bytes
+    → (1 ≤ length operand) × UnsignedLeb n (take 1 operand) → IsOperationFront h (views.AdvancePc n) 2 bytes
 front_advance_pc h k n bytes operand some is lt e same p =
     front h k (views.AdvancePc n) (ops.AdvancePc n) 1 bytes operand some is same p.0 refl (omega (arith, e, lt))
     (standard h k 2 (UnsignedLeb n) (take 1 operand) e lt p.1)
 
 pub front_set_file : (h : HeaderParts) (k n : ℕ) (bytes operand : List ℕ) → 0 < length bytes → get_or bytes 0 0 ≡ k → k < h.opcode_base
     → k ≡ 4 → operand ≡ drop 1 bytes
-    → (1 ≤ length operand) × UnsignedLeb n (take 1 operand) → IsFront h (views.SetFile n) 2 bytes
+    → (1 ≤ length operand) × UnsignedLeb n (take 1 operand) → IsOperationFront h (views.SetFile n) 2 bytes
 front_set_file h k n bytes operand some is lt e same p =
     front h k (views.SetFile n) (ops.SetFile n) 1 bytes operand some is same p.0 refl (omega (arith, e, lt))
     (standard h k 4 (UnsignedLeb n) (take 1 operand) e lt p.1)
 
 pub front_set_column : (h : HeaderParts) (k n : ℕ) (bytes operand : List ℕ) → 0 < length bytes → get_or bytes 0 0 ≡ k → k < h.opcode_base
     → k ≡ 5 → operand ≡ drop 1 bytes
-    → (1 ≤ length operand) × UnsignedLeb n (take 1 operand) → IsFront h (views.SetColumn n) 2 bytes
+    → (1 ≤ length operand) × UnsignedLeb n (take 1 operand) → IsOperationFront h (views.SetColumn n) 2 bytes
 front_set_column h k n bytes operand some is lt e same p =
     front h k (views.SetColumn n) (ops.SetColumn n) 1 bytes operand some is same p.0 refl (omega (arith, e, lt))
     (standard h k 5 (UnsignedLeb n) (take 1 operand) e lt p.1)
 
 pub front_advance_line : (h : HeaderParts) (k size : ℕ) (z : ℤ) (bytes operand : List ℕ) → 0 < length bytes → get_or bytes 0 0 ≡ k
     → k < h.opcode_base → k ≡ 3 → operand ≡ drop 1 bytes
-    → (size ≤ length operand) × SignedLeb z (take size operand) → IsFront h (views.AdvanceLine z) (size + 1) bytes
+    → (size ≤ length operand) × SignedLeb z (take size operand) → IsOperationFront h (views.AdvanceLine z) (size + 1) bytes
 front_advance_line h k size z bytes operand some is lt e same p =
     front h k (views.AdvanceLine z) (ops.AdvanceLine z) size bytes operand some is same p.0 refl (omega (arith, e, lt))
     (standard h k 3 (SignedLeb z) (take size operand) e lt p.1)
@@ -197,14 +197,15 @@ discriminator h k n operand e low is =
 
 pub front_discriminator : (h : HeaderParts) (k n : ℕ) (bytes operand : List ℕ) → 0 < length bytes → get_or bytes 0 0 ≡ k → k ≡ 0
     → operand ≡ drop 1 bytes
-    → (3 ≤ length operand) × (n < 128) × (take 3 operand ≡ 2 ∷ 4 ∷ n ∷ []) → IsFront h (views.SetDiscriminator n) 4 bytes
+    → (3 ≤ length operand) × (n < 128) × (take 3 operand ≡ 2 ∷ 4 ∷ n ∷ []) → IsOperationFront h (views.SetDiscriminator n) 4 bytes
 front_discriminator h k n bytes operand some is e same p =
     front h k (views.SetDiscriminator n) (ops.SetDiscriminator n) 3 bytes operand some is same p.0 refl tt
     (discriminator h k n (take 3 operand) e p.1 p.2)
 
 -- ---- steps of a walk
 
-gives_front : (h : HeaderParts) (view : OpView) (size : ℕ) (old new : At) → IsFront h view size old.rest → new.rest ≡ drop size old.rest
+gives_front : (h : HeaderParts) (view : OpView) (size : ℕ) (old new : At) → IsOperationFront h view size old.rest
+    → new.rest ≡ drop size old.rest
     → new.place ≡ old.place + size → new.order ≡ old.order → GivesOp h view old new
 gives_front h view size old new f rest place order = record {
   op = f.op;
@@ -224,8 +225,8 @@ abbrev pub walk_at : HeaderParts → ℕ → List ℕ → Walk
 walk_at h end rest = record { header = h; at = record { place = end - length rest; rest = rest; order = h.order }; failed = false }
 
 pub steps_short : (h : HeaderParts) (end : ℕ) (view : OpView) (size : ℕ) (rest past : List ℕ) → length rest ≤ end
-    → IsFront h view size rest → past ≡ drop size rest → length past + size ≡ length rest
-    → Steps view (walk_at h end rest) (walk_at h end past)
+    → IsOperationFront h view size rest → past ≡ drop size rest → length past + size ≡ length rest
+    → GivesOperation view (walk_at h end rest) (walk_at h end past)
 steps_short h end view size rest past le f is count =
     steps_on view (walk_at h end rest) (walk_at h end past) refl refl refl
     (gives_front h view size (walk_at h end rest).at (walk_at h end past).at f is (omega (arith, le, count)) refl)
@@ -371,19 +372,20 @@ long_number : (k : ℕ) (bytes : List ℕ) → (get_or bytes 0 0 ≡ k → NoByt
 long_number k bytes none found = low_byte found.1.0 (drop 1 bytes) found.1.1 (none found.0)
 
 long_line : (h : HeaderParts) (z : ℤ) (bytes : List ℕ) (size : ℕ) → BeginsLong h bytes → (size ≡ 1) ⊎ (size ≡ 2)
-    → IsFront h (views.AdvanceLine z) (size + 1) bytes → ⊥
+    → IsOperationFront h (views.AdvanceLine z) (size + 1) bytes → ⊥
 long_line h z bytes size long (inl e) front =
-    let f = subst (λ (n : ℕ). IsFront h (views.AdvanceLine z) (n + 1) bytes) e front in
+    let f = subst (λ (n : ℕ). IsOperationFront h (views.AdvanceLine z) (n + 1) bytes) e front in
     let found = advance_line_begins h 1 z f.op bytes (omega (arith, f.within)) f.stands f.spelled in
     low_group found.1.0 (drop 1 bytes) found.1.1 (long.advance_line found.0)
 long_line h z bytes size long (inr e) front =
-    let f = subst (λ (n : ℕ). IsFront h (views.AdvanceLine z) (n + 1) bytes) e front in
+    let f = subst (λ (n : ℕ). IsOperationFront h (views.AdvanceLine z) (n + 1) bytes) e front in
     let found = advance_line_begins h 2 z f.op bytes (omega (arith, f.within)) f.stands f.spelled in
     low_groups found.1.0 (drop 1 bytes) found.1.1 (long.advance_line found.0)
 
 -- of so many bytes in place of an equal number
-sized : (h : HeaderParts) (view : OpView) (size n : ℕ) (bytes : List ℕ) → size ≡ n → IsFront h view size bytes → IsFront h view n bytes
-sized h view size n bytes e f = subst (λ (m : ℕ). IsFront h view m bytes) e f
+sized : (h : HeaderParts) (view : OpView) (size n : ℕ) (bytes : List ℕ) → size ≡ n → IsOperationFront h view size bytes
+    → IsOperationFront h view n bytes
+sized h view size n bytes e f = subst (λ (m : ℕ). IsOperationFront h view m bytes) e f
 
 none_long : (h : HeaderParts) (bytes : List ℕ) → BeginsLong h bytes → NoneShort h bytes
 none_long h bytes long (views.Special c) size e f =

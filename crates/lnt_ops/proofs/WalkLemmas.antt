@@ -1,4 +1,4 @@
--- Steps of a walk over operations.
+-- GivesOperation of a walk over operations.
 use Rattle.std.proofs.Common.{◌≡◌, ◌<◌, true, false, length, refl, ◌∙◌, inl, inr}
 use Rattle.lnt_wire.specs.At.{At}
 use Rattle.lnt_wire.specs.declared.fault.Fault.{Fault}
@@ -10,7 +10,7 @@ use Rattle.lnt_ops.proofs.ProgramLaws.{op_long}
 use Rattle.lnt_ops.specs.OpBytes.{OpBytes}
 use Rattle.lnt_ops.specs.OpFaults.{IsOpFault, IsFirstFault}
 use Rattle.lnt_ops.specs.OpReading.{GivesOp}
-use Rattle.lnt_ops.specs.Walks.{Walk, Ends, Steps, Fails}
+use Rattle.lnt_ops.specs.Walks.{Walk, Ends, GivesOperation, Fails}
 
 pub ends_failed : (walk : Walk) → walk.failed ≡ true → Ends walk walk
 ends_failed walk e = record { ended = inl e; unchanged = refl }
@@ -19,7 +19,7 @@ pub ends_empty : (walk : Walk) → length walk.at.rest ≡ 0 → Ends walk walk
 ends_empty walk e = record { ended = inr e; unchanged = refl }
 
 pub steps_on : (view : OpView) (old new : Walk) → old.failed ≡ false → new.failed ≡ false → new.header ≡ old.header
-    → GivesOp old.header view old.at new.at → Steps view old new
+    → GivesOp old.header view old.at new.at → GivesOperation view old new
 steps_on view old new going goes_on header g = record {
   going = going;
   goes_on = goes_on;

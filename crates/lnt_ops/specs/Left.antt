@@ -7,7 +7,7 @@ use Rattle.lnt_ops.specs.OpBytes.{OpBytes}
 use Rattle.lnt_ops.specs.Walks.{Walk}
 
 -- The walk goes on, over bytes that spell these operations.
-pub record IsLeft (h : HeaderParts) (later : List Op) (walk : Walk) : Type 0 where
+pub record OperationsAreLeft (h : HeaderParts) (later : List Op) (walk : Walk) : Type 0 where
   pub header_is : walk.header ≡ h
   pub going : walk.failed ≡ false
   pub spelled : Each (OpBytes h) later walk.at.rest

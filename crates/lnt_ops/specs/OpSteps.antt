@@ -52,12 +52,12 @@ pub record IsOperandFault (count : ℕ) (reason : Reason) (before left : List �
 -- ---- extended operations
 
 -- the bytes that the length of an extended operation counts: a code and its operand
-abbrev pub CountedBytes : HeaderParts → Coding → List ℕ → Type 0
-CountedBytes h (extended code) bytes = (Exactly (code ∷ []) ⨾ Exactly []) bytes
-CountedBytes h (extended_number code n) bytes = (Exactly (code ∷ []) ⨾ UnsignedLeb n) bytes
-CountedBytes h (extended_address code address) bytes = (Exactly (code ∷ []) ⨾ NumberBytes h.order h.address_size address) bytes
-CountedBytes h (unknown_extended code operand) bytes = IsUnknownCode code × (code < 256) × (Exactly (code ∷ []) ⨾ Exactly operand) bytes
-CountedBytes h c bytes = ⊥
+abbrev pub ExtendedBody : HeaderParts → Coding → List ℕ → Type 0
+ExtendedBody h (extended code) bytes = (Exactly (code ∷ []) ⨾ Exactly []) bytes
+ExtendedBody h (extended_number code n) bytes = (Exactly (code ∷ []) ⨾ UnsignedLeb n) bytes
+ExtendedBody h (extended_address code address) bytes = (Exactly (code ∷ []) ⨾ NumberBytes h.order h.address_size address) bytes
+ExtendedBody h (unknown_extended code operand) bytes = IsUnknownCode code × (code < 256) × (Exactly (code ∷ []) ⨾ Exactly operand) bytes
+ExtendedBody h c bytes = ⊥
 
 -- a code, and an operand that fits it in length and shape
 abbrev pub IsRightOperand : ℕ → List ℕ → Type 0
@@ -69,7 +69,7 @@ pub record GivesCounted (h : HeaderParts) (view : OpView) (bytes : List ℕ) : T
   pub op : Op
   pub stands : StandsFor view op
   pub admitted : Admits h op
-  pub spelled : CountedBytes h (coding op) bytes
+  pub spelled : ExtendedBody h (coding op) bytes
 
 -- The bytes, which stand at the place `start`, are a code that takes a number, and a whole number that is out of range.
 pub record IsLargeNumber (start : ℕ) (fault : Fault) (bytes : List ℕ) : Type 0 where
@@ -84,7 +84,7 @@ pub record IsLargeNumber (start : ℕ) (fault : Fault) (bytes : List ℕ) : Type
 
 -- The bytes that a length counts, from the place `start` on, are no operation: they don't fit the length, which stands at its own
 -- place, or their number is out of range.
-pub data IsCountedFault (address_size length_place start : ℕ) (fault : Fault) (bytes : List ℕ) : Type 0 where
+pub data IsCountedOpFault (address_size length_place start : ℕ) (fault : Fault) (bytes : List ℕ) : Type 0 where
   wrong_operand : fault.reason ≡ ExtendedLength → fault.place ≡ length_place → IsWrongOperand address_size bytes
-      → IsCountedFault address_size length_place start fault bytes
-  large_number : IsLargeNumber start fault bytes → IsCountedFault address_size length_place start fault bytes
+      → IsCountedOpFault address_size length_place start fault bytes
+  large_number : IsLargeNumber start fault bytes → IsCountedOpFault address_size length_place start fault bytes

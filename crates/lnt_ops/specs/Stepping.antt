@@ -9,7 +9,7 @@ use Rattle.lnt_header.specs.OpRules.{Admits, StandsFor, AreOperands}
 use Rattle.lnt_ops.specs.OpBytes.{OpBytes}
 use Rattle.lnt_header.specs.declared.op.OpView.{OpView}
 use Rattle.lnt_ops.specs.Walks.{Walk}
-use Rattle.lnt_ops.specs.Left.{IsLeft}
+use Rattle.lnt_ops.specs.Left.{OperationsAreLeft}
 use Rattle.lnt_wire.specs.Bytes.{Appends}
 use Rattle.lnt_wire.specs.Leb128.{UnsignedLeb, signed_groups}
 use Rattle.lnt_header.specs.declared.op.Operands.{Operands}
@@ -32,12 +32,12 @@ pub record IsNextOf (h : HeaderParts) (later : List Op) (view : OpView) (new : W
   pub others : List Op
   pub later_is : later ≡ op ∷ others
   pub stands : StandsFor view op
-  pub left : IsLeft h others new
+  pub left : OperationsAreLeft h others new
 
 -- ---- an operation that is kept
 
 -- the view stands for some operation
-pub record IsView (view : OpView) : Type 0 where
+pub record StandsForSome (view : OpView) : Type 0 where
   pub op : Op
   pub stands : StandsFor view op
 

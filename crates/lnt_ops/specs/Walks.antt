@@ -21,7 +21,7 @@ pub record Ends (old new : Walk) : Type 0 where
   pub unchanged : new ≡ old
 
 -- the next operation
-pub record Steps (view : OpView) (old new : Walk) : Type 0 where
+pub record GivesOperation (view : OpView) (old new : Walk) : Type 0 where
   pub going : old.failed ≡ false
   pub goes_on : new.failed ≡ false
   pub header_is : new.header ≡ old.header
@@ -41,5 +41,5 @@ pub record Fails (fault : Fault) (old new : Walk) : Type 0 where
 -- one step of a walk
 abbrev pub WalkStep : Walk → Option (Result OpView Fault) → Walk → Type 0
 WalkStep old None new = Ends old new
-WalkStep old (Some (Ok view)) new = Steps view old new
+WalkStep old (Some (Ok view)) new = GivesOperation view old new
 WalkStep old (Some (Err fault)) new = Fails fault old new

@@ -6,7 +6,7 @@ ghost use Rattle.lnt_wire.specs.Reading.{Refuses};
 ghost use Rattle.lnt_header.specs.FieldFaults.{IsWrongOperand};
 ghost use Rattle.lnt_header.specs.OpRules.{taken_by};
 ghost use Rattle.lnt_header.specs.OpRules.Taken.{takes_number};
-ghost use Rattle.lnt_ops.specs.OpSteps.{BytesAfter, IsFaultAfter, GivesAfter, IsRightOperand, GivesCounted, IsCountedFault};
+ghost use Rattle.lnt_ops.specs.OpSteps.{BytesAfter, IsFaultAfter, GivesAfter, IsRightOperand, GivesCounted, IsCountedOpFault};
 ghost use Rattle.lnt_ops.specs.OpSteps.{IsLargeNumber};
 
 use lnt_header::{Header, OpView};
@@ -41,7 +41,7 @@ fn read_counted<'a>(
 ) -> Result<OpView<'a>, Fault>
     requires { start + length bytes.now < 2 ^ 64 }
     ensures ok { IfOk result (λ view. GivesCounted header.now view bytes.now) }
-    ensures err { IfErr result (λ fault. IsCountedFault header.now.address_size length_place start fault bytes.now) }
+    ensures err { IfErr result (λ fault. IsCountedOpFault header.now.address_size length_place start fault bytes.now) }
 {
     if !has_right_operand(bytes, header) {
         return Err(Fault {

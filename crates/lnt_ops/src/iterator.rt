@@ -40,7 +40,7 @@ impl<'a> Model for Ops<'a> {
 impl<'a> Ops<'a> {
     ghost use Rattle.std.specs.Prelude.{◌≡◌, IfNone, IfSome};
     ghost use Rattle.lnt_header.specs.HeaderRules.{IsHeader};
-    ghost use Rattle.lnt_ops.specs.Walks.{Steps};
+    ghost use Rattle.lnt_ops.specs.Walks.{GivesOperation};
     ghost use Rattle.lnt_ops.specs.Short.{NoneShort};
 
     /// The operations of a program in a unit with this header. The program's first byte stands at the offset `place`
@@ -108,7 +108,7 @@ impl<'a> Ops<'a> {
     #[inline(always)]
     #[tactic(auto, using(crate::proofs::ShortLemmas::steps_short))]
     pub fn next_short(&mut self) -> Option<OpView<'a>>
-        ensures steps { IfSome result (λ view. Steps view self.old self.new) }
+        ensures steps { IfSome result (λ view. GivesOperation view self.old self.new) }
         ensures unchanged { IfNone result (self.new ≡ self.old) }
         ensures none { IfNone result (self.old.failed ≡ false → NoneShort self.old.header self.old.at.rest) }
     {

@@ -5,7 +5,7 @@ ghost use Rattle.lnt_header.specs.OpRules.{last_known, StandsFor};
 ghost use Rattle.lnt_ops.specs.OpBytes.{OpBytes};
 ghost use Rattle.lnt_ops.specs.OpFaults.{IsFirstFault, IsOpFault};
 ghost use Rattle.lnt_ops.specs.OpReading.{GivesOp};
-ghost use Rattle.lnt_ops.specs.Stepping.{IsView};
+ghost use Rattle.lnt_ops.specs.Stepping.{StandsForSome};
 ghost use Rattle.lnt_ops.specs.OpSteps.{BytesAfter, IsFaultAfter, GivesAfter};
 
 use crate::extended::read_extended;
@@ -97,7 +97,7 @@ fn read_apart<'a>(cursor: &mut Cursor<'a>, header: &Header, opcode: u8) -> Resul
 /// The operation that the view stands for. The only error is that memory ran out.
 #[tactic(auto, using(crate::proofs::OwnedLemmas::some_operands))]
 pub(crate) fn owned_op(alloc: Global, view: OpView<'_>) -> Result<Op, AllocError>
-    requires { IsView view }
+    requires { StandsForSome view }
     ensures { IfOk result (λ op. StandsFor view.entry op) }
 {
     match view {

@@ -1,7 +1,7 @@
 //! Frequent operations with short operands, read in line (DWARF 5, section 6.2.5).
 ghost use Rattle.std.specs.Prelude.{◌≡◌, ◌<◌, ◌≤◌, length, take, [], ◌∷◌, IfNone, IfSome};
 ghost use Rattle.lnt_wire.specs.Leb128.{SignedLeb, UnsignedLeb};
-ghost use Rattle.lnt_ops.specs.Short.{IsFront, NoneShort};
+ghost use Rattle.lnt_ops.specs.Short.{IsOperationFront, NoneShort};
 ghost use Rattle.lnt_ops.specs.Stepping.{IsGroup, NoByte, NoDiscriminator, NoTwoBytes};
 
 use lnt_header::{Header, OpView};
@@ -11,7 +11,7 @@ use lnt_header::{Header, OpView};
 #[inline(always)]
 #[tactic(auto, using(crate::proofs::ShortLemmas::short_fronts))]
 pub(crate) fn short_op<'a>(bytes: &'a [u8], header: &Header) -> Option<(OpView<'a>, usize)>
-    ensures some { IfSome result (λ found. IsFront header.now found.0 found.1 bytes.now) }
+    ensures some { IfSome result (λ found. IsOperationFront header.now found.0 found.1 bytes.now) }
     ensures none { IfNone result (NoneShort header.now bytes.now) }
 {
     if bytes.is_empty() {

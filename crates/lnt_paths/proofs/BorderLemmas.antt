@@ -4,11 +4,12 @@ use Rattle.std.specs.List.{AllByRecursion, Contains}
 use Rattle.lnt_spans.specs.declared.answer.Answer.{Answer}
 use Rattle.lnt_spans.specs.declared.position.Position.{Position}
 use Rattle.lnt_spans.specs.declared.span.Span.{Span}
-use Rattle.lnt_spans.specs.Coming.{GivesFirst}
+use Rattle.lnt_spans.specs.Coming.{GivesFirstSpan}
 use Rattle.lnt_spans.specs.Positions.{IsAtMost}
 use Rattle.lnt_spans.proofs.ComingLaws.{HasGiven}
 use Rattle.lnt_spans.proofs.PositionLaws.{at_most_itself, at_most_trans, below_is_at_most}
-use Rattle.lnt_paths.specs.Borders.{HasNoOperation, IsLeastOperation, path_borders}
+use Rattle.lnt_spans.specs.Instructions.{IsOfInstructions}
+use Rattle.lnt_paths.specs.Borders.{IsLeastOperation, path_borders}
 use Rattle.lnt_paths.specs.Joining.{IsFirstOperation, tell_span}
 use Rattle.lnt_paths.specs.PathAnswers.{PathAnswer}
 use Rattle.lnt_paths.specs.PathSpans.{PathSpan, StandInOrder}
@@ -16,23 +17,23 @@ use Rattle.lnt_paths.proofs.PathSpanLemmas.{first_holds, rest_in_order}
 
 -- ---- found in turn
 
-past : (done rest : List Span) (p : Position) → AllByRecursion HasNoOperation done → IsFirstOperation p rest
+past : (done rest : List Span) (p : Position) → AllByRecursion IsOfInstructions done → IsFirstOperation p rest
     → IsFirstOperation p (done ++ rest)
 past [] rest p h f = f
 past (s ∷ done) rest p h f = inr (inr (h.0, past done rest p h.1 f))
 
 pub found : (joined given : List Span) (span : Span) (p : Position) (Left New : List Span → Type 0) → HasGiven joined given Left
-    → ((spans : List Span) → Left spans → GivesFirst New spans (Some span))
-    → AllByRecursion HasNoOperation given → ((more : List Span) → IsFirstOperation p (span ∷ more)) → IsFirstOperation p joined
+    → ((spans : List Span) → Left spans → GivesFirstSpan New spans (Some span))
+    → AllByRecursion IsOfInstructions given → ((more : List Span) → IsFirstOperation p (span ∷ more)) → IsFirstOperation p joined
 found joined given span p Left New h gives none first = by h.rest h.list_is (gives h.rest h.left)
   where
-    by : (rest : List Span) → joined ≡ given ++ rest → GivesFirst New rest (Some span) → IsFirstOperation p joined
+    by : (rest : List Span) → joined ≡ given ++ rest → GivesFirstSpan New rest (Some span) → IsFirstOperation p joined
     by [] e g = absurd g
     by (s ∷ more) e g = subst (IsFirstOperation p) (sym e)
         (past given (s ∷ more) p none (subst (λ (t : Span). IsFirstOperation p (t ∷ more)) g.0 (first more)))
 
-pub none_more : (given : List Span) (span : Span) → AllByRecursion HasNoOperation given → HasNoOperation span
-    → AllByRecursion HasNoOperation (given ++ span ∷ [])
+pub none_more : (given : List Span) (span : Span) → AllByRecursion IsOfInstructions given → IsOfInstructions span
+    → AllByRecursion IsOfInstructions (given ++ span ∷ [])
 none_more [] span h one = (one, tt)
 none_more (s ∷ given) span h one = (h.0, none_more given span h.1 one)
 

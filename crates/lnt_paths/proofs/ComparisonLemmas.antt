@@ -5,7 +5,7 @@ use Rattle.std.proofs.lemmas.Bool.{cases_lt}
 use Rattle.lnt_digits.specs.Digits.{IsAddress, IsDecimal}
 use Rattle.lnt_records.specs.declared.fault.TableFault.{TableFault}
 use Rattle.lnt_records.specs.declared.fault.TableFault.TheVariants as fault
-use Rattle.lnt_spans.specs.Remaining.{IsLeft}
+use Rattle.lnt_spans.specs.Remaining.{SpansAreLeft}
 use Rattle.lnt_records.specs.Reading.{BytesReader, HasRead}
 use Rattle.lnt_records.specs.Table.{BeginsWith, Fields, RecordsOf}
 use Rattle.csv.specs.Reading.{reader_state}
@@ -80,8 +80,9 @@ pub record_taken : {S : Type 0} (to_come : S → List Span → Type 0) (tell : A
     → SaysPath IsAddress IsDecimal version fields said.low said.high (record_answer said) → old.at ≤ said.low → said.low < said.high
     → new.count ≡ old.count + 1
     → ((list : List Span) (table : List PathSpan)
-    → IsMerged tell (IsLeft to_come old.section.next old.section.spans) (whole old.at) old.first list table
-    → IsMerged tell (IsLeft to_come new.section.next new.section.spans) (whole new.at) new.first list (table ++ record_span said ∷ []))
+    → IsMerged tell (SpansAreLeft to_come old.section.next old.section.spans) (whole old.at) old.first list table
+    → IsMerged tell (SpansAreLeft to_come new.section.next new.section.spans) (whole new.at) new.first list
+        (table ++ record_span said ∷ []))
     → JudgesByPath to_come tell version new section (records ++ fields ∷ [])
 record_taken to_come tell version old new section records fields said j says le lt count step =
     let past : IsAtMost (whole old.at) (whole said.low) = record { address = le; op = λ e. omega arith } in
@@ -129,7 +130,7 @@ begins reader bytes records h = (reader_state reader, h.rest, h.reached)
 -- after the header alone
 pub judges_none : {S : Type 0} (to_come : S → List Span → Type 0) (tell : Answer → PathAnswer) (version : PathVersion)
     (comparison : PathComparison S)
-    (list : List Span) → IsLeft to_come comparison.section.next comparison.section.spans list → AreInOrder list
+    (list : List Span) → SpansAreLeft to_come comparison.section.next comparison.section.spans list → AreInOrder list
     → (comparison.at ≡ 0) × (comparison.first ≡ None) × (comparison.count ≡ 1)
     → JudgesByPath to_come tell version comparison list (path_column_names version ∷ [])
 judges_none to_come tell version comparison list left order e = record {

@@ -11,7 +11,7 @@ use Rattle.lnt_spans.specs.Positions.{IsBelow, IsAtMost}
 use Rattle.lnt_spans.specs.Spans.{AreInOrder, is_in_span, span_answer}
 use Rattle.lnt_spans.proofs.AnsweringLaws.{answer_before, answer_after, answer_in, first_holds}
 use Rattle.lnt_spans.proofs.PositionLaws.{at_most_itself, below_at_most, below_is_at_most, not_both, order_cases, order_three}
-use Rattle.lnt_paths.specs.Joining.{AllJoinTo, GoesOn, JoinsTo, grown, tell_span}
+use Rattle.lnt_paths.specs.Joining.{AllJoinTo, IsExtendedBy, JoinsTo, grown, tell_span}
 use Rattle.lnt_paths.specs.PathAnswers.{answer_told, PathAnswer}
 use Rattle.lnt_paths.specs.PathSpans.{AreCanonicalOf, PathSpan, PathsDifferWhereTheyTouch, StandInOrder, is_in_path_span, path_span_answer}
 
@@ -72,7 +72,7 @@ same_place p q = elim (order_three p q) [
   | inr (inr h) ↦ inr (λ e. not_both h (subst (λ (r : Position). IsAtMost p r) e (at_most_itself p)))
 ]
 
-goes_or_not : (tell : Answer → PathAnswer) (last next : Span) → GoesOn tell last next ⊎ (GoesOn tell last next → ⊥)
+goes_or_not : (tell : Answer → PathAnswer) (last next : Span) → IsExtendedBy tell last next ⊎ (IsExtendedBy tell last next → ⊥)
 goes_or_not tell last next = elim (same_place last.high next.low) [
   | inr differs ↦ inr (λ g. differs g.0)
   | inl touch ↦ elim (same_answer (tell last.answer) (tell next.answer)) [
@@ -136,7 +136,7 @@ joined_order tell last (next ∷ rest) joined h (inr j) =
 
 -- ---- with the same answers
 
-grown_answer : (tell : Answer → PathAnswer) (last next : Span) (rest : List Span) (p : Position) → GoesOn tell last next
+grown_answer : (tell : Answer → PathAnswer) (last next : Span) (rest : List Span) (p : Position) → IsExtendedBy tell last next
     → AreInOrder (last ∷ next ∷ rest)
     → answer_told tell (grown last next.high ∷ rest) p ≡ answer_told tell (last ∷ next ∷ rest) p
 grown_answer tell last next rest p goes o =
@@ -194,7 +194,8 @@ joined_same tell last (next ∷ rest) joined p h (inr j) =
 abbrev by_paths : (Answer → PathAnswer) → List Span → List PathSpan
 by_paths tell list = map (tell_span tell) list
 
-put_differ : (tell : Answer → PathAnswer) (last next : Span) (joined : List Span) → (GoesOn tell last next → ⊥) → BeginsLike next joined
+put_differ : (tell : Answer → PathAnswer) (last next : Span) (joined : List Span) → (IsExtendedBy tell last next → ⊥)
+    → BeginsLike next joined
     → PathsDifferWhereTheyTouch (by_paths tell joined)
     → PathsDifferWhereTheyTouch (by_paths tell (last ∷ joined))
 put_differ tell last next joined differs like differ =

@@ -13,13 +13,13 @@ use Rattle.lnt_spans.proofs.PositionLaws.{at_most_below, at_most_itself, at_most
 use Rattle.lnt_spans.proofs.PositionLaws.{order_cases}
 use Rattle.lnt_spans.specs.Positions.{IsBelow, IsAtMost}
 use Rattle.lnt_spans.specs.Spans.{AreInOrder, span_answer}
-use Rattle.lnt_spans.specs.Coming.{GivesFirst}
+use Rattle.lnt_spans.specs.Coming.{GivesFirstSpan}
 use Rattle.lnt_paths.specs.declared.record.PathRecord.{PathRecord}
 use Rattle.lnt_paths.specs.declared.answer.AnswerByPath.{AnswerByPath}
 use Rattle.lnt_paths.specs.declared.answer.DifferenceByPath.{DifferenceByPath}
 use Rattle.lnt_paths.specs.declared.merge.Apart.{Apart}
-use Rattle.lnt_paths.specs.Merging.{AreApart, ArePassed, BeginFrom, IsMerged, path_end, table_side}
-use Rattle.lnt_spans.specs.Remaining.{IsLeft}
+use Rattle.lnt_paths.specs.Merging.{IsFirstApart, ArePassed, BeginFrom, IsMerged, path_end, table_side}
+use Rattle.lnt_spans.specs.Remaining.{SpansAreLeft}
 use Rattle.lnt_paths.specs.PathAnswers.{PathAnswer, answer_told}
 use Rattle.lnt_paths.specs.PathDifferences.{DifferFirst, IsLeastPathDifference, told_path_answer}
 use Rattle.lnt_paths.specs.PathSpans.{PathSpan, path_span_answer, whole}
@@ -30,7 +30,7 @@ use Rattle.lnt_paths.proofs.PathSpanLemmas.{answer_before, answer_after, answer_
 
 -- the next span is the first one left
 pub left_first : {S : Type 0} (to_come : S → List Span → Type 0) (next : Option Span) (spans : S) (rest : List Span) (span : Span)
-    → next ≡ Some span → IsLeft to_come next spans rest → (more : List Span) × (rest ≡ span ∷ more) × to_come spans more
+    → next ≡ Some span → SpansAreLeft to_come next spans rest → (more : List Span) × (rest ≡ span ∷ more) × to_come spans more
 left_first to_come next spans [] span e l = absurd (let h : None ≡ Some span = sym l ∙ e in cc h)
 left_first to_come next spans (first ∷ more) span e l =
     (more, ap (λ (s : Span). s ∷ more) (same_Some first span (sym l.0 ∙ e)), l.1)
@@ -148,16 +148,17 @@ low_high said lt = record { address = omega (arith, lt); op = λ e. absurd (omeg
 -- the section's first span begins before the record
 pub apart_before : {S : Type 0} (to_come : S → List Span → Type 0) (tell : Answer → PathAnswer) (list : List Span) (said : PathRecord)
     (next : Option Span) (spans : S) (span : Span) → said.low < said.high → next ≡ Some span → IsBelow span.low (whole said.low)
-    → IsLeft to_come next spans list → AreInOrder list
-    → AreApart tell list said (record { position = span.low; by_table = false; by_section = Some span.answer })
+    → SpansAreLeft to_come next spans list → AreInOrder list
+    → IsFirstApart tell list said (record { position = span.low; by_table = false; by_section = Some span.answer })
 unfolding passed_none
 apart_before to_come tell list said next spans span holds is lt left order =
     let first = left_first to_come next spans list span is left in
     let whole_order : AreInOrder (span ∷ first.0) = subst AreInOrder first.1 order in
     let from : BeginFrom span.low list = subst (BeginFrom span.low) (sym first.1) (at_most_itself span.low) in
-    let passed = passed_none tell list (record_span said) span.low (IsLeft to_come next spans) left order from (below_is_at_most lt) in
+    let passed = passed_none tell list (record_span said) span.low (SpansAreLeft to_come next spans) left order from
+        (below_is_at_most lt) in
     record {
-      first = differs_at tell list (alone said) span.low (IsLeft to_come next spans) None (Some (tell span.answer)) passed
+      first = differs_at tell list (alone said) span.low (SpansAreLeft to_come next spans) None (Some (tell span.answer)) passed
           (sym (ap (option_map tell) (ap (λ (xs : List Span). span_answer xs span.low) first.1
           ∙ answering.answer_in span first.0 span.low (at_most_itself span.low) (answering.first_holds span first.0 whole_order))))
           (sym (answer_before (record_span said) [] span.low lt)) (λ e. cc e);
@@ -166,31 +167,31 @@ apart_before to_come tell list said next spans span holds is lt left order =
 
 -- the section's first span begins at or after the record, or there is none
 pub begun : {S : Type 0} (to_come : S → List Span → Type 0) (tell : Answer → PathAnswer) (list : List Span) (said : PathRecord)
-    (next : Option Span) (spans : S) → IfSome next (λ span. IsAtMost (whole said.low) span.low) → IsLeft to_come next spans list
+    (next : Option Span) (spans : S) → IfSome next (λ span. IsAtMost (whole said.low) span.low) → SpansAreLeft to_come next spans list
     → AreInOrder list
-    → ArePassed tell list (alone said) (whole said.low) (IsLeft to_come next spans)
+    → ArePassed tell list (alone said) (whole said.low) (SpansAreLeft to_come next spans)
 begun to_come tell list said next spans past left order =
-    passed_none tell list (record_span said) (whole said.low) (IsLeft to_come next spans) left order (from list next past left)
+    passed_none tell list (record_span said) (whole said.low) (SpansAreLeft to_come next spans) left order (from list next past left)
     (at_most_itself (whole said.low))
   where
     from : (xs : List Span) (first : Option Span) → IfSome first (λ span. IsAtMost (whole said.low) span.low)
-        → IsLeft to_come first spans xs → BeginFrom (whole said.low) xs
+        → SpansAreLeft to_come first spans xs → BeginFrom (whole said.low) xs
     from [] first h l = tt
     from (span ∷ xs) first h l = subst (λ (o : Option Span). IfSome o (λ span. IsAtMost (whole said.low) span.low)) l.0 h
 
 -- the next span, if there is one, begins later
 pub apart_gap : {S : Type 0} (to_come : S → List Span → Type 0) (tell : Answer → PathAnswer) (list : List Span) (said : PathRecord)
     (at : Position) (next : Option Span) (spans : S) → IfSome next (λ span. IsBelow at span.low) → IsAtMost (whole said.low) at
-    → IsBelow at (whole said.high) → ArePassed tell list (alone said) at (IsLeft to_come next spans)
-    → AreApart tell list said (record { position = at; by_table = true; by_section = None })
+    → IsBelow at (whole said.high) → ArePassed tell list (alone said) at (SpansAreLeft to_come next spans)
+    → IsFirstApart tell list said (record { position = at; by_table = true; by_section = None })
 apart_gap to_come tell list said at next spans gap le lt passed = record {
-  first = differs_at tell list (alone said) at (IsLeft to_come next spans) (Some (record_answer said)) None passed
+  first = differs_at tell list (alone said) at (SpansAreLeft to_come next spans) (Some (record_answer said)) None passed
       (sym (ap (option_map tell) (none_yet passed.rest next gap passed.left passed.order)))
       (sym (alone_in said at le lt)) (λ e. cc e);
   below = lt;
 }
   where
-    none_yet : (rest : List Span) (first : Option Span) → IfSome first (λ span. IsBelow at span.low) → IsLeft to_come first spans rest
+    none_yet : (rest : List Span) (first : Option Span) → IfSome first (λ span. IsBelow at span.low) → SpansAreLeft to_come first spans rest
         → AreInOrder rest → span_answer rest at ≡ None
     none_yet [] first gap left order = refl
     none_yet (span ∷ more) first gap left order =
@@ -200,14 +201,15 @@ apart_gap to_come tell list said at next spans gap le lt passed = record {
 pub apart_other : {S : Type 0} (to_come : S → List Span → Type 0) (tell : Answer → PathAnswer) (list : List Span) (said : PathRecord)
     (at : Position) (next : Option Span) (spans : S) (span : Span) → next ≡ Some span → IsAtMost span.low at
     → tell span.answer ≢ record_answer said
-    → IsAtMost (whole said.low) at → IsBelow at (whole said.high) → ArePassed tell list (alone said) at (IsLeft to_come next spans)
-    → AreApart tell list said (record { position = at; by_table = true; by_section = Some span.answer })
+    → IsAtMost (whole said.low) at → IsBelow at (whole said.high) → ArePassed tell list (alone said) at (SpansAreLeft to_come next spans)
+    → IsFirstApart tell list said (record { position = at; by_table = true; by_section = Some span.answer })
 apart_other to_come tell list said at next spans span is from ne le lt passed =
     let first = left_first to_come next spans passed.rest span is passed.left in
     let order : AreInOrder (span ∷ first.0) = subst AreInOrder first.1 passed.order in
     let begins : IsAtMost at span.low = subst (BeginFrom at) first.1 passed.from in
     record {
-      first = differs_at tell list (alone said) at (IsLeft to_come next spans) (Some (record_answer said)) (Some (tell span.answer)) passed
+      first = differs_at tell list (alone said) at (SpansAreLeft to_come next spans) (Some (record_answer said))
+          (Some (tell span.answer)) passed
           (sym (ap (option_map tell) (ap (λ (xs : List Span). span_answer xs at) first.1
           ∙ answering.answer_in span first.0 at from (at_most_below begins (answering.first_holds span first.0 order)))))
           (sym (alone_in said at le lt)) (λ e. ne (sym (same_Some (record_answer said) (tell span.answer) e)));
@@ -228,18 +230,18 @@ pub passed_within : {S : Type 0} (to_come : S → List Span → Type 0) (tell : 
     (at : Position) (next : Option Span) (spans : S) (span : Span) → next ≡ Some span → IsAtMost span.low at
     → tell span.answer ≡ record_answer said
     → IsAtMost (whole said.low) at → IsBelow at (whole said.high) → IsBelow (whole said.high) span.high
-    → ArePassed tell list (alone said) at (IsLeft to_come next spans)
-    → ArePassed tell list (alone said) (whole said.high) (IsLeft to_come (Some (record span { low = whole said.high })) spans)
+    → ArePassed tell list (alone said) at (SpansAreLeft to_come next spans)
+    → ArePassed tell list (alone said) (whole said.high) (SpansAreLeft to_come (Some (record span { low = whole said.high })) spans)
 passed_within to_come tell list said at next spans span is from same le lt over passed =
     let first = left_first to_come next spans passed.rest span is passed.left in
-    passed_part tell list (alone said) at (whole said.high) (IsLeft to_come next spans)
-    (IsLeft to_come (Some (record span { low = whole said.high })) spans)
+    passed_part tell list (alone said) at (whole said.high) (SpansAreLeft to_come next spans)
+    (SpansAreLeft to_come (Some (record span { low = whole said.high })) spans)
     span first.0 passed first.1 (below_is_at_most lt) over
     (answers tell said at (whole said.high) span same (below_is_at_most over) from le (at_most_itself (whole said.high))) (refl, first.2)
 
 pub given_left : {S : Type 0} (to_come : S → List Span → Type 0) (given : Option Span) (spans : S) (list : List Span)
-    → GivesFirst (to_come spans) list given
-    → IsLeft to_come given spans list
+    → GivesFirstSpan (to_come spans) list given
+    → SpansAreLeft to_come given spans list
 given_left to_come None spans [] g = refl
 given_left to_come (Some given) spans [] g = absurd g
 given_left to_come None spans (span ∷ list) g = absurd g
@@ -250,14 +252,14 @@ pub passed_whole : {S : Type 0} (to_come : S → List Span → Type 0) (tell : A
     (at : Position) (next given : Option Span) (spans spans' : S) (span : Span) → next ≡ Some span → IsAtMost span.low at
     → tell span.answer ≡ record_answer said
     → IsAtMost (whole said.low) at → IsAtMost span.high (whole said.high)
-    → ((rest : List Span) → to_come spans rest → GivesFirst (to_come spans') rest given)
-    → ArePassed tell list (alone said) at (IsLeft to_come next spans)
-    → ArePassed tell list (alone said) span.high (IsLeft to_come given spans')
+    → ((rest : List Span) → to_come spans rest → GivesFirstSpan (to_come spans') rest given)
+    → ArePassed tell list (alone said) at (SpansAreLeft to_come next spans)
+    → ArePassed tell list (alone said) span.high (SpansAreLeft to_come given spans')
 passed_whole to_come tell list said at next given spans spans' span is from same le over gives passed =
     let first = left_first to_come next spans passed.rest span is passed.left in
     let order : AreInOrder (span ∷ first.0) = subst AreInOrder first.1 passed.order in
     let begins : IsAtMost at span.low = subst (BeginFrom at) first.1 passed.from in
-    passed_span tell list (alone said) at (IsLeft to_come next spans) (IsLeft to_come given spans') span first.0 passed first.1
+    passed_span tell list (alone said) at (SpansAreLeft to_come next spans) (SpansAreLeft to_come given spans') span first.0 passed first.1
     (at_most_trans begins (below_is_at_most (answering.first_holds span first.0 order)))
     (answers tell said at span.high span same (at_most_itself span.high) from le over)
     (given_left to_come given spans' first.0 (gives first.0 first.2))
@@ -265,7 +267,7 @@ passed_whole to_come tell list said at next given spans spans' span is from same
 -- the record doesn't begin above the end of the next span
 pub low_after : {S : Type 0} (to_come : S → List Span → Type 0) (tell : Answer → PathAnswer) (list : List Span) (said : PathRecord)
     (at : Position) (next : Option Span) (spans : S) (span : Span) → next ≡ Some span → IsAtMost (whole said.low) at
-    → ArePassed tell list (alone said) at (IsLeft to_come next spans) → IsAtMost (whole said.low) span.high
+    → ArePassed tell list (alone said) at (SpansAreLeft to_come next spans) → IsAtMost (whole said.low) span.high
 low_after to_come tell list said at next spans span is le passed =
     let first = left_first to_come next spans passed.rest span is passed.left in
     let order : AreInOrder (span ∷ first.0) = subst AreInOrder first.1 passed.order in
@@ -279,7 +281,7 @@ origin_first p = record { address = omega arith; op = λ e. omega arith }
 
 pub merged_none : {S : Type 0} (to_come : S → List Span → Type 0) (tell : Answer → PathAnswer) (list : List Span) (next : Option Span)
     (spans : S)
-    → IsLeft to_come next spans list → AreInOrder list → IsMerged tell (IsLeft to_come next spans) (whole 0) None list []
+    → SpansAreLeft to_come next spans list → AreInOrder list → IsMerged tell (SpansAreLeft to_come next spans) (whole 0) None list []
 merged_none to_come tell list next spans left order = record {
   at_is = refl;
   ended = λ p h. refl;
@@ -398,7 +400,7 @@ differ_on tell section table said at position one other AreLeft m f ended d =
 pub merged_apart : (tell : Answer → PathAnswer) (section : List Span) (table : List PathSpan) (said : PathRecord) (at : Position)
     (first : Option DifferenceByPath)
     (AreLeft AreLeft' : List Span → Type 0) (apart : Apart) (difference : DifferenceByPath) → Follows at said → first ≡ None
-    → ((list : List Span) → AreLeft list → AreInOrder list → AreApart tell list said apart)
+    → ((list : List Span) → AreLeft list → AreInOrder list → IsFirstApart tell list said apart)
     → difference.position ≡ apart.position → option_map told_path_answer difference.by_table ≡ table_side apart.by_table
     (record_answer said)
     → option_map told_path_answer difference.by_section ≡ option_map tell apart.by_section
@@ -452,7 +454,7 @@ not_found (Some difference) e = absurd (true≢false (sym e))
 pub finish_more : {S : Type 0} (to_come : S → List Span → Type 0) (tell : Answer → PathAnswer) (section : List Span) (table : List PathSpan)
     (at : Position)
     (first : Option DifferenceByPath) (next : Option Span) (spans : S) (span : Span) (told : AnswerByPath) → first ≡ None → next ≡ Some span
-    → told_path_answer told ≡ tell span.answer → IsMerged tell (IsLeft to_come next spans) at first section table
+    → told_path_answer told ≡ tell span.answer → IsMerged tell (SpansAreLeft to_come next spans) at first section table
     → IsLeastPathDifference (answer_told tell section) (path_span_answer table)
     (record { position = span.low; by_table = None; by_section = Some told })
 finish_more to_come tell section table at None next spans span told e is same c =

@@ -16,7 +16,7 @@ use Rattle.csv.proofs.RoundTrip.{read-write}
 use Rattle.lnt_digits.specs.Digits.{IsAddress, IsDecimal}
 use Rattle.lnt_records.proofs.ReadingLaws.{no_record}
 use Rattle.lnt_digits.specs.Delimited.{Begins}
-use Rattle.lnt_spans.specs.Remaining.{IsLeft}
+use Rattle.lnt_spans.specs.Remaining.{SpansAreLeft}
 use Rattle.lnt_records.specs.Reading.{BytesReader, HasRead}
 use Rattle.lnt_records.specs.Table.{BeginsWith, Fields, RecordsOf}
 use Rattle.lnt_spans.specs.declared.answer.Answer.{Answer}
@@ -359,8 +359,8 @@ stands_first to_come tell version old table header last count e f plain = record
 abbrev pub TakesRecord : {S : Type 0} → (S → List Span → Type 0) → (Answer → PathAnswer) → PathComparison S → PathComparison S → PathRecord
     → Type 0
 TakesRecord to_come tell old new said = (list : List Span) (table : List PathSpan)
-    → IsMerged tell (IsLeft to_come old.section.next old.section.spans) (whole old.at) old.first list table
-    → IsMerged tell (IsLeft to_come new.section.next new.section.spans) (whole new.at) new.first list (table ++ record_span said ∷ [])
+    → IsMerged tell (SpansAreLeft to_come old.section.next old.section.spans) (whole old.at) old.first list table
+    → IsMerged tell (SpansAreLeft to_come new.section.next new.section.spans) (whole new.at) new.first list (table ++ record_span said ∷ [])
 
 pub stands_more : {S : Type 0} (to_come : S → List Span → Type 0) (tell : Answer → PathAnswer) (version : PathVersion)
     (old now new : PathComparison S) (table : List ℕ) (before at next : ℕ) (last : List ℕ) (said : PathRecord)

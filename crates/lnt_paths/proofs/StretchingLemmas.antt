@@ -4,9 +4,9 @@ use Rattle.std.specs.Option.{option_map}
 use Rattle.lnt_spans.specs.declared.answer.Answer.{Answer}
 use Rattle.lnt_spans.specs.declared.position.Position.{Position}
 use Rattle.lnt_spans.specs.declared.span.Span.{Span}
-use Rattle.lnt_spans.specs.Coming.{GivesFirst}
+use Rattle.lnt_spans.specs.Coming.{GivesFirstSpan}
 use Rattle.lnt_spans.specs.Positions.{IsBelow, IsAtMost}
-use Rattle.lnt_spans.specs.Remaining.{EndsAfter, IsLeft}
+use Rattle.lnt_spans.specs.Remaining.{EndsAfter, SpansAreLeft}
 use Rattle.lnt_spans.specs.Spans.{AreInOrder}
 use Rattle.lnt_spans.specs.Stepping.{BeginsWith, IsRun, IsUpTo, run_end}
 use Rattle.lnt_spans.proofs.AnsweringLaws as answering
@@ -24,14 +24,14 @@ use Rattle.lnt_paths.proofs.PathSpanLemmas.{none_before}
 -- ---- a section
 
 begins_with : {S : Type 0} (to_come : S → List Span → Type 0) (next : Option Span) (spans : S) (rest : List Span)
-    → IsLeft to_come next spans rest → BeginsWith next rest
+    → SpansAreLeft to_come next spans rest → BeginsWith next rest
 begins_with to_come next spans [] l = l
 begins_with to_come next spans (first ∷ more) l = l.0
 
 -- the section drops its next span
 pub section_passed : {S : Type 0} (to_come : S → List Span → Type 0) (tell : Answer → PathAnswer) (old : Section S) (next : Option Span)
     (spans : S) (span : Span) (at end : Position) (answers : Position → Option PathAnswer) → old.next ≡ Some span → IsAtMost span.high end
-    → ((list : List Span) → to_come old.spans list → GivesFirst (to_come spans) list next)
+    → ((list : List Span) → to_come old.spans list → GivesFirstSpan (to_come spans) list next)
     → IsSectionAt to_come tell old at answers → IsAtMost at end → IsUpTo end (run_end at old.next)
     → IsSectionAt to_come tell (record { next = next; spans = spans }) end answers
 section_passed to_come tell old next spans span at end answers some high gives s le up =

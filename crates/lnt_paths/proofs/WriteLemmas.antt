@@ -19,7 +19,8 @@ use Rattle.lnt_spans.specs.declared.span.Span.{Span}
 use Rattle.lnt_spans.specs.Spans.{AreInOrder, span_answer}
 use Rattle.lnt_paths.specs.declared.version.PathVersion.{PathVersion}
 use Rattle.lnt_paths.specs.declared.version.PathVersion.TheVariants.{Three, Four}
-use Rattle.lnt_paths.specs.Borders.{HasNoOperation, HasNoPathOperation}
+use Rattle.lnt_spans.specs.Instructions.{IsOfInstructions}
+use Rattle.lnt_paths.specs.Borders.{IsPathSpanOfInstructions}
 use Rattle.lnt_paths.specs.Joining.{AddsPathLine, AllJoinTo, AreFirstOf, HasBegunLines, HasWritten, IsFirstOperation}
 use Rattle.lnt_paths.specs.Joining.{JoinsTo, grown, tell_span}
 use Rattle.lnt_paths.specs.PathAnswers.{answer_told, PathAnswer}
@@ -120,14 +121,14 @@ line_begun tell version old now new given span empty line w none adds front =
 
 -- ---- the table
 
-none_by_path : (tell : Answer → PathAnswer) (joined : List Span) → AllByRecursion HasNoOperation joined
-    → AllByRecursion HasNoPathOperation (map (tell_span tell) joined)
+none_by_path : (tell : Answer → PathAnswer) (joined : List Span) → AllByRecursion IsOfInstructions joined
+    → AllByRecursion IsPathSpanOfInstructions (map (tell_span tell) joined)
 none_by_path tell [] h = tt
 none_by_path tell (s ∷ joined) h = (h.0, none_by_path tell joined h.1)
 
 plain_records : (tell : Answer → PathAnswer) (version : PathVersion) (records : List Fields) (joined : List Span)
     → AllZip (Says tell version) records joined
-    → AllByRecursion HasNoPathOperation (map (tell_span tell) joined)
+    → AllByRecursion IsPathSpanOfInstructions (map (tell_span tell) joined)
     → AllZip (IsPlainPathRecord version) records (map (tell_span tell) joined)
 plain_records tell version [] [] z h = tt
 plain_records tell version [] (s ∷ joined) z h = absurd z
@@ -160,8 +161,8 @@ operation_found tell other list p alike first =
 
 -- if the joined spans of one list are of whole instructions, so are those of the other
 whole_instructions : (tell : Answer → PathAnswer) (other list joined : List Span) → AnswerAlike other list
-    → ((whole : List Span) → AllJoinTo tell other whole → AllByRecursion HasNoOperation whole) → AllJoinTo tell list joined
-    → AllByRecursion HasNoPathOperation (map (tell_span tell) joined)
+    → ((whole : List Span) → AllJoinTo tell other whole → AllByRecursion IsOfInstructions whole) → AllJoinTo tell list joined
+    → AllByRecursion IsPathSpanOfInstructions (map (tell_span tell) joined)
 whole_instructions tell other list joined alike none joins =
     let judged = all_join tell other in
     let one = canonical_of tell other list judged.0 alike judged.1 in
@@ -169,11 +170,11 @@ whole_instructions tell other list joined alike none joins =
     let equal : map (tell_span tell) judged.0 ≡ map (tell_span tell) joined =
     one_list (map (tell_span tell) judged.0) (map (tell_span tell) joined) one.canonical two.canonical
     (λ p. one.same p ∙ sym (two.same p)) in
-    subst (AllByRecursion HasNoPathOperation) equal (none_by_path tell judged.0 (none judged.0 judged.1))
+    subst (AllByRecursion IsPathSpanOfInstructions) equal (none_by_path tell judged.0 (none judged.0 judged.1))
 
 pub table_written : (tell : Answer → PathAnswer) (version : PathVersion) (old new : Option (List ℕ)) (other list joined : List Span)
     → AnswerAlike other list
-    → ((whole : List Span) → AllJoinTo tell other whole → AllByRecursion HasNoOperation whole)
+    → ((whole : List Span) → AllJoinTo tell other whole → AllByRecursion IsOfInstructions whole)
     → ((all : List Span) → AllJoinTo tell list all → all ≡ joined) → HasWritten tell version old new joined
     → (bytes : List ℕ) × Appends old new bytes × IsCanonicalPathTable version (answer_told tell list) bytes
 table_written tell version old new other list joined alike none are w =
@@ -195,20 +196,21 @@ table_written tell version old new other list joined alike none are w =
 
 -- ---- spans of whole instructions
 
-joins_none : (tell : Answer → PathAnswer) (last : Span) (rest joined : List Span) → HasNoOperation last → AllByRecursion HasNoOperation rest
-    → JoinsTo tell last rest joined → AllByRecursion HasNoOperation joined
-joins_none tell last [] joined h none j = subst (AllByRecursion HasNoOperation) (sym j) (h, tt)
+joins_none : (tell : Answer → PathAnswer) (last : Span) (rest joined : List Span) → IsOfInstructions last
+    → AllByRecursion IsOfInstructions rest
+    → JoinsTo tell last rest joined → AllByRecursion IsOfInstructions joined
+joins_none tell last [] joined h none j = subst (AllByRecursion IsOfInstructions) (sym j) (h, tt)
 joins_none tell last (next ∷ rest) joined h none (inl j) = joins_none tell (grown last next.high) rest joined (h.0, none.0.1) none.1 j.1
 joins_none tell last (next ∷ rest) joined h none (inr j) =
-    subst (AllByRecursion HasNoOperation) (sym j.2) (h, joins_none tell next rest j.1 none.0 none.1 j.3)
+    subst (AllByRecursion IsOfInstructions) (sym j.2) (h, joins_none tell next rest j.1 none.0 none.1 j.3)
 
-all_join_none : (tell : Answer → PathAnswer) (list joined : List Span) → AllByRecursion HasNoOperation list → AllJoinTo tell list joined
-    → AllByRecursion HasNoOperation joined
-all_join_none tell [] joined none j = subst (AllByRecursion HasNoOperation) (sym j) tt
+all_join_none : (tell : Answer → PathAnswer) (list joined : List Span) → AllByRecursion IsOfInstructions list → AllJoinTo tell list joined
+    → AllByRecursion IsOfInstructions joined
+all_join_none tell [] joined none j = subst (AllByRecursion IsOfInstructions) (sym j) tt
 all_join_none tell (first ∷ rest) joined none j = joins_none tell first rest joined none.0 none.1 j
 
 pub instructions_written : (tell : Answer → PathAnswer) (version : PathVersion) (old new : Option (List ℕ)) (list joined : List Span)
-    → AreInOrder list → AllByRecursion HasNoOperation list → ((all : List Span) → AllJoinTo tell list all → all ≡ joined)
+    → AreInOrder list → AllByRecursion IsOfInstructions list → ((all : List Span) → AllJoinTo tell list all → all ≡ joined)
     → HasWritten tell version old new joined
     → (bytes : List ℕ) × Appends old new bytes × IsCanonicalPathTable version (answer_told tell list) bytes
 instructions_written tell version old new list joined order none are w =
@@ -277,13 +279,13 @@ table_begun_none tell version old list order =
       decided = inl (keeps_same old);
     }
 
-all_left : (xs ys : List PathSpan) → AllByRecursion HasNoPathOperation (xs ++ ys) → AllByRecursion HasNoPathOperation xs
+all_left : (xs ys : List PathSpan) → AllByRecursion IsPathSpanOfInstructions (xs ++ ys) → AllByRecursion IsPathSpanOfInstructions xs
 all_left [] ys h = tt
 all_left (x ∷ xs) ys h = (h.0, all_left xs ys h.1)
 
 pub table_begun : (tell : Answer → PathAnswer) (version : PathVersion) (old new : Option (List ℕ)) (other list first : List Span)
     → AnswerAlike other list
-    → ((whole : List Span) → AllJoinTo tell other whole → AllByRecursion HasNoOperation whole)
+    → ((whole : List Span) → AllJoinTo tell other whole → AllByRecursion IsOfInstructions whole)
     → AreFirstOf tell list first → HasBegunLines tell version old new first
     → BeginsPathTable version (answer_told tell list) old new
 table_begun tell version old new other list first alike none are begun =
@@ -292,8 +294,8 @@ table_begun tell version old new other list first alike none are begun =
     let split : map (tell_span tell) all.0 ≡ map (tell_span tell) first ++ map (tell_span tell) left.0 =
     ap (map (tell_span tell)) left.1 ∙ map-append (tell_span tell) first left.0 in
     let instructions = whole_instructions tell other list all.0 alike none all.1 in
-    let whole : AllByRecursion HasNoPathOperation (map (tell_span tell) first ++ map (tell_span tell) left.0) =
-    subst (AllByRecursion HasNoPathOperation) split instructions in
+    let whole : AllByRecursion IsPathSpanOfInstructions (map (tell_span tell) first ++ map (tell_span tell) left.0) =
+    subst (AllByRecursion IsPathSpanOfInstructions) split instructions in
     let canonical = joined_canonical tell list all.0 alike.second all.1 in
     let each = plain_records tell version begun.records first begun.each
     (all_left (map (tell_span tell) first) (map (tell_span tell) left.0) whole) in
@@ -312,7 +314,7 @@ table_begun tell version old new other list first alike none are begun =
     }
 
 pub instructions_begun : (tell : Answer → PathAnswer) (version : PathVersion) (old new : Option (List ℕ)) (list first : List Span)
-    → AreInOrder list → AllByRecursion HasNoOperation list → AreFirstOf tell list first → HasBegunLines tell version old new first
+    → AreInOrder list → AllByRecursion IsOfInstructions list → AreFirstOf tell list first → HasBegunLines tell version old new first
     → BeginsPathTable version (answer_told tell list) old new
 instructions_begun tell version old new list first order none are begun =
     table_begun tell version old new list list first (record { first = order; second = order; same = λ p. refl })

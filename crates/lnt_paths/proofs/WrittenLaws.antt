@@ -14,7 +14,7 @@ use Rattle.lnt_spans.specs.Spans.{AreInOrder}
 use Rattle.lnt_spans.proofs.PositionLaws.{at_most_itself, at_most_trans, below_is_at_most, order_cases}
 use Rattle.lnt_paths.specs.declared.version.PathVersion.{PathVersion}
 use Rattle.lnt_paths.specs.declared.version.PathVersion.TheVariants.{Three, Four}
-use Rattle.lnt_paths.specs.Borders.{HasNoPathOperation, IsLeastOperation, path_borders}
+use Rattle.lnt_paths.specs.Borders.{IsPathSpanOfInstructions, IsLeastOperation, path_borders}
 use Rattle.lnt_paths.specs.Joining.{AllJoinTo, JoinsTo, grown, tell_span}
 use Rattle.lnt_paths.specs.PathAnswers.{PathAnswer, path_answer, spans_by_path}
 use Rattle.lnt_paths.specs.PathSpans.{AreCanonicalOf, PathSpan}
@@ -41,7 +41,7 @@ all_join_fit tell (first ∷ rest) joined fit j = joins_fit tell first rest join
 -- ---- each span has a plain record
 
 has_record : (version : PathVersion) (path : ℕ → ℕ → List ℕ) (span : Span) → FitsSpan span
-    → HasNoPathOperation (tell_span (path_answer version path) span)
+    → IsPathSpanOfInstructions (tell_span (path_answer version path) span)
     → (fields : Fields) × IsPlainPathRecord version fields (tell_span (path_answer version path) span)
 has_record Three path span fits none =
     let low = has_address span.low.address fits.low.address in
@@ -68,7 +68,7 @@ has_record Four path span fits none =
     )
 
 has_records : (version : PathVersion) (path : ℕ → ℕ → List ℕ) (joined : List Span) → FitSpans joined
-    → AllByRecursion HasNoPathOperation (map (tell_span (path_answer version path)) joined)
+    → AllByRecursion IsPathSpanOfInstructions (map (tell_span (path_answer version path)) joined)
     → (records : List Fields) × AllZip (IsPlainPathRecord version) records (map (tell_span (path_answer version path)) joined)
 has_records version path [] fit none = ([], tt)
 has_records version path (span ∷ joined) fit none =
@@ -79,7 +79,7 @@ has_records version path (span ∷ joined) fit none =
 -- ---- the table
 
 pub whole_or_none : (version : PathVersion) (path : ℕ → ℕ → List ℕ) (given : List Span) (spans : List PathSpan) → AreInOrder given
-    → FitSpans given → AreCanonicalOf (spans_by_path version path given) spans → AllByRecursion HasNoPathOperation spans
+    → FitSpans given → AreCanonicalOf (spans_by_path version path given) spans → AllByRecursion IsPathSpanOfInstructions spans
     → (bytes : List ℕ) × IsCanonicalPathTable version (spans_by_path version path given) bytes
 whole_or_none version path given spans order fit canonical none =
     let tell : Answer → PathAnswer = path_answer version path in
@@ -88,7 +88,7 @@ whole_or_none version path given spans order fit canonical none =
     let same : map (tell_span tell) all.0 ≡ spans =
     one_list (map (tell_span tell) all.0) spans joined.canonical canonical.canonical (λ p. joined.same p ∙ sym (canonical.same p)) in
     let records = has_records version path all.0 (all_join_fit tell given all.0 fit all.1)
-    (subst (AllByRecursion HasNoPathOperation) (sym same) none) in
+    (subst (AllByRecursion IsPathSpanOfInstructions) (sym same) none) in
     let each = subst (AllZip (IsPlainPathRecord version) records.0) same records.1 in
     let bytes : List ℕ = records_text (path_column_names version ∷ records.0) in (
       bytes,
@@ -159,12 +159,12 @@ none_or_least (x ∷ borders) = elim (zero_or_not x.op) [
   ]
 ]
 
-of_borders : (spans : List PathSpan) → AllByRecursion (λ p. p.op ≡ 0) (path_borders spans) → AllByRecursion HasNoPathOperation spans
+of_borders : (spans : List PathSpan) → AllByRecursion (λ p. p.op ≡ 0) (path_borders spans) → AllByRecursion IsPathSpanOfInstructions spans
 of_borders [] h = tt
 of_borders (span ∷ spans) h = ((h.0, h.1.0), of_borders spans h.1.1)
 
 pub no_operation_or_least : (spans : List PathSpan)
-    → AllByRecursion HasNoPathOperation spans ⊎ ((position : Position) × IsLeastOperation spans position)
+    → AllByRecursion IsPathSpanOfInstructions spans ⊎ ((position : Position) × IsLeastOperation spans position)
 no_operation_or_least spans = elim (none_or_least (path_borders spans)) [
   | inl none ↦ inl (of_borders spans none)
   | inr some ↦ inr (some.0, record { border = some.1.border; op = some.1.op; least = some.1.least })

@@ -2,17 +2,12 @@
 use Rattle.std.specs.Prelude.{◌≡◌, ◌≢◌, List, [], ◌∷◌}
 use Rattle.std.specs.List.{AllByRecursion, Contains}
 use Rattle.lnt_spans.specs.declared.position.Position.{Position}
-use Rattle.lnt_spans.specs.declared.span.Span.{Span}
 use Rattle.lnt_spans.specs.Positions.{IsAtMost}
 use Rattle.lnt_paths.specs.PathSpans.{PathSpan}
 
--- the span begins and ends at operation index 0
-abbrev pub HasNoOperation : Span → Type 0
-HasNoOperation span = (span.low.op ≡ 0) × (span.high.op ≡ 0)
-
--- the same of a span by path
-abbrev pub HasNoPathOperation : PathSpan → Type 0
-HasNoPathOperation span = (span.low.op ≡ 0) × (span.high.op ≡ 0)
+-- the span by path begins and ends at operation index 0, as a span does of which IsOfInstructions is so
+abbrev pub IsPathSpanOfInstructions : PathSpan → Type 0
+IsPathSpanOfInstructions span = (span.low.op ≡ 0) × (span.high.op ≡ 0)
 
 -- all positions where a span begins or ends
 abbrev pub path_borders : List PathSpan → List Position

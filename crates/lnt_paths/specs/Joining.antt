@@ -11,7 +11,7 @@ use Rattle.lnt_spans.specs.declared.answer.Answer.{Answer}
 use Rattle.lnt_spans.specs.declared.position.Position.{Position}
 use Rattle.lnt_spans.specs.declared.span.Span.{Span}
 use Rattle.lnt_paths.specs.declared.field.PathField.{PathField}
-use Rattle.lnt_paths.specs.Borders.{HasNoOperation}
+use Rattle.lnt_spans.specs.Instructions.{IsOfInstructions}
 use Rattle.lnt_paths.specs.declared.version.PathVersion.{PathVersion}
 use Rattle.lnt_paths.specs.declared.version.PathVersion.TheVariants.{Three, Four}
 use Rattle.lnt_paths.specs.PathAnswers.{PathAnswer}
@@ -26,8 +26,8 @@ tell_span tell span = record { low = span.low; high = span.high; answer = tell s
 -- ---- joining
 
 -- The second begins where the first ends, and answers the same.
-abbrev pub GoesOn : (Answer → PathAnswer) → Span → Span → Type 0
-GoesOn tell span next = (span.high ≡ next.low) × (tell span.answer ≡ tell next.answer)
+abbrev pub IsExtendedBy : (Answer → PathAnswer) → Span → Span → Type 0
+IsExtendedBy tell span next = (span.high ≡ next.low) × (tell span.answer ≡ tell next.answer)
 
 -- the span, extended to another end
 abbrev pub grown : Span → Position → Span
@@ -36,8 +36,8 @@ grown span high = record span { high = high }
 -- The result of joining a span and those after it: each span that extends the one before it is joined with it.
 abbrev pub JoinsTo : (Answer → PathAnswer) → Span → List Span → List Span → Type 0
 JoinsTo tell last [] joined = joined ≡ last ∷ []
-JoinsTo tell last (next ∷ rest) joined = (GoesOn tell last next × JoinsTo tell (grown last next.high) rest joined)
-    ⊎ ((GoesOn tell last next → ⊥) × (more : List Span) × (joined ≡ last ∷ more) × JoinsTo tell next rest more)
+JoinsTo tell last (next ∷ rest) joined = (IsExtendedBy tell last next × JoinsTo tell (grown last next.high) rest joined)
+    ⊎ ((IsExtendedBy tell last next → ⊥) × (more : List Span) × (joined ≡ last ∷ more) × JoinsTo tell next rest more)
 
 -- the result of joining any spans
 abbrev pub AllJoinTo : (Answer → PathAnswer) → List Span → List Span → Type 0
@@ -60,7 +60,7 @@ abbrev pub IsFirstOperation : Position → List Span → Type 0
 IsFirstOperation p [] = ⊥
 IsFirstOperation p (span ∷ spans) = ((span.low.op ≢ 0) × (p ≡ span.low))
     ⊎ ((span.low.op ≡ 0) × (span.high.op ≢ 0) × (p ≡ span.high))
-    ⊎ (HasNoOperation span × IsFirstOperation p spans)
+    ⊎ (IsOfInstructions span × IsFirstOperation p spans)
 
 -- ---- lines
 

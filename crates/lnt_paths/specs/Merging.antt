@@ -8,7 +8,7 @@ use Rattle.lnt_spans.specs.declared.answer.Answer.{Answer}
 use Rattle.lnt_spans.specs.declared.position.Position.{Position}
 use Rattle.lnt_spans.specs.declared.span.Span.{Span}
 use Rattle.lnt_spans.specs.Positions.{IsBelow, IsAtMost}
-use Rattle.lnt_spans.specs.Remaining.{IsLeft}
+use Rattle.lnt_spans.specs.Remaining.{SpansAreLeft}
 use Rattle.lnt_spans.specs.Spans.{AreInOrder, span_answer}
 use Rattle.lnt_paths.specs.declared.answer.DifferenceByPath.{DifferenceByPath}
 use Rattle.lnt_paths.specs.declared.comparison.PathComparison.{PathComparison}
@@ -51,7 +51,7 @@ table_side true answer = Some answer
 table_side false answer = None
 
 -- Below the end of the record, this is the first difference between the spans and a table with that record alone.
-pub record AreApart (tell : Answer → PathAnswer) (spans : List Span) (said : PathRecord) (apart : Apart) : Type 0 where
+pub record IsFirstApart (tell : Answer → PathAnswer) (spans : List Span) (said : PathRecord) (apart : Apart) : Type 0 where
   pub first : DifferFirst (answer_told tell spans) (path_span_answer (record_span said ∷ [])) apart.position
       (table_side apart.by_table (record_answer said)) (option_map tell apart.by_section)
   pub below : IsBelow apart.position (whole said.high)
@@ -84,5 +84,5 @@ pub record JudgesByPath {S : Type 0} (to_come : S → List Span → Type 0) (tel
   pub table : List PathSpan
   pub is_table : IsPathTable version records table
   pub count : comparison.count ≡ length records
-  pub merged : IsMerged tell (IsLeft to_come comparison.section.next comparison.section.spans) (whole comparison.at) comparison.first
+  pub merged : IsMerged tell (SpansAreLeft to_come comparison.section.next comparison.section.spans) (whole comparison.at) comparison.first
       section table

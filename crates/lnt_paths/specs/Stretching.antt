@@ -7,7 +7,7 @@ use Rattle.lnt_spans.specs.declared.span.Span.{Span}
 use Rattle.lnt_spans.specs.AnyStretches.{Stretch}
 use Rattle.lnt_spans.specs.Differing.{runs_left}
 use Rattle.lnt_spans.specs.Positions.{IsBelow, IsAtMost, is_below}
-use Rattle.lnt_spans.specs.Remaining.{EndsAfter, IsLeft}
+use Rattle.lnt_spans.specs.Remaining.{EndsAfter, SpansAreLeft}
 use Rattle.lnt_spans.specs.Spans.{AreInOrder}
 use Rattle.lnt_spans.specs.ToldStretches.{AreToldBelow}
 use Rattle.lnt_paths.specs.declared.held.HeldSpan.{HeldSpan}
@@ -24,7 +24,7 @@ use Rattle.lnt_paths.specs.PathSpans.{path_span_answer, PathSpan, StandInOrder, 
 pub record IsSectionAt {S : Type 0} (to_come : S → List Span → Type 0) (tell : Answer → PathAnswer) (section : Section S) (at : Position)
     (answers : Position → Option PathAnswer) : Type 0 where
   pub rest : List Span
-  pub left : IsLeft to_come section.next section.spans rest
+  pub left : SpansAreLeft to_come section.next section.spans rest
   pub order : AreInOrder rest
   pub past : EndsAfter at rest
   pub same : (p : Position) → IsAtMost at p → answer_told tell rest p ≡ answers p

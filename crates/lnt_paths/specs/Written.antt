@@ -10,7 +10,7 @@ use Rattle.lnt_records.specs.Table.{Fields}
 use Rattle.lnt_paths.specs.declared.version.PathTable.{PathTable}
 use Rattle.lnt_paths.specs.declared.version.PathTable.TheVariants.{OperationIndex, Written}
 use Rattle.lnt_paths.specs.declared.version.PathVersion.{PathVersion}
-use Rattle.lnt_paths.specs.Borders.{HasNoPathOperation, IsLeastOperation}
+use Rattle.lnt_paths.specs.Borders.{IsPathSpanOfInstructions, IsLeastOperation}
 use Rattle.lnt_paths.specs.PathAnswers.{PathAnswer}
 use Rattle.lnt_paths.specs.PathSpans.{AreCanonicalOf, PathSpan}
 use Rattle.lnt_paths.specs.PathTables.{IsPathTableOf, path_column_names, SaysPathSpan}
@@ -57,7 +57,7 @@ pub record BeginsPathTable (version : PathVersion) (answers : Position → Optio
   pub each : AllZip (IsPlainPathRecord version) records first
   pub front : AppendsFront old new (records_text (path_column_names version ∷ records))
   pub of_whole : (bytes : List ℕ) → IsCanonicalPathTable version answers bytes → AppendsFront old new bytes
-  pub decided : Keeps old new ⊎ AllByRecursion HasNoPathOperation spans
+  pub decided : Keeps old new ⊎ AllByRecursion IsPathSpanOfInstructions spans
 
 -- What came of writing the table of these answers, and what the writer has gained: exactly the bytes of the table, or
 -- nothing where there can't be one.

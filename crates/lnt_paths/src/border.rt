@@ -2,7 +2,7 @@
 ghost use Rattle.std.specs.Prelude.{List, IfOk, MatchOption};
 ghost use Rattle.std.specs.List.{AllByRecursion};
 ghost use Rattle.lnt_spans.specs.declared.span.Span as spec;
-ghost use Rattle.lnt_paths.specs.Borders.{HasNoOperation};
+ghost use Rattle.lnt_spans.specs.Instructions.{IsOfInstructions};
 ghost use Rattle.lnt_paths.specs.Joining.{AllJoinTo, IsFirstOperation};
 ghost use Rattle.lnt_paths.specs.PathAnswers.{path_answer};
 
@@ -21,7 +21,7 @@ pub(crate) fn first_operation<S: SpanSource + Drop, P: Paths>(
 ) -> Result<Option<Position>, AllocError>
     ensures { IfOk result (λ found. (list joined : List spec.Span) → S.to_come spans list
         → AllJoinTo (path_answer version (P.bytes_of paths.now)) list joined
-        → MatchOption found (AllByRecursion HasNoOperation joined) (λ position. IsFirstOperation position joined)) }
+        → MatchOption found (AllByRecursion IsOfInstructions joined) (λ position. IsFirstOperation position joined)) }
 {
     let mut joined = Joined::of(spans);
     while let Some(span) = joined.next_joined(alloc, paths, version)? {

@@ -2,7 +2,7 @@
 ghost use Rattle.std.specs.Prelude.{◌≡◌, ◌+◌, ◌^◌, ◌<◌, ◌≤◌, List, [], ◌∷◌, ◌++◌, length, IfOk, MatchOption, None, OnOk, ℕ};
 ghost use Rattle.std.specs.Option.{option_map};
 ghost use Rattle.csv.specs.Records.{fields_of};
-ghost use Rattle.lnt_spans.specs.Remaining.{IsLeft};
+ghost use Rattle.lnt_spans.specs.Remaining.{SpansAreLeft};
 ghost use Rattle.lnt_records.specs.Reading.{HasRead};
 ghost use Rattle.lnt_records.specs.Table.{BeginsWith, Fields};
 ghost use Rattle.lnt_spans.specs.declared.position.Position as position;
@@ -146,7 +146,7 @@ impl<S: SpanSource + Drop> PathComparison<S> {
     fn new(alloc: Global, spans: S) -> Result<PathComparison<S>, AllocError>
         ensures known { IfOk result (λ comparison. (path : ℕ → ℕ → List ℕ) → AreKnownOf path comparison.known.slots.items) }
         ensures left { IfOk result (λ comparison. (list : List spec.Span) → S.to_come spans list
-            → IsLeft S.to_come comparison.section.next comparison.section.spans list) }
+            → SpansAreLeft S.to_come comparison.section.next comparison.section.spans list) }
         ensures none { IfOk result (λ comparison. (comparison.at ≡ 0) × (comparison.first ≡ None) × (comparison.count ≡ 1)) }
     {
         let known = KnownPaths::new(alloc)?;
@@ -173,9 +173,9 @@ impl<S: SpanSource + Drop> PathComparison<S> {
         ensures known { OnOk result (AreKnownOf (P.bytes_of paths.now) self.new.known.slots.items) }
         ensures count { OnOk result (self.new.count ≡ self.old.count) }
         ensures merged { OnOk result ((list : List spec.Span) (table : List PathSpan)
-            → IsMerged (path_answer version (P.bytes_of paths.now)) (IsLeft S.to_come self.old.section.next self.old.section.spans)
+            → IsMerged (path_answer version (P.bytes_of paths.now)) (SpansAreLeft S.to_come self.old.section.next self.old.section.spans)
             (whole self.old.at) self.old.first list table
-            → IsMerged (path_answer version (P.bytes_of paths.now)) (IsLeft S.to_come self.new.section.next self.new.section.spans)
+            → IsMerged (path_answer version (P.bytes_of paths.now)) (SpansAreLeft S.to_come self.new.section.next self.new.section.spans)
             (whole self.new.at) self.new.first list (table ++ record_span said.now ∷ [])) }
     {
         self.at = said.high;
@@ -234,7 +234,8 @@ impl<S: SpanSource + Drop> PathComparison<S> {
         version: PathVersion,
     ) -> Result<Option<DifferenceByPath>, AllocError>
         ensures { IfOk result (λ found. (list : List spec.Span) (table : List PathSpan)
-            → IsMerged (path_answer version (P.bytes_of paths.now)) (IsLeft S.to_come self.section.next self.section.spans) (whole self.at)
+            → IsMerged (path_answer version (P.bytes_of paths.now)) (SpansAreLeft S.to_come self.section.next self.section.spans)
+                (whole self.at)
             self.first list table
             → MatchOption found ((p : position.Position)
             → answer_told (path_answer version (P.bytes_of paths.now)) list p ≡ path_span_answer table p)

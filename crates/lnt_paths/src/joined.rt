@@ -4,8 +4,8 @@ ghost use Rattle.std.specs.Bool.{MatchBool};
 ghost use Rattle.lnt_spans.specs.declared.answer.Answer as answer;
 ghost use Rattle.lnt_spans.specs.declared.span.Span as spec;
 ghost use Rattle.lnt_spans.specs.Ahead.{count_ahead};
-ghost use Rattle.lnt_spans.specs.Coming.{GivesFirst};
-ghost use Rattle.lnt_paths.specs.Joining.{AllJoinTo, GoesOn, WillGive};
+ghost use Rattle.lnt_spans.specs.Coming.{GivesFirstSpan};
+ghost use Rattle.lnt_paths.specs.Joining.{AllJoinTo, IsExtendedBy, WillGive};
 ghost use Rattle.lnt_paths.specs.PathAnswers.{PathAnswer, path_answer, told_column};
 
 use crate::paths::{Paths, same_path};
@@ -39,7 +39,8 @@ impl<S: SpanSource> Joined<S> {
     ) -> Result<Option<Span>, AllocError>
         ensures gives { IfOk result (λ given. (joined : List spec.Span)
             → WillGive (path_answer version (P.bytes_of paths.now)) self.old.next (S.to_come self.old.spans) joined
-            → GivesFirst (WillGive (path_answer version (P.bytes_of paths.now)) self.new.next (S.to_come self.new.spans)) joined given) }
+            → GivesFirstSpan (WillGive (path_answer version (P.bytes_of paths.now)) self.new.next
+                (S.to_come self.new.spans)) joined given) }
         ensures fewer { IfOk result (λ given. IfSome given
             (λ _. count_ahead self.new.next (S.left self.new.spans) < count_ahead self.old.next (S.left self.old.spans))) }
     {
@@ -65,8 +66,8 @@ fn goes_on<P: Paths>(
     last: &Span,
     span: &Span,
 ) -> Result<bool, AllocError>
-    ensures { IfOk result (λ goes. MatchBool goes (GoesOn (path_answer version (P.bytes_of paths.now)) last.now span.now)
-        (GoesOn (path_answer version (P.bytes_of paths.now)) last.now span.now → ⊥)) }
+    ensures { IfOk result (λ goes. MatchBool goes (IsExtendedBy (path_answer version (P.bytes_of paths.now)) last.now span.now)
+        (IsExtendedBy (path_answer version (P.bytes_of paths.now)) last.now span.now → ⊥)) }
 {
     if last.high != span.low || !same_place(version, &last.answer, &span.answer) {
         return Ok(false);

@@ -5,8 +5,8 @@ ghost use Rattle.lnt_spans.specs.declared.answer.Answer as spec_answer;
 ghost use Rattle.lnt_spans.specs.declared.span.Span as spec;
 ghost use Rattle.lnt_spans.specs.Positions.{IsAtMost, IsBelow};
 ghost use Rattle.lnt_spans.specs.Spans.{AreInOrder};
-ghost use Rattle.lnt_paths.specs.Merging.{AreApart, AreKnownOf, ArePassed};
-ghost use Rattle.lnt_spans.specs.Remaining.{IsLeft};
+ghost use Rattle.lnt_paths.specs.Merging.{IsFirstApart, AreKnownOf, ArePassed};
+ghost use Rattle.lnt_spans.specs.Remaining.{SpansAreLeft};
 ghost use Rattle.lnt_paths.specs.PathAnswers.{path_answer, told_column};
 ghost use Rattle.lnt_paths.specs.PathSpans.{path_span_answer, whole};
 ghost use Rattle.lnt_paths.specs.Reading.{record_answer, record_span};
@@ -39,7 +39,7 @@ pub(crate) struct Apart {
 impl<S: SpanSource> Section<S> {
     // Takes the first span out of the source.
     pub(crate) fn of(mut spans: S) -> Section<S>
-        ensures { (list : List spec.Span) → S.to_come spans list → IsLeft S.to_come result.next result.spans list }
+        ensures { (list : List spec.Span) → S.to_come spans list → SpansAreLeft S.to_come result.next result.spans list }
     {
         let next = spans.next_span();
         Section { next, spans }
@@ -66,11 +66,11 @@ pub(crate) fn first_apart<S: SpanSource, P: Paths>(
     requires known { AreKnownOf (P.bytes_of paths.now) known.old.slots.items }
     requires holds { said.now.low < said.now.high }
     ensures known { OnOk result (AreKnownOf (P.bytes_of paths.now) known.new.slots.items) }
-    ensures apart { IfOk result (λ found. (list : List spec.Span) → IsLeft S.to_come section.old.next section.old.spans list
+    ensures apart { IfOk result (λ found. (list : List spec.Span) → SpansAreLeft S.to_come section.old.next section.old.spans list
         → AreInOrder list
         → MatchOption found (ArePassed (path_answer version (P.bytes_of paths.now)) list (path_span_answer (record_span said.now ∷ []))
-        (whole said.now.high) (IsLeft S.to_come section.new.next section.new.spans))
-        (λ apart. AreApart (path_answer version (P.bytes_of paths.now)) list said.now apart)) }
+        (whole said.now.high) (SpansAreLeft S.to_come section.new.next section.new.spans))
+        (λ apart. IsFirstApart (path_answer version (P.bytes_of paths.now)) list said.now apart)) }
 {
     let mut at = whole(said.low);
     let end = whole(said.high);

@@ -6,7 +6,7 @@ ghost use Rattle.lnt_output.specs.Fronts.{AppendsFront};
 ghost use Rattle.lnt_spans.specs.declared.position.Position as position;
 ghost use Rattle.lnt_spans.specs.declared.span.Span as spec;
 ghost use Rattle.lnt_spans.specs.Spans.{AreInOrder, span_answer};
-ghost use Rattle.lnt_paths.specs.Borders.{HasNoOperation};
+ghost use Rattle.lnt_spans.specs.Instructions.{IsOfInstructions};
 ghost use Rattle.lnt_paths.specs.Joining.{AllJoinTo, AreFirstOf, HasBegunLines, HasWritten};
 ghost use Rattle.lnt_paths.specs.PathAnswers.{path_answer, spans_by_path};
 ghost use Rattle.lnt_paths.specs.Written.{BeginsPathTable, HasBecome, IsCanonicalPathTable};
@@ -74,10 +74,10 @@ pub fn write_instructions_by_path<S: SpanSource + Drop, P: Paths, W: Write>(
     version: PathVersion,
     out: &mut W,
 ) -> Result<(), WriteStop>
-    ensures table { OnOk result ((list : List spec.Span) → S.to_come spans list → AreInOrder list → AllByRecursion HasNoOperation list
+    ensures table { OnOk result ((list : List spec.Span) → S.to_come spans list → AreInOrder list → AllByRecursion IsOfInstructions list
         → (bytes : List ℕ) × Appends (W.contents out.old) (W.contents out.new) bytes
         × IsCanonicalPathTable version (spans_by_path version (P.bytes_of paths.now) list) bytes) }
-    ensures begun { OnErr result ((list : List spec.Span) → S.to_come spans list → AreInOrder list → AllByRecursion HasNoOperation list
+    ensures begun { OnErr result ((list : List spec.Span) → S.to_come spans list → AreInOrder list → AllByRecursion IsOfInstructions list
         → BeginsPathTable version (spans_by_path version (P.bytes_of paths.now) list) (W.contents out.old) (W.contents out.new)) }
 {
     write_lines(alloc, spans, paths, version, out)

@@ -21,7 +21,7 @@ use Rattle.std.specs.declared.alloc.AllocError.{AllocError}
 use Rattle.lnt_records.specs.declared.gather.Gathered.{Gathered}
 use Rattle.lnt_records.specs.declared.remaining.Remaining.{Remaining}
 use Rattle.lnt_records.specs.Differing.{IsDiffering, IsStarted}
-use Rattle.lnt_records.specs.Progress.{GoesOn, IsGathered}
+use Rattle.lnt_records.specs.Progress.{IsContinuedBy, IsGathered}
 use Rattle.lnt_records.specs.declared.comparison.Comparison.{Comparison}
 use Rattle.lnt_records.specs.Passing.{IsCut, LeavesOff}
 use Rattle.lnt_records.specs.Progress.{Judges}
@@ -162,14 +162,14 @@ gathered_is to_come comparison list table passed bytes version text gathered j s
 -- the section answers as these spans do
 pub goes_on : (version : Version) (list table rest : List Span) (section : Position → Option Answer) (at : Position)
     → AreInOrder (table ++ rest) → ((p : Position) → version_answer version (table ++ rest) p ≡ version_answer version list p)
-    → at ≡ end_of table → ((p : Position) → span_answer list p ≡ section p) → GoesOn version section table rest at
+    → at ≡ end_of table → ((p : Position) → span_answer list p ≡ section p) → IsContinuedBy version section table rest at
 goes_on version list table rest section at order same end answers =
     record { order = order; same = λ p. same p ∙ ap (option_map (in_version version)) (answers p); end_is = end }
 
 -- without passed lines, all spans of the section are to come
 pub all_to_come : (version : Version) (list : List Span) (section : Position → Option Answer) → AreInOrder list
     → ((p : Position) → span_answer list p ≡ section p)
-    → GoesOn version section [] (map (span_in_version version) list) (record { address = 0; op = 0 })
+    → IsContinuedBy version section [] (map (span_in_version version) list) (record { address = 0; op = 0 })
 all_to_come version list section order answers =
     goes_on version list [] (told version list) section (record { address = 0; op = 0 }) (told_order version list order)
     (λ p. version_same version (told version list) list p (told_answer version list p)) refl answers

@@ -12,7 +12,7 @@ use Rattle.lnt_records.specs.declared.comparison.Compared.TheVariants.{Differs, 
 use Rattle.lnt_records.specs.declared.fault.TableFault.{TableFault}
 use Rattle.lnt_records.specs.declared.fault.TableFault.TheVariants as fault
 use Rattle.lnt_records.specs.Faults.{DiffersSo, HasFaultyRecord, IsFaulty}
-use Rattle.lnt_records.specs.Laws.{Agreement, NoFault, OneTable}
+use Rattle.lnt_records.specs.Laws.{ComparisonAgrees, NoFault, OneTable}
 use Rattle.lnt_records.proofs.BeginningLaws.{table_begins}
 use Rattle.lnt_records.proofs.RecordLaws.{front_of, one_list}
 use Rattle.lnt_records.specs.Table.{Fields, IsSpanRecord, IsTable, IsTableOf, RecordsOf, column_names}
@@ -127,7 +127,7 @@ no_difference bytes version section table difference t agree d =
     let here = subst (λ (xs : List Span). IsLeastDifference (version_answer version section) (span_answer xs) difference) one.1 least in
     here.differ (here.table ∙ sym (agree difference.position) ∙ sym here.section)
 
-pub agreement : Agreement
+pub agreement : ComparisonAgrees
 agreement bytes version section table Same t agree h = refl
 agreement bytes version section table (Fault told) t agree h = absurd (no_fault bytes version table told t h)
 agreement bytes version section table (Differs difference) t agree h =

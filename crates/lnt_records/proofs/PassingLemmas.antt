@@ -18,7 +18,7 @@ use Rattle.lnt_spans.specs.Comparing.{Compares, IsTold, Merging, end_of}
 use Rattle.lnt_spans.specs.Joined.{HasJoined}
 use Rattle.lnt_spans.proofs.ComingLaws.{HasGiven, all_given, none_given, one_given}
 use Rattle.lnt_spans.proofs.ToldLaws.{told, told_answer, told_order}
-use Rattle.lnt_spans.specs.Coming.{GivesFirst}
+use Rattle.lnt_spans.specs.Coming.{GivesFirstSpan}
 use Rattle.lnt_spans.specs.Spans.{AreInOrder, span_answer, span_in_version, version_answer}
 use Rattle.lnt_records.specs.Lines.{IsLine}
 use Rattle.lnt_records.specs.Passing.{AreLines, Ends, HasPassed, LeavesOff, Passes}
@@ -180,7 +180,7 @@ stands_first to_come first version last a la w j = record {
 -- the state after the next span was pushed
 pub record Pushes {S : Type 0} (to_come : S → List Span → Type 0) (now next : S) (version : Version) (span : Span)
     (one old new : Option Span) : Type 0 where
-  pub gives : (spans : List Span) → to_come now spans → GivesFirst (to_come next) spans (Some span)
+  pub gives : (spans : List Span) → to_come now spans → GivesFirstSpan (to_come next) spans (Some span)
   pub joined : (pushed given : List Span) → HasJoined version pushed given old
       → HasJoined version (pushed ++ span ∷ []) (given ++ cons_option one []) new
 
@@ -305,7 +305,7 @@ leaves_off_at to_come first now next version old new one a b c la lb lc w0 w1 w2
 pub leaves_off : {S : Type 0} (to_come : S → List Span → Type 0) (first now next : S) (version : Version) (last : Option Span)
     (a b : Option (List ℕ)) (la lb : ℕ) (w0 w1 : List ℕ) (count : ℕ) (end : Position)
     → Stands to_come first now version last a b la lb w0 w1 count end
-    → ((spans : List Span) → to_come now spans → GivesFirst (to_come next) spans None)
+    → ((spans : List Span) → to_come now spans → GivesFirstSpan (to_come next) spans None)
     → LeftOff to_come first next true version None last a b la lb w0 w1 count end
 leaves_off to_come first now next version last a b la lb w0 w1 count end s gives = (
   s.text,
@@ -325,9 +325,9 @@ leaves_off to_come first now next version last a b la lb w0 w1 count end s gives
 -- the source gives the next span, once the spans before it are given
 pub gives_told : (version : Version) (old new : List Span → Type 0) (first second first' second' : Option Span) (is_ended : Bool)
     (span : Span) → first ≡ None → second ≡ None → first' ≡ None → second' ≡ None → is_ended ≡ false
-    → ((spans : List Span) → old spans → GivesFirst new spans (Some span)) → (spans : List Span)
+    → ((spans : List Span) → old spans → GivesFirstSpan new spans (Some span)) → (spans : List Span)
     → (rest : List Span) × AreLeft is_ended old rest × (spans ≡ cons_option first (cons_option second (map (span_in_version version) rest)))
-    → GivesFirst (λ (xs : List Span). (rest : List Span) × AreLeft is_ended new rest
+    → GivesFirstSpan (λ (xs : List Span). (rest : List Span) × AreLeft is_ended new rest
     × (xs ≡ cons_option first' (cons_option second' (map (span_in_version version) rest)))) spans (Some (span_in_version version span))
 gives_told version old new None None None None false span e1 e2 e3 e4 e5 gives spans ([], left, e) = absurd (gives [] left)
 gives_told version old new None None None None false span e1 e2 e3 e4 e5 gives spans (y ∷ rest, left, e) =

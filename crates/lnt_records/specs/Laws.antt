@@ -24,6 +24,6 @@ abbrev pub OneFault : Type 0
 OneFault = (bytes : List ℕ) (told other : TableFault) → IsFault bytes told → IsFault bytes other → told ≡ other
 
 -- Comparing a section with a table that answers as it does has no other result.
-abbrev pub Agreement : Type 0
-Agreement = (bytes : List ℕ) (version : Version) (section table : List Span) (compared : Compared) → IsTableOf version bytes table
+abbrev pub ComparisonAgrees : Type 0
+ComparisonAgrees = (bytes : List ℕ) (version : Version) (section table : List Span) (compared : Compared) → IsTableOf version bytes table
     → Agree (version_answer version section) (span_answer table) → IsComparison bytes section compared → compared ≡ Same

@@ -86,7 +86,7 @@ IsGathered bytes version table (gathered.Spans spans) = IsTableOf version bytes 
 
 -- The spans in `table` and then `rest` are in order and answer as the section does, as the version tells answers; the ones
 -- in `table` end at `at`.
-pub record GoesOn (version : Version) (section : Position → Option Answer) (table rest : List Span) (at : Position) : Type 0 where
+pub record IsContinuedBy (version : Version) (section : Position → Option Answer) (table rest : List Span) (at : Position) : Type 0 where
   pub order : AreInOrder (table ++ rest)
   pub same : (p : Position) → version_answer version (table ++ rest) p ≡ option_map (in_version version) (section p)
   pub end_is : at ≡ end_of table

@@ -6,7 +6,7 @@ ghost use Rattle.lnt_spans.specs.declared.position.Position.{Position as Place};
 ghost use Rattle.lnt_spans.specs.Spans.{AreInOrder, span_answer};
 ghost use Rattle.lnt_wire.specs.Pulling.{HasMoreThan};
 ghost use Rattle.lnt_records.specs.Differing.{IsDiffering, IsDifferingRead, IsStarted, IsStartedRead};
-ghost use Rattle.lnt_records.specs.Progress.{GoesOn, IsGathered};
+ghost use Rattle.lnt_records.specs.Progress.{IsContinuedBy, IsGathered};
 ghost use Rattle.lnt_records.specs.Table.{BeginsWith, column_names};
 
 use crate::comparison::header_of;
@@ -168,7 +168,7 @@ fn differ_after<S: SpanSource + Drop>(
     at: Position,
 ) -> Result<Differing<S>, AllocError>
     ensures { IfOk result (λ differing. (bytes : List ℕ) (section : Place → Option Answer) (table rest : List Span)
-        → IfOk gathered (IsGathered bytes version table) → GoesOn version section table rest at
+        → IfOk gathered (IsGathered bytes version table) → IsContinuedBy version section table rest at
         → ⟦<Remaining<S> as SpanSource>⟧.to_come spans rest
         → IsDiffering ⟦<Remaining<S> as SpanSource>⟧.to_come ⟦<SpanList as SpanSource>⟧.to_come bytes section differing) }
 {

@@ -1,5 +1,5 @@
 //! Laws of tables. Each is the contract of a function that takes nothing and does nothing.
-ghost use Rattle.lnt_records.specs.Laws.{Agreement, NoFault, OneFault, OneTable};
+ghost use Rattle.lnt_records.specs.Laws.{ComparisonAgrees, NoFault, OneFault, OneTable};
 
 /// Bytes are a table of at most one version and one list of spans.
 pub fn one_table()
@@ -20,5 +20,5 @@ pub fn one_fault()
 /// A comparison of a section with a table that answers at every position as the section does, as far as its version tells,
 /// has no other result than that.
 pub fn agreement()
-    ensures { Agreement }
+    ensures { ComparisonAgrees }
 {}

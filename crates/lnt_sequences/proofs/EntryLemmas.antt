@@ -18,7 +18,7 @@ use Rattle.lnt_spans.proofs.PositionLaws.{at_most_from_not_below, at_most_itself
 use Rattle.lnt_spans.specs.Spans.{AreInOrder}
 use Rattle.lnt_sequences.specs.declared.extent.Extent.{Extent}
 use Rattle.lnt_sequences.specs.Extents.{AreApartUpTo, extents_of, IsIn, NoneHolds}
-use Rattle.lnt_sequences.specs.InTurn.{EntriesInTurn, IsEntryOf, StandInTurn}
+use Rattle.lnt_sequences.specs.InTurn.{EntriesInTurn, IsExtentOf, StandInTurn}
 use Rattle.lnt_sequences.specs.RowSpans.{row_spans, spans_after, spans_of}
 use Rattle.lnt_sequences.specs.Rules.{AreApart, AreOrdered, IsOrdered}
 use Rattle.lnt_sequences.specs.Sequences.{answer_in, answer_of, holds, Placed, position_of, row_at}
@@ -43,7 +43,7 @@ turns sequences (entry ∷ entries) h =
     (one.0 ∷ rest.0, (record { contained = one.1; sketch = one.2 }, rest.1))
 
 turn_entries : (sequences : List Placed) (entries : List Extent) (in_turn : List Placed) → AllZip (IsTurn sequences) entries in_turn
-    → AllZip (IsEntryOf sequences) entries in_turn
+    → AllZip (IsExtentOf sequences) entries in_turn
 turn_entries sequences [] [] z = tt
 turn_entries sequences [] (s ∷ ss) z = absurd z
 turn_entries sequences (e ∷ es) [] z = absurd z

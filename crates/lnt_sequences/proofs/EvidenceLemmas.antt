@@ -25,7 +25,7 @@ use Rattle.lnt_sequences.specs.Laws.{FallIsNotOrdered, MissingFileIsNotThere}
 use Rattle.lnt_sequences.specs.Rules.{AreOrdered, FilesExist, HaveFiles, IsOrdered}
 use Rattle.lnt_sequences.specs.Sequences.{are_live, is_live, last_row, live_of, Placed, placed_rows, position_of}
 use Rattle.lnt_sequences.specs.Watching.{closed, current_of, fall_shown, falls_after, file_shown, first_shown, grown}
-use Rattle.lnt_sequences.specs.Watching.{HasSeenAll, is_in_live, last_after, names_no_file, next, start, Walk, walked}
+use Rattle.lnt_sequences.specs.Watching.{HasSeenAll, is_in_live, last_after, names_no_file, next, start, RowsSoFar, walked}
 use Rattle.lnt_sequences.proofs.WalkLaws.{each_ended, first_shown-append, last_row_is, placed_from, walked-append}
 use Rattle.lnt_sequences.proofs.WalkLaws.{walked_ended, walked_open, walked-rows}
 
@@ -80,14 +80,15 @@ all_back P (x ∷ xs) ys h = all_back P xs ys h.1
 
 -- ---- the first that shows something
 
-record Found {A : Type 0} (show : Walk → Row → Option A) (walk : Walk) (rows : List Row) (shows : A) : Type 0 where
+record Found {A : Type 0} (show : RowsSoFar → Row → Option A) (walk : RowsSoFar) (rows : List Row) (shows : A) : Type 0 where
   front : List Row
   row : Row
   cut : Cut rows front row
   here : show (walked walk front) row ≡ Some shows
   none_before : first_shown show walk front ≡ None
 
-found : {A : Type 0} (show : Walk → Row → Option A) (walk : Walk) (rows : List Row) (shows : A) → first_shown show walk rows ≡ Some shows
+found : {A : Type 0} (show : RowsSoFar → Row → Option A) (walk : RowsSoFar) (rows : List Row) (shows : A)
+    → first_shown show walk rows ≡ Some shows
     → Found show walk rows shows
 found show walk [] shows e = absurd cc
 found {A} show walk (row ∷ rows) shows e = by_show (show walk row) refl e (λ f. found show (next walk row) rows shows f)
@@ -112,7 +113,7 @@ found {A} show walk (row ∷ rows) shows e = by_show (show walk row) refl e (λ 
         }
 
 -- where none does, this one doesn't
-not_shown : {A : Type 0} (show : Walk → Row → Option A) (walk : Walk) (rows front : List Row) (row : Row) → Cut rows front row
+not_shown : {A : Type 0} (show : RowsSoFar → Row → Option A) (walk : RowsSoFar) (rows front : List Row) (row : Row) → Cut rows front row
     → first_shown show walk rows ≡ None → show (walked walk front) row ≡ None
 not_shown {A} show walk rows front row cut e =
     by_front (first_shown show walk front) (show (walked walk front) row) (first_shown show (next (walked walk front) row) cut.back)
@@ -150,16 +151,16 @@ open_before s before row e cut =
     none [] h = refl
     none (x ∷ rest) h = absurd (omega (arith, ap length h, length-append rest (row ∷ cut.back)))
 
-begun_open : (walk : Walk) (before : List Row) → walk.begun ≡ [] → AreOpen before → (walked walk before).begun ≡ before
-begun_open walk before none o = ap (λ (w : Walk). w.begun) (walked_open walk before o) ∙ ap (λ (rows : List Row). rows ++ before) none
+begun_open : (walk : RowsSoFar) (before : List Row) → walk.begun ≡ [] → AreOpen before → (walked walk before).begun ≡ before
+begun_open walk before none o = ap (λ (w : RowsSoFar). w.begun) (walked_open walk before o) ∙ ap (λ (rows : List Row). rows ++ before) none
 
-begun_ended : (walk : Walk) (s : Sequence) → IsEnded s → (walked walk s.rows).begun ≡ []
-begun_ended walk s e = ap (λ (w : Walk). w.begun) (walked_ended walk s e)
+begun_ended : (walk : RowsSoFar) (s : Sequence) → IsEnded s → (walked walk s.rows).begun ≡ []
+begun_ended walk s e = ap (λ (w : RowsSoFar). w.begun) (walked_ended walk s e)
 
-begun_all : (walk : Walk) (placed : List Placed) → AreEnded placed → walk.begun ≡ [] → (walked walk (rows_of placed)).begun ≡ []
+begun_all : (walk : RowsSoFar) (placed : List Placed) → AreEnded placed → walk.begun ≡ [] → (walked walk (rows_of placed)).begun ≡ []
 begun_all walk [] h none = none
 begun_all walk (p ∷ placed) h none =
-    ap (λ (w : Walk). w.begun) (walked-append walk p.rows (rows_of placed))
+    ap (λ (w : RowsSoFar). w.begun) (walked-append walk p.rows (rows_of placed))
     ∙ begun_all (walked walk p.rows) placed h.1 (begun_ended walk (record { rows = p.rows }) h.0)
 
 -- every row stands in a sequence, after those that have begun it
@@ -167,7 +168,7 @@ record Stands (placed : List Placed) (before : List Row) (row : Row) (index : �
   sequence : Placed
   stands : StandsIn placed sequence before row index
 
-stands : (placed : List Placed) → AreEnded placed → (walk : Walk) → walk.begun ≡ [] → (front : List Row) (row : Row)
+stands : (placed : List Placed) → AreEnded placed → (walk : RowsSoFar) → walk.begun ≡ [] → (front : List Row) (row : Row)
     → Cut (rows_of placed) front row
     → Stands placed (walked walk front).begun row (length front)
 stands [] ended walk none front row cut = absurd (omega (arith, ap length cut.parts, length-append front (row ∷ cut.back)))
@@ -191,7 +192,7 @@ stands (p ∷ placed) ended walk none front row cut =
           let s = stands placed ended.1 past (begun_ended walk (record { rows = p.rows }) ended.0) b.rest row
           (record { back = cut.back; parts = b.parts }) in
           let same : (walked past b.rest).begun ≡ (walked walk front).begun =
-          ap (λ (w : Walk). w.begun) (sym (walked-append walk p.rows b.rest))
+          ap (λ (w : RowsSoFar). w.begun) (sym (walked-append walk p.rows b.rest))
           ∙ ap (λ (rows : List Row). (walked walk rows).begun) (sym b.front_is) in
           record {
             sequence = s.sequence;
@@ -211,13 +212,13 @@ stands (p ∷ placed) ended walk none front row cut =
     ]
 
 -- and the other way round
-record CutAt (rows : List Row) (walk : Walk) (before : List Row) (row : Row) (index : ℕ) : Type 0 where
+record CutAt (rows : List Row) (walk : RowsSoFar) (before : List Row) (row : Row) (index : ℕ) : Type 0 where
   front : List Row
   cut : Cut rows front row
   begun : (walked walk front).begun ≡ before
   index_is : index ≡ length front
 
-cut_of : (placed : List Placed) → AreEnded placed → (walk : Walk) → walk.begun ≡ []
+cut_of : (placed : List Placed) → AreEnded placed → (walk : RowsSoFar) → walk.begun ≡ []
     → (p : Placed) (before : List Row) (row : Row) (index : ℕ)
     → StandsIn placed p before row index → CutAt (rows_of placed) walk before row index
 cut_of placed ended walk none p before row index s =
@@ -236,7 +237,7 @@ cut_of placed ended walk none p before row index s =
             ∙ sym (append_assoc (rows_of s.earlier) before (row ∷ s.after ++ rows_of s.later));
       };
       begun =
-          ap (λ (w : Walk). w.begun) (walked-append walk (rows_of s.earlier) before)
+          ap (λ (w : RowsSoFar). w.begun) (walked-append walk (rows_of s.earlier) before)
           ∙ begun_open (walked walk (rows_of s.earlier)) before (begun_all walk s.earlier front none)
           (open_before (record { rows = p.rows }) before row here (record { back = s.after; parts = s.rows_are }));
       index_is = s.index_is;
@@ -256,16 +257,16 @@ whole unit all closed = record {
 }
 
 -- the first row of the unit that shows something, by its sequence
-record FoundIn {A : Type 0} (ss : List Placed) (all : List Row) (show : Walk → Row → Option A) (shows : A) : Type 0 where
-  walk : Walk
+record FoundIn {A : Type 0} (ss : List Placed) (all : List Row) (show : RowsSoFar → Row → Option A) (shows : A) : Type 0 where
+  walk : RowsSoFar
   row : Row
   sequence : Placed
   stands : StandsIn ss sequence walk.begun row walk.rows
   here : show walk row ≡ Some shows
   first : (p : Placed) (before : List Row) (other : Row) (index : ℕ) → StandsIn ss p before other index → index < walk.rows
-      → (earlier : Walk) × (earlier.begun ≡ before) × (show earlier other ≡ None)
+      → (earlier : RowsSoFar) × (earlier.begun ≡ before) × (show earlier other ≡ None)
 
-found_in : {A : Type 0} (ss : List Placed) (all : List Row) (show : Walk → Row → Option A) (shows : A) → Whole ss all
+found_in : {A : Type 0} (ss : List Placed) (all : List Row) (show : RowsSoFar → Row → Option A) (shows : A) → Whole ss all
     → first_shown show start all ≡ Some shows
     → FoundIn ss all show shows
 found_in ss all show shows w e =
@@ -287,9 +288,10 @@ found_in ss all show shows w e =
     }
 
 -- where none shows anything, no row of a sequence does
-none_in : {A : Type 0} (ss : List Placed) (all : List Row) (show : Walk → Row → Option A) → Whole ss all → first_shown show start all ≡ None
+none_in : {A : Type 0} (ss : List Placed) (all : List Row) (show : RowsSoFar → Row → Option A) → Whole ss all
+    → first_shown show start all ≡ None
     → (p : Placed) (before : List Row) (row : Row) (index : ℕ) → StandsIn ss p before row index
-    → (walk : Walk) × (walk.begun ≡ before) × (show walk row ≡ None)
+    → (walk : RowsSoFar) × (walk.begun ≡ before) × (show walk row ≡ None)
 none_in ss all show w e p before row index at =
     let c = cut_of ss w.ended start refl p before row index at in (
       walked start c.front,
@@ -324,7 +326,7 @@ live_each P dead ss step = along [] ss refl
 -- ---- what a row of a sequence shows
 
 -- its sequence is live as the watch takes it
-live_is : (dead : Option ℕ) (walk : Walk) (row : Row) (p : Placed) (after : List Row) → p.rows ≡ walk.begun ++ row ∷ after
+live_is : (dead : Option ℕ) (walk : RowsSoFar) (row : Row) (p : Placed) (after : List Row) → p.rows ≡ walk.begun ++ row ∷ after
     → is_in_live dead walk row ≡ is_live dead p
 live_is dead walk row p after e = by_begun walk.begun ∙ ap (are_live dead) (sym e)
   where
@@ -368,7 +370,7 @@ shows_not false a e f = cc
 
 -- ---- the first fall
 
-fall_shows : (dead : Option ℕ) (ss : List Placed) (walk : Walk) (index : ℕ) (f : IsFall dead ss index) → walk.begun ≡ f.before
+fall_shows : (dead : Option ℕ) (ss : List Placed) (walk : RowsSoFar) (index : ℕ) (f : IsFall dead ss index) → walk.begun ≡ f.before
     → fall_shown dead walk f.row ≡ None → ⊥
 fall_shows dead ss walk index f e none =
     let live : is_in_live dead walk f.row ≡ true =
@@ -490,7 +492,7 @@ names_test : (files : ℕ) (row : Row) (t : Bool) → t ≡ false → files ≤ 
 names_test files row false e h = grind (arith, nat_tests)
 names_test files row true e h = absurd cc
 
-file_shows : (dead : Option ℕ) (files : ℕ) (ss : List Placed) (walk : Walk) (missing : MissingFile)
+file_shows : (dead : Option ℕ) (files : ℕ) (ss : List Placed) (walk : RowsSoFar) (missing : MissingFile)
     (f : IsMissingFile dead files ss missing) → walk.begun ≡ f.before
     → file_shown dead (files) walk f.row ≡ None → ⊥
 file_shows dead files ss walk missing f e none =

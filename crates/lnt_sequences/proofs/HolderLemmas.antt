@@ -10,7 +10,7 @@ use Rattle.std.proofs.lemmas.List.{append-nil, append_assoc, get_or_default, rev
 use Rattle.std.proofs.lemmas.List.Elements.{Contains-get_or}
 use Rattle.std.proofs.lemmas.List.Sorted.{All-permutation, Contains-permutation, IsPermutation-sym}
 use Rattle.lnt_machine.specs.declared.row.Row.{Row}
-use Rattle.lnt_machine.specs.Walking.{GivesFirst, GivesRow, SequenceWalk, WillGive}
+use Rattle.lnt_machine.specs.Walking.{GivesFirstRow, GivesRow, SequenceWalk, WillGive}
 use Rattle.lnt_spans.specs.declared.position.Position.{Position}
 use Rattle.lnt_spans.specs.Positions.{IsBelow, IsAtMost, is_at_most}
 use Rattle.lnt_spans.proofs.EachTwoLaws.{each_two_from_pairs, find_none, find_only}
@@ -162,10 +162,10 @@ row_at_more p seen row = ap (find (λ (r : Row). is_at_most (position_of r) p)) 
 
 looked_more : (p : Position) (rows left : List Row) (old new : SequenceWalk) (found found' : Option Row) (row : Row)
     (l : HasLooked p rows old found)
-    → GivesFirst l.left (Some row) new → found' ≡ cond (is_at_most (position_of row) p) (Some row) found → HasLooked p rows new found'
+    → GivesFirstRow l.left (Some row) new → found' ≡ cond (is_at_most (position_of row) p) (Some row) found → HasLooked p rows new found'
 looked_more p rows left old new found found' row l gives now = by_left l.left l.rows_are gives
   where
-    by_left : (left : List Row) → rows ≡ l.seen ++ left → GivesFirst left (Some row) new → HasLooked p rows new found'
+    by_left : (left : List Row) → rows ≡ l.seen ++ left → GivesFirstRow left (Some row) new → HasLooked p rows new found'
     by_left [] are g = absurd g
     by_left (first ∷ others) are g = record {
       seen = l.seen ++ row ∷ [];
@@ -195,6 +195,6 @@ pub looked_all : (p : Position) (rows : List Row) (old new : SequenceWalk) (foun
     → GivesRow old None new → found ≡ row_at p rows
 looked_all p rows old new found l gives = by_left l.left l.rows_are (gives l.left l.to_come)
   where
-    by_left : (left : List Row) → rows ≡ l.seen ++ left → GivesFirst left None new → found ≡ row_at p rows
+    by_left : (left : List Row) → rows ≡ l.seen ++ left → GivesFirstRow left None new → found ≡ row_at p rows
     by_left [] are g = l.found_is ∙ ap (row_at p) (sym (are ∙ append-nil l.seen))
     by_left (first ∷ others) are g = absurd g

@@ -1,7 +1,7 @@
 -- The spans of a sequence, row by row.
 use Rattle.std.proofs.Common.{◌≡◌, ℕ, List, [], ◌∷◌, ◌++◌, Option, Some, None, refl, sym, ap, ◌∙◌, subst}
 use Rattle.lnt_machine.specs.declared.row.Row.{Row}
-use Rattle.lnt_machine.specs.Walking.{GivesFirst, GivesRow, SequenceWalk, WillGive}
+use Rattle.lnt_machine.specs.Walking.{GivesFirstRow, GivesRow, SequenceWalk, WillGive}
 use Rattle.lnt_spans.specs.declared.span.Span.{Span}
 use Rattle.lnt_spans.specs.Positions.{IsAtMost, IsBelow}
 use Rattle.lnt_spans.proofs.PositionLaws.{test_below, test_not_below}
@@ -15,7 +15,7 @@ pub spans_first : (unit : ℕ) (spans : List Span) (old new : SequenceWalk) (las
 spans_first unit spans old new last row has gives none =
     by_rows has.rows (has.spans_are ∙ ap (λ (l : Option Row). spans_left unit l has.rows) none) (gives has.rows has.to_come)
   where
-    by_rows : (rows : List Row) → spans ≡ spans_left unit None rows → GivesFirst rows (Some row) new → HasSpans unit spans new (Some row)
+    by_rows : (rows : List Row) → spans ≡ spans_left unit None rows → GivesFirstRow rows (Some row) new → HasSpans unit spans new (Some row)
     by_rows [] are g = absurd g
     by_rows (first ∷ others) are g = record {
       rows = others;
@@ -29,7 +29,7 @@ after_last : (unit : ℕ) (spans : List Span) (old new : SequenceWalk) (last : O
 after_last unit spans old new last previous row has gives some =
     by_rows has.rows (has.spans_are ∙ ap (λ (l : Option Row). spans_left unit l has.rows) some) (gives has.rows has.to_come)
   where
-    by_rows : (rows : List Row) → spans ≡ spans_left unit (Some previous) rows → GivesFirst rows (Some row) new
+    by_rows : (rows : List Row) → spans ≡ spans_left unit (Some previous) rows → GivesFirstRow rows (Some row) new
         → (others : List Row) × WillGive others new × (spans ≡ span_between unit previous row ++ spans_after unit row others)
     by_rows [] are g = absurd g
     by_rows (first ∷ others) are g = (
@@ -70,7 +70,7 @@ spans_end unit spans old new last has gives =
     subst (λ (list : List Span). GivesSpan unit list None new last) (sym (by_rows has.rows last has.spans_are (gives has.rows has.to_come)))
     tt
   where
-    by_rows : (rows : List Row) (last : Option Row) → spans ≡ spans_left unit last rows → GivesFirst rows None new → spans ≡ []
+    by_rows : (rows : List Row) (last : Option Row) → spans ≡ spans_left unit last rows → GivesFirstRow rows None new → spans ≡ []
     by_rows [] None are g = are
     by_rows [] (Some row) are g = are
     by_rows (first ∷ others) last are g = absurd g

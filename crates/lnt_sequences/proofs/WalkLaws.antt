@@ -14,15 +14,15 @@ use Rattle.lnt_sequences.specs.declared.watch.Current.{Current}
 use Rattle.lnt_sequences.specs.Extents.{extent_between, extent_of, extent_of_rows}
 use Rattle.lnt_sequences.specs.Sequences.{are_live, begins_live, is_live, last_row, Placed, position_of}
 use Rattle.lnt_sequences.specs.Watching.{closed, current_of, extent_from, extent_shown, first_shown, grown, is_in_live}
-use Rattle.lnt_sequences.specs.Watching.{last_after, longer, next, shown, Walk, walked}
+use Rattle.lnt_sequences.specs.Watching.{last_after, longer, next, shown, RowsSoFar, walked}
 
 -- ---- more rows
 
-pub walked-append : (walk : Walk) (xs ys : List Row) → walked walk (xs ++ ys) ≡ walked (walked walk xs) ys
+pub walked-append : (walk : RowsSoFar) (xs ys : List Row) → walked walk (xs ++ ys) ≡ walked (walked walk xs) ys
 walked-append walk [] ys = refl
 walked-append walk (row ∷ xs) ys = walked-append (next walk row) xs ys
 
-pub shown-append : {A : Type 0} (show : Walk → Row → List A) (walk : Walk) (xs ys : List Row)
+pub shown-append : {A : Type 0} (show : RowsSoFar → Row → List A) (walk : RowsSoFar) (xs ys : List Row)
     → shown show walk (xs ++ ys) ≡ shown show walk xs ++ shown show (walked walk xs) ys
 shown-append show walk [] ys = refl
 shown-append {A} show walk (row ∷ xs) ys =
@@ -37,7 +37,7 @@ or_none : {A : Type 0} (a : Option A) → option_or a None ≡ a
 or_none None = refl
 or_none (Some x) = refl
 
-pub first_shown-append : {A : Type 0} (show : Walk → Row → Option A) (walk : Walk) (xs ys : List Row)
+pub first_shown-append : {A : Type 0} (show : RowsSoFar → Row → Option A) (walk : RowsSoFar) (xs ys : List Row)
     → first_shown show walk (xs ++ ys) ≡ option_or (first_shown show walk xs) (first_shown show (walked walk xs) ys)
 first_shown-append show walk [] ys = refl
 first_shown-append {A} show walk (row ∷ xs) ys =
@@ -45,18 +45,18 @@ first_shown-append {A} show walk (row ∷ xs) ys =
     ∙ or_assoc (show walk row) (first_shown show (next walk row) xs) (first_shown show (walked (next walk row) xs) ys)
 
 -- one more row
-pub shown-push : {A : Type 0} (show : Walk → Row → List A) (walk : Walk) (xs : List Row) (row : Row)
+pub shown-push : {A : Type 0} (show : RowsSoFar → Row → List A) (walk : RowsSoFar) (xs : List Row) (row : Row)
     → shown show walk (xs ++ row ∷ []) ≡ shown show walk xs ++ show (walked walk xs) row
 shown-push {A} show walk xs row =
     shown-append show walk xs (row ∷ []) ∙ ap (λ (all : List A). shown show walk xs ++ all) (append-nil (show (walked walk xs) row))
 
-pub first_shown-push : {A : Type 0} (show : Walk → Row → Option A) (walk : Walk) (xs : List Row) (row : Row)
+pub first_shown-push : {A : Type 0} (show : RowsSoFar → Row → Option A) (walk : RowsSoFar) (xs : List Row) (row : Row)
     → first_shown show walk (xs ++ row ∷ []) ≡ option_or (first_shown show walk xs) (show (walked walk xs) row)
 first_shown-push {A} show walk xs row =
     first_shown-append show walk xs (row ∷ [])
     ∙ ap (λ (o : Option A). option_or (first_shown show walk xs) o) (or_none (show (walked walk xs) row))
 
-pub walked-rows : (walk : Walk) (rows : List Row) → (walked walk rows).rows ≡ walk.rows + length rows
+pub walked-rows : (walk : RowsSoFar) (rows : List Row) → (walked walk rows).rows ≡ walk.rows + length rows
 walked-rows walk [] = omega arith
 walked-rows walk (row ∷ rows) =
     let e = walked-rows (next walk row) rows in
@@ -80,7 +80,7 @@ last_after-push row (next ∷ rows) more = last_after-push next rows more
 -- ---- the rows of a sequence
 
 -- rows that don't end it
-pub walked_open : (walk : Walk) (rows : List Row) → AreOpen rows
+pub walked_open : (walk : RowsSoFar) (rows : List Row) → AreOpen rows
     → walked walk rows ≡ record { rows = walk.rows + length rows; ended = walk.ended; begun = walk.begun ++ rows }
 walked_open walk [] o = rw (add-zero, append-nil) refl
 walked_open walk (row ∷ rows) o =
@@ -90,23 +90,24 @@ walked_open walk (row ∷ rows) o =
     (omega arith) (append_assoc walk.begun (row ∷ []) rows)
   where
     same : (m n : ℕ) (xs ys : List Row) → m ≡ n → xs ≡ ys
-        → ◌≡◌ {A = Walk} (record { rows = m; ended = walk.ended; begun = xs }) (record { rows = n; ended = walk.ended; begun = ys })
+        → ◌≡◌ {A = RowsSoFar} (record { rows = m; ended = walk.ended; begun = xs }) (record { rows = n; ended = walk.ended; begun = ys })
     same m n xs ys e f = rw (e, f) refl
 
 -- all of its rows
-pub walked_ended : (walk : Walk) (s : Sequence) → IsEnded s
+pub walked_ended : (walk : RowsSoFar) (s : Sequence) → IsEnded s
     → walked walk s.rows ≡ record { rows = walk.rows + length s.rows; ended = walk.ended + 1; begun = [] }
 walked_ended walk s e =
     ap (walked walk) e.rows_are
     ∙ walked-append walk e.body (e.last ∷ [])
-    ∙ ap (λ (w : Walk). next w e.last) (walked_open walk e.body e.body_open)
+    ∙ ap (λ (w : RowsSoFar). next w e.last) (walked_open walk e.body e.body_open)
     ∙ ap (λ (t : Bool). cond t (closed (record { rows = walk.rows + length e.body; ended = walk.ended; begun = walk.begun ++ e.body }))
     (longer (record { rows = walk.rows + length e.body; ended = walk.ended; begun = walk.begun ++ e.body }) e.last)) e.ends
     ∙ same (walk.rows + length e.body + 1) (walk.rows + length s.rows)
     (omega (arith, ap length e.rows_are, length-append e.body (e.last ∷ [])))
   where
     same : (m n : ℕ) → m ≡ n
-        → ◌≡◌ {A = Walk} (record { rows = m; ended = walk.ended + 1; begun = [] }) (record { rows = n; ended = walk.ended + 1; begun = [] })
+        → ◌≡◌ {A = RowsSoFar} (record { rows = m; ended = walk.ended + 1; begun = [] })
+            (record { rows = n; ended = walk.ended + 1; begun = [] })
     same m n e = rw e refl
 
 -- ---- its extent
@@ -118,7 +119,8 @@ extents_quiet dead unit index true None row e = refl
 extents_quiet dead unit index true (Some current) row e =
     ap (λ (t : Bool). cond t (extent_between (record { unit = unit; index = index }) current.low (position_of row)) []) e
 
-extents_open : (dead : Option ℕ) (unit : ℕ) (walk : Walk) (rows : List Row) → AreOpen rows → shown (extent_shown dead unit) walk rows ≡ []
+extents_open : (dead : Option ℕ) (unit : ℕ) (walk : RowsSoFar) (rows : List Row) → AreOpen rows
+    → shown (extent_shown dead unit) walk rows ≡ []
 extents_open dead unit walk [] o = refl
 extents_open dead unit walk (row ∷ rows) o =
     ap (λ (extents : List Extent). extents ++ shown (extent_shown dead unit) (next walk row) rows)
@@ -143,13 +145,13 @@ extents_last dead unit index (first ∷ rest) row e =
     ∙ ap (λ (o : Option Row). cond (begins_live dead first) (extent_of_rows (record { unit = unit; index = index }) (Some first) o) [])
     (sym (last_row_is first (rest ++ row ∷ []) ∙ ap Some (last_after-push first rest row)))
 
-pub extents_ended : (dead : Option ℕ) (unit : ℕ) (walk : Walk) (s : Sequence) → IsEnded s → walk.begun ≡ []
+pub extents_ended : (dead : Option ℕ) (unit : ℕ) (walk : RowsSoFar) (s : Sequence) → IsEnded s → walk.begun ≡ []
     → shown (extent_shown dead unit) walk s.rows ≡ live_extent dead unit walk.ended s.rows
 extents_ended dead unit walk s e none =
     let past = walked walk e.body in
     let there = walked_open walk e.body e.body_open in
-    let begun : past.begun ≡ e.body = ap (λ (w : Walk). w.begun) there ∙ ap (λ (rows : List Row). rows ++ e.body) none in
-    let ended : past.ended ≡ walk.ended = ap (λ (w : Walk). w.ended) there in
+    let begun : past.begun ≡ e.body = ap (λ (w : RowsSoFar). w.begun) there ∙ ap (λ (rows : List Row). rows ++ e.body) none in
+    let ended : past.ended ≡ walk.ended = ap (λ (w : RowsSoFar). w.ended) there in
     ap (shown (extent_shown dead unit) walk) e.rows_are
     ∙ shown-push (extent_shown dead unit) walk e.body e.last
     ∙ ap (λ (extents : List Extent). extents ++ extent_shown dead unit past e.last) (extents_open dead unit walk e.body e.body_open)
@@ -166,11 +168,11 @@ placed_from unit index sequences =
     map (λ p. record { id = record { unit = unit; index = p.0 }; rows = p.1.rows }) (enumerate_from index sequences)
 
 -- what the live ones show, one after another
-pub whole : {A : Type 0} (show : Walk → Row → List A) (of : Placed → List A) (dead : Option ℕ) (unit : ℕ)
-    → ((walk : Walk) (s : Sequence) → IsEnded s → walk.begun ≡ []
+pub whole : {A : Type 0} (show : RowsSoFar → Row → List A) (of : Placed → List A) (dead : Option ℕ) (unit : ℕ)
+    → ((walk : RowsSoFar) (s : Sequence) → IsEnded s → walk.begun ≡ []
     → shown show walk s.rows ≡ cond (are_live dead s.rows) (of (record { id = record { unit = unit; index = walk.ended }; rows = s.rows }))
     [])
-    → (index : ℕ) (ss : List Sequence) (walk : Walk) → AllByRecursion IsEnded ss → walk.begun ≡ [] → walk.ended ≡ index
+    → (index : ℕ) (ss : List Sequence) (walk : RowsSoFar) → AllByRecursion IsEnded ss → walk.begun ≡ [] → walk.ended ≡ index
     → shown show walk (joined_rows ss) ≡ flat_map of (filter (is_live dead) (placed_from unit index ss))
 whole show of dead unit step index [] walk all none at = refl
 whole {A} show of dead unit step index (s ∷ ss) walk all none at =
@@ -181,8 +183,8 @@ whole {A} show of dead unit step index (s ∷ ss) walk all none at =
     (walked walk s.rows) (joined_rows ss)) at
     ∙ ap (λ (rest : List A). cond (are_live dead s.rows) (of (record { id = record { unit = unit; index = index }; rows = s.rows })) [] ++
     rest)
-    (whole show of dead unit step (index + 1) ss (walked walk s.rows) all.1 (ap (λ (w : Walk). w.begun) there)
-    (ap (λ (w : Walk). w.ended) there ∙ ap (λ (k : ℕ). k + 1) at))
+    (whole show of dead unit step (index + 1) ss (walked walk s.rows) all.1 (ap (λ (w : RowsSoFar). w.begun) there)
+    (ap (λ (w : RowsSoFar). w.ended) there ∙ ap (λ (k : ℕ). k + 1) at))
     ∙ by_live (are_live dead s.rows) (record { id = record { unit = unit; index = index }; rows = s.rows })
     (filter (is_live dead) (placed_from unit (index + 1) ss))
   where

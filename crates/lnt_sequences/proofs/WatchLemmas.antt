@@ -14,7 +14,7 @@ use Rattle.lnt_sequences.specs.Sequences.{Placed}
 use Rattle.lnt_sequences.specs.Stepping.{counted, gone_on, noted}
 use Rattle.lnt_sequences.specs.Watching.{closed, CollectsRows, current_of, extent_from, extent_shown, fall_shown}
 use Rattle.lnt_sequences.specs.Watching.{falls_after, file_shown, grown, HasSeen, longer, names_no_file, next}
-use Rattle.lnt_sequences.specs.Watching.{shown, start, Walk, walked}
+use Rattle.lnt_sequences.specs.Watching.{shown, start, RowsSoFar, walked}
 use Rattle.lnt_sequences.proofs.WalkLaws.{first_shown-push, last_after-push, shown-push, walked-append, walked-rows}
 
 -- ---- where the rows have come to
@@ -25,22 +25,22 @@ current-push dead [] row = refl
 current-push dead (first ∷ rest) row = rw (last_after-push first rest row) refl
 
 -- the walk with one more row: its fields, as a watch counts them
-next-rows : (walk : Walk) (row : Row) (t : Bool) → (cond t (closed walk) (longer walk row)).rows ≡ walk.rows + 1
+next-rows : (walk : RowsSoFar) (row : Row) (t : Bool) → (cond t (closed walk) (longer walk row)).rows ≡ walk.rows + 1
 next-rows walk row true = refl
 next-rows walk row false = refl
 
-next-ended : (walk : Walk) (row : Row) (t : Bool) (ended : ℕ) → ended ≡ walk.ended → walk.ended + 1 < 2 ^ 64
+next-ended : (walk : RowsSoFar) (row : Row) (t : Bool) (ended : ℕ) → ended ≡ walk.ended → walk.ended + 1 < 2 ^ 64
     → cond t (counted ended) ended ≡ (cond t (closed walk) (longer walk row)).ended
 next-ended walk row true ended e few = omega arith
 next-ended walk row false ended e few = e
 
-next-current : (dead : Option ℕ) (walk : Walk) (row : Row) (t : Bool)
+next-current : (dead : Option ℕ) (walk : RowsSoFar) (row : Row) (t : Bool)
     → cond t None (Some (grown dead (current_of dead walk.begun) row)) ≡ current_of dead (cond t (closed walk) (longer walk row)).begun
 next-current dead walk row true = refl
 next-current dead walk row false = sym (current-push dead walk.begun row)
 
 -- no more sequences have ended than there were rows
-pub ended_few : (walk : Walk) (rows : List Row) → (walked walk rows).ended ≤ walk.ended + length rows
+pub ended_few : (walk : RowsSoFar) (rows : List Row) → (walked walk rows).ended ≤ walk.ended + length rows
 ended_few walk [] = omega arith
 ended_few walk (row ∷ rows) =
     let h = ended_few (next walk row) rows in
@@ -79,15 +79,15 @@ seen_more dead unit files rows old new row current is e seen few =
       files_is = ap (λ (w : Watch). w.files) e ∙ r.files_is;
       rows_is =
           let counts : counted old.rows ≡ walk.rows + 1 = let same = r.rows_is in omega arith in
-          ap (λ (w : Watch). w.rows) e ∙ counts ∙ sym (next-rows walk row row.end_sequence) ∙ ap (λ (w : Walk). w.rows) there;
+          ap (λ (w : Watch). w.rows) e ∙ counts ∙ sym (next-rows walk row row.end_sequence) ∙ ap (λ (w : RowsSoFar). w.rows) there;
       ended_is =
           ap (λ (w : Watch). w.ended) e ∙ next-ended walk row row.end_sequence old.ended r.ended_is (omega arith)
-          ∙ ap (λ (w : Walk). w.ended) there;
+          ∙ ap (λ (w : RowsSoFar). w.ended) there;
       current_is =
           ap (λ (w : Watch). w.current) step
           ∙ ap (λ (d : Option ℕ). cond row.end_sequence None (Some (grown d old.current row))) r.dead_is
           ∙ ap (λ (c : Option Current). cond row.end_sequence None (Some (grown dead c row))) r.current_is
-          ∙ next-current dead walk row row.end_sequence ∙ ap (λ (w : Walk). current_of dead w.begun) there;
+          ∙ next-current dead walk row row.end_sequence ∙ ap (λ (w : RowsSoFar). current_of dead w.begun) there;
       falls_is =
           ap (λ (w : Watch). w.falls) step
           ∙ ap (λ (d : Option ℕ). falls_next old.falls d old.current old.rows row) r.dead_is

@@ -29,7 +29,7 @@ SpansInTurn =
 -- ---- the sequences that settled extents are of, in their order
 
 -- It is the sequence whose extent that is.
-pub record IsEntryOf (sequences : List Placed) (extent : Extent) (placed : Placed) : Type 0 where
+pub record IsExtentOf (sequences : List Placed) (extent : Extent) (placed : Placed) : Type 0 where
   pub contained : Contains sequences placed
   pub id_is : placed.id ≡ extent.id
 
@@ -37,7 +37,7 @@ pub record IsEntryOf (sequences : List Placed) (extent : Extent) (placed : Place
 -- There is a span for each of the entries at least.
 pub record HaveSpansInOrder (sequences : List Placed) (entries : List Extent) : Type 0 where
   pub in_turn : List Placed
-  pub each : AllZip (IsEntryOf sequences) entries in_turn
+  pub each : AllZip (IsExtentOf sequences) entries in_turn
   pub permuted : IsPermutation (spans_of sequences) (spans_of in_turn)
   pub in_order : AreInOrder (spans_of in_turn)
   pub answers : (p : Position) → span_answer (spans_of in_turn) p ≡ answer_in sequences p

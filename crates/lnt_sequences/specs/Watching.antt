@@ -46,35 +46,35 @@ names_no_file files row = not row.end_sequence && nat_le files row.file
 
 -- how far the rows of a unit have come: how many there were, how many sequences have ended, and the rows of the one that
 -- hasn't
-pub record Walk : Type 0 where
+pub record RowsSoFar : Type 0 where
   pub rows : ℕ
   pub ended : ℕ
   pub begun : List Row
 
-abbrev pub start : Walk
+abbrev pub start : RowsSoFar
 start = record { rows = 0; ended = 0; begun = [] }
 
 -- one row further, which ends its sequence or doesn't
-abbrev pub closed : Walk → Walk
+abbrev pub closed : RowsSoFar → RowsSoFar
 closed walk = record { rows = walk.rows + 1; ended = walk.ended + 1; begun = [] }
 
-abbrev pub longer : Walk → Row → Walk
+abbrev pub longer : RowsSoFar → Row → RowsSoFar
 longer walk row = record { rows = walk.rows + 1; ended = walk.ended; begun = walk.begun ++ row ∷ [] }
 
-abbrev pub next : Walk → Row → Walk
+abbrev pub next : RowsSoFar → Row → RowsSoFar
 next walk row = cond row.end_sequence (closed walk) (longer walk row)
 
-abbrev pub walked : Walk → List Row → Walk
+abbrev pub walked : RowsSoFar → List Row → RowsSoFar
 walked walk [] = walk
 walked walk (row ∷ rows) = walked (next walk row) rows
 
 -- what each row shows, where it stands
-abbrev pub shown : {A : Type 0} → (Walk → Row → List A) → Walk → List Row → List A
+abbrev pub shown : {A : Type 0} → (RowsSoFar → Row → List A) → RowsSoFar → List Row → List A
 shown show walk [] = []
 shown show walk (row ∷ rows) = show walk row ++ shown show (next walk row) rows
 
 -- what the first row shows that shows anything
-abbrev pub first_shown : {A : Type 0} → (Walk → Row → Option A) → Walk → List Row → Option A
+abbrev pub first_shown : {A : Type 0} → (RowsSoFar → Row → Option A) → RowsSoFar → List Row → Option A
 first_shown show walk [] = None
 first_shown show walk (row ∷ rows) = option_or (show walk row) (first_shown show (next walk row) rows)
 
@@ -92,16 +92,16 @@ current_of dead (row ∷ rows) =
     Some (record { live = begins_live dead row; low = position_of row; last = position_of (last_after row rows) })
 
 -- whether a row's sequence is live
-abbrev pub is_in_live : Option ℕ → Walk → Row → Bool
+abbrev pub is_in_live : Option ℕ → RowsSoFar → Row → Bool
 is_in_live dead walk row = (grown dead (current_of dead walk.begun) row).live
 
-abbrev pub extent_shown : Option ℕ → ℕ → Walk → Row → List Extent
+abbrev pub extent_shown : Option ℕ → ℕ → RowsSoFar → Row → List Extent
 extent_shown dead unit walk row = cond (is_in_live dead walk row) (extent_from unit walk.ended (current_of dead walk.begun) row) []
 
-abbrev pub fall_shown : Option ℕ → Walk → Row → Option ℕ
+abbrev pub fall_shown : Option ℕ → RowsSoFar → Row → Option ℕ
 fall_shown dead walk row = cond (is_in_live dead walk row && falls_after (current_of dead walk.begun) row) (Some walk.rows) None
 
-abbrev pub file_shown : Option ℕ → ℕ → Walk → Row → Option MissingFile
+abbrev pub file_shown : Option ℕ → ℕ → RowsSoFar → Row → Option MissingFile
 file_shown dead files walk row =
     cond (is_in_live dead walk row && names_no_file files row) (Some (record { row = walk.rows; file = row.file })) None
 

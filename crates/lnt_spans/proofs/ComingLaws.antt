@@ -2,7 +2,7 @@
 use Rattle.std.proofs.Common.{◌≡◌, ◌∙◌, List, [], ◌∷◌, ◌++◌, Some, None, refl, sym, ap, append_assoc}
 use Rattle.std.proofs.lemmas.List.{append-nil}
 use Rattle.lnt_spans.specs.declared.span.Span.{Span}
-use Rattle.lnt_spans.specs.Coming.{GivesFirst}
+use Rattle.lnt_spans.specs.Coming.{GivesFirstSpan}
 
 -- Of the spans in the list these were given, and the rest is still to come.
 pub record HasGiven (list given : List Span) (AreLeft : List Span → Type 0) : Type 0 where
@@ -14,11 +14,12 @@ pub none_given : (list : List Span) (AreLeft : List Span → Type 0) → AreLeft
 none_given list AreLeft left = record { rest = list; list_is = refl; left = left }
 
 pub one_given : (list given : List Span) (span : Span) (AreLeft AreLeft' : List Span → Type 0) → HasGiven list given AreLeft
-    → ((spans : List Span) → AreLeft spans → GivesFirst AreLeft' spans (Some span))
+    → ((spans : List Span) → AreLeft spans → GivesFirstSpan AreLeft' spans (Some span))
     → HasGiven list (given ++ span ∷ []) AreLeft'
 one_given list given span AreLeft AreLeft' h gives = by_rest h.rest h.list_is (gives h.rest h.left)
   where
-    by_rest : (rest : List Span) → list ≡ given ++ rest → GivesFirst AreLeft' rest (Some span) → HasGiven list (given ++ span ∷ []) AreLeft'
+    by_rest : (rest : List Span) → list ≡ given ++ rest → GivesFirstSpan AreLeft' rest (Some span)
+    → HasGiven list (given ++ span ∷ []) AreLeft'
     by_rest [] e g = absurd g
     by_rest (first ∷ rest) e g =
         record {
@@ -28,9 +29,9 @@ one_given list given span AreLeft AreLeft' h gives = by_rest h.rest h.list_is (g
         }
 
 pub all_given : (list given : List Span) (AreLeft AreLeft' : List Span → Type 0) → HasGiven list given AreLeft
-    → ((spans : List Span) → AreLeft spans → GivesFirst AreLeft' spans None) → list ≡ given
+    → ((spans : List Span) → AreLeft spans → GivesFirstSpan AreLeft' spans None) → list ≡ given
 all_given list given AreLeft AreLeft' h gives = by_rest h.rest h.list_is (gives h.rest h.left)
   where
-    by_rest : (rest : List Span) → list ≡ given ++ rest → GivesFirst AreLeft' rest None → list ≡ given
+    by_rest : (rest : List Span) → list ≡ given ++ rest → GivesFirstSpan AreLeft' rest None → list ≡ given
     by_rest [] e g = e ∙ append-nil given
     by_rest (first ∷ rest) e g = absurd g

@@ -16,7 +16,7 @@ use Rattle.lnt_spans.specs.declared.ahead.Ahead.{Ahead}
 use Rattle.lnt_spans.specs.Ahead.{IsAhead}
 use Rattle.lnt_spans.specs.Comparing.{AgreeBefore, Compares, end_of, HasCompared}
 use Rattle.lnt_spans.specs.Stepping.{Advances, GoesOn}
-use Rattle.lnt_spans.specs.Comparing.{IsCompared, IsComparedBy, IsTold, Merging, State, state_of}
+use Rattle.lnt_spans.specs.Comparing.{IsCompared, IsComparedBy, IsTold, Merging, MergeState, state_of}
 use Rattle.lnt_spans.specs.Stepping.{IsNext}
 use Rattle.lnt_spans.specs.Differences.{IsLeastDifference}
 use Rattle.lnt_spans.specs.Positions.{IsBelow, IsAtMost}
@@ -53,12 +53,13 @@ end_pushed [] span = refl
 end_pushed (r ∷ []) span = refl
 end_pushed (r ∷ next ∷ records) span = end_pushed (next ∷ records) span
 
-pub takes_none : (state : State) (spans records : List Span) (span : Span) → IsBelow span.low state.at → HasCompared state spans records
+pub takes_none : (state : MergeState) (spans records : List Span) (span : Span) → IsBelow span.low state.at
+    → HasCompared state spans records
     → AreInOrder (records ++ span ∷ []) → ⊥
 takes_none state spans records span lt c o =
     not_both lt (subst (λ (p : Position). IsAtMost p span.low) (sym c.at) (order_pushed records span o).past)
 
-pub takes_one : (state : State) (spans records : List Span) (span : Span) (holds : Bool) → IsAtMost state.at span.low
+pub takes_one : (state : MergeState) (spans records : List Span) (span : Span) (holds : Bool) → IsAtMost state.at span.low
     → MatchBool holds (IsBelow span.low span.high) (IsAtMost span.high span.low)
     → HasCompared state spans records → MatchBool holds (AreInOrder (records ++ span ∷ [])) (AreInOrder (records ++ span ∷ []) → ⊥)
 takes_one state spans records span true le h c =
@@ -99,7 +100,7 @@ answer_push_before [] span p h = answer_before span [] p h
 answer_push_before (r ∷ records) span p h = answer_same r (records ++ span ∷ []) records p (answer_push_before records span p h)
 
 -- two tables that agree below `at` are interchangeable
-compared_same : (first : Option Difference) (state : State) (spans : List Span) (f g : Position → Option Answer)
+compared_same : (first : Option Difference) (state : MergeState) (spans : List Span) (f g : Position → Option Answer)
     → ((p : Position) → IsBelow p state.at → f p ≡ g p) → IsComparedBy first state spans f → IsComparedBy first state spans g
 compared_same None state spans f g e c = record { rest_same = c.rest_same; agree = λ p h. c.agree p h ∙ e p h }
 compared_same (Some d) state spans f g e c = record {
@@ -112,7 +113,7 @@ compared_same (Some d) state spans f g e c = record {
   };
 }
 
-push_compares : (old middle new : State) (span : Span) → Comes old.at span → middle.at ≡ span.low → new.at ≡ span.high
+push_compares : (old middle new : MergeState) (span : Span) → Comes old.at span → middle.at ≡ span.low → new.at ≡ span.high
     → Advances old middle span.low None → Advances middle new span.high (Some span.answer)
     → (spans records : List Span) → HasCompared old spans records → HasCompared new spans (records ++ span ∷ [])
 push_compares old middle new span h low high gap over spans records c =
@@ -142,17 +143,18 @@ pub not_found : (first : Option Difference) → false ≡ is_some first → firs
 not_found None e = refl
 not_found (Some difference) e = absurd cc
 
-agree_before : (state : State) (spans : List Span) (by_table : Position → Option Answer) → state.first ≡ None
+agree_before : (state : MergeState) (spans : List Span) (by_table : Position → Option Answer) → state.first ≡ None
     → IsCompared state spans by_table → AgreeBefore state spans by_table
 agree_before state spans by_table e c = subst (λ (first : Option Difference). IsComparedBy first state spans by_table) e c
 
 -- the outcome of a scan up to `to`: the answers are alike up to there, or this is where they first differ
-abbrev pub Found : State → Position → Option Answer → List Span → Option Difference → Type 0
+abbrev pub Found : MergeState → Position → Option Answer → List Span → Option Difference → Type 0
 Found old to answer rest first =
     MatchOption first (Says old.version old.rest old.at to answer rest)
     (λ difference. DiffersFirst old.version old.rest old.at to answer difference)
 
-advance_found : (old : State) (rest : List Span) (to : Position) (answer : Option Answer) (first : Option Difference) → old.first ≡ None
+advance_found : (old : MergeState) (rest : List Span) (to : Position) (answer : Option Answer) (first : Option Difference)
+    → old.first ≡ None
     → IsAtMost old.at to
     → Found old to answer rest first → Advances old (record { version = old.version; rest = rest; at = to; first = first }) to answer
 advance_found old rest to answer None e le h spans by_table c says = let a = agree_before old spans by_table e c in record {
@@ -237,14 +239,14 @@ differed_on to_come old to answer some le rest ahead sound = record {
 
 -- ---- a record that is the next span
 
-next_compares : (old : State) (span : Span) (more : List Span) → old.rest ≡ span ∷ more → old.first ≡ None → AreInOrder (span ∷ more)
+next_compares : (old : MergeState) (span : Span) (more : List Span) → old.rest ≡ span ∷ more → old.first ≡ None → AreInOrder (span ∷ more)
     → Comes old.at (span_in_version old.version span)
     → (spans records : List Span) → HasCompared old spans records
     → HasCompared (record { version = old.version; rest = more; at = span.high; first = None }) spans
     (records ++ span_in_version old.version span ∷ [])
 next_compares old span more rest none order h =
     let said = span_in_version old.version span in
-    let middle : State = record { version = old.version; rest = span ∷ more; at = span.low; first = None } in
+    let middle : MergeState = record { version = old.version; rest = span ∷ more; at = span.low; first = None } in
     let before : Found old span.low None (span ∷ more) None = subst
     (λ (xs : List Span). Says old.version xs old.at span.low None (span ∷ more)) (sym rest)
     (gap_says old.version span more old.at span.low order (at_most_itself span.low)) in
@@ -304,7 +306,7 @@ start_is at span start holds ends (inl h) =
 start_is at span start holds ends (inr h) =
     rw h.1 (record { past = at_most_itself at; from = h.0; below = ends; before = λ p a b. absurd (not_both b a) })
 
-first_differs : (state : State) (spans records more : List Span) (span : Span) (start : Position) → AreInOrder (span ∷ more)
+first_differs : (state : MergeState) (spans records more : List Span) (span : Span) (start : Position) → AreInOrder (span ∷ more)
     → IsStart state.at span start
     → ((p : Position) → IsAtMost state.at p → span_answer (span ∷ more) p ≡ span_answer spans p)
     → AgreeBefore state spans (span_answer records) → ((p : Position) → IsAtMost state.at p → span_answer records p ≡ None)
@@ -353,7 +355,7 @@ passed_more version at done [] rest section o told e c =
     (sym (append-nil done))
     (subst (λ (p : Position). HasCompared (record { version = version; rest = rest; at = p; first = None }) section done) e c)
 passed_more version at done (span ∷ passed) rest section o told e c =
-    let old : State = record { version = version; rest = span ∷ passed ++ rest; at = at; first = None } in
+    let old : MergeState = record { version = version; rest = span ∷ passed ++ rest; at = at; first = None } in
     let f = rest_from done span (passed ++ rest) o in
     let comes : Comes at (span_in_version version span) = record {
       past = subst (λ (p : Position). IsAtMost p span.low) (sym e) f.past;

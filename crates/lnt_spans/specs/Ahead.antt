@@ -4,11 +4,11 @@ use Rattle.lnt_spans.specs.declared.position.Position.{Position}
 use Rattle.lnt_spans.specs.declared.span.Span.{Span}
 use Rattle.lnt_spans.specs.declared.ahead.Ahead.{Ahead}
 use Rattle.lnt_spans.specs.Positions.{is_below}
-use Rattle.lnt_spans.specs.Remaining.{IsLeft}
+use Rattle.lnt_spans.specs.Remaining.{SpansAreLeft}
 
 -- These spans, the one at hand included, are still to come.
 abbrev pub IsAhead : {S : Type 0} → (S → List Span → Type 0) → Ahead S → List Span → Type 0
-IsAhead to_come ahead spans = IsLeft to_come ahead.next ahead.spans spans
+IsAhead to_come ahead spans = SpansAreLeft to_come ahead.next ahead.spans spans
 
 -- ---- how many there are at most
 

@@ -1,4 +1,5 @@
--- The state of a bisection over spans in order: which spans may still hold the position. No public contract speaks of it.
+-- The state of a bisection over spans in order: which spans may still hold the position. Bodies here
+-- and in lnt_ffi bisect so, and no public contract speaks of it.
 use Rattle.std.specs.Prelude.{ℕ, ◌<◌, ◌≤◌, List, get_or, length}
 use Rattle.lnt_spans.specs.declared.position.Position.{Position}
 use Rattle.lnt_spans.specs.declared.span.Span.{Span}

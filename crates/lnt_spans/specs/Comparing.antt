@@ -21,13 +21,13 @@ pub record Merging (S : Type 0) : Type 0 where
   pub first : Option Difference
 
 -- the same state, with the spans to come as a list
-pub record State : Type 0 where
+pub record MergeState : Type 0 where
   pub version : Version
   pub rest : List Span
   pub at : Position
   pub first : Option Difference
 
-abbrev pub state_of : {S : Type 0} → Merging S → List Span → State
+abbrev pub state_of : {S : Type 0} → Merging S → List Span → MergeState
 state_of merge rest = record { version = merge.version; rest = rest; at = merge.at; first = merge.first }
 
 -- As long as no difference was found, the first span that is left ends after `at`.
@@ -36,21 +36,22 @@ pub record IsSound (rest : List Span) (at : Position) (first : Option Difference
   pub past : first ≡ None → EndsAfter at rest
 
 -- The two sides answer alike below `at`.
-pub record AgreeBefore (state : State) (spans : List Span) (by_table : Position → Option Answer) : Type 0 where
+pub record AgreeBefore (state : MergeState) (spans : List Span) (by_table : Position → Option Answer) : Type 0 where
   pub rest_same : (p : Position) → IsAtMost state.at p → span_answer state.rest p ≡ span_answer spans p
   pub agree : (p : Position) → IsBelow p state.at → version_answer state.version spans p ≡ by_table p
 
 -- The least difference lies below `at`, and was found.
-pub record DifferBefore (state : State) (spans : List Span) (by_table : Position → Option Answer) (difference : Difference) : Type 0 where
+pub record DifferBefore (state : MergeState) (spans : List Span) (by_table : Position → Option Answer)
+    (difference : Difference) : Type 0 where
   pub below : IsBelow difference.position state.at
   pub least : IsLeastDifference (version_answer state.version spans) by_table difference
 
 -- The one of these two that `first` selects.
-abbrev pub IsComparedBy : Option Difference → State → List Span → (Position → Option Answer) → Type 0
+abbrev pub IsComparedBy : Option Difference → MergeState → List Span → (Position → Option Answer) → Type 0
 IsComparedBy None state spans by_table = AgreeBefore state spans by_table
 IsComparedBy (Some difference) state spans by_table = DifferBefore state spans by_table difference
 
-abbrev pub IsCompared : State → List Span → (Position → Option Answer) → Type 0
+abbrev pub IsCompared : MergeState → List Span → (Position → Option Answer) → Type 0
 IsCompared state spans by_table = IsComparedBy state.first state spans by_table
 
 -- the end of the last record, or the origin where there is none
@@ -64,7 +65,7 @@ abbrev pub IsTold : Version → Span → Type 0
 IsTold version span = span_in_version version span ≡ span
 
 -- In this state the spans were compared with these records, which are in order.
-pub record HasCompared (state : State) (spans records : List Span) : Type 0 where
+pub record HasCompared (state : MergeState) (spans records : List Span) : Type 0 where
   pub order : AreInOrder records
   pub at : state.at ≡ end_of records
   pub ended : (p : Position) → IsAtMost state.at p → span_answer records p ≡ None

@@ -1,4 +1,4 @@
--- What the bodies of this crate say of one step, and those of the crate of tables by path. No public contract speaks of it.
+-- What the bodies of this crate say of one step, and those of lnt_paths. No public contract speaks of it.
 use Rattle.std.specs.Prelude.{◌≡◌, List, [], ◌∷◌, ◌++◌, Option, Some, None, cond, ◌≢◌, MatchOption, ℕ, ◌+◌, Bool, true}
 use Rattle.lnt_spans.specs.declared.answer.Answer.{Answer}
 use Rattle.lnt_spans.specs.declared.difference.Difference.{Difference}
@@ -14,7 +14,7 @@ use Rattle.lnt_spans.specs.declared.answer.Version.{Version}
 use Rattle.lnt_spans.specs.Spans.{AreInOrder, span_answer, version_answer, span_in_version}
 use Rattle.lnt_spans.specs.Remaining.{EndsAfter}
 use Rattle.lnt_spans.specs.Ahead.{gap_before, IsAhead}
-use Rattle.lnt_spans.specs.Comparing.{Merging, State, state_of, IsSound, IsCompared}
+use Rattle.lnt_spans.specs.Comparing.{Merging, MergeState, state_of, IsSound, IsCompared}
 
 -- ---- one step on to where one of the two answers ends: how far each of them goes, and what the step brings
 
@@ -39,11 +39,12 @@ run_end at None = None
 run_end at (Some span) = Some (cond (is_below at span.low) span.low span.high)
 
 -- what one step brings
-abbrev pub Steps : {S T : Type 0} → (S → List Span → Type 0) → (T → List Span → Type 0) → Differences S T → (Position → Option Answer)
+abbrev pub StretchStep : {S T : Type 0} → (S → List Span → Type 0) → (T → List Span → Type 0) → Differences S T → (Position → Option Answer)
     → (Position → Option Answer) → List Difference → Step → Type 0
-Steps of_section of_table differences by_section by_table told Ended = AreStretches by_section by_table told
-Steps of_section of_table differences by_section by_table told Known = HasTold of_section of_table differences by_section by_table told
-Steps of_section of_table differences by_section by_table told (Told difference) =
+StretchStep of_section of_table differences by_section by_table told Ended = AreStretches by_section by_table told
+StretchStep of_section of_table differences by_section by_table told Known =
+    HasTold of_section of_table differences by_section by_table told
+StretchStep of_section of_table differences by_section by_table told (Told difference) =
     HasTold of_section of_table differences by_section by_table (told ++ difference ∷ [])
 
 -- ---- a stretch of positions with one answer
@@ -108,13 +109,13 @@ pub record IsNext {S : Type 0} (merge : Merging S) (said : Span) : Type 0 where
   pub none : merge.first ≡ None
 
 -- the effect of an advance to `to` on any table that answers `answer` up to there
-abbrev pub Advances : State → State → Position → Option Answer → Type 0
+abbrev pub Advances : MergeState → MergeState → Position → Option Answer → Type 0
 Advances old new to answer =
     (spans : List Span) (by_table : Position → Option Answer) → IsCompared old spans by_table
     → ((p : Position) → IsAtMost old.at p → IsBelow p to → by_table p ≡ answer) → IsCompared new spans by_table
 
 -- the merge has advanced, and these spans are still to come
-pub record HasGoneOn {S : Type 0} (to_come : S → List Span → Type 0) (old : State) (new : Merging S) (to : Position)
+pub record HasGoneOn {S : Type 0} (to_come : S → List Span → Type 0) (old : MergeState) (new : Merging S) (to : Position)
     (answer : Option Answer) : Type 0 where
   pub rest : List Span
   pub ahead : IsAhead to_come new.spans rest

@@ -1,5 +1,6 @@
 //! A source of spans over a list in memory.
-ghost use Rattle.std.specs.Prelude.{◌≡◌, ◌-◌, drop, length};
+ghost use Rattle.std.specs.Prelude.{◌≡◌};
+ghost use Rattle.lnt_spans.specs.Remaining.{count_left, spans_left};
 
 use crate::source::SpanSource;
 use crate::span::Span;
@@ -21,9 +22,9 @@ impl SpanList {
 }
 
 impl SpanSource for SpanList {
-    ghost to_come = { λ s list. drop s.given s.spans.items ≡ list };
+    ghost to_come = { λ s list. spans_left s ≡ list };
 
-    ghost left = { λ s. length s.spans.items - s.given };
+    ghost left = { count_left };
 
     fn next_span(&mut self) -> Option<Span> {
         if self.given >= self.spans.len() {

@@ -1,7 +1,7 @@
 //! Sources that give spans one after another.
 ghost use Rattle.std.specs.Prelude.{◌≡◌, ℕ, ◌<◌, List, length, IfOk, IfSome};
 ghost use Rattle.lnt_spans.specs.declared.span.Span as spec;
-ghost use Rattle.lnt_spans.specs.Coming.{GivesFirst};
+ghost use Rattle.lnt_spans.specs.Coming.{GivesFirstSpan};
 
 use crate::span::Span;
 use std::alloc::{AllocError, Global};
@@ -18,7 +18,7 @@ pub trait SpanSource {
 
     /// Gives the next span, or None where none is left.
     fn next_span(&mut self) -> Option<Span>
-        ensures gives { (spans : List spec.Span) → to_come self.old spans → GivesFirst (to_come self.new) spans result }
+        ensures gives { (spans : List spec.Span) → to_come self.old spans → GivesFirstSpan (to_come self.new) spans result }
         ensures fewer { IfSome result (λ _. left self.new < left self.old) };
 }
 

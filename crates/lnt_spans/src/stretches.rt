@@ -14,7 +14,7 @@ ghost use Rattle.lnt_spans.specs.Differing.{HasTold, IsSideAt, runs_left, stretc
 ghost use Rattle.lnt_spans.specs.Positions.{IsAtMost};
 ghost use Rattle.lnt_spans.specs.Remaining.{EndsAfter};
 ghost use Rattle.lnt_spans.specs.Spans.{AreInOrder, span_answer, version_answer};
-ghost use Rattle.lnt_spans.specs.Stepping.{IsRun, IsUpTo, Steps, run_end};
+ghost use Rattle.lnt_spans.specs.Stepping.{IsRun, IsUpTo, StretchStep, run_end};
 ghost use Rattle.lnt_spans.specs.Stretches.{AreStretches};
 
 use crate::ahead::Ahead;
@@ -103,14 +103,14 @@ impl<S: SpanSource, T: SpanSource> Differences<S, T> {
         }
     }
 
-    // Steps to the next position at which one of the two answers may end.
+    // StretchStep to the next position at which one of the two answers may end.
     fn step(&mut self) -> Step
         requires { (by_section : spec_position.Position → Option spec_answer.Answer)
             × (by_table : spec_position.Position → Option spec_answer.Answer) × (told : List spec_difference.Difference)
             × HasTold S.to_come T.to_come self.old by_section by_table told }
         ensures told { (by_section by_table : spec_position.Position → Option spec_answer.Answer) (told : List spec_difference.Difference)
             → HasTold S.to_come T.to_come self.old by_section by_table told
-            → Steps S.to_come T.to_come self.new by_section by_table told result }
+            → StretchStep S.to_come T.to_come self.new by_section by_table told result }
         ensures fewer { result ≢ step.Ended → stretches_left S.left T.left self.new < stretches_left S.left T.left self.old }
     {
         let at = self.at;

@@ -9,12 +9,12 @@ use Rattle.lnt_stream.specs.declared.stop.SectionStop.{SectionStop}
 use Rattle.lnt_stream.specs.declared.stop.SectionStop.TheVariants as stop
 use Rattle.lnt_stream.specs.Readers.{source_of, loan_of, order_of, offset_of, progress_of}
 use Rattle.lnt_stream.specs.Stops.{IfFault}
-use Rattle.lnt_stream.specs.Units.{IsNextUnit, SectionEndsBy, UnitBytes}
+use Rattle.lnt_stream.specs.Units.{IsNextUnit, SectionEndsBy, BufferedUnit}
 
 -- The reader is old before the call and new after it, the answer is the call's, and source is what the reader's source says of
 -- itself.
 pub record IsStep {R : Type 0} {source : Ghosts R} (old new : SectionReader R source)
-    (answer : Result (Option UnitBytes) SectionStop) : Type 0 where
+    (answer : Result (Option BufferedUnit) SectionStop) : Type 0 where
   -- a unit is the next one, and the reader goes on after it
   pub unit : IfOk answer (λ got. IfSome got (λ unit.
       IsNextUnit (offset_of old) (order_of old) (source.remaining (source_of old)) (source.remaining (source_of new)) unit))

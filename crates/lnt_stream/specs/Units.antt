@@ -9,13 +9,13 @@ use Rattle.lnt_wire.specs.Frames.{EndsBy}
 use Rattle.lnt_wire.specs.Pulling.{Pulls}
 
 -- The bytes of a unit, the offset in the section of the first of them, and the byte order of its numbers.
-pub record UnitBytes : Type 0 where
+pub record BufferedUnit : Type 0 where
   pub offset : ℕ
   pub bytes : List ℕ
   pub order : Order
 
 -- The bytes are one whole frame, and the offset in the section of its end is below 2^64.
-pub record IsWholeUnit (unit : UnitBytes) : Type 0 where
+pub record IsWholeUnit (unit : BufferedUnit) : Type 0 where
   pub format : Format
   pub body : List ℕ
   pub spelled : FrameBytes unit.order (format, body) unit.bytes
@@ -23,7 +23,7 @@ pub record IsWholeUnit (unit : UnitBytes) : Type 0 where
 
 -- The unit is a whole one at the offset, and its bytes are the next of a source: of those that the source had to give (old), the
 -- others are left (new).
-pub record IsNextUnit (offset : ℕ) (order : Order) (old new : Option (List ℕ)) (unit : UnitBytes) : Type 0 where
+pub record IsNextUnit (offset : ℕ) (order : Order) (old new : Option (List ℕ)) (unit : BufferedUnit) : Type 0 where
   pub whole : IsWholeUnit unit
   pub offset_is : unit.offset ≡ offset
   pub order_is : unit.order ≡ order

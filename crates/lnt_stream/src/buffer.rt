@@ -23,9 +23,9 @@ pub struct UnitBuffer {
 }
 
 impl Model for UnitBuffer {
-    ghost use Rattle.lnt_stream.specs.Units.{UnitBytes, IsSpelled};
+    ghost use Rattle.lnt_stream.specs.Units.{BufferedUnit, IsSpelled};
 
-    ghost Value = { UnitBytes };
+    ghost Value = { BufferedUnit };
 
     ghost view = { λ b. record { offset = b.offset; bytes = b.bytes.items; order = b.order } };
 

@@ -6,7 +6,7 @@ use Rattle.std.specs.Option.{option_and_then, option_map}
 use Rattle.lnt_header.specs.declared.header.HeaderParts.{HeaderParts}
 use Rattle.lnt_unit.specs.declared.unit.Parts.{Parts}
 use Rattle.lnt_unit.proofs.UnitLaws.{same_units}
-use Rattle.lnt_machine.specs.Walking.{Keeps, Kept}
+use Rattle.lnt_machine.specs.Walking.{KeepsProgram, KeptProgram}
 use Rattle.lnt_files.specs.Paths.{path_bytes}
 use Rattle.lnt_spans.specs.declared.answer.Answer.{Answer}
 use Rattle.lnt_spans.specs.declared.position.Position.{Position}
@@ -28,13 +28,13 @@ use Rattle.lnt_table.proofs.AnyLemmas.{compared_so}
 
 -- ---- paths
 
-abbrev header_of : Option Kept → Option HeaderParts
-header_of found = option_map (λ (kept : Kept). kept.header) found
+abbrev header_of : Option KeptProgram → Option HeaderParts
+header_of found = option_map (λ (kept : KeptProgram). kept.header) found
 
 -- two lists of programs kept for the same units have the same headers
-same_headers : (units : List (ℕ × Parts)) (xs ys : List Kept) (k : ℕ)
-    → AllZip (λ (unit : ℕ × Parts) (kept : Kept). Keeps kept unit.1) units xs
-    → AllZip (λ (unit : ℕ × Parts) (kept : Kept). Keeps kept unit.1) units ys
+same_headers : (units : List (ℕ × Parts)) (xs ys : List KeptProgram) (k : ℕ)
+    → AllZip (λ (unit : ℕ × Parts) (kept : KeptProgram). KeepsProgram kept unit.1) units xs
+    → AllZip (λ (unit : ℕ × Parts) (kept : KeptProgram). KeepsProgram kept unit.1) units ys
     → header_of (slice_get xs k) ≡ header_of (slice_get ys k)
 same_headers [] [] [] k a b = refl
 same_headers [] (x ∷ xs) ys k a b = absurd a
@@ -44,9 +44,9 @@ same_headers (unit ∷ units) (x ∷ xs) [] k a b = absurd b
 same_headers (unit ∷ units) (x ∷ xs) (y ∷ ys) zero a b = ap Some (a.0.header_is ∙ sym b.0.header_is)
 same_headers (unit ∷ units) (x ∷ xs) (y ∷ ys) (suc k) a b = same_headers units xs ys k a.1 b.1
 
-headers_at : (units : List (ℕ × Parts)) (xs ys : List Kept) (place : Option ℕ)
-    → AllZip (λ (unit : ℕ × Parts) (kept : Kept). Keeps kept unit.1) units xs
-    → AllZip (λ (unit : ℕ × Parts) (kept : Kept). Keeps kept unit.1) units ys
+headers_at : (units : List (ℕ × Parts)) (xs ys : List KeptProgram) (place : Option ℕ)
+    → AllZip (λ (unit : ℕ × Parts) (kept : KeptProgram). KeepsProgram kept unit.1) units xs
+    → AllZip (λ (unit : ℕ × Parts) (kept : KeptProgram). KeepsProgram kept unit.1) units ys
     → header_of (option_and_then (slice_get xs) place) ≡ header_of (option_and_then (slice_get ys) place)
 headers_at units xs ys None a b = refl
 headers_at units xs ys (Some k) a b = same_headers units xs ys k a b

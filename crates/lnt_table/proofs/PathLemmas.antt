@@ -5,7 +5,7 @@ use Rattle.std.specs.List.{AllByRecursion}
 use Rattle.lnt_paths.specs.declared.version.PathTable.{PathTable}
 use Rattle.lnt_paths.specs.declared.version.PathTable.TheVariants.{OperationIndex, Written}
 use Rattle.lnt_paths.specs.declared.version.PathVersion.{PathVersion}
-use Rattle.lnt_paths.specs.Borders.{HasNoPathOperation, IsLeastOperation}
+use Rattle.lnt_paths.specs.Borders.{IsPathSpanOfInstructions, IsLeastOperation}
 use Rattle.lnt_paths.specs.PathAnswers.{PathAnswer, spans_by_path}
 use Rattle.lnt_paths.specs.PathSpans.{AreCanonicalOf, PathSpan}
 use Rattle.lnt_paths.specs.Written.{BeginsPathTable, HasBecome, IsCanonicalPathTable}
@@ -37,7 +37,7 @@ becomes_so version f g old new (OperationIndex position) e h =
 -- a whole table, of which a front was gained
 table_begun : (version : PathVersion) (path : ℕ → ℕ → List ℕ) (given : List Span) (answers : Position → Option PathAnswer)
     (old new : Option (List ℕ)) → AreInOrder given → FitSpans given → ((p : Position) → spans_by_path version path given p ≡ answers p)
-    → (begun : BeginsPathTable version (spans_by_path version path given) old new) → AllByRecursion HasNoPathOperation begun.spans
+    → (begun : BeginsPathTable version (spans_by_path version path given) old new) → AllByRecursion IsPathSpanOfInstructions begun.spans
     → BeginsTableByPath version answers old new
 table_begun version path given answers old new order fits e begun none =
     let table = whole_or_none version path given begun.spans order fits begun.canonical none in

@@ -9,7 +9,7 @@ use Rattle.lnt_header_bytes.specs.HeaderBytes.{unit_body}
 use Rattle.lnt_header_bytes.specs.Borrowed.{without_entries}
 use Rattle.lnt_ops.specs.Walks.{Walk, Ends}
 use Rattle.lnt_unit.proofs.NumberLaws.{given_all_by_numbers}
-use Rattle.lnt_unit.specs.Views.{View, IsView, HasCount, by_numbers}
+use Rattle.lnt_unit.specs.Views.{View, IsUnitView, HasCount, by_numbers}
 use Rattle.lnt_unit.proofs.ViewLemmas.{CountedTo, counted_none}
 
 pub counted_none_by_numbers : (view : View) (walk : Walk) → walk.header ≡ without_entries view.header → walk.failed ≡ false
@@ -17,7 +17,8 @@ pub counted_none_by_numbers : (view : View) (walk : Walk) → walk.header ≡ wi
     → CountedTo (by_numbers view) 0 walk
 counted_none_by_numbers view walk same going place rest order = counted_none (by_numbers view) walk same going place rest order
 
-pub counted_all_by_numbers : (view : View) (count : ℕ) (old new : Walk) → IsView view → CountedTo (by_numbers view) count old → Ends old new
+pub counted_all_by_numbers : (view : View) (count : ℕ) (old new : Walk) → IsUnitView view → CountedTo (by_numbers view) count old
+    → Ends old new
     → HasCount view count
 counted_all_by_numbers view count old new is so ends = record {
   ops = so.ops;
@@ -27,7 +28,7 @@ counted_all_by_numbers view count old new is so ends = record {
 
 -- ---- the program goes to the end of the unit
 
-ends_with : (view : View) → IsView view → (front : List ℕ) × (view.unit.bytes ≡ front ++ view.program)
+ends_with : (view : View) → IsUnitView view → (front : List ℕ) × (view.unit.bytes ≡ front ++ view.program)
 ends_with view is =
     let h = view.header in
     let fields = is.spelled.spelled.fields in
@@ -37,10 +38,10 @@ ends_with view is =
     fields in
     (start ++ before, is.spelled.spelled.joined ∙ sym (append_assoc start before view.program))
 
-pub program_fits : (view : View) → IsView view → length view.program ≤ length view.unit.bytes
+pub program_fits : (view : View) → IsUnitView view → length view.program ≤ length view.unit.bytes
 program_fits view is = let whole = ends_with view is in omega (arith, ap length whole.1, length-append whole.0 view.program)
 
-pub program_ends : (view : View) (n : ℕ) → IsView view → n ≡ length view.unit.bytes - length view.program
+pub program_ends : (view : View) (n : ℕ) → IsUnitView view → n ≡ length view.unit.bytes - length view.program
     → drop n view.unit.bytes ≡ view.program
 program_ends view n is at =
     let whole = ends_with view is in

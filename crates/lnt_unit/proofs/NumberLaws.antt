@@ -21,7 +21,7 @@ use Rattle.lnt_unit.specs.BrokenUnits.{BrokenUnit}
 use Rattle.lnt_unit.proofs.BrokenLaws.{ops_broken}
 use Rattle.lnt_unit.proofs.UnitLaws.{unit_found}
 use Rattle.lnt_unit.specs.UnitBytes.{UnitBytesIn}
-use Rattle.lnt_unit.specs.Views.{View, IsView, with_ops, by_numbers}
+use Rattle.lnt_unit.specs.Views.{View, IsUnitView, with_ops, by_numbers}
 use Rattle.lnt_unit.specs.Stepping.{HasGiven}
 
 -- ---- operations
@@ -95,7 +95,8 @@ broken_by_numbers h place program fault b = record {
 -- ---- units
 
 -- all were given: the bytes are those of the unit of these operations
-pub given_all_by_numbers : (view : View) (ops : List Op) (old new : Walk) → IsView view → HasGiven (by_numbers view) ops old → Ends old new
+pub given_all_by_numbers : (view : View) (ops : List Op) (old new : Walk) → IsUnitView view → HasGiven (by_numbers view) ops old
+    → Ends old new
     → UnitBytesIn view.unit.order (with_ops view ops) view.unit.bytes
 given_all_by_numbers view ops old new is given ends =
     unit_found view.unit.order (with_ops view ops) view.program view.unit.bytes is.spelled
@@ -103,7 +104,7 @@ given_all_by_numbers view ops old new is given ends =
     (walk_done (without_entries view.header) view.place view.program ops old new given.going given.so ends))
 
 -- one was refused: the bytes are those of no unit
-pub given_broken_by_numbers : (view : View) (ops : List Op) (fault : Fault) (old new : Walk) → IsHeader view.header → IsView view
+pub given_broken_by_numbers : (view : View) (ops : List Op) (fault : Fault) (old new : Walk) → IsHeader view.header → IsUnitView view
     → HasGiven (by_numbers view) ops old → Fails fault old new
     → BrokenUnit view.unit.order fault view.unit.offset view.unit.bytes
 given_broken_by_numbers view ops fault old new header is given fails =

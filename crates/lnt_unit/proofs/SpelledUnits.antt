@@ -6,12 +6,12 @@ use Rattle.lnt_header_bytes.proofs.ProgramLaws.{fits_less, length-body}
 use Rattle.lnt_header_bytes.specs.Spelled.{HasSmallOffsets}
 use Rattle.lnt_ops.specs.Laws as operations
 use Rattle.lnt_unit.specs.declared.unit.Parts.{Parts}
-use Rattle.lnt_unit.specs.Laws.{AllowedIsSpelled}
+use Rattle.lnt_unit.specs.Laws.{AllowedUnitIsSpelled}
 use Rattle.lnt_unit.specs.Spelled.{FitsUnit, UnitLengthsFit}
 use Rattle.lnt_unit.specs.UnitBytes.{UnitBytes}
 use Rattle.lnt_unit.specs.UnitRules.{IsUnit}
 
-unit_spelled : header.AllowedIsSpelled → operations.AllowedOpsAreSpelled → (unit : Parts) → IsUnit unit → FitsUnit unit
+unit_spelled : header.AllowedHeaderIsSpelled → operations.AllowedOpsAreSpelled → (unit : Parts) → IsUnit unit → FitsUnit unit
     → HasSmallOffsets unit.header → UnitLengthsFit unit
     → (bytes : List ℕ) × UnitBytes unit bytes
 unit_spelled headers ops unit is fits small short =
@@ -19,7 +19,8 @@ unit_spelled headers ops unit is fits small short =
     let whole = headers.unit unit.header program.0 is.header fits.header small (short program.0 program.1) in
     (whole.0, record { program = program.0; operations = program.1.spelled; whole = whole.1 })
 
-allowed : header.AllowedIsSpelled → operations.AllowedOpsAreSpelled → (unit : Parts) (bytes : List ℕ) → UnitBytes unit bytes → IsUnit unit
+allowed : header.AllowedHeaderIsSpelled → operations.AllowedOpsAreSpelled → (unit : Parts) (bytes : List ℕ) → UnitBytes unit bytes
+    → IsUnit unit
     × FitsUnit unit × HasSmallOffsets unit.header × UnitLengthsFit unit
 allowed headers ops unit bytes p =
     let h = headers.allowed unit.header p.program bytes p.whole in
@@ -38,7 +39,7 @@ allowed headers ops unit bytes p =
           )) (h.3 fields s),
     )
 
-pub allowed_is_spelled : header.AllowedIsSpelled → operations.AllowedOpsAreSpelled → AllowedIsSpelled
+pub allowed_is_spelled : header.AllowedHeaderIsSpelled → operations.AllowedOpsAreSpelled → AllowedUnitIsSpelled
 allowed_is_spelled headers ops = record {
   spelled = unit_spelled headers ops;
   allowed = allowed headers ops;

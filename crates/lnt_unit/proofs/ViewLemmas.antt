@@ -8,9 +8,9 @@ use Rattle.lnt_wire.specs.declared.frame.Frame.{Frame}
 use Rattle.lnt_header_bytes.specs.Broken.{BrokenHeader}
 use Rattle.lnt_header.specs.declared.op.Op.{Op}
 use Rattle.lnt_header.specs.declared.op.OpView.{OpView}
-use Rattle.lnt_ops.specs.Walks.{Walk, Ends, Steps}
+use Rattle.lnt_ops.specs.Walks.{Walk, Ends, GivesOperation}
 use Rattle.lnt_unit.proofs.ViewLaws.{given_none, given_more, given_all}
-use Rattle.lnt_unit.specs.Views.{View, IsView, HasCount}
+use Rattle.lnt_unit.specs.Views.{View, IsUnitView, HasCount}
 use Rattle.lnt_unit.specs.Stepping.{HasGiven}
 
 -- ---- the header
@@ -35,7 +35,7 @@ pub counted_none : (view : View) (walk : Walk) → walk.header ≡ view.header �
 counted_none view walk same going place rest order =
     record { ops = []; given = given_none view walk same going place rest order; count_is = refl; few = omega (arith, ap length rest) }
 
-pub counted_more : (view : View) (count : ℕ) (item : OpView) (old new : Walk) → CountedTo view count old → Steps item old new
+pub counted_more : (view : View) (count : ℕ) (item : OpView) (old new : Walk) → CountedTo view count old → GivesOperation item old new
     → CountedTo view (count + 1) new
 counted_more view count item old new so step =
     let op = step.gives.op in
@@ -46,13 +46,14 @@ counted_more view count item old new so step =
       few = omega (arith, so.few, step.shorter);
     }
 
-pub counted_all : (view : View) (count : ℕ) (old new : Walk) → IsView view → CountedTo view count old → Ends old new → HasCount view count
+pub counted_all : (view : View) (count : ℕ) (old new : Walk) → IsUnitView view → CountedTo view count old → Ends old new
+    → HasCount view count
 counted_all view count old new is so ends = record {
   ops = so.ops;
   spelled = given_all view so.ops old new is so.given ends;
   count_is = so.count_is;
 }
 
-pub counted_room : (view : View) (count : ℕ) (item : OpView) (old new : Walk) → CountedTo view count old → Steps item old new
+pub counted_room : (view : View) (count : ℕ) (item : OpView) (old new : Walk) → CountedTo view count old → GivesOperation item old new
     → length view.program < 2 ^ 64 → count + 1 < 2 ^ 64
 counted_room view count item old new so step lt = omega (arith, so.few, step.shorter, lt)

@@ -12,7 +12,7 @@ use Rattle.lnt_header_bytes.specs.Borrowed.{without_entries}
 use Rattle.lnt_header.specs.OpRules.{StandsFor}
 use Rattle.lnt_header.specs.declared.op.Op.{Op}
 use Rattle.lnt_header.specs.declared.op.OpView.{OpView}
-use Rattle.lnt_ops.specs.Walks.{Steps, Walk}
+use Rattle.lnt_ops.specs.Walks.{GivesOperation, Walk}
 use Rattle.lnt_stream.specs.Units as stream
 use Rattle.lnt_unit.specs.declared.unit.Parts.{Parts}
 use Rattle.lnt_unit.specs.BrokenUnits.{BrokenSection, BrokenUnit, IsTrueFault}
@@ -50,7 +50,7 @@ walked_none view walk same b = record {
   few = omega (arith, ap length b.rest_is);
 }
 
-walked_more : (view : View) (items : List OpView) (item : OpView) (old new : Walk) → HasWalked view items old → Steps item old new
+walked_more : (view : View) (items : List OpView) (item : OpView) (old new : Walk) → HasWalked view items old → GivesOperation item old new
     → HasWalked view (items ++ item ∷ []) new
 walked_more view items item old new so step =
     let op = step.gives.op in
@@ -139,7 +139,7 @@ broken_after order units front rest fault spelled some b =
     record { none = no_section order fault (front ++ rest) t; true_fault = t }
 
 -- a whole unit has some byte
-frame_some : (unit : stream.UnitBytes) → (is : stream.IsWholeUnit unit) → 0 < length unit.bytes
+frame_some : (unit : stream.BufferedUnit) → (is : stream.IsWholeUnit unit) → 0 < length unit.bytes
 frame_some unit is =
     omega (
       arith,

@@ -13,14 +13,14 @@ use Rattle.lnt_header.specs.OpRules.{Admits, StandsFor}
 use Rattle.lnt_header_bytes.specs.Spelled.{HasSmallOffsets}
 use Rattle.lnt_header.specs.declared.op.Op.{Op}
 use Rattle.lnt_header.specs.declared.op.OpView.{OpView}
-use Rattle.lnt_ops.specs.Walks.{Ends, Fails, Steps, Walk}
+use Rattle.lnt_ops.specs.Walks.{Ends, Fails, GivesOperation, Walk}
 use Rattle.lnt_stream.specs.Units as stream
 use Rattle.lnt_unit.specs.declared.unit.Parts.{Parts}
 use Rattle.lnt_unit.specs.BrokenUnits.{BrokenSection, BrokenUnit, IsTrueFault}
 use Rattle.lnt_unit.specs.Spelled.{FitsUnit, UnitLengthsFit}
 use Rattle.lnt_unit.specs.UnitBytes.{UnitBytes, UnitBytesIn, SectionBytes}
 use Rattle.lnt_unit.specs.UnitRules.{IsUnit}
-use Rattle.lnt_unit.specs.Views.{IsView, View, with_ops}
+use Rattle.lnt_unit.specs.Views.{IsUnitView, View, with_ops}
 
 -- units
 abbrev pub OneSpelling : Type 0
@@ -44,7 +44,7 @@ pub record OneTrueFault : Type 0 where
 
 -- A unit that `Unit::new` allows is spelled by some bytes exactly where its format can say its offsets and its length. In the 64-bit
 -- format no offset is too large.
-pub record AllowedIsSpelled : Type 0 where
+pub record AllowedUnitIsSpelled : Type 0 where
   pub spelled : (unit : Parts) → IsUnit unit → FitsUnit unit → HasSmallOffsets unit.header → UnitLengthsFit unit → (bytes : List ℕ)
       × UnitBytes unit bytes
   pub allowed : (unit : Parts) (bytes : List ℕ) → UnitBytes unit bytes → IsUnit unit × FitsUnit unit × HasSmallOffsets unit.header
@@ -64,7 +64,7 @@ pub record BeginsOf (view : View) (walk : Walk) : Type 0 where
 -- The walk gives these, one after another, and then stands as told.
 abbrev pub GivesEach : List OpView → Walk → Walk → Type 0
 GivesEach [] old new = new ≡ old
-GivesEach (item ∷ items) old new = (next : Walk) × Steps item old next × GivesEach items next new
+GivesEach (item ∷ items) old new = (next : Walk) × GivesOperation item old next × GivesEach items next new
 
 -- What was given stands for these operations, which the header admits. They are no more than the program has bytes.
 pub record AreGiven (view : View) (items : List OpView) (ops : List Op) : Type 0 where
@@ -78,10 +78,10 @@ pub record AreGiven (view : View) (items : List OpView) (ops : List Op) : Type 0
 pub record WholeWalk : Type 0 where
   pub given : (view : View) (start now : Walk) (items : List OpView) → BeginsOf view start → GivesEach items start now → (ops : List Op)
       × AreGiven view items ops
-  pub all : (view : View) (start now end : Walk) (items : List OpView) → IsView view → BeginsOf view start → GivesEach items start now
+  pub all : (view : View) (start now end : Walk) (items : List OpView) → IsUnitView view → BeginsOf view start → GivesEach items start now
       → Ends now end
       → (ops : List Op) × AreGiven view items ops × UnitBytesIn view.unit.order (with_ops view ops) view.unit.bytes
-  pub broken : (view : View) (start now end : Walk) (items : List OpView) (fault : Fault) → IsHeader view.header → IsView view
+  pub broken : (view : View) (start now end : Walk) (items : List OpView) (fault : Fault) → IsHeader view.header → IsUnitView view
       → BeginsOf view start → GivesEach items start now → Fails fault now end
       → BrokenUnit view.unit.order fault view.unit.offset view.unit.bytes
 
@@ -90,7 +90,7 @@ pub record WholeWalk : Type 0 where
 pub record FaultOfSection : Type 0 where
   pub next : (order : Order) (units : List (ℕ × Parts)) (front rest : List ℕ) (fault : Fault) → SectionBytes order units front
       → EndsBy (record { place = length front; rest = rest; order = order }) (Some fault) → BrokenSection order fault (front ++ rest)
-  pub here : (order : Order) (units : List (ℕ × Parts)) (front more : List ℕ) (unit : stream.UnitBytes) (fault : Fault)
+  pub here : (order : Order) (units : List (ℕ × Parts)) (front more : List ℕ) (unit : stream.BufferedUnit) (fault : Fault)
       → SectionBytes order units front
       → stream.IsWholeUnit unit → unit.offset ≡ length front → unit.order ≡ order → BrokenUnit order fault unit.offset unit.bytes
       → BrokenSection order fault (front ++ (unit.bytes ++ more))

@@ -1,4 +1,4 @@
--- What the bodies of this crate say of one step. No public contract speaks of it.
+-- What the bodies of this crate say of one step, which proofs of lnt_lines and lnt_dump use too. No public contract speaks of it.
 use Rattle.std.specs.Prelude.{◌≡◌, ◌≢◌, ℕ, List, ◌++◌, length, Bool, true, false, Option, Some, None}
 use Rattle.lnt_wire.specs.At.{At}
 use Rattle.lnt_wire.specs.Bytes.{Appends, IsShortest}

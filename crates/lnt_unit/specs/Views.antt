@@ -4,19 +4,19 @@ use Rattle.lnt_header_bytes.specs.Borrowed.{without_entries}
 use Rattle.lnt_header.specs.declared.header.HeaderParts.{HeaderParts}
 use Rattle.lnt_header.specs.declared.op.Op.{Op}
 use Rattle.lnt_header_bytes.specs.HeaderBytes.{HeaderBytesIn}
-use Rattle.lnt_stream.specs.Units.{UnitBytes}
+use Rattle.lnt_stream.specs.Units.{BufferedUnit}
 use Rattle.lnt_unit.specs.declared.unit.Parts.{Parts}
 use Rattle.lnt_unit.specs.UnitBytes.{UnitBytesIn}
 
 -- the bytes, the header, and the program with the offset of the section at which it begins
 pub record View : Type 0 where
-  pub unit : UnitBytes
+  pub unit : BufferedUnit
   pub header : HeaderParts
   pub program : List ℕ
   pub place : ℕ
 
 -- The header with the program spells the bytes, and the program ends where they do, below 2 ^ 64.
-pub record IsView (view : View) : Type 0 where
+pub record IsUnitView (view : View) : Type 0 where
   pub spelled : HeaderBytesIn view.unit.order (view.header, view.program) view.unit.bytes
   pub end : view.place + length view.program ≡ view.unit.offset + length view.unit.bytes
   pub room : view.place + length view.program < 2 ^ 64

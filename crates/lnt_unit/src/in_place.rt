@@ -25,19 +25,19 @@ pub struct UnitInPlace<'a> {
 }
 
 impl<'a> Model for UnitInPlace<'a> {
-    ghost use Rattle.lnt_unit.specs.Views.{View, IsView};
+    ghost use Rattle.lnt_unit.specs.Views.{View, IsUnitView};
 
     ghost Value = { View };
 
     ghost view = { λ v. record { unit = v.buffer.now; header = v.header; program = v.program.now; place = v.place } };
 
-    ghost invariant = { λ v. IsView (record { unit = v.buffer.now; header = v.header; program = v.program.now; place = v.place }) };
+    ghost invariant = { λ v. IsUnitView (record { unit = v.buffer.now; header = v.header; program = v.program.now; place = v.place }) };
 }
 
 impl<'a> UnitInPlace<'a> {
     ghost use Rattle.lnt_header_bytes.specs.Borrowed.{without_entries};
     ghost use Rattle.lnt_header.specs.HeaderRules.{IsHeader};
-    ghost use Rattle.lnt_unit.specs.Views.{IsView, HasCount};
+    ghost use Rattle.lnt_unit.specs.Views.{IsUnitView, HasCount};
 
     /// The unit in a buffer.
     ///
@@ -110,7 +110,7 @@ impl<'a> UnitInPlace<'a> {
         ensures order { result.at.order ≡ self.now.header.order }
         ensures going { result.failed ≡ false }
         ensures is_header { IsHeader self.now.header }
-        ensures is_view { IsView self.now }
+        ensures is_view { IsUnitView self.now }
     {
         Ops::new(self.header.numbers(), self.program, self.place)
     }

@@ -1,5 +1,5 @@
 //! Laws of the format, each the contract of a function without parameters that does nothing.
-ghost use Rattle.lnt_unit.specs.Laws.{AllowedIsSpelled, FaultOfSection, OneSection, OneSpelling, OneTrueFault, WholeWalk};
+ghost use Rattle.lnt_unit.specs.Laws.{AllowedUnitIsSpelled, FaultOfSection, OneSection, OneSpelling, OneTrueFault, WholeWalk};
 
 pub use lnt_header_bytes::laws::one_header;
 
@@ -28,7 +28,7 @@ pub fn one_true_fault()
 /// large.
 #[tactic(auto, using(crate::proofs::SpelledUnits::allowed_is_spelled))]
 pub fn allowed_is_spelled()
-    ensures { AllowedIsSpelled }
+    ensures { AllowedUnitIsSpelled }
 {
     lnt_header_bytes::laws::allowed_is_spelled();
     lnt_ops::laws::allowed_ops_are_spelled();

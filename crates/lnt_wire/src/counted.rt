@@ -1,7 +1,6 @@
 //! A source over any reader, as a file, with a limit.
-ghost use Rattle.std.specs.Prelude.{◌≡◌, ◌+◌, ◌-◌, ◌^◌, ◌<◌, min, false, is_some, option_to_list, true};
-ghost use Rattle.std.specs.Io.KnownBytes.{prepend_known};
-ghost use Rattle.lnt_wire.specs.CountedSources.{more_of};
+ghost use Rattle.std.specs.Prelude.{◌≡◌, ◌+◌, ◌-◌, ◌^◌, ◌<◌, min, false, is_some, true};
+ghost use Rattle.lnt_wire.specs.CountedSources.{counted_failures, counted_left, counted_more, counted_remaining, counted_too_long};
 
 use crate::source::{ReadFault, Source};
 use std::io::Read;
@@ -44,15 +43,15 @@ impl<R: Read> Counted<R> {
 }
 
 impl<R: Read> Source for Counted<R> {
-    ghost remaining = { λ s. prepend_known (option_to_list s.beyond) (R.remaining s.reader) };
+    ghost remaining = { counted_remaining R.remaining };
 
-    ghost failures = { λ s. s.failures };
+    ghost failures = { counted_failures };
 
-    ghost too_long = { λ s. is_some s.beyond };
+    ghost too_long = { counted_too_long };
 
-    ghost left = { λ s. s.left };
+    ghost left = { counted_left };
 
-    ghost more = { λ s found. more_of s.beyond (R.remaining s.reader) s.left found (s.full found) };
+    ghost more = { counted_more R.remaining };
 
     fn pull(&mut self, buf: &mut [u8]) -> Result<usize, ReadFault> {
         if buf.is_empty() || self.too_long() {

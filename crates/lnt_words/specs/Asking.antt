@@ -25,15 +25,15 @@ abbrev pub IsWord : List Row → Text → Text → Type 0
 IsWord rows name word = first_of name rows ≡ Some word
 
 -- The flag is set where clap's value for it is "true", and not set where it is "false" or where there is none.
-pub record IsFlag (rows : List Row) (name : Text) (is_set : Bool) : Type 0 where
+pub record IsFlagGiven (rows : List Row) (name : Text) (is_set : Bool) : Type 0 where
   pub given : one_of name rows ≡ Some (codes "true") → is_set ≡ true
   pub not_given : one_of name rows ≡ Some (codes "false") → is_set ≡ false
   pub none : one_of name rows ≡ None → is_set ≡ false
 
 -- Numbers are big-endian where the flag --big is set, and else little-endian.
 abbrev pub IsOrder : List Row → Order → Type 0
-IsOrder rows Big = IsFlag rows (codes "big") true
-IsOrder rows Little = IsFlag rows (codes "big") false
+IsOrder rows Big = IsFlagGiven rows (codes "big") true
+IsOrder rows Little = IsFlagGiven rows (codes "big") false
 
 -- The marker of dead code is the address in the word of --dead; there is none where no such word was given.
 abbrev pub IsMarker : List Row → Option ℕ → Type 0
@@ -47,7 +47,7 @@ pub record IsJudging (rows : List Row) (from : Judging) : Type 0 where
   pub strings : option_copied from.strings ≡ first_of (codes "str") rows
   pub order : IsOrder rows from.order
   pub dead : IsMarker rows from.dead
-  pub copies : IsFlag rows (codes "skip-copies") from.skip_copies
+  pub copies : IsFlagGiven rows (codes "skip-copies") from.skip_copies
 
 -- the format that a conversion writes: 32-bit or 64-bit DWARF
 abbrev pub IsFormat : List Row → Format → Type 0
@@ -61,12 +61,12 @@ IsWrittenOrder rows Big = IsWord rows (codes "order") (codes "big")
 -- the reading of a section that the subcommand of this name asks for
 abbrev pub IsReading : Text → List Row → Reading → Type 0
 IsReading name rows Units = name ≡ codes "units"
-IsReading name rows (Dump ops shown) = (name ≡ codes "dump") × IsFlag rows (codes "ops") ops × IsFlag rows (codes "rows") shown
+IsReading name rows (Dump ops shown) = (name ≡ codes "dump") × IsFlagGiven rows (codes "ops") ops × IsFlagGiven rows (codes "rows") shown
 IsReading name rows (Convert format to) = (name ≡ codes "convert") × IsFormat rows format × IsWrittenOrder rows to
 
 abbrev pub IsVersion : List Row → Version → Type 0
-IsVersion rows One = IsFlag rows (codes "wide") false
-IsVersion rows Two = IsFlag rows (codes "wide") true
+IsVersion rows One = IsFlagGiven rows (codes "wide") false
+IsVersion rows Two = IsFlagGiven rows (codes "wide") true
 
 -- The question about a good section that the subcommand of this name asks. Which positions are looked up isn't said.
 abbrev pub IsQuestion : Text → List Row → Question → Type 0
@@ -74,9 +74,10 @@ IsQuestion name rows Verify = name ≡ codes "verify"
 IsQuestion name rows (Lookup positions) = name ≡ codes "lookup"
 IsQuestion name rows Files = name ≡ codes "files"
 IsQuestion name rows (Table version) =
-    (name ≡ codes "table") × IsFlag rows (codes "paths") false × IsFlag rows (codes "lines") false × IsVersion rows version
-IsQuestion name rows (TableByPath true) = (name ≡ codes "table") × IsFlag rows (codes "paths") true
-IsQuestion name rows (TableByPath false) = (name ≡ codes "table") × IsFlag rows (codes "paths") false × IsFlag rows (codes "lines") true
+    (name ≡ codes "table") × IsFlagGiven rows (codes "paths") false × IsFlagGiven rows (codes "lines") false × IsVersion rows version
+IsQuestion name rows (TableByPath true) = (name ≡ codes "table") × IsFlagGiven rows (codes "paths") true
+IsQuestion name rows (TableByPath false) = (name ≡ codes "table") × IsFlagGiven rows (codes "paths") false
+    × IsFlagGiven rows (codes "lines") true
 IsQuestion name rows Md5 = name ≡ codes "md5"
 
 -- The subcommand of this name asks for this request. The operation index for lines without one isn't said.
@@ -88,7 +89,7 @@ IsAskedIn name rows (Judge from question) = IsJudging rows from × IsQuestion na
 IsAskedIn name rows (Addresses from file op) =
     (name ≡ codes "lookup") × IsJudging rows from × IsWord rows (codes "addresses") file.now
 IsAskedIn name rows (Check from table all) =
-    (name ≡ codes "check") × IsJudging rows from × IsWord rows (codes "TABLE") table.now × IsFlag rows (codes "all") all
+    (name ≡ codes "check") × IsJudging rows from × IsWord rows (codes "TABLE") table.now × IsFlagGiven rows (codes "all") all
 
 -- The subcommand that clap found, with its rows, asks for this request.
 pub record IsAskedOf (found : Option (Text × List Row)) (asked : Asked) : Type 0 where
@@ -96,7 +97,7 @@ pub record IsAskedOf (found : Option (Text × List Row)) (asked : Asked) : Type 
   pub rows : List Row
   pub found_is : found ≡ Some (name, rows)
   pub request : IsAskedIn name rows asked.request
-  pub quiet : IsFlag rows (codes "quiet") asked.quiet
+  pub quiet : IsFlagGiven rows (codes "quiet") asked.quiet
 
 abbrev pub IsHelp : Request → Type 0
 IsHelp (Help text) = Unit {0}

@@ -7,10 +7,10 @@ use Rattle.clap.specs.declared.builder.arg.Arg.{Arg}
 use Rattle.clap.specs.declared.builder.command.Command.{Command}
 use Rattle.clap.specs.declared.builder.command.Command.TheViews.{out-Command as fields_of}
 use Rattle.clap.specs.declared.parser.matches.ArgMatches.{ArgMatches}
-use Rattle.lnt_words.specs.Asking.{IsAskedIn, IsFlag}
+use Rattle.lnt_words.specs.Asking.{IsAskedIn, IsFlagGiven}
 use Rattle.lnt_words.specs.declared.request.Asked.{Asked}
 use Rattle.lnt_words.specs.Words.{bound, flag, option, required, several, word}
-use Rattle.lnt_words.specs.declared.description.Argument.{Argument}
+use Rattle.lnt_words.specs.declared.description.ArgumentRule.{ArgumentRule}
 use Rattle.lnt_words.specs.declared.description.Kind.{Kind}
 use Rattle.lnt_words.specs.declared.description.Kind.TheVariants.{Word, WordsUnless, Flag, FlagWithout, FlagWithoutBoth, Valued, Required}
 use Rattle.lnt_words.specs.declared.description.Subcommand.{Subcommand}
@@ -34,10 +34,10 @@ rule_of_kind name (FlagWithoutBoth one other) = bound (flag name)
 rule_of_kind name (Valued value) = option name
 rule_of_kind name (Required value) = required (option name)
 
-abbrev pub rule_in : Argument → Rule
+abbrev pub rule_in : ArgumentRule → Rule
 rule_in argument = rule_of_kind argument.name.now argument.kind
 
-abbrev pub with_argument_in : App → Argument → App
+abbrev pub with_argument_in : App → ArgumentRule → App
 with_argument_in app argument = with_rule app (rule_in argument)
 
 abbrev pub app_in : Subcommand → App
@@ -57,4 +57,4 @@ pub record IsAskedOfMatches (matches : ArgMatches) (asked : Asked) : Type 0 wher
   pub name_is : Some name ≡ subcommand_name_of matches
   pub words_are : Some (rows_in words) ≡ option_map (λ named. named.1) (subcommand_rows_of matches)
   pub request : IsAskedIn name (rows_in words) asked.request
-  pub quiet : IsFlag (rows_in words) (codes "quiet") asked.quiet
+  pub quiet : IsFlagGiven (rows_in words) (codes "quiet") asked.quiet

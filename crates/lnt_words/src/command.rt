@@ -5,7 +5,7 @@ ghost use Rattle.lnt_words.specs.Described.{IsArgument, IsCommand, app_in, rule_
 ghost use Rattle.lnt_words.specs.Words.{bound, flagged, linetab, taking};
 ghost use Rattle.lnt_words.specs.Words.{required as required_in, several as several_in, valued as valued_in};
 
-use crate::description::{Argument, Kind, SUBCOMMANDS, Subcommand, VERSION};
+use crate::description::{ArgumentRule, Kind, SUBCOMMANDS, Subcommand, VERSION};
 use clap::{Arg, ArgAction, Command};
 use std::alloc::{AllocError, Global};
 
@@ -72,7 +72,7 @@ fn with_after<'a>(command: Command<'a>, text: Option<&'a str>) -> Command<'a>
 fn with_arguments<'a>(
     alloc: Global,
     command: Command<'a>,
-    arguments: &[Argument],
+    arguments: &[ArgumentRule],
 ) -> Result<Command<'a>, AllocError>
     ensures { IfOk result (λ made. (app : App) → IsCommand app command.entry
         → IsCommand (fold with_argument_in app arguments.now) made) }
@@ -96,7 +96,7 @@ fn with_argument<'a>(
     command.arg(argument)
 }
 
-fn argument_of<'a>(alloc: Global, argument: &Argument) -> Result<Arg<'a>, AllocError>
+fn argument_of<'a>(alloc: Global, argument: &ArgumentRule) -> Result<Arg<'a>, AllocError>
     ensures { IfOk result (IsArgument (rule_in argument.now)) }
 {
     let made = Arg::new(alloc, argument.name).help(argument.help);

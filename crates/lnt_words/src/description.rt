@@ -9,13 +9,13 @@ pub(crate) struct Subcommand {
     /// The text of its help after the arguments, if there is one.
     pub(crate) after: Option<&'static str>,
     /// The arguments that aren't shared. They come before the shared ones.
-    pub(crate) own: &'static [Argument],
+    pub(crate) own: &'static [ArgumentRule],
     /// The arguments that it shares with other subcommands.
-    pub(crate) shared: &'static [Argument],
+    pub(crate) shared: &'static [ArgumentRule],
 }
 
 /// An argument of a subcommand.
-pub(crate) struct Argument {
+pub(crate) struct ArgumentRule {
     /// The name by which its value is found. A flag or an option is given as `--name`.
     pub(crate) name: &'static str,
     /// The words that it takes.
@@ -125,120 +125,120 @@ const MD5: Subcommand = Subcommand {
 };
 
 // The arguments of a subcommand that reads a section.
-const READING: &[Argument] = &[BIG, QUIET];
+const READING: &[ArgumentRule] = &[BIG, QUIET];
 
 // The arguments of a subcommand that judges a section.
-const JUDGING: &[Argument] = &[BIG, QUIET, LINE_STR, STR, DEAD, SKIP_COPIES];
+const JUDGING: &[ArgumentRule] = &[BIG, QUIET, LINE_STR, STR, DEAD, SKIP_COPIES];
 
-const SECTION: Argument = Argument {
+const SECTION: ArgumentRule = ArgumentRule {
     name: "SECTION",
     kind: Kind::Word,
     help: "The file with the bytes of a .debug_line section, or - for standard input",
 };
 
-const TABLE_FILE: Argument = Argument {
+const TABLE_FILE: ArgumentRule = ArgumentRule {
     name: "TABLE",
     kind: Kind::Word,
     help: "The file with the address table, or - for standard input",
 };
 
-const ALL: Argument = Argument {
+const ALL: ArgumentRule = ArgumentRule {
     name: "all",
     kind: Kind::Flag,
     help: "Tells every place where the two answer differently, and not the first alone",
 };
 
-const OPS: Argument = Argument {
+const OPS: ArgumentRule = ArgumentRule {
     name: "ops",
     kind: Kind::Flag,
     help: "Prints the operations of each unit too",
 };
 
-const ROWS: Argument = Argument {
+const ROWS: ArgumentRule = ArgumentRule {
     name: "rows",
     kind: Kind::Flag,
     help: "Prints the rows of each unit too",
 };
 
-const ADDRESS: Argument = Argument {
+const ADDRESS: ArgumentRule = ArgumentRule {
     name: "ADDRESS",
     kind: Kind::WordsUnless("addresses"),
     help: "An address: 0x and 1 to 16 hexadecimal digits",
 };
 
-const ADDRESSES: Argument = Argument {
+const ADDRESSES: ArgumentRule = ArgumentRule {
     name: "addresses",
     kind: Kind::Valued("FILE"),
     help: "A file with a line ADDRESS or ADDRESS,N for each lookup, or - for standard input",
 };
 
-const OP: Argument = Argument {
+const OP: ArgumentRule = ArgumentRule {
     name: "op",
     kind: Kind::Valued("N"),
     help: "The operation of the instruction there, from 0 on; it is 0 by default",
 };
 
-const WIDE: Argument = Argument {
+const WIDE: ArgumentRule = ArgumentRule {
     name: "wide",
     kind: Kind::FlagWithoutBoth("paths", "lines"),
     help: "Tells the instruction set and the discriminator too",
 };
 
-const PATHS: Argument = Argument {
+const PATHS: ArgumentRule = ArgumentRule {
     name: "paths",
     kind: Kind::FlagWithout("lines"),
     help: "Tells the path of the file, the line and the column, and nothing else",
 };
 
-const LINES: Argument = Argument {
+const LINES: ArgumentRule = ArgumentRule {
     name: "lines",
     kind: Kind::Flag,
     help: "Tells the path of the file and the line, and nothing else",
 };
 
-const FORMAT: Argument = Argument {
+const FORMAT: ArgumentRule = ArgumentRule {
     name: "format",
     kind: Kind::Required("32|64"),
     help: "The format that is written",
 };
 
-const ORDER: Argument = Argument {
+const ORDER: ArgumentRule = ArgumentRule {
     name: "order",
     kind: Kind::Required("little|big"),
     help: "The byte order that is written",
 };
 
-const BIG: Argument = Argument {
+const BIG: ArgumentRule = ArgumentRule {
     name: "big",
     kind: Kind::Flag,
     help: "The section is big-endian; otherwise it is little-endian",
 };
 
-const QUIET: Argument = Argument {
+const QUIET: ArgumentRule = ArgumentRule {
     name: "quiet",
     kind: Kind::Flag,
     help: "Prints no notes on standard error",
 };
 
-const LINE_STR: Argument = Argument {
+const LINE_STR: ArgumentRule = ArgumentRule {
     name: "line-str",
     kind: Kind::Valued("FILE"),
     help: "The file with the bytes of .debug_line_str",
 };
 
-const STR: Argument = Argument {
+const STR: ArgumentRule = ArgumentRule {
     name: "str",
     kind: Kind::Valued("FILE"),
     help: "The file with the bytes of .debug_str",
 };
 
-const DEAD: Argument = Argument {
+const DEAD: ArgumentRule = ArgumentRule {
     name: "dead",
     kind: Kind::Valued("ADDRESS"),
     help: "Where sequences of discarded code begin: they answer nothing",
 };
 
-const SKIP_COPIES: Argument = Argument {
+const SKIP_COPIES: ArgumentRule = ArgumentRule {
     name: "skip-copies",
     kind: Kind::Flag,
     help: "Leaves out sequences that begin and end at the same positions as one before them",

@@ -3,7 +3,7 @@ ghost use Rattle.std.specs.Prelude.{◌≡◌, ◌≢◌, ℕ, List, codes, map,
 ghost use Rattle.clap.specs.Words.{first_of, kind_of};
 ghost use Rattle.lnt_words.specs.Described.{IsAskedOfMatches, rows_in};
 ghost use Rattle.lnt_digits.specs.Digits.{IsAddress};
-ghost use Rattle.lnt_words.specs.Asking.{IsAskedBy, IsAskedIn, IsFlag, IsHelp, IsJudging, IsOrder, IsQuestion};
+ghost use Rattle.lnt_words.specs.Asking.{IsAskedBy, IsAskedIn, IsFlagGiven, IsHelp, IsJudging, IsOrder, IsQuestion};
 ghost use Rattle.lnt_words.specs.Asking.{IsReading, IsWord};
 
 use crate::command::command_of;
@@ -247,7 +247,7 @@ fn str_in<'a>(words: &ArgMatches<'a>, name: &str) -> Option<&'a str>
 }
 
 fn flag_in(words: &ArgMatches<'_>, name: &str) -> bool
-    ensures { IsFlag (rows_in words.now) name.now result }
+    ensures { IsFlagGiven (rows_in words.now) name.now result }
 {
     words.get_flag(name)
 }

@@ -1,8 +1,8 @@
 use Rattle.std.proofs.Common.{◌≡◌, ◌≤◌, length}
-use Rattle.lnt_machine.specs.RowWalks.{Passes}
+use Rattle.lnt_machine.specs.RowWalks.{RunsToRow}
 use Rattle.lnt_machine.proofs.rows.next_row.Given as goal
 
 abbrev pub invariant-loop-op : goal.invariant-loop-op
 invariant-loop-op l =
     (l.run.machine.header ≡ l.ops.header) × (length l.ops.at.rest ≤ length l.fn.ops.at.rest)
-    × Passes l.fn.run l.fn.ops l.run l.ops
+    × RunsToRow l.fn.run l.fn.ops l.run l.ops

@@ -5,7 +5,7 @@ use Rattle.lnt_wire.specs.declared.fault.Reason.TheVariants.{Memory}
 use Rattle.lnt_header.specs.declared.op.OpView.{OpView}
 use Rattle.lnt_ops.proofs.ProgramLaws.{walk_broken}
 use Rattle.lnt_ops.specs.Programs.{BrokenProgram}
-use Rattle.lnt_ops.specs.Walks.{Fails, Steps, WalkStep}
+use Rattle.lnt_ops.specs.Walks.{Fails, GivesOperation, WalkStep}
 use Rattle.lnt_ops.proofs.ConvertedLemmas.{converted_more}
 use Rattle.lnt_ops.proofs.converted.convert_ops.Goals as goal
 
@@ -24,7 +24,7 @@ returns-in_err-view-clause-err c =
 
 pub loop-view-preserved : goal.loop-view-preserved
 loop-view-preserved c =
-    let step : Steps c.in_ok-view.field-0 c.loop-view.view-iterator c.next.new.self =
+    let step : GivesOperation c.in_ok-view.field-0 c.loop-view.view-iterator c.next.new.self =
     subst (λ (r : Result OpView Fault). WalkStep c.loop-view.view-iterator (Some r) c.next.new.self) c.in_ok-view.was
     c.in-Some.ensures.steps in
     converted_more c.args.header.now c.args.place c.args.program.now c.args.to c.address_size-size.result c.args.out.now.items _ _

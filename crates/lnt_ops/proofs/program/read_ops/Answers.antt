@@ -5,7 +5,7 @@ use Rattle.lnt_wire.specs.declared.fault.Reason.TheVariants.{Memory}
 use Rattle.lnt_wire.specs.declared.fault.Fault.{Fault}
 use Rattle.lnt_header.specs.declared.op.OpView.{OpView}
 use Rattle.lnt_ops.specs.Programs.{BrokenProgram}
-use Rattle.lnt_ops.specs.Walks.{Fails, Steps, WalkStep}
+use Rattle.lnt_ops.specs.Walks.{Fails, GivesOperation, WalkStep}
 use Rattle.lnt_ops.proofs.ProgramLaws.{ops_admitted, walk_broken, walk_done, walk_more}
 use Rattle.lnt_ops.proofs.program.read_ops.Goals as goal
 
@@ -25,7 +25,7 @@ pub loop-view-preserved : goal.loop-view-preserved
 loop-view-preserved c =
     let op = c.in-Ok.op in
     let items : c.push.new.self.items ≡ c.loop-view.ops.items ++ op ∷ [] = grind (arith, common_steps) in
-    let step : Steps c.in_ok-view.field-0 c.loop-view.view-iterator c.next.new.self =
+    let step : GivesOperation c.in_ok-view.field-0 c.loop-view.view-iterator c.next.new.self =
     subst (λ (r : Result OpView Fault). WalkStep c.loop-view.view-iterator (Some r) c.next.new.self) c.in_ok-view.was
     c.in-Some.ensures.steps in
     rw items (walk_more c.args.header.now c.args.place c.args.program.now c.loop-view.ops.items op c.in_ok-view.field-0

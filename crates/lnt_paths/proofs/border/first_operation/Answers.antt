@@ -1,7 +1,7 @@
 use Rattle.std.proofs.Common.{List, [], ◌∷◌, ◌++◌, inl, inr, Option, Some, refl, subst}
 use Rattle.lnt_spans.specs.declared.answer.Answer.{Answer}
 use Rattle.lnt_spans.specs.declared.span.Span.{Span}
-use Rattle.lnt_spans.specs.Coming.{GivesFirst}
+use Rattle.lnt_spans.specs.Coming.{GivesFirstSpan}
 use Rattle.lnt_spans.proofs.ComingLaws.{one_given}
 use Rattle.lnt_paths.specs.Joining.{WillGive}
 use Rattle.lnt_paths.specs.PathAnswers.{PathAnswer, path_answer}
@@ -14,8 +14,8 @@ returns-then-span-ne0 g c list joined come joins =
     let inv = c.loop-joined.invariant in
     let old : List Span → Type 0 = WillGive tell c.loop-joined.joined.next (g.S.SpanSource.to_come c.loop-joined.joined.spans) in
     let new : List Span → Type 0 = WillGive tell c.next_joined.new.self.next (g.S.SpanSource.to_come c.next_joined.new.self.spans) in
-    let gives : (spans : List Span) → old spans → GivesFirst new spans (Some c.in-Some.span) =
-    subst (λ (o : Option Span). (spans : List Span) → old spans → GivesFirst new spans o) c.in-Some.is c.in_ok-span.ensures.gives in
+    let gives : (spans : List Span) → old spans → GivesFirstSpan new spans (Some c.in-Some.span) =
+    subst (λ (o : Option Span). (spans : List Span) → old spans → GivesFirstSpan new spans o) c.in-Some.is c.in_ok-span.ensures.gives in
     found joined inv.0 c.in-Some.span c.in-Some.span.low old new (inv.2 list joined come joins) gives inv.1
     (λ more. inl (c.if-span-ne0.true, refl))
 
@@ -25,8 +25,8 @@ returns-then-span-ne0-2 g c list joined come joins =
     let inv = c.loop-joined.invariant in
     let old : List Span → Type 0 = WillGive tell c.loop-joined.joined.next (g.S.SpanSource.to_come c.loop-joined.joined.spans) in
     let new : List Span → Type 0 = WillGive tell c.next_joined.new.self.next (g.S.SpanSource.to_come c.next_joined.new.self.spans) in
-    let gives : (spans : List Span) → old spans → GivesFirst new spans (Some c.in-Some.span) =
-    subst (λ (o : Option Span). (spans : List Span) → old spans → GivesFirst new spans o) c.in-Some.is c.in_ok-span.ensures.gives in
+    let gives : (spans : List Span) → old spans → GivesFirstSpan new spans (Some c.in-Some.span) =
+    subst (λ (o : Option Span). (spans : List Span) → old spans → GivesFirstSpan new spans o) c.in-Some.is c.in_ok-span.ensures.gives in
     found joined inv.0 c.in-Some.span c.in-Some.span.high old new (inv.2 list joined come joins) gives inv.1
     (λ more. inr (inl (c.if-span-ne0.false, c.if-span-ne0-2.true, refl)))
 
@@ -36,8 +36,8 @@ loop-joined-preserved g c =
     let inv = c.loop-joined.invariant in
     let old : List Span → Type 0 = WillGive tell c.loop-joined.joined.next (g.S.SpanSource.to_come c.loop-joined.joined.spans) in
     let new : List Span → Type 0 = WillGive tell c.next_joined.new.self.next (g.S.SpanSource.to_come c.next_joined.new.self.spans) in
-    let gives : (spans : List Span) → old spans → GivesFirst new spans (Some c.in-Some.span) =
-    subst (λ (o : Option Span). (spans : List Span) → old spans → GivesFirst new spans o) c.in-Some.is c.in_ok-span.ensures.gives in (
+    let gives : (spans : List Span) → old spans → GivesFirstSpan new spans (Some c.in-Some.span) =
+    subst (λ (o : Option Span). (spans : List Span) → old spans → GivesFirstSpan new spans o) c.in-Some.is c.in_ok-span.ensures.gives in (
       inv.0 ++ c.in-Some.span ∷ [],
       none_more inv.0 c.in-Some.span inv.1 (c.if-span-ne0.false, c.if-span-ne0-2.false),
       λ list joined come joins. one_given joined inv.0 c.in-Some.span old new (inv.2 list joined come joins) gives,

@@ -3,13 +3,13 @@ use Rattle.std.specs.List.{AllByRecursion}
 use Rattle.lnt_spans.specs.declared.span.Span.{Span}
 use Rattle.lnt_spans.specs.Ahead.{count_ahead}
 use Rattle.lnt_spans.proofs.ComingLaws.{HasGiven}
-use Rattle.lnt_paths.specs.Borders.{HasNoOperation}
+use Rattle.lnt_spans.specs.Instructions.{IsOfInstructions}
 use Rattle.lnt_paths.specs.Joining.{AllJoinTo, WillGive}
 use Rattle.lnt_paths.specs.PathAnswers.{path_answer}
 use Rattle.lnt_paths.proofs.border.first_operation.Given as goal
 
 abbrev pub invariant-loop-joined : goal.invariant-loop-joined
-invariant-loop-joined g l = (given : List Span) × AllByRecursion HasNoOperation given
+invariant-loop-joined g l = (given : List Span) × AllByRecursion IsOfInstructions given
     × ((list joined : List Span) → g.S.SpanSource.to_come l.fn.spans list
     → AllJoinTo (path_answer l.version (g.P.Paths.bytes_of l.paths)) list joined
     → HasGiven joined given (WillGive (path_answer l.version (g.P.Paths.bytes_of l.paths)) l.joined.next

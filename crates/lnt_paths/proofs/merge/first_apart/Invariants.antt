@@ -5,7 +5,7 @@ use Rattle.lnt_spans.specs.Positions.{IsAtMost}
 use Rattle.lnt_spans.specs.Spans.{AreInOrder}
 use Rattle.lnt_paths.specs.Merging.{AreKnownOf, ArePassed}
 use Rattle.lnt_paths.specs.PathSpans.{whole}
-use Rattle.lnt_spans.specs.Remaining.{IsLeft}
+use Rattle.lnt_spans.specs.Remaining.{SpansAreLeft}
 use Rattle.lnt_paths.specs.PathAnswers.{path_answer}
 use Rattle.lnt_paths.proofs.MergingLemmas.{alone}
 use Rattle.lnt_paths.proofs.merge.first_apart.Given as goal
@@ -13,9 +13,9 @@ use Rattle.lnt_paths.proofs.merge.first_apart.Given as goal
 abbrev pub invariant-loop-alloc : goal.invariant-loop-alloc
 invariant-loop-alloc g l = AreKnownOf (g.P.Paths.bytes_of l.paths) l.known.slots.items
     × IsAtMost l.at (whole l.said.high) × (l.end ≡ whole l.said.high)
-    × ((list : List Span) → IsLeft g.S.SpanSource.to_come l.fn.section.next l.fn.section.spans list → AreInOrder list
+    × ((list : List Span) → SpansAreLeft g.S.SpanSource.to_come l.fn.section.next l.fn.section.spans list → AreInOrder list
     → IsAtMost (whole l.said.low) l.at × ArePassed (path_answer l.version (g.P.Paths.bytes_of l.paths)) list (alone l.said) l.at
-    (IsLeft g.S.SpanSource.to_come l.section.next l.section.spans))
+    (SpansAreLeft g.S.SpanSource.to_come l.section.next l.section.spans))
 
 abbrev pub decreases-loop-alloc : goal.decreases-loop-alloc
 decreases-loop-alloc g l = count_ahead l.section.next (g.S.SpanSource.left l.section.spans)

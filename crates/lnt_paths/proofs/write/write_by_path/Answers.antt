@@ -3,7 +3,7 @@ use Rattle.std.specs.Prelude.{MatchOption}
 use Rattle.std.specs.List.{AllByRecursion}
 use Rattle.lnt_spans.specs.declared.answer.Answer.{Answer}
 use Rattle.lnt_spans.specs.declared.position.Position.{Position}
-use Rattle.lnt_paths.specs.Borders.{HasNoOperation}
+use Rattle.lnt_spans.specs.Instructions.{IsOfInstructions}
 use Rattle.lnt_paths.specs.Joining.{IsFirstOperation}
 use Rattle.lnt_paths.specs.PathAnswers.{PathAnswer, path_answer}
 use Rattle.lnt_paths.proofs.WriteLemmas.{keeps_same, operation_found, table_begun, table_begun_none, table_written}
@@ -16,7 +16,7 @@ returns-in-Some-clause-table g c list other come come' o o' same =
       keeps_same (g.W.Write.contents c.args.out.now),
       operation_found tell other list c.in-Some.position (record { first = o; second = o'; same = same })
           (λ joined joins.
-          subst (λ (f : Option Position). MatchOption f (AllByRecursion HasNoOperation joined)
+          subst (λ (f : Option Position). MatchOption f (AllByRecursion IsOfInstructions joined)
           (λ position. IsFirstOperation position joined)) c.in-Some.is
           (c.in_ok-position.ensures other joined come joins)),
     )
@@ -28,7 +28,7 @@ returns-clause-table g c list other come come' o o' same =
     table_written tell c.args.version (g.W.Write.contents c.args.out.now) (g.W.Write.contents c.write_lines.new.out) other list written.0
     (record { first = o; second = o'; same = same })
     (λ whole joins.
-    subst (λ (f : Option Position). MatchOption f (AllByRecursion HasNoOperation whole) (λ position. IsFirstOperation position whole))
+    subst (λ (f : Option Position). MatchOption f (AllByRecursion IsOfInstructions whole) (λ position. IsFirstOperation position whole))
     c.in_default.is
     (c.in_ok-position.ensures other whole come joins))
     (λ all joins. written.2 list all come' joins) written.1
@@ -48,7 +48,7 @@ returns-in_err-write_lines-clause-begun g c =
     table_begun tell c.args.version (g.W.Write.contents c.args.out.now) (g.W.Write.contents c.write_lines.new.out) other list begun.0
     (record { first = o; second = o'; same = same })
     (λ whole joins.
-    subst (λ (f : Option Position). MatchOption f (AllByRecursion HasNoOperation whole) (λ position. IsFirstOperation position whole))
+    subst (λ (f : Option Position). MatchOption f (AllByRecursion IsOfInstructions whole) (λ position. IsFirstOperation position whole))
     c.in_default.is
     (c.in_ok-position.ensures other whole come joins))
     (begun.2 list come') begun.1)

@@ -2,7 +2,7 @@ use Rattle.std.proofs.Common.{List, [], ◌∷◌, ◌++◌, Option, Some, refl,
 use Rattle.std.specs.Io.KnownBytes.{Appends}
 use Rattle.lnt_spans.specs.declared.answer.Answer.{Answer}
 use Rattle.lnt_spans.specs.declared.span.Span.{Span}
-use Rattle.lnt_spans.specs.Coming.{GivesFirst}
+use Rattle.lnt_spans.specs.Coming.{GivesFirstSpan}
 use Rattle.lnt_spans.proofs.ComingLaws.{none_given, one_given}
 use Rattle.lnt_paths.specs.Joining.{WillGive}
 use Rattle.lnt_paths.specs.PathAnswers.{PathAnswer, path_answer}
@@ -27,8 +27,8 @@ loop-line-preserved g c =
     let inv = c.loop-line.invariant in
     let old : List Span → Type 0 = WillGive tell c.loop-line.joined.next (g.S.SpanSource.to_come c.loop-line.joined.spans) in
     let new : List Span → Type 0 = WillGive tell c.next_joined.new.self.next (g.S.SpanSource.to_come c.next_joined.new.self.spans) in
-    let gives : (spans : List Span) → old spans → GivesFirst new spans (Some c.in-Some.span) =
-    subst (λ (o : Option Span). (spans : List Span) → old spans → GivesFirst new spans o) c.in-Some.is c.in_ok-span.ensures.gives in (
+    let gives : (spans : List Span) → old spans → GivesFirstSpan new spans (Some c.in-Some.span) =
+    subst (λ (o : Option Span). (spans : List Span) → old spans → GivesFirstSpan new spans o) c.in-Some.is c.in_ok-span.ensures.gives in (
       inv.0 ++ c.in-Some.span ∷ [],
       one_written tell c.args.version _ _ _ inv.0 c.in-Some.span c.clear.new.self.items c.put_line.new.line.items inv.1
           c.clear.ensures.items c.in_ok-put_line.ensures.added
@@ -81,8 +81,8 @@ returns-in_err-send-2-clause-begun g c =
     let inv = c.loop-line.invariant in
     let old : List Span → Type 0 = WillGive tell c.loop-line.joined.next (g.S.SpanSource.to_come c.loop-line.joined.spans) in
     let new : List Span → Type 0 = WillGive tell c.next_joined.new.self.next (g.S.SpanSource.to_come c.next_joined.new.self.spans) in
-    let gives : (spans : List Span) → old spans → GivesFirst new spans (Some c.in-Some.span) =
-    subst (λ (o : Option Span). (spans : List Span) → old spans → GivesFirst new spans o) c.in-Some.is c.in_ok-span.ensures.gives in
+    let gives : (spans : List Span) → old spans → GivesFirstSpan new spans (Some c.in-Some.span) =
+    subst (λ (o : Option Span). (spans : List Span) → old spans → GivesFirstSpan new spans o) c.in-Some.is c.in_ok-span.ensures.gives in
     so_stopped c.from_residual-in_err-send-2.result _ (
       inv.0 ++ c.in-Some.span ∷ [],
       line_begun tell c.args.version _ _ _ inv.0 c.in-Some.span c.clear.new.self.items c.put_line.new.line.items inv.1

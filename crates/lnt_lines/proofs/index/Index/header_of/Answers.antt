@@ -1,5 +1,5 @@
 use Rattle.std.proofs.Common.{◌≡◌, ◌∙◌, ◌<◌, ap, get_or, length, subst, sym, List}
-use Rattle.lnt_machine.specs.Walking.{Kept}
+use Rattle.lnt_machine.specs.Walking.{KeptProgram}
 use Rattle.lnt_files.specs.Tables.{AreUsableTables}
 use Rattle.lnt_lines.specs.Indexed.{Indexed}
 use Rattle.lnt_lines.proofs.IndexLemmas.{usable_at}
@@ -15,12 +15,12 @@ returns-clause-usable c =
       programs = c.self.inside.programs.items;
     } in
     let is = c.self.invariant.index_is in
-    let kept : Kept = c.in_ok-program.program.now in
+    let kept : KeptProgram = c.in_ok-program.program.now in
     let found = c.in_ok-program.ensures.lookup.3 in
     let few : c.in_ok-place.place < length index.programs =
-    subst (λ (ks : List Kept). c.in_ok-place.place < length ks) c.deref-2.ensures.value found.0 in
+    subst (λ (ks : List KeptProgram). c.in_ok-place.place < length ks) c.deref-2.ensures.value found.0 in
     let at : kept ≡ get_or index.programs c.in_ok-place.place kept =
-    found.1 kept ∙ ap (λ (ks : List Kept). get_or ks c.in_ok-place.place kept) c.deref-2.ensures.value in
+    found.1 kept ∙ ap (λ (ks : List KeptProgram). get_or ks c.in_ok-place.place kept) c.deref-2.ensures.value in
     subst (λ (i : Indexed). AreUsableTables i.line i.general c.header.result) c.self.view_is
-    (subst (AreUsableTables index.line index.general) (ap (λ (k : Kept). k.header) (sym at) ∙ sym c.header.ensures)
+    (subst (AreUsableTables index.line index.general) (ap (λ (k : KeptProgram). k.header) (sym at) ∙ sym c.header.ensures)
     (usable_at index.line index.general c.self.invariant.units index.programs c.in_ok-place.place kept is.programs is.tables few))

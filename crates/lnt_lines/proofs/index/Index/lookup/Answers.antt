@@ -1,5 +1,5 @@
 use Rattle.std.proofs.Common.{◌∙◌, subst, sym, List, ℕ}
-use Rattle.lnt_machine.specs.Walking.{Kept}
+use Rattle.lnt_machine.specs.Walking.{KeptProgram}
 use Rattle.lnt_sequences.specs.declared.extent.Extent.{Extent}
 use Rattle.lnt_sequences.specs.Extents.{IsHolder, NoneHolds}
 use Rattle.lnt_lines.specs.Indexed.{Indexed, IsIndex, IsIndexOf, IsSequenceIn}
@@ -34,7 +34,7 @@ unreachable-requires c =
     (subst (λ (es : List Extent). IsHolder es c.args.position c.in-Some.extent) c.deref.ensures.value c.in-Some.ensures.found) in
     let sequence : IsSequenceIn c.deref-2.result.now c.deref-3.result.now c.in-Some.extent.id found.rows =
     subst (λ (us : List ℕ). IsSequenceIn us c.deref-3.result.now c.in-Some.extent.id found.rows) (sym c.deref-2.ensures.value)
-    (subst (λ (ks : List Kept). IsSequenceIn index.units ks c.in-Some.extent.id found.rows) (sym c.deref-3.ensures.value)
+    (subst (λ (ks : List KeptProgram). IsSequenceIn index.units ks c.in-Some.extent.id found.rows) (sym c.deref-3.ensures.value)
     found.sequence_is) in
     absurd (c.in_default-rows_of.ensures.rows found.rows sequence)
 
@@ -53,6 +53,6 @@ returns-clause-answer c dead skip units is =
     (subst (λ (es : List Extent). IsHolder es c.args.position c.in-Some.extent) c.deref.ensures.value c.in-Some.ensures.found) in
     let sequence : IsSequenceIn c.deref-2.result.now c.deref-3.result.now c.in-Some.extent.id found.rows =
     subst (λ (us : List ℕ). IsSequenceIn us c.deref-3.result.now c.in-Some.extent.id found.rows) (sym c.deref-2.ensures.value)
-    (subst (λ (ks : List Kept). IsSequenceIn index.units ks c.in-Some.extent.id found.rows) (sym c.deref-3.ensures.value)
+    (subst (λ (ks : List KeptProgram). IsSequenceIn index.units ks c.in-Some.extent.id found.rows) (sym c.deref-3.ensures.value)
     found.sequence_is) in
     c.answer_at.ensures found.rows (c.in-Some-rows_of.ensures.rows found.rows sequence) ∙ sym found.answer_is

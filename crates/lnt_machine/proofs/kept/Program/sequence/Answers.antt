@@ -1,11 +1,11 @@
 use Rattle.std.proofs.Common.{◌≡◌, ◌<◌, ◌∙◌, ap, length, slice_index_or, subst, sym, List, ℕ, drop, rules}
 use Rattle.lnt_machine.proofs.NumberLaws.{sequence_by_numbers}
-use Rattle.lnt_machine.specs.Walking.{IsSequencePlace, Keeps, Kept}
+use Rattle.lnt_machine.specs.Walking.{IsSequencePlace, KeepsProgram, KeptProgram}
 use Rattle.lnt_machine.proofs.kept.Program.sequence.Goals as goal
 
 pub returns-clause-rows : goal.returns-clause-rows
 returns-clause-rows c unit d keeps =
-    let kept : Kept = record {
+    let kept : KeptProgram = record {
       header = c.self.inside.header;
       program = drop c.self.inside.start c.self.inside.bytes.items;
       places = c.self.inside.places.items;
@@ -16,7 +16,7 @@ returns-clause-rows c unit d keeps =
     let at : slice_index_or kept.places c.args.index 0 ≡ c.in_ok-place.field-0.now = ap
     (λ (list : List ℕ). slice_index_or list c.args.index 0) (sym c.deref.ensures.value) ∙ sym (found.1 0) in
     sequence_by_numbers kept numbers unit c.args.index c.in_ok-place.field-0.now d c.at.result c.numbers.ensures.numbers
-    (subst (λ (k : Kept). Keeps k unit) (sym c.self.view_is) keeps) few at
+    (subst (λ (k : KeptProgram). KeepsProgram k unit) (sym c.self.view_is) keeps) few at
     (λ earlier later is. c.at.ensures.rows earlier later
     (subst (λ (program : List ℕ). IsSequencePlace numbers program earlier later c.in_ok-place.field-0.now)
     (sym (c.split_at.ensures.back ∙ ap (λ (list : List ℕ). drop c.self.inside.start list) c.deref-2.ensures.value)) is))

@@ -2,7 +2,7 @@ use Rattle.std.proofs.Common.{subst, Some, Result}
 use Rattle.std.proofs.lemmas.Result.{err_from_is_err_and}
 use Rattle.lnt_wire.specs.declared.fault.Fault.{Fault}
 use Rattle.lnt_header.specs.declared.op.OpView.{OpView}
-use Rattle.lnt_ops.specs.Walks.{Fails, Steps, WalkStep}
+use Rattle.lnt_ops.specs.Walks.{Fails, GivesOperation, WalkStep}
 use Rattle.lnt_unit.specs.BrokenUnits.{BrokenUnit}
 use Rattle.lnt_unit.proofs.NumberLaws.{given_broken_by_numbers}
 use Rattle.lnt_unit.specs.Views.{by_numbers}
@@ -25,7 +25,7 @@ returns-in_err-op-clause-err c =
 
 pub loop-op-preserved : goal.loop-op-preserved
 loop-op-preserved c =
-    let step : Steps c.in_ok-op.field-0 c.loop-op.op-iterator c.next.new.self =
+    let step : GivesOperation c.in_ok-op.field-0 c.loop-op.op-iterator c.next.new.self =
     subst (λ (r : Result OpView Fault). WalkStep c.loop-op.op-iterator (Some r) c.next.new.self) c.in_ok-op.was c.in-Some.ensures.steps in
     counted_more (by_numbers c.args.self.now) c.loop-op.count c.in_ok-op.field-0 c.loop-op.op-iterator c.next.new.self c.loop-op.invariant
     step
