@@ -2,6 +2,7 @@
 ghost use Rattle.std.specs.Prelude.{◌≡◌, ◌≢◌, ◌+◌, ◌^◌, ◌<◌, length, IfOk, IfErr};
 ghost use Rattle.lnt_wire.specs.FrameBytes.{frame_bytes, IsPlacedFrame};
 ghost use Rattle.lnt_wire.specs.Reading.{RefusesOr};
+ghost use Rattle.lnt_wire.specs.declared.fault.Reason.TheVariants.{Memory};
 ghost use Rattle.lnt_header_bytes.specs.Borrowed.{without_entries};
 ghost use Rattle.lnt_header_bytes.specs.Stepping.{AreFieldsRead, ArePlain};
 ghost use Rattle.lnt_header_bytes.specs.Broken.{BrokenHeader};
@@ -125,12 +126,7 @@ fn view_parts<'a>(
         directories,
         files,
     } = read_fields(alloc, &mut cursor, format)?;
-    let Ok(lengths) = copied(alloc, lengths) else {
-        return Err(Fault {
-            place,
-            reason: Reason::Memory,
-        });
-    };
+    let lengths = lengths_of(alloc, lengths, place)?;
     let (lying_directories, lying_files) = (directories.entries, files.entries);
     let formats = (directories.pairs, files.pairs);
     let numbers = plain_parts(
@@ -148,6 +144,20 @@ fn view_parts<'a>(
         files: lying_files,
         extra: cursor.rest(),
     })
+}
+
+// These standard opcode lengths, copied. Want of memory is told at the place.
+fn lengths_of(alloc: Global, lengths: &[u8], place: u64) -> Result<Items<u8>, Fault>
+    ensures ok { IfOk result (λ items. items ≡ lengths.now) }
+    ensures err { IfErr result (λ fault. fault.reason ≡ Memory) }
+{
+    match copied(alloc, lengths) {
+        Ok(items) => Ok(items),
+        Err(_) => Err(Fault {
+            place,
+            reason: Reason::Memory,
+        }),
+    }
 }
 
 // The parts of a header of these numbers and of the formats of directories and files, without entries.
