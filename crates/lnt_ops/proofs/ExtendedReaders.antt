@@ -28,7 +28,7 @@ use Rattle.lnt_ops.specs.OpBytes.{CodingBytes, Extended}
 use Rattle.lnt_ops.specs.OpFaults.IsFirstFault.{no_length, cut_counted, wrong_counted, large_counted}
 use Rattle.lnt_ops.specs.OpSteps.{BytesAfter, IsFaultAfter, GivesAfter, ExtendedBody, IsRightOperand, GivesCounted}
 use Rattle.lnt_ops.specs.OpSteps.{IsCountedOpFault, IsLargeNumber}
-use Rattle.lnt_ops.specs.OpSteps.IsCountedFault.{wrong_operand, large_number}
+use Rattle.lnt_ops.specs.OpSteps.IsCountedOpFault.{wrong_operand, large_number}
 
 -- ---- a number in groups of seven bits, and nothing else
 

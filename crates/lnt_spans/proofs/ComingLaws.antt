@@ -19,7 +19,7 @@ pub one_given : (list given : List Span) (span : Span) (AreLeft AreLeft' : List 
 one_given list given span AreLeft AreLeft' h gives = by_rest h.rest h.list_is (gives h.rest h.left)
   where
     by_rest : (rest : List Span) → list ≡ given ++ rest → GivesFirstSpan AreLeft' rest (Some span)
-    → HasGiven list (given ++ span ∷ []) AreLeft'
+        → HasGiven list (given ++ span ∷ []) AreLeft'
     by_rest [] e g = absurd g
     by_rest (first ∷ rest) e g =
         record {

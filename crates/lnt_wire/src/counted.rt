@@ -1,6 +1,5 @@
 //! A source over any reader, as a file, with a limit.
 ghost use Rattle.std.specs.Prelude.{◌≡◌, ◌+◌, ◌-◌, ◌^◌, ◌<◌, min, false, is_some, true};
-ghost use Rattle.lnt_wire.specs.CountedSources.{counted_failures, counted_left, counted_more, counted_remaining, counted_too_long};
 
 use crate::source::{ReadFault, Source};
 use std::io::Read;
@@ -43,6 +42,8 @@ impl<R: Read> Counted<R> {
 }
 
 impl<R: Read> Source for Counted<R> {
+    ghost use Rattle.lnt_wire.specs.CountedSources.{counted_failures, counted_left, counted_more, counted_remaining, counted_too_long};
+
     ghost remaining = { counted_remaining R.remaining };
 
     ghost failures = { counted_failures };

@@ -1,5 +1,5 @@
 use Rattle.std.proofs.Common.{refl}
-use Rattle.lnt_lines.specs.Judging.IsTold.{broken, of_unit}
+use Rattle.lnt_lines.specs.Judging.IsRefusalOfRun.{broken, of_unit}
 use Rattle.lnt_lines.proofs.RunLemmas.{refused_other}
 use Rattle.lnt_lines.proofs.run.told.Goals as goal
 
