@@ -198,7 +198,7 @@ numbers_done : (line general : List ℕ) (directories : ℕ) (table walk : Borro
     → Missing (NamesDirectoryBelow directories table.pairs) table.entries missing
 numbers_done line general directories table walk count missing s le =
     subst (λ (es : List Entry). Missing (NamesDirectoryBelow directories table.pairs) es missing)
-        (seen_all s.seen table walk count s.has_seen le)
+    (seen_all s.seen table walk count s.has_seen le)
     s.numbers
 
 pub files_sound : (line general : List ℕ) (directories : ℕ) (table walk : BorrowedTable) (count : ℕ) (missing : Option ℕ)

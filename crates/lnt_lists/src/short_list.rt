@@ -85,7 +85,9 @@ impl<T: Drop> ShortList<T> {
     pub fn new() -> ShortList<T>
         ensures { result ≡ [] }
     {
-        ShortList { kept: Storage::Zero }
+        ShortList {
+            kept: Storage::Zero,
+        }
     }
 
     /// Adds a value at the end. Up to the third it takes no memory, and is never refused.

@@ -82,7 +82,7 @@ pub record_taken : {S : Type 0} (to_come : S → List Span → Type 0) (tell : A
     → ((list : List Span) (table : List PathSpan)
     → IsMerged tell (SpansAreLeft to_come old.section.next old.section.spans) (whole old.at) old.first list table
     → IsMerged tell (SpansAreLeft to_come new.section.next new.section.spans) (whole new.at) new.first list
-        (table ++ record_span said ∷ []))
+    (table ++ record_span said ∷ []))
     → JudgesByPath to_come tell version new section (records ++ fields ∷ [])
 record_taken to_come tell version old new section records fields said j says le lt count step =
     let past : IsAtMost (whole old.at) (whole said.low) = record { address = le; op = λ e. omega arith } in

@@ -156,7 +156,7 @@ apart_before to_come tell list said next spans span holds is lt left order =
     let whole_order : AreInOrder (span ∷ first.0) = subst AreInOrder first.1 order in
     let from : BeginFrom span.low list = subst (BeginFrom span.low) (sym first.1) (at_most_itself span.low) in
     let passed = passed_none tell list (record_span said) span.low (SpansAreLeft to_come next spans) left order from
-        (below_is_at_most lt) in
+    (below_is_at_most lt) in
     record {
       first = differs_at tell list (alone said) span.low (SpansAreLeft to_come next spans) None (Some (tell span.answer)) passed
           (sym (ap (option_map tell) (ap (λ (xs : List Span). span_answer xs span.low) first.1

@@ -235,7 +235,7 @@ impl<S: SpanSource + Drop> PathComparison<S> {
     ) -> Result<Option<DifferenceByPath>, AllocError>
         ensures { IfOk result (λ found. (list : List spec.Span) (table : List PathSpan)
             → IsMerged (path_answer version (P.bytes_of paths.now)) (SpansAreLeft S.to_come self.section.next self.section.spans)
-                (whole self.at)
+            (whole self.at)
             self.first list table
             → MatchOption found ((p : position.Position)
             → answer_told (path_answer version (P.bytes_of paths.now)) list p ≡ path_span_answer table p)

@@ -40,7 +40,7 @@ impl<S: SpanSource> Joined<S> {
         ensures gives { IfOk result (λ given. (joined : List spec.Span)
             → WillGive (path_answer version (P.bytes_of paths.now)) self.old.next (S.to_come self.old.spans) joined
             → GivesFirstSpan (WillGive (path_answer version (P.bytes_of paths.now)) self.new.next
-                (S.to_come self.new.spans)) joined given) }
+            (S.to_come self.new.spans)) joined given) }
         ensures fewer { IfOk result (λ given. IfSome given
             (λ _. count_ahead self.new.next (S.left self.new.spans) < count_ahead self.old.next (S.left self.old.spans))) }
     {

@@ -107,7 +107,7 @@ walked_ended walk s e =
   where
     same : (m n : ℕ) → m ≡ n
         → ◌≡◌ {A = RowsSoFar} (record { rows = m; ended = walk.ended + 1; begun = [] })
-            (record { rows = n; ended = walk.ended + 1; begun = [] })
+        (record { rows = n; ended = walk.ended + 1; begun = [] })
     same m n e = rw e refl
 
 -- ---- its extent

@@ -160,7 +160,9 @@ first_stretch f g (d ∷ list) h = record {
   section = sym h.each.0.here.section;
   table = sym h.each.0.here.table;
   differ = h.each.0.differ;
-  least = λ p below. elim (h.all p) [ inl same ↦ same
-                                    | inr one ↦ absurd (not_both below (not_earlier f g (stretch_of d)
-                                        (stretches_of list) p h.rising one)) ];
+  least = λ p below. elim (h.all p) [
+    | inl same ↦ same
+    | inr one ↦ absurd (not_both below (not_earlier f g (stretch_of d)
+        (stretches_of list) p h.rising one))
+  ];
 }
