@@ -1,16 +1,12 @@
 -- The line that says why a section isn't good, as its type prints it.
 use Rattle.std.specs.Prelude.{ℕ, List, ◌++◌, codes, decimal}
-use Rattle.lnt_sequences.specs.declared.sequence.SeqId.{SeqId}
+use Rattle.lnt_sequences.specs.FaultTexts.{overlap_text}
 use Rattle.lnt_lines.specs.declared.no.No.{No}
 use Rattle.lnt_lines.specs.declared.no.No.TheVariants.{Malformed, Run, EntryFormat, StringOutside, DirectoryNumber, FileNumber, Falls}
 use Rattle.lnt_lines.specs.declared.no.No.TheVariants.{Overlap}
 use Rattle.lnt_wire.specs.FaultTexts.{hexadecimal}
 use Rattle.lnt_files.specs.FaultTexts.{table_text}
-use Rattle.lnt_text.specs.Texts.{malformed_text, position_text, run_text}
-
--- a sequence, by its unit's offset and its index in the unit
-abbrev pub sequence_text : SeqId → List ℕ
-sequence_text sequence = hexadecimal sequence.unit ++ (codes ":" ++ decimal sequence.index)
+use Rattle.lnt_text.specs.Texts.{malformed_text, run_text}
 
 -- why a section isn't good
 abbrev pub no_text : No → List ℕ
@@ -24,4 +20,4 @@ no_text (FileNumber unit row file) =
     codes "no 30 file number unit " ++ (hexadecimal unit ++ (codes " row " ++ (decimal row ++ (codes " file " ++ decimal file))))
 no_text (Falls unit row) = codes "no 31 falls unit " ++ (hexadecimal unit ++ (codes " row " ++ decimal row))
 no_text (Overlap first second position) =
-    codes "no 32 overlap " ++ (sequence_text first ++ (codes " " ++ (sequence_text second ++ (codes " at " ++ position_text position))))
+    codes "no 32 " ++ overlap_text (record { first = first; second = second; position = position })

@@ -1,13 +1,13 @@
 //! Why a section isn't good.
 ghost use Rattle.std.specs.Prelude.{Some};
-ghost use Rattle.lnt_lines.specs.FaultTexts.{no_text, sequence_text};
+ghost use Rattle.lnt_lines.specs.FaultTexts.{no_text};
 
 use lnt_files::EntryTableText;
 use lnt_header::EntryTable;
 use lnt_machine::RunFault;
-use lnt_sequences::SeqId;
+use lnt_sequences::{Overlap, SeqId};
 use lnt_spans::Position;
-use lnt_text::{MalformedLine, PositionText, RunLine};
+use lnt_text::{MalformedLine, RunLine};
 use lnt_wire::Fault;
 use std::fmt;
 
@@ -89,26 +89,14 @@ impl fmt::Display for No {
                 first,
                 second,
                 position,
-            } => write!(
-                f,
-                "no 32 overlap {} {} at {}",
-                SequenceText(first),
-                SequenceText(second),
-                PositionText(position)
-            ),
+            } => {
+                let overlap = Overlap {
+                    first,
+                    second,
+                    position,
+                };
+                write!(f, "no 32 {overlap}")
+            }
         }
-    }
-}
-
-// A sequence, by its unit and its index in it.
-#[derive(Clone, Copy)]
-struct SequenceText(SeqId);
-
-impl fmt::Display for SequenceText {
-    ghost output = { λ text. Some (sequence_text text.0) };
-
-    fn fmt<W: fmt::Write>(&self, f: &mut fmt::Formatter<W>) -> fmt::Result {
-        let SeqId { unit, index } = self.0;
-        write!(f, "0x{unit:x}:{index}")
     }
 }

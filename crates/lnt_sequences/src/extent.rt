@@ -1,15 +1,18 @@
 //! The positions that sequences hold, and the first that two of them hold.
-ghost use Rattle.std.specs.Prelude.{◌≡◌, ◌≢◌, ◌+◌, ◌-◌, ◌<◌, length, slice_index_or, IfNone, IfSome, MatchOption};
+ghost use Rattle.std.specs.Prelude.{◌≡◌, ◌≢◌, ◌+◌, ◌-◌, ◌<◌, length, slice_index_or, IfNone, IfSome, MatchOption, Some};
 ghost use Rattle.std.specs.List.{All, AllPairs};
 ghost use Rattle.std.specs.List.Sorted.{IsPermutation};
 ghost use Rattle.lnt_spans.specs.Positions.{IsBelow};
 ghost use Rattle.lnt_sequences.specs.declared.extent.Extent.{Extent};
 ghost use Rattle.lnt_sequences.specs.Copies.{AreGathered, kept_extents};
 ghost use Rattle.lnt_sequences.specs.Extents.{AreApartUpTo, AreSettled, AreSorted};
+ghost use Rattle.lnt_sequences.specs.FaultTexts.{overlap_text};
 ghost use Rattle.lnt_sequences.specs.Overlaps.{ExtentsDisjoint, ExtentsOverlap};
 
 use crate::sequence::SeqId;
 use lnt_spans::Position;
+use std::error::Error;
+use std::fmt;
 
 /// Two different sequences that hold one position, the first such position and the first two that hold it.
 #[derive(Clone, Copy, Debug, PartialEq, Eq)]
@@ -21,6 +24,21 @@ pub struct Overlap {
     /// The position. The second sequence begins there.
     pub position: Position,
 }
+
+impl fmt::Display for Overlap {
+    ghost output = { λ overlap. Some (overlap_text overlap) };
+
+    fn fmt<W: fmt::Write>(&self, f: &mut fmt::Formatter<W>) -> fmt::Result {
+        let Position { address, op } = self.position;
+        write!(
+            f,
+            "overlap {} {} at 0x{address:x},{op}",
+            self.first, self.second
+        )
+    }
+}
+
+impl Error for Overlap {}
 
 /// The positions that a sequence holds: from `low` up to `high`, which is not among them.
 #[derive(Clone, Copy, Debug, PartialEq, Eq)]

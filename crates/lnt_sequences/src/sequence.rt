@@ -1,4 +1,8 @@
 //! The names of sequences, by which they are told apart.
+ghost use Rattle.std.specs.Prelude.{Some};
+ghost use Rattle.lnt_sequences.specs.FaultTexts.{sequence_text};
+
+use std::fmt;
 
 /// Which sequence of a section it is. Ids that are compared by `unit` and then by `index` have the order of the sequences in
 /// the section.
@@ -8,4 +12,13 @@ pub struct SeqId {
     pub unit: u64,
     /// Its index among the sequences of that unit, the first being 0. Dead sequences count, and those that hold nothing.
     pub index: u64,
+}
+
+/// `0xOFFSET:INDEX`, of its unit and in it.
+impl fmt::Display for SeqId {
+    ghost output = { λ id. Some (sequence_text id) };
+
+    fn fmt<W: fmt::Write>(&self, f: &mut fmt::Formatter<W>) -> fmt::Result {
+        write!(f, "0x{:x}:{}", self.unit, self.index)
+    }
 }
