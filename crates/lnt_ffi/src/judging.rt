@@ -41,7 +41,7 @@ pub extern "C" fn linetab_verify(
             *verdict = YES;
             count
         }
-        // Never: a section has fewer spans than bytes.
+        // 2^64 spans or more, which no memory holds. Never so: a section has fewer spans than bytes.
         None => {
             *verdict = verdict_of_stop(Stop::Memory);
             0
