@@ -27,7 +27,10 @@ def read(module):
     with open(os.path.join(TOP, file_of(module)), encoding="utf-8") as file:
         for line in file.read().split("\n"):
             use = re.fullmatch(r"(?:pub )?use (Rattle\.lnt_\w+\.specs\.[\w.+-]+)\.\{(.*)\}", line)
+            alias = re.fullmatch(r"(?:pub )?use (Rattle\.lnt_\w+\.specs\.[\w.+-]+) as \w+", line)
             head = re.match(WORDS + r"(\S+)", line)
+            if alias and ".declared." not in alias[1]:
+                sys.exit("%s brings in %s under another name, which isn't followed here" % (file_of(module), alias[1]))
             if use:
                 place, _, data = use[1].rpartition(".")
                 constructors = not os.path.exists(os.path.join(TOP, file_of(use[1])))
