@@ -9,9 +9,9 @@ use Rattle.lnt_dump.specs.declared.units.Next.TheVariants.{Unit as NextUnit, Fau
 -- ---- what a reader of a section gives next: a unit, a fault, or the end of the section
 
 -- a unit
-abbrev pub IsUnit : Next → Type 0
-IsUnit (NextUnit unit) = Unit {0}
-IsUnit _ = ⊥
+abbrev pub GivesUnit : Next → Type 0
+GivesUnit (NextUnit unit) = Unit {0}
+GivesUnit _ = ⊥
 
 -- This comes next in the bytes that the source had to give (old), which begin at the offset. After a unit the source has the bytes
 -- after it left to give (new), and the reader stands at the offset of its end (after).

@@ -6,7 +6,7 @@ ghost use Rattle.lnt_header_bytes.specs.TableBytes.{EntryBytes};
 
 use crate::width::width_of;
 use lnt_header::{Header, Pair};
-use lnt_header_bytes::{HeaderView, TableView};
+use lnt_header_bytes::{EntryTableView, HeaderView};
 use lnt_sources::Halt;
 use lnt_text::Quoted;
 use lnt_wire::{Cursor, Format, Frame, ValueView};
@@ -51,7 +51,7 @@ fn print_numbers<W: Write>(header: &Header, out: &mut W) -> Result<(), Halt> {
 fn print_entries<W: Write>(
     alloc: Global,
     name: &str,
-    table: &TableView<'_>,
+    table: &EntryTableView<'_>,
     out: &mut W,
 ) -> Result<(), Halt> {
     let (format, pairs) = (table.format(), table.pairs());

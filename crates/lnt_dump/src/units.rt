@@ -4,7 +4,7 @@ ghost use Rattle.std.specs.Io.KnownBytes.{Appends};
 ghost use Rattle.lnt_output.specs.Fronts.{AppendsFront, HasBegun};
 ghost use Rattle.lnt_stream.specs.declared.reader.Progress.TheVariants.{Reading};
 ghost use Rattle.lnt_stream.specs.Readers.{offset_of, order_of, progress_of, source_of};
-ghost use Rattle.lnt_dump.specs.Stepping.{IsNext, IsUnit};
+ghost use Rattle.lnt_dump.specs.Stepping.{IsNext, GivesUnit};
 ghost use Rattle.lnt_dump.specs.Units.{AreBytes, AreUnitsTold, unit_line};
 
 use crate::faults::print_fault;
@@ -67,7 +67,7 @@ pub(crate) fn next_of<R: Source>(
     room: Vec<u8>,
 ) -> Result<Next, Halt>
     requires { progress_of reader.old ≡ Reading }
-    ensures goes_on { IfOk result (λ next. IsUnit next
+    ensures goes_on { IfOk result (λ next. GivesUnit next
         → (progress_of reader.new ≡ Reading) × (R.left (source_of reader.new) < R.left (source_of reader.old))) }
     ensures next { IfOk result (λ next. IsNext (offset_of reader.old) (offset_of reader.new) (order_of reader.old)
         (R.remaining (source_of reader.old)) (R.remaining (source_of reader.new)) next) }

@@ -4,7 +4,7 @@ ghost use Rattle.lnt_header_bytes.specs.Marks.{from_entry};
 ghost use Rattle.lnt_files.specs.Walks.{EntryStep};
 
 use crate::components::{Places, Usual, places_of, read_entry, usual_of};
-use lnt_header_bytes::TableView;
+use lnt_header_bytes::EntryTableView;
 use lnt_wire::{Cursor, ValueView};
 use std::marker::Model;
 
@@ -25,7 +25,7 @@ pub(crate) struct EntryView<'a> {
 /// Contracts see the table with the entries that are left.
 #[derive(Drop)]
 pub(crate) struct Entries<'t> {
-    table: &'t TableView<'t>,
+    table: &'t EntryTableView<'t>,
     usual: Usual,
     places: Places,
     left: u64,
@@ -46,7 +46,7 @@ impl<'t> Model for Entries<'t> {
 impl<'t> Entries<'t> {
     /// A walk before the first entry of the table.
     #[tactic(auto, using(crate::proofs::WalkLemmas::walk_begun, crate::proofs::WalkLemmas::begun_is))]
-    pub(crate) fn of(table: &'t TableView<'t>) -> Entries<'t>
+    pub(crate) fn of(table: &'t EntryTableView<'t>) -> Entries<'t>
         ensures { result ≡ table.entry.now }
     {
         let pairs = table.pairs();
@@ -62,7 +62,7 @@ impl<'t> Entries<'t> {
     /// A walk before the entry of this number or an earlier one, and the number of the entry that it stands before. Where
     /// entries 64, 128 and so on are all marked, fewer than 64 entries stand between the two.
     #[tactic(auto, using(crate::proofs::WalkLemmas::walk_before, crate::proofs::WalkLemmas::before_is))]
-    pub(crate) fn before(table: &'t TableView<'t>, number: u64) -> (u64, Entries<'t>)
+    pub(crate) fn before(table: &'t EntryTableView<'t>, number: u64) -> (u64, Entries<'t>)
         requires { number < length table.now.entries }
         ensures first { result.0 ≤ number }
         ensures walk { result.1 ≡ from_entry result.0 table.entry.now }

@@ -13,7 +13,7 @@ use Rattle.lnt_header_bytes.specs.declared.read_table.EntryTableRead.{EntryTable
 use Rattle.lnt_header_bytes.specs.Borrowed.{first_entries, BorrowedTable, borrowed_table, AreEntryBytes, without_entries}
 use Rattle.lnt_header_bytes.specs.Stepping.{PassesAll}
 use Rattle.lnt_header_bytes.specs.Borrowed.{header_over, directories_over, files_over}
-use Rattle.lnt_header_bytes.specs.Stepping.{IsTableRead, AreFieldsRead, ArePlain, lying_table}
+use Rattle.lnt_header_bytes.specs.Stepping.{IsEntryTableRead, AreFieldsRead, ArePlain, lying_table}
 use Rattle.lnt_header_bytes.specs.Borrowed.{IsHeaderOver}
 use Rattle.lnt_header.specs.declared.header.HeaderParts.{HeaderParts}
 use Rattle.lnt_header_bytes.specs.declared.numbers.Singles.{Singles}
@@ -47,7 +47,7 @@ lies_here format pairs count bytes old new p =
 pub table_read : (format : Format) (n size : ℕ) (table : EntryTableRead) (old m1 m2 m3 new : At) → Reads (NumberBytes old.order 1) n old m1
     → Reads (Several n PairBytes) table.pairs.items m1 m2
     → Reads UnsignedLeb size m2 m3 → (n ≡ 0 → size ≡ 0) → table.entries.count ≡ size
-    → PassesAll size (EntryBytes format m3.order table.pairs.items) table.entries.bytes.now m3 new → IsTableRead format table old new
+    → PassesAll size (EntryBytes format m3.order table.pairs.items) table.entries.bytes.now m3 new → IsEntryTableRead format table old new
 table_read format n size table old m1 m2 m3 new r s t none count p =
     let pairs = table.pairs.items in
     let bytes = table.entries.bytes.now in
@@ -96,7 +96,7 @@ entries_there table count old is same lies none =
 
 pub fields_read : (format : Format) (s : Singles) (ls : List ℕ) (directories files : EntryTableRead) (old m1 m2 m3 new : At)
     → Reads SinglesBytes s old m1 → Reads (LengthsBytes s.opcode_base) ls m1 m2
-    → IsTableRead format directories m2 m3 → IsTableRead format files m3 new → AreFieldsRead format s ls directories files old new
+    → IsEntryTableRead format directories m2 m3 → IsEntryTableRead format files m3 new → AreFieldsRead format s ls directories files old new
 fields_read format s ls directories files old m1 m2 m3 new r t d f =
     let first : m2.order ≡ old.order = t.order ∙ r.order in
     let second : m3.order ≡ old.order = d.read.order ∙ first in

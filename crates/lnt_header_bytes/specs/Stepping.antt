@@ -51,7 +51,7 @@ abbrev pub lying_table : Format → Order → EntryTableRead → BorrowedTable
 lying_table format order table = borrowed_table format order table.pairs.items table.entries.count table.entries.bytes.now
 
 -- The read gave a table in this format and the order of the bytes that are read, and moved past the bytes that spell it.
-pub record IsTableRead (format : Format) (table : EntryTableRead) (old new : At) : Type 0 where
+pub record IsEntryTableRead (format : Format) (table : EntryTableRead) (old new : At) : Type 0 where
   pub lies : AreEntryBytes (lying_table format old.order table) table.entries.bytes.now
   pub read : Reads (TableOf format old.order) (table.pairs.items, (lying_table format old.order table).entries) old new
 

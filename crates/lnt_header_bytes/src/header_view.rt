@@ -6,7 +6,7 @@ ghost use Rattle.lnt_header.specs.HeaderRules.{IsHeader};
 
 use crate::marks::Marks;
 use crate::read_table::EntriesInPlace;
-use crate::table_view::TableView;
+use crate::table_view::EntryTableView;
 use lnt_header::{Header, HeaderParts};
 use lnt_lists::Items;
 use std::alloc::{AllocError, Global};
@@ -19,8 +19,8 @@ use std::marker::Model;
 pub struct HeaderView<'a> {
     // The numbers and the formats, in a header without entries.
     numbers: &'a Header,
-    directories: TableView<'a>,
-    files: TableView<'a>,
+    directories: EntryTableView<'a>,
+    files: EntryTableView<'a>,
     extra: &'a [u8],
 }
 
@@ -54,13 +54,13 @@ impl<'a> HeaderView<'a> {
     {
         HeaderView {
             numbers,
-            directories: TableView::of(
+            directories: EntryTableView::of(
                 numbers,
                 numbers.directory_format(),
                 directories,
                 marks.directories,
             ),
-            files: TableView::of(numbers, numbers.file_format(), files, marks.files),
+            files: EntryTableView::of(numbers, numbers.file_format(), files, marks.files),
             extra,
         }
     }
@@ -74,7 +74,7 @@ impl<'a> HeaderView<'a> {
     }
 
     /// The directories, the compilation directory first, and what each consists of.
-    pub fn directories(&self) -> &TableView<'a>
+    pub fn directories(&self) -> &EntryTableView<'a>
         ensures pairs { result.now.pairs ≡ self.now.directory_format }
         ensures entries { result.now.entries ≡ self.now.directories }
         ensures table { IsTableIn self.now result.now }
@@ -83,7 +83,7 @@ impl<'a> HeaderView<'a> {
     }
 
     /// The files, the primary source file first, and what each consists of.
-    pub fn files(&self) -> &TableView<'a>
+    pub fn files(&self) -> &EntryTableView<'a>
         ensures pairs { result.now.pairs ≡ self.now.file_format }
         ensures entries { result.now.entries ≡ self.now.files }
         ensures table { IsTableIn self.now result.now }

@@ -23,5 +23,5 @@ pub use in_place::{HeaderInPlace, view_header};
 pub use kept::KeptHeader;
 pub use marks::Marks;
 pub use read_table::EntriesInPlace;
-pub use table_view::TableView;
+pub use table_view::EntryTableView;
 pub use view_encode::put_header_view;

@@ -1,7 +1,7 @@
 //! Tables of a header, read with their entries passed over.
 ghost use Rattle.std.specs.Prelude.{◌≡◌, IfOk, IfErr};
 ghost use Rattle.lnt_wire.specs.Reading.{RefusesOr};
-ghost use Rattle.lnt_header_bytes.specs.Stepping.{IsTableRead};
+ghost use Rattle.lnt_header_bytes.specs.Stepping.{IsEntryTableRead};
 ghost use Rattle.lnt_header_bytes.specs.TableBytes.{TableOf};
 ghost use Rattle.lnt_header_bytes.specs.TableFaults.{IsTableFault};
 
@@ -34,7 +34,7 @@ pub(crate) fn read_table<'a>(
     cursor: &mut Cursor<'a>,
     format: Format,
 ) -> Result<EntryTableRead<'a>, Fault>
-    ensures ok { IfOk result (λ table. IsTableRead format table cursor.old cursor.new) }
+    ensures ok { IfOk result (λ table. IsEntryTableRead format table cursor.old cursor.new) }
     ensures err { IfErr result (λ fault. RefusesOr (IsTableFault format cursor.old.order) (TableOf format cursor.old.order) cursor.old
         fault) }
 {

@@ -15,7 +15,7 @@ use std::marker::Model;
 ///
 /// Contracts see the format and the entries, and how the numbers of these are spelled (`BorrowedTable`).
 #[derive(Drop)]
-pub struct TableView<'a> {
+pub struct EntryTableView<'a> {
     format: Format,
     order: Order,
     pairs: &'a [Pair],
@@ -24,7 +24,7 @@ pub struct TableView<'a> {
     marks: &'a [usize],
 }
 
-impl<'a> Model for TableView<'a> {
+impl<'a> Model for EntryTableView<'a> {
     ghost use Rattle.lnt_header_bytes.specs.Borrowed.{BorrowedTable, borrowed_table};
     ghost use Rattle.lnt_header_bytes.specs.Marks.{IsMarkedTable};
 
@@ -36,21 +36,21 @@ impl<'a> Model for TableView<'a> {
         t.entries.bytes.now t.marks.now };
 }
 
-impl<'a> TableView<'a> {
+impl<'a> EntryTableView<'a> {
     /// A table of the header's format and order, whose entries consist of these pairs, with its marks.
     pub(crate) fn of(
         header: &Header,
         pairs: &'a [Pair],
         entries: EntriesInPlace<'a>,
         marks: &'a [usize],
-    ) -> TableView<'a>
+    ) -> EntryTableView<'a>
         requires lies { AreEntryBytes (borrowed_table header.now.format header.now.order pairs.now entries.count entries.bytes.now)
             entries.bytes.now }
         requires marks { AreMarks (borrowed_table header.now.format header.now.order pairs.now entries.count entries.bytes.now)
             entries.bytes.now marks.now }
         ensures { result ≡ borrowed_table header.now.format header.now.order pairs.entry.now entries.entry.count entries.entry.bytes.now }
     {
-        TableView {
+        EntryTableView {
             format: header.format(),
             order: header.order(),
             pairs,

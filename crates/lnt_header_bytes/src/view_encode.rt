@@ -11,7 +11,7 @@ ghost use Rattle.lnt_header_bytes.specs.TableBytes.{EntryBytes, TableOf};
 
 use crate::encode::{add_around, add_pairs};
 use crate::header_view::HeaderView;
-use crate::table_view::TableView;
+use crate::table_view::EntryTableView;
 use lnt_header::Pair;
 use lnt_wire::{Cursor, EncodeFault, Format, Order, Reason, put_form, put_uleb};
 use std::alloc::Global;
@@ -64,7 +64,7 @@ fn fields_of(
 fn add_table_view(
     alloc: Global,
     out: &mut Vec<u8>,
-    table: &TableView<'_>,
+    table: &EntryTableView<'_>,
     format: Format,
     order: Order,
 ) -> Result<(), EncodeFault>
@@ -83,7 +83,7 @@ fn add_table_view(
 fn add_entries_view(
     alloc: Global,
     out: &mut Vec<u8>,
-    table: &TableView<'_>,
+    table: &EntryTableView<'_>,
     format: Format,
     order: Order,
 ) -> Result<(), EncodeFault>

@@ -20,7 +20,7 @@ use Rattle.lnt_spans.proofs.ComingLaws.{HasGiven, all_given, none_given, one_giv
 use Rattle.lnt_spans.proofs.ToldLaws.{told, told_answer, told_order}
 use Rattle.lnt_spans.specs.Coming.{GivesFirstSpan}
 use Rattle.lnt_spans.specs.Spans.{AreInOrder, span_answer, span_in_version, version_answer}
-use Rattle.lnt_records.specs.Lines.{IsLine}
+use Rattle.lnt_records.specs.Lines.{IsTextLine}
 use Rattle.lnt_records.specs.Passing.{AreLines, Ends, HasPassed, LeavesOff, Passes}
 use Rattle.lnt_records.specs.Remaining.{AreLeft}
 use Rattle.lnt_records.specs.Table.{Fields, IsSpanRecord}
@@ -84,8 +84,8 @@ text_passed block text window at e f =
 -- ---- lines
 
 pub line_passed : (r : Bool) (version : Version) (span : Span) (text line old new : List ℕ) → MatchBool r (old ≡ text ++ new) (new ≡ old)
-    → text ≡ line → IsLine version span line []
-    → MatchBool r (IsLine version span old new) (new ≡ old)
+    → text ≡ line → IsTextLine version span line []
+    → MatchBool r (IsTextLine version span old new) (new ≡ old)
 line_passed true version span text line old new e same l =
     record {
       fields = l.fields;
@@ -209,7 +209,7 @@ end_added (r ∷ next ∷ table) span = end_added (next ∷ table) span
 pub stands_more : {S : Type 0} (to_come : S → List Span → Type 0) (first now next : S) (version : Version) (old new one : Option Span)
     (a b c : Option (List ℕ)) (la lb lc : ℕ) (w0 w1 w2 w3 : List ℕ) (count : ℕ) (end : Position) (span joined : Span)
     → Stands to_come first now version old a b la lb w0 w1 count end → Pushes to_come now next version span one old new → one ≡ Some joined
-    → Passes b c lb lc w1 w2 [] → IsLine version joined w2 w3
+    → Passes b c lb lc w1 w2 [] → IsTextLine version joined w2 w3
     → Stands to_come first next version new a c la lc w0 w3 (count + 1) joined.high
 stands_more to_come first now next version old new one a b c la lb lc w0 w1 w2 w3 count end span joined s p some filled line =
     let both : Passes a c la lc w0 w2 s.text = subst (λ (t : List ℕ). Passes a c la lc w0 w2 t) (append-nil s.text)
@@ -404,7 +404,7 @@ line_pushed to_come old new version section text count fields span h says t = re
 
 pub reads_line : {S : Type 0} (to_come : S → List Span → Type 0) (first old new : Merging S) (version : Version) (n count : ℕ)
     (a b : Option (List ℕ)) (la lb : ℕ) (w0 w1 w2 : List ℕ) (span : Span)
-    → Reads to_come first old version n count a b la lb w0 w1 → IsLine version span w1 w2 → Takes to_come old new span
+    → Reads to_come first old version n count a b la lb w0 w1 → IsTextLine version span w1 w2 → Takes to_come old new span
     → Reads to_come first new version n (count + 1) a b la lb w0 w2
 reads_line to_come first old new version n count a b la lb w0 w1 w2 span r line t = record {
   text = r.text ++ line_text line.fields;

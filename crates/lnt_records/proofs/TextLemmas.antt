@@ -10,7 +10,7 @@ use Rattle.lnt_spans.specs.declared.answer.Version.{Version}
 use Rattle.lnt_spans.specs.declared.answer.Version.TheVariants.{One, Two}
 use Rattle.lnt_spans.specs.declared.span.Span.{Span}
 use Rattle.lnt_digits.specs.Delimited.{Begins}
-use Rattle.lnt_records.specs.Lines.{IsFlagBefore, IsLine, IsMore, IsPlainLine}
+use Rattle.lnt_records.specs.Lines.{IsFlagBefore, IsTextLine, IsMore, IsPlainLine}
 use Rattle.lnt_records.specs.Written.{IsOfVersion}
 use Rattle.lnt_records.proofs.LineLemmas.{more_taken, no_more_taken}
 use Rattle.lnt_records.proofs.SaidLemmas.{record_plain}
@@ -83,5 +83,5 @@ more_put Two answer more bytes s1 s2 some e a b is = rw some (more_taken IsPlain
 
 -- a plain line is a line
 pub line_said : (version : Version) (span : Span) (bytes rest : List ℕ) → IsPlainLine version span bytes rest
-    → IsLine version span bytes rest
+    → IsTextLine version span bytes rest
 line_said version span bytes rest is = record { fields = is.fields; joined = is.joined; says = record_plain version is.fields span is.says }

@@ -63,8 +63,8 @@ pub record SaysLine (Address Number : List ℕ → ℕ → Type 0) (version : Ve
   pub says : SaysSpan Address Number version fields span
 
 -- the line of a span in any spelling, then `rest`
-abbrev pub IsLine : Version → Span → List ℕ → List ℕ → Type 0
-IsLine version span bytes rest = SaysLine IsAddress IsDecimal version span bytes rest
+abbrev pub IsTextLine : Version → Span → List ℕ → List ℕ → Type 0
+IsTextLine version span bytes rest = SaysLine IsAddress IsDecimal version span bytes rest
 
 -- the line of a span without leading zeros and with letters in lower case, then `rest`
 abbrev pub IsPlainLine : Version → Span → List ℕ → List ℕ → Type 0

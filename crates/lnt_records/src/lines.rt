@@ -4,7 +4,7 @@ ghost use Rattle.std.specs.Prelude.{◌≡◌, ◌≢◌, ◌+◌, ◌-◌, ◌^
 ghost use Rattle.lnt_digits.specs.Digits.{IsAddress, IsDecimal};
 ghost use Rattle.lnt_spans.specs.declared.span.Span as spec;
 ghost use Rattle.lnt_spans.specs.Comparing.{Compares};
-ghost use Rattle.lnt_records.specs.Lines.{IsAnswer, IsFlagBefore, IsLine, IsMore, IsPosition};
+ghost use Rattle.lnt_records.specs.Lines.{IsAnswer, IsFlagBefore, IsTextLine, IsMore, IsPosition};
 ghost use Rattle.lnt_records.specs.Passing.{HasPassed, Passes};
 ghost use Rattle.lnt_records.specs.Table.{column_names};
 ghost use Rattle.lnt_records.specs.Written.{line_text};
@@ -67,7 +67,7 @@ pub(crate) fn pass_header(window: &mut Window) -> Option<Version>
 // Parses the line at `at`; gives its span and the index of the next line. None leaves the line to `csv`.
 #[inline(always)]
 fn span_at(table: &[u8], at: usize, version: Version) -> Option<(Span, usize)>
-    ensures { IfSome result (λ found. IsLine version found.0 (drop at table.now) (drop found.1 table.now)) }
+    ensures { IfSome result (λ found. IsTextLine version found.0 (drop at table.now) (drop found.1 table.now)) }
 {
     let (low, at) = position_at(table, at)?;
     let (high, at) = position_at(table, at)?;

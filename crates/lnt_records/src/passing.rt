@@ -3,7 +3,7 @@ ghost use Rattle.std.specs.Prelude.{◌≡◌, ◌≢◌, ◌+◌, ◌-◌, ◌^
 ghost use Rattle.std.specs.Bool.{MatchBool};
 ghost use Rattle.lnt_spans.specs.declared.span.Span as spec;
 ghost use Rattle.lnt_spans.specs.Spans.{AreInOrder};
-ghost use Rattle.lnt_records.specs.Lines.{IsLine};
+ghost use Rattle.lnt_records.specs.Lines.{IsTextLine};
 ghost use Rattle.lnt_records.specs.Passing.{LeavesOff, Passes};
 ghost use Rattle.lnt_records.specs.Written.{IsOfVersion};
 
@@ -70,7 +70,7 @@ pub(crate) fn pass_spans<S: SpanSource + Drop, T: Source, C>(
 // Moves past the line of this span, if it is next.
 #[inline(always)]
 fn pass_line(window: &mut Window, room: &mut [u8; ROOM], span: &Span, version: Version) -> bool
-    ensures { MatchBool result (IsLine version span.now window.old window.new) (window.new ≡ window.old) }
+    ensures { MatchBool result (IsTextLine version span.now window.old window.new) (window.new ≡ window.old) }
 {
     if !tells(&span.answer, version) {
         return false;

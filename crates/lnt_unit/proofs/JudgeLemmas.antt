@@ -7,7 +7,7 @@ use Rattle.lnt_wire.specs.declared.format.Format.{Format}
 use Rattle.lnt_wire.specs.declared.format.Order.{Order}
 use Rattle.lnt_unit.specs.BrokenUnits.{BrokenUnit}
 use Rattle.lnt_unit.specs.ConvertedUnits.{Converts}
-use Rattle.lnt_unit.specs.Stepping.{JudgesUnit, IsSaid, IsToldAs, IsJudged, first_large}
+use Rattle.lnt_unit.specs.Stepping.{JudgesUnit, IsSaid, IsToldAs, IsConversionJudged, first_large}
 use Rattle.lnt_unit.specs.Converting.{units_in_format, IsFirstLarge, HasFirstLarge, IsConvertFault}
 use Rattle.lnt_unit.proofs.ConvertedLaws.{units_more, each_spelled, whole_converted, no_length}
 use Rattle.lnt_unit.specs.declared.convert.ConvertFault.{ConvertFault}
@@ -19,7 +19,7 @@ use Rattle.lnt_unit.proofs.SectionLemmas as sections
 pub record JudgedTo (order : Order) (section : List ℕ) (format : Format) (to : Order) (large : Option ℕ) (at : At) : Type 0 where
   pub units : List (ℕ × Parts)
   pub so : sections.UnitsSoFar order section units at
-  pub judged : IsJudged format to units large
+  pub judged : IsConversionJudged format to units large
 
 pub judged_none : (order : Order) (section : List ℕ) (format : Format) (to : Order) (at : At) → at.rest ≡ section → at.place ≡ 0
     → at.order ≡ order → JudgedTo order section format to None at
@@ -42,8 +42,8 @@ still_first format to units unit offset f = record {
 }
 
 next_judged : (format : Format) (to : Order) (units : List (ℕ × Parts)) (offset : ℕ) (unit : Parts) (large : Option ℕ) (converts : Bool)
-    → IsJudged format to units large → IsSaid converts format to unit
-    → IsJudged format to (units ++ (offset, unit) ∷ []) (first_large large converts offset)
+    → IsConversionJudged format to units large → IsSaid converts format to unit
+    → IsConversionJudged format to (units ++ (offset, unit) ∷ []) (first_large large converts offset)
 next_judged format to units offset unit (Some first) converts p s = still_first format to units (offset, unit) first p
 next_judged format to units offset unit None true p s =
     (p.0 ++ s.0, units_more format to units (offset, unit) p.0 (p.0 ++ s.0) p.1 (record { spelling = s.0; spelled = s.1; joined = refl }))
@@ -76,7 +76,7 @@ pub judged_sound : (order : Order) (section : List ℕ) (format : Format) (to : 
     → JudgedTo order section format to large at → large ≡ None → length at.rest ≡ 0 → Converts order section format to
 judged_sound order section format to large at p is ended =
     let nothing = no_length at.rest ended in
-    let all : IsJudged format to p.units None = subst (IsJudged format to p.units) is p.judged in
+    let all : IsConversionJudged format to p.units None = subst (IsConversionJudged format to p.units) is p.judged in
     record {
       bytes = all.0;
       converted = whole_converted order section format to p.units all.0 (sections.all_units order section p.units at p.so nothing) all.1;
@@ -90,7 +90,7 @@ judged_large order section format to large offset at p is ended =
     record {
       units = p.units;
       sound = sections.all_units order section p.units at p.so nothing;
-      first = subst (IsJudged format to p.units) is p.judged;
+      first = subst (IsConversionJudged format to p.units) is p.judged;
     }
 
 -- a unit that isn't there

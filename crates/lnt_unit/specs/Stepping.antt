@@ -67,9 +67,9 @@ pub record ConvertedTo (order : Order) (section : List ℕ) (format : Format) (t
   pub put : Each (IsShortest (UnitBytesIn to)) (units_in_format units format to) bytes
 
 -- the first of the units that nothing spells, if there is one
-abbrev pub IsJudged : Format → Order → List (ℕ × Parts) → Option ℕ → Type 0
-IsJudged format to units None = (bytes : List ℕ) × Each (IsShortest (UnitBytesIn to)) (units_in_format units format to) bytes
-IsJudged format to units (Some offset) = IsFirstLarge format to units offset
+abbrev pub IsConversionJudged : Format → Order → List (ℕ × Parts) → Option ℕ → Type 0
+IsConversionJudged format to units None = (bytes : List ℕ) × Each (IsShortest (UnitBytesIn to)) (units_in_format units format to) bytes
+IsConversionJudged format to units (Some offset) = IsFirstLarge format to units offset
 
 -- the first of them, where there was none or this one, and the unit at an offset is judged
 abbrev pub first_large : Option ℕ → Bool → ℕ → Option ℕ

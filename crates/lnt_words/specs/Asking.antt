@@ -50,9 +50,9 @@ pub record IsJudging (rows : List Row) (from : Judging) : Type 0 where
   pub copies : IsFlagGiven rows (codes "skip-copies") from.skip_copies
 
 -- the format that a conversion writes: 32-bit or 64-bit DWARF
-abbrev pub IsFormat : List Row → Format → Type 0
-IsFormat rows D32 = IsWord rows (codes "format") (codes "32")
-IsFormat rows D64 = IsWord rows (codes "format") (codes "64")
+abbrev pub IsWrittenFormat : List Row → Format → Type 0
+IsWrittenFormat rows D32 = IsWord rows (codes "format") (codes "32")
+IsWrittenFormat rows D64 = IsWord rows (codes "format") (codes "64")
 
 abbrev pub IsWrittenOrder : List Row → Order → Type 0
 IsWrittenOrder rows Little = IsWord rows (codes "order") (codes "little")
@@ -62,7 +62,7 @@ IsWrittenOrder rows Big = IsWord rows (codes "order") (codes "big")
 abbrev pub IsReading : Text → List Row → Reading → Type 0
 IsReading name rows Units = name ≡ codes "units"
 IsReading name rows (Dump ops shown) = (name ≡ codes "dump") × IsFlagGiven rows (codes "ops") ops × IsFlagGiven rows (codes "rows") shown
-IsReading name rows (Convert format to) = (name ≡ codes "convert") × IsFormat rows format × IsWrittenOrder rows to
+IsReading name rows (Convert format to) = (name ≡ codes "convert") × IsWrittenFormat rows format × IsWrittenOrder rows to
 
 abbrev pub IsVersion : List Row → Version → Type 0
 IsVersion rows One = IsFlagGiven rows (codes "wide") false

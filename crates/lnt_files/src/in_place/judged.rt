@@ -9,7 +9,7 @@ use crate::ends::StringEnds;
 use crate::tables::{EntryTableFault, is_usable_format};
 use crate::walk::Entries;
 use lnt_header::EntryTable;
-use lnt_header_bytes::{HeaderView, TableView};
+use lnt_header_bytes::{EntryTableView, HeaderView};
 
 /// What is wrong with the directories and files of the header, if its tables aren't usable (DWARF 5, section 6.2.4.1).
 /// The first of these is told, each of the directories before the files: `EntryFormat`, `StringOutside`,
@@ -38,7 +38,7 @@ pub fn tables_fault(header: &HeaderView<'_>, ends: &StringEnds<'_>) -> Option<En
 }
 
 #[tactic(auto, using(crate::proofs::JudgedLemmas::no_entries))]
-fn has_usable_format(table: &TableView<'_>) -> bool
+fn has_usable_format(table: &EntryTableView<'_>) -> bool
     ensures { IsTrue result ↔ HasUsableFormat table.now.pairs table.now.entries }
 {
     table.count() == 0 || is_usable_format(table.pairs())
@@ -46,7 +46,7 @@ fn has_usable_format(table: &TableView<'_>) -> bool
 
 // The first of the table's entries whose path's text isn't there.
 #[tactic(auto, using(crate::proofs::JudgedLemmas::all_begun, crate::proofs::JudgedLemmas::all_stepped, crate::proofs::JudgedLemmas::all_done, crate::proofs::JudgedLemmas::all_but, crate::proofs::JudgedLemmas::never_ends))]
-fn first_without_path(table: &TableView<'_>, ends: &StringEnds<'_>) -> Option<u64>
+fn first_without_path(table: &EntryTableView<'_>, ends: &StringEnds<'_>) -> Option<u64>
     ensures { MatchOption result (AllByRecursion (HasPath ends.now.line ends.now.general table.now.pairs) table.now.entries)
         (λ index. IsFirstNot (HasPath ends.now.line ends.now.general table.now.pairs) table.now.entries index) }
 {
@@ -66,7 +66,7 @@ fn first_without_path(table: &TableView<'_>, ends: &StringEnds<'_>) -> Option<u6
 // What is wrong with the files of a header with so many directories, once the format of the files is known to be usable.
 #[tactic(auto, using(crate::proofs::JudgedLemmas::files_begun, crate::proofs::JudgedLemmas::files_stepped, crate::proofs::JudgedLemmas::files_never_end, crate::proofs::JudgedLemmas::files_but, crate::proofs::JudgedLemmas::files_sound, crate::proofs::JudgedLemmas::files_missing))]
 fn files_fault(
-    files: &TableView<'_>,
+    files: &EntryTableView<'_>,
     ends: &StringEnds<'_>,
     directories: u64,
 ) -> Option<EntryTableFault>

@@ -11,7 +11,7 @@ ghost use Rattle.lnt_files.specs.Walks.{Says};
 use crate::contents::{MD5, place_of};
 use crate::paths::{Pieces, add_pieces, begins_with_slash};
 use crate::walk::{Entries, EntryView};
-use lnt_header_bytes::{HeaderView, TableView};
+use lnt_header_bytes::{EntryTableView, HeaderView};
 use lnt_wire::Strings;
 use std::alloc::{AllocError, Global};
 
@@ -65,7 +65,7 @@ pub fn path_of(
 
 // What the entry of this number says. None where it isn't there.
 #[tactic(auto, using(crate::proofs::AtLemmas::after_first, crate::proofs::AtLemmas::after_more, crate::proofs::AtLemmas::not_there, crate::proofs::AtLemmas::entry_is, crate::proofs::AtLemmas::there))]
-fn entry_at<'t>(table: &'t TableView<'t>, number: u64) -> Option<EntryView<'t>>
+fn entry_at<'t>(table: &'t EntryTableView<'t>, number: u64) -> Option<EntryView<'t>>
     ensures { EntryAt table.entry.now number result }
 {
     if number >= table.count() {

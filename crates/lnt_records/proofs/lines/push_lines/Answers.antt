@@ -1,5 +1,5 @@
 use Rattle.std.proofs.Common.{◌∙◌, arith, drop, refl}
-use Rattle.lnt_records.specs.Lines.{IsLine}
+use Rattle.lnt_records.specs.Lines.{IsTextLine}
 use Rattle.lnt_records.proofs.PassingLemmas.{Takes, few_passed, reads_filled, reads_line, reads_none}
 use Rattle.lnt_records.proofs.lines.push_lines.Goals as goal
 
@@ -31,7 +31,7 @@ overflow_add-count g c =
     let inv = c.loop-window.invariant in
     let window = c.fill.new.self in
     let rest = drop c.in-Some.length window in
-    let line : IsLine c.args.version c.in-Some.span window rest = rw c.bytes.ensures at c.in-Some.ensures in
+    let line : IsTextLine c.args.version c.in-Some.span window rest = rw c.bytes.ensures at c.in-Some.ensures in
     let filled = reads_filled g.S.SpanSource.to_come c.args.merge.now c.loop-window.merge c.args.version c.args.count.now
     c.loop-window.count _ _ _ _ _ _ c.args.window.now c.loop-window.window window inv.reads c.in_ok-fill.ensures.taken in
     let takes : Takes g.S.SpanSource.to_come c.loop-window.merge c.push.new.self c.in-Some.span =
@@ -45,7 +45,7 @@ loop-window-preserved g c =
     let inv = c.loop-window.invariant in
     let window = c.fill.new.self in
     let rest = drop c.in-Some.length window in
-    let line : IsLine c.args.version c.in-Some.span window rest = rw c.bytes.ensures at c.in-Some.ensures in
+    let line : IsTextLine c.args.version c.in-Some.span window rest = rw c.bytes.ensures at c.in-Some.ensures in
     let filled = reads_filled g.S.SpanSource.to_come c.args.merge.now c.loop-window.merge c.args.version c.args.count.now
     c.loop-window.count _ _ _ _ _ _ c.args.window.now c.loop-window.window window inv.reads c.in_ok-fill.ensures.taken in
     let takes : Takes g.S.SpanSource.to_come c.loop-window.merge c.push.new.self c.in-Some.span =

@@ -5,7 +5,7 @@ use Rattle.lnt_header.specs.Joins.{Several}
 use Rattle.lnt_header_bytes.proofs.BorrowedLaws.{length_found}
 use Rattle.lnt_header_bytes.specs.TableBytes.{EntryBytes}
 use Rattle.lnt_header_bytes.proofs.ViewLemmas.{entries_are, entries_there}
-use Rattle.lnt_header_bytes.proofs.table_view.TableView.to_entries.Goals as goal
+use Rattle.lnt_header_bytes.proofs.table_view.EntryTableView.to_entries.Goals as goal
 
 pub returns-in-Ok : goal.returns-in-Ok
 returns-in-Ok c =
