@@ -16,7 +16,10 @@ pub fn field(row: &ByteRecord, i: usize) -> &[u8]
     requires { i < length (fields_of row.now) }
     ensures { result.now ≡ get_or (fields_of row.now) i [] }
 {
-    row.get(i).unwrap_or(&[])
+    let Some(field) = row.get(i) else {
+        unreachable!()
+    };
+    field
 }
 
 /// Whether the field in column `i` of a record is this text. The caller makes sure that the record has that column.
