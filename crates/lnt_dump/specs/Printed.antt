@@ -9,21 +9,21 @@ use Rattle.lnt_wire.specs.declared.format.Order.{Order}
 use Rattle.lnt_unit.specs.Converting.{IsConverted, IsConvertFault}
 use Rattle.lnt_unit.specs.declared.convert.ConvertFault.{ConvertFault}
 use Rattle.lnt_unit.specs.declared.convert.ConvertFault.TheVariants.{Malformed, TooLarge, Memory}
-use Rattle.lnt_wire.specs.FaultTexts.{hexadecimal}
+use Rattle.lnt_unit.specs.FaultTexts.{convert_fault_text}
 use Rattle.lnt_text.specs.Texts.{malformed_text}
 
 -- a writer that held these bytes has gained such a text, and nothing else
 abbrev pub IsPrintedIn : (List ℕ → Type 0) → Option (List ℕ) → Option (List ℕ) → Type 0
 IsPrintedIn Is old new = (text : List ℕ) × Is text × Appends old new text
 
--- the line of a unit that is too large
-abbrev pub too_large_text : ℕ → List ℕ
-too_large_text offset = codes "no 20 too large unit " ++ hexadecimal offset ++ codes "\n"
+-- the line that says which unit is too large
+abbrev pub too_large_text : ConvertFault → List ℕ
+too_large_text fault = codes "no 20 " ++ convert_fault_text fault ++ codes "\n"
 
 -- why a section isn't converted; of want of memory nothing is printed
 abbrev pub refusal_text : ConvertFault → List ℕ
 refusal_text (Malformed fault) = malformed_text fault ++ codes "\n"
-refusal_text (TooLarge offset) = too_large_text offset
+refusal_text (TooLarge offset) = too_large_text (TooLarge offset)
 refusal_text Memory = []
 
 -- A writer that held these bytes has gained the line that says why the section isn't converted, and that is true. Want of memory has

@@ -99,20 +99,24 @@ fn print_refusal<W: Write>(alloc: Global, fault: ConvertFault, out: &mut W) -> R
 {
     match fault {
         ConvertFault::Malformed(fault) => print_fault(alloc, fault, out),
-        ConvertFault::TooLarge(offset) => print_too_large(alloc, offset, out),
+        ConvertFault::TooLarge(_) => print_too_large(alloc, fault, out),
         ConvertFault::Memory => Err(Halt::Memory),
     }
 }
 
-// Prints the line of the unit at the offset, which is too large, or a front of it.
-fn print_too_large<W: Write>(alloc: Global, offset: u64, out: &mut W) -> Result<Status, Halt>
+// Prints the line that says which unit is too large, or a front of it.
+fn print_too_large<W: Write>(
+    alloc: Global,
+    fault: ConvertFault,
+    out: &mut W,
+) -> Result<Status, Halt>
     ensures no { IfOk result (λ status. status ≡ No) }
     ensures err { IfErr result IsPrinting }
-    ensures line { OnOk result (Appends (W.contents out.old) (W.contents out.new) (too_large_text offset)) }
-    ensures front { OnErr result (AppendsFront (W.contents out.old) (W.contents out.new) (too_large_text offset)) }
+    ensures line { OnOk result (Appends (W.contents out.old) (W.contents out.new) (too_large_text fault)) }
+    ensures front { OnErr result (AppendsFront (W.contents out.old) (W.contents out.new) (too_large_text fault)) }
 {
     let mut line = Vec::new(alloc);
-    if writeln!(line, "no 20 too large unit 0x{offset:x}").is_err() {
+    if writeln!(line, "no 20 {fault}").is_err() {
         return Err(Halt::Memory);
     }
     write_whole(out, &line)?;

@@ -8,7 +8,8 @@ use Rattle.lnt_records.specs.declared.fault.WriteStop.TheVariants as stop
 abbrev pub table_fault_text : TableFault → List ℕ
 table_fault_text Header = codes "table header"
 table_fault_text (Fields record_number) = codes "table fields record " ++ decimal record_number
-table_fault_text (Number record_number column) = codes "table number record " ++ (decimal record_number ++ (codes " column " ++ decimal column))
+table_fault_text (Number record_number column) =
+    codes "table number record " ++ (decimal record_number ++ (codes " column " ++ decimal column))
 table_fault_text (Order record_number) = codes "table order record " ++ decimal record_number
 
 abbrev pub write_stop_text : WriteStop → List ℕ

@@ -1,5 +1,5 @@
 -- The lines that say whether a table answers as a section does, as their types print them.
-use Rattle.std.specs.Prelude.{ℕ, List, ◌++◌, codes, decimal}
+use Rattle.std.specs.Prelude.{ℕ, List, ◌++◌, codes}
 use Rattle.lnt_table.specs.declared.verdict.TableNo.{TableNo}
 use Rattle.lnt_table.specs.declared.verdict.TableNo.TheVariants as no
 use Rattle.lnt_table.specs.declared.verdict.Verdict.{Verdict}
@@ -9,6 +9,8 @@ use Rattle.lnt_table.specs.declared.by_path.Checked.TheVariants.{Numbered, ByPat
 use Rattle.lnt_table.specs.PathTexts.{path_stretch_text}
 use Rattle.lnt_table.specs.Verdicts.{no_of_fault}
 use Rattle.lnt_lines.specs.FaultTexts.{no_text}
+use Rattle.lnt_records.specs.FaultTexts.{table_fault_text}
+use Rattle.lnt_records.specs.declared.fault.TableFault.TheVariants as fault
 use Rattle.lnt_paths.specs.declared.answer.ComparedByPath.{ComparedByPath}
 use Rattle.lnt_paths.specs.declared.answer.ComparedByPath.TheVariants.{Same, Fault, Differs}
 use Rattle.lnt_paths.specs.PathStretches.{stretch_of}
@@ -17,11 +19,10 @@ use Rattle.lnt_text.specs.Texts.{difference_text}
 -- why a table doesn't answer as the section does
 abbrev pub table_no_text : TableNo → List ℕ
 table_no_text (no.Section reason) = no_text reason
-table_no_text no.Header = codes "no 36 table header"
-table_no_text (no.Fields record_number) = codes "no 37 table fields record " ++ decimal record_number
-table_no_text (no.Number record_number column) =
-    codes "no 38 table number record " ++ (decimal record_number ++ (codes " column " ++ decimal column))
-table_no_text (no.Order record_number) = codes "no 39 table order record " ++ decimal record_number
+table_no_text no.Header = codes "no 36 " ++ table_fault_text fault.Header
+table_no_text (no.Fields record_number) = codes "no 37 " ++ table_fault_text (fault.Fields record_number)
+table_no_text (no.Number record_number column) = codes "no 38 " ++ table_fault_text (fault.Number record_number column)
+table_no_text (no.Order record_number) = codes "no 39 " ++ table_fault_text (fault.Order record_number)
 table_no_text (no.Differs position by_table by_section) =
     difference_text (record { position = position; by_table = by_table; by_section = by_section })
 

@@ -74,12 +74,12 @@ impl fmt::Display for TableNo {
     fn fmt<W: fmt::Write>(&self, f: &mut fmt::Formatter<W>) -> fmt::Result {
         match *self {
             TableNo::Section(no) => write!(f, "{no}"),
-            TableNo::Header => write!(f, "no 36 table header"),
-            TableNo::Fields(record) => write!(f, "no 37 table fields record {record}"),
+            TableNo::Header => write!(f, "no 36 {}", TableFault::Header),
+            TableNo::Fields(record) => write!(f, "no 37 {}", TableFault::Fields(record)),
             TableNo::Number { record, column } => {
-                write!(f, "no 38 table number record {record} column {column}")
+                write!(f, "no 38 {}", TableFault::Number(record, column))
             }
-            TableNo::Order(record) => write!(f, "no 39 table order record {record}"),
+            TableNo::Order(record) => write!(f, "no 39 {}", TableFault::Order(record)),
             TableNo::Differs {
                 position,
                 by_table,

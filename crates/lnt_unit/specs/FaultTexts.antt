@@ -7,5 +7,5 @@ use Rattle.lnt_unit.specs.declared.convert.ConvertFault.TheVariants.{Malformed, 
 -- why a section isn't converted
 abbrev pub convert_fault_text : ConvertFault → List ℕ
 convert_fault_text (Malformed fault) = fault_text fault
-convert_fault_text (TooLarge offset) = codes "unit " ++ (hexadecimal offset ++ codes " is too large for the 32-bit format")
+convert_fault_text (TooLarge offset) = codes "too large unit " ++ hexadecimal offset
 convert_fault_text Memory = codes "out of memory"

@@ -28,9 +28,7 @@ impl fmt::Display for ConvertFault {
     fn fmt<W: fmt::Write>(&self, f: &mut fmt::Formatter<W>) -> fmt::Result {
         match *self {
             ConvertFault::Malformed(fault) => write!(f, "{fault}"),
-            ConvertFault::TooLarge(offset) => {
-                write!(f, "unit 0x{offset:x} is too large for the 32-bit format")
-            }
+            ConvertFault::TooLarge(offset) => write!(f, "too large unit 0x{offset:x}"),
             ConvertFault::Memory => write!(f, "out of memory"),
         }
     }
