@@ -1,9 +1,10 @@
 use Rattle.std.proofs.Common.{◌≡◌}
 use Rattle.lnt_stream.specs.declared.reader.Progress.TheVariants.{Reading}
 use Rattle.lnt_notes.proofs.texts.strings_of.Given as goal
+use Rattle.lnt_stream.specs.Readers.{progress_of, source_of}
 
 abbrev pub invariant-loop-buffer : goal.invariant-loop-buffer
-invariant-loop-buffer g l = l.reader.progress ≡ Reading
+invariant-loop-buffer g l = progress_of l.reader ≡ Reading
 
 abbrev pub decreases-loop-buffer : goal.decreases-loop-buffer
-decreases-loop-buffer g l = g.R.Source.left l.reader.source.now
+decreases-loop-buffer g l = g.R.Source.left (source_of l.reader)
