@@ -76,7 +76,7 @@ pub(crate) struct Opened<'c, R> {
     pub(crate) section: Section<'c, R>,
 }
 
-// Opens the files of the section that is to be judged.
+// Reads the string files of the section that is to be judged, whole, and opens the section.
 pub(crate) fn open_judged<'c, O: Opener>(
     alloc: Global,
     opener: &mut O,

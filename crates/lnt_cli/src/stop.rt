@@ -14,7 +14,8 @@ use thiserror::Error;
 /// Why a run was stopped. A stop is no judgement of the section or the table.
 #[derive(Debug, Drop, Error)]
 pub enum CliStop {
-    /// The words ask for nothing that the command does. The text says how it is used, and ends in a line feed.
+    /// The words ask for nothing that the command does. The text says how it is used, or which word is unknown, missing or
+    /// bad, and ends in a line feed.
     #[error("{0}")]
     Usage(String),
     /// The file of this name can't be opened or read. A name with control characters is shown between quotes.

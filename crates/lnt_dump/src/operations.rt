@@ -183,7 +183,7 @@ fn put_byte(text: &mut Vec<u8>, byte: u8) -> Result<(), AllocError> {
     put_one(text, digits[usize::from(byte % 16)])
 }
 
-// Adds a byte.
+// Adds a byte. It is inlined, since it runs for each byte of a line.
 #[inline(always)]
 fn put_one(text: &mut Vec<u8>, byte: u8) -> Result<(), AllocError> {
     text.push(byte)?;

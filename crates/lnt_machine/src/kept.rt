@@ -49,7 +49,7 @@ impl Program {
         }
     }
 
-    /// The header.
+    /// The header of the unit that the program is of, as it was read.
     pub fn header(&self) -> HeaderView<'_>
         ensures { result ≡ self.now.header }
     {

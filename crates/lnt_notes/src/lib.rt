@@ -1,6 +1,6 @@
 //! Notes: advice for a person beside an answer. They don't change the answer.
 //!
-//! A [`WatchedReader`] reader keeps the first bytes of a section for them. [`tell_bad`], [`tell_good`], [`tell_agreed`],
+//! A [`WatchedReader`] keeps the first bytes of a section for them. [`tell_bad`], [`tell_good`], [`tell_agreed`],
 //! [`tell_refused`] and [`tell_table`] print the notes to an answer. Some notes need a file to be read again. That is done only
 //! where the answer makes such a note likely, and only for files that can be read again.
 #![tactic(auto)]

@@ -103,7 +103,7 @@ impl<S: SpanSource, T: SpanSource> Differences<S, T> {
         }
     }
 
-    // StretchStep to the next position at which one of the two answers may end.
+    // Steps to the next position at which one of the two answers may end.
     fn step(&mut self) -> Step
         requires { (by_section : spec_position.Position → Option spec_answer.Answer)
             × (by_table : spec_position.Position → Option spec_answer.Answer) × (told : List spec_difference.Difference)

@@ -60,7 +60,7 @@ impl<'a> UnitInPlace<'a> {
         })
     }
 
-    /// The header.
+    /// The header, whose directories and files stay in the bytes.
     pub fn header(&self) -> HeaderView<'_>
         ensures { result ≡ self.now.header }
     {

@@ -96,7 +96,7 @@ impl Unit {
         Unit { header, ops }
     }
 
-    /// The header.
+    /// The header, which admits each of the operations.
     pub fn header(&self) -> &Header
         ensures { result.now ≡ self.now.header }
     {

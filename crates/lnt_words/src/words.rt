@@ -283,7 +283,7 @@ fn number_of(alloc: Global, words: &ArgMatches<'_>, word: &str) -> Result<u64, W
     }
 }
 
-// What is said of words that lack one, or have an unknown one. Clap refuses such words, by what the command tells it.
+// What is said where a word is missing, or is unknown. Clap refuses such words, by what the command tells it.
 fn usage(alloc: Global, what: &str, name: &str) -> WordsStop {
     match format!(in alloc; "linetab: {what} {}\n", Shown(name)) {
         Ok(text) => WordsStop::Usage(text),
