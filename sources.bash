@@ -1,4 +1,5 @@
-# For `linetab`, `library` and `test`, which set $top: the built program, and whether it is that of the sources as they are.
+# For `linetab`, `library`, `test` and `share/prove`, which set $top: the built program, whether it is that of the sources as they
+# are, and what a crate stands on.
 program=$top/crates/linetab/out/linetab
 built_of=$program.sources
 # The sum of the sources that the gate has proved, where all of it passed.
@@ -13,4 +14,14 @@ sum_of_sources() {
 
 is_current() {
   [ -x "$program" ] && [ -r "$built_of" ] && [ "$(sum_of_sources)" = "$(<"$built_of")" ]
+}
+
+# Adds to `below` the crates of this repository that one uses, and those that these use, each once, lowest first.
+uses() { # NAME
+  local name
+  for name in $(sed -nE "s/^$1( staticlib)?:([^#]*).*/\2/p" "$top/crates.txt"); do
+    [[ -d $top/crates/$name && " ${below[*]} " != *" $name "* ]] || continue
+    uses "$name"
+    below+=("$name")
+  done
 }
