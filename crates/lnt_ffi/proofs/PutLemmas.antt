@@ -25,6 +25,20 @@ stored room place flat span is few =
     ap (map span_of) (take_more_set room place flat few) ∙ map-append span_of (take place room) (flat ∷ [])
     ∙ ap (λ (last : Span). map span_of (take place room) ++ last ∷ []) is
 
+-- one more is counted, where all are fewer than so many
+pub one_counted : (list : List Span) (count bound : ℕ) (room : List FlatSpan) (span : Span) (AreLeft AreLeft' : List Span → Type 0)
+    → HasPut list count room AreLeft → ((spans : List Span) → AreLeft spans → GivesFirstSpan AreLeft' spans (Some span))
+    → length list < bound → count + 1 < bound
+one_counted list count bound room span AreLeft AreLeft' h gives few =
+    let more = one_given list h.given span AreLeft AreLeft' h.has_given gives in
+    omega (
+      arith,
+      few,
+      one_more h.given span count h.count_is,
+      ap length more.list_is,
+      length-append (h.given ++ span ∷ []) more.rest,
+    )
+
 pub one_put : (list : List Span) (count count' : ℕ) (room room' : List FlatSpan) (span : Span) (AreLeft AreLeft' : List Span → Type 0)
     → HasPut list count room AreLeft → ((spans : List Span) → AreLeft spans → GivesFirstSpan AreLeft' spans (Some span))
     → length room' ≡ length room → (count < length room → map span_of (take (count + 1) room') ≡ map span_of (take count room) ++ span ∷ [])

@@ -1,5 +1,5 @@
 //! Sections judged, and the spans of good ones.
-ghost use Rattle.std.specs.Prelude.{◌≡◌, ◌+◌, ◌<◌, ◌≤◌, List, [], ◌∷◌, ◌++◌, IfErr, IfOk, IfSome, length, map, take};
+ghost use Rattle.std.specs.Prelude.{◌≡◌, ◌+◌, ◌^◌, ◌<◌, ◌≤◌, List, [], ◌∷◌, ◌++◌, IfErr, IfOk, length, map, take};
 ghost use Rattle.lnt_spans.specs.declared.span.Span as spec;
 ghost use Rattle.lnt_ffi.specs.Flat.{options_of, span_of};
 ghost use Rattle.lnt_ffi.specs.Told.{IsIndexOfFlat, IsRefused, IsToldOfSpans};
@@ -10,7 +10,6 @@ use crate::section::FlatSection;
 use crate::verdict::{FlatVerdict, YES, verdict_of_no, verdict_of_stop};
 use lnt_lines::{Index, JudgedIndex, index_section};
 use lnt_spans::{Span, SpanSource};
-use lnt_wire::Stop;
 use std::alloc::Global;
 
 /// Judges a section, and puts the spans of a good one into the front of `spans`, where there is room for all of them.
@@ -36,17 +35,8 @@ pub extern "C" fn linetab_verify(
             return 0;
         }
     };
-    match put_spans(index.spans(), spans) {
-        Some(count) => {
-            *verdict = YES;
-            count
-        }
-        // 2^64 spans or more, which no memory holds. Never so: a section has fewer spans than bytes.
-        None => {
-            *verdict = verdict_of_stop(Stop::Memory);
-            0
-        }
-    }
+    *verdict = YES;
+    put_spans(index.spans(), spans)
 }
 
 // The index of a good section, or the verdict of another one.
@@ -65,21 +55,22 @@ pub(crate) fn index_of<'a>(
     }
 }
 
-// Puts the spans into the front of the room, as far as it goes, and answers how many they are. None where they are 2^64 or
-// more, which the spans of a section never are: no clause says so.
-fn put_spans<S: SpanSource + Drop>(spans: S, room: &mut [FlatSpan]) -> Option<usize>
+// Puts the spans into the front of the room, as far as it goes, and answers how many they are. The caller sees to it that they
+// are fewer than 2^64: a section has no more spans than bytes.
+fn put_spans<S: SpanSource + Drop>(spans: S, room: &mut [FlatSpan]) -> usize
+    requires few { (list : List spec.Span) × S.to_come spans list × (length list < 2 ^ 64) }
     ensures length { length room.new ≡ length room.old }
-    ensures count { IfSome result (λ count. (list : List spec.Span) → S.to_come spans list → count ≡ length list) }
-    ensures there { IfSome result (λ count. (list : List spec.Span) → S.to_come spans list → count ≤ length room.old
-        → map span_of (take count room.new) ≡ list) }
+    ensures count { (list : List spec.Span) → S.to_come spans list → result ≡ length list }
+    ensures there { (list : List spec.Span) → S.to_come spans list → result ≤ length room.old
+        → map span_of (take result room.new) ≡ list }
 {
     let mut spans = spans;
     let mut count: usize = 0;
     while let Some(span) = spans.next_span() {
         put_span(&span, count, room);
-        count = count.checked_add(1)?;
+        count += 1;
     }
-    Some(count)
+    count
 }
 
 // Puts a span at a place of the room, if there is one.

@@ -14,3 +14,4 @@ pub mod GoodLemmas
 pub mod OneFlawLemmas
 pub mod OneNoLemmas
 pub mod OneOverlapLemmas
+pub mod SpanCountLaws

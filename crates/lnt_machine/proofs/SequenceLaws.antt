@@ -1,5 +1,5 @@
 -- Rows cut into sequences, one row at a time.
-use Rattle.std.proofs.Common.{◌≡◌, Bool, true, false, cond, List, [], ◌∷◌, ◌++◌, length, refl, sym, ap, ◌∙◌, append_assoc, arith}
+use Rattle.std.proofs.Common.{◌≡◌, ◌≤◌, Bool, true, false, cond, List, [], ◌∷◌, ◌++◌, length, refl, sym, ap, ◌∙◌, append_assoc, arith}
 use Rattle.std.specs.List.{AllByRecursion}
 use Rattle.std.proofs.lemmas.List.{append-nil, length-append}
 use Rattle.lnt_machine.specs.declared.row.Row.{Row}
@@ -78,6 +78,17 @@ cut_is rows left ended cut = ap sequences_of cut.joined ∙ sequences_of-joined 
 -- no row is left after the last end row
 pub cut_closed : (rows : List Row) (ended : List Sequence) → IsCut rows ended [] → joined_rows (sequences_of rows) ≡ rows
 cut_closed rows ended cut = ap joined_rows (cut_is rows [] ended cut) ∙ sym (cut.joined ∙ append-nil (joined_rows ended))
+
+-- sequences have no rows but those that were cut
+pub joined_within : (rows : List Row) → length (joined_rows (sequences_of rows)) ≤ length rows
+joined_within [] = omega arith
+joined_within (row ∷ rows) = by_end row.end_sequence (sequences_of rows) (joined_within rows)
+  where
+    by_end : (ends : Bool) (sequences : List Sequence) → length (joined_rows sequences) ≤ length rows
+        → length (joined_rows (cond ends (record { rows = row ∷ [] } ∷ sequences) (onto_first row sequences))) ≤ length (row ∷ rows)
+    by_end true sequences le = omega (arith, le)
+    by_end false [] le = omega arith
+    by_end false (sequence ∷ sequences) le = omega (arith, le)
 
 -- a row is left
 pub cut_open : (rows left : List Row) (ended : List Sequence) (row : Row) → IsCut rows ended (row ∷ left)

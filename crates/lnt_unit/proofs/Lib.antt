@@ -1,6 +1,7 @@
 pub mod BrokenLaws
 pub mod ConvertedLaws
 pub mod ConvertedLemmas
+pub mod CountLaws
 pub mod FrameLaws
 pub mod InPlaceLemmas
 pub mod JudgeLemmas

@@ -1,16 +1,24 @@
 use Rattle.std.proofs.Common.{arith, refl}
+use Rattle.lnt_lines.proofs.SpanCountLaws.{permuted_within_section}
 use Rattle.lnt_ffi.specs.Told.{IsToldOfSpans}
 use Rattle.lnt_ffi.proofs.judging.linetab_verify.Goals as goal
 
 pub returns-in-Err-clause-told : goal.returns-in-Err-clause-told
 returns-in-Err-clause-told c = IsToldOfSpans.refused c.in-Err.ensures.refused refl
 
-pub returns-in-Some-clause-told : goal.returns-in-Some-clause-told
-returns-in-Some-clause-told c =
+pub put_spans-requires : goal.put_spans-requires
+put_spans-requires c =
+    let is = c.in-Ok.ensures.good in
+    let all = c.spans.ensures.gives _ _ is.units is.index_is in
+    let few = permuted_within_section _ _ _ is.units _ all.spans is.good.spelled all.spans_are in
+    record { few = (all.spans, all.to_come, omega (arith, few)) }
+
+pub returns-clause-told : goal.returns-clause-told
+returns-clause-told c =
     let is = c.in-Ok.ensures.good in
     let all = c.spans.ensures.gives _ _ is.units is.index_is in
     IsToldOfSpans.good all.spans
     (record { units = is.units; good = is.good; spans_are = all.spans_are; in_order = all.in_order; answers = all.answers })
-    (c.in-Some.ensures.count all.spans all.to_come)
-    (λ fits. c.in-Some.ensures.there all.spans all.to_come (omega (arith, fits, c.put_spans.ensures.length)))
+    (c.put_spans.ensures.count all.spans all.to_come)
+    (λ fits. c.put_spans.ensures.there all.spans all.to_come (omega (arith, fits, c.put_spans.ensures.length)))
     refl

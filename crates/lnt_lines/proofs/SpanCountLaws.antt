@@ -1,0 +1,47 @@
+-- A section has no more spans than bytes.
+use Rattle.std.proofs.Common.{ℕ, ◌+◌, ◌≤◌, Bool, List, [], ◌∷◌, Option, length, ap, arith}
+use Rattle.std.specs.List.Sorted.{IsPermutation}
+use Rattle.std.proofs.lemmas.List.{length-append}
+use Rattle.std.proofs.lemmas.List.Sorted.{length_permutation}
+use Rattle.lnt_wire.specs.declared.format.Order.{Order}
+use Rattle.lnt_unit.specs.declared.unit.Parts.{Parts}
+use Rattle.lnt_unit.specs.UnitBytes.{SectionBytes, UnitsFrom}
+use Rattle.lnt_unit.proofs.CountLaws.{ops_within}
+use Rattle.lnt_machine.specs.Matrix.{rows}
+use Rattle.lnt_machine.proofs.RowLaws.{few_rows}
+use Rattle.lnt_spans.specs.declared.span.Span.{Span}
+use Rattle.lnt_sequences.specs.RowSpans.{spans_of}
+use Rattle.lnt_sequences.specs.Sequences.{kept_sequences}
+use Rattle.lnt_sequences.proofs.CountLaws.{rows_of_units, spans_within_rows}
+
+-- A unit makes a row for each of some operations, and each operation is spelled by a byte or more.
+rows_within : (order : Order) (offset : ℕ) (units : List (ℕ × Parts)) (bytes : List ℕ) → UnitsFrom order offset units bytes
+    → length (rows_of_units units) ≤ length bytes
+rows_within order offset [] bytes spelled = omega arith
+rows_within order offset (unit ∷ units) bytes (front, back, at, first, joined, later) =
+    omega (
+      arith,
+      few_rows unit.1.header [] unit.1.ops,
+      ops_within order unit.1 front first,
+      rows_within order (offset + length front) units back later,
+      ap length joined,
+      length-append front back,
+      length-append (rows unit.1) (rows_of_units units),
+    )
+
+-- The kept sequences of a section have no more spans than the section has bytes.
+pub spans_within_section : (order : Order) (dead : Option ℕ) (skip : Bool) (units : List (ℕ × Parts)) (section : List ℕ)
+    → SectionBytes order units section → length (spans_of (kept_sequences dead skip units)) ≤ length section
+spans_within_section order dead skip units section spelled =
+    omega (arith, spans_within_rows dead skip units, rows_within order 0 units section spelled)
+
+-- So it is of the same spans in any order.
+pub permuted_within_section : (order : Order) (dead : Option ℕ) (skip : Bool) (units : List (ℕ × Parts)) (section : List ℕ)
+    (spans : List Span) → SectionBytes order units section → IsPermutation (spans_of (kept_sequences dead skip units)) spans
+    → length spans ≤ length section
+permuted_within_section order dead skip units section spans spelled same =
+    omega (
+      arith,
+      spans_within_section order dead skip units section spelled,
+      length_permutation (spans_of (kept_sequences dead skip units)) spans same,
+    )

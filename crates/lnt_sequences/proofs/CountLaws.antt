@@ -1,0 +1,106 @@
+-- The kept sequences of units have no more spans than the units have rows, all together.
+use Rattle.std.proofs.Common.{ℕ, ◌+◌, ◌≤◌, Bool, true, false, not, cond, List, [], ◌∷◌, Option, length, ap, arith}
+use Rattle.std.specs.List.{filter, flat_map}
+use Rattle.std.proofs.lemmas.List.{length-append}
+use Rattle.std.proofs.lemmas.List.Concat.{flat_map-append}
+use Rattle.lnt_unit.specs.declared.unit.Parts.{Parts}
+use Rattle.lnt_machine.specs.declared.row.Row.{Row}
+use Rattle.lnt_machine.specs.declared.row.Sequence.{Sequence}
+use Rattle.lnt_machine.specs.Matrix.{joined_rows, rows, sequences}
+use Rattle.lnt_machine.proofs.SequenceLaws.{joined_within}
+use Rattle.lnt_spans.specs.declared.span.Span.{Span}
+use Rattle.lnt_spans.specs.Positions.{is_below}
+use Rattle.lnt_sequences.specs.RowSpans.{row_spans, span_between, spans_after, spans_of}
+use Rattle.lnt_sequences.specs.Sequences.{is_copy, is_live, kept_of, kept_sequences, live_in, live_sequences, Placed}
+use Rattle.lnt_sequences.specs.Sequences.{placed_in, position_of}
+use Rattle.lnt_sequences.proofs.WalkLaws.{placed_from}
+
+-- ---- one sequence
+
+-- between two rows stands one span at most
+between_within : (unit : ℕ) (row next : Row) → length (span_between unit row next) ≤ 1
+between_within unit row next = by_test (is_below (position_of row) (position_of next)) _
+  where
+    by_test : (t : Bool) (span : Span) → length (cond t (span ∷ []) []) ≤ 1
+    by_test true span = omega arith
+    by_test false span = omega arith
+
+after_within : (unit : ℕ) (row : Row) (rows : List Row) → length (spans_after unit row rows) ≤ length rows
+after_within unit row [] = omega arith
+after_within unit row (next ∷ rows) =
+    omega (
+      arith,
+      between_within unit row next,
+      after_within unit next rows,
+      length-append (span_between unit row next) (spans_after unit next rows),
+    )
+
+row_spans_within : (unit : ℕ) (rows : List Row) → length (row_spans unit rows) ≤ length rows
+row_spans_within unit [] = omega arith
+row_spans_within unit (row ∷ rows) = omega (arith, after_within unit row rows)
+
+-- ---- some of the sequences
+
+-- those that pass a test have no more spans than all
+filter_within : (test : Placed → Bool) (ss : List Placed) → length (spans_of (filter test ss)) ≤ length (spans_of ss)
+filter_within test [] = omega arith
+filter_within test (s ∷ ss) = by_test (test s) (filter_within test ss)
+  where
+    by_test : (t : Bool) → length (spans_of (filter test ss)) ≤ length (spans_of ss)
+        → length (spans_of (cond t (s ∷ filter test ss) (filter test ss))) ≤ length (spans_of (s ∷ ss))
+    by_test true le =
+        omega (
+          arith,
+          le,
+          length-append (row_spans s.id.unit s.rows) (spans_of (filter test ss)),
+          length-append (row_spans s.id.unit s.rows) (spans_of ss),
+        )
+    by_test false le = omega (arith, le, length-append (row_spans s.id.unit s.rows) (spans_of ss))
+
+kept_within : (skip : Bool) (ss : List Placed) → length (spans_of (kept_of skip ss)) ≤ length (spans_of ss)
+kept_within false ss = omega arith
+kept_within true ss = filter_within (λ (s : Placed). not (is_copy ss s)) ss
+
+-- ---- those of units
+
+placed_within : (unit k : ℕ) (ss : List Sequence) → length (spans_of (placed_from unit k ss)) ≤ length (joined_rows ss)
+placed_within unit k [] = omega arith
+placed_within unit k (s ∷ ss) =
+    omega (
+      arith,
+      row_spans_within unit s.rows,
+      placed_within unit (k + 1) ss,
+      length-append (row_spans unit s.rows) (spans_of (placed_from unit (k + 1) ss)),
+      length-append s.rows (joined_rows ss),
+    )
+
+-- the rows of units, one after another
+abbrev pub rows_of_units : List (ℕ × Parts) → List Row
+rows_of_units units = flat_map (λ (unit : ℕ × Parts). rows unit.1) units
+
+unit_within : (dead : Option ℕ) (unit : ℕ × Parts) → length (spans_of (live_in dead unit)) ≤ length (rows unit.1)
+unit_within dead unit =
+    omega (
+      arith,
+      filter_within (is_live dead) (placed_in unit),
+      placed_within unit.0 0 (sequences unit.1),
+      joined_within (rows unit.1),
+    )
+
+live_within : (dead : Option ℕ) (units : List (ℕ × Parts)) → length (spans_of (live_sequences dead units)) ≤ length (rows_of_units units)
+live_within dead [] = omega arith
+live_within dead (unit ∷ units) =
+    let both = flat_map-append (λ (placed : Placed). row_spans placed.id.unit placed.rows) (live_in dead unit) (live_sequences dead units) in
+    omega (
+      arith,
+      ap length both,
+      length-append (spans_of (live_in dead unit)) (spans_of (live_sequences dead units)),
+      unit_within dead unit,
+      live_within dead units,
+      length-append (rows unit.1) (rows_of_units units),
+    )
+
+-- The kept sequences have no more spans than the units have rows.
+pub spans_within_rows : (dead : Option ℕ) (skip : Bool) (units : List (ℕ × Parts))
+    → length (spans_of (kept_sequences dead skip units)) ≤ length (rows_of_units units)
+spans_within_rows dead skip units = omega (arith, kept_within skip (live_sequences dead units), live_within dead units)

@@ -1,0 +1,34 @@
+-- A unit has no more operations than bytes.
+use Rattle.std.proofs.Common.{ℕ, ◌≤◌, List, [], ◌∷◌, length, ap, arith}
+use Rattle.std.proofs.lemmas.List.{length-append}
+use Rattle.lnt_wire.specs.declared.format.Order.{Order}
+use Rattle.lnt_header.specs.declared.header.HeaderParts.{HeaderParts}
+use Rattle.lnt_header.specs.declared.op.Op.{Op}
+use Rattle.lnt_header.specs.Joins.{Each}
+use Rattle.lnt_ops.proofs.OpLaws.{op_is_some}
+use Rattle.lnt_ops.specs.OpBytes.{OpBytes}
+use Rattle.lnt_unit.specs.declared.unit.Parts.{Parts}
+use Rattle.lnt_unit.specs.UnitBytes.{UnitBytesIn}
+use Rattle.lnt_unit.proofs.UnitLaws.{header_of}
+use Rattle.lnt_unit.proofs.UnitReaders.{program_within}
+
+-- each operation is spelled by a byte or more
+pub few_ops : (h : HeaderParts) (ops : List Op) (program : List ℕ) → Each (OpBytes h) ops program → length ops ≤ length program
+few_ops h [] program spelled = omega arith
+few_ops h (op ∷ ops) program spelled =
+    omega (
+      arith,
+      op_is_some h op spelled.front spelled.first,
+      few_ops h ops spelled.back spelled.second,
+      ap length spelled.joined,
+      length-append spelled.front spelled.back,
+    )
+
+-- the operations of a unit
+pub ops_within : (order : Order) (unit : Parts) (bytes : List ℕ) → UnitBytesIn order unit bytes → length unit.ops ≤ length bytes
+ops_within order unit bytes p =
+    omega (
+      arith,
+      few_ops unit.header unit.ops p.spelled.program p.spelled.operations,
+      program_within order unit.header p.spelled.program bytes (header_of order unit bytes p),
+    )
