@@ -1,11 +1,11 @@
 //! The files of a good section, as comma-separated values.
-ghost use Rattle.std.specs.Prelude.{◌≡◌, IfErr, IfOk, OnErr, OnOk, Some, false, string_bytes};
+ghost use Rattle.std.specs.Prelude.{◌≡◌, ◌<◌, IfErr, IfOk, OnErr, OnOk, Some, false, string_bytes};
 ghost use Rattle.std.specs.Io.KnownBytes.{Appends};
 ghost use Rattle.csv.specs.Writing as csv;
 ghost use Rattle.lnt_output.specs.Fronts.{AppendsFront};
 ghost use Rattle.lnt_sources.specs.declared.status.Status.TheVariants.{Done};
 ghost use Rattle.lnt_sources.specs.Halts.{IsPrinting};
-ghost use Rattle.lnt_lines.specs.Indexed.{file_path_in, file_sum_in, path_or_empty};
+ghost use Rattle.lnt_lines.specs.Indexed.{file_count_in, file_path_in, file_sum_in, path_or_empty};
 ghost use Rattle.lnt_answers.specs.FileLines.{file_record, files_text, sum_field, unit_records};
 
 use csv::Writer;
@@ -52,7 +52,7 @@ fn print_unit_files<W: Write>(
     Ok(())
 }
 
-// Prints the record of a file. Only this record is held in memory.
+// Prints the record of a file that the unit has. Only this record is held in memory.
 fn print_file<W: Write>(
     alloc: Global,
     index: &Index<'_>,
@@ -60,6 +60,7 @@ fn print_file<W: Write>(
     file: u64,
     out: &mut W,
 ) -> Result<(), Halt>
+    requires { file < file_count_in index.now unit }
     ensures err { IfErr result IsPrinting }
     ensures record { OnOk result (Appends (W.contents out.old) (W.contents out.new) (file_record index.now unit file)) }
     ensures front { OnErr result (AppendsFront (W.contents out.old) (W.contents out.new) (file_record index.now unit file)) }
@@ -74,7 +75,7 @@ fn print_file<W: Write>(
     Ok(())
 }
 
-// Adds the record of a file to the writer, which is between two records before and afterwards.
+// Adds the record of a file that the unit has to the writer, which is between two records before and afterwards.
 fn put_file(
     alloc: Global,
     index: &Index<'_>,
@@ -82,6 +83,7 @@ fn put_file(
     file: u64,
     records: &mut Writer<Vec<u8>>,
 ) -> Result<(), AllocError>
+    requires there { file < file_count_in index.now unit }
     requires fields { csv.fields_written records.old ≡ 0 }
     requires clean { csv.has_written records.old ≡ false }
     requires setup { csv.writer_setup records.old ≡ csv.default_writer }
@@ -108,18 +110,19 @@ fn put_file(
     }
 }
 
-// The whole path of a file; empty where there is none, which is never so of a file that a good section lists.
+// The whole path of a file that the unit has.
 pub(crate) fn path_of(
     alloc: Global,
     index: &Index<'_>,
     unit: u64,
     file: u64,
 ) -> Result<Vec<u8>, AllocError>
+    requires { file < file_count_in index.now unit }
     ensures { IfOk result (λ path. path.items ≡ path_or_empty (file_path_in index.now unit file)) }
 {
     match index.path_of(alloc, unit, file)? {
         Some(path) => Ok(path),
-        None => Ok(Vec::new(alloc)),
+        None => unreachable!(),
     }
 }
 

@@ -1,9 +1,9 @@
 //! Prints the answer at a position.
-ghost use Rattle.std.specs.Prelude.{◌≡◌, Bool, ℕ, List, ◌++◌, Option, IfErr, IfOk, OnErr, OnOk, Some};
+ghost use Rattle.std.specs.Prelude.{◌≡◌, Bool, ℕ, List, ◌++◌, Option, IfErr, IfOk, IsSome, OnErr, OnOk, Some};
 ghost use Rattle.std.specs.Io.KnownBytes.{Appends};
 ghost use Rattle.lnt_sources.specs.declared.status.Status.TheVariants.{Done};
 ghost use Rattle.lnt_unit.specs.declared.unit.Parts.{Parts};
-ghost use Rattle.lnt_lines.specs.Indexed.{IsIndexOf};
+ghost use Rattle.lnt_lines.specs.Indexed.{IsIndexOf, file_path_in};
 ghost use Rattle.lnt_output.specs.Fronts.{AppendsFront};
 ghost use Rattle.lnt_sources.specs.Halts.{IsPrinting};
 ghost use Rattle.std.specs.List.{flat_map};
@@ -62,7 +62,8 @@ fn put_lookup<W: Write>(
     print_answered(alloc, index, position, &answer, out)
 }
 
-// Prints the line of an answer at the position.
+// Prints the line of an answer at the position. The caller sees to it that its file has a path, as that of each answer of an
+// index has.
 fn print_answered<W: Write>(
     alloc: Global,
     index: &Index<'_>,
@@ -70,13 +71,13 @@ fn print_answered<W: Write>(
     answer: &Answer,
     out: &mut W,
 ) -> Result<(), Halt>
+    requires { IsSome (file_path_in index.now answer.now.unit answer.now.file) }
     ensures line { OnOk result (Appends (W.contents out.old) (W.contents out.new) (answer_line index.now position (Some answer.now))) }
 {
     print_answer(position, answer, out)?;
     match index.path_of(alloc, answer.unit, answer.file) {
         Ok(Some(path)) => writeln!(out, " path {}", Quoted(&path))?,
-        // Never for a file that a row of a good section names; the index's invariant doesn't say so.
-        Ok(None) => writeln!(out)?,
+        Ok(None) => unreachable!(),
         Err(_) => return Err(Halt::Memory),
     }
     Ok(())

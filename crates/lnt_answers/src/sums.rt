@@ -1,9 +1,10 @@
 //! Prints whether files have the MD5 sums that are listed for them.
-ghost use Rattle.std.specs.Prelude.{◌≡◌, ◌++◌, IfErr, IfOk, OnErr, OnOk, codes};
+ghost use Rattle.std.specs.Prelude.{◌≡◌, ◌<◌, ◌++◌, IfErr, IfOk, OnErr, OnOk, codes};
 ghost use Rattle.std.specs.Io.KnownBytes.{Appends};
 ghost use Rattle.lnt_output.specs.Fronts.{HasBegun};
 ghost use Rattle.lnt_sources.specs.Files.{TellsNoMore};
 ghost use Rattle.lnt_sources.specs.Halts.{IsPrinting};
+ghost use Rattle.lnt_lines.specs.Indexed.{file_count_in};
 ghost use Rattle.lnt_text.specs.Quotes.{quoted_text};
 ghost use Rattle.lnt_answers.specs.SumLines.{AreSumsTold, IsTrueOfFile, both, found_status, found_text, head_text};
 ghost use Rattle.lnt_answers.specs.SumLines.{listed_at, listed_files, listed_in};
@@ -72,7 +73,8 @@ fn print_unit_sums<O: Opener, W: Write>(
     Ok(status)
 }
 
-// Prints the line of a file, where a sum is listed for it. The line is made in `room` first, whose old contents are dropped.
+// Prints the line of a file that the unit has, where a sum is listed for it. The line is made in `room` first, whose old contents
+// are dropped.
 fn print_sum<O: Opener, W: Write>(
     alloc: Global,
     index: &Index<'_>,
@@ -82,6 +84,7 @@ fn print_sum<O: Opener, W: Write>(
     room: &mut Vec<u8>,
     out: &mut W,
 ) -> Result<Status, Halt>
+    requires { file < file_count_in index.now unit }
     ensures err { IfErr result IsPrinting }
     ensures later { OnOk result (TellsNoMore (O.tells opener.old) (O.tells opener.new)) }
     ensures sum { IfOk result (λ status. AreSumsTold (O.tells opener.old) index.now (listed_at index.now unit file)

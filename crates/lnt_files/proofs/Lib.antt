@@ -1,4 +1,5 @@
 pub mod KeptLemmas
+pub mod PathLaws
 pub mod PathLemmas
 pub mod EntryLemmas
 pub mod WalkLemmas

@@ -26,7 +26,7 @@ either_some true x o h = refl
 either_some false x o h = h
 
 -- the value of an element that is there
-element_there : {X Y : Type 0} (f : X → Option Y) (xs : List X) (n : ℕ) → AllByRecursion (λ x. IsSome (f x)) xs → n < length xs
+pub element_there : {X Y : Type 0} (f : X → Option Y) (xs : List X) (n : ℕ) → AllByRecursion (λ x. IsSome (f x)) xs → n < length xs
     → IsSome (option_and_then f (slice_get xs n))
 element_there f [] n h lt = absurd (omega arith)
 element_there f (x ∷ xs) zero h lt = h.0
@@ -68,7 +68,7 @@ each_there line general h [] have p d = tt
 each_there line general h (file ∷ files) have p d =
     (file_there line general h file have p.0 d.0, each_there line general h files have p.1 d.1)
 
-files_there : (line general : List ℕ) (h : HeaderParts) → AreUsableTables line general h
+pub files_there : (line general : List ℕ) (h : HeaderParts) → AreUsableTables line general h
     → AllByRecursion (λ file. IsSome (file_path line general h file)) h.files
 files_there line general h usable = each_there line general h h.files (texts_there line general h usable) usable.files.paths usable.numbers
 

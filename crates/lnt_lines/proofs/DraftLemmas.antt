@@ -15,7 +15,7 @@ use Rattle.lnt_sequences.proofs.UnitLaws.{distinct_sequences, offsets_differ, or
 use Rattle.std.specs.List.Sorted.{IsPermutation}
 use Rattle.lnt_sequences.specs.declared.extent.Extent.{Extent}
 use Rattle.lnt_sequences.specs.Extents.{AreSettled, extents_of}
-use Rattle.lnt_sequences.specs.Rules.{AreApart, AreDistinct, AreOrdered}
+use Rattle.lnt_sequences.specs.Rules.{AreApart, AreDistinct, AreOrdered, HaveFiles}
 use Rattle.lnt_sequences.specs.Sequences.{kept_sequences, live_in, live_sequences}
 use Rattle.lnt_spans.proofs.EachTwoLaws.{pairs_cons, pairs_nil}
 use Rattle.lnt_lines.specs.declared.draft.Draft.{Draft}
@@ -109,6 +109,13 @@ usable_tables : (text general : List ℕ) (dead : Option ℕ) (units : List (ℕ
     → AllByRecursion (λ (unit : ℕ × Parts). AreUsableTables text general unit.1.header) units
 usable_tables text general dead [] all = tt
 usable_tables text general dead (unit ∷ units) all = (all.0.well_formed.tables, usable_tables text general dead units all.1)
+
+-- the rows of live sequences name files that are there
+pub named_files : (text general : List ℕ) (dead : Option ℕ) (units : List (ℕ × Parts))
+    → AllByRecursion (IsSoundUnit text general dead) units
+    → AllByRecursion (λ (unit : ℕ × Parts). HaveFiles (length unit.1.header.files) (live_in dead unit)) units
+named_files text general dead [] all = tt
+named_files text general dead (unit ∷ units) all = (all.0.files, named_files text general dead units all.1)
 
 -- the kept headers are those of the units
 pub kept_numbers : (units : List (ℕ × Parts)) (programs : List KeptProgram) → AllZip (λ unit kept. KeepsProgram kept unit.1) units programs

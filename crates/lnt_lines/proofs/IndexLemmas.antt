@@ -25,13 +25,13 @@ use Rattle.lnt_lines.specs.Cursors.{room_of}
 use Rattle.lnt_lines.specs.Indexed.{Indexed, IsIndexOf, IsSequenceIn}
 use Rattle.lnt_lines.proofs.PlaceLemmas.{place_found}
 
-offset_at : (units : List (ℕ × Parts)) (k : ℕ) (d : ℕ × Parts) → k < length units
+pub offset_at : (units : List (ℕ × Parts)) (k : ℕ) (d : ℕ × Parts) → k < length units
     → (get_or (map (λ (u : ℕ × Parts). u.0) units) k 0 ≡ (get_or units k d).0) × (k < length (map (λ (u : ℕ × Parts). u.0) units))
 offset_at [] k d few = absurd (omega arith)
 offset_at (unit ∷ units) zero d few = (refl, omega arith)
 offset_at (unit ∷ units) (suc k) d few = let more = offset_at units k d (omega arith) in (more.0, omega (arith, more.1))
 
-zip_at : {X Y : Type 0} (R : X → Y → Type 0) (xs : List X) (ys : List Y) (k : ℕ) (x : X) (y : Y) → AllZip R xs ys → k < length xs
+pub zip_at : {X Y : Type 0} (R : X → Y → Type 0) (xs : List X) (ys : List Y) (k : ℕ) (x : X) (y : Y) → AllZip R xs ys → k < length xs
     → R (get_or xs k x) (get_or ys k y) × (k < length ys)
 zip_at R [] ys k x y all few = absurd (omega arith)
 zip_at R (u ∷ xs) [] k x y all few = absurd all

@@ -16,8 +16,8 @@ use Rattle.lnt_files.specs.Tables.{AreUsableTables}
 use Rattle.lnt_sequences.specs.declared.extent.Extent.{Extent}
 use Rattle.lnt_sequences.specs.declared.sequence.SeqId.{SeqId}
 use Rattle.lnt_sequences.specs.Extents.{AreSettled, extents_of}
-use Rattle.lnt_sequences.specs.Rules.{AreApart, AreOrdered}
-use Rattle.lnt_sequences.specs.Sequences.{kept_sequences, live_sequences}
+use Rattle.lnt_sequences.specs.Rules.{AreApart, AreOrdered, HaveFiles}
+use Rattle.lnt_sequences.specs.Sequences.{kept_sequences, live_in, live_sequences}
 use Rattle.lnt_lines.specs.Contents.{AreRising}
 
 -- the bytes of .debug_line_str and of .debug_str, an entry for each sequence that holds something, and the offset and the
@@ -41,12 +41,14 @@ pub record IsIndexOf (dead : Option ℕ) (skip : Bool) (units : List (ℕ × Par
   pub programs : AllZip (λ unit kept. KeepsProgram kept unit.1) units index.programs
   pub tables : AllByRecursion (λ unit. AreUsableTables index.line index.general unit.1.header) units
 
--- It is that of some units, and the numbers of their headers are such as can be read.
+-- It is that of some units. The rows of their live sequences name files that are there, and the numbers of their headers are such as
+-- can be read.
 pub record IsIndex (index : Indexed) : Type 0 where
   pub dead : Option ℕ
   pub skip : Bool
   pub units : List (ℕ × Parts)
   pub index_is : IsIndexOf dead skip units index
+  pub files : AllByRecursion (λ unit. HaveFiles (length unit.1.header.files) (live_in dead unit)) units
   pub numbers : AllByRecursion (λ kept. HasHeaderNumbers kept.header) index.programs
 
 -- ---- the files of units
@@ -64,7 +66,7 @@ file_count_in index unit = option_map_or (λ header. length header.files) (heade
 abbrev pub file_path_in : Indexed → ℕ → ℕ → Option (List ℕ)
 file_path_in index unit file = option_and_then (λ header. path_bytes index.line index.general header file) (header_in index unit)
 
--- what is written of a path in a field of a record; empty where there is none, but each file that a good section's rows name has one
+-- what is written of a path in a field of a record; empty where there is none, but each file that is counted has one
 abbrev pub path_or_empty : Option (List ℕ) → List ℕ
 path_or_empty (Some path) = path
 path_or_empty None = []

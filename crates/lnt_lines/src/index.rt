@@ -1,6 +1,6 @@
 //! What a good section answers, with its rows decoded again where they are asked for.
 ghost use Rattle.std.specs.Prelude.{◌≡◌, ◌+◌, ◌-◌, ◌^◌, ◌<◌, ◌≤◌, Bool, ℕ, List, length, Option, IfNone, IfOk, IfSome};
-ghost use Rattle.std.specs.Prelude.{IsSomeAnd, IsTrue};
+ghost use Rattle.std.specs.Prelude.{IsSome, IsSomeAnd, IsTrue};
 ghost use Rattle.std.specs.List.{All, AllByRecursion, AllZip};
 ghost use Rattle.std.specs.List.Sorted.{IsPermutation};
 ghost use Rattle.std.specs.Option.{option_map};
@@ -100,7 +100,8 @@ impl<'a> Index<'a> {
     }
 
     /// What is answered at the position: what the last row says that isn't above it, in the kept sequence that holds it;
-    /// none where none does. The rows of that sequence are decoded, and no others. It takes no memory.
+    /// none where none does. The file that an answer names has a path. The rows of that sequence are decoded, and no others. It
+    /// takes no memory.
     ///
     /// It compares the position with at most as many sequences as the number of those that hold anything has binary
     /// digits: `probes` rises by the comparisons. The caller sees to it that `probes` stands at 2^63 or below.
@@ -108,6 +109,7 @@ impl<'a> Index<'a> {
         requires { probes.old ≤ 2 ^ 63 }
         ensures answer { (dead : Option ℕ) (skip : Bool) (units : List (ℕ × Parts)) → IsIndexOf dead skip units self.now
             → result ≡ line_answer dead skip units position }
+        ensures named { IfSome result (λ answer. IsSome (file_path_in self.now answer.unit answer.file)) }
         ensures rises { probes.old ≤ probes.new }
         ensures counted { (digits : ℕ) → length self.now.entries < 2 ^ digits → probes.new ≤ probes.old + digits }
     {
@@ -171,7 +173,8 @@ impl<'a> Index<'a> {
     }
 
     /// The whole path of the file of the unit at this offset, made of its texts. None exactly where the file or the unit
-    /// isn't there. It refuses only where memory runs out.
+    /// isn't there, so never for a file below `file_count`. It refuses only where memory runs out.
+    #[tactic(auto, using(crate::proofs::NamedLemmas::counted_named))]
     pub fn path_of(
         &self,
         alloc: Global,
@@ -179,6 +182,7 @@ impl<'a> Index<'a> {
         file: u64,
     ) -> Result<Option<Vec<u8>>, AllocError>
         ensures path { IfOk result (λ path. option_map (λ path. path.items) path ≡ file_path_in self.now unit file) }
+        ensures there { file < file_count_in self.now unit → IsSome (file_path_in self.now unit file) }
     {
         let Some(header) = self.header_of(unit) else {
             return Ok(None);

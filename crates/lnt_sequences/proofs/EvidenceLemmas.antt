@@ -414,7 +414,7 @@ NoneFalls rows =
     (before : List Row) (row : Row) (after : List Row) → rows ≡ before ++ row ∷ after → (previous : Row) → last_row before ≡ Some previous
     → IsAtMost (position_of previous) (position_of row)
 
-last_row-push : (rows : List Row) (more : Row) → last_row (rows ++ more ∷ []) ≡ Some more
+pub last_row-push : (rows : List Row) (more : Row) → last_row (rows ++ more ∷ []) ≡ Some more
 last_row-push [] more = refl
 last_row-push (row ∷ rows) more = last_row_is row (rows ++ more ∷ []) ∙ ap Some (pushed row rows)
   where
@@ -607,7 +607,7 @@ fall_is_not_ordered dead ss index fall ordered =
     let here : IsOrdered fall.placed.rows = live_one (λ (p : Placed). IsOrdered p.rows) dead s.earlier s.later fall.placed fall.live all in
     not_both fall.falls (in_turn fall.before fall.row s.after fall.previous fall.previous_is (subst IsOrdered s.rows_are here))
 
-each_at : (P : Row → Type 0) (before : List Row) (row : Row) (after : List Row) → AllByRecursion P (before ++ row ∷ after) → P row
+pub each_at : (P : Row → Type 0) (before : List Row) (row : Row) (after : List Row) → AllByRecursion P (before ++ row ∷ after) → P row
 each_at P before row after h = (all_back P before (row ∷ after) h).0
 
 pub missing_file_is_not_there : MissingFileIsNotThere

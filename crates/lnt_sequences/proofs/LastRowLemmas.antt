@@ -21,10 +21,10 @@ use Rattle.lnt_sequences.proofs.RowLemmas.{holds_some, row_at_cons}
 
 -- ---- the last row
 
-abbrev AreAbove : Position → List Row → Type 0
+abbrev pub AreAbove : Position → List Row → Type 0
 AreAbove p rows = AllByRecursion (λ later. IsBelow p (position_of later)) rows
 
-last_found : (p : Position) (rows : List Row) → MatchOption (row_at p rows) (AreAbove p rows) (IsLastAt p rows)
+pub last_found : (p : Position) (rows : List Row) → MatchOption (row_at p rows) (AreAbove p rows) (IsLastAt p rows)
 last_found p [] = tt
 last_found p (row ∷ rows) =
     subst (λ (o : Option Row). MatchOption o (AreAbove p (row ∷ rows)) (IsLastAt p (row ∷ rows))) (sym (row_at_cons p row rows))

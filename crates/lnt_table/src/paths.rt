@@ -33,7 +33,7 @@ impl<'i, 'a> Paths for IndexPaths<'i, 'a> {
     fn path_of(&self, alloc: Global, unit: u64, file: u64) -> Result<Vec<u8>, AllocError> {
         match self.index.path_of(alloc, unit, file)? {
             Some(path) => Ok(path),
-            // Never for a file that a row of a good section names; the index's invariant doesn't say so.
+            // Of numbers that no answer of the index has: then no such file is there (`path_at`).
             None => Ok(Vec::new(alloc)),
         }
     }

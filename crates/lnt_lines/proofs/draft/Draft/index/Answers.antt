@@ -1,5 +1,5 @@
 use Rattle.lnt_sequences.specs.Sequences.{live_sequences}
-use Rattle.lnt_lines.proofs.DraftLemmas.{index_of_draft, kept_numbers}
+use Rattle.lnt_lines.proofs.DraftLemmas.{index_of_draft, kept_numbers, named_files}
 use Rattle.lnt_lines.proofs.draft.Draft.index.Goals as goal
 
 pub entries-requires : goal.entries-requires
@@ -17,6 +17,7 @@ of-requires c =
       index_is = index_of_draft c.args.strings.now.line.now c.args.strings.now.general.now known.dead c.args.skip_copies known.units
           c.args.self c.in_ok-entries.entries.items known.draft_is known.rising
           done.settled (done.entries sequences known.draft_is.collects) (done.apart sequences known.draft_is.collects);
+      files = named_files c.args.strings.now.line.now c.args.strings.now.general.now known.dead known.units known.draft_is.sound;
       numbers = kept_numbers known.units c.args.self.programs.items known.draft_is.programs known.numbers;
     }
 
