@@ -1,5 +1,5 @@
-//! The headers of DWARF 5 line number units, and the operations that they admit. The crate `lnt_header_bytes` reads and
-//! writes headers.
+//! The headers of DWARF 5 line number units, and the operations that they admit. The crate `lnt_header_bytes` reads headers,
+//! and `lnt_header_encode` writes them.
 #![tactic(auto)]
 
 mod fault;

@@ -24,7 +24,7 @@ use Rattle.lnt_header.specs.HeaderRules.{IsAddressSize, IsHeader}
 use Rattle.lnt_header.specs.Joins.{Each, Several}
 use Rattle.lnt_header_bytes.proofs.BorrowedLaws.{all_found, entries_found, header_without_entries}
 use Rattle.lnt_header_bytes.specs.TableBytes.{PairBytes, EntryBytes, TableOf}
-use Rattle.lnt_header_bytes.proofs.Allowed.{found_header}
+use Rattle.lnt_header_bytes.proofs.AllowedLaws.{found_header}
 use Rattle.lnt_header_bytes.proofs.DecodeLemmas.{fields_found}
 use Rattle.lnt_header_bytes.proofs.HeaderReaders.{reads_fields}
 use Rattle.lnt_header_bytes.proofs.PassedLaws.{several_there}

@@ -1,25 +1,8 @@
--- What is spelled is read again, whatever follows: no spelling begins another, and each spells one value. And what is allowed is
--- spelled.
-use Rattle.std.specs.Prelude.{◌≡◌, ℕ, List}
-use Rattle.lnt_wire.specs.declared.format.Format.TheVariants.{D64}
+-- What is spelled is read again, whatever follows: no spelling begins another, and each spells one value.
 use Rattle.lnt_wire.specs.declared.format.Order.{Order}
 use Rattle.lnt_wire.specs.Bytes.{IsCode}
-use Rattle.lnt_wire.specs.Spelled.{HasShortest}
-use Rattle.lnt_header.specs.declared.header.HeaderParts.{HeaderParts}
-use Rattle.lnt_header_bytes.specs.HeaderBytes.{HeaderBytes, HeaderBytesIn, HeaderFieldsBytes}
-use Rattle.lnt_header.specs.HeaderRules.{IsHeader}
-use Rattle.lnt_header_bytes.specs.Spelled.{FitsFields, HasSmallOffsets, LengthsFit}
+use Rattle.lnt_header_bytes.specs.HeaderBytes.{HeaderBytesIn}
 
 -- headers with the bytes of their programs
 abbrev pub OneHeader : Type 0
 OneHeader = (order : Order) → IsCode (HeaderBytesIn order)
-
--- A header that `Header::new` allows is spelled by some bytes, with a program, exactly where the format can say its offsets and its
--- length. In the 64-bit format no offset is too large.
-pub record AllowedHeaderIsSpelled : Type 0 where
-  pub fields : (h : HeaderParts) → IsHeader h → FitsFields h → HasSmallOffsets h → HasShortest HeaderFieldsBytes h
-  pub unit : (h : HeaderParts) (program : List ℕ) → IsHeader h → FitsFields h → HasSmallOffsets h → LengthsFit h program
-      → (bytes : List ℕ) × HeaderBytes h program bytes
-  pub allowed : (h : HeaderParts) (program bytes : List ℕ) → HeaderBytes h program bytes
-      → IsHeader h × FitsFields h × HasSmallOffsets h × LengthsFit h program
-  pub wide : (h : HeaderParts) → h.format ≡ D64 → HasSmallOffsets h

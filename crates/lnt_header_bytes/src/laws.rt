@@ -1,5 +1,5 @@
 //! Laws of the format, each the contract of a function without parameters that does nothing.
-ghost use Rattle.lnt_header_bytes.specs.Laws.{AllowedHeaderIsSpelled, OneHeader};
+ghost use Rattle.lnt_header_bytes.specs.Laws.{OneHeader};
 
 /// Under one byte order no header with its program begins another's bytes, and each spells one header and one
 /// program (DWARF 5, section 6.2.4). So decoding what was encoded gives it back, whatever follows.
@@ -7,13 +7,3 @@ ghost use Rattle.lnt_header_bytes.specs.Laws.{AllowedHeaderIsSpelled, OneHeader}
 pub fn one_header()
     ensures { OneHeader }
 {}
-
-/// Parts that `Header::new` allows are spelled by some bytes, with a program, exactly where their format can say each offset
-/// and the unit's length (DWARF 5, sections 6.2.4 and 7.4); and whatever header is spelled is allowed. In the 64-bit format
-/// no offset is too large.
-#[tactic(auto, using(crate::proofs::SpelledHeaders::allowed_is_spelled))]
-pub fn allowed_is_spelled()
-    ensures { AllowedHeaderIsSpelled }
-{
-    lnt_wire::laws::spelled_values();
-}

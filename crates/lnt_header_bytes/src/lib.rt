@@ -1,8 +1,8 @@
-//! The headers of DWARF 5 line number units as bytes: read, also with their entries left where they lie, kept, and written.
+//! The headers of DWARF 5 line number units as bytes: read, also with their entries left where they lie, and kept. The crate
+//! `lnt_header_encode` writes them.
 #![tactic(auto)]
 
 mod decode;
-mod encode;
 mod header_view;
 mod in_place;
 mod kept;
@@ -14,14 +14,11 @@ mod read_table;
 mod start;
 mod table;
 mod table_view;
-mod view_encode;
 
 pub use decode::decode_header;
-pub use encode::encode_header;
 pub use header_view::HeaderView;
 pub use in_place::{HeaderInPlace, view_header};
 pub use kept::KeptHeader;
 pub use marks::Marks;
 pub use read_table::EntriesInPlace;
 pub use table_view::EntryTableView;
-pub use view_encode::put_header_view;

@@ -1,9 +1,9 @@
 -- Units that are allowed have bytes, where their offsets and lengths fit their format.
 use Rattle.std.proofs.Common.{ℕ, List, length, arith}
 use Rattle.lnt_header_bytes.specs.HeaderBytes.{unit_body}
-use Rattle.lnt_header_bytes.specs.Laws as header
-use Rattle.lnt_header_bytes.proofs.ProgramLaws.{fits_less, length-body}
-use Rattle.lnt_header_bytes.specs.Spelled.{HasSmallOffsets}
+use Rattle.lnt_header_encode.specs.Laws as header
+use Rattle.lnt_header_encode.proofs.ProgramLaws.{fits_less, length-body}
+use Rattle.lnt_header_encode.specs.Spelled.{HasSmallOffsets}
 use Rattle.lnt_ops.specs.Laws as operations
 use Rattle.lnt_unit.specs.declared.unit.Parts.{Parts}
 use Rattle.lnt_unit.specs.Laws.{AllowedUnitIsSpelled}

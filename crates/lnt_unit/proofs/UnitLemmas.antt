@@ -14,7 +14,7 @@ use Rattle.lnt_header.specs.HeaderRules.{IsHeader}
 use Rattle.lnt_header.specs.HeaderTests.{IsFirstNot, IsPartsFault}
 use Rattle.lnt_header.specs.Joins.{Each}
 use Rattle.lnt_header.proofs.FirstLaws.{first_is_wrong}
-use Rattle.lnt_header_bytes.proofs.ProgramLaws.{shorter_program}
+use Rattle.lnt_header_encode.proofs.ProgramLaws.{shorter_program}
 use Rattle.lnt_header.specs.OpRules.{Admits}
 use Rattle.lnt_ops.specs.OpBytes.{OpBytes}
 use Rattle.lnt_unit.specs.declared.unit.Parts.{Parts}

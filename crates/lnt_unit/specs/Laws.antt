@@ -10,7 +10,7 @@ use Rattle.lnt_wire.specs.Frames.{EndsBy}
 use Rattle.lnt_header_bytes.specs.Borrowed.{without_entries}
 use Rattle.lnt_header.specs.HeaderRules.{IsHeader}
 use Rattle.lnt_header.specs.OpRules.{Admits, StandsFor}
-use Rattle.lnt_header_bytes.specs.Spelled.{HasSmallOffsets}
+use Rattle.lnt_header_encode.specs.Spelled.{HasSmallOffsets}
 use Rattle.lnt_header.specs.declared.op.Op.{Op}
 use Rattle.lnt_header.specs.declared.op.OpView.{OpView}
 use Rattle.lnt_ops.specs.Walks.{Ends, Fails, GivesOperation, Walk}

@@ -3,7 +3,7 @@ use Rattle.std.specs.Prelude.{ℕ, List}
 use Rattle.std.specs.List.{AllByRecursion}
 use Rattle.lnt_wire.specs.Bytes.{IsShortest}
 use Rattle.lnt_header.specs.Joins.{Each}
-use Rattle.lnt_header_bytes.specs.Spelled.{FitsFields, LengthsFit}
+use Rattle.lnt_header_encode.specs.Spelled.{FitsFields, LengthsFit}
 use Rattle.lnt_ops.specs.OpBytes.{OpBytes}
 use Rattle.lnt_ops.specs.Spelled.{FitsOp}
 use Rattle.lnt_unit.specs.declared.unit.Parts.{Parts}

@@ -7,7 +7,8 @@ ghost use Rattle.lnt_unit.specs.ConvertedUnits.{ConvertsUnit, IsNextStop};
 ghost use Rattle.lnt_unit.specs.Stepping.{ConvertsBytes, IsToldAs, IsUnitStop, JudgesUnit};
 
 use crate::convert::ConvertFault;
-use lnt_header_bytes::{HeaderInPlace, put_header_view, view_header};
+use lnt_header_bytes::{HeaderInPlace, view_header};
+use lnt_header_encode::put_header_view;
 use lnt_ops::convert_ops;
 use lnt_wire::{Cursor, EncodeFault, Fault, Format, Frame, Order, Reason, take_frame};
 use std::alloc::Global;

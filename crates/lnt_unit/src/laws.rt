@@ -30,7 +30,7 @@ pub fn one_true_fault()
 pub fn allowed_is_spelled()
     ensures { AllowedUnitIsSpelled }
 {
-    lnt_header_bytes::laws::allowed_is_spelled();
+    lnt_header_encode::laws::allowed_is_spelled();
     lnt_ops::laws::allowed_ops_are_spelled();
 }
 

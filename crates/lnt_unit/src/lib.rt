@@ -18,7 +18,8 @@ pub use in_place::UnitInPlace;
 pub use lnt_header::{
     Entry, EntryTable, Header, HeaderParts, Op, OpView, Operands, Pair, UnitFault,
 };
-pub use lnt_header_bytes::{HeaderInPlace, HeaderView, KeptHeader, decode_header, encode_header};
+pub use lnt_header_bytes::{HeaderInPlace, HeaderView, KeptHeader, decode_header};
+pub use lnt_header_encode::encode_header;
 pub use lnt_lists::ShortList;
 pub use lnt_ops::Ops;
 pub use lnt_stream::{Progress, SectionReader, SectionStop, UnitBuffer};

@@ -1,0 +1,5 @@
+pub mod EncodeLemmas
+pub mod LargeLemmas
+pub mod ProgramLaws
+pub mod SpelledHeaders
+pub mod ViewPutLemmas

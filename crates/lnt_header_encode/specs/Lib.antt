@@ -1,0 +1,4 @@
+pub mod HeaderPuts
+pub mod Large
+pub mod Laws
+pub mod Spelled
