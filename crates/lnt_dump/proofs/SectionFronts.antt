@@ -14,14 +14,15 @@ use Rattle.lnt_header.specs.Joins.{Each}
 use Rattle.lnt_sources.specs.declared.halt.Halt.{Halt}
 use Rattle.lnt_sources.specs.declared.status.Status.{Status}
 use Rattle.lnt_sources.specs.declared.status.Status.TheVariants.{No}
-use Rattle.lnt_unit.specs.ConvertedUnits.{Converts}
-use Rattle.lnt_unit.specs.Stepping.{ConvertedTo}
-use Rattle.lnt_unit.specs.Converting.{unit_in_format, units_in_format, IsConverted, IsConvertFault}
-use Rattle.lnt_unit.proofs.ConvertedLaws.{whole_converted}
+use Rattle.lnt_unit_encode.specs.ConvertedUnits.{Converts}
+use Rattle.lnt_unit_encode.specs.Stepping.{ConvertedTo}
+use Rattle.lnt_unit.specs.Converting.{unit_in_format, units_in_format, IsConverted}
+use Rattle.lnt_unit_encode.specs.ConvertFaults.{IsConvertFault}
+use Rattle.lnt_unit_encode.proofs.ConvertedLaws.{whole_converted}
 use Rattle.lnt_unit.proofs.UnitLaws.{one_spelling, unit_is_some}
 use Rattle.lnt_unit.specs.UnitBytes.{SectionBytes, UnitBytesIn, UnitsFrom}
-use Rattle.lnt_unit.specs.declared.convert.ConvertFault.{ConvertFault}
-use Rattle.lnt_unit.specs.declared.convert.ConvertFault.TheVariants.{Malformed, Memory, TooLarge}
+use Rattle.lnt_unit_encode.specs.declared.convert.ConvertFault.{ConvertFault}
+use Rattle.lnt_unit_encode.specs.declared.convert.ConvertFault.TheVariants.{Malformed, Memory, TooLarge}
 use Rattle.lnt_unit.specs.declared.unit.Parts.{Parts}
 use Rattle.lnt_dump.specs.Printed.{IsConversionBegun, refusal_text}
 use Rattle.lnt_dump.specs.Stepping.{IsFrontIn}

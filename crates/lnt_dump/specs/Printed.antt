@@ -6,10 +6,11 @@ use Rattle.lnt_sources.specs.declared.status.Status.{Status}
 use Rattle.lnt_sources.specs.declared.status.Status.TheVariants.{Done, No}
 use Rattle.lnt_wire.specs.declared.format.Format.{Format}
 use Rattle.lnt_wire.specs.declared.format.Order.{Order}
-use Rattle.lnt_unit.specs.Converting.{IsConverted, IsConvertFault}
-use Rattle.lnt_unit.specs.declared.convert.ConvertFault.{ConvertFault}
-use Rattle.lnt_unit.specs.declared.convert.ConvertFault.TheVariants.{Malformed, TooLarge, Memory}
-use Rattle.lnt_unit.specs.FaultTexts.{convert_fault_text}
+use Rattle.lnt_unit.specs.Converting.{IsConverted}
+use Rattle.lnt_unit_encode.specs.ConvertFaults.{IsConvertFault}
+use Rattle.lnt_unit_encode.specs.declared.convert.ConvertFault.{ConvertFault}
+use Rattle.lnt_unit_encode.specs.declared.convert.ConvertFault.TheVariants.{Malformed, TooLarge, Memory}
+use Rattle.lnt_unit_encode.specs.FaultTexts.{convert_fault_text}
 use Rattle.lnt_text.specs.Texts.{malformed_text}
 
 -- a writer that held these bytes has gained such a text, and nothing else

@@ -10,7 +10,7 @@ use Rattle.lnt_ops.specs.OpBytes.{OpBytes}
 use Rattle.lnt_unit.specs.declared.unit.Parts.{Parts}
 use Rattle.lnt_unit.specs.UnitBytes.{UnitBytesIn}
 use Rattle.lnt_unit.proofs.UnitLaws.{header_of}
-use Rattle.lnt_unit.proofs.UnitReaders.{program_within}
+use Rattle.lnt_unit.proofs.ReadLaws.{program_within}
 
 -- each operation is spelled by a byte or more
 pub few_ops : (h : HeaderParts) (ops : List Op) (program : List ℕ) → Each (OpBytes h) ops program → length ops ≤ length program

@@ -2,7 +2,6 @@
 -- over a unit and over a section say.
 use Rattle.std.specs.Prelude.{◌≡◌, ◌⊎◌, ◌≤◌, ℕ, List, [], ◌∷◌, ◌++◌, length, false, Some}
 use Rattle.std.specs.List.{AllByRecursion, AllZip}
-use Rattle.lnt_wire.specs.declared.format.Format.TheVariants.{D64}
 use Rattle.lnt_wire.specs.declared.format.Order.{Order}
 use Rattle.lnt_wire.specs.declared.fault.Fault.{Fault}
 use Rattle.lnt_wire.specs.Bytes.{IsCode}
@@ -10,16 +9,13 @@ use Rattle.lnt_wire.specs.Frames.{EndsBy}
 use Rattle.lnt_header_bytes.specs.Borrowed.{without_entries}
 use Rattle.lnt_header.specs.HeaderRules.{IsHeader}
 use Rattle.lnt_header.specs.OpRules.{Admits, StandsFor}
-use Rattle.lnt_header_encode.specs.Spelled.{HasSmallOffsets}
 use Rattle.lnt_header.specs.declared.op.Op.{Op}
 use Rattle.lnt_header.specs.declared.op.OpView.{OpView}
 use Rattle.lnt_ops.specs.Walks.{Ends, Fails, GivesOperation, Walk}
 use Rattle.lnt_stream.specs.Units as stream
 use Rattle.lnt_unit.specs.declared.unit.Parts.{Parts}
 use Rattle.lnt_unit.specs.BrokenUnits.{BrokenSection, BrokenUnit, IsTrueFault}
-use Rattle.lnt_unit.specs.Spelled.{FitsUnit, UnitLengthsFit}
-use Rattle.lnt_unit.specs.UnitBytes.{UnitBytes, UnitBytesIn, SectionBytes}
-use Rattle.lnt_unit.specs.UnitRules.{IsUnit}
+use Rattle.lnt_unit.specs.UnitBytes.{UnitBytesIn, SectionBytes}
 use Rattle.lnt_unit.specs.Views.{IsUnitView, View, with_ops}
 
 -- units
@@ -39,17 +35,6 @@ pub record OneTrueFault : Type 0 where
       → fault ≡ other
   pub units : (order : Order) (section : List ℕ) (fault other : Fault) → (one : IsTrueFault order fault section)
       → (two : IsTrueFault order other section) → one.units ≡ two.units
-
--- ---- what is allowed is spelled
-
--- A unit that `Unit::new` allows is spelled by some bytes exactly where its format can say its offsets and its length. In the 64-bit
--- format no offset is too large.
-pub record AllowedUnitIsSpelled : Type 0 where
-  pub spelled : (unit : Parts) → IsUnit unit → FitsUnit unit → HasSmallOffsets unit.header → UnitLengthsFit unit → (bytes : List ℕ)
-      × UnitBytes unit bytes
-  pub allowed : (unit : Parts) (bytes : List ℕ) → UnitBytes unit bytes → IsUnit unit × FitsUnit unit × HasSmallOffsets unit.header
-      × UnitLengthsFit unit
-  pub wide : (unit : Parts) → unit.header.format ≡ D64 → HasSmallOffsets unit.header
 
 -- ---- whole walks
 

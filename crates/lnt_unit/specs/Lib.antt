@@ -1,11 +1,7 @@
 pub mod BrokenUnits
-pub mod ConvertedUnits
 pub mod Converting
-pub mod FaultTexts
 pub mod Laws
-pub mod Spelled
 pub mod Stepping
-pub mod TooLong
 pub mod UnitBytes
 pub mod UnitRules
 pub mod UnitTests

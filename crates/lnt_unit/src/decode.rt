@@ -18,7 +18,7 @@ use std::alloc::Global;
 /// of the field at fault, which is the unit's own where its initial length is cut, is reserved, or counts more bytes
 /// than are left. Where a header with a program is there, the fault is that of the program's first operation that
 /// isn't there (`read_ops`). After a refusal the cursor is as it was.
-#[tactic(auto, using(crate::proofs::UnitReaders::frame_placed, crate::proofs::UnitReaders::frame_end, crate::proofs::UnitReaders::unit_read))]
+#[tactic(auto, using(crate::proofs::ReadLaws::frame_placed, crate::proofs::ReadLaws::frame_end, crate::proofs::ReadLaws::unit_read))]
 pub fn decode_unit(alloc: Global, cursor: &mut Cursor<'_>, order: Order) -> Result<Unit, Fault>
     requires { cursor.old.order ≡ order }
     ensures ok { IfOk result (λ unit. Reads (UnitBytesIn order) unit cursor.old cursor.new) }
@@ -51,7 +51,7 @@ fn unit_of(alloc: Global, frame: &Frame<'_>, end: u64, order: Order) -> Result<U
 ///
 /// It refuses with `Memory`, and else only where no units spell the section, with the fault of the first unit that
 /// isn't there: `decode_unit`'s at the offset after those before it.
-#[tactic(auto, using(crate::proofs::SectionLemmas::no_units, crate::proofs::SectionLemmas::one_more_unit, crate::proofs::SectionLemmas::unit_long, crate::proofs::SectionLemmas::all_units))]
+#[tactic(auto, using(crate::proofs::SectionLaws::no_units, crate::proofs::SectionLaws::one_more_unit, crate::proofs::SectionLaws::unit_long, crate::proofs::SectionLaws::all_units))]
 pub fn decode_section(alloc: Global, bytes: &[u8], order: Order) -> Result<Vec<(u64, Unit)>, Fault>
     ensures ok { IfOk result (λ units. SectionBytes order units.items bytes.now) }
     ensures err { IfErr result (λ fault. fault.reason ≢ Reason.Memory → BrokenSection order fault bytes.now) }

@@ -1,5 +1,5 @@
 //! Laws of the format, each the contract of a function without parameters that does nothing.
-ghost use Rattle.lnt_unit.specs.Laws.{AllowedUnitIsSpelled, FaultOfSection, OneSection, OneSpelling, OneTrueFault, WholeWalk};
+ghost use Rattle.lnt_unit.specs.Laws.{FaultOfSection, OneSection, OneSpelling, OneTrueFault, WholeWalk};
 
 pub use lnt_header_bytes::laws::one_header;
 
@@ -22,17 +22,6 @@ pub fn one_section()
 pub fn one_true_fault()
     ensures { OneTrueFault }
 {}
-
-/// Parts that `Unit::new` allows are spelled by some bytes exactly where their format can say each offset and the unit's
-/// length (DWARF 5, sections 6.2.4 and 7.4); and whatever unit is spelled is allowed. In the 64-bit format no offset is too
-/// large.
-#[tactic(auto, using(crate::proofs::SpelledUnits::allowed_is_spelled))]
-pub fn allowed_is_spelled()
-    ensures { AllowedUnitIsSpelled }
-{
-    lnt_header_encode::laws::allowed_is_spelled();
-    lnt_ops::laws::allowed_ops_are_spelled();
-}
 
 /// What the operations of a unit in a buffer are, from first to last, as `UnitView::ops` and `UnitInPlace::ops` give them
 /// one by one (DWARF 5, section 6.2.5). They stand for operations that the header admits, no more than the program has

@@ -1,25 +1,18 @@
-//! The units of DWARF 5 line number sections: headers and operations, read and written.
+//! The units of DWARF 5 line number sections: headers and operations, read. The crate `lnt_unit_encode` writes them.
 #![tactic(auto)]
 
-mod convert;
-mod converting;
 mod decode;
-mod encode;
 mod in_place;
 pub mod laws;
 mod unit;
 mod view;
 
-pub use convert::{ConvertFault, convert_section, judge_conversion};
-pub use converting::convert_unit;
 pub use decode::{decode_section, decode_unit};
-pub use encode::encode_unit;
 pub use in_place::UnitInPlace;
 pub use lnt_header::{
     Entry, EntryTable, Header, HeaderParts, Op, OpView, Operands, Pair, UnitFault,
 };
 pub use lnt_header_bytes::{HeaderInPlace, HeaderView, KeptHeader, decode_header};
-pub use lnt_header_encode::encode_header;
 pub use lnt_lists::ShortList;
 pub use lnt_ops::Ops;
 pub use lnt_stream::{Progress, SectionReader, SectionStop, UnitBuffer};

@@ -1,7 +1,8 @@
 use crate::worked::{joined, unit_of};
 use lnt_samples::{PLAIN, Pieces, WIDE};
 use lnt_stream::{SectionReader, UnitBuffer};
-use lnt_unit::{Unit, UnitView, convert_section, decode_section, encode_unit};
+use lnt_unit::{Unit, UnitView, decode_section};
+use lnt_unit_encode::{convert_section, encode_unit};
 use lnt_wire::{Counted, Format, Order};
 use std::alloc::Global;
 

@@ -2,7 +2,7 @@ use Rattle.std.proofs.Common.{◌≡◌, ◌<◌, ◌++◌, ℕ, List, length, s
 use Rattle.std.proofs.lemmas.Bool.{eqb-false, eqb-true}
 use Rattle.std.specs.Io.KnownBytes.{Appends}
 use Rattle.lnt_output.specs.Fronts.{AppendsFront}
-use Rattle.lnt_unit.proofs.ConvertedLaws.{stops_by_memory}
+use Rattle.lnt_unit_encode.proofs.ConvertedLaws.{stops_by_memory}
 use Rattle.lnt_output.proofs.FrontLaws.{so_stopped}
 use Rattle.lnt_dump.proofs.SectionFronts.{section_cut, section_stopped}
 use Rattle.lnt_dump.proofs.Sections.{section_more, section_handed_on, section_printed}

@@ -3,7 +3,7 @@ use Rattle.std.proofs.lemmas.Grind.{common_steps}
 use Rattle.std.proofs.lemmas.Result.{err_from_is_err_and}
 use Rattle.lnt_wire.specs.declared.fault.Reason.TheVariants.{Memory}
 use Rattle.lnt_unit.specs.BrokenUnits.{BrokenSection}
-use Rattle.lnt_unit.proofs.SectionLemmas.{all_units, section_broken}
+use Rattle.lnt_unit.proofs.SectionLaws.{all_units, section_broken}
 use Rattle.lnt_unit.proofs.decode.decode_section.Goals as goal
 
 pub returns-in_err-unit-clause-err : goal.returns-in_err-unit-clause-err

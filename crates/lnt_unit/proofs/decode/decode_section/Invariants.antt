@@ -1,5 +1,5 @@
 use Rattle.std.proofs.Common.{length}
-use Rattle.lnt_unit.proofs.SectionLemmas.{UnitsSoFar}
+use Rattle.lnt_unit.proofs.SectionLaws.{UnitsSoFar}
 use Rattle.lnt_unit.proofs.decode.decode_section.Given as goal
 
 abbrev pub invariant-loop-cursor : goal.invariant-loop-cursor

@@ -2,7 +2,7 @@ use Rattle.std.proofs.Common.{◌≢◌, ◌∙◌}
 use Rattle.std.proofs.lemmas.Result.{err_from_is_err_and}
 use Rattle.lnt_wire.specs.declared.fault.Reason.TheVariants.{Memory}
 use Rattle.lnt_unit.specs.BrokenUnits.{BrokenUnit}
-use Rattle.lnt_unit.proofs.UnitReaders.{StandsAt, no_frame, frame_without_unit}
+use Rattle.lnt_unit.proofs.ReadLaws.{StandsAt, no_frame, frame_without_unit}
 use Rattle.lnt_unit.proofs.decode.decode_unit.Goals as goal
 
 pub returns-in_err-frame-clause-err : goal.returns-in_err-frame-clause-err

@@ -4,7 +4,7 @@ use Rattle.lnt_wire.specs.FrameBytes.{frame_bytes}
 use Rattle.lnt_wire.specs.declared.fault.Reason.TheVariants.{Memory}
 use Rattle.lnt_unit.specs.BrokenUnits.{BrokenUnit}
 use Rattle.lnt_unit.proofs.BrokenLaws.{header_broken, ops_broken}
-use Rattle.lnt_unit.proofs.UnitReaders.{program_within}
+use Rattle.lnt_unit.proofs.ReadLaws.{program_within}
 use Rattle.lnt_unit.proofs.UnitLaws.{unit_found}
 use Rattle.lnt_unit.proofs.decode.unit_of.Goals as goal
 

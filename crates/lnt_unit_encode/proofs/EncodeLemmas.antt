@@ -1,0 +1,72 @@
+-- Units by their parts, written.
+use Rattle.std.proofs.Common.{◌≡◌, ap, ◌∙◌, Vec, Global, ℕ, List, [], ◌++◌, sym, subst, arith}
+use Rattle.std.specs.Prelude.{Result, Ok, Err, IfOk, IfErr}
+use Rattle.lnt_wire.specs.declared.format.Order.{Order}
+use Rattle.lnt_wire.specs.declared.put.EncodeFault.{EncodeFault}
+use Rattle.lnt_wire.specs.Bytes.{IsShortest, Appends}
+use Rattle.lnt_header.specs.declared.header.HeaderParts.{HeaderParts}
+use Rattle.lnt_header.specs.declared.op.Op.{Op}
+use Rattle.lnt_header.specs.Encoding.{RefusedPut}
+use Rattle.lnt_header_bytes.specs.HeaderBytes.{HeaderBytesIn}
+use Rattle.lnt_header.specs.Joins.{Each}
+use Rattle.lnt_header_encode.proofs.ProgramLaws.{shorter_program}
+use Rattle.lnt_ops.specs.OpBytes.{OpBytes}
+use Rattle.lnt_unit.specs.declared.unit.Parts.{Parts}
+use Rattle.lnt_unit.specs.UnitBytes.{UnitBytesIn}
+
+-- the shortest program gives the shortest unit
+pub unit_put : (order : Order) (unit : Parts) (program bytes : List ℕ) → IsShortest (Each (OpBytes unit.header)) unit.ops program
+    → IsShortest (HeaderBytesIn order) (unit.header, program) bytes
+    → IsShortest (UnitBytesIn order) unit bytes
+unit_put order unit program bytes p q = record {
+  spelled = record {
+    order_is = q.spelled.order_is;
+    spelled = record { program = program; operations = p.spelled; whole = q.spelled.spelled };
+  };
+  shortest = λ other t.
+      let u = t.spelled in
+      let less = shorter_program order unit.header program u.program other (p.shortest u.program u.operations)
+      (record { order_is = t.order_is; spelled = u.whole }) in
+      omega (arith, less.no_longer, q.shortest less.bytes less.spelled);
+}
+
+-- where the shortest program has no unit, no program has one
+pub unit_refused : (order : Order) (unit : Parts) (program : List ℕ) (fault : EncodeFault)
+    → IsShortest (Each (OpBytes unit.header)) unit.ops program → RefusedPut (HeaderBytesIn order) (unit.header, program) fault
+    → RefusedPut (UnitBytesIn order) unit fault
+unit_refused order unit program fault p refused = record {
+  none = λ large bytes t.
+      let u = t.spelled in
+      let less = shorter_program order unit.header program u.program bytes (p.shortest u.program u.operations)
+      (record { order_is = t.order_is; spelled = u.whole }) in
+      refused.none large less.bytes less.spelled;
+}
+
+-- the operations of a unit, put into an empty vector
+pub record Program (unit : Parts) (header : HeaderParts) (program : List ℕ) : Type 0 where
+  pub header_is : header ≡ unit.header
+  pub put : IsShortest (Each (OpBytes unit.header)) unit.ops program
+
+pub program_put : (unit : Parts) (header : HeaderParts) (ops : List Op) (old new program : List ℕ) → header ≡ unit.header → ops ≡ unit.ops
+    → old ≡ [] → Appends (Each (OpBytes header)) ops old new → program ≡ new → Program unit header program
+program_put unit header ops old new program same all none p is = record {
+  header_is = same;
+  put = rw (← same, ← all) (subst (IsShortest (Each (OpBytes header)) ops) (sym (is ∙ p.joined ∙ ap (λ (z : List ℕ). z ++ p.spelling) none))
+      p.spelled);
+}
+
+pub unit_written : (unit : Parts) (header : HeaderParts) (program : List ℕ) (r : Result (Vec ℕ Global) EncodeFault)
+    → Program unit header program → IfOk r (λ bytes. IsShortest (HeaderBytesIn header.order) (header, program) bytes.items)
+    → IfOk r (λ bytes. IsShortest (UnitBytesIn unit.header.order) unit bytes.items)
+unit_written unit header program (Ok bytes) p q =
+    unit_put unit.header.order unit program bytes.items p.put
+    (subst (λ (h : HeaderParts). IsShortest (HeaderBytesIn h.order) (h, program) bytes.items) p.header_is q)
+unit_written unit header program (Err fault) p q = q
+
+pub unit_not_written : (unit : Parts) (header : HeaderParts) (program : List ℕ) (r : Result (Vec ℕ Global) EncodeFault)
+    → Program unit header program → IfErr r (λ fault. RefusedPut (HeaderBytesIn header.order) (header, program) fault)
+    → IfErr r (λ fault. RefusedPut (UnitBytesIn unit.header.order) unit fault)
+unit_not_written unit header program (Ok bytes) p q = q
+unit_not_written unit header program (Err fault) p q =
+    unit_refused unit.header.order unit program fault p.put
+    (subst (λ (h : HeaderParts). RefusedPut (HeaderBytesIn h.order) (h, program) fault) p.header_is q)

@@ -1,0 +1,43 @@
+-- A unit that is converted, from the bytes in which it stands.
+use Rattle.std.specs.Prelude.{◌≡◌, ℕ, List}
+use Rattle.lnt_wire.specs.At.{At}
+use Rattle.lnt_wire.specs.Bytes.{Appends}
+use Rattle.lnt_wire.specs.Reading.{Reads}
+use Rattle.lnt_wire.specs.declared.format.Format.{Format}
+use Rattle.lnt_wire.specs.declared.format.Order.{Order}
+use Rattle.lnt_header.specs.Encoding.{NoSpelling}
+use Rattle.lnt_unit.specs.BrokenUnits.{BrokenUnit}
+use Rattle.lnt_unit.specs.Converting.{unit_in_format, IsConverted}
+use Rattle.lnt_unit.specs.UnitBytes.{UnitBytesIn}
+use Rattle.lnt_unit_encode.specs.declared.convert.ConvertFault.{ConvertFault}
+use Rattle.lnt_unit_encode.specs.declared.convert.ConvertFault.TheVariants.{Malformed, TooLarge, Memory}
+use Rattle.lnt_unit.specs.declared.unit.Parts.{Parts}
+
+-- ---- one unit
+
+-- The read moved past the bytes of a unit, and its shortest spelling in this format and order was added.
+pub record ConvertsUnit (order : Order) (format : Format) (to : Order) (old new : At) (text_old text_new : List ℕ) : Type 0 where
+  pub unit : Parts
+  pub read : Reads (UnitBytesIn order) unit old new
+  pub put : Appends (UnitBytesIn to) (unit_in_format unit format to) text_old text_new
+
+-- A unit begins the bytes that are left, which nothing spells in this format and order.
+pub record IsLargeUnit (order : Order) (format : Format) (to : Order) (at : At) : Type 0 where
+  pub unit : Parts
+  pub next : At
+  pub read : Reads (UnitBytesIn order) unit at next
+  pub none : NoSpelling (UnitBytesIn to) (unit_in_format unit format to)
+
+-- Why the unit at a cursor isn't converted: no unit begins the bytes that are left, or nothing spells the one that does in this format
+-- and order. Want of memory says nothing.
+abbrev pub IsNextStop : Order → Format → Order → At → ConvertFault → Type 0
+IsNextStop order format to at (Malformed fault) = BrokenUnit order fault at.place at.rest
+IsNextStop order format to at (TooLarge place) = (place ≡ at.place) × IsLargeUnit order format to at
+IsNextStop order format to at Memory = Unit {0}
+
+-- ---- units one after the other
+
+-- The section has a conversion to this format and order.
+pub record Converts (order : Order) (section : List ℕ) (format : Format) (to : Order) : Type 0 where
+  pub bytes : List ℕ
+  pub converted : IsConverted order section format to bytes

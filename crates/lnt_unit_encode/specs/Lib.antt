@@ -1,0 +1,7 @@
+pub mod ConvertFaults
+pub mod ConvertedUnits
+pub mod FaultTexts
+pub mod Laws
+pub mod Spelled
+pub mod Stepping
+pub mod TooLong
