@@ -90,7 +90,8 @@ unit_within dead unit =
 live_within : (dead : Option ℕ) (units : List (ℕ × Parts)) → length (spans_of (live_sequences dead units)) ≤ length (rows_of_units units)
 live_within dead [] = omega arith
 live_within dead (unit ∷ units) =
-    let both = flat_map-append (λ (placed : Placed). row_spans placed.id.unit placed.rows) (live_in dead unit) (live_sequences dead units) in
+    let both =
+    flat_map-append (λ (placed : Placed). row_spans placed.id.unit placed.rows) (live_in dead unit) (live_sequences dead units) in
     omega (
       arith,
       ap length both,

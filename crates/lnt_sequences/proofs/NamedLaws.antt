@@ -123,4 +123,5 @@ pub line_names : (Q : ℕ → ℕ → Type 0) (dead : Option ℕ) (skip : Bool) 
     → IfSome (line_answer dead skip units p) (λ (answer : Answer). Q answer.unit answer.file)
 line_names Q dead skip units p all =
     let kept = kept_sequences dead skip units in
-    answer_names Q p kept (recursion_from_All (Names Q p) kept (kept_names Q p skip (live_sequences dead units) (live_names Q p dead units all)))
+    let named = kept_names Q p skip (live_sequences dead units) (live_names Q p dead units all) in
+    answer_names Q p kept (recursion_from_All (Names Q p) kept named)

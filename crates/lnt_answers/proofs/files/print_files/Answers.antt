@@ -1,5 +1,6 @@
-use Rattle.std.proofs.Common.{rules, codes}
+use Rattle.std.proofs.Common.{rules, codes, arith}
 use Rattle.std.specs.List.{flat_map}
+use Rattle.std.proofs.lemmas.Grind.{elements}
 use Rattle.lnt_output.proofs.FrontLaws.{front_before, front_in_items, so_stopped}
 use Rattle.lnt_answers.proofs.FileLemmas.{gained_all, gained_more}
 use Rattle.lnt_answers.specs.FileLines.{unit_records}
@@ -28,3 +29,6 @@ returns-in_err-print_unit_files-clause-front g c =
     (front_in_items (unit_records c.args.index.now) (codes "unit,file,path,md5\n") c.args.index.now.units c.loop-unit.unit-index 0
     (g.W.Write.contents c.args.out.now) (g.W.Write.contents c.loop-unit.out) (g.W.Write.contents c.print_unit_files.new.out) (search rules)
     c.loop-unit.invariant (search rules))
+
+pub loop-unit-init : goal.loop-unit-init
+loop-unit-init g c = grind (arith, elements)

@@ -1,4 +1,5 @@
 use Rattle.std.proofs.Common.{arith, refl}
+use Rattle.std.proofs.lemmas.Grind.{common_steps}
 use Rattle.lnt_digits.specs.declared.radix.Radix.TheVariants.{Ten}
 use Rattle.lnt_digits.proofs.PutLemmas.{first_digit, two_digits_more, two_digits_room, written_all, written_first}
 use Rattle.lnt_digits.proofs.put.decimal_digits_before.Goals as goal
@@ -29,3 +30,12 @@ returns-clause-written c =
     (written_all Ten c.args.n c.args.end c.args.text.now _ _ 0 c.ranges.n.fits
     (first_digit c.args.n c.args.end c.args.text.now c.loop-left.text c.loop-left.start c.loop-left.left c.loop-left.invariant
     (omega (arith, c.if-left-eq0.false)) (omega (arith, c.loop-left-test.false))) refl)
+
+pub returns-clause-after : goal.returns-clause-after
+returns-clause-after c = grind (arith, common_steps)
+
+pub returns-clause-before : goal.returns-clause-before
+returns-clause-before c = grind (arith, common_steps)
+
+pub returns-then-left-eq0-clause-written : goal.returns-then-left-eq0-clause-written
+returns-then-left-eq0-clause-written c = grind (arith, common_steps)

@@ -1,11 +1,11 @@
-use Rattle.std.proofs.Common.{◌≡◌, ◌<◌, ◌++◌, ℕ, List, length, sym, ap, subst, ◌∙◌, arith}
+use Rattle.std.proofs.Common.{◌≡◌, ◌<◌, ◌++◌, ℕ, List, length, sym, ap, subst, ◌∙◌, arith, rules}
 use Rattle.std.proofs.lemmas.Bool.{eqb-false, eqb-true}
 use Rattle.std.specs.Io.KnownBytes.{Appends}
 use Rattle.lnt_output.specs.Fronts.{AppendsFront}
 use Rattle.lnt_unit_encode.proofs.ConvertedLaws.{stops_by_memory}
 use Rattle.lnt_output.proofs.FrontLaws.{so_stopped}
 use Rattle.lnt_dump.proofs.SectionFronts.{section_cut, section_stopped}
-use Rattle.lnt_dump.proofs.Sections.{section_more, section_handed_on, section_printed}
+use Rattle.lnt_dump.proofs.Sections.{section_more, section_handed_on, section_printed, section_begun, unit_long}
 use Rattle.lnt_dump.proofs.convert.print_section.Goals as goal
 
 pub loop-cursor-preserved-then-len-ge-PAGE : goal.loop-cursor-preserved-then-len-ge-PAGE
@@ -69,3 +69,9 @@ unreachable-requires g c =
     omega (arith, eqb-false _ _ (sym c.is_empty.ensures ∙ c.loop-cursor-test.true), ap length c.rest.ensures) in
     c.in_default.not-Memory (stops_by_memory c.args.order c.args.bytes.now c.args.format c.args.to at (so.done ++ c.loop-cursor.page.items)
     c.in-Err.stop c.requires so.so some c.in-Err.ensures.err)
+
+pub loop-cursor-smaller : goal.loop-cursor-smaller
+loop-cursor-smaller g c = search (rules, section_begun, section_handed_on, unit_long)
+
+pub loop-cursor-smaller-then-len-ge-PAGE : goal.loop-cursor-smaller-then-len-ge-PAGE
+loop-cursor-smaller-then-len-ge-PAGE g c = search (rules, section_begun, section_handed_on, unit_long)

@@ -1,5 +1,5 @@
-use Rattle.std.proofs.Common.{arith}
-use Rattle.lnt_dump.proofs.Entries.{none_there, read_all}
+use Rattle.std.proofs.Common.{arith, rules}
+use Rattle.lnt_dump.proofs.Entries.{none_there, read_all, read_none, read_more}
 use Rattle.lnt_dump.proofs.header.print_entry.Goals as goal
 
 pub unreachable-requires : goal.unreachable-requires
@@ -9,3 +9,6 @@ unreachable-requires g c = c.requires
 
 pub returns : goal.returns
 returns g c = read_all c.args.format c.args.pairs.now _ c.args.cursor.now c.loop-pair.cursor (omega arith) c.loop-pair.invariant
+
+pub loop-pair-preserved : goal.loop-pair-preserved
+loop-pair-preserved g c = search (rules, read_none, read_more, read_all, none_there)

@@ -22,7 +22,8 @@ loop-line-preserved g c =
       told = frames_more c.args.order (g.R.Source.remaining c.args.source.now) (g.R.Source.remaining (source_of c.loop-line.reader))
           (g.R.Source.remaining (source_of c.next_of.new.reader))
           (g.W.Write.contents c.args.out.now) (g.W.Write.contents c.loop-line.out) (g.W.Write.contents c.print_frame.new.out)
-          (order_of c.loop-line.reader) (order_of c.next_of.new.reader) (offset_of c.loop-line.reader) (offset_of c.next_of.new.reader) c.in-Unit.unit
+          (order_of c.loop-line.reader) (order_of c.next_of.new.reader) (offset_of c.loop-line.reader) (offset_of c.next_of.new.reader)
+          c.in-Unit.unit
           c.frame.result
           c.in_ok-unit.ensures.order c.loop-line.invariant.told next.0 next.1 c.frame.ensures.offset c.frame.ensures.bytes
           c.frame.ensures.placed c.in_ok-print_frame-in-Unit.ensures.whole;
@@ -32,14 +33,16 @@ pub returns-in-Fault-clause-told : goal.returns-in-Fault-clause-told
 returns-in-Fault-clause-told g c =
     frames_faulty c.args.order (g.R.Source.remaining c.args.source.now) (g.R.Source.remaining (source_of c.loop-line.reader))
     (g.W.Write.contents c.args.out.now) (g.W.Write.contents c.loop-line.out)
-    (g.W.Write.contents c.print_fault.new.out) (order_of c.loop-line.reader) (offset_of c.loop-line.reader) c.in-Fault.fault c.print_fault.result
+    (g.W.Write.contents c.print_fault.new.out) (order_of c.loop-line.reader) (offset_of c.loop-line.reader) c.in-Fault.fault
+    c.print_fault.result
     c.loop-line.invariant.told (rw c.in-Fault.is at c.in_ok-unit.ensures.next) c.print_fault.ensures.no c.print_fault.ensures.line
 
 pub returns-in-Fault-clause-begun : goal.returns-in-Fault-clause-begun
 returns-in-Fault-clause-begun g c =
     fault_cut c.args.order (g.R.Source.remaining c.args.source.now) (g.R.Source.remaining (source_of c.loop-line.reader))
     (g.W.Write.contents c.args.out.now) (g.W.Write.contents c.loop-line.out)
-    (g.W.Write.contents c.print_fault.new.out) (order_of c.loop-line.reader) (offset_of c.loop-line.reader) c.in-Fault.fault c.print_fault.result
+    (g.W.Write.contents c.print_fault.new.out) (order_of c.loop-line.reader) (offset_of c.loop-line.reader) c.in-Fault.fault
+    c.print_fault.result
     c.loop-line.invariant.told (rw c.in-Fault.is at c.in_ok-unit.ensures.next) c.print_fault.ensures.front
 
 pub returns-in_err-unit-clause-begun : goal.returns-in_err-unit-clause-begun
@@ -56,6 +59,7 @@ returns-in_err-print_frame-in-Unit-clause-begun g c =
     (units_cut c.args.order (g.R.Source.remaining c.args.source.now) (g.R.Source.remaining (source_of c.loop-line.reader))
     (g.R.Source.remaining (source_of c.next_of.new.reader))
     (g.W.Write.contents c.args.out.now) (g.W.Write.contents c.loop-line.out) (g.W.Write.contents c.print_frame.new.out)
-    (order_of c.loop-line.reader) (order_of c.next_of.new.reader) (offset_of c.loop-line.reader) (offset_of c.next_of.new.reader) c.in-Unit.unit
+    (order_of c.loop-line.reader) (order_of c.next_of.new.reader) (offset_of c.loop-line.reader) (offset_of c.next_of.new.reader)
+    c.in-Unit.unit
     c.frame.result c.in_ok-unit.ensures.order c.loop-line.invariant.told next.0 next.1 c.frame.ensures.offset c.frame.ensures.bytes
     c.frame.ensures.placed c.in_err-print_frame-in-Unit.ensures.front)

@@ -1,8 +1,8 @@
-use Rattle.std.proofs.Common.{arith}
+use Rattle.std.proofs.Common.{arith, rules}
 use Rattle.std.proofs.lemmas.Result.{err_from_is_err_and}
 use Rattle.lnt_wire.specs.Bytes.{NoneSpelled}
 use Rattle.lnt_header_bytes.specs.TableBytes.{EntryBytes}
-use Rattle.lnt_files.proofs.EntryLemmas.{all_read, none_there}
+use Rattle.lnt_files.proofs.EntryLemmas.{all_read, none_there, nothing_read, one_more_read}
 use Rattle.lnt_files.proofs.components.read_values.Goals as goal
 
 pub returns-in_err-value-clause-err : goal.returns-in_err-value-clause-err
@@ -16,3 +16,6 @@ returns-in_err-value-clause-err c =
 pub returns-clause-ok : goal.returns-clause-ok
 returns-clause-ok c = all_read c.args.format c.args.pairs.now c.args.places _ c.loop-place.entry c.args.cursor.now c.loop-place.cursor
     c.requires (omega arith) c.loop-place.invariant
+
+pub loop-place-preserved : goal.loop-place-preserved
+loop-place-preserved c = search (rules, nothing_read, one_more_read, all_read, none_there)

@@ -1,9 +1,9 @@
-use Rattle.std.proofs.Common.{◌≡◌, ◌≢◌, ◌+◌, ◌-◌, length, arith}
+use Rattle.std.proofs.Common.{◌≡◌, ◌≢◌, ◌+◌, ◌-◌, length, arith, rules}
 use Rattle.std.proofs.lemmas.Result.{err_from_is_err_and}
 use Rattle.lnt_wire.specs.FrameBytes.{frame_bytes}
 use Rattle.lnt_wire.specs.declared.fault.Reason.TheVariants.{Memory}
 use Rattle.lnt_header_bytes.specs.Broken.{BrokenHeader}
-use Rattle.lnt_header_bytes.proofs.HeaderFrames.{counted_before, refuses_fields}
+use Rattle.lnt_header_bytes.proofs.HeaderFrames.{counted_before, refuses_fields, refuses_start, header_found}
 use Rattle.lnt_header_bytes.proofs.in_place.view_header.Goals as goal
 
 pub returns-in_err-header-clause-err : goal.returns-in_err-header-clause-err
@@ -21,3 +21,6 @@ returns-in_err-header-clause-err c =
     c.after_version-cursor.result c.read_start.new.cursor fault c.requires.is.spelled.fits c.after_version-cursor.ensures
     c.in_ok-start.ensures.ok placed (c.in_err-header.ensures.err some) in
     rw (p.1, p.2) rest
+
+pub returns-in_err-start-clause-err : goal.returns-in_err-start-clause-err
+returns-in_err-start-clause-err c = search (rules, refuses_start, refuses_fields, header_found)

@@ -1,6 +1,6 @@
-use Rattle.std.proofs.Common.{◌≡◌, ◌-◌, ◌+◌, ◌<◌, ℕ, List, length, get_or, refl, arith, ap, subst, sym, ◌∙◌}
+use Rattle.std.proofs.Common.{◌≡◌, ◌-◌, ◌+◌, ◌<◌, ℕ, List, length, get_or, refl, arith, ap, subst, sym, ◌∙◌, rules}
 use Rattle.lnt_header.specs.OpRules.{last_known}
-use Rattle.lnt_header_bytes.proofs.HeaderReaders.{Agrees, refuses_length, cut_lengths}
+use Rattle.lnt_header_bytes.proofs.HeaderReaders.{Agrees, refuses_length, cut_lengths, reads_lengths}
 use Rattle.lnt_header_bytes.proofs.numbers.read_lengths.Goals as goal
 
 pub returns-then-bytes-i-clause-err : goal.returns-then-bytes-i-clause-err
@@ -29,3 +29,6 @@ returns-in-Err-clause-err c =
     omega (arith, low, whole, c.loop-opcode-test.false, c.loop-opcode.auto.opcode-end) in
     cut_lengths c.args.opcode_base i c.args.cursor.now _ c.requires c.in-Err.ensures.err.reason.short agrees all
     (omega (arith, c.place-place.ensures.value, ap length same)) refl
+
+pub returns-in-Ok-clause-ok : goal.returns-in-Ok-clause-ok
+returns-in-Ok-clause-ok c = search (rules, refuses_length, cut_lengths, reads_lengths)

@@ -3,6 +3,7 @@ use Rattle.lnt_header_bytes.specs.Stepping.{PassesAll}
 use Rattle.lnt_header_bytes.specs.TableBytes.{EntryBytes}
 use Rattle.lnt_header.specs.declared.header.Pair.{Pair}
 use Rattle.lnt_header_bytes.proofs.ViewLemmas.{table_read}
+use Rattle.lnt_header_bytes.proofs.TableReaders.{refuses_count, refuses_kinds, refuses_size, refuses_empty, refuses_rest}
 use Rattle.lnt_header_bytes.proofs.read_table.read_table.Goals as goal
 
 pub returns-clause-ok : goal.returns-clause-ok
@@ -16,3 +17,15 @@ returns-clause-ok c =
     table_read c.args.format c.in_ok-count.count size _ c.args.cursor.now c.u8.new.self c.read_pairs.new.cursor middle
     c.pass_entries.new.cursor
     c.in_ok-count.ensures.ok c.in_ok-pairs.ensures.ok c.in_ok-size.ensures.ok (λ none. search rules) refl passed
+
+pub returns-in_err-bytes-clause-err : goal.returns-in_err-bytes-clause-err
+returns-in_err-bytes-clause-err c = search (rules, refuses_count, refuses_kinds, refuses_size, refuses_empty, refuses_rest, table_read)
+
+pub returns-in_err-pairs-clause-err : goal.returns-in_err-pairs-clause-err
+returns-in_err-pairs-clause-err c = search (rules, refuses_count, refuses_kinds, refuses_size, refuses_empty, refuses_rest, table_read)
+
+pub returns-in_err-size-clause-err : goal.returns-in_err-size-clause-err
+returns-in_err-size-clause-err c = search (rules, refuses_count, refuses_kinds, refuses_size, refuses_empty, refuses_rest, table_read)
+
+pub returns-then-size-gt0-clause-err : goal.returns-then-size-gt0-clause-err
+returns-then-size-gt0-clause-err c = search (rules, refuses_count, refuses_kinds, refuses_size, refuses_empty, refuses_rest, table_read)

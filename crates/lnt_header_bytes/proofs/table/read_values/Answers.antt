@@ -22,3 +22,6 @@ loop-pair-preserved c =
     let items : c.push.new.self ≡ c.loop-pair.values ++ c.in_ok-value.value ∷ [] = grind (arith, common_steps) in
     rw items (values_next c.args.format c.args.pairs.now c.loop-pair.pair-index _ c.loop-pair.values c.in_ok-value.value c.args.cursor.now
     c.loop-pair.cursor c.form.new.self c.loop-pair-test.true c.loop-pair.invariant c.in_ok-value.ensures.ok)
+
+pub returns-clause-ok : goal.returns-clause-ok
+returns-clause-ok c = grind (arith, common_steps)

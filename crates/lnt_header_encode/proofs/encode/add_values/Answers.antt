@@ -1,9 +1,12 @@
-use Rattle.std.proofs.Common.{ap, Err}
+use Rattle.std.proofs.Common.{ap, Err, rules, arith}
 use Rattle.std.proofs.lemmas.Result.{err_from_is_err_and}
+use Rattle.std.proofs.lemmas.Grind.{common_steps}
 use Rattle.lnt_wire.specs.FormBytes.{FormBytes}
 use Rattle.lnt_header.specs.Encoding.{RefusedPut}
 use Rattle.lnt_header.specs.Joins.{Each}
-use Rattle.lnt_header_encode.proofs.EncodeLemmas.{values_more, values_refused}
+use Rattle.lnt_header_encode.proofs.EncodeLemmas.{values_more, values_refused, values_begun, values_done}
+use Rattle.lnt_header.proofs.PutLaws.{refused_memory}
+use Rattle.lnt_header_encode.proofs.LargeLemmas.{value_large, memory_not_large}
 use Rattle.lnt_header_encode.proofs.encode.add_values.Goals as goal
 
 pub loop-value-preserved : goal.loop-value-preserved
@@ -17,3 +20,14 @@ returns-in_err-put_form-clause-err c =
     values_refused c.args.format c.args.order c.args.values.now c.loop-value.value-index c.value-item.result c.in_err-put_form.field-0.0
     c.loop-value-test.true c.value-item.is (λ e. c.in_err-put_form.ensures.too_large.0 (ap Err e)) in
     rw (p.1, p.2) refused
+
+pub returns-clause-ok : goal.returns-clause-ok
+returns-clause-ok c =
+    search (rules, values_begun, values_more, values_done, values_refused, refused_memory, value_large, memory_not_large)
+
+pub returns-in_err-put_form-clause-large : goal.returns-in_err-put_form-clause-large
+returns-in_err-put_form-clause-large c =
+    search (rules, values_begun, values_more, values_done, values_refused, refused_memory, value_large, memory_not_large)
+
+pub put_form-requires : goal.put_form-requires
+put_form-requires c = grind (arith, common_steps)

@@ -1,7 +1,8 @@
-use Rattle.std.proofs.Common.{List, ℕ, ◌++◌, ap, ◌∙◌}
+use Rattle.std.proofs.Common.{List, ℕ, ◌++◌, ap, ◌∙◌, rules}
 use Rattle.std.proofs.lemmas.Result.{err_from_is_err_and}
-use Rattle.lnt_header_encode.proofs.EncodeLemmas.{fields_put}
+use Rattle.lnt_header_encode.proofs.EncodeLemmas.{fields_put, directories_refused, files_refused}
 use Rattle.lnt_header_encode.proofs.LargeLemmas.{directories_large, files_large}
+use Rattle.lnt_header.proofs.PutLaws.{refused_memory}
 use Rattle.lnt_header_encode.proofs.encode.counted_fields.Goals as goal
 
 pub returns-in_err-add_table-clause-large : goal.returns-in_err-add_table-clause-large
@@ -24,3 +25,9 @@ returns-clause-ok c =
     (c.in_ok-extend_from_slice.ensures.items ∙ ap (λ (z : List ℕ). c.new-out.result.items ++ z) c.single_fields.ensures)
     c.as_slice.ensures c.in_ok-extend_from_slice-2.ensures.items c.as_slice-2.ensures c.as_slice-3.ensures c.in_ok-add_table.ensures.ok
     c.as_slice-4.ensures c.as_slice-5.ensures c.in_ok-add_table-2.ensures.ok c.as_slice-6.ensures c.in_ok-extend_from_slice-3.ensures.items
+
+pub returns-in_err-add_table-2-clause-err : goal.returns-in_err-add_table-2-clause-err
+returns-in_err-add_table-2-clause-err c = search (rules, fields_put, directories_refused, files_refused, refused_memory)
+
+pub returns-in_err-add_table-clause-err : goal.returns-in_err-add_table-clause-err
+returns-in_err-add_table-clause-err c = search (rules, fields_put, directories_refused, files_refused, refused_memory)

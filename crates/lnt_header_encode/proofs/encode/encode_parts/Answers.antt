@@ -1,5 +1,8 @@
 use Rattle.std.proofs.lemmas.Result.{err_from_is_err_and}
-use Rattle.lnt_header_encode.proofs.EncodeLemmas.{header_put, header_too_long}
+use Rattle.std.proofs.Common.{rules}
+use Rattle.lnt_header_encode.proofs.EncodeLemmas.{header_put, header_too_long, header_refused}
+use Rattle.lnt_header.proofs.PutLaws.{refused_memory}
+use Rattle.lnt_header_encode.proofs.LargeLemmas.{offset_large, unit_too_long, memory_not_large}
 use Rattle.lnt_header_encode.proofs.encode.encode_parts.Goals as goal
 
 pub returns-in_err-add_around-clause-err : goal.returns-in_err-add_around-clause-err
@@ -12,3 +15,7 @@ pub returns-clause-ok : goal.returns-clause-ok
 returns-clause-ok c =
     header_put c.args.parts.now c.args.program.now c.in_ok-fields.fields.items c.deref.result.now c.new-out.result.items
     c.add_around.new.out.items c.in_ok-fields.ensures.ok c.new-out.ensures.items c.deref.ensures.value c.in_ok-add_around.ensures.ok
+
+pub returns-in_err-fields-clause-err : goal.returns-in_err-fields-clause-err
+returns-in_err-fields-clause-err c =
+    search (rules, header_put, header_refused, header_too_long, refused_memory, offset_large, unit_too_long, memory_not_large)

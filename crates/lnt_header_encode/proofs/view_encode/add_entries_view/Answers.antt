@@ -1,11 +1,12 @@
-use Rattle.std.proofs.Common.{◌<◌, List, length, subst, arith}
+use Rattle.std.proofs.Common.{◌<◌, List, length, subst, arith, rules}
 use Rattle.std.proofs.lemmas.Result.{err_from_is_err_and}
 use Rattle.lnt_wire.specs.Bytes.{NoneSpelled}
 use Rattle.lnt_wire.specs.declared.format.Format.{Format}
 use Rattle.lnt_header_encode.specs.HeaderPuts.{AddsEntry, RefusesEntry}
 use Rattle.lnt_header_bytes.specs.TableBytes.{EntryBytes}
 use Rattle.lnt_header.specs.declared.header.Pair.{Pair}
-use Rattle.lnt_header_encode.proofs.ViewPutLemmas.{entries_more, entries_refused, next_there}
+use Rattle.lnt_header_encode.proofs.ViewPutLemmas.{entries_more, entries_refused, next_there, entries_begun, entries_done}
+use Rattle.lnt_header.proofs.PutLaws.{refused_memory}
 use Rattle.lnt_header_encode.proofs.view_encode.add_entries_view.Goals as goal
 
 pub returns-in_err-add_entry_view-clause-err : goal.returns-in_err-add_entry_view-clause-err
@@ -42,3 +43,6 @@ loop-preserved c =
     c.pairs.ensures c.in_ok-add_entry_view.ensures.ok) in
     entries_more table c.args.format c.args.order c.loop.counter c.loop.cursor next c.args.out.now.items c.loop.out.items new lt
     c.loop.invariant added
+
+pub returns-clause-ok : goal.returns-clause-ok
+returns-clause-ok c = search (rules, entries_begun, entries_done, refused_memory)

@@ -1,10 +1,11 @@
-use Rattle.std.proofs.Common.{List, ◌++◌, ℕ, ap, ◌∙◌}
+use Rattle.std.proofs.Common.{List, ◌++◌, ℕ, ap, ◌∙◌, rules}
 use Rattle.std.proofs.lemmas.Result.{err_from_is_err_and}
 use Rattle.lnt_header.specs.Conversion.{in_format}
 use Rattle.lnt_header.specs.HeaderRules.{six_bytes}
 use Rattle.lnt_header.proofs.ConversionLaws.{header_in_format}
 use Rattle.lnt_header.specs.declared.header.HeaderParts.{HeaderParts}
 use Rattle.lnt_header_encode.proofs.EncodeLemmas.{fields_put, directories_refused, files_refused}
+use Rattle.lnt_header.proofs.PutLaws.{refused_memory}
 use Rattle.lnt_header_encode.proofs.view_encode.fields_of.Goals as goal
 
 pub returns-in_err-add_table_view-clause-err : goal.returns-in_err-add_table_view-clause-err
@@ -35,3 +36,7 @@ returns-clause-ok c =
     c.directories.ensures.pairs c.directories.ensures.entries c.in_ok-add_table_view.ensures.ok
     c.files.ensures.pairs c.files.ensures.entries c.in_ok-add_table_view-2.ensures.ok c.extra.ensures
     c.in_ok-extend_from_slice-3.ensures.items
+
+pub returns-in_err-extend_from_slice-3-clause-err : goal.returns-in_err-extend_from_slice-3-clause-err
+returns-in_err-extend_from_slice-3-clause-err c =
+    search (rules, fields_put, directories_refused, files_refused, refused_memory, header_in_format)

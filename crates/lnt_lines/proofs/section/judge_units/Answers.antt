@@ -11,19 +11,22 @@ returns-in-Err-clause-bad g c =
     let inv = c.loop-buffer.invariant in
     stop_refused c.args.strings.now.line.now c.args.strings.now.general.now c.args.options.now
     (g.R.Source.remaining (source_of c.args.reader.now)) (g.R.Source.remaining (source_of c.loop-buffer.reader))
-    (order_of c.loop-buffer.reader) (offset_of c.loop-buffer.reader) c.loop-buffer.draft c.in-Err.stop c.of_stop.result inv.judged inv.order_is
+    (order_of c.loop-buffer.reader) (offset_of c.loop-buffer.reader) c.loop-buffer.draft c.in-Err.stop c.of_stop.result inv.judged
+    inv.order_is
     c.in-Err.ensures.fault c.of_stop.ensures
 
 pub returns-in_err-room-in-Ok-Some-clause-bad : goal.returns-in_err-room-in-Ok-Some-clause-bad
 returns-in_err-room-in-Ok-Some-clause-bad g c =
     let p = err_from_is_err_and c.from_residual.result c.from_residual.ensures.1 in
     let inv = c.loop-buffer.invariant in
-    let next : IsNextUnit (offset_of c.loop-buffer.reader) (order_of c.loop-buffer.reader) (g.R.Source.remaining (source_of c.loop-buffer.reader))
+    let next : IsNextUnit (offset_of c.loop-buffer.reader) (order_of c.loop-buffer.reader)
+    (g.R.Source.remaining (source_of c.loop-buffer.reader))
     (g.R.Source.remaining (source_of c.next_unit_in.new.self)) c.in-Ok-Some.buffer =
     rw c.in-Ok-Some.field-0-is at c.in-Ok-Some.ensures.unit in
     rw (p.1, p.2) (unit_refused c.args.strings.now.line.now c.args.strings.now.general.now c.args.options.now
     (g.R.Source.remaining (source_of c.args.reader.now)) (g.R.Source.remaining (source_of c.loop-buffer.reader))
-    (g.R.Source.remaining (source_of c.next_unit_in.new.self)) (order_of c.loop-buffer.reader) (offset_of c.loop-buffer.reader) c.in-Ok-Some.buffer
+    (g.R.Source.remaining (source_of c.next_unit_in.new.self)) (order_of c.loop-buffer.reader) (offset_of c.loop-buffer.reader)
+    c.in-Ok-Some.buffer
     c.loop-buffer.draft c.in_err-room-in-Ok-Some.field-0.0
     inv.judged inv.order_is next (rw (c.of-ends.ensures.line, c.of-ends.ensures.general) at c.in_err-room-in-Ok-Some.ensures.err))
 
@@ -32,7 +35,8 @@ loop-buffer-preserved g c =
     let inv = c.loop-buffer.invariant in
     let some = c.in-Ok-Some.field-0-is in
     let step = c.in-Ok-Some.ensures in
-    let next : IsNextUnit (offset_of c.loop-buffer.reader) (order_of c.loop-buffer.reader) (g.R.Source.remaining (source_of c.loop-buffer.reader))
+    let next : IsNextUnit (offset_of c.loop-buffer.reader) (order_of c.loop-buffer.reader)
+    (g.R.Source.remaining (source_of c.loop-buffer.reader))
     (g.R.Source.remaining (source_of c.next_unit_in.new.self)) c.in-Ok-Some.buffer = rw some at step.unit in
     let goes_on = rw some at step.goes_on in
     let left = rw some at step.left in
@@ -49,3 +53,6 @@ loop-buffer-preserved g c =
       left = omega (arith, left, goes_on.1, inv.left);
       same_reference = step.same_reference ∙ inv.same_reference;
     }
+
+pub returns-in-Err-clause-more : goal.returns-in-Err-clause-more
+returns-in-Err-clause-more g c = grind (arith, common_steps)

@@ -1,6 +1,7 @@
-use Rattle.std.proofs.Common.{arith}
+use Rattle.std.proofs.Common.{arith, rules}
 use Rattle.std.proofs.lemmas.Result.{err_from_is_err_and}
-use Rattle.lnt_machine.proofs.MatrixLemmas.{ran_open, ran_out, ran_quiet, ran_row, ran_whole}
+use Rattle.std.proofs.lemmas.Grind.{common_steps}
+use Rattle.lnt_machine.proofs.MatrixLemmas.{ran_open, ran_out, ran_quiet, ran_row, ran_whole, ran_sequences}
 use Rattle.lnt_machine.proofs.sequences.matrix.Goals as goal
 
 pub loop-op-preserved-in_default : goal.loop-op-preserved-in_default
@@ -28,3 +29,9 @@ returns-in_err-end-clause-err c =
 pub returns-clause-runs : goal.returns-clause-runs
 returns-clause-runs c =
     ran_whole c.args.unit.now _ _ _ _ c.loop-op.invariant (rw (← c.ops-op-items.ensures.value) c.loop-op-test.false) c.in_ok-end.ensures.ok
+
+pub returns-clause-rows : goal.returns-clause-rows
+returns-clause-rows c = search (rules, ran_sequences)
+
+pub step-requires : goal.step-requires
+step-requires c = grind (arith, common_steps)

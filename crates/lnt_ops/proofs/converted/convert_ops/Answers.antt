@@ -1,5 +1,6 @@
-use Rattle.std.proofs.Common.{◌≢◌, subst, Some, Result}
+use Rattle.std.proofs.Common.{◌≢◌, subst, Some, Result, arith}
 use Rattle.std.proofs.lemmas.Result.{err_from_is_err_and}
+use Rattle.std.proofs.lemmas.Grind.{common_steps}
 use Rattle.lnt_wire.specs.declared.fault.Fault.{Fault}
 use Rattle.lnt_wire.specs.declared.fault.Reason.TheVariants.{Memory}
 use Rattle.lnt_header.specs.declared.op.OpView.{OpView}
@@ -30,3 +31,6 @@ loop-view-preserved c =
     converted_more c.args.header.now c.args.place c.args.program.now c.args.to c.address_size-size.result c.args.out.now.items _ _
     c.in_ok-view.field-0 c.loop-view.view-iterator c.next.new.self c.loop-view.invariant step
     c.address_size-size.ensures.value c.in-Ok.ensures.ok
+
+pub returns-clause-ok : goal.returns-clause-ok
+returns-clause-ok c = grind (arith, common_steps)

@@ -1,6 +1,6 @@
 use Rattle.std.proofs.Common.{◌∙◌, rules}
 use Rattle.std.proofs.lemmas.Result.{err_from_is_err_and}
-use Rattle.lnt_ops.proofs.OpReaders.{first_after}
+use Rattle.lnt_ops.proofs.OpReaders.{first_after, gives_special, gives_after, first_opcode, refuses_opcode, refuses_after}
 use Rattle.lnt_ops.proofs.operation.read_op.Goals as goal
 
 pub returns-in_err-view-clause-first : goal.returns-in_err-view-clause-first
@@ -12,3 +12,17 @@ returns-in_err-view-clause-first c =
 
 pub read_operand-requires-clause-standard : goal.read_operand-requires-clause-standard
 read_operand-requires-clause-standard c = search rules
+
+pub returns-in_err-opcode-clause-err : goal.returns-in_err-opcode-clause-err
+returns-in_err-opcode-clause-err c = search (rules, gives_special, gives_after, first_opcode, first_after, refuses_opcode, refuses_after)
+
+pub returns-in_err-opcode-clause-first : goal.returns-in_err-opcode-clause-first
+returns-in_err-opcode-clause-first c =
+    search (rules, gives_special, gives_after, first_opcode, first_after, refuses_opcode, refuses_after)
+
+pub returns-in_err-view-clause-err : goal.returns-in_err-view-clause-err
+returns-in_err-view-clause-err c = search (rules, gives_special, gives_after, first_opcode, first_after, refuses_opcode, refuses_after)
+
+pub returns-then-opcode-opcode_base-clause-ok : goal.returns-then-opcode-opcode_base-clause-ok
+returns-then-opcode-opcode_base-clause-ok c =
+    search (rules, gives_special, gives_after, first_opcode, first_after, refuses_opcode, refuses_after)

@@ -18,3 +18,12 @@ returns-clause-ok c =
     let three : c.extend_from_slice.new.self.items ≡ c.args.out.now.items ++ 0 ∷ 0 ∷ c.args.code ∷ [] = grind (arith, common_steps) in
     counted_put c.args.code c.args.n _ _ c.args.out.now.items _ c.put_uleb.new.out.items three c.in_ok-put_uleb.ensures.ok
     (grind (arith, common_steps)) (grind (arith, common_steps))
+
+pub index_mut-requires : goal.index_mut-requires
+index_mut-requires c = grind (arith, common_steps)
+
+pub overflow_sub-len : goal.overflow_sub-len
+overflow_sub-len c = grind (arith, common_steps)
+
+pub overflow_sub-len-2 : goal.overflow_sub-len-2
+overflow_sub-len-2 c = grind (arith, common_steps)

@@ -1,5 +1,7 @@
 use Rattle.std.proofs.lemmas.Result.{err_from_is_err_and}
-use Rattle.lnt_ops.proofs.OpPutLemmas.{appended_extends, extends_more, ops_more}
+use Rattle.std.proofs.Common.{rules}
+use Rattle.lnt_ops.proofs.OpPutLemmas.{appended_extends, extends_more, ops_more, ops_begun, ops_done}
+use Rattle.lnt_header.proofs.FirstLaws.{all_at}
 use Rattle.lnt_ops.proofs.put.add_ops.Goals as goal
 
 pub returns-in_err-add_op-clause-extends : goal.returns-in_err-add_op-clause-extends
@@ -11,3 +13,9 @@ pub loop-op-preserved : goal.loop-op-preserved
 loop-op-preserved c =
     ops_more c.args.header.now c.args.ops.now c.loop-op.op-index c.op-item.result _ _ _ c.loop-op-test.true c.op-item.is c.loop-op.invariant
     c.in_ok-add_op.ensures.ok
+
+pub add_op-requires : goal.add_op-requires
+add_op-requires c = search (rules, ops_begun, ops_more, ops_done, all_at)
+
+pub returns-clause-ok : goal.returns-clause-ok
+returns-clause-ok c = search (rules, ops_begun, ops_more, ops_done, all_at)

@@ -1,4 +1,6 @@
 use Rattle.std.proofs.lemmas.Result.{IfOk-weaker}
+use Rattle.std.proofs.Common.{arith}
+use Rattle.std.proofs.lemmas.Grind.{common_steps}
 use Rattle.lnt_paths.specs.PathAnswers.{path_answer}
 use Rattle.lnt_paths.proofs.ComparisonLemmas.{judges_none}
 use Rattle.lnt_paths.proofs.PassingLemmas.{after_slice}
@@ -17,3 +19,6 @@ returns g c =
     (judges_none g.S.SpanSource.to_come (path_answer c.in-Some.version (g.P.Paths.bytes_of c.args.paths.now)) c.in-Some.version
     c.in-Ok.comparison list (c.in-Ok.ensures.left list come) order c.in-Ok.ensures.none)))
     c.compare_after.ensures
+
+pub compare_after-requires-clause-past : goal.compare_after-requires-clause-past
+compare_after-requires-clause-past g c = grind (arith, common_steps)

@@ -1,10 +1,12 @@
-use Rattle.std.proofs.Common.{sym, subst}
+use Rattle.std.proofs.Common.{sym, subst, arith}
+use Rattle.std.proofs.lemmas.Grind.{common_steps}
 use Rattle.lnt_spans.specs.declared.position.Position.{Position}
 use Rattle.lnt_spans.specs.Positions.{IsAtMost}
 use Rattle.lnt_spans.proofs.PositionLaws.{at_most_itself, below_is_at_most}
 use Rattle.lnt_paths.specs.PathAnswers.{path_answer}
 use Rattle.lnt_paths.specs.PathSpans.{whole}
-use Rattle.lnt_paths.proofs.MergingLemmas.{apart_before, apart_gap, apart_other, begun, low_after, low_high, passed_whole, passed_within}
+use Rattle.lnt_paths.proofs.MergingLemmas.{apart_before, apart_gap, apart_other, begun, low_after, low_high}
+use Rattle.lnt_paths.proofs.MergingLemmas.{passed_whole, passed_within}
 use Rattle.lnt_paths.proofs.merge.first_apart.Goals as goal
 
 pub returns-in-Some-clause-apart : goal.returns-in-Some-clause-apart
@@ -72,3 +74,6 @@ loop-alloc-preserved g c =
                 (rw c.if-not-branch.false at c.in_ok-answers_so.ensures.same) now.0 over c.next_span-section.ensures.gives now.1,
           ),
     )
+
+pub returns-clause-apart : goal.returns-clause-apart
+returns-clause-apart g c = grind (arith, common_steps)

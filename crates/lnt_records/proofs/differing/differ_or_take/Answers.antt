@@ -1,5 +1,6 @@
 use Rattle.std.proofs.Common.{◌^◌, ◌<◌, ◌++◌, ℕ, List, [], arith, refl}
 use Rattle.std.proofs.lemmas.Result.{IfOk-weaker}
+use Rattle.std.proofs.lemmas.Grind.{elements}
 use Rattle.lnt_spans.specs.Spans.{span_answer}
 use Rattle.lnt_records.specs.Passing.{Ends}
 use Rattle.lnt_records.specs.Table.{column_names}
@@ -111,3 +112,9 @@ returns-clause-started g c =
     c.gather_after-gathered.ensures)
     (goes_on version list off.table off.rest (span_answer list) c.in_ok-passed.passed.end off.order off.same off.end_is (λ p. refl))
     off.left)
+
+pub returns-in_err-text-2-clause-more : goal.returns-in_err-text-2-clause-more
+returns-in_err-text-2-clause-more g c = grind (arith, elements)
+
+pub returns-in_err-text-clause-more : goal.returns-in_err-text-clause-more
+returns-in_err-text-clause-more g c = grind (arith, elements)

@@ -1,4 +1,5 @@
 use Rattle.std.proofs.Common.{◌∙◌, arith, drop, refl}
+use Rattle.std.proofs.lemmas.Grind.{common_steps}
 use Rattle.lnt_records.specs.Lines.{IsTextLine}
 use Rattle.lnt_records.proofs.PassingLemmas.{Takes, few_passed, reads_filled, reads_line, reads_none}
 use Rattle.lnt_records.proofs.lines.push_lines.Goals as goal
@@ -53,3 +54,6 @@ loop-window-preserved g c =
     let reads = reads_line g.S.SpanSource.to_come c.args.merge.now c.loop-window.merge c.push.new.self c.args.version c.args.count.now
     c.loop-window.count _ _ _ _ c.args.window.now window rest c.in-Some.span filled line takes in
     record { failures = c.in_ok-fill.ensures.no_failure (λ e. cc e) ∙ inv.failures; reads = rw c.pass.ensures reads }
+
+pub loop-window-smaller : goal.loop-window-smaller
+loop-window-smaller g c = grind (arith, common_steps)

@@ -1,4 +1,5 @@
 use Rattle.std.proofs.Common.{◌^◌, ◌<◌, ◌++◌, ℕ, List, [], append_assoc, arith, subst}
+use Rattle.std.proofs.lemmas.Grind.{elements}
 use Rattle.lnt_records.specs.Passing.{Ends, Passes}
 use Rattle.lnt_records.specs.Table.{column_names}
 use Rattle.lnt_records.specs.Written.{line_text}
@@ -125,3 +126,6 @@ returns-clause-ok g c list coming order =
     whole_told _ c.push_lines.new.merge version list _ _ _ _ c.header_line.result.now past (spans.0 ++ lines.0) c.deref.result.now
     c.push_lines.new.count c.in_ok-compared.compared c.header_line.ensures taken ends passed
     (rw c.in_ok-compared.ensures.ok at c.compare_after.ensures)
+
+pub returns-in_err-text-clause-more : goal.returns-in_err-text-clause-more
+returns-in_err-text-clause-more g c = grind (arith, elements)

@@ -1,5 +1,6 @@
 use Rattle.std.proofs.Common.{arith}
 use Rattle.std.proofs.lemmas.List.{drop_more, drop_all}
+use Rattle.std.proofs.lemmas.Grind.{common_steps}
 use Rattle.lnt_spans.proofs.JoinLemmas.{no_span, join_start, join_end, keep_join, keep_push}
 use Rattle.lnt_spans.proofs.joined.canonical.Goals as goal
 use Rattle.lnt_spans.proofs.joined.canonical.Goals.{then-joins, else-joins+in_ok-push}
@@ -21,3 +22,9 @@ pub returns-clause-same : goal.returns-clause-same
 returns-clause-same c =
     rw c.in_ok-push-2.ensures.items
     (join_end _ _ _ _ _ c.loop-span.invariant (drop_all c.loop-span.span-index c.in-Some.rest.now (omega (arith, c.loop-span-test.false))))
+
+pub returns-clause-canonical : goal.returns-clause-canonical
+returns-clause-canonical c = grind (arith, common_steps)
+
+pub returns-in_default-clause-same : goal.returns-in_default-clause-same
+returns-in_default-clause-same c = grind (arith, common_steps)

@@ -1,7 +1,7 @@
-use Rattle.std.proofs.Common.{Bool, false, subst, true}
+use Rattle.std.proofs.Common.{Bool, false, subst, true, arith}
+use Rattle.std.proofs.lemmas.Grind.{common_steps}
 use Rattle.lnt_spans.specs.Ahead.{IsAhead}
-use Rattle.lnt_spans.specs.Stepping.{rest_of}
-use Rattle.lnt_spans.specs.Stepping.{IsStretch}
+use Rattle.lnt_spans.specs.Stepping.{rest_of, IsStretch}
 use Rattle.lnt_spans.proofs.ScanLemmas.{begins_with, passed_left, so_far_more}
 use Rattle.lnt_spans.proofs.scan.scan.Goals as goal
 
@@ -32,3 +32,6 @@ loop-version-preserved g c list ahead order past =
     (subst (λ (t : Bool). IsStretch c.args.version so_far.rest c.loop-version.at c.args.to c.stretch_at-stretch.result.answer
     c.stretch_at-stretch.result.end (rest_of t so_far.rest)) c.if-stretch.false stretch)
     c.if-not-is_same.ensures so_far.left
+
+pub loop-version-smaller-then-stretch : goal.loop-version-smaller-then-stretch
+loop-version-smaller-then-stretch g c = grind (arith, common_steps)

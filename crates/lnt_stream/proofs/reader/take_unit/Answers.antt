@@ -1,6 +1,6 @@
-use Rattle.std.proofs.Common.{◌≡◌, ℕ, List, [], ◌∷◌, length, refl, sym, vec_len, ◌∙◌, arith}
+use Rattle.std.proofs.Common.{◌≡◌, ℕ, List, [], ◌∷◌, length, refl, sym, vec_len, ◌∙◌, arith, rules}
 use Rattle.std.proofs.lemmas.Bool.{eqb-true}
-use Rattle.lnt_stream.proofs.ReaderLemmas.{section_ends, ended_short}
+use Rattle.lnt_stream.proofs.ReaderLemmas.{section_ends, ended_short, unit_exits}
 use Rattle.lnt_stream.proofs.reader.take_unit.Goals as goal
 
 no_bytes : (bytes : List ℕ) → length bytes ≡ 0 → bytes ≡ []
@@ -20,3 +20,6 @@ returns-then-is_empty-clause-not_long g c =
     ended_short c.args.order c.in_ok-take_unit_bytes.field-0 _ c.take_unit_bytes.new.taken.items _
     c.in_ok-take_unit_bytes.ensures.whole
     (no_bytes _ (omega (arith, none, c.take_unit_bytes.new.taken.ok.0))) c.in_ok-take_unit_bytes.ensures.ended
+
+pub returns-in_err-of-clause-fault : goal.returns-in_err-of-clause-fault
+returns-in_err-of-clause-fault g c = search (rules, unit_exits)

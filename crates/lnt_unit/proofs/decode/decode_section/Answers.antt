@@ -1,9 +1,9 @@
-use Rattle.std.proofs.Common.{◌≢◌, ◌<◌, length, arith}
+use Rattle.std.proofs.Common.{◌≢◌, ◌<◌, length, arith, rules}
 use Rattle.std.proofs.lemmas.Grind.{common_steps}
 use Rattle.std.proofs.lemmas.Result.{err_from_is_err_and}
 use Rattle.lnt_wire.specs.declared.fault.Reason.TheVariants.{Memory}
 use Rattle.lnt_unit.specs.BrokenUnits.{BrokenSection}
-use Rattle.lnt_unit.proofs.SectionLaws.{all_units, section_broken}
+use Rattle.lnt_unit.proofs.SectionLaws.{all_units, section_broken, no_units, one_more_unit, unit_long}
 use Rattle.lnt_unit.proofs.decode.decode_section.Goals as goal
 
 pub returns-in_err-unit-clause-err : goal.returns-in_err-unit-clause-err
@@ -18,3 +18,9 @@ returns-in_err-unit-clause-err c =
 
 pub returns-clause-ok : goal.returns-clause-ok
 returns-clause-ok c = grind (arith, common_steps, all_units)
+
+pub loop-cursor-smaller : goal.loop-cursor-smaller
+loop-cursor-smaller c = search (rules, no_units, one_more_unit, unit_long, all_units)
+
+pub loop-cursor-preserved : goal.loop-cursor-preserved
+loop-cursor-preserved c = grind (arith, no_units, one_more_unit, unit_long, all_units)

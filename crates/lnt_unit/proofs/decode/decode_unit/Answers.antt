@@ -1,4 +1,4 @@
-use Rattle.std.proofs.Common.{◌≢◌, ◌∙◌}
+use Rattle.std.proofs.Common.{◌≢◌, ◌∙◌, rules}
 use Rattle.std.proofs.lemmas.Result.{err_from_is_err_and}
 use Rattle.lnt_wire.specs.declared.fault.Reason.TheVariants.{Memory}
 use Rattle.lnt_unit.specs.BrokenUnits.{BrokenUnit}
@@ -35,3 +35,6 @@ returns-in_err-unit-clause-err c =
     λ some. frame_without_unit c.args.order old.place old.rest c.in_ok-frame.frame fault c.new-ahead.result _ at c.in_ok-frame.ensures.ok
     c.in_ok-frame.ensures.offset (c.in_err-unit.ensures.err some) in
     rw (p.1, p.2) broken
+
+pub returns-clause-err : goal.returns-clause-err
+returns-clause-err c = search rules

@@ -1,5 +1,6 @@
 use Rattle.std.proofs.Common.{◌≡◌, ◌≢◌, ◌+◌, ◌-◌, length, arith}
 use Rattle.std.proofs.lemmas.Result.{err_from_is_err_and}
+use Rattle.std.proofs.lemmas.Grind.{common_steps}
 use Rattle.lnt_wire.specs.FrameBytes.{frame_bytes}
 use Rattle.lnt_wire.specs.declared.fault.Reason.TheVariants.{Memory}
 use Rattle.lnt_unit.specs.BrokenUnits.{BrokenUnit}
@@ -34,3 +35,6 @@ returns-in_err-ops-clause-err c =
 pub returns-clause-ok : goal.returns-clause-ok
 returns-clause-ok c =
     rw c.of.ensures (unit_found c.args.order _ c.in_ok-header.program.now _ c.in_ok-header.ensures.ok c.in_ok-ops.ensures.ok)
+
+pub overflow_sub-place : goal.overflow_sub-place
+overflow_sub-place c = grind (arith, common_steps)

@@ -1,7 +1,7 @@
-use Rattle.std.proofs.Common.{◌≡◌, ◌<◌, length, [], sym, ap, ◌∙◌, arith}
+use Rattle.std.proofs.Common.{◌≡◌, ◌<◌, length, [], sym, ap, ◌∙◌, arith, rules}
 use Rattle.std.proofs.lemmas.Bool.{eqb-false, eqb-true}
 use Rattle.std.proofs.lemmas.Result.{err_from_is_err_and}
-use Rattle.lnt_unit_encode.proofs.ConvertedLaws.{converted_all, converted_more, stops_by_memory}
+use Rattle.lnt_unit_encode.proofs.ConvertedLaws.{converted_all, converted_more, stops_by_memory, converted_none, converted_long}
 use Rattle.lnt_unit_encode.proofs.convert.convert_section.Goals as goal
 
 pub loop-cursor-preserved : goal.loop-cursor-preserved
@@ -25,3 +25,6 @@ returns-in_err-convert_unit-clause-err c =
     let memory = stops_by_memory c.args.order c.args.bytes.now c.args.format c.args.to at c.loop-cursor.out.items
     c.in_err-convert_unit.field-0.0 c.in_ok-judge_conversion.ensures.ok c.loop-cursor.invariant some c.in_err-convert_unit.ensures.err in
     rw (p.1, p.2, memory) tt
+
+pub loop-cursor-smaller : goal.loop-cursor-smaller
+loop-cursor-smaller c = search (rules, converted_none, converted_all, converted_long)

@@ -1,4 +1,5 @@
-use Rattle.std.proofs.Common.{refl, subst, rules}
+use Rattle.std.proofs.Common.{refl, subst, rules, arith}
+use Rattle.std.proofs.lemmas.Grind.{common_steps}
 use Rattle.lnt_wire.specs.At.{At}
 use Rattle.lnt_wire.specs.InitialFaults.{IsInitialFault}
 use Rattle.lnt_wire.specs.InitialLength.{InitialBytes}
@@ -20,3 +21,6 @@ returns-in_default-clause-err c =
 
 pub returns-clause-offset : goal.returns-clause-offset
 returns-clause-offset c = search rules
+
+pub begins_with_five-requires : goal.begins_with_five-requires
+begins_with_five-requires c = grind (arith, common_steps)

@@ -12,3 +12,6 @@ loop-filled-preserved g c = record {
       pulls_filled _ _ _ c.loop-filled.filled c.in_ok-count.count c.loop-filled.room c.pull.new.buf _ c.loop-filled.invariant.pulls
       c.in_ok-count.ensures.bytes c.loop-filled.invariant.bound c.in_ok-count.ensures.bound;
 }
+
+pub returns-then-count-eq0-clause-bytes : goal.returns-then-count-eq0-clause-bytes
+returns-then-count-eq0-clause-bytes g c = grind (arith, common_steps)

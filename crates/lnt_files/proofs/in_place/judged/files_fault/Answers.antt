@@ -1,5 +1,6 @@
-use Rattle.std.proofs.Common.{nat_lt, ◌+◌, sym, subst}
+use Rattle.std.proofs.Common.{nat_lt, ◌+◌, sym, subst, arith}
 use Rattle.std.proofs.lemmas.Bool.Decides.{Decides-ltb}
+use Rattle.std.proofs.lemmas.Grind.{common_steps}
 use Rattle.lnt_files.proofs.JudgedLemmas.{FilesSeen, files_stepped}
 use Rattle.lnt_files.proofs.in_place.judged.files_fault.Goals as goal
 
@@ -13,3 +14,9 @@ loop-index-preserved c =
     c.loop-index.missing c.in-Some.file c.has_path.result below c.directory_number.result
     c.loop-index.invariant c.in-Some.ensures c.has_path.ensures c.if-not-has_path.false c.directory_number.ensures
     (Decides-ltb c.directory_number.result c.args.directories))
+
+pub returns-in-None : goal.returns-in-None
+returns-in-None c = grind (arith, common_steps)
+
+pub returns-in-Some-missing : goal.returns-in-Some-missing
+returns-in-Some-missing c = grind (arith, common_steps)

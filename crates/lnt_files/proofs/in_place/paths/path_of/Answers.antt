@@ -1,4 +1,5 @@
-use Rattle.std.proofs.Common.{refl}
+use Rattle.std.proofs.Common.{refl, arith}
+use Rattle.std.proofs.lemmas.Grind.{elements}
 use Rattle.lnt_files.proofs.AtLemmas.{never_without, within_files}
 use Rattle.lnt_files.proofs.in_place.paths.path_of.Goals as goal
 
@@ -13,3 +14,6 @@ returns-clause-there c =
     let lt = within_files c.args.header.now c.files.result.now c.args.file c.in-Some.entry c.files.ensures.pairs c.files.ensures.entries
     c.in-Some.ensures in
     ((λ t. lt), (λ h. refl))
+
+pub returns-in_default-clause-there : goal.returns-in_default-clause-there
+returns-in_default-clause-there c = grind (arith, elements)

@@ -1,4 +1,5 @@
-use Rattle.std.proofs.Common.{◌≡◌, ◌∙◌, ◌<◌, ap, get_or, length, subst, sym, List}
+use Rattle.std.proofs.Common.{◌≡◌, ◌∙◌, ◌<◌, ap, get_or, length, subst, sym, List, arith}
+use Rattle.std.proofs.lemmas.Grind.{elements}
 use Rattle.lnt_machine.specs.Walking.{KeptProgram}
 use Rattle.lnt_files.specs.Tables.{AreUsableTables}
 use Rattle.lnt_lines.specs.Indexed.{Indexed}
@@ -24,3 +25,9 @@ returns-clause-usable c =
     subst (λ (i : Indexed). AreUsableTables i.line i.general c.header.result) c.self.view_is
     (subst (AreUsableTables index.line index.general) (ap (λ (k : KeptProgram). k.header) (sym at) ∙ sym c.header.ensures)
     (usable_at index.line index.general c.self.invariant.units index.programs c.in_ok-place.place kept is.programs is.tables few))
+
+pub returns-clause-header : goal.returns-clause-header
+returns-clause-header c = grind (arith, elements)
+
+pub returns-in_err-program-clause-header : goal.returns-in_err-program-clause-header
+returns-in_err-program-clause-header c = grind (arith, elements)

@@ -1,4 +1,6 @@
 use Rattle.std.proofs.lemmas.Result.{err_from_is_err_and}
+use Rattle.std.proofs.Common.{arith}
+use Rattle.std.proofs.lemmas.Grind.{common_steps}
 use Rattle.lnt_lines.proofs.run.Watched.step_short.Goals as goal
 
 pub returns-in_err-step-clause-err : goal.returns-in_err-step-clause-err
@@ -7,3 +9,6 @@ returns-in_err-step-clause-err c =
     rw (p.1, p.2) (λ other dead view files old ran room.
     c.in_err-step.ensures.err other dead view files old c.loop-op.ops c.next_short.new.self
     (c.loop-op.invariant.3 dead view files old ran room) c.in-Some.ensures.steps)
+
+pub loop-op-preserved : goal.loop-op-preserved
+loop-op-preserved c = grind (arith, common_steps)

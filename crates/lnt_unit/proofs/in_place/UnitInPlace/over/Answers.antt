@@ -1,5 +1,6 @@
-use Rattle.std.proofs.Common.{◌≢◌}
+use Rattle.std.proofs.Common.{◌≢◌, arith}
 use Rattle.std.proofs.lemmas.Result.{err_from_is_err_and}
+use Rattle.std.proofs.lemmas.Grind.{common_steps}
 use Rattle.lnt_wire.specs.declared.fault.Reason.TheVariants.{Memory}
 use Rattle.lnt_header_bytes.specs.Broken.{BrokenHeader}
 use Rattle.lnt_unit.specs.BrokenUnits.{BrokenUnit}
@@ -27,3 +28,9 @@ returns-in_err-header-clause-err c =
     (no_header buffer.order _ buffer.offset buffer.bytes c.frame.result fault c.order.ensures c.frame.ensures.offset c.frame.ensures.bytes
     (c.in_err-header.ensures.err some)) in
     rw (p.1, p.2) broken
+
+pub invariant_of-result : goal.invariant_of-result
+invariant_of-result c = grind (arith, common_steps)
+
+pub overflow_sub-result : goal.overflow_sub-result
+overflow_sub-result c = grind (arith, common_steps)
