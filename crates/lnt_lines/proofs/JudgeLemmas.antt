@@ -1,6 +1,7 @@
 -- One unit whose program ran to its end, judged.
 use Rattle.std.proofs.Common.{◌≡◌, ℕ, List, length, sym, subst}
-use Rattle.std.specs.Prelude.{Option}
+use Rattle.std.specs.Prelude.{Option, Some, None, MatchOption}
+use Rattle.std.specs.Option.{option_map, option_or}
 use Rattle.lnt_header.specs.declared.header.HeaderParts.{HeaderParts}
 use Rattle.lnt_unit.specs.Views.{View}
 use Rattle.lnt_files.specs.declared.tables.EntryTableFault.{EntryTableFault}
@@ -19,7 +20,7 @@ use Rattle.lnt_machine.specs.Matrix.{rows}
 use Rattle.lnt_lines.specs.declared.no.No.TheVariants.{Falls, FileNumber}
 use Rattle.lnt_lines.specs.Good.{IsWellFormed}
 use Rattle.lnt_lines.specs.Judging.{HasRun, IsFlawedRun, IsSoundRun, IsUnitNo}
-use Rattle.lnt_lines.specs.Refusals.{table_no}
+use Rattle.lnt_lines.specs.Refusals.{missing_no, table_no}
 
 -- ---- what is wrong with it
 
@@ -45,10 +46,10 @@ flaw_in_tables text general dead view unit places old new watch (DirectoryNumber
       flaw = (at, run.runs, subst (λ (h : HeaderParts). IsTablesFault text general h (DirectoryNumber file)) (sym run.header_is) f);
     }
 
-pub tables_no : (text general : List ℕ) (view : View) (header : HeaderParts) (unit : ℕ) (watch : Watch) (fault : EntryTableFault)
+flawed_tables : (text general : List ℕ) (view : View) (header : HeaderParts) (unit : ℕ) (watch : Watch) (fault : EntryTableFault)
     → unit ≡ view.unit.offset → header ≡ view.header → IsTablesFault text general header fault
     → IsFlawedRun text general view watch (table_no unit fault)
-tables_no text general view header unit watch fault at header_is f dead places old new run =
+flawed_tables text general view header unit watch fault at header_is f dead places old new run =
     flaw_in_tables text general dead view unit places old new watch fault run at
     (subst (λ (h : HeaderParts). IsTablesFault text general h fault) header_is f)
 
@@ -75,10 +76,10 @@ abbrev SaysOrdered : Watch → Type 0
 SaysOrdered watch = (dead : Option ℕ) (unit files : ℕ) (rows : List Row) → HasSeenAll dead unit files watch rows
     → AreOrdered (live_of dead (placed_rows unit rows))
 
-pub missing_no : (text general : List ℕ) (view : View) (header : HeaderParts) (unit : ℕ) (watch : Watch) (missing : MissingFile)
+flawed_files : (text general : List ℕ) (view : View) (header : HeaderParts) (unit : ℕ) (watch : Watch) (missing : MissingFile)
     → unit ≡ view.unit.offset → header ≡ view.header → AreUsableTables text general header → SaysMissing watch missing
     → IsFlawedRun text general view watch (FileNumber unit missing.row missing.file)
-missing_no text general view header unit watch missing at header_is usable says dead places old new run =
+flawed_files text general view header unit watch missing at header_is usable says dead places old new run =
     record {
       unit = run.unit;
       spelled = run.spelled;
@@ -89,10 +90,10 @@ missing_no text general view header unit watch missing at header_is usable says 
       );
     }
 
-pub falls_no : (text general : List ℕ) (view : View) (header : HeaderParts) (unit : ℕ) (watch : Watch) (row : ℕ)
+flawed_order : (text general : List ℕ) (view : View) (header : HeaderParts) (unit : ℕ) (watch : Watch) (row : ℕ)
     → unit ≡ view.unit.offset → header ≡ view.header → AreUsableTables text general header → SaysNamed watch → SaysFall watch row
     → IsFlawedRun text general view watch (Falls unit row)
-falls_no text general view header unit watch row at header_is usable named says dead places old new run =
+flawed_order text general view header unit watch row at header_is usable named says dead places old new run =
     record {
       unit = run.unit;
       spelled = run.spelled;
@@ -106,7 +107,7 @@ falls_no text general view header unit watch row at header_is usable named says 
 
 -- ---- nothing is wrong with it
 
-pub judged_sound : (text general : List ℕ) (view : View) (header : HeaderParts) (watch : Watch) → header ≡ view.header
+judged_sound : (text general : List ℕ) (view : View) (header : HeaderParts) (watch : Watch) → header ≡ view.header
     → AreUsableTables text general header → SaysNamed watch → SaysOrdered watch
     → IsSoundRun text general view watch
 judged_sound text general view header watch header_is usable named ordered dead places old new run =
@@ -122,3 +123,24 @@ judged_sound text general view header watch header_is usable named ordered dead 
       collects = λ units c. collects_more dead units (view.unit.offset, run.unit) new run.runs run.seen.few
           (run.collects (live_sequences dead units) c);
     }
+
+-- ---- the first thing that is wrong with it, if anything is
+
+pub flaw_judged : (text general : List ℕ) (view : View) (header : HeaderParts) (unit : ℕ) (watch : Watch) (tables : Option EntryTableFault)
+    (missing : Option MissingFile) (falls : Option ℕ) → unit ≡ view.unit.offset → header ≡ view.header
+    → MatchOption tables (AreUsableTables text general header) (IsTablesFault text general header)
+    → ((dead : Option ℕ) (unit files : ℕ) (rows : List Row) → HasSeenAll dead unit files watch rows
+    → MatchOption missing (HaveFiles files (live_of dead (placed_rows unit rows)))
+    (IsFirstMissingFile dead files (placed_rows unit rows)))
+    → ((dead : Option ℕ) (unit files : ℕ) (rows : List Row) → HasSeenAll dead unit files watch rows
+    → MatchOption falls (AreOrdered (live_of dead (placed_rows unit rows))) (IsFirstFall dead (placed_rows unit rows)))
+    → MatchOption (option_or (option_or (option_map (table_no unit) tables) (option_map (missing_no unit) missing))
+    (option_map (Falls unit) falls)) (IsSoundRun text general view watch) (IsFlawedRun text general view watch)
+flaw_judged text general view header unit watch (Some fault) missing falls at header_is fault_is named ordered =
+    flawed_tables text general view header unit watch fault at header_is fault_is
+flaw_judged text general view header unit watch None (Some missing) falls at header_is usable named ordered =
+    flawed_files text general view header unit watch missing at header_is usable named
+flaw_judged text general view header unit watch None None (Some row) at header_is usable named ordered =
+    flawed_order text general view header unit watch row at header_is usable named ordered
+flaw_judged text general view header unit watch None None None at header_is usable named ordered =
+    judged_sound text general view header watch header_is usable named ordered

@@ -4,10 +4,11 @@ use Rattle.lnt_wire.specs.declared.fault.Fault.{Fault}
 use Rattle.lnt_wire.specs.declared.fault.Reason.TheVariants.{Memory}
 use Rattle.lnt_stream.specs.declared.stop.SectionStop.{SectionStop}
 use Rattle.lnt_stream.specs.declared.stop.SectionStop.TheVariants as section
+use Rattle.lnt_sequences.specs.declared.watch.MissingFile.{MissingFile}
 use Rattle.lnt_files.specs.declared.tables.EntryTableFault.{EntryTableFault}
 use Rattle.lnt_files.specs.declared.tables.EntryTableFault.TheVariants as table
 use Rattle.lnt_lines.specs.declared.no.No as no
-use Rattle.lnt_lines.specs.declared.no.No.TheVariants.{Malformed, EntryFormat, StringOutside, DirectoryNumber}
+use Rattle.lnt_lines.specs.declared.no.No.TheVariants.{Malformed, EntryFormat, StringOutside, DirectoryNumber, FileNumber}
 use Rattle.lnt_lines.specs.declared.refusal.Refusal.{Refusal}
 use Rattle.lnt_lines.specs.declared.refusal.Refusal.TheVariants.{No, Stop}
 use Rattle.lnt_wire.specs.declared.stop.Stop.TheVariants as stop
@@ -30,3 +31,7 @@ abbrev pub table_no : ℕ → EntryTableFault → no.No
 table_no unit (table.EntryFormat which) = EntryFormat unit which
 table_no unit (table.StringOutside which entry) = StringOutside unit which entry
 table_no unit (table.DirectoryNumber file) = DirectoryNumber unit file
+
+-- what is wrong with the unit at an offset where a row names a file that isn't there
+abbrev pub missing_no : ℕ → MissingFile → no.No
+missing_no unit missing = FileNumber unit missing.row missing.file

@@ -1,8 +1,10 @@
 //! One unit, judged.
 ghost use Rattle.std.specs.Prelude.{◌≡◌, ◌≤◌, length, IfOk, IfErr, MatchOption};
+ghost use Rattle.std.specs.Option.{option_map};
 ghost use Rattle.lnt_files.specs.Tables.{AreUsableTables, IsTablesFault};
+ghost use Rattle.lnt_lines.specs.declared.no.No.TheVariants.{Falls};
 ghost use Rattle.lnt_lines.specs.Judging.{IsFlawedRun, IsJudgedSound, IsSoundRun, IsUnitRefusal, kept_program_of};
-ghost use Rattle.lnt_lines.specs.Refusals.{table_no};
+ghost use Rattle.lnt_lines.specs.Refusals.{missing_no, table_no};
 
 use crate::no::No;
 use crate::refusal::Refusal;
@@ -10,7 +12,7 @@ use crate::run::run_unit;
 use lnt_files::in_place::tables_fault;
 use lnt_files::{EntryTableFault, StringEnds};
 use lnt_header_bytes::KeptHeader;
-use lnt_sequences::{Collected, Watch};
+use lnt_sequences::{Collected, MissingFile, Watch};
 use lnt_stream::UnitBuffer;
 use lnt_unit::UnitInPlace;
 use std::alloc::{AllocError, Global};
@@ -44,8 +46,13 @@ pub(crate) fn judge_unit(
     ensures err { IfErr result (IsUnitRefusal ends.now.line ends.now.general dead buffer.now) }
 {
     let view = UnitInPlace::over(alloc, buffer)?;
-    let places = judge_run(alloc, &view, buffer.offset(), ends, dead, collected)?;
-    Ok(sound_unit(alloc, view, places, other)?)
+    match judge_run(alloc, &view, buffer.offset(), ends, dead, collected) {
+        Ok(places) => Ok(sound_unit(alloc, view, places, other)?),
+        Err(refusal) => {
+            drop(view);
+            Err(refusal)
+        }
+    }
 }
 
 // Judges the unit at an offset, whose header is sound, and adds what its live sequences hold to what is collected. Of a
@@ -78,20 +85,10 @@ fn flaw_of(view: &UnitInPlace<'_>, unit: u64, watch: &Watch, ends: &StringEnds<'
     ensures { MatchOption result (IsSoundRun ends.now.line ends.now.general view.now watch.now)
         (IsFlawedRun ends.now.line ends.now.general view.now watch.now) }
 {
-    if let Some(fault) = tables_fault(&view.header(), ends) {
-        return Some(table_no(unit, fault));
-    }
-    if let Some(missing) = watch.missing_file() {
-        return Some(No::FileNumber {
-            unit,
-            row: missing.row,
-            file: missing.file,
-        });
-    }
-    if let Some(row) = watch.falls() {
-        return Some(No::Falls { unit, row });
-    }
-    None
+    let tables = tables_no(unit, tables_fault(&view.header(), ends));
+    let missing = missing_no(unit, watch.missing_file());
+    let falls = falls_no(unit, watch.falls());
+    tables.or(missing).or(falls)
 }
 
 // What is kept of a sound unit, whose sequences begin at these places. It refuses only where memory runs out.
@@ -115,13 +112,28 @@ fn sound_unit(
     })
 }
 
-// What is wrong with the tables of the unit at an offset.
-fn table_no(unit: u64, fault: EntryTableFault) -> No
-    ensures { result ≡ table_no unit fault }
+// What is wrong with the tables of the unit at an offset, if anything is.
+fn tables_no(unit: u64, fault: Option<EntryTableFault>) -> Option<No>
+    ensures { result ≡ option_map (table_no unit) fault }
 {
-    match fault {
+    Some(match fault? {
         EntryTableFault::EntryFormat(which) => No::EntryFormat(unit, which),
         EntryTableFault::StringOutside(which, entry) => No::StringOutside(unit, which, entry),
         EntryTableFault::DirectoryNumber(file) => No::DirectoryNumber(unit, file),
-    }
+    })
+}
+
+// What is wrong with the unit at an offset where a row names a file that isn't there.
+fn missing_no(unit: u64, missing: Option<MissingFile>) -> Option<No>
+    ensures { result ≡ option_map (missing_no unit) missing }
+{
+    let MissingFile { row, file } = missing?;
+    Some(No::FileNumber { unit, row, file })
+}
+
+// What is wrong with the unit at an offset where the position of a row falls.
+fn falls_no(unit: u64, row: Option<u64>) -> Option<No>
+    ensures { result ≡ option_map (Falls unit) row }
+{
+    Some(No::Falls { unit, row: row? })
 }

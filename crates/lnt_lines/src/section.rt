@@ -63,10 +63,14 @@ pub fn verify<R: Source>(
     ensures more { IsErrOf result Stop.TooLong → HasMoreThan (R.remaining section.old) (R.left section.old) }
 {
     match index_section(alloc, section, strings, options)? {
-        JudgedIndex::Good(index) => match lines_of(alloc, &index) {
-            Ok(lines) => Ok(Judged::Good(lines)),
-            Err(_) => Err(Stop::Memory),
-        },
+        JudgedIndex::Good(index) => {
+            let lines = lines_of(alloc, &index);
+            drop(index);
+            match lines {
+                Ok(lines) => Ok(Judged::Good(lines)),
+                Err(_) => Err(Stop::Memory),
+            }
+        }
         JudgedIndex::Bad(no) => Ok(Judged::Bad(no)),
     }
 }
