@@ -1,4 +1,4 @@
-use Rattle.std.proofs.Common.{◌≡◌, ◌+◌, ◌-◌, ◌≤◌, ◌++◌, take, length, arith, vec_len, replicate}
+use Rattle.std.proofs.Common.{◌≡◌, ◌+◌, ◌-◌, ◌≤◌, ◌++◌, take, length, arith, vec_len, replicate, rules}
 use Rattle.std.proofs.lemmas.Grind.{common_steps}
 use Rattle.lnt_wire.proofs.PullLaws.{gives_written, front_kept}
 use Rattle.lnt_wire.proofs.source.take_block.Goals as goal
@@ -15,3 +15,6 @@ returns-clause-bytes g c =
     let room : c.len-start.result + c.in-Ok.count ≤ c.resize.new.self.len = grind (arith, common_steps) in
     gives_written _ _ c.in-Ok.count c.resize.new.self.len c.len-start.result c.args.all.now.items c.deref_mut.result.now c.fill.new.room
     _ _ c.truncate.new.self.items c.in-Ok.ensures.bytes start front c.in-Ok.ensures.bound room c.truncate.ensures.items
+
+pub returns-then-is_err-clause-read : goal.returns-then-is_err-clause-read
+returns-then-is_err-clause-read c = search rules
