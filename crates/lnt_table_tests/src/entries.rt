@@ -11,6 +11,7 @@ fn kept(alloc: Global) -> Option<KeptHeader> {
     let frame = take_frame(&mut Cursor::new(&PLAIN, 0, Order::Little)).ok()?;
     let (header, _) = view_header(alloc, &frame, Order::Little).ok()?;
     if in_place::tables_fault(&header.view(), &StringEnds::of(STRINGS)).is_some() {
+        drop(header);
         return None;
     }
     header.keep(alloc, None).ok()
@@ -19,6 +20,12 @@ fn kept(alloc: Global) -> Option<KeptHeader> {
 // The path of one of the unit's two files. The outer None: there is no header, or memory ran out.
 fn path(alloc: Global, file: u64) -> Option<Option<Vec<u8>>> {
     let kept = kept(alloc)?;
+    let path = path_in(alloc, &kept, file);
+    drop(kept);
+    path
+}
+
+fn path_in(alloc: Global, kept: &KeptHeader, file: u64) -> Option<Option<Vec<u8>>> {
     let view = kept.view();
     if in_place::tables_fault(&view, &StringEnds::of(STRINGS)).is_some() {
         return None;
@@ -29,15 +36,21 @@ fn path(alloc: Global, file: u64) -> Option<Option<Vec<u8>>> {
 // How many files the header has whose entries are at hand again.
 fn count_again(alloc: Global) -> Option<usize> {
     let kept = kept(alloc)?;
-    let header = kept.view().to_header(alloc).ok()?;
-    Some(header.files().len())
+    let header = kept.view().to_header(alloc).ok();
+    drop(kept);
+    let header = header?;
+    let count = header.files().len();
+    drop(header);
+    Some(count)
 }
 
 // How many files the header has that is decoded whole.
 fn decoded_count(alloc: Global) -> Option<usize> {
     let frame = take_frame(&mut Cursor::new(&PLAIN, 0, Order::Little)).ok()?;
     let (header, _) = decode_header(alloc, &frame, Order::Little).ok()?;
-    Some(header.files().len())
+    let count = header.files().len();
+    drop(header);
+    Some(count)
 }
 
 #[test]
