@@ -81,7 +81,9 @@ pub fn print_stretches<T: Source, W: Write>(
         }
         Ok(AnyDiffering::ByPath(HeldTable::Table(version, spans))) => {
             let differences = differences_by_path(index, &spans, version);
-            let status = print_path_differences(alloc, differences, &IndexPaths::of(index), out)?;
+            let printed = print_path_differences(alloc, differences, &IndexPaths::of(index), out);
+            drop(spans);
+            let status = printed?;
             Ok(Stretches::ToldByPath(status))
         }
         Ok(AnyDiffering::ByPath(HeldTable::Fault(fault))) => {
@@ -139,28 +141,30 @@ fn print_path_differences<S: SpanSource + Drop, P: Paths, W: Write>(
         return Ok(Status::Done);
     };
     let mut room = Vec::new(alloc);
-    print_path_difference(&first, &mut room, out)?;
+    print_path_difference(first, &mut room, out)?;
     while let Some(difference) = differences.next_difference(alloc, paths)? {
-        print_path_difference(&difference, &mut room, out)?;
+        print_path_difference(difference, &mut room, out)?;
     }
     Ok(Status::No)
 }
 
 // Prints the line of a stretch. The line is made in `room` first, whose old contents are dropped.
 fn print_path_difference<W: Write>(
-    difference: &DifferenceByPath,
+    difference: DifferenceByPath,
     room: &mut Vec<u8>,
     out: &mut W,
 ) -> Result<(), Halt>
     ensures err { IfErr result IsPrinting }
-    ensures line { OnOk result (Appends (W.contents out.old) (W.contents out.new) (path_stretch_line (stretch_of difference.now))) }
-    ensures front { OnErr result (AppendsFront (W.contents out.old) (W.contents out.new) (path_stretch_line (stretch_of difference.now))) }
+    ensures line { OnOk result (Appends (W.contents out.old) (W.contents out.new) (path_stretch_line (stretch_of difference))) }
+    ensures front { OnErr result (AppendsFront (W.contents out.old) (W.contents out.new) (path_stretch_line (stretch_of difference))) }
 {
     room.clear();
     // A vector refuses a piece of the line only for want of memory.
-    let Ok(()) = writeln!(room, "{}", PathDifferenceLine(difference)) else {
+    let written = writeln!(room, "{}", PathDifferenceLine(&difference));
+    drop(difference);
+    if written.is_err() {
         return Err(Halt::Memory);
-    };
+    }
     write_whole(out, room.as_slice())?;
     Ok(())
 }

@@ -72,11 +72,3 @@ loop-room-preserved g c f f' h =
     c.next_difference-in-loop-room.new.self f f' (g.W.Write.contents c.args.out.now) (g.W.Write.contents c.loop-room.out)
     (g.W.Write.contents c.print_path_difference-in-Some-2.new.out) c.in-Some-2.difference printed
     (rw c.in-Some-2.is at c.in_ok-difference.ensures.told f f' (printed.first ∷ printed.more) printed.told) (search rules)
-
-pub loop-room-preserved-in_ok-print_path_difference-2 : goal.loop-room-preserved-in_ok-print_path_difference-2
-loop-room-preserved-in_ok-print_path_difference-2 g c f f' h =
-    let printed = c.loop-room.invariant f f' h in
-    printed_more_path g.S.SpanSource.to_come (g.P.Paths.bytes_of c.args.paths.now) c.loop-room.differences
-    c.next_difference-in-loop-room.new.self f f' (g.W.Write.contents c.args.out.now) (g.W.Write.contents c.loop-room.out)
-    (g.W.Write.contents c.print_path_difference-in-Some-2.new.out) c.in-Some-2.difference printed
-    (rw c.in-Some-2.is at c.in_ok-difference.ensures.told f f' (printed.first ∷ printed.more) printed.told) (search rules)

@@ -48,7 +48,7 @@ returns-in_err-status-in-Ok-ByPath-Table-clause-begun g c =
     (inr (λ dead skip units is.
     begun_by_path _ c.args.index.now _ c.differences_by_path-differences.result c.in-Ok-ByPath-Table.version
     c.in-Ok-ByPath-Table.spans.items c.deref.result.now dead skip units (g.T.Source.remaining c.args.table.now)
-    (g.W.Write.contents c.args.out.now) (g.W.Write.contents c.print_path_differences.new.out) c.deref.ensures.value c.of.ensures
+    (g.W.Write.contents c.args.out.now) (g.W.Write.contents c.print_path_differences-printed.new.out) c.deref.ensures.value c.of.ensures
     (rw c.in-Ok-ByPath-Table.field-0-0-is
     at (rw c.in-Ok-ByPath-Table.field-0-is at c.in-Ok-ByPath-Table.ensures.ok dead skip units is))
     (rw c.in-Ok-ByPath-Table.field-0-0-is at (rw c.in-Ok-ByPath-Table.field-0-is at c.in-Ok-ByPath-Table.ensures.started))
