@@ -1,4 +1,3 @@
-use Rattle.std.proofs.Common.{rules}
 use Rattle.lnt_cli.specs.Stopped.{BeginsAddressesJudged}
 use Rattle.lnt_cli.proofs.StopLemmas.{of_file_stopped}
 use Rattle.lnt_cli.proofs.question.answer_lines.Goals as goal
@@ -11,12 +10,3 @@ returns-clause-stopped g c =
     (λ judged text. BeginsAddressesJudged judged c.args.op text old new) old new c.in_ok-opened.opened.texts.line.items
     c.in_ok-opened.opened.texts.general.items _ _ c.answer_lines_of.result c.in_ok-opened.ensures.texts
     c.in_ok-opened.ensures.section_told c.in_ok-opened.ensures.file_told c.answer_lines_of.ensures.stopped
-
-pub returns-in_err-opened-clause-answer : goal.returns-in_err-opened-clause-answer
-returns-in_err-opened-clause-answer c = search rules
-
-pub returns-in_err-opened-clause-stopped : goal.returns-in_err-opened-clause-stopped
-returns-in_err-opened-clause-stopped c = search rules
-
-pub returns-in_err-opened-clause-usage : goal.returns-in_err-opened-clause-usage
-returns-in_err-opened-clause-usage c = search rules

@@ -1,4 +1,4 @@
-use Rattle.std.proofs.Common.{IfSome, rules}
+use Rattle.std.proofs.Common.{IfSome}
 use Rattle.lnt_lines.specs.Drafts.{IsJudgedIndex}
 use Rattle.lnt_cli.specs.Answered.{options_in}
 use Rattle.lnt_cli.specs.Stopped.{BeginsAddressesJudged}
@@ -14,9 +14,3 @@ returns-in_err-index-clause-stopped g c =
     (λ bytes. IsJudgedIndex c.args.texts.now.line.items c.args.texts.now.general.items (options_in c.args.from.now) bytes judged))
     (λ judged. BeginsAddressesJudged judged c.args.op (g.T.Source.remaining c.args.lines.now) old new) old new c.from_residual.result
     (λ reason front. front) c.in_err-index.ensures.stopped
-
-pub returns-in_err-index-clause-answer : goal.returns-in_err-index-clause-answer
-returns-in_err-index-clause-answer c = search rules
-
-pub returns-in_err-index-clause-usage : goal.returns-in_err-index-clause-usage
-returns-in_err-index-clause-usage c = search rules

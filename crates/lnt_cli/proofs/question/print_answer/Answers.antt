@@ -19,6 +19,3 @@ returns-in-TableByPath-false-clause-stopped g c =
     rw (c.in-TableByPath-false.is, ← sym c.in-TableByPath-false.columns-test ∙ c.in-TableByPath-false.columns-is)
     (on_err_weaker c.print_path_table-in-TableByPath-false.result
     (λ begun options units is. begun options.dead options.skip_copies units is) c.print_path_table-in-TableByPath-false.ensures.begun)
-
-pub returns-in_err-write_whole-in-Verify-clause-answer : goal.returns-in_err-write_whole-in-Verify-clause-answer
-returns-in_err-write_whole-in-Verify-clause-answer c = search rules

@@ -27,24 +27,3 @@ loop-op-preserved c =
 
 pub returns-then-is_open-clause-ok : goal.returns-then-is_open-clause-ok
 returns-then-is_open-clause-ok c = search rules
-
-pub returns-in_err-op-clause-err : goal.returns-in_err-op-clause-err
-returns-in_err-op-clause-err c = search rules
-
-pub returns-in_err-op-clause-ok : goal.returns-in_err-op-clause-ok
-returns-in_err-op-clause-ok c = search rules
-
-pub returns-in_err-op-clause-same : goal.returns-in_err-op-clause-same
-returns-in_err-op-clause-same c = search rules
-
-pub returns-in_err-op-clause-shorter : goal.returns-in_err-op-clause-shorter
-returns-in_err-op-clause-shorter c = search rules
-
-pub returns-in_err-row-clause-ok : goal.returns-in_err-row-clause-ok
-returns-in_err-row-clause-ok c = search rules
-
-pub returns-in_err-row-clause-same : goal.returns-in_err-row-clause-same
-returns-in_err-row-clause-same c = search rules
-
-pub returns-in_err-row-clause-shorter : goal.returns-in_err-row-clause-shorter
-returns-in_err-row-clause-shorter c = search rules

@@ -1,4 +1,4 @@
-use Rattle.std.proofs.Common.{◌≢◌, subst, Some, Result, arith, rules}
+use Rattle.std.proofs.Common.{◌≢◌, subst, Some, Result, arith}
 use Rattle.std.proofs.lemmas.Result.{err_from_is_err_and}
 use Rattle.std.proofs.lemmas.Grind.{common_steps}
 use Rattle.lnt_wire.specs.declared.fault.Fault.{Fault}
@@ -34,6 +34,3 @@ loop-view-preserved c =
 
 pub returns-clause-ok : goal.returns-clause-ok
 returns-clause-ok c = grind (arith, common_steps)
-
-pub returns-in_err-view-clause-ok : goal.returns-in_err-view-clause-ok
-returns-in_err-view-clause-ok c = search rules

@@ -26,15 +26,3 @@ returns-in_err-view-clause-err c = search (rules, gives_special, gives_after, fi
 pub returns-then-opcode-opcode_base-clause-ok : goal.returns-then-opcode-opcode_base-clause-ok
 returns-then-opcode-opcode_base-clause-ok c =
     search (rules, gives_special, gives_after, first_opcode, first_after, refuses_opcode, refuses_after)
-
-pub returns-in_err-opcode-clause-ok : goal.returns-in_err-opcode-clause-ok
-returns-in_err-opcode-clause-ok c = search rules
-
-pub returns-in_err-opcode-clause-unchanged : goal.returns-in_err-opcode-clause-unchanged
-returns-in_err-opcode-clause-unchanged c = search rules
-
-pub returns-in_err-view-clause-ok : goal.returns-in_err-view-clause-ok
-returns-in_err-view-clause-ok c = search rules
-
-pub returns-in_err-view-clause-unchanged : goal.returns-in_err-view-clause-unchanged
-returns-in_err-view-clause-unchanged c = search rules

@@ -55,21 +55,3 @@ returns-in_ok-uleb-in-4-clause-ok c = search (rules, standard_reads)
 
 pub returns-in_ok-uleb-in-5-clause-ok : goal.returns-in_ok-uleb-in-5-clause-ok
 returns-in_ok-uleb-in-5-clause-ok c = search (rules, standard_reads)
-
-pub returns-in_err-sleb-in-3-clause-ok : goal.returns-in_err-sleb-in-3-clause-ok
-returns-in_err-sleb-in-3-clause-ok c = search rules
-
-pub returns-in_err-u16-in-9-clause-ok : goal.returns-in_err-u16-in-9-clause-ok
-returns-in_err-u16-in-9-clause-ok c = search rules
-
-pub returns-in_err-uleb-in-12-clause-ok : goal.returns-in_err-uleb-in-12-clause-ok
-returns-in_err-uleb-in-12-clause-ok c = search rules
-
-pub returns-in_err-uleb-in-2-clause-ok : goal.returns-in_err-uleb-in-2-clause-ok
-returns-in_err-uleb-in-2-clause-ok c = search rules
-
-pub returns-in_err-uleb-in-4-clause-ok : goal.returns-in_err-uleb-in-4-clause-ok
-returns-in_err-uleb-in-4-clause-ok c = search rules
-
-pub returns-in_err-uleb-in-5-clause-ok : goal.returns-in_err-uleb-in-5-clause-ok
-returns-in_err-uleb-in-5-clause-ok c = search rules

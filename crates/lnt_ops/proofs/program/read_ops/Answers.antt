@@ -1,4 +1,4 @@
-use Rattle.std.proofs.Common.{◌≡◌, ◌≢◌, ◌∷◌, ◌++◌, [], subst, arith, Some, Result, rules}
+use Rattle.std.proofs.Common.{◌≡◌, ◌≢◌, ◌∷◌, ◌++◌, [], subst, arith, Some, Result}
 use Rattle.std.proofs.lemmas.Grind.{common_steps}
 use Rattle.std.proofs.lemmas.Result.{err_from_is_err_and}
 use Rattle.lnt_wire.specs.declared.fault.Reason.TheVariants.{Memory}
@@ -40,9 +40,3 @@ pub returns-clause-admitted : goal.returns-clause-admitted
 returns-clause-admitted c =
     rw c.new.ensures (ops_admitted c.args.header.now c.args.place c.args.program.now c.loop-view.ops.items c.loop-view.view-iterator.at
     c.loop-view.invariant.2)
-
-pub returns-in_err-view-clause-admitted : goal.returns-in_err-view-clause-admitted
-returns-in_err-view-clause-admitted c = search rules
-
-pub returns-in_err-view-clause-ok : goal.returns-in_err-view-clause-ok
-returns-in_err-view-clause-ok c = search rules

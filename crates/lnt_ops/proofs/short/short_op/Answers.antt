@@ -13,30 +13,3 @@ returns-in-1-clause-none c = search rules
 
 pub returns-in_ok-short_number-in-4-clause-some : goal.returns-in_ok-short_number-in-4-clause-some
 returns-in_ok-short_number-in-4-clause-some c = search (rules, front_set_file)
-
-pub returns-in_err-by-in-3-clause-none : goal.returns-in_err-by-in-3-clause-none
-returns-in_err-by-in-3-clause-none c = search rules
-
-pub returns-in_err-by-in-3-clause-some : goal.returns-in_err-by-in-3-clause-some
-returns-in_err-by-in-3-clause-some c = search rules
-
-pub returns-in_err-short_discriminator-in-0-clause-some : goal.returns-in_err-short_discriminator-in-0-clause-some
-returns-in_err-short_discriminator-in-0-clause-some c = search rules
-
-pub returns-in_err-short_number-in-2-clause-none : goal.returns-in_err-short_number-in-2-clause-none
-returns-in_err-short_number-in-2-clause-none c = search rules
-
-pub returns-in_err-short_number-in-2-clause-some : goal.returns-in_err-short_number-in-2-clause-some
-returns-in_err-short_number-in-2-clause-some c = search rules
-
-pub returns-in_err-short_number-in-4-clause-none : goal.returns-in_err-short_number-in-4-clause-none
-returns-in_err-short_number-in-4-clause-none c = search rules
-
-pub returns-in_err-short_number-in-4-clause-some : goal.returns-in_err-short_number-in-4-clause-some
-returns-in_err-short_number-in-4-clause-some c = search rules
-
-pub returns-in_err-short_number-in-5-clause-none : goal.returns-in_err-short_number-in-5-clause-none
-returns-in_err-short_number-in-5-clause-none c = search rules
-
-pub returns-in_err-short_number-in-5-clause-some : goal.returns-in_err-short_number-in-5-clause-some
-returns-in_err-short_number-in-5-clause-some c = search rules

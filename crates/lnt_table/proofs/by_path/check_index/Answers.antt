@@ -1,4 +1,3 @@
-use Rattle.std.proofs.Common.{rules}
 use Rattle.lnt_table.proofs.AnyLemmas.{numbered_told, path_told}
 use Rattle.lnt_table.proofs.by_path.check_index.Goals as goal
 
@@ -22,18 +21,3 @@ returns-in-Ok-clause-ok g c dead skip units is =
     path_told (g.T.Source.remaining c.args.table.now) c.in-Other.text.items c.args.index.now dead skip units all.spans c.in-Ok.compared
     (rw c.in-Other.is at c.in_ok-read.ensures.ok one.spans one.to_come one.in_order) all.answers
     (rw c.deref.ensures.value at c.in-Ok.ensures all.spans all.to_come all.in_order)
-
-pub returns-in_err-read-clause-good : goal.returns-in_err-read-clause-good
-returns-in_err-read-clause-good c = search rules
-
-pub returns-in_err-read-clause-no_failure : goal.returns-in_err-read-clause-no_failure
-returns-in_err-read-clause-no_failure c = search rules
-
-pub returns-in_err-read-clause-ok : goal.returns-in_err-read-clause-ok
-returns-in_err-read-clause-ok c = search rules
-
-pub returns-in_err-read-clause-read : goal.returns-in_err-read-clause-read
-returns-in_err-read-clause-read c = search rules
-
-pub returns-in_err-read-clause-too_long : goal.returns-in_err-read-clause-too_long
-returns-in_err-read-clause-too_long c = search rules

@@ -1,4 +1,3 @@
-use Rattle.std.proofs.Common.{rules}
 use Rattle.lnt_sequences.specs.Sequences.{line_answer}
 use Rattle.lnt_table.proofs.StretchLemmas.{held_of, numbered_from_units, numbered_started}
 use Rattle.lnt_table.proofs.stretches.differences_any.Goals as goal
@@ -27,18 +26,3 @@ returns-in-Ok-clause-ok g c dead skip units is =
     c.in-Other.is
     (c.in_ok-read.ensures.ok all.spans (line_answer dead skip units) all.to_come all.in_order all.answers)
     (rw c.deref.ensures.value at c.in-Ok.ensures.held)
-
-pub returns-in_err-read-clause-no_failure : goal.returns-in_err-read-clause-no_failure
-returns-in_err-read-clause-no_failure c = search rules
-
-pub returns-in_err-read-clause-ok : goal.returns-in_err-read-clause-ok
-returns-in_err-read-clause-ok c = search rules
-
-pub returns-in_err-read-clause-read : goal.returns-in_err-read-clause-read
-returns-in_err-read-clause-read c = search rules
-
-pub returns-in_err-read-clause-started : goal.returns-in_err-read-clause-started
-returns-in_err-read-clause-started c = search rules
-
-pub returns-in_err-read-clause-too_long : goal.returns-in_err-read-clause-too_long
-returns-in_err-read-clause-too_long c = search rules

@@ -24,9 +24,3 @@ returns-clause-line g c =
     (text_in_room c.clear.new.self.items c.writeln-written.new.self.items c.as_slice.result.now
     (path_stretch_line (stretch_of c.args.difference)) c.clear.ensures.items (search rules) c.as_slice.ensures.value)
     c.in_ok-write_whole.ensures.whole
-
-pub returns-in_err-write_whole-clause-err : goal.returns-in_err-write_whole-clause-err
-returns-in_err-write_whole-clause-err c = search rules
-
-pub returns-in_err-write_whole-clause-line : goal.returns-in_err-write_whole-clause-line
-returns-in_err-write_whole-clause-line c = search rules

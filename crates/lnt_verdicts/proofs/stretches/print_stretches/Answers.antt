@@ -1,4 +1,4 @@
-use Rattle.std.proofs.Common.{inr, rules}
+use Rattle.std.proofs.Common.{inr}
 use Rattle.lnt_output.proofs.FrontLaws.{so_stopped}
 use Rattle.lnt_verdicts.proofs.PathStretchLemmas.{begun_by_path, told_by_path}
 use Rattle.lnt_verdicts.proofs.StretchLemmas.{begun_of, fault_begun, path_fault_begun, told_of}
@@ -63,39 +63,3 @@ returns-in_err-print_fault-in-Ok-ByPath-Fault-clause-begun g c =
     (rw c.in-Ok-ByPath-Fault.field-0-0-is
     at (rw c.in-Ok-ByPath-Fault.field-0-is at c.in-Ok-ByPath-Fault.ensures.ok dead skip units is))
     c.in_err-print_fault-in-Ok-ByPath-Fault.ensures.front))
-
-pub returns-in_err-print_fault-in-Ok-ByPath-Fault-clause-faulty : goal.returns-in_err-print_fault-in-Ok-ByPath-Fault-clause-faulty
-returns-in_err-print_fault-in-Ok-ByPath-Fault-clause-faulty c = search rules
-
-pub returns-in_err-print_fault-in-Ok-ByPath-Fault-clause-read : goal.returns-in_err-print_fault-in-Ok-ByPath-Fault-clause-read
-returns-in_err-print_fault-in-Ok-ByPath-Fault-clause-read c = search rules
-
-pub returns-in_err-print_fault-in-Ok-ByPath-Fault-clause-told : goal.returns-in_err-print_fault-in-Ok-ByPath-Fault-clause-told
-returns-in_err-print_fault-in-Ok-ByPath-Fault-clause-told c = search rules
-
-pub returns-in_err-print_fault-in-Ok-Numbered-Fault-clause-faulty : goal.returns-in_err-print_fault-in-Ok-Numbered-Fault-clause-faulty
-returns-in_err-print_fault-in-Ok-Numbered-Fault-clause-faulty c = search rules
-
-pub returns-in_err-print_fault-in-Ok-Numbered-Fault-clause-read : goal.returns-in_err-print_fault-in-Ok-Numbered-Fault-clause-read
-returns-in_err-print_fault-in-Ok-Numbered-Fault-clause-read c = search rules
-
-pub returns-in_err-print_fault-in-Ok-Numbered-Fault-clause-told : goal.returns-in_err-print_fault-in-Ok-Numbered-Fault-clause-told
-returns-in_err-print_fault-in-Ok-Numbered-Fault-clause-told c = search rules
-
-pub returns-in_err-status-in-Ok-ByPath-Table-clause-faulty : goal.returns-in_err-status-in-Ok-ByPath-Table-clause-faulty
-returns-in_err-status-in-Ok-ByPath-Table-clause-faulty c = search rules
-
-pub returns-in_err-status-in-Ok-ByPath-Table-clause-read : goal.returns-in_err-status-in-Ok-ByPath-Table-clause-read
-returns-in_err-status-in-Ok-ByPath-Table-clause-read c = search rules
-
-pub returns-in_err-status-in-Ok-ByPath-Table-clause-told : goal.returns-in_err-status-in-Ok-ByPath-Table-clause-told
-returns-in_err-status-in-Ok-ByPath-Table-clause-told c = search rules
-
-pub returns-in_err-status-in-Ok-Numbered-Table-clause-faulty : goal.returns-in_err-status-in-Ok-Numbered-Table-clause-faulty
-returns-in_err-status-in-Ok-Numbered-Table-clause-faulty c = search rules
-
-pub returns-in_err-status-in-Ok-Numbered-Table-clause-read : goal.returns-in_err-status-in-Ok-Numbered-Table-clause-read
-returns-in_err-status-in-Ok-Numbered-Table-clause-read c = search rules
-
-pub returns-in_err-status-in-Ok-Numbered-Table-clause-told : goal.returns-in_err-status-in-Ok-Numbered-Table-clause-told
-returns-in_err-status-in-Ok-Numbered-Table-clause-told c = search rules

@@ -24,9 +24,3 @@ returns-in-Err-clause-begun g c dead skip units is =
 
 pub returns-in_ok-print_operation-in-Ok-OperationIndex-clause-table : goal.returns-in_ok-print_operation-in-Ok-OperationIndex-clause-table
 returns-in_ok-print_operation-in-Ok-OperationIndex-clause-table g c = search rules
-
-pub returns-in_err-print_operation-in-Ok-OperationIndex-clause-err : goal.returns-in_err-print_operation-in-Ok-OperationIndex-clause-err
-returns-in_err-print_operation-in-Ok-OperationIndex-clause-err c = search rules
-
-pub returns-in_err-print_operation-in-Ok-OperationIndex-clause-table : goal.returns-in_err-print_operation-in-Ok-OperationIndex-clause-table
-returns-in_err-print_operation-in-Ok-OperationIndex-clause-table c = search rules

@@ -24,15 +24,3 @@ returns-clause-offset c = search rules
 
 pub begins_with_five-requires : goal.begins_with_five-requires
 begins_with_five-requires c = grind (arith, common_steps)
-
-pub returns-in_err-begins_with_five-clause-err : goal.returns-in_err-begins_with_five-clause-err
-returns-in_err-begins_with_five-clause-err c = search rules
-
-pub returns-in_err-begins_with_five-clause-offset : goal.returns-in_err-begins_with_five-clause-offset
-returns-in_err-begins_with_five-clause-offset c = search rules
-
-pub returns-in_err-begins_with_five-clause-ok : goal.returns-in_err-begins_with_five-clause-ok
-returns-in_err-begins_with_five-clause-ok c = search rules
-
-pub returns-in_err-begins_with_five-clause-unchanged : goal.returns-in_err-begins_with_five-clause-unchanged
-returns-in_err-begins_with_five-clause-unchanged c = search rules

@@ -1,4 +1,4 @@
-use Rattle.std.proofs.Common.{◌≡◌, ◌∙◌, ◌<◌, ap, get_or, length, subst, sym, List, arith, rules}
+use Rattle.std.proofs.Common.{◌≡◌, ◌∙◌, ◌<◌, ap, get_or, length, subst, sym, List, arith}
 use Rattle.std.proofs.lemmas.Grind.{elements}
 use Rattle.lnt_machine.specs.Walking.{KeptProgram}
 use Rattle.lnt_files.specs.Tables.{AreUsableTables}
@@ -31,12 +31,3 @@ returns-clause-header c = grind (arith, elements)
 
 pub returns-in_err-program-clause-header : goal.returns-in_err-program-clause-header
 returns-in_err-program-clause-header c = grind (arith, elements)
-
-pub returns-in_err-place-clause-header : goal.returns-in_err-place-clause-header
-returns-in_err-place-clause-header c = search rules
-
-pub returns-in_err-place-clause-usable : goal.returns-in_err-place-clause-usable
-returns-in_err-place-clause-usable c = search rules
-
-pub returns-in_err-program-clause-usable : goal.returns-in_err-program-clause-usable
-returns-in_err-program-clause-usable c = search rules

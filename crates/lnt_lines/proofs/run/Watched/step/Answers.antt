@@ -1,4 +1,4 @@
-use Rattle.std.proofs.Common.{◌≡◌, ◌-◌, [], ◌∷◌, ◌++◌, ◌∙◌, arith, length, sym, refl, rules}
+use Rattle.std.proofs.Common.{◌≡◌, ◌-◌, [], ◌∷◌, ◌++◌, ◌∙◌, arith, length, sym, refl}
 use Rattle.std.proofs.lemmas.Bool.{true≢false}
 use Rattle.std.proofs.lemmas.Grind.{common_steps}
 use Rattle.std.proofs.lemmas.Result.{err_from_is_err_and}
@@ -36,12 +36,3 @@ returns-else-row-clause-goes_on c dead view files old walk walk' ran step room l
     c.args.places.now.items _ watched.place _ c.args.op.now c.in_ok-row.field-0 c.in-Some.row
     ran step c.in_ok-row.ensures.ok room.0 c.in-Some.is c.in-Ok.ensures.seen c.in-Ok.ensures.collects
     (λ e. absurd (true≢false (sym e ∙ c.if-row.false))) (λ e. (refl, refl))
-
-pub returns-in_err-row-clause-goes_on : goal.returns-in_err-row-clause-goes_on
-returns-in_err-row-clause-goes_on c = search rules
-
-pub returns-in_err-row-clause-header : goal.returns-in_err-row-clause-header
-returns-in_err-row-clause-header c = search rules
-
-pub returns-in_err-row-clause-same : goal.returns-in_err-row-clause-same
-returns-in_err-row-clause-same c = search rules

@@ -1,5 +1,5 @@
 use Rattle.std.proofs.lemmas.Result.{err_from_is_err_and}
-use Rattle.std.proofs.Common.{arith, rules}
+use Rattle.std.proofs.Common.{arith}
 use Rattle.std.proofs.lemmas.Grind.{common_steps}
 use Rattle.lnt_lines.proofs.run.Watched.step_short.Goals as goal
 
@@ -12,12 +12,3 @@ returns-in_err-step-clause-err c =
 
 pub loop-op-preserved : goal.loop-op-preserved
 loop-op-preserved c = grind (arith, common_steps)
-
-pub returns-in_err-step-clause-goes_on : goal.returns-in_err-step-clause-goes_on
-returns-in_err-step-clause-goes_on c = search rules
-
-pub returns-in_err-step-clause-no_longer : goal.returns-in_err-step-clause-no_longer
-returns-in_err-step-clause-no_longer c = search rules
-
-pub returns-in_err-step-clause-same : goal.returns-in_err-step-clause-same
-returns-in_err-step-clause-same c = search rules

@@ -23,12 +23,3 @@ returns-clause-rows c unit d keeps =
 
 pub returns-clause-none : goal.returns-clause-none
 returns-clause-none c = search rules
-
-pub returns-in_err-place-clause-left : goal.returns-in_err-place-clause-left
-returns-in_err-place-clause-left c = search rules
-
-pub returns-in_err-place-clause-none : goal.returns-in_err-place-clause-none
-returns-in_err-place-clause-none c = search rules
-
-pub returns-in_err-place-clause-rows : goal.returns-in_err-place-clause-rows
-returns-in_err-place-clause-rows c = search rules

@@ -1,4 +1,4 @@
-use Rattle.std.proofs.Common.{refl, arith, rules}
+use Rattle.std.proofs.Common.{refl, arith}
 use Rattle.std.proofs.lemmas.Grind.{common_steps}
 use Rattle.lnt_wire.proofs.ValueLemmas.{refuses_cut_block}
 use Rattle.lnt_wire.proofs.cursor.Cursor.block.Goals as goal
@@ -10,9 +10,3 @@ returns-then-size-bytes-clause-err c =
 
 pub returns-in_err-size-clause-err : goal.returns-in_err-size-clause-err
 returns-in_err-size-clause-err c = grind (arith, common_steps)
-
-pub returns-in_err-size-clause-ok : goal.returns-in_err-size-clause-ok
-returns-in_err-size-clause-ok c = search rules
-
-pub returns-in_err-size-clause-unchanged : goal.returns-in_err-size-clause-unchanged
-returns-in_err-size-clause-unchanged c = search rules
