@@ -188,14 +188,15 @@ same_sum line general h (file ∷ files) [] n all = absurd all
 same_sum line general h (file ∷ files) (k ∷ kept) zero all = sym all.0.sum
 same_sum line general h (file ∷ files) (k ∷ kept) (suc n) all = same_sum line general h files kept n all.1
 
-pub kept_all : (line general : List ℕ) (h : HeaderParts) (n : ℕ) (paths : List ℕ) (kept : List PathEnd)
-    → KeepsFiles line general h (take n h.files) paths kept → length h.files ≤ n
-    → AreFilesOf line general h (kept_files paths 0 kept)
-kept_all line general h n paths kept k le =
-    let all : AllZip (IsKeptFile line general h) h.files (kept_files paths 0 kept) =
-    subst (λ (z : List Entry). AllZip (IsKeptFile line general h) z (kept_files paths 0 kept)) (take_all n h.files le) k.same in
-    record {
-      count = same_count (IsKeptFile line general h) h.files (kept_files paths 0 kept) all;
-      paths = λ number. same_path line general h h.files (kept_files paths 0 kept) number all;
-      sums = λ number. same_sum line general h h.files (kept_files paths 0 kept) number all;
-    }
+pub all_kept : (line general : List ℕ) (h : HeaderParts) (n : ℕ) (paths : List ℕ) (kept : List PathEnd)
+    → KeepsFiles line general h (take n h.files) paths kept → length h.files ≤ n → KeepsFiles line general h h.files paths kept
+all_kept line general h n paths kept k le =
+    subst (λ (z : List Entry). KeepsFiles line general h z paths kept) (take_all n h.files le) k
+
+pub are_files : (line general : List ℕ) (h : HeaderParts) (paths : List ℕ) (kept : List PathEnd)
+    → KeepsFiles line general h h.files paths kept → AreFilesOf line general h (kept_files paths 0 kept)
+are_files line general h paths kept k = record {
+  count = same_count (IsKeptFile line general h) h.files (kept_files paths 0 kept) k.same;
+  paths = λ number. same_path line general h h.files (kept_files paths 0 kept) number k.same;
+  sums = λ number. same_sum line general h h.files (kept_files paths 0 kept) number k.same;
+}

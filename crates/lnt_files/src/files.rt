@@ -1,10 +1,10 @@
 //! The files of a header, kept without its bytes.
-ghost use Rattle.std.specs.Prelude.{◌≡◌, ◌+◌, ◌<◌, IfOk, length};
+ghost use Rattle.std.specs.Prelude.{◌≡◌, ◌+◌, ◌<◌, [], IfOk, length};
 ghost use Rattle.std.specs.List.{slice_get};
 ghost use Rattle.std.specs.Option.{option_map, option_and_then, option_copied};
 ghost use Rattle.lnt_files.specs.Files.{AreFilesOf, kept_path, kept_sum};
 ghost use Rattle.lnt_files.specs.Kept.{EndAt, kept_files};
-ghost use Rattle.lnt_files.specs.Stepping.{start_of};
+ghost use Rattle.lnt_files.specs.Stepping.{start_of, KeepsFiles};
 ghost use Rattle.lnt_files.specs.Tables.{AreUsableTables};
 
 use crate::contents::sum_of;
@@ -49,22 +49,21 @@ impl Model for Files {
 impl Files {
     /// The files of the header. The caller sees to it that its tables are usable, which `tables_fault` tests. It
     /// refuses only where memory runs out, and takes one run of bytes for all paths.
-    #[tactic(auto, using(crate::proofs::KeptLemmas::keeps_none, crate::proofs::KeptLemmas::kept_all))]
     pub fn of(alloc: Global, header: &Header, strings: &Strings<'_>) -> Result<Files, AllocError>
         requires { AreUsableTables strings.now.line.now strings.now.general.now header.now }
         ensures { IfOk result (λ files. AreFilesOf strings.now.line.now strings.now.general.now header.now files) }
     {
         let mut paths = Vec::with_capacity(alloc, ROOM)?;
-        let mut kept = Vec::with_capacity(alloc, header.files().len())?;
-        for file in header.files() {
-            add_path(&mut paths, header, strings, file)?;
-            kept.push(PathEnd {
-                end: paths.len(),
-                listed: sum_of(header.file_format(), file),
-            })?;
+        match ends_of(alloc, &mut paths, header, strings) {
+            Ok(kept) => {
+                paths.shrink_to_fit();
+                Ok(Files { paths, kept })
+            }
+            Err(error) => {
+                drop(paths);
+                Err(error)
+            }
         }
-        paths.shrink_to_fit();
-        Ok(Files { paths, kept })
     }
 
     /// How many files there are.
@@ -89,6 +88,30 @@ impl Files {
     {
         sum_at(&self.kept, file)
     }
+}
+
+// Adds the whole paths of the header's files to `paths`, where there are none, and gives their ends with the sums.
+#[tactic(auto, using(crate::proofs::KeptLemmas::keeps_none))]
+fn ends_of(
+    alloc: Global,
+    paths: &mut Vec<u8>,
+    header: &Header,
+    strings: &Strings<'_>,
+) -> Result<Vec<PathEnd>, AllocError>
+    requires usable { AreUsableTables strings.now.line.now strings.now.general.now header.now }
+    requires empty { paths.old.items ≡ [] }
+    ensures { IfOk result (λ kept. KeepsFiles strings.now.line.now strings.now.general.now header.now header.now.files paths.new.items
+        kept.items) }
+{
+    let mut kept = Vec::with_capacity(alloc, header.files().len())?;
+    for file in header.files() {
+        add_path(paths, header, strings, file)?;
+        kept.push(PathEnd {
+            end: paths.len(),
+            listed: sum_of(header.file_format(), file),
+        })?;
+    }
+    Ok(kept)
 }
 
 fn kept_at(kept: &[PathEnd], file: u64) -> Option<&PathEnd>

@@ -13,7 +13,7 @@ use Rattle.lnt_wire.specs.declared.format.Format.{Format}
 use Rattle.lnt_header.specs.declared.header.Entry.{Entry}
 use Rattle.lnt_header.specs.declared.header.Pair.{Pair}
 use Rattle.lnt_header_bytes.specs.declared.table.Layout.TheVariants.{Path, IndexedPath, SummedPath}
-use Rattle.lnt_header_bytes.specs.Stepping.{Passes, PassesAll, IsLayout}
+use Rattle.lnt_header_bytes.specs.Stepping.{Passes, PassesAll, PassesFirstTwo, IsLayout}
 use Rattle.lnt_header.specs.Joins.{Each, Several}
 use Rattle.lnt_header.proofs.ReaderLaws.{reads_map}
 use Rattle.lnt_header_bytes.specs.Layouts.{entry_of}
@@ -43,6 +43,11 @@ pub indexed_path_passed : (format : Format) (pairs : List Pair) (u v : FormValue
     → Reads (ValueBytes format middle.order Udata) v middle new → Passes (EntryBytes format old.order pairs) old new
 indexed_path_passed format pairs u v old middle new e r s =
     of_values format pairs (u ∷ v ∷ []) old new (indexed_values format pairs u v old middle new e r s)
+
+pub two_passed : (format : Format) (pairs : List Pair) (old new : At) → IsLayout IndexedPath pairs → PassesFirstTwo format old new
+    → Passes (EntryBytes format old.order pairs) old new
+two_passed format pairs old new e p =
+    indexed_path_passed format pairs p.path p.directory old p.two.between new e p.two.path_read p.two.directory_read
 
 pub summed_path_passed : (format : Format) (pairs : List Pair) (u v w : FormValue) (old m1 m2 new : At) → IsLayout SummedPath pairs
     → Reads (ValueBytes format old.order LineStrp) u old m1

@@ -16,7 +16,7 @@ use Rattle.lnt_header_bytes.specs.declared.table.Layout.TheVariants.{Path, Index
 use Rattle.lnt_header.specs.Joins.{Each}
 use Rattle.lnt_header.proofs.ReaderLaws.{refuses_map, reads_map}
 use Rattle.lnt_header_bytes.specs.Layouts.{forms_of, entry_of}
-use Rattle.lnt_header_bytes.specs.Stepping.{IsLayout, ReadsNext}
+use Rattle.lnt_header_bytes.specs.Stepping.{AreFirstTwo, IsLayout, ReadsNext}
 use Rattle.lnt_header_bytes.specs.TableBytes.{ValuesBytes, EntryBytes}
 use Rattle.lnt_header_bytes.specs.TableFaults.{IsEntryFault}
 use Rattle.lnt_header_bytes.proofs.ValueLaws.{values_none, values_more}
@@ -102,6 +102,12 @@ pub one_more_entry : (format : Format) (pairs : List Pair) (before after : List 
     → (length after ≡ length before + 1) × Reads (Each (EntryBytes format old.order pairs)) after old new
 one_more_entry format pairs before after old middle new r s =
     rw s.added (length-append before (s.value ∷ []), entries_more format pairs before s.value old middle new r s.read)
+
+pub entry_of_three : (format : Format) (pairs : List Pair) (u v w : FormValue) (before after : List Entry) (old middle new : At)
+    → IsLayout SummedPath pairs → AreFirstTwo format u v old middle → Reads (ValueBytes format middle.order Data16) w middle new
+    → after ≡ before ++ entry_of (u ∷ v ∷ w ∷ []) ∷ [] → ReadsNext (EntryBytes format old.order pairs) before after old new
+entry_of_three format pairs u v w before after old middle new e two r added =
+    summed_path_entry format pairs u v w before after old two.between middle new e two.path_read two.directory_read r added
 
 -- refusals
 pub entry_refused : (format : Format) (pairs : List Pair) (old : At) (fault : Fault)

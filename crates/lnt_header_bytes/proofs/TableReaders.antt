@@ -1,7 +1,7 @@
 -- Tables that are read, and refused.
 use Rattle.std.proofs.Common.{◌≡◌, ℕ, ◌+◌, ◌<◌, List, [], ◌∷◌, ◌++◌, length, take, drop, get_or, refl, sym, ap, subst, ◌∙◌, append_assoc}
 use Rattle.std.proofs.Common.{arith}
-use Rattle.std.proofs.lemmas.List.{drop_more, take-append-drop}
+use Rattle.std.proofs.lemmas.List.{drop_more, length-append, take-append-drop}
 use Rattle.lnt_wire.specs.At.{At}
 use Rattle.lnt_wire.specs.Bytes.{NoneSpelled, IsCode}
 use Rattle.lnt_wire.specs.FormBytes.{form_code, IsUnknownForm, ValueBytes}
@@ -23,6 +23,7 @@ use Rattle.lnt_header.proofs.ReaderLaws.{refuses_here, moved_field, refuses_fiel
 use Rattle.lnt_header.proofs.ReaderLaws.{second_refused, several_refused, reads_none, reads_more}
 use Rattle.lnt_header.specs.declared.header.Entry.{Entry}
 use Rattle.lnt_header.specs.declared.header.Pair.{Pair}
+use Rattle.lnt_header_bytes.specs.Stepping.{ReadsNext}
 use Rattle.lnt_header_bytes.specs.TableBytes.{PairBytes, ValuesBytes, EntryBytes, TableOf}
 use Rattle.lnt_header.specs.FirstFaults.FirstOf.{first}
 use Rattle.lnt_header_bytes.specs.TableFaults.{IsNumberFault, IsCodeFault, IsPairFault, IsPairsFault, IsEntryFault, IsEntriesFault}
@@ -99,6 +100,11 @@ pairs_none at = reads_none PairBytes at
 pub pairs_more : (pairs : List Pair) (pair : Pair) (old middle new : At) → Reads (Each PairBytes) pairs old middle
     → Reads PairBytes pair middle new → Reads (Each PairBytes) (pairs ++ pair ∷ []) old new
 pairs_more pairs pair old middle new r s = reads_more (λ _. PairBytes) pairs pair old middle new r s
+
+pub one_more_pair : (before after : List Pair) (old middle new : At) → Reads (Each PairBytes) before old middle
+    → ReadsNext PairBytes before after middle new → (length after ≡ length before + 1) × Reads (Each PairBytes) after old new
+one_more_pair before after old middle new r s =
+    rw s.added (length-append before (s.value ∷ []), pairs_more before s.value old middle new r s.read)
 
 pub refuses_pairs : (n : ℕ) (pairs : List Pair) (old middle : At) (fault : Fault) → Reads (Each PairBytes) pairs old middle
     → length pairs < n → Refuses IsPairFault PairBytes middle fault

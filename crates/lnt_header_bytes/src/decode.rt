@@ -27,13 +27,15 @@ pub fn decode_header<'a>(
         → BrokenHeader order fault frame.now.offset (frame_bytes order frame.now.format frame.now.body.now)) }
 {
     let (view, program) = view_header(alloc, frame, order)?;
-    let Ok(header) = view.view().to_header(alloc) else {
-        return Err(Fault {
+    let header = view.view().to_header(alloc);
+    drop(view);
+    match header {
+        Ok(header) => Ok((header, program)),
+        Err(_) => Err(Fault {
             place: frame.offset,
             reason: Reason::Memory,
-        });
-    };
-    Ok((header, program))
+        }),
+    }
 }
 
 /// A cursor after the version of the frame, which goes to the end of its body.

@@ -1,5 +1,5 @@
 //! Headers that are kept without the bytes of their units.
-ghost use Rattle.std.specs.Prelude.{◌≡◌, ◌++◌, IsTrue, IfOk};
+ghost use Rattle.std.specs.Prelude.{◌≡◌, ◌++◌, IsTrue, IfOk, IfSome};
 ghost use Rattle.lnt_header_bytes.specs.Borrowed.{without_entries, IsHeaderOver};
 ghost use Rattle.lnt_header_bytes.specs.Stepping.{HasSameForm, HasSameNumbers};
 ghost use Rattle.lnt_header_bytes.specs.Stepping.{AreKept};
@@ -157,14 +157,38 @@ fn shared(
     requires { numbers ≡ without_entries numbers }
     ensures { IfOk result (λ shared. shared.value ≡ numbers) }
 {
-    if let Some(other) = other {
-        if are_same(&numbers, other.numbers()) {
-            return other.numbers.clone();
+    match same_numbers(&numbers, other) {
+        Some(shared) => {
+            drop(numbers);
+            shared.clone()
         }
+        None => alone(alloc, numbers),
     }
+}
+
+// The numbers and formats of the other header, if they are these.
+fn same_numbers<'a>(numbers: &Header, other: Option<&'a KeptHeader>) -> Option<&'a Rc<Header>>
+    requires { numbers.now ≡ without_entries numbers.now }
+    ensures { IfSome result (λ shared. shared.now.value ≡ numbers.entry.now) }
+{
+    let other = other?;
+    if are_same(numbers, other.numbers()) {
+        Some(&other.numbers)
+    } else {
+        None
+    }
+}
+
+// These numbers and formats, which nothing shares yet.
+fn alone(alloc: Global, numbers: Header) -> Result<Rc<Header>, AllocError>
+    ensures { IfOk result (λ shared. shared.value ≡ numbers) }
+{
     match Rc::new(alloc, numbers) {
         Ok(shared) => Ok(shared),
-        Err(_) => Err(AllocError),
+        Err(failed) => {
+            drop(failed);
+            Err(AllocError)
+        }
     }
 }
 

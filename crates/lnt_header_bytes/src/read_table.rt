@@ -28,7 +28,6 @@ pub(crate) struct EntryTableRead<'a> {
 }
 
 /// Reads the format of a table and the number of its entries, and moves past these, which stay where they lie.
-#[tactic(auto, using(crate::proofs::TableReaders::refuses_count, crate::proofs::TableReaders::refuses_kinds, crate::proofs::TableReaders::refuses_size, crate::proofs::TableReaders::refuses_empty, crate::proofs::TableReaders::refuses_rest, crate::proofs::ViewLemmas::table_read))]
 pub(crate) fn read_table<'a>(
     alloc: Global,
     cursor: &mut Cursor<'a>,
@@ -48,7 +47,14 @@ pub(crate) fn read_table<'a>(
             reason: Reason::EmptyFormat,
         });
     }
-    let bytes = pass_entries(cursor, format, &pairs, size)?;
-    let entries = EntriesInPlace { count: size, bytes };
-    Ok(EntryTableRead { pairs, entries })
+    match pass_entries(cursor, format, &pairs, size) {
+        Ok(bytes) => Ok(EntryTableRead {
+            pairs,
+            entries: EntriesInPlace { count: size, bytes },
+        }),
+        Err(fault) => {
+            drop(pairs);
+            Err(fault)
+        }
+    }
 }

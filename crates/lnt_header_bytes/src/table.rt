@@ -1,9 +1,9 @@
 //! The pairs and the entries of a header's two tables, read from their bytes (DWARF 5, section 6.2.4.1).
-ghost use Rattle.std.specs.Prelude.{◌≡◌, ◌∷◌, ◌++◌, [], IfOk, IfErr, OnOk};
+ghost use Rattle.std.specs.Prelude.{◌≡◌, ◌≢◌, ◌∷◌, ◌++◌, [], IfOk, IfErr, OnOk};
 ghost use Rattle.lnt_header.specs.Joins.{Several};
 ghost use Rattle.lnt_wire.specs.Reading.{Reads, Refuses, RefusesOr};
 ghost use Rattle.lnt_header_bytes.specs.Layouts.{entry_of};
-ghost use Rattle.lnt_header_bytes.specs.Stepping.{IsLayout, ReadsNext};
+ghost use Rattle.lnt_header_bytes.specs.Stepping.{AreFirstTwo, IsLayout, ReadsNext, RefusesFirstTwo};
 ghost use Rattle.lnt_header_bytes.specs.TableBytes.{PairBytes, ValuesBytes, EntryBytes};
 ghost use Rattle.lnt_header_bytes.specs.TableFaults.{IsPairFault, IsPairsFault, IsEntryFault, IsEntriesFault};
 
@@ -31,7 +31,7 @@ fn read_pair(cursor: &mut Cursor<'_>) -> Result<Pair, Fault>
 }
 
 /// Reads `count` pairs of a format.
-#[tactic(auto, using(crate::proofs::TableReaders::pairs_none, crate::proofs::TableReaders::pairs_more, crate::proofs::TableReaders::refuses_pairs))]
+#[tactic(auto, using(crate::proofs::TableReaders::pairs_none))]
 pub(crate) fn read_pairs(
     alloc: Global,
     cursor: &mut Cursor<'_>,
@@ -44,12 +44,24 @@ pub(crate) fn read_pairs(
         return Err(no_memory(cursor));
     };
     for _ in 0..count {
-        let pair = read_pair(cursor)?;
-        if pairs.push(pair).is_err() {
-            return Err(no_memory(cursor));
+        if let Err(fault) = add_pair(cursor, &mut pairs) {
+            drop(pairs);
+            return Err(fault);
         }
     }
     Ok(pairs)
+}
+
+// Reads the next pair, and adds it to `pairs`.
+fn add_pair(cursor: &mut Cursor<'_>, pairs: &mut Vec<Pair>) -> Result<(), Fault>
+    ensures ok { OnOk result (ReadsNext PairBytes pairs.old.items pairs.new.items cursor.old cursor.new) }
+    ensures err { IfErr result (λ fault. RefusesOr IsPairFault PairBytes cursor.old fault) }
+{
+    let pair = read_pair(cursor)?;
+    if pairs.push(pair).is_err() {
+        return Err(no_memory(cursor));
+    }
+    Ok(())
 }
 
 // Reads the values of an entry, one for each pair.
@@ -66,8 +78,15 @@ fn read_values(
 {
     let mut values = ShortList::new();
     for pair in pairs {
-        let value = cursor.form(alloc, pair.form, format)?;
+        let value = match cursor.form(alloc, pair.form, format) {
+            Ok(value) => value,
+            Err(fault) => {
+                drop(values);
+                return Err(fault);
+            }
+        };
         if values.push(alloc, value).is_err() {
+            drop(values);
             return Err(no_memory(cursor));
         }
     }
@@ -206,7 +225,6 @@ fn read_path(
 
 // Reads the next path and the index of its directory, and adds them to `entries` as an entry.
 #[inline(always)]
-#[tactic(auto, using(crate::proofs::ShortLemmas::indexed_path_entry, crate::proofs::ShortLemmas::first_refused, crate::proofs::ShortLemmas::second_refused))]
 fn read_indexed_path(
     alloc: Global,
     cursor: &mut Cursor<'_>,
@@ -220,8 +238,7 @@ fn read_indexed_path(
     ensures err { IfErr result (λ fault. RefusesOr (IsEntryFault format cursor.old.order pairs.now)
         (EntryBytes format cursor.old.order pairs.now) cursor.old fault) }
 {
-    let path = cursor.form(alloc, Form::LineStrp, format)?;
-    let directory = cursor.form(alloc, Form::Udata, format)?;
+    let (path, directory) = first_two(alloc, cursor, format)?;
     if push_entry(entries, ShortList::two(path, directory)).is_err() {
         return Err(no_memory(cursor));
     }
@@ -230,7 +247,6 @@ fn read_indexed_path(
 
 // Reads the next path, the index of its directory and its MD5 sum, and adds them to `entries` as an entry.
 #[inline(always)]
-#[tactic(auto, using(crate::proofs::ShortLemmas::summed_path_entry, crate::proofs::ShortLemmas::first_refused, crate::proofs::ShortLemmas::second_refused, crate::proofs::ShortLemmas::third_refused))]
 fn read_summed_path(
     alloc: Global,
     cursor: &mut Cursor<'_>,
@@ -244,13 +260,38 @@ fn read_summed_path(
     ensures err { IfErr result (λ fault. RefusesOr (IsEntryFault format cursor.old.order pairs.now)
         (EntryBytes format cursor.old.order pairs.now) cursor.old fault) }
 {
-    let path = cursor.form(alloc, Form::LineStrp, format)?;
-    let directory = cursor.form(alloc, Form::Udata, format)?;
-    let sum = cursor.form(alloc, Form::Data16, format)?;
+    let (path, directory) = first_two(alloc, cursor, format)?;
+    let sum = match cursor.form(alloc, Form::Data16, format) {
+        Ok(sum) => sum,
+        Err(fault) => {
+            drop((path, directory));
+            return Err(fault);
+        }
+    };
     if push_entry(entries, ShortList::three(path, directory, sum)).is_err() {
         return Err(no_memory(cursor));
     }
     Ok(())
+}
+
+// Reads the next path and the index of its directory.
+#[inline(always)]
+fn first_two(
+    alloc: Global,
+    cursor: &mut Cursor<'_>,
+    format: Format,
+) -> Result<(FormValue, FormValue), Fault>
+    ensures ok { IfOk result (λ values. AreFirstTwo format values.0 values.1 cursor.old cursor.new) }
+    ensures err { IfErr result (λ fault. fault.reason ≢ Reason.Memory → RefusesFirstTwo format cursor.old fault) }
+{
+    let path = cursor.form(alloc, Form::LineStrp, format)?;
+    match cursor.form(alloc, Form::Udata, format) {
+        Ok(directory) => Ok((path, directory)),
+        Err(fault) => {
+            drop(path);
+            Err(fault)
+        }
+    }
 }
 
 // Reads the next entry, whatever its forms, and adds it to `entries`.

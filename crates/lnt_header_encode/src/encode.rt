@@ -1,12 +1,12 @@
 //! Headers, written as the bytes of their units.
-ghost use Rattle.std.specs.Prelude.{◌≡◌, ◌⊎◌, ◌+◌, ◌++◌, length, IfOk, IfErr, OnOk};
+ghost use Rattle.std.specs.Prelude.{◌≡◌, ◌⊎◌, ◌+◌, ◌++◌, [], length, IfOk, IfErr, OnOk};
 ghost use Rattle.std.specs.List.{AllByRecursion};
 ghost use Rattle.lnt_wire.specs.Bytes.{IsShortest, Appends};
 ghost use Rattle.lnt_wire.specs.FormBytes.{HasSpelling, FormBytes};
 ghost use Rattle.lnt_wire.specs.InitialLength.{initial_length, LengthFits};
 ghost use Rattle.lnt_wire.specs.Numbers.{offset_size};
 ghost use Rattle.lnt_header.specs.Encoding.{RefusedPut};
-ghost use Rattle.lnt_header_encode.specs.HeaderPuts.{EntryParts, around, AddsAround};
+ghost use Rattle.lnt_header_encode.specs.HeaderPuts.{EntryParts, around, AddsAround, AddsVersion};
 ghost use Rattle.lnt_header_bytes.specs.HeaderBytes.{HeaderFieldsBytes, HeaderBytesIn};
 ghost use Rattle.lnt_header.specs.HeaderRules.{IsHeader, IsEntryTable};
 ghost use Rattle.lnt_header_encode.specs.Large.{HasLargeEntry, HasLargeOffset, HasLargeValue, IfTooLarge, IsTooLong};
@@ -68,13 +68,27 @@ pub(crate) fn add_around(
 {
     let length = unit_length(format, fields.len(), program.len())?;
     add_initial_length(out, length, format, order)?;
+    add_version(out, address_size, order)?;
+    put_offset(out, fields.len() as u64, format, order)?;
+    add_both(out, fields, program)?;
+    Ok(())
+}
+
+// Adds the version, the address size and the segment selector size.
+fn add_version(out: &mut Vec<u8>, address_size: u8, order: Order) -> Result<(), AllocError>
+    ensures { OnOk result (AddsVersion order address_size out.old.items out.new.items) }
+{
     put_u16(out, 5, order)?;
     out.push(address_size)?;
-    out.push(0)?;
-    put_offset(out, fields.len() as u64, format, order)?;
-    out.extend_from_slice(fields)?;
-    out.extend_from_slice(program)?;
-    Ok(())
+    Ok(out.push(0)?)
+}
+
+// Adds the first bytes, and then the second.
+pub(crate) fn add_both(out: &mut Vec<u8>, first: &[u8], second: &[u8]) -> Result<(), AllocError>
+    ensures { OnOk result (out.new.items ≡ (out.old.items ++ first.now) ++ second.now) }
+{
+    out.extend_from_slice(first)?;
+    out.extend_from_slice(second)
 }
 
 // How many bytes a unit has after its initial length.
@@ -115,33 +129,52 @@ fn add_initial_length(
 }
 
 // The fields that header_length counts.
-#[tactic(auto, using(crate::proofs::EncodeLemmas::fields_put, crate::proofs::EncodeLemmas::directories_refused, crate::proofs::EncodeLemmas::files_refused, lnt_header::proofs::PutLaws::refused_memory))]
 fn counted_fields(alloc: Global, parts: &HeaderParts) -> Result<Vec<u8>, EncodeFault>
     requires { IsHeader parts.now }
     ensures ok { IfOk result (λ bytes. IsShortest HeaderFieldsBytes parts.now bytes.items) }
     ensures err { IfErr result (λ fault. RefusedPut HeaderFieldsBytes parts.now fault) }
     ensures large { IfErr result (IfTooLarge (HasLargeOffset parts.now)) }
 {
-    let (format, order) = (parts.format, parts.order);
     let mut out = Vec::new(alloc);
-    out.extend_from_slice(&parts.single_fields())?;
-    out.extend_from_slice(parts.standard_lengths.as_slice())?;
+    match add_fields(&mut out, parts) {
+        Ok(()) => Ok(out),
+        Err(fault) => {
+            drop(out);
+            Err(fault)
+        }
+    }
+}
+
+// Adds them to `out`, which holds nothing yet.
+fn add_fields(out: &mut Vec<u8>, parts: &HeaderParts) -> Result<(), EncodeFault>
+    requires header { IsHeader parts.now }
+    requires empty { out.old.items ≡ [] }
+    ensures ok { OnOk result (IsShortest HeaderFieldsBytes parts.now out.new.items) }
+    ensures err { IfErr result (λ fault. RefusedPut HeaderFieldsBytes parts.now fault) }
+    ensures large { IfErr result (IfTooLarge (HasLargeOffset parts.now)) }
+{
+    let (format, order) = (parts.format, parts.order);
+    add_both(
+        out,
+        &parts.single_fields(),
+        parts.standard_lengths.as_slice(),
+    )?;
     add_table(
-        &mut out,
+        out,
         parts.directory_format.as_slice(),
         parts.directories.as_slice(),
         format,
         order,
     )?;
     add_table(
-        &mut out,
+        out,
         parts.file_format.as_slice(),
         parts.files.as_slice(),
         format,
         order,
     )?;
     out.extend_from_slice(parts.extra.as_slice())?;
-    Ok(out)
+    Ok(())
 }
 
 // Adds a table: its format, the number of its entries, and these.

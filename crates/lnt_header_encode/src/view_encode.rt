@@ -1,5 +1,5 @@
 //! Headers whose entries stay where they lie, written in another format and byte order (DWARF 5, sections 6.2.4 and 7.4).
-ghost use Rattle.std.specs.Prelude.{◌≡◌, IfOk, IfErr, OnOk};
+ghost use Rattle.std.specs.Prelude.{◌≡◌, [], IfOk, IfErr, OnOk};
 ghost use Rattle.lnt_wire.specs.Bytes.{Appends, IsShortest, NoneSpelled};
 ghost use Rattle.lnt_header.specs.Conversion.{in_format};
 ghost use Rattle.lnt_header.specs.Encoding.{RefusedPut};
@@ -9,7 +9,7 @@ ghost use Rattle.lnt_header.specs.HeaderRules.{IsEntryTable};
 ghost use Rattle.lnt_header.specs.Joins.{Each};
 ghost use Rattle.lnt_header_bytes.specs.TableBytes.{EntryBytes, TableOf};
 
-use crate::encode::{add_around, add_pairs};
+use crate::encode::{add_around, add_both, add_pairs};
 use lnt_header::Pair;
 use lnt_header_bytes::{EntryTableView, HeaderView};
 use lnt_wire::{Cursor, EncodeFault, Format, Order, Reason, put_form, put_uleb};
@@ -38,7 +38,6 @@ pub fn put_header_view(
 }
 
 // The fields that header_length counts.
-#[tactic(auto, using(crate::proofs::EncodeLemmas::fields_put, crate::proofs::EncodeLemmas::directories_refused, crate::proofs::EncodeLemmas::files_refused, lnt_header::proofs::PutLaws::refused_memory, lnt_header::proofs::ConversionLaws::header_in_format))]
 fn fields_of(
     alloc: Global,
     header: &HeaderView<'_>,
@@ -48,14 +47,38 @@ fn fields_of(
     ensures ok { IfOk result (λ bytes. IsShortest HeaderFieldsBytes (in_format header.now format order) bytes.items) }
     ensures err { IfErr result (λ fault. RefusedPut HeaderFieldsBytes (in_format header.now format order) fault) }
 {
-    let numbers = header.numbers();
     let mut out = Vec::new(alloc);
-    out.extend_from_slice(&numbers.parts().single_fields())?;
-    out.extend_from_slice(numbers.standard_lengths())?;
-    add_table_view(alloc, &mut out, header.directories(), format, order)?;
-    add_table_view(alloc, &mut out, header.files(), format, order)?;
+    match add_fields_view(alloc, &mut out, header, format, order) {
+        Ok(()) => Ok(out),
+        Err(fault) => {
+            drop(out);
+            Err(fault)
+        }
+    }
+}
+
+// Adds them to `out`, which holds nothing yet.
+fn add_fields_view(
+    alloc: Global,
+    out: &mut Vec<u8>,
+    header: &HeaderView<'_>,
+    format: Format,
+    order: Order,
+) -> Result<(), EncodeFault>
+    requires { out.old.items ≡ [] }
+    ensures ok { OnOk result (IsShortest HeaderFieldsBytes (in_format header.now format order) out.new.items) }
+    ensures err { IfErr result (λ fault. RefusedPut HeaderFieldsBytes (in_format header.now format order) fault) }
+{
+    let numbers = header.numbers();
+    add_both(
+        out,
+        &numbers.parts().single_fields(),
+        numbers.standard_lengths(),
+    )?;
+    add_table_view(alloc, out, header.directories(), format, order)?;
+    add_table_view(alloc, out, header.files(), format, order)?;
     out.extend_from_slice(header.extra())?;
-    Ok(out)
+    Ok(())
 }
 
 // Adds a table.
@@ -122,7 +145,11 @@ fn add_entry_view(
 {
     for pair in pairs {
         match cursor.form(alloc, pair.form, from) {
-            Ok(value) => put_form(out, &value, format, order)?,
+            Ok(value) => {
+                let put = put_form(out, &value, format, order);
+                drop(value);
+                put?;
+            }
             Err(fault) => match fault.reason {
                 Reason::Memory => return Err(EncodeFault::Memory),
                 // The value of each pair is there.

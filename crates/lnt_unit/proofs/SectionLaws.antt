@@ -7,6 +7,7 @@ use Rattle.lnt_wire.specs.declared.fault.Fault.{Fault}
 use Rattle.lnt_wire.specs.declared.format.Order.{Order}
 use Rattle.lnt_unit.specs.BrokenUnits.{BrokenUnit, IsTrueFault, BrokenSection}
 use Rattle.lnt_unit.proofs.UnitLaws.{unit_is_some, units_push, no_section}
+use Rattle.lnt_unit.specs.Stepping.{AddsUnit}
 use Rattle.lnt_unit.specs.UnitBytes.{UnitBytesIn, SectionBytes}
 use Rattle.lnt_unit.specs.declared.unit.Parts.{Parts}
 
@@ -37,6 +38,16 @@ one_more_unit order bytes units unit old new so_far r here = record {
 pub unit_long : (order : Order) (unit : Parts) (old new : At) → Reads (UnitBytesIn order) unit old new → length new.rest < length old.rest
 unit_long order unit old new r =
     omega (arith, ap length r.whole, length-append r.spelling new.rest, unit_is_some order unit r.spelling r.spelled)
+
+-- a unit that was added is one more, and has bytes
+pub unit_added : (order : Order) (bytes : List ℕ) (before after : List (ℕ × Parts)) (old new : At)
+    → UnitsSoFar order bytes before old → AddsUnit order before after old new → UnitsSoFar order bytes after new
+unit_added order bytes before after old new so_far s =
+    rw s.added (one_more_unit order bytes before s.unit old new so_far s.read s.here)
+
+pub unit_added_long : (order : Order) (before after : List (ℕ × Parts)) (old new : At) → AddsUnit order before after old new
+    → length new.rest < length old.rest
+unit_added_long order before after old new s = unit_long order s.unit.1 old new s.read
 
 -- nothing is left
 pub all_units : (order : Order) (bytes : List ℕ) (units : List (ℕ × Parts)) (cursor : At) → UnitsSoFar order bytes units cursor

@@ -1,8 +1,9 @@
 //! Units and sections, read from their bytes (DWARF 5, section 6.2.4).
-ghost use Rattle.std.specs.Prelude.{◌≡◌, ◌≢◌, ◌+◌, length, IfOk, IfErr, OnErr};
+ghost use Rattle.std.specs.Prelude.{◌≡◌, ◌≢◌, ◌+◌, length, IfOk, IfErr, OnOk, OnErr};
 ghost use Rattle.lnt_wire.specs.FrameBytes.{frame_bytes, IsPlacedFrame};
 ghost use Rattle.lnt_wire.specs.Reading.{Reads};
 ghost use Rattle.lnt_unit.specs.BrokenUnits.{BrokenUnit, BrokenSection};
+ghost use Rattle.lnt_unit.specs.Stepping.{AddsUnit};
 ghost use Rattle.lnt_unit.specs.UnitBytes.{UnitBytesIn, SectionBytes};
 
 use crate::unit::Unit;
@@ -42,8 +43,13 @@ fn unit_of(alloc: Global, frame: &Frame<'_>, end: u64, order: Order) -> Result<U
 {
     let (header, program) = decode_header(alloc, frame, order)?;
     let place = end - program.len() as u64;
-    let ops = read_ops(alloc, &header, program, place)?;
-    Ok(Unit::of(header, ops))
+    match read_ops(alloc, &header, program, place) {
+        Ok(ops) => Ok(Unit::of(header, ops)),
+        Err(fault) => {
+            drop(header);
+            Err(fault)
+        }
+    }
 }
 
 /// The units of the section `bytes` with their offsets in it, in order. They stand one after the other, and their
@@ -51,7 +57,7 @@ fn unit_of(alloc: Global, frame: &Frame<'_>, end: u64, order: Order) -> Result<U
 ///
 /// It refuses with `Memory`, and else only where no units spell the section, with the fault of the first unit that
 /// isn't there: `decode_unit`'s at the offset after those before it.
-#[tactic(auto, using(crate::proofs::SectionLaws::no_units, crate::proofs::SectionLaws::one_more_unit, crate::proofs::SectionLaws::unit_long, crate::proofs::SectionLaws::all_units))]
+#[tactic(auto, using(crate::proofs::SectionLaws::no_units, crate::proofs::SectionLaws::unit_added, crate::proofs::SectionLaws::unit_added_long, crate::proofs::SectionLaws::all_units))]
 pub fn decode_section(alloc: Global, bytes: &[u8], order: Order) -> Result<Vec<(u64, Unit)>, Fault>
     ensures ok { IfOk result (λ units. SectionBytes order units.items bytes.now) }
     ensures err { IfErr result (λ fault. fault.reason ≢ Reason.Memory → BrokenSection order fault bytes.now) }
@@ -59,14 +65,35 @@ pub fn decode_section(alloc: Global, bytes: &[u8], order: Order) -> Result<Vec<(
     let mut units = Vec::new(alloc);
     let mut cursor = Cursor::new(bytes, 0, order);
     while !cursor.rest().is_empty() {
-        let offset = cursor.place();
-        let unit = decode_unit(alloc, &mut cursor, order)?;
-        if units.push((offset, unit)).is_err() {
-            return Err(Fault {
-                place: offset,
-                reason: Reason::Memory,
-            });
+        if let Err(fault) = add_unit(alloc, &mut cursor, order, &mut units) {
+            drop(units);
+            return Err(fault);
         }
     }
     Ok(units)
+}
+
+// Reads the unit at the cursor, and adds it to `units` with its offset. The caller sees to it that `order` is the cursor's.
+fn add_unit(
+    alloc: Global,
+    cursor: &mut Cursor<'_>,
+    order: Order,
+    units: &mut Vec<(u64, Unit)>,
+) -> Result<(), Fault>
+    requires { cursor.old.order ≡ order }
+    ensures ok { OnOk result (AddsUnit order units.old.items units.new.items cursor.old cursor.new) }
+    ensures err { IfErr result (λ fault. fault.reason ≢ Reason.Memory → BrokenUnit order fault cursor.old.place cursor.old.rest) }
+{
+    let offset = cursor.place();
+    let unit = decode_unit(alloc, cursor, order)?;
+    match units.push((offset, unit)) {
+        Ok(()) => Ok(()),
+        Err(refused) => {
+            drop(refused);
+            Err(Fault {
+                place: offset,
+                reason: Reason::Memory,
+            })
+        }
+    }
 }

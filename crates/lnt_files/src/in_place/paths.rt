@@ -30,7 +30,10 @@ pub fn listed(header: &HeaderView<'_>, file: u64) -> Option<[u8; 16]>
 {
     let files = header.files();
     place_of(MD5, files.pairs())?;
-    entry_at(files, file)?.listed()
+    match entry_at(files, file) {
+        Some(entry) => entry.listed(),
+        None => None,
+    }
 }
 
 /// The path of the file: its text, below the path of its directory unless it begins with `/`. The path of a directory
@@ -55,12 +58,17 @@ pub fn path_of(
     let Some(entry) = entry_at(header.files(), file) else {
         return Ok(None);
     };
-    let Some(pieces) = pieces_of(header, strings, entry) else {
+    let Some(pieces) = pieces_of(header, strings, &entry) else {
         unreachable!()
     };
     let mut path = Vec::new(alloc);
-    add_pieces(&mut path, &pieces)?;
-    Ok(Some(path))
+    match add_pieces(&mut path, &pieces) {
+        Ok(()) => Ok(Some(path)),
+        Err(error) => {
+            drop(path);
+            Err(error)
+        }
+    }
 }
 
 // What the entry of this number says. None where it isn't there.
@@ -84,9 +92,9 @@ fn entry_at<'t>(table: &'t EntryTableView<'t>, number: u64) -> Option<EntryView<
 fn pieces_of<'s>(
     header: &'s HeaderView<'s>,
     strings: Strings<'s>,
-    file: EntryView<'s>,
+    file: &EntryView<'s>,
 ) -> Option<Pieces<'s>>
-    ensures { (entry : Entry) → Says header.entry.now.file_format entry file.entry
+    ensures { (entry : Entry) → Says header.entry.now.file_format entry file.now
         → option_map whole_path result ≡ file_path strings.entry.line.now strings.entry.general.now header.entry.now entry }
 {
     let name = file.path_text(strings)?;
@@ -132,5 +140,8 @@ fn directory_text<'s>(
     ensures { option_map (λ text. text.now) result ≡ directory_text strings.entry.line.now strings.entry.general.now header.entry.now
         number }
 {
-    entry_at(header.directories(), number)?.path_text(strings)
+    match entry_at(header.directories(), number) {
+        Some(entry) => entry.path_text(strings),
+        None => None,
+    }
 }

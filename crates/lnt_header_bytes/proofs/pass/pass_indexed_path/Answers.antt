@@ -1,13 +1,9 @@
 use Rattle.std.proofs.Common.{rules}
-use Rattle.lnt_header_bytes.proofs.PassLemmas.{indexed_path_passed}
-use Rattle.lnt_header_bytes.proofs.ShortLemmas.{first_refused, second_refused}
+use Rattle.lnt_header_bytes.proofs.PassLemmas.{two_passed}
 use Rattle.lnt_header_bytes.proofs.pass.pass_indexed_path.Goals as goal
 
 pub returns-clause-ok : goal.returns-clause-ok
-returns-clause-ok c = search (rules, indexed_path_passed, first_refused, second_refused)
+returns-clause-ok c = search (rules, two_passed)
 
-pub returns-in_err-value-2-clause-err : goal.returns-in_err-value-2-clause-err
-returns-in_err-value-2-clause-err c = search (rules, indexed_path_passed, first_refused, second_refused)
-
-pub returns-in_err-value-clause-err : goal.returns-in_err-value-clause-err
-returns-in_err-value-clause-err c = search (rules, indexed_path_passed, first_refused, second_refused)
+pub returns-clause-err : goal.returns-clause-err
+returns-clause-err c = search rules

@@ -1,15 +1,28 @@
-use Rattle.std.proofs.Common.{rules}
-use Rattle.lnt_header_bytes.proofs.ShortLemmas.{summed_path_entry, first_refused, second_refused, third_refused}
+use Rattle.std.proofs.Common.{[], ◌∷◌, rules}
+use Rattle.std.proofs.lemmas.Result.{err_from_is_err_and}
+use Rattle.lnt_wire.specs.Reading.{RefusesOr}
+use Rattle.lnt_wire.specs.declared.form.Form.TheVariants.{Data16}
+use Rattle.lnt_header_bytes.specs.TableBytes.{EntryBytes}
+use Rattle.lnt_header_bytes.specs.TableFaults.{IsEntryFault}
+use Rattle.lnt_header_bytes.proofs.ShortLemmas.{entry_of_three, third_refused}
 use Rattle.lnt_header_bytes.proofs.table.read_summed_path.Goals as goal
 
 pub returns-clause-ok : goal.returns-clause-ok
-returns-clause-ok c = search (rules, summed_path_entry, first_refused, second_refused, third_refused)
-
-pub returns-in_err-directory-clause-err : goal.returns-in_err-directory-clause-err
-returns-in_err-directory-clause-err c = search (rules, summed_path_entry, first_refused, second_refused, third_refused)
+returns-clause-ok c =
+    entry_of_three c.args.format c.args.pairs.now _ _ _ _ _ c.args.cursor.now _ _ c.requires c.in_ok-path.ensures.ok c.in-Ok.ensures.ok
+    (search rules)
 
 pub returns-in_err-path-clause-err : goal.returns-in_err-path-clause-err
-returns-in_err-path-clause-err c = search (rules, summed_path_entry, first_refused, second_refused, third_refused)
+returns-in_err-path-clause-err c =
+    let p = err_from_is_err_and c.from_residual.result c.from_residual.ensures.1 in
+    let fault = c.in_err-path.field-0.0 in
+    let refused : RefusesOr (IsEntryFault c.args.format c.args.cursor.now.order c.args.pairs.now)
+    (EntryBytes c.args.format c.args.cursor.now.order c.args.pairs.now) c.args.cursor.now fault =
+    λ some. c.in_err-path.ensures.err some c.args.pairs.now (Data16 ∷ []) c.requires in
+    rw (p.1, p.2) refused
 
-pub returns-in_err-sum-clause-err : goal.returns-in_err-sum-clause-err
-returns-in_err-sum-clause-err c = search (rules, summed_path_entry, first_refused, second_refused, third_refused)
+pub returns-in-Err-clause-err : goal.returns-in-Err-clause-err
+returns-in-Err-clause-err c =
+    let two = c.in_ok-path.ensures.ok in
+    λ some. third_refused c.args.format c.args.pairs.now Data16 [] _ _ c.args.cursor.now two.between _ c.in-Err.fault c.requires
+    two.path_read two.directory_read (c.in-Err.ensures.err some)

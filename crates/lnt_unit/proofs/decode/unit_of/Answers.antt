@@ -18,23 +18,19 @@ returns-in_err-header-clause-err c =
     λ some. header_broken c.args.order fault frame.offset _ (c.in_err-header.ensures.err some) in
     rw (p.1, p.2) broken
 
-pub returns-in_err-ops-clause-err : goal.returns-in_err-ops-clause-err
-returns-in_err-ops-clause-err c =
-    let p = err_from_is_err_and c.from_residual-in_err-ops.result c.from_residual-in_err-ops.ensures.1 in
+pub returns-in-Err-clause-err : goal.returns-in-Err-clause-err
+returns-in-Err-clause-err c =
     let frame = c.args.frame.now in
-    let fault = c.in_err-ops.field-0.0 in
     let bytes = frame_bytes c.args.order frame.format frame.body.now in
     let program = c.in_ok-header.program.now in
     let within = program_within c.args.order c.in_ok-header.header program bytes c.in_ok-header.ensures.ok in
     let ends : c.args.end - length program + length program ≡ frame.offset + length bytes = omega (arith, c.requires.end, within) in
-    let broken : fault.reason ≢ Memory → BrokenUnit c.args.order fault frame.offset bytes =
-    λ some. ops_broken c.args.order c.in_ok-header.header program bytes fault frame.offset _ c.in_ok-header.ensures.ok ends
-    (c.in_err-ops.ensures.err some) in
-    rw (p.1, p.2) broken
+    λ some. ops_broken c.args.order c.in_ok-header.header program bytes c.in-Err.fault frame.offset _ c.in_ok-header.ensures.ok ends
+    (c.in-Err.ensures.err some)
 
-pub returns-clause-ok : goal.returns-clause-ok
-returns-clause-ok c =
-    rw c.of.ensures (unit_found c.args.order _ c.in_ok-header.program.now _ c.in_ok-header.ensures.ok c.in_ok-ops.ensures.ok)
+pub returns-in-Ok-clause-ok : goal.returns-in-Ok-clause-ok
+returns-in-Ok-clause-ok c =
+    rw c.of.ensures (unit_found c.args.order _ c.in_ok-header.program.now _ c.in_ok-header.ensures.ok c.in-Ok.ensures.ok)
 
 pub overflow_sub-place : goal.overflow_sub-place
 overflow_sub-place c = grind (arith, common_steps)

@@ -9,8 +9,8 @@ unreachable-requires c =
     c.requires c.files.ensures.pairs c.files.ensures.entries c.in-Some.ensures
     c.in_default-pieces_of.ensures
 
-pub returns-clause-there : goal.returns-clause-there
-returns-clause-there c =
+pub returns-in-Ok-clause-there : goal.returns-in-Ok-clause-there
+returns-in-Ok-clause-there c =
     let lt = within_files c.args.header.now c.files.result.now c.args.file c.in-Some.entry c.files.ensures.pairs c.files.ensures.entries
     c.in-Some.ensures in
     ((λ t. lt), (λ h. refl))

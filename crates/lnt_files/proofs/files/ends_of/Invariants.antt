@@ -1,6 +1,6 @@
 use Rattle.std.proofs.Common.{take}
 use Rattle.lnt_files.specs.Stepping.{KeepsFiles}
-use Rattle.lnt_files.proofs.files.Files.of.Given as goal
+use Rattle.lnt_files.proofs.files.ends_of.Given as goal
 
 abbrev pub invariant-loop-file : goal.invariant-loop-file
 invariant-loop-file l =

@@ -6,7 +6,7 @@ use Rattle.lnt_header.proofs.ConversionLaws.{header_in_format}
 use Rattle.lnt_header.specs.declared.header.HeaderParts.{HeaderParts}
 use Rattle.lnt_header_encode.proofs.EncodeLemmas.{fields_put, directories_refused, files_refused}
 use Rattle.lnt_header.proofs.PutLaws.{refused_memory}
-use Rattle.lnt_header_encode.proofs.view_encode.fields_of.Goals as goal
+use Rattle.lnt_header_encode.proofs.view_encode.add_fields_view.Goals as goal
 
 pub returns-in_err-add_table_view-clause-err : goal.returns-in_err-add_table_view-clause-err
 returns-in_err-add_table_view-clause-err c =
@@ -25,18 +25,19 @@ pub returns-clause-ok : goal.returns-clause-ok
 returns-clause-ok c =
     let h = c.args.header.now in
     let numbers = c.numbers-numbers.ensures.numbers in
-    fields_put (in_format h c.args.format c.args.order) c.new-out.result.items c.extend_from_slice.new.self.items
-    c.extend_from_slice-2.new.self.items c.add_table_view.new.out.items c.add_table_view-2.new.out.items
-    c.extend_from_slice-3.new.self.items
+    fields_put (in_format h c.args.format c.args.order) c.args.out.now.items _ c.add_both.new.out.items
+    c.add_table_view.new.out.items c.add_table_view-2.new.out.items
+    c.extend_from_slice.new.self.items
     c.standard_lengths.result.now c.extra.result.now _ _ _ _
-    (header_in_format h c.args.format c.args.order c.numbers-numbers.ensures.header) c.new-out.ensures.items
-    (c.in_ok-extend_from_slice.ensures.items ∙ ap (λ (z : List ℕ). c.new-out.result.items ++ z)
-    (c.single_fields.ensures ∙ ap six_bytes (c.parts.ensures.value ∙ numbers)))
-    (c.standard_lengths.ensures.value ∙ ap (λ (g : HeaderParts). g.standard_lengths) numbers) c.in_ok-extend_from_slice-2.ensures.items
+    (header_in_format h c.args.format c.args.order c.numbers-numbers.ensures.header) c.requires
+    (ap (λ (z : List ℕ). c.args.out.now.items ++ z) (c.single_fields.ensures ∙ ap six_bytes (c.parts.ensures.value ∙ numbers)))
+    (c.standard_lengths.ensures.value ∙ ap (λ (g : HeaderParts). g.standard_lengths) numbers) c.in_ok-add_both.ensures
     c.directories.ensures.pairs c.directories.ensures.entries c.in_ok-add_table_view.ensures.ok
     c.files.ensures.pairs c.files.ensures.entries c.in_ok-add_table_view-2.ensures.ok c.extra.ensures
-    c.in_ok-extend_from_slice-3.ensures.items
+    c.in_ok-extend_from_slice.ensures.items
 
-pub returns-in_err-extend_from_slice-3-clause-err : goal.returns-in_err-extend_from_slice-3-clause-err
-returns-in_err-extend_from_slice-3-clause-err c =
-    search (rules, fields_put, directories_refused, files_refused, refused_memory, header_in_format)
+pub returns-in_err-add_both-clause-err : goal.returns-in_err-add_both-clause-err
+returns-in_err-add_both-clause-err c = search (rules, refused_memory)
+
+pub returns-in_err-extend_from_slice-clause-err : goal.returns-in_err-extend_from_slice-clause-err
+returns-in_err-extend_from_slice-clause-err c = search (rules, refused_memory)
