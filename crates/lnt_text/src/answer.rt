@@ -14,7 +14,7 @@ impl fmt::Display for AnswerText {
 
     fn fmt<W: fmt::Write>(&self, f: &mut fmt::Formatter<W>) -> fmt::Result {
         let Some(answer) = self.0 else {
-            return write!(f, "none");
+            return f.write_str("none");
         };
         let (unit, file, line, column) = (answer.unit, answer.file, answer.line, answer.column);
         let stmt = u8::from(answer.is_stmt);

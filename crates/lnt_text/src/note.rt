@@ -1,7 +1,7 @@
 //! Notes: what helps a person, after an answer that stays as it is.
 ghost use Rattle.std.specs.Prelude.{◌≡◌, Some};
 ghost use Rattle.lnt_text.specs.Notes.{advice_text, argument_text, column_kind, column_name, count_text, line_text};
-ghost use Rattle.lnt_text.specs.Notes.{look_text, note_text, numbered_headers, rule_text, strings_text};
+ghost use Rattle.lnt_text.specs.Notes.{look_text, note_text, rule_text, strings_text};
 
 use lnt_wire::Order;
 use std::fmt;
@@ -119,9 +119,9 @@ impl fmt::Display for Note {
 
     fn fmt<W: fmt::Write>(&self, f: &mut fmt::Formatter<W>) -> fmt::Result {
         match *self {
-            Note::Word(argument) => write!(f, "{}", ArgumentText(argument)),
-            Note::NotRaw(look) => write!(f, "{}", LookText(look)),
-            Note::NoStrings(section) => write!(f, "{}", StringsText(section)),
+            Note::Word(argument) => f.write_str(rule_of_argument(argument)),
+            Note::NotRaw(look) => f.write_str(advice_to_look(look)),
+            Note::NoStrings(section) => f.write_str(missing_option(section)),
             Note::MaybeDead(count, address) => {
                 let (counted, advice) = (CountText(count), AdviceText(address));
                 write!(
@@ -133,19 +133,17 @@ impl fmt::Display for Note {
                 f,
                 "no sequence begins at 0x{address:x}, so --dead leaves nothing out"
             ),
-            Note::Copies => write!(
-                f,
-                "the two hold the same positions, as where a linker kept one of several copies of some code; --skip-copies leaves out the others"
+            Note::Copies => f.write_str(
+                "the two hold the same positions, as where a linker kept one of several copies of some code; --skip-copies leaves out the others",
             ),
-            Note::HoldsNothing => write!(
-                f,
-                "no sequence holds a position, so the section's table is empty; a relocatable object has to be linked first"
+            Note::HoldsNothing => f.write_str(
+                "no sequence holds a position, so the section's table is empty; a relocatable object has to be linked first",
             ),
-            Note::NoSums => write!(f, "the section lists no MD5 sum, so nothing was compared"),
+            Note::NoSums => f.write_str("the section lists no MD5 sum, so nothing was compared"),
             Note::TableHeader => write!(
                 f,
                 "the table has to begin with {}, or with low,high,path,line or with this and ,column",
-                NumberedHeaders
+                NUMBERED_HEADERS
             ),
             Note::TableRecord(line, rule) => write!(f, "{}{rule}", LineText(line)),
         }
@@ -157,48 +155,29 @@ impl fmt::Display for RecordRule {
 
     fn fmt<W: fmt::Write>(&self, f: &mut fmt::Formatter<W>) -> fmt::Result {
         match *self {
-            RecordRule::Fields => write!(
-                f,
-                "each record has as many fields as the header has names"
-            ),
-            RecordRule::Kind(column) => {
-                write!(f, "{} is {}", ColumnName(column), ColumnKind(column))
+            RecordRule::Fields => {
+                f.write_str("each record has as many fields as the header has names")
             }
-            RecordRule::Order => write!(
-                f,
-                "each span ends above its low, which isn't below the high of the span before"
+            RecordRule::Kind(column) => {
+                write!(
+                    f,
+                    "{} is {}",
+                    name_of_column(column),
+                    kind_of_column(column)
+                )
+            }
+            RecordRule::Order => f.write_str(
+                "each span ends above its low, which isn't below the high of the span before",
             ),
         }
     }
 }
 
 // The headers of the versions that tell units and file numbers.
-#[derive(Clone, Copy)]
-struct NumberedHeaders;
-
-impl fmt::Display for NumberedHeaders {
-    ghost output = { λ _. Some numbered_headers };
-
-    fn fmt<W: fmt::Write>(&self, f: &mut fmt::Formatter<W>) -> fmt::Result {
-        write!(
-            f,
-            "low,low_op,high,high_op,unit,file,line,column,is_stmt or with this and ,isa,discriminator"
-        )
-    }
-}
+const NUMBERED_HEADERS: &str =
+    "low,low_op,high,high_op,unit,file,line,column,is_stmt or with this and ,isa,discriminator";
 
 // What an argument has to be.
-#[derive(Clone, Copy)]
-struct ArgumentText(Argument);
-
-impl fmt::Display for ArgumentText {
-    ghost output = { λ text. Some (argument_text text.0) };
-
-    fn fmt<W: fmt::Write>(&self, f: &mut fmt::Formatter<W>) -> fmt::Result {
-        f.write_str(rule_of_argument(self.0))
-    }
-}
-
 fn rule_of_argument(argument: Argument) -> &'static str
     ensures { result.now ≡ argument_text argument }
 {
@@ -212,17 +191,6 @@ fn rule_of_argument(argument: Argument) -> &'static str
 }
 
 // What bytes look like, and what to do.
-#[derive(Clone, Copy)]
-struct LookText(Look);
-
-impl fmt::Display for LookText {
-    ghost output = { λ text. Some (look_text text.0) };
-
-    fn fmt<W: fmt::Write>(&self, f: &mut fmt::Formatter<W>) -> fmt::Result {
-        f.write_str(advice_to_look(self.0))
-    }
-}
-
 fn advice_to_look(look: Look) -> &'static str
     ensures { result.now ≡ look_text look }
 {
@@ -252,22 +220,15 @@ fn advice_to_look(look: Look) -> &'static str
 }
 
 // Which option is missing.
-#[derive(Clone, Copy)]
-struct StringsText(StringSection);
-
-impl fmt::Display for StringsText {
-    ghost output = { λ text. Some (strings_text text.0) };
-
-    fn fmt<W: fmt::Write>(&self, f: &mut fmt::Formatter<W>) -> fmt::Result {
-        match self.0 {
-            StringSection::Line => write!(
-                f,
-                "its text lies in .debug_line_str, which wasn't given; --line-str FILE names that section's bytes"
-            ),
-            StringSection::General => write!(
-                f,
-                "its text lies in .debug_str, which wasn't given; --str FILE names that section's bytes"
-            ),
+fn missing_option(section: StringSection) -> &'static str
+    ensures { result.now ≡ strings_text section }
+{
+    match section {
+        StringSection::Line => {
+            "its text lies in .debug_line_str, which wasn't given; --line-str FILE names that section's bytes"
+        }
+        StringSection::General => {
+            "its text lies in .debug_str, which wasn't given; --str FILE names that section's bytes"
         }
     }
 }
@@ -316,17 +277,6 @@ impl fmt::Display for LineText {
 }
 
 // What a column is called.
-#[derive(Clone, Copy)]
-struct ColumnName(Column);
-
-impl fmt::Display for ColumnName {
-    ghost output = { λ text. Some (column_name text.0) };
-
-    fn fmt<W: fmt::Write>(&self, f: &mut fmt::Formatter<W>) -> fmt::Result {
-        f.write_str(name_of_column(self.0))
-    }
-}
-
 fn name_of_column(column: Column) -> &'static str
     ensures { result.now ≡ column_name column }
 {
@@ -346,17 +296,6 @@ fn name_of_column(column: Column) -> &'static str
 }
 
 // What a column holds.
-#[derive(Clone, Copy)]
-struct ColumnKind(Column);
-
-impl fmt::Display for ColumnKind {
-    ghost output = { λ text. Some (column_kind text.0) };
-
-    fn fmt<W: fmt::Write>(&self, f: &mut fmt::Formatter<W>) -> fmt::Result {
-        f.write_str(kind_of_column(self.0))
-    }
-}
-
 fn kind_of_column(column: Column) -> &'static str
     ensures { result.now ≡ column_kind column }
 {

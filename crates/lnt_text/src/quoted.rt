@@ -13,11 +13,11 @@ impl fmt::Display for Quoted<'_> {
     ghost output = { λ text. Some (quoted_text text.0.now) };
 
     fn fmt<W: fmt::Write>(&self, f: &mut fmt::Formatter<W>) -> fmt::Result {
-        write!(f, "\"")?;
+        f.write_char('"')?;
         for &byte in self.0 {
             write!(f, "{}", QuotedByte(byte))?;
         }
-        write!(f, "\"")
+        f.write_char('"')
     }
 }
 

@@ -1,6 +1,7 @@
 //! The words that the command takes: its subcommands, and the arguments of each, as data.
 
 /// A subcommand and its help.
+#[derive(Clone, Copy)]
 pub(crate) struct Subcommand {
     /// The word that names it.
     pub(crate) name: &'static str,
@@ -15,6 +16,7 @@ pub(crate) struct Subcommand {
 }
 
 /// An argument of a subcommand.
+#[derive(Clone, Copy)]
 pub(crate) struct ArgumentRule {
     /// The name by which its value is found. A flag or an option is given as `--name`.
     pub(crate) name: &'static str,
@@ -48,7 +50,7 @@ pub(crate) enum Kind {
 pub(crate) const VERSION: &str = "0.9.0 (rattle-kit-13 logic dac8208d650f15bf)";
 
 /// The subcommands, in the order in which help lists them.
-pub(crate) const SUBCOMMANDS: &[Subcommand] = &[
+pub(crate) const SUBCOMMANDS: [Subcommand; 9] = [
     UNITS, DUMP, CHECK, VERIFY, LOOKUP, FILES, TABLE, CONVERT, MD5,
 ];
 

@@ -4,7 +4,7 @@ ghost use Rattle.clap.specs.Words.{first_of, kind_of};
 ghost use Rattle.lnt_words.specs.Described.{IsAskedOfMatches, rows_in};
 ghost use Rattle.lnt_digits.specs.Digits.{IsAddress};
 ghost use Rattle.lnt_words.specs.Asking.{IsAskedBy, IsAskedIn, IsFlagGiven, IsHelp, IsJudging, IsOrder, IsQuestion};
-ghost use Rattle.lnt_words.specs.Asking.{IsReading, IsWord};
+ghost use Rattle.lnt_words.specs.Asking.{IsReading, IsWord, IsWrittenFormat, IsWrittenOrder};
 
 use crate::command::command_of;
 use crate::request::{Asked, Judging, Question, Reading, Request};
@@ -56,16 +56,31 @@ fn harmless(alloc: Global, text: String) -> Result<String, AllocError> {
     if !text.chars().any(is_obeyed) {
         return Ok(text);
     }
+    let shown = shown_of(alloc, &text);
+    drop(text);
+    shown
+}
+
+// The text so shown.
+fn shown_of(alloc: Global, text: &str) -> Result<String, AllocError> {
     let mut shown = String::new(alloc);
     for character in text.chars() {
-        if is_obeyed(character) {
-            let digits = format!(in alloc; "\\x{:02x}", u32::from(character))?;
-            shown.push_str(&digits)?;
-        } else {
-            shown.push(character)?;
+        if let Err(error) = push_shown(alloc, &mut shown, character) {
+            drop(shown);
+            return Err(error);
         }
     }
     Ok(shown)
+}
+
+fn push_shown(alloc: Global, shown: &mut String, character: char) -> Result<(), AllocError> {
+    if !is_obeyed(character) {
+        return shown.push(character);
+    }
+    let digits = format!(in alloc; "\\x{:02x}", u32::from(character))?;
+    let pushed = shown.push_str(&digits);
+    drop(digits);
+    pushed
 }
 
 fn is_obeyed(character: char) -> bool {
@@ -94,26 +109,48 @@ fn request_in<'a>(
 {
     match name {
         "units" => read_in(alloc, words, Reading::Units),
-        "dump" => {
-            let reading = Reading::Dump {
-                ops: flag_in(words, "ops"),
-                rows: flag_in(words, "rows"),
-            };
-            read_in(alloc, words, reading)
-        }
-        "verify" => judge_in(alloc, words, Question::Verify),
-        "check" => Ok(Request::Check {
-            from: judging_in(alloc, words)?,
-            table: word_in(alloc, words, "TABLE")?,
-            all: flag_in(words, "all"),
-        }),
+        "dump" => read_in(alloc, words, dump_in(words)),
+        "convert" => convert_in(alloc, words),
+        "check" => check_in(alloc, words),
         "lookup" => lookup_in(alloc, words),
+        _ => question_in(alloc, name, words),
+    }
+}
+
+// What the words of any other subcommand ask for: one question about a good section.
+fn question_in<'a>(
+    alloc: Global,
+    name: &str,
+    words: &ArgMatches<'a>,
+) -> Result<Request<'a>, WordsStop>
+    ensures { IfOk result (λ request. IsAskedIn name.now (rows_in words.now) request) }
+{
+    match name {
+        "verify" => judge_in(alloc, words, Question::Verify),
         "files" => judge_in(alloc, words, Question::Files),
         "table" => judge_in(alloc, words, table_in(words)),
-        "convert" => convert_in(alloc, words),
         "md5" => judge_in(alloc, words, Question::Md5),
         _ => Err(usage(alloc, "unknown subcommand", name)),
     }
+}
+
+fn dump_in(words: &ArgMatches<'_>) -> Reading
+    ensures { IsReading (codes "dump") (rows_in words.now) result }
+{
+    Reading::Dump {
+        ops: flag_in(words, "ops"),
+        rows: flag_in(words, "rows"),
+    }
+}
+
+fn check_in<'a>(alloc: Global, words: &ArgMatches<'a>) -> Result<Request<'a>, WordsStop>
+    ensures { IfOk result (λ request. IsAskedIn (codes "check") (rows_in words.now) request) }
+{
+    Ok(Request::Check {
+        from: judging_in(alloc, words)?,
+        table: word_in(alloc, words, "TABLE")?,
+        all: flag_in(words, "all"),
+    })
 }
 
 fn read_in<'a>(
@@ -198,17 +235,29 @@ fn table_in(words: &ArgMatches<'_>) -> Question
 fn convert_in<'a>(alloc: Global, words: &ArgMatches<'a>) -> Result<Request<'a>, WordsStop>
     ensures { IfOk result (λ request. IsAskedIn (codes "convert") (rows_in words.now) request) }
 {
-    let format = match word_in(alloc, words, "format")? {
-        "32" => Format::D32,
-        "64" => Format::D64,
-        word => return Err(bad_word(alloc, words, word, Argument::Format)),
-    };
-    let to = match word_in(alloc, words, "order")? {
-        "little" => Order::Little,
-        "big" => Order::Big,
-        word => return Err(bad_word(alloc, words, word, Argument::Order)),
-    };
+    let format = format_in(alloc, words)?;
+    let to = written_order_in(alloc, words)?;
     read_in(alloc, words, Reading::Convert { format, to })
+}
+
+fn format_in(alloc: Global, words: &ArgMatches<'_>) -> Result<Format, WordsStop>
+    ensures { IfOk result (IsWrittenFormat (rows_in words.now)) }
+{
+    match word_in(alloc, words, "format")? {
+        "32" => Ok(Format::D32),
+        "64" => Ok(Format::D64),
+        word => Err(bad_word(alloc, words, word, Argument::Format)),
+    }
+}
+
+fn written_order_in(alloc: Global, words: &ArgMatches<'_>) -> Result<Order, WordsStop>
+    ensures { IfOk result (IsWrittenOrder (rows_in words.now)) }
+{
+    match word_in(alloc, words, "order")? {
+        "little" => Ok(Order::Little),
+        "big" => Ok(Order::Big),
+        word => Err(bad_word(alloc, words, word, Argument::Order)),
+    }
 }
 
 // A section that is judged, with its strings, the marker of dead code, and what becomes of copies.

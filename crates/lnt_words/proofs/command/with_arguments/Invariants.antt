@@ -6,4 +6,4 @@ use Rattle.lnt_words.proofs.command.with_arguments.Given as goal
 
 abbrev pub invariant-loop-argument : goal.invariant-loop-argument
 invariant-loop-argument l =
-    (app : App) → IsCommand app l.fn.command → IsCommand (fold with_argument_in app (take l.argument-index l.arguments)) l.made
+    (app : App) → IsCommand app l.fn.command → IsCommand (fold with_argument_in app (take l.argument-index l.arguments)) l.command

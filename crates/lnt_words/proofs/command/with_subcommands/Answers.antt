@@ -1,11 +1,11 @@
 use Rattle.lnt_words.specs.Described.{with_subcommand_in}
-use Rattle.lnt_words.proofs.CommandLemmas.{all_done, one_more}
+use Rattle.lnt_words.proofs.CommandLemmas.{all_done, one_more, subcommand_added}
 use Rattle.lnt_words.proofs.command.with_subcommands.Goals as goal
 
 pub loop-subcommand-preserved : goal.loop-subcommand-preserved
 loop-subcommand-preserved c = λ app is.
     one_more with_subcommand_in app c.args.subcommands.now c.loop-subcommand.subcommand-index _ _ c.loop-subcommand-test.true
-    (c.in_ok-made.ensures _ _ (c.loop-subcommand.invariant app is) c.subcommand_of.ensures)
+    (subcommand_added _ _ _ _ _ (c.loop-subcommand.invariant app is) c.in-Ok.ensures c.in-Ok-subcommand.ensures)
 
 pub returns : goal.returns
 returns c = λ app is.

@@ -6,4 +6,4 @@ use Rattle.lnt_words.proofs.command.with_subcommands.Given as goal
 
 abbrev pub invariant-loop-subcommand : goal.invariant-loop-subcommand
 invariant-loop-subcommand l =
-    (app : App) → IsCommand app l.fn.command → IsCommand (fold with_subcommand_in app (take l.subcommand-index l.subcommands)) l.made
+    (app : App) → IsCommand app l.fn.command → IsCommand (fold with_subcommand_in app (take l.subcommand-index l.subcommands)) l.command
