@@ -80,7 +80,7 @@ fn compare_after<S: SpanSource + Drop, P: Paths>(
     alloc: Global,
     text: &[u8],
     version: PathVersion,
-    comparison: PathComparison<S>,
+    mut comparison: PathComparison<S>,
     paths: &P,
 ) -> Result<ComparedByPath, AllocError>
     requires known { AreKnownOf (P.bytes_of paths.now) comparison.known.slots.items }
@@ -92,27 +92,34 @@ fn compare_after<S: SpanSource + Drop, P: Paths>(
 {
     let mut reader = reader_of(alloc, text);
     let mut row = ByteRecord::new(alloc);
-    read_next(&mut reader, &mut row)?;
-    compare_records(alloc, &mut reader, &mut row, version, comparison, paths)
+    compare_records(
+        alloc,
+        &mut reader,
+        &mut row,
+        version,
+        &mut comparison,
+        paths,
+    )
 }
 
-// Compares the records that the reader has left after the first one, each read into `row`.
+// Compares the records that the reader has left, but for the first one, each read into `row`.
 fn compare_records<S: SpanSource + Drop, P: Paths>(
     alloc: Global,
     reader: &mut Reader<&[u8]>,
     row: &mut ByteRecord,
     version: PathVersion,
-    mut comparison: PathComparison<S>,
+    comparison: &mut PathComparison<S>,
     paths: &P,
 ) -> Result<ComparedByPath, AllocError>
-    requires known { AreKnownOf (P.bytes_of paths.now) comparison.known.slots.items }
-    requires read { (text : List ℕ) × (first : Fields) × HasRead reader.old text (first ∷ [])
-        × (comparison.count + length text < 2 ^ 64 + 1) }
-    ensures { IfOk result (λ compared. (text bytes : List ℕ) (first : Fields) (records : List Fields) (list : List spec.Span)
-        → HasRead reader.old text (first ∷ []) → IsAfter bytes text records
-        → JudgesByPath S.to_come (path_answer version (P.bytes_of paths.now)) version comparison list records
+    requires known { AreKnownOf (P.bytes_of paths.now) comparison.old.known.slots.items }
+    requires past { (text bytes : List ℕ) × (records : List Fields) × HasRead reader.old text [] × IsAfter bytes text records
+        × (comparison.old.count + length text < 2 ^ 64 + 1) }
+    ensures { IfOk result (λ compared. (text bytes : List ℕ) (records : List Fields) (list : List spec.Span)
+        → HasRead reader.old text [] → IsAfter bytes text records
+        → JudgesByPath S.to_come (path_answer version (P.bytes_of paths.now)) version comparison.old list records
         → IsPathComparison bytes (λ version. spans_by_path version (P.bytes_of paths.now) list) compared) }
 {
+    read_next(reader, row)?;
     while read_next(reader, row)? {
         let Ok(found) = comparison.take_record(alloc, paths, version, row) else {
             return Err(AllocError);
@@ -228,22 +235,22 @@ impl<S: SpanSource + Drop> PathComparison<S> {
     // The least position at which the section and the table answer differently, once no record follows. None where they
     // answer alike at every position.
     fn finish<P: Paths>(
-        self,
+        &mut self,
         alloc: Global,
         paths: &P,
         version: PathVersion,
     ) -> Result<Option<DifferenceByPath>, AllocError>
         ensures { IfOk result (λ found. (list : List spec.Span) (table : List PathSpan)
-            → IsMerged (path_answer version (P.bytes_of paths.now)) (SpansAreLeft S.to_come self.section.next self.section.spans)
-            (whole self.at)
-            self.first list table
+            → IsMerged (path_answer version (P.bytes_of paths.now)) (SpansAreLeft S.to_come self.old.section.next self.old.section.spans)
+            (whole self.old.at)
+            self.old.first list table
             → MatchOption found ((p : position.Position)
             → answer_told (path_answer version (P.bytes_of paths.now)) list p ≡ path_span_answer table p)
             (λ difference. IsLeastPathDifference (answer_told (path_answer version (P.bytes_of paths.now)) list) (path_span_answer table)
             difference)) }
     {
         if self.first.is_some() {
-            return Ok(self.first);
+            return Ok(self.first.take());
         }
         let Some(span) = self.section.next else {
             return Ok(None);

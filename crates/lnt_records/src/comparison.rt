@@ -91,7 +91,6 @@ pub(crate) fn compare_after<S: SpanSource + Drop>(
 {
     let mut reader = reader_of(alloc, text);
     let mut row = ByteRecord::new(alloc);
-    read_next(&mut reader, &mut row)?;
     let comparison = Comparison {
         merge,
         version,
@@ -100,22 +99,23 @@ pub(crate) fn compare_after<S: SpanSource + Drop>(
     compare_rest(&mut reader, &mut row, comparison)
 }
 
-// Compares the records that the reader has left after the header, each read into `row`.
+// Compares the records after the header, each read into `row`. The reader must have read nothing yet.
 fn compare_rest<S: SpanSource + Drop>(
     reader: &mut Reader<&[u8]>,
     row: &mut ByteRecord,
     mut comparison: Comparison<S>,
 ) -> Result<Compared, AllocError>
-    requires read { (text : List ℕ) × HasRead reader.old text (column_names comparison.version ∷ [])
+    requires read { (text : List ℕ) × HasRead reader.old text [] × BeginsWith text (column_names comparison.version ∷ [])
         × (comparison.count + length text < 2 ^ 64 + 1) }
     requires judged { (list : List Span) × (passed : List Fields)
         × Judges S.to_come comparison list (column_names comparison.version ∷ passed) }
     ensures { IfOk result (λ compared. (text : List ℕ) (list section : List Span) (passed : List Fields) (bytes : List ℕ)
-        → HasRead reader.old text (column_names comparison.version ∷ [])
+        → HasRead reader.old text [] → BeginsWith text (column_names comparison.version ∷ [])
         → Judges S.to_come comparison list (column_names comparison.version ∷ passed) → IsCut comparison.version text bytes passed
         → ((p : Position) → version_answer comparison.version list p ≡ version_answer comparison.version section p)
         → IsComparison bytes section compared) }
 {
+    read_next(reader, row)?;
     while read_next(reader, row)? {
         if let Some(fault) = comparison.take_record(row) {
             return Ok(Compared::Fault(fault));

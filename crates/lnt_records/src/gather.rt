@@ -1,6 +1,5 @@
 //! Gathers the spans of a table's records, to compare them at every position.
-ghost use Rattle.std.specs.Prelude.{◌≡◌, ◌+◌, ◌^◌, ◌<◌, ℕ, List, [], ◌∷◌, ◌++◌, length, IfOk};
-ghost use Rattle.csv.specs.Records.{fields_of};
+ghost use Rattle.std.specs.Prelude.{◌+◌, ◌^◌, ◌<◌, ℕ, List, [], ◌∷◌, length, IfOk};
 ghost use Rattle.lnt_spans.specs.declared.span.Span.{Span};
 ghost use Rattle.lnt_records.specs.Progress.{IsGathered};
 ghost use Rattle.lnt_records.specs.Passing.{IsCut};
@@ -45,7 +44,6 @@ pub(crate) fn gather_after<S: SpanSource + Drop>(
 {
     let mut reader = reader_of(alloc, text);
     let mut row = ByteRecord::new(alloc);
-    read_next(&mut reader, &mut row)?;
     let mut comparison = Comparison {
         merge,
         version,
@@ -54,22 +52,23 @@ pub(crate) fn gather_after<S: SpanSource + Drop>(
     gather_rest(alloc, &mut reader, &mut row, &mut comparison)
 }
 
-// Gathers the spans of the records that the reader has left after the header, each read into `row`.
+// Gathers the spans of the records after the header, each read into `row`. The reader must have read nothing yet.
 fn gather_rest<S: SpanSource + Drop>(
     alloc: Global,
     reader: &mut Reader<&[u8]>,
     row: &mut ByteRecord,
     comparison: &mut Comparison<S>,
 ) -> Result<Gathered, AllocError>
-    requires read { (text : List ℕ) × HasRead reader.old text (column_names comparison.old.version ∷ [])
+    requires read { (text : List ℕ) × HasRead reader.old text [] × BeginsWith text (column_names comparison.old.version ∷ [])
         × (comparison.old.count + length text < 2 ^ 64 + 1) }
     requires judged { (list : List Span) × (passed : List Fields)
         × Judges S.to_come comparison.old list (column_names comparison.old.version ∷ passed) }
     ensures { IfOk result (λ gathered. (text : List ℕ) (list : List Span) (passed : List Fields) (bytes : List ℕ)
-        → HasRead reader.old text (column_names comparison.old.version ∷ [])
+        → HasRead reader.old text [] → BeginsWith text (column_names comparison.old.version ∷ [])
         → (j : Judges S.to_come comparison.old list (column_names comparison.old.version ∷ passed))
         → IsCut comparison.old.version text bytes passed → IsGathered bytes comparison.old.version j.table gathered) }
 {
+    read_next(reader, row)?;
     let mut spans = Vec::new(alloc);
     while read_next(reader, row)? {
         let span = match comparison.take_span(row) {
