@@ -1,5 +1,5 @@
 -- What spans answer from a position on, one stretch at a time.
-use Rattle.std.proofs.Common.{◌≡◌, ◌∙◌, ◌<◌, ◌≤◌, Bool, true, false, cond, List, [], ◌∷◌, ◌⊎◌, inl, inr}
+use Rattle.std.proofs.Common.{◌≡◌, ◌≢◌, ◌∙◌, ◌<◌, ◌≤◌, Bool, true, false, cond, List, [], ◌∷◌, ◌⊎◌, inl, inr}
 use Rattle.std.proofs.Common.{refl, ap, sym, subst, Some, None, Option, arith}
 use Rattle.std.specs.Prelude.{IsSome}
 use Rattle.std.proofs.lemmas.Bool.{true≢false}
@@ -15,11 +15,11 @@ use Rattle.lnt_spans.specs.declared.ahead.Ahead.{Ahead}
 use Rattle.lnt_spans.specs.Ahead.{IsAhead}
 use Rattle.lnt_spans.specs.Stepping.{BeginsWith, rest_of, steps_left}
 use Rattle.lnt_spans.specs.Remaining.{EndsAfter}
-use Rattle.lnt_spans.specs.Stepping.{IsStretch, Says}
+use Rattle.lnt_spans.specs.Stepping.{IsScanned, IsStretch, Says}
 use Rattle.lnt_spans.specs.Spans.{AreInOrder}
 use Rattle.lnt_spans.proofs.AnsweringLaws.{answer_after, answer_in, first_holds, none_before, rest_in_order}
 use Rattle.lnt_spans.proofs.PositionLaws.{at_most_itself, at_most_trans, at_most_below, below_at_most}
-use Rattle.lnt_spans.proofs.PositionLaws.{below_is_at_most, order_cases, test_below, test_not_below}
+use Rattle.lnt_spans.proofs.PositionLaws.{below_is_at_most, order_cases, same_position, test_below, test_not_below}
 
 -- equal answers stay equal as a version tells them
 told : (version : Version) {a b : Option Answer} → a ≡ b → option_map (in_version version) a ≡ option_map (in_version version) b
@@ -222,3 +222,33 @@ pub passed_left : {S : Type 0} (to_come : S → List Span → Type 0) (old new :
     → IsAhead to_come new (rest_of true rest)
 passed_left to_come old new [] some left passed = absurd (true≢false (sym (subst IsSome left some)))
 passed_left to_come old new (span ∷ more) some left passed = passed span more left
+
+-- the spans answer the same up to the end
+pub scanned_whole : (version : Version) (spans : List Span) (from at to : Position) (answer : Option Answer) (AreLeft : List Span → Type 0)
+    → SoFar version spans from at to answer AreLeft → IsAtMost to at → IsScanned version spans from to answer None AreLeft
+scanned_whole version spans from at to answer AreLeft f past = record {
+  rest = f.rest;
+  left = f.left;
+  order = f.says.order;
+  cases = subst (λ (end : Position). Says version spans from end answer f.rest) (same_position at to past f.within) f.says;
+}
+
+-- the next stretch has another answer
+pub scanned_other : (version : Version) (spans : List Span) (from at end to : Position) (answer own : Option Answer) (later : List Span)
+    (AreLeft : List Span → Type 0) (f : SoFar version spans from at to answer AreLeft)
+    → IsBelow at to → IsStretch version f.rest at to own end later → answer ≢ own
+    → IsScanned version spans from to answer (Some (record { position = at; by_table = answer; by_section = own })) AreLeft
+scanned_other version spans from at end to answer own later AreLeft f below stretch differ =
+    let itself = at_most_itself at in record {
+      rest = f.rest;
+      left = f.left;
+      order = f.says.order;
+      cases = record {
+        past = f.past;
+        below = below;
+        table = refl;
+        section = sym (stretch.says.says at itself stretch.from) ∙ told version (f.says.same at itself);
+        differ = differ;
+        before = f.says.says;
+      };
+    }

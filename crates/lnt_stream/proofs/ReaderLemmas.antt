@@ -15,6 +15,9 @@ use Rattle.lnt_wire.specs.Numbers.{number_bytes}
 use Rattle.lnt_wire.specs.Pulling.{Pulls}
 use Rattle.lnt_wire.specs.Reading.{Refuses}
 use Rattle.lnt_wire.proofs.FrameLaws.{no_frame}
+use Rattle.lnt_wire.specs.declared.stop.Stop.{Stop}
+use Rattle.lnt_wire.specs.declared.stop.Stop.TheVariants as source
+use Rattle.lnt_stream.specs.Stops.{IfFault, stop_of}
 use Rattle.lnt_stream.specs.Units.{SectionEndsBy}
 
 -- ---- a fault of bytes that are not cut is one whatever follows
@@ -99,6 +102,12 @@ pub ended_short : (order : Order) (whole long : Bool) (bytes : List ℕ) (ending
     → bytes ≡ [] → (whole ≡ false → long ≡ false) → long ≡ false
 ended_short order true long bytes ending uncut empty h = absurd (uncut (no_length (omega (arith, ap length empty))))
 ended_short order false long bytes ending ended empty h = h refl
+
+-- a source that was stopped tells no fault
+pub no_fault : (stop : Stop) (IsSo : Fault → Type 0) → IfFault (stop_of stop) IsSo
+no_fault source.Memory IsSo = tt
+no_fault source.Read IsSo = tt
+no_fault source.TooLong IsSo = tt
 
 -- what the reader of a unit cites
 pub ruleset unit_exits = (section_ends, ended_short, section_refused)

@@ -1,5 +1,5 @@
--- Where no field of the kind that a form has is read, no value in the form is, for the same reason.
-use Rattle.std.proofs.Common.{◌≡◌, ℕ, List, sym, subst}
+-- Where no field of the kind that a form has is read, no value in the form is, for the same reason; and where one is, a value is.
+use Rattle.std.proofs.Common.{◌≡◌, ℕ, List, sym, subst, Result, Ok, Err, IsErr, IsErrAnd, IfOk, IfErr, OnErr}
 use Rattle.lnt_wire.specs.At.{At}
 use Rattle.lnt_wire.specs.Bytes.{TakenBytes}
 use Rattle.lnt_wire.specs.declared.format.Order.{Order}
@@ -12,12 +12,12 @@ use Rattle.lnt_wire.specs.declared.form.FormValue.{FormValue}
 use Rattle.lnt_wire.specs.declared.form.FormValue.TheVariants.{Text, LineStrp, Strp, Udata, Data1, Data2, Data4, Data8, Data16}
 use Rattle.lnt_wire.specs.declared.form.FormValue.TheVariants.{Block, Block1, Block2, Block4}
 use Rattle.lnt_wire.specs.declared.form.Prefix.TheVariants.{Leb, One, Two, Four}
-use Rattle.lnt_wire.specs.FormBytes.{TextBytes, BlockBytes, ValueBytes}
+use Rattle.lnt_wire.specs.FormBytes.{TextBytes, BlockBytes, ValueBytes, FormBytes, form_of}
 use Rattle.lnt_wire.specs.FormFaults.{IsCutText, IsValueFault}
 use Rattle.lnt_wire.specs.Leb128.{UnsignedLeb, IsLargeUnsigned, IsLebFault}
 use Rattle.lnt_wire.specs.Numbers.{NumberBytes, OffsetBytes, offset_size}
 use Rattle.lnt_wire.specs.Prefixes.{LengthBytes, IsPrefixedFault}
-use Rattle.lnt_wire.specs.Reading.{RefusesField, IsCutShort}
+use Rattle.lnt_wire.specs.Reading.{Reads, RefusesField, IsCutShort}
 
 -- no value of one kind, where there is none of another that each has
 refused_as : {X Y : Type 0} (IsSo : Reason → List ℕ → Type 0) (P : X → List ℕ → Type 0) (Q : Y → List ℕ → Type 0) (old : At) (fault : Fault)
@@ -219,3 +219,38 @@ pub ruleset value_refusals = (
   refuses_block2,
   refuses_block4,
 )
+
+-- ---- how a read of a value ends
+
+-- a refusal, handed on
+pub passed_on : {T E : Type 0} (r : Result T E) (e : E) (P : E → Type 0) → IsErrAnd r (λ other. other ≡ e) → P e → IfErr r P
+passed_on (Ok x) e P is p = tt
+passed_on (Err other) e P is p = subst P (sym is) p
+
+pub hands_on : {T : Type 0} (r : Result T Fault) (format : Format) (form : Form) (old : At) (fault : Fault)
+    → IsErrAnd r (λ other. other ≡ fault) → RefusesField (IsValueFault format old.order form) (ValueBytes format old.order form) old fault
+    → IfErr r (λ other. RefusesField (IsValueFault format old.order form) (ValueBytes format old.order form) old other)
+hands_on r format form old fault is refuses =
+    passed_on r fault
+    (λ (other : Fault). RefusesField (IsValueFault format old.order form) (ValueBytes format old.order form) old other)
+    is refuses
+
+pub gives_none : {T E : Type 0} (r : Result T E) (P : T → Type 0) → IsErr r → IfOk r P
+gives_none (Ok x) P p = absurd (cc)
+gives_none (Err e) P p = tt
+
+pub leaves_it : {T E : Type 0} (r : Result T E) (old new : At) → new ≡ old → OnErr r (new ≡ old)
+leaves_it (Ok x) old new same = tt
+leaves_it (Err e) old new same = same
+
+-- the field that was read, as a value in its form
+pub reads_value : {X : Type 0} (Spells : X → List ℕ → Type 0) (x : X) (format : Format) (form : Form) (value : FormValue) (old new : At)
+    → form ≡ form_of value → ((bytes : List ℕ) → Spells x bytes → FormBytes format old.order value bytes)
+    → Reads Spells x old new → Reads (ValueBytes format old.order form) value old new
+reads_value Spells x format form value old new is there read = record {
+  spelling = read.spelling;
+  spelled = record { form_is = sym is; spelled = there read.spelling read.spelled };
+  whole = read.whole;
+  place = read.place;
+  order = read.order;
+}

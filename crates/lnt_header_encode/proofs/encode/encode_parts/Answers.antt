@@ -1,8 +1,6 @@
 use Rattle.std.proofs.lemmas.Result.{err_from_is_err_and}
-use Rattle.std.proofs.Common.{rules}
 use Rattle.lnt_header_encode.proofs.EncodeLemmas.{header_put, header_too_long, header_refused}
-use Rattle.lnt_header.proofs.PutLaws.{refused_memory}
-use Rattle.lnt_header_encode.proofs.LargeLemmas.{offset_large, unit_too_long, memory_not_large}
+use Rattle.lnt_header_encode.proofs.LargeLemmas.{offset_large, unit_too_long}
 use Rattle.lnt_header_encode.proofs.encode.encode_parts.Goals as goal
 
 pub returns-in_err-add_around-clause-err : goal.returns-in_err-add_around-clause-err
@@ -18,4 +16,23 @@ returns-clause-ok c =
 
 pub returns-in_err-fields-clause-err : goal.returns-in_err-fields-clause-err
 returns-in_err-fields-clause-err c =
-    search (rules, header_put, header_refused, header_too_long, refused_memory, offset_large, unit_too_long, memory_not_large)
+    let p = err_from_is_err_and c.from_residual.result c.from_residual.ensures.1 in
+    rw (p.1, p.2) (header_refused c.args.parts.now c.args.program.now c.in_err-fields.field-0.0 c.in_err-fields.ensures.err)
+
+pub returns-in_err-fields-clause-large : goal.returns-in_err-fields-clause-large
+returns-in_err-fields-clause-large c =
+    let p = err_from_is_err_and c.from_residual.result c.from_residual.ensures.1 in
+    rw (p.1, p.2) (offset_large c.args.parts.now c.args.program.now c.in_err-fields.field-0.0 c.in_err-fields.ensures.large)
+
+pub returns-in_err-fields-clause-ok : goal.returns-in_err-fields-clause-ok
+returns-in_err-fields-clause-ok c = rw (err_from_is_err_and c.from_residual.result c.from_residual.ensures.1).1 tt
+
+pub returns-in_err-add_around-clause-large : goal.returns-in_err-add_around-clause-large
+returns-in_err-add_around-clause-large c =
+    let p = err_from_is_err_and c.from_residual-in_err-add_around.result c.from_residual-in_err-add_around.ensures.1 in
+    rw (p.1, p.2) (unit_too_long c.args.parts.now c.args.program.now c.in_ok-fields.fields.items c.deref.result.now
+    c.in_err-add_around.field-0.0 c.in_ok-fields.ensures.ok c.deref.ensures.value c.in_err-add_around.ensures.err)
+
+pub returns-in_err-add_around-clause-ok : goal.returns-in_err-add_around-clause-ok
+returns-in_err-add_around-clause-ok c =
+    rw (err_from_is_err_and c.from_residual-in_err-add_around.result c.from_residual-in_err-add_around.ensures.1).1 tt

@@ -1,4 +1,4 @@
-use Rattle.std.proofs.Common.{◌≡◌, ◌≢◌, ◌∷◌, ◌++◌, [], subst, arith, Some, Result}
+use Rattle.std.proofs.Common.{◌≡◌, ◌≢◌, ◌∷◌, ◌++◌, [], refl, subst, arith, Some, Result}
 use Rattle.std.proofs.lemmas.Grind.{common_steps}
 use Rattle.std.proofs.lemmas.Result.{err_from_is_err_and}
 use Rattle.lnt_wire.specs.declared.fault.Reason.TheVariants.{Memory}
@@ -6,7 +6,7 @@ use Rattle.lnt_wire.specs.declared.fault.Fault.{Fault}
 use Rattle.lnt_header.specs.declared.op.OpView.{OpView}
 use Rattle.lnt_ops.specs.Programs.{BrokenProgram}
 use Rattle.lnt_ops.specs.Walks.{Fails, GivesOperation, WalkStep}
-use Rattle.lnt_ops.proofs.ProgramLaws.{ops_admitted, walk_broken, walk_done, walk_more}
+use Rattle.lnt_ops.proofs.ProgramLaws.{is_view, ops_admitted, ops_none, walk_broken, walk_done, walk_more}
 use Rattle.lnt_ops.proofs.program.read_ops.Goals as goal
 
 pub returns-in_err-view-clause-err : goal.returns-in_err-view-clause-err
@@ -40,3 +40,38 @@ pub returns-clause-admitted : goal.returns-clause-admitted
 returns-clause-admitted c =
     rw c.new.ensures (ops_admitted c.args.header.now c.args.place c.args.program.now c.loop-view.ops.items c.loop-view.view-iterator.at
     c.loop-view.invariant.2)
+
+pub loop-view-init : goal.loop-view-init
+loop-view-init c =
+    let items = c.new-view-items.ensures in
+    rw (c.into_iter-view-iterator.ensures.into_iter_gives, c.new-ops.ensures.items) (
+      items.header,
+      items.going,
+      ops_none c.args.header.now c.args.place c.args.program.now c.new-view-items.result.at items.place items.rest items.order,
+    )
+
+pub loop-view-smaller : goal.loop-view-smaller
+loop-view-smaller c =
+    let step : GivesOperation c.in_ok-view.field-0 c.loop-view.view-iterator c.next.new.self =
+    subst (λ (r : Result OpView Fault). WalkStep c.loop-view.view-iterator (Some r) c.next.new.self) c.in_ok-view.was
+    c.in-Some.ensures.steps in
+    rw (step.goes_on, step.going) step.shorter
+
+pub owned_op-requires : goal.owned_op-requires
+owned_op-requires c =
+    let step : GivesOperation c.in_ok-view.field-0 c.loop-view.view-iterator c.next.new.self =
+    subst (λ (r : Result OpView Fault). WalkStep c.loop-view.view-iterator (Some r) c.next.new.self) c.in_ok-view.was
+    c.in-Some.ensures.steps in
+    is_view c.loop-view.view-iterator.header c.in_ok-view.field-0 c.loop-view.view-iterator.at c.next.new.self.at step.gives
+
+pub returns-in_default-clause-err : goal.returns-in_default-clause-err
+returns-in_default-clause-err c other = absurd (other refl)
+
+pub returns-then-is_err-clause-err : goal.returns-then-is_err-clause-err
+returns-then-is_err-clause-err c other = absurd (other refl)
+
+pub returns-in_err-view-clause-ok : goal.returns-in_err-view-clause-ok
+returns-in_err-view-clause-ok c = rw (err_from_is_err_and c.from_residual.result c.from_residual.ensures.1).1 tt
+
+pub returns-in_err-view-clause-admitted : goal.returns-in_err-view-clause-admitted
+returns-in_err-view-clause-admitted c = rw (err_from_is_err_and c.from_residual.result c.from_residual.ensures.1).1 tt
