@@ -77,7 +77,7 @@ put() { # NAME DIGITS: a file of these bytes
   (bytes "$2") >"$work/$1"
 }
 says() { # NAME STATUS STDOUT WORD..: nothing on standard error but notes
-  expect "$1" "$2" "$3" '' ./linetab "${@:4}"
+  expect "$1" "$2" "$3" '' crates/linetab/out/linetab "${@:4}"
 }
 reads() { # NAME STATUS STDOUT UNITS WORD..: a word of the command, with options, of these units
   put section "$4"
@@ -118,7 +118,7 @@ put strings_without_end 2f73
 
 reads 'a unit' 0 $'0x0 32 67\n' "$plain" units
 says 'no unit' 0 '' units /dev/null
-expect 'a unit on standard input' 0 $'0x0 32 67\n' '' bash -c './linetab units - <"$0"' "$work/section"
+expect 'a unit on standard input' 0 $'0x0 32 67\n' '' bash -c 'crates/linetab/out/linetab units - <"$0"' "$work/section"
 reads 'a unit and a reserved length' 1 $'0x0 32 67\nno 25 malformed at 0x47: reserved length\n' "${plain}f0ffffff" units
 reads 'a big-endian unit in the 64-bit format' 0 $'0x0 64 71\n' "$wide" units --big
 says 'an option after the section' 0 $'0x0 64 71\n' units "$work/section" --big
@@ -163,7 +163,7 @@ reads 'a value of each form' 0 $'unit 0x0 32 112\nheader 8 1 1 1 -5 14 13\ndir 0
   "$(unit $numbers $lengths ${pairs}01$values 0000 '')" dump
 for block in "$block_1" "$block_2" "$block_4"; do
   put section "$block"
-  expect 'a directory with a block' 0 $'dir 0 1="/s" 8193=block:aabb\n' '' bash -c './linetab dump "$0" | grep dir' "$work/section"
+  expect 'a directory with a block' 0 $'dir 0 1="/s" 8193=block:aabb\n' '' bash -c 'crates/linetab/out/linetab dump "$0" | grep dir' "$work/section"
 done
 
 # A unit of which one byte is another, after a whole one.
@@ -189,23 +189,23 @@ reads 'the header of an open sequence' 0 "unit 0x0 32 64${plain_text#unit 0x0 32
 reads 'rows of a line below 0' 1 $'no 26 run unit 0x0: line out of range at operation 1\n' "$line_below_zero" dump --ops --rows
 put section "$(unit 010101fb0e0f ${lengths}0200 $directories $files 0d8001050e000280ab0001030a070002040716037f0904000202$end)"
 expect 'unknown operations, and marks of a row' 0 $'op 0 unknown_standard 13 128 5\nop 1 unknown_standard 14\nop 2 unknown_extended 128 ab\nop 3 unknown_extended 3\nop 4 set_prologue_end\nop 5 set_basic_block\nop 6 set_discriminator 7\nop 7 special 22\nop 8 advance_line -1\nop 9 fixed_advance_pc 4\nop 10 advance_pc 2\nop 11 end_sequence\nrow 0 0x0 0 1 3 0 1 bp 0 7\nrow 1 0x6 0 1 2 0 1 e 0 0\n' '' \
-  bash -c './linetab dump --ops --rows "$0" | grep -E "^(op|row)"' "$work/section"
+  bash -c 'crates/linetab/out/linetab dump --ops --rows "$0" | grep -E "^(op|row)"' "$work/section"
 
 # ---- conversion
 
 put section "$plain"
 put wanted "$wide"
-expect 'a unit in the other format and order' 0 '' '' bash -c './linetab convert "$0" --format 64 --order big | cmp - "$1"' "$work/section" "$work/wanted"
-expect 'and back' 0 '' '' bash -c './linetab convert --big "$1" --format 32 --order little | cmp - "$0"' "$work/section" "$work/wanted"
+expect 'a unit in the other format and order' 0 '' '' bash -c 'crates/linetab/out/linetab convert "$0" --format 64 --order big | cmp - "$1"' "$work/section" "$work/wanted"
+expect 'and back' 0 '' '' bash -c 'crates/linetab/out/linetab convert --big "$1" --format 32 --order little | cmp - "$0"' "$work/section" "$work/wanted"
 reads 'an offset of 2^32 in the 32-bit format' 1 $'no 20 too large unit 0x0\n' ffffffff4c00000000000000050008002e00000000000000$numbers${lengths}01011f010000000001000000$files$plain_program convert --format 32 --order little
 
 # ---- help, and words that aren't understood
 
 helps() { # PART WORD..: a part of a text of help
-  expect "help: ${*:2}" 0 "$1"$'\n' '' bash -c './linetab "${@:2}" | grep -Fo -- "$1"' - "$@"
+  expect "help: ${*:2}" 0 "$1"$'\n' '' bash -c 'crates/linetab/out/linetab "${@:2}" | grep -Fo -- "$1"' - "$@"
 }
 refuses() { # STDERR WORD..: nothing on standard output
-  expect "words: ${*:2}" 2 '' "$1" ./linetab "${@:2}"
+  expect "words: ${*:2}" 2 '' "$1" crates/linetab/out/linetab "${@:2}"
 }
 helps '  units    Prints the offset, the format and the length of each unit of a section' --help
 helps 'Usage: linetab <COMMAND>' -h
@@ -222,7 +222,7 @@ helps 'Usage: linetab convert [OPTIONS] --format <32|64> --order <little|big> <S
 helps 'Usage: linetab md5 [OPTIONS] <SECTION>' md5 --help
 helps "Where one isn't the same, the status is 1." md5 --help
 for number in 25 26 27 28 29 30 31 32 36 37 38 39 40; do
-  expect "help: number $number" 0 $'1\n' '' bash -c './linetab check --help | grep -Ec "^  $0  .* \(docs/[A-Z]+\.md"' $number
+  expect "help: number $number" 0 $'1\n' '' bash -c 'crates/linetab/out/linetab check --help | grep -Ec "^  $0  .* \(docs/[A-Z]+\.md"' $number
 done
 more=$'\n\nFor more information, try \'--help\'.\n'
 refuses $'error: unrecognized subcommand \'unit\'\n\n  tip: a similar subcommand exists: \'units\'\n\nUsage: linetab <COMMAND>'"$more" unit F
@@ -237,11 +237,11 @@ is_bad_word 0x7 lookup none 0x1005 --op 0x7 --dead y
 is_bad_word 7 check none none --dead 7
 is_bad_word 16 convert none --format 16 --order x
 is_bad_word x convert none --format 32 --order x
-expect 'a section that is not there' 3 '' $'linetab: cannot read none\n' ./linetab lookup none 0x1005
+expect 'a section that is not there' 3 '' $'linetab: cannot read none\n' crates/linetab/out/linetab lookup none 0x1005
 put section "$(with "$plain" 52 05)"
-expect 'a table that is not there' 3 '' $'linetab: cannot read none\n' ./linetab check "$work/section" none
-expect 'strings that are not there' 3 '' $'linetab: cannot read none\n' ./linetab check nothing none --line-str none
-expect 'standard input twice' 3 '' $'linetab: cannot read -\n' bash -c './linetab check - - <"$0"' "$work/section"
+expect 'a table that is not there' 3 '' $'linetab: cannot read none\n' crates/linetab/out/linetab check "$work/section" none
+expect 'strings that are not there' 3 '' $'linetab: cannot read none\n' crates/linetab/out/linetab check nothing none --line-str none
+expect 'standard input twice' 3 '' $'linetab: cannot read -\n' bash -c 'crates/linetab/out/linetab check - - <"$0"' "$work/section"
 
 # ---- numbers as words
 
@@ -417,8 +417,8 @@ says 'a table by path of a part of an instruction' 1 $'no 43 operation index at 
 # A good section, its own table of each version, and the section cut after each number of bytes.
 has_tables() { # NAME UNIT [OPTION..]
   put section "$2"
-  ./linetab table "$work/section" "${@:3}" >"$work/own"
-  ./linetab table --wide "$work/section" "${@:3}" >"$work/own_wide"
+  crates/linetab/out/linetab table "$work/section" "${@:3}" >"$work/own"
+  crates/linetab/out/linetab table --wide "$work/section" "${@:3}" >"$work/own_wide"
   says "$1, and its own table" 0 $'yes\n' check "$work/section" "$work/own" "${@:3}"
   says "$1, and its own wide table" 0 $'yes\n' check "$work/section" "$work/own_wide" "${@:3}"
 }
@@ -487,7 +487,7 @@ says 'a little-endian unit looked up as a big-endian one' 1 "$truncated" lookup 
 
 has_path() { # PATH UNIT [OPTION..]: at 0x1000
   put section "$2"
-  expect "path $1" 0 "path \"$1\""$'\n' '' bash -c './linetab lookup "$0" 0x1000 "$@" | grep -Eo "path .*"' "$work/section" "${@:3}"
+  expect "path $1" 0 "path \"$1\""$'\n' '' bash -c 'crates/linetab/out/linetab lookup "$0" 0x1000 "$@" | grep -Eo "path .*"' "$work/section" "${@:3}"
 }
 of_file() { # NUMBER DIRECTORIES FILES: rows of that file
   unit $numbers $lengths "$2" "$3" "${at_1000}04${1}144b0202$end"
