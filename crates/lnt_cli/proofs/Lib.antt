@@ -1,3 +1,4 @@
 pub mod QuestionLemmas
 pub mod ReadingLemmas
+pub mod RunLemmas
 pub mod StopLemmas

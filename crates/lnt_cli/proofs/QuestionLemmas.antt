@@ -1,5 +1,6 @@
 -- Questions that were answered.
 use Rattle.std.proofs.Common.{ℕ, List, Option, Result, Ok, Err, IfOk, IfSome, true, false}
+use Rattle.std.specs.Io.KnownBytes.{Appends}
 use Rattle.lnt_sources.specs.Files.{TellsNoMore}
 use Rattle.lnt_sources.specs.declared.status.Status.{Status}
 use Rattle.lnt_lines.specs.declared.options.Options.{Options}
@@ -10,10 +11,14 @@ use Rattle.lnt_lines.specs.Indexed.{Indexed}
 use Rattle.lnt_words.specs.declared.request.Judging.{Judging}
 use Rattle.lnt_words.specs.declared.request.Question.{Question}
 use Rattle.lnt_words.specs.declared.request.Question.TheVariants.{Verify, Lookup, Files, Table, TableByPath, Md5}
+use Rattle.lnt_table.specs.declared.by_path.Checked.{Checked}
+use Rattle.lnt_table.specs.AnyVersion.{IsTrueCheck}
+use Rattle.lnt_verdicts.specs.Verdicts.{checked_line}
 use Rattle.lnt_answers.specs.SumLines.{listed_files}
 use Rattle.lnt_answers.proofs.SumLaws.{sums_later}
-use Rattle.lnt_cli.specs.Answered.{AnswersQuestion, AreTextsOf, options_in}
-use Rattle.lnt_cli.specs.Questions.{AnswersGood, AnswersJudged}
+use Rattle.lnt_cli.specs.Answered.{AnswersAddresses, AnswersPlaces, AnswersQuestion, AreTextsOf, IsChecked, options_in}
+use Rattle.lnt_cli.specs.Places.{ArePlacesTold}
+use Rattle.lnt_cli.specs.Questions.{AnswersAddressesJudged, AnswersGood, AnswersJudged}
 
 -- an answer stays true where more may be told of the files
 good_later : (tells tells' : List ℕ → Option (List ℕ) → Type 0) (options : Options) (question : Question) (index : Indexed)
@@ -55,3 +60,71 @@ question_of tells tells' from question old new line general section (Ok answered
       answered = judged_later tells tells' (options_in from) question so.0 old new (status_of answered) later so.2;
     }
 question_of tells tells' from question old new line general section (Err stop) status_of texts of_section later so = so
+
+-- The answer for a judged section and the bytes of a file is the answer for that file: to the lines of a text of positions,
+pub addresses_of : {T E : Type 0} (tells : List ℕ → Option (List ℕ) → Type 0) (from : Judging) (file : List ℕ) (op : ℕ)
+    (old new : Option (List ℕ)) (line general : List ℕ) (section text : Option (List ℕ)) (ended : Result T E) (status_of : T → Status)
+    → AreTextsOf tells from line general → tells from.section.now section → tells file text
+    → IfOk ended (λ answered. (judged : JudgedIndex)
+    × IfSome section (λ bytes. IsJudgedIndex line general (options_in from) bytes judged)
+    × AnswersAddressesJudged judged op text old new (status_of answered))
+    → IfOk ended (λ answered. AnswersAddresses tells from file op old new (status_of answered))
+addresses_of tells from file op old new line general section text (Ok answered) status_of texts of_section of_text so =
+    record {
+      line = line;
+      general = general;
+      texts = texts;
+      section_bytes = section;
+      of_section = of_section;
+      judged = so.0;
+      is_true = so.1;
+      text_bytes = text;
+      of_text = of_text;
+      answered = so.2;
+    }
+addresses_of tells from file op old new line general section text (Err stop) status_of texts of_section of_text so = so
+
+-- and of the places at which a table answers otherwise.
+pub places_of : {T E : Type 0} (tells : List ℕ → Option (List ℕ) → Type 0) (from : Judging) (table : List ℕ)
+    (old new : Option (List ℕ)) (line general : List ℕ) (section text : Option (List ℕ)) (ended : Result T E) (status_of : T → Status)
+    → AreTextsOf tells from line general → tells from.section.now section → tells table text
+    → IfOk ended (λ places. (judged : JudgedIndex)
+    × IfSome section (λ bytes. IsJudgedIndex line general (options_in from) bytes judged)
+    × ArePlacesTold (options_in from) judged text old new (status_of places))
+    → IfOk ended (λ places. AnswersPlaces tells from table old new (status_of places))
+places_of tells from table old new line general section text (Ok places) status_of texts of_section of_table so =
+    record {
+      line = line;
+      general = general;
+      texts = texts;
+      section_bytes = section;
+      of_section = of_section;
+      judged = so.0;
+      is_true = so.1;
+      table_bytes = text;
+      of_table = of_table;
+      answered = so.2;
+    }
+places_of tells from table old new line general section text (Err stop) status_of texts of_section of_table so = so
+
+-- What is true of the bytes of a section and of a table answers the check of their files, once its line is printed.
+pub checked_of : {E : Type 0} (tells : List ℕ → Option (List ℕ) → Type 0) (from : Judging) (table line general : List ℕ)
+    (section text : Option (List ℕ)) (ended : Result Checked E)
+    → AreTextsOf tells from line general → tells from.section.now section → tells table text
+    → IfOk ended (λ checked. IfSome section (λ bytes. IfSome text (λ text.
+    IsTrueCheck line general (options_in from) bytes text checked)))
+    → IfOk ended (λ checked. (old new : Option (List ℕ)) → Appends old new (checked_line checked)
+    → IsChecked tells from table old new checked)
+checked_of tells from table line general section text (Ok checked) texts of_section of_table so =
+    λ old new printed. record {
+      line = line;
+      general = general;
+      texts = texts;
+      section_bytes = section;
+      of_section = of_section;
+      table_bytes = text;
+      of_table = of_table;
+      is_true = so;
+      printed = printed;
+    }
+checked_of tells from table line general section text (Err stop) texts of_section of_table so = so

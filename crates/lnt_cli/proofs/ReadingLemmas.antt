@@ -12,6 +12,7 @@ use Rattle.lnt_words.specs.declared.request.Reading.{Reading}
 use Rattle.lnt_words.specs.declared.request.Reading.TheVariants.{Convert, Dump, Units}
 use Rattle.lnt_dump.specs.Printed.{IsPrintedIn, IsRefusalTold}
 use Rattle.lnt_dump.specs.Units.{AreBytes, AreUnitsTold}
+use Rattle.lnt_cli.specs.Answered.{AnswersRead}
 use Rattle.lnt_cli.specs.Readings.{AnswersReading, BeginsReading}
 use Rattle.lnt_cli.specs.Stopped.{StopsRead}
 
@@ -68,9 +69,18 @@ begun_read tells name order reading (Some bytes) old new told (inr begun) =
 
 -- the same where the reading was stopped
 pub read_stopped : {T E : Type 0} (tells : List ℕ → Option (List ℕ) → Type 0) (name : List ℕ) (order : Order) (reading : Reading)
-    (section old new : Option (List ℕ)) (ended : Result T E)
-    → tells name section → IfSome section (λ bytes. Keeps old new ⊎ BeginsReading order reading bytes old new)
-    → OnErr ended (Keeps old new ⊎ StopsRead tells name order reading old new)
+    (section old new : Option (List ℕ)) (printed : Result T E) → tells name section
+    → OnErr printed (IfSome section (λ bytes. Keeps old new ⊎ BeginsReading order reading bytes old new))
+    → OnErr printed (Keeps old new ⊎ StopsRead tells name order reading old new)
 read_stopped tells name order reading section old new (Ok value) told begun = tt
 read_stopped tells name order reading section old new (Err stop) told begun =
     begun_read tells name order reading section old new told begun
+
+-- The answer for the section's bytes is the answer for the named file.
+pub read_told : {E : Type 0} (tells : List ℕ → Option (List ℕ) → Type 0) (name : List ℕ) (order : Order) (reading : Reading)
+    (section old new : Option (List ℕ)) (printed : Result Status E) → tells name section
+    → IfOk printed (λ status. IfSome section (λ bytes. AnswersReading order reading bytes old new status))
+    → IfOk printed (λ status. AnswersRead tells name order reading old new status)
+read_told tells name order reading section old new (Ok status) told so =
+    record { section_bytes = section; of_section = told; answered = so }
+read_told tells name order reading section old new (Err stop) told so = tt

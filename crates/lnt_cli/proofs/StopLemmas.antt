@@ -1,6 +1,6 @@
 -- Answers that were stopped.
 use Rattle.std.proofs.Common.{ℕ, List, ◌⊎◌, Option, IfSome, IsErr, Result, Ok, Err, OnErr, inl, inr, refl, true, false}
-use Rattle.std.proofs.Common.{◌≡◌, Bool, ◌++◌, codes, subst}
+use Rattle.std.proofs.Common.{Bool, ◌++◌, codes}
 use Rattle.std.proofs.lemmas.Bool.{false≢true}
 use Rattle.std.specs.Io.KnownBytes.{Appends, Keeps, append_known}
 use Rattle.lnt_output.specs.Fronts.{AppendsFront, HasBegun}
@@ -24,7 +24,7 @@ use Rattle.lnt_answers.proofs.SumLaws.{sums_later}
 use Rattle.lnt_verdicts.specs.Stretches.{AreStretchesBegun}
 use Rattle.lnt_verdicts.specs.Verdicts.{checked_line, checked_status}
 use Rattle.lnt_cli.specs.Answered.{AnswersCheck, AreTextsOf, IsChecked, options_in}
-use Rattle.lnt_cli.specs.Stopped.{ArePlacesBegun, BeginsGood, BeginsJudged, BeginsOfFile, BeginsPlaces, BeginsQuestion}
+use Rattle.lnt_cli.specs.Stopped.{ArePlacesBegun, BeginsGood, BeginsJudged, BeginsOfFile, BeginsQuestion}
 
 -- a front of the line of a check's result, which is the answer once its line is printed
 check_begun : (tells : List ℕ → Option (List ℕ) → Type 0) (from : Judging) (table : List ℕ) (checked : Checked) (old new : Option (List ℕ))
@@ -172,38 +172,12 @@ abbrev pub BeginsStretches : Indexed → Option (List ℕ) → Option (List ℕ)
 BeginsStretches index table old new = Keeps old new ⊎ ((dead : Option ℕ) (skip : Bool) (units : List (ℕ × Parts))
     → IsIndexOf dead skip units index → IfSome table (λ text. AreStretchesBegun index dead skip units text old new))
 
--- The same for the units of a section that was judged.
-places_begun : {T E : Type 0} (IsSo : JudgedIndex → Type 0) (options : Options) (index : Indexed) (table old new : Option (List ℕ))
-    (ended : Result T E) → IsSo (Good index) → OnErr ended (BeginsStretches index table old new)
-    → OnErr ended (BeginsOf IsSo (λ judged. ArePlacesBegun options judged table old new) old new)
-places_begun IsSo options index table old new (Ok told) so begun = tt
-places_begun IsSo options index table old new (Err halt) so (inl kept) = inl kept
-places_begun IsSo options index table old new (Err halt) so (inr begun) =
-    inr (Good index, so, λ units of_index. begun options.dead options.skip_copies units of_index)
-
--- A front of the places of a good section is one for the table in the file of this name; nothing was written before.
-pub places_stopped : {R T S E : Type 0} (tells : List ℕ → Option (List ℕ) → Type 0) (from : Judging) (file : List ℕ)
-    (old now new : Option (List ℕ)) (line general : List ℕ) (section table : Option (List ℕ)) (index : Indexed) (worked : Result R E)
-    (ended : Result T S)
-    → AreTextsOf tells from line general → tells from.section.now section → tells file table
-    → IfSome section (λ bytes. IsJudgedIndex line general (options_in from) bytes (Good index)) → now ≡ old → OnErr ended (IsErr worked)
-    → OnErr worked (BeginsStretches index table now new) → OnErr ended (Keeps old new ⊎ BeginsPlaces tells from file old new)
-places_stopped tells from file old now new line general section table index worked ended texts of_section of_table good same is begun =
-    let gained = subst (λ (o : Option (List ℕ)). OnErr worked (BeginsStretches index table o new)) same begun in
-    of_file_stopped tells from file (λ judged text. ArePlacesBegun (options_in from) judged text old new) old new line general section table
-    ended texts of_section of_table
-    (places_begun (λ judged. IfSome section (λ bytes. IsJudgedIndex line general (options_in from) bytes judged)) (options_in from) index
-    table old new ended good (file_stopped (BeginsStretches index table old new) worked ended is gained))
-
--- The section isn't good: a front of its line.
-pub places_unjudged : {T E : Type 0} (tells : List ℕ → Option (List ℕ) → Type 0) (from : Judging) (file : List ℕ)
-    (old new : Option (List ℕ)) (line general : List ℕ) (section table : Option (List ℕ)) (ended : Result T E)
-    → AreTextsOf tells from line general → tells from.section.now section → tells file table
-    → Keeps old new
-    ⊎ HasBegunLine (λ judged. IfSome section (λ bytes. IsJudgedIndex line general (options_in from) bytes judged)) old new
-    → OnErr ended (Keeps old new ⊎ BeginsPlaces tells from file old new)
-places_unjudged tells from file old new line general section table ended texts of_section of_table begun =
-    of_file_stopped tells from file (λ judged text. ArePlacesBegun (options_in from) judged text old new) old new line general section table
-    ended texts of_section of_table
-    (begins_bad (λ judged. IfSome section (λ bytes. IsJudgedIndex line general (options_in from) bytes judged))
-    (λ judged. ArePlacesBegun (options_in from) judged table old new) old new ended (λ reason front. front) begun)
+-- The printing of the places stopped the run.
+pub places_stopped : {R T S E : Type 0} (index : Indexed) (table old new : Option (List ℕ)) (worked : Result R E) (ended : Result T S)
+    → OnErr ended (IsErr worked) → OnErr worked (BeginsStretches index table old new)
+    → OnErr ended (Keeps old new ⊎ ((options : Options) → ArePlacesBegun options (Good index) table old new))
+places_stopped index table old new worked (Ok told) is begun = tt
+places_stopped index table old new (Ok value) (Err stop) is begun = absurd (false≢true is)
+places_stopped index table old new (Err halt) (Err stop) is (inl kept) = inl kept
+places_stopped index table old new (Err halt) (Err stop) is (inr begun) =
+    inr (λ options units of_index. begun options.dead options.skip_copies units of_index)

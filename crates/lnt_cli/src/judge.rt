@@ -1,18 +1,24 @@
 //! The subcommand `check`, and the notes to answers about a section that is judged.
-ghost use Rattle.std.specs.Prelude.{◌≡◌, ◌⊎◌, ℕ, List, Option, IfErr, IfOk, OnErr};
+ghost use Rattle.std.specs.Prelude.{◌≡◌, ◌-◌, ◌^◌, ◌<◌, ◌⊎◌, ℕ, List, Option, IfErr, IfOk, IfSome, OnErr};
 ghost use Rattle.std.specs.Io.KnownBytes.{Appends, Keeps};
 ghost use Rattle.lnt_output.specs.Fronts.{HasBegun};
 ghost use Rattle.lnt_cli.specs.Answered.{AnswersCheck, AnswersPlaces, IsChecked, options_in};
+ghost use Rattle.lnt_cli.specs.Places.{ArePlacesTold};
 ghost use Rattle.lnt_cli.specs.Stepping.{places_status};
-ghost use Rattle.lnt_cli.specs.Stopped.{BeginsPlaces};
+ghost use Rattle.lnt_cli.specs.Stopped.{ArePlacesBegun, BeginsPlaces};
 ghost use Rattle.lnt_cli.specs.Stops.{IsUsage};
+ghost use Rattle.lnt_lines.specs.Drafts.{IsJudgedIndex};
+ghost use Rattle.lnt_lines.specs.declared.options.Options.{Options as OptionsSpec};
+ghost use Rattle.lnt_lines.specs.declared.section.JudgedIndex.{JudgedIndex};
+ghost use Rattle.lnt_lines.specs.declared.section.JudgedIndex.TheVariants.{Good};
+ghost use Rattle.lnt_table.specs.AnyVersion.{IsTrueCheck};
 ghost use Rattle.lnt_verdicts.specs.Verdicts.{checked_line, checked_status, compared_status, verdict_status};
 
-use crate::inputs::{of_file, open_both};
+use crate::inputs::{Texts, of_file, open_both};
 use crate::question::judge;
 use crate::session::Session;
 use crate::stop::CliStop;
-use lnt_lines::{JudgedIndex, No, Options};
+use lnt_lines::{Index, JudgedIndex, No, Options};
 use lnt_notes::{Columns, Given, Hints, Seen, tell_agreed, tell_bad, tell_good, tell_table};
 use lnt_paths::ComparedByPath;
 use lnt_records::TableFault;
@@ -80,15 +86,28 @@ fn judge_table<O: Opener>(
     ensures checked { IfOk result (λ checked. (old new : Option (List ℕ)) → Appends old new (checked_line checked)
         → IsChecked (O.tells opener.old) from.now table.now old new checked) }
 {
-    let opened = open_both(alloc, opener, from, table, seen)?;
-    let (texts, mut section, mut records) = (opened.texts, opened.section, opened.file);
-    match check_any(
-        alloc,
-        &mut section,
-        &texts.strings(),
-        &mut records,
-        &options_of(from),
-    ) {
+    let mut opened = open_both(alloc, opener, from, table, seen)?;
+    let files = &mut opened;
+    let (texts, section, records) = (&files.texts, &mut files.section, &mut files.file);
+    judge_table_of(alloc, from, table, texts, section, records)
+}
+
+// The same. The files are open.
+fn judge_table_of<R: Source, T: Source>(
+    alloc: Global,
+    from: &Judging<'_>,
+    table: &str,
+    texts: &Texts,
+    section: &mut R,
+    records: &mut T,
+) -> Result<Checked, CliStop>
+    requires section { R.failures section.old < 2 ^ 64 - 1 }
+    requires records { T.failures records.old < 2 ^ 64 - 1 }
+    ensures usage { IfErr result (λ stop. IsUsage stop → ⊥) }
+    ensures checked { IfOk result (λ checked. IfSome (R.remaining section.old) (λ bytes. IfSome (T.remaining records.old) (λ text.
+        IsTrueCheck texts.now.line.items texts.now.general.items (options_in from.now) bytes text checked))) }
+{
+    match check_any(alloc, section, &texts.strings(), records, &options_of(from)) {
         Ok(checked) => Ok(checked),
         // The section is read first: where it caused the stop, the table wasn't read.
         Err(stop) => {
@@ -121,22 +140,8 @@ impl<O: Opener, W: Write, N: Write> Session<'_, '_, '_, O, W, N> {
         ensures same_reference { self.new.out.ghost_name ≡ self.old.out.ghost_name }
     {
         let seen = Cell::new(Seen::nothing());
-        match judge_places(self.alloc, from, table, self.opener, &seen, self.out)? {
-            Places::Section(no) => {
-                self.tell_bad(&no, &seen.get(), from);
-                Ok(Status::No)
-            }
-            Places::Table(Stretches::Faulty(fault)) => {
-                Ok(self.tell_fault(fault, Columns::Numbered, table))
-            }
-            Places::Table(Stretches::FaultyByPath(fault)) => {
-                Ok(self.tell_fault(fault, Columns::ByPath, table))
-            }
-            Places::Table(Stretches::Told(Status::Done) | Stretches::ToldByPath(Status::Done)) =>
-                Ok(self.tell_agreed(from, table)),
-            Places::Table(Stretches::Told(Status::No)) => Ok(Status::No),
-            Places::Table(Stretches::ToldByPath(Status::No)) => Ok(Status::No),
-        }
+        let places = judge_places(self.alloc, from, table, self.opener, &seen, self.out)?;
+        Ok(self.tell_places(&places, &seen.get(), from, table))
     }
 }
 
@@ -156,13 +161,57 @@ fn judge_places<O: Opener, W: Write>(
     ensures stopped { OnErr result (Keeps (W.contents out.old) (W.contents out.new)
         ⊎ BeginsPlaces (O.tells opener.old) from.now table.now (W.contents out.old) (W.contents out.new)) }
 {
-    let opened = open_both(alloc, opener, from, table, seen)?;
-    let (texts, mut section, mut records) = (opened.texts, opened.section, opened.file);
-    let index = match judge(alloc, &mut section, &texts, from, out)? {
-        JudgedIndex::Good(index) => index,
-        JudgedIndex::Bad(no) => return Ok(Places::Section(no)),
-    };
-    let printed = print_stretches(alloc, &mut records, &index, out);
+    let mut opened = open_both(alloc, opener, from, table, seen)?;
+    let files = &mut opened;
+    let (texts, section, records) = (&files.texts, &mut files.section, &mut files.file);
+    judge_places_of(alloc, from, table, texts, section, records, out)
+}
+
+// Prints all places at which the table in the file of this name answers otherwise than the section. The files are open.
+fn judge_places_of<R: Source, T: Source, W: Write>(
+    alloc: Global,
+    from: &Judging<'_>,
+    table: &str,
+    texts: &Texts,
+    section: &mut R,
+    records: &mut T,
+    out: &mut W,
+) -> Result<Places, CliStop>
+    requires section { R.failures section.old < 2 ^ 64 - 1 }
+    requires records { T.failures records.old < 2 ^ 64 - 1 }
+    ensures usage { IfErr result (λ stop. IsUsage stop → ⊥) }
+    ensures answer { IfOk result (λ places. (judged : JudgedIndex)
+        × IfSome (R.remaining section.old) (λ bytes.
+        IsJudgedIndex texts.now.line.items texts.now.general.items (options_in from.now) bytes judged)
+        × ArePlacesTold (options_in from.now) judged (T.remaining records.old) (W.contents out.old) (W.contents out.new)
+        (places_status places)) }
+    ensures stopped { OnErr result (Keeps (W.contents out.old) (W.contents out.new) ⊎ ((judged : JudgedIndex)
+        × IfSome (R.remaining section.old) (λ bytes.
+        IsJudgedIndex texts.now.line.items texts.now.general.items (options_in from.now) bytes judged)
+        × ArePlacesBegun (options_in from.now) judged (T.remaining records.old) (W.contents out.old) (W.contents out.new))) }
+{
+    match judge(alloc, section, texts, from, out)? {
+        JudgedIndex::Good(index) => print_places(alloc, &index, table, records, out),
+        JudgedIndex::Bad(no) => Ok(Places::Section(no)),
+    }
+}
+
+// Prints all places at which the table in the file of this name answers otherwise than a good section.
+fn print_places<T: Source, W: Write>(
+    alloc: Global,
+    index: &Index<'_>,
+    table: &str,
+    records: &mut T,
+    out: &mut W,
+) -> Result<Places, CliStop>
+    requires { T.failures records.old < 2 ^ 64 - 1 }
+    ensures usage { IfErr result (λ stop. IsUsage stop → ⊥) }
+    ensures answer { IfOk result (λ places. (options : OptionsSpec) → ArePlacesTold options (Good index.now) (T.remaining records.old)
+        (W.contents out.old) (W.contents out.new) (places_status places)) }
+    ensures stopped { OnErr result (Keeps (W.contents out.old) (W.contents out.new) ⊎ ((options : OptionsSpec)
+        → ArePlacesBegun options (Good index.now) (T.remaining records.old) (W.contents out.old) (W.contents out.new))) }
+{
+    let printed = print_stretches(alloc, records, index, out);
     Ok(Places::Table(of_file(alloc, table, printed)?))
 }
 
@@ -199,6 +248,35 @@ impl<O: Opener, W: Write, N: Write> Session<'_, '_, '_, O, W, N> {
         match checked {
             Checked::Numbered(verdict) => self.tell_verdict(verdict, seen, from, table),
             Checked::ByPath(compared) => self.tell_compared(compared, from, table),
+        }
+    }
+
+    // The same of all places.
+    fn tell_places(
+        &mut self,
+        places: &Places,
+        seen: &Seen,
+        from: &Judging<'_>,
+        table: &str,
+    ) -> Status
+        ensures status { result ≡ places_status places.now }
+        ensures same { self.new.out ≡ self.old.out }
+    {
+        match places {
+            Places::Section(no) => {
+                self.tell_bad(no, seen, from);
+                Status::No
+            }
+            Places::Table(Stretches::Faulty(fault)) => {
+                self.tell_fault(*fault, Columns::Numbered, table)
+            }
+            Places::Table(Stretches::FaultyByPath(fault)) => {
+                self.tell_fault(*fault, Columns::ByPath, table)
+            }
+            Places::Table(Stretches::Told(Status::Done) | Stretches::ToldByPath(Status::Done)) =>
+                self.tell_agreed(from, table),
+            Places::Table(Stretches::Told(Status::No)) => Status::No,
+            Places::Table(Stretches::ToldByPath(Status::No)) => Status::No,
         }
     }
 

@@ -182,9 +182,10 @@ fn answer_lines<O: Opener, W: Write>(
     ensures stopped { OnErr result (Keeps (W.contents out.old) (W.contents out.new)
         ⊎ BeginsAddresses (O.tells opener.old) from.now file.now op (W.contents out.old) (W.contents out.new)) }
 {
-    let opened = open_both(alloc, opener, from, file, seen)?;
-    let (texts, mut section, mut lines) = (opened.texts, opened.section, opened.file);
-    answer_lines_of(alloc, from, file, op, &texts, &mut section, &mut lines, out)
+    let mut opened = open_both(alloc, opener, from, file, seen)?;
+    let files = &mut opened;
+    let (texts, section, lines) = (&files.texts, &mut files.section, &mut files.file);
+    answer_lines_of(alloc, from, file, op, texts, section, lines, out)
 }
 
 // Answers the lines of the file of this name. That file and the section's files are open.

@@ -107,13 +107,39 @@ impl<O: Opener, W: Write, N: Write> Session<'_, '_, '_, O, W, N> {
         ensures same_reference { self.new.out.ghost_name ≡ self.old.out.ghost_name }
     {
         let seen = Cell::new(Seen::nothing());
-        let mut source = open_section(self.alloc, self.opener, section, &seen)?;
-        let status = print_reading(self.alloc, &mut source, order, reading, self.out)?;
+        let status = print_section(
+            self.alloc,
+            section,
+            order,
+            reading,
+            self.opener,
+            &seen,
+            self.out,
+        )?;
         if status == Status::No && !self.quiet {
             let _ = tell_refused(&seen.get(), order, self.notes);
         }
         Ok(status)
     }
+}
+
+// Prints what this reading of the section in the file of this name asks for. `seen` keeps what notes need of its bytes.
+fn print_section<O: Opener, W: Write>(
+    alloc: Global,
+    section: &str,
+    order: Order,
+    reading: Reading,
+    opener: &mut O,
+    seen: &Cell<Seen>,
+    out: &mut W,
+) -> Result<Status, Halt>
+    ensures answer { IfOk result (λ status. AnswersRead (O.tells opener.old) section.now order reading
+        (W.contents out.old) (W.contents out.new) status) }
+    ensures stopped { OnErr result (Keeps (W.contents out.old) (W.contents out.new)
+        ⊎ StopsRead (O.tells opener.old) section.now order reading (W.contents out.old) (W.contents out.new)) }
+{
+    let mut source = open_section(alloc, opener, section, seen)?;
+    print_reading(alloc, &mut source, order, reading, out)
 }
 
 // Prints what this reading of a section asks for: its units, a dump or the converted section.

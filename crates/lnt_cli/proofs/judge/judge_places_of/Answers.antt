@@ -1,0 +1,16 @@
+use Rattle.std.proofs.Common.{IfSome}
+use Rattle.lnt_lines.specs.Drafts.{IsJudgedIndex}
+use Rattle.lnt_cli.specs.Answered.{options_in}
+use Rattle.lnt_cli.specs.Stopped.{ArePlacesBegun}
+use Rattle.lnt_cli.proofs.StopLemmas.{begins_bad}
+use Rattle.lnt_cli.proofs.judge.judge_places_of.Goals as goal
+
+pub returns-in_err-index-clause-stopped : goal.returns-in_err-index-clause-stopped
+returns-in_err-index-clause-stopped g c =
+    let old = g.W.Write.contents c.args.out.now in
+    let new = g.W.Write.contents c.judge.new.out in
+    begins_bad
+    (λ judged. IfSome (g.R.Source.remaining c.args.section.now)
+    (λ bytes. IsJudgedIndex c.args.texts.now.line.items c.args.texts.now.general.items (options_in c.args.from.now) bytes judged))
+    (λ judged. ArePlacesBegun (options_in c.args.from.now) judged (g.T.Source.remaining c.args.records.now) old new) old new
+    c.from_residual.result (λ reason front. front) c.in_err-index.ensures.stopped
