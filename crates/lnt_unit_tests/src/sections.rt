@@ -43,23 +43,43 @@ fn is_unit(got: &Option<UnitBuffer>, offset: u64, bytes: &[u8]) -> bool {
     }
 }
 
+// Whether the next unit of the section has these bytes, and stands at the offset.
+fn gives(
+    alloc: Global,
+    reader: &mut SectionReader<'_, Counted<Pieces<'_>>>,
+    offset: u64,
+    bytes: &[u8],
+) -> bool {
+    match reader.next_unit(alloc) {
+        Ok(unit) => is_unit(&unit, offset, bytes),
+        Err(_) => false,
+    }
+}
+
+// Whether the section ends here.
+fn ends(alloc: Global, reader: &mut SectionReader<'_, Counted<Pieces<'_>>>) -> bool {
+    matches!(reader.next_unit(alloc), Ok(None))
+}
+
 // Whether the section is these two units, read in pieces of this size.
-fn are_units(alloc: Global, first: &[u8], second: &[u8], piece: usize) -> Option<bool> {
-    let bytes = joined(alloc, first, second)?;
+fn are_units(alloc: Global, first: &[u8], second: &[u8], piece: usize) -> bool {
+    let Some(bytes) = joined(alloc, first, second) else {
+        return false;
+    };
     let mut source = Counted::new(Pieces::new(alloc, bytes.as_slice(), piece, u64::MAX), AMPLE);
     let mut reader = SectionReader::new(&mut source, Order::Little);
-    let unit = reader.next_unit(alloc).ok()?;
-    let other = reader.next_unit(alloc).ok()?;
-    let ended = reader.next_unit(alloc).ok()?.is_none() && reader.next_unit(alloc).ok()?.is_none();
-    Some(ended && is_unit(&unit, 0, first) && is_unit(&other, first.len() as u64, second))
+    gives(alloc, &mut reader, 0, first)
+        && gives(alloc, &mut reader, first.len() as u64, second)
+        && ends(alloc, &mut reader)
+        && ends(alloc, &mut reader)
 }
 
 #[test]
 fn units_in_pieces(rt: HostRuntime) {
     let alloc = rt.alloc();
-    assert!(rt; are_units(alloc, &PLAIN, &SHORT, 100) == Some(true));
-    assert!(rt; are_units(alloc, &SHORT, &PLAIN, 1) == Some(true));
-    assert!(rt; are_units(alloc, &PLAIN, &SHORT, 5) == Some(true));
+    assert!(rt; are_units(alloc, &PLAIN, &SHORT, 100));
+    assert!(rt; are_units(alloc, &SHORT, &PLAIN, 1));
+    assert!(rt; are_units(alloc, &PLAIN, &SHORT, 5));
 }
 
 // Why no unit comes of the bytes, under this limit and from a reader that fails after `sound` reads. None where a later
@@ -98,8 +118,7 @@ fn stop_after(alloc: Global, sound: u64, limit: u64) -> Option<SectionStop> {
     let bytes = joined(alloc, &PLAIN, &[0xf0, 0xff, 0xff, 0xff])?;
     let mut source = Counted::new(Pieces::new(alloc, bytes.as_slice(), 100, sound), limit);
     let mut reader = SectionReader::new(&mut source, Order::Little);
-    let unit = reader.next_unit(alloc).ok()?;
-    if !is_unit(&unit, 0, &PLAIN) {
+    if !gives(alloc, &mut reader, 0, &PLAIN) {
         return None;
     }
     reader.next_unit(alloc).err()

@@ -12,6 +12,8 @@ use Rattle.lnt_wire.specs.declared.form.FormValue.{FormValue}
 use Rattle.lnt_wire.specs.declared.form.FormValue.TheVariants.{Text, LineStrp, Strp, Udata, Data1, Data2, Data4, Data8, Data16}
 use Rattle.lnt_wire.specs.declared.form.FormValue.TheVariants.{Block, Block1, Block2, Block4}
 use Rattle.lnt_wire.specs.declared.form.Prefix.TheVariants.{Leb, One, Two, Four}
+use Rattle.lnt_wire.specs.declared.view.ValueView.{ValueView}
+use Rattle.lnt_wire.specs.Borrowed.{value_of}
 use Rattle.lnt_wire.specs.FormBytes.{TextBytes, BlockBytes, ValueBytes, FormBytes, form_of}
 use Rattle.lnt_wire.specs.FormFaults.{IsCutText, IsValueFault}
 use Rattle.lnt_wire.specs.Leb128.{UnsignedLeb, IsLargeUnsigned, IsLebFault}
@@ -254,3 +256,16 @@ reads_value Spells x format form value old new is there read = record {
   place = read.place;
   order = read.order;
 }
+
+-- a refusal for another reason that follows from it
+pub refuses_as : {T E : Type 0} (r : Result T E) (P Q : E → Type 0) → ((e : E) → P e → Q e) → IfErr r P → IfErr r Q
+refuses_as (Ok x) P Q f p = tt
+refuses_as (Err e) P Q f p = f e p
+
+-- a value read in one form, and in any format
+pub reads_in : (r : Result ValueView Fault) (format : Format) (form known : Form) (old new : At) → form ≡ known
+    → IfOk r (λ view. (any : Format) → Reads (ValueBytes any old.order known) (value_of view) old new)
+    → IfOk r (λ view. Reads (ValueBytes format old.order form) (value_of view) old new)
+reads_in (Ok view) format form known old new is p =
+    subst (λ (f : Form). Reads (ValueBytes format old.order f) (value_of view) old new) (sym is) (p format)
+reads_in (Err fault) format form known old new is p = tt

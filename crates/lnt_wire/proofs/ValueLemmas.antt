@@ -109,6 +109,3 @@ reads_block prefix old at ahead new size bytes block same there rest le is s =
       place = omega (arith, s.place, r.place, count, length-append r.spelling block);
       order = s.order ∙ r.order;
     }
-
--- the exits of the reader of a block
-pub ruleset block_exits = (refuses_no_length, refuses_cut_block, reads_block)

@@ -3,6 +3,8 @@
 use Rattle.std.specs.Prelude.{ℕ, ◌^◌, ◌<◌, List}
 use Rattle.lnt_wire.specs.declared.format.Order.{Order}
 use Rattle.lnt_wire.specs.declared.fault.Reason.{Reason}
+use Rattle.lnt_wire.specs.declared.form.Form.{Form}
+use Rattle.lnt_wire.specs.declared.form.Form.TheVariants as forms
 use Rattle.lnt_wire.specs.declared.form.Prefix.{Prefix}
 use Rattle.lnt_wire.specs.declared.form.Prefix.TheVariants.{Leb, One, Two, Four}
 use Rattle.lnt_wire.specs.FormFaults.{IsBlockFault}
@@ -16,6 +18,13 @@ LengthBytes order Leb = UnsignedLeb
 LengthBytes order One = NumberBytes order 1
 LengthBytes order Two = NumberBytes order 2
 LengthBytes order Four = NumberBytes order 4
+
+-- The form of blocks whose length is spelled so.
+abbrev pub block_form : Prefix → Form
+block_form Leb = forms.Block
+block_form One = forms.Block1
+block_form Two = forms.Block2
+block_form Four = forms.Block4
 
 -- The length, which is below 2 ^ 64, can be spelled so.
 abbrev pub BlockLengthFits : Prefix → ℕ → Type 0

@@ -56,23 +56,23 @@ impl fmt::Display for Reason {
 
     fn fmt<W: fmt::Write>(&self, f: &mut fmt::Formatter<W>) -> fmt::Result {
         match *self {
-            Reason::Truncated => write!(f, "truncated"),
-            Reason::ReservedLength => write!(f, "reserved length"),
+            Reason::Truncated => f.write_str("truncated"),
+            Reason::ReservedLength => f.write_str("reserved length"),
             Reason::VersionNotFive(version) => write!(f, "version {version}"),
             Reason::AddressSize(size) => write!(f, "address size {size}"),
             Reason::SegmentSelector(size) => write!(f, "segment selector size {size}"),
-            Reason::HeaderLength => write!(f, "header length"),
-            Reason::MaxOpsZero => write!(f, "zero operations per instruction"),
-            Reason::LineRangeZero => write!(f, "zero line range"),
-            Reason::OpcodeBaseZero => write!(f, "zero opcode base"),
+            Reason::HeaderLength => f.write_str("header length"),
+            Reason::MaxOpsZero => f.write_str("zero operations per instruction"),
+            Reason::LineRangeZero => f.write_str("zero line range"),
+            Reason::OpcodeBaseZero => f.write_str("zero opcode base"),
             Reason::StandardLength(opcode, length) => {
                 write!(f, "length {length} of standard opcode {opcode}")
             }
             Reason::UnknownForm(code) => write!(f, "form 0x{code:x}"),
-            Reason::EmptyFormat => write!(f, "entries without a format"),
-            Reason::LebTooLarge => write!(f, "number too large"),
-            Reason::ExtendedLength => write!(f, "extended length"),
-            Reason::Memory => write!(f, "out of memory"),
+            Reason::EmptyFormat => f.write_str("entries without a format"),
+            Reason::LebTooLarge => f.write_str("number too large"),
+            Reason::ExtendedLength => f.write_str("extended length"),
+            Reason::Memory => f.write_str("out of memory"),
         }
     }
 }

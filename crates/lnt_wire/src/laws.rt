@@ -5,7 +5,6 @@
 ghost use Rattle.lnt_wire.specs.Laws.{OneNumber, OneLeb, OneValue, SpelledValues};
 
 /// Fixed-width numbers and offsets, in either order and format (DWARF 5, sections 7.4 and 7.5.5).
-#[tactic(auto, using(crate::proofs::ValueLaws::one_number))]
 pub fn one_number()
     ensures { OneNumber }
 {}

@@ -14,7 +14,6 @@ impl<'a> Cursor<'a> {
     /// The next unsigned LEB128 number, with or without groups of zeros at its end. It refuses with `Truncated` where its
     /// last byte isn't there, and with `LebTooLarge` where it is, and the number is 2^64 or more.
     #[inline(always)]
-    #[tactic(auto, using(crate::proofs::ReadLemmas::reads_skipped, crate::proofs::ReadLemmas::refuses_field))]
     pub fn uleb(&mut self) -> Result<u64, Fault>
         ensures ok { IfOk result (λ v. Reads UnsignedLeb v self.old self.new) }
         ensures err { IfErr result (λ fault. RefusesField (IsLebFault IsLargeUnsigned) UnsignedLeb self.old fault) }
@@ -40,7 +39,7 @@ impl<'a> Cursor<'a> {
     /// The next signed LEB128 number, with or without groups at its end that repeat the sign. It refuses with `Truncated`
     /// where its last byte isn't there, and with `LebTooLarge` where it is, and the number is below -2^63, or 2^63 or more.
     #[inline(always)]
-    #[tactic(auto, using(crate::proofs::ReadLemmas::reads_skipped, crate::proofs::ReadLemmas::refuses_field))]
+    #[tactic(auto, using(crate::proofs::ReadLemmas::reads_skipped))]
     pub fn sleb(&mut self) -> Result<i64, Fault>
         ensures ok { IfOk result (λ v. Reads SignedLeb v self.old self.new) }
         ensures err { IfErr result (λ fault. RefusesField (IsLebFault IsLargeSigned) SignedLeb self.old fault) }

@@ -30,8 +30,8 @@ impl fmt::Display for EncodeFault {
 
     fn fmt<W: fmt::Write>(&self, f: &mut fmt::Formatter<W>) -> fmt::Result {
         match self {
-            EncodeFault::TooLarge => write!(f, "too large for the 32-bit format"),
-            EncodeFault::Memory => write!(f, "out of memory"),
+            EncodeFault::TooLarge => f.write_str("too large for the 32-bit format"),
+            EncodeFault::Memory => f.write_str("out of memory"),
         }
     }
 }
@@ -115,8 +115,7 @@ pub fn put_u16(out: &mut Vec<u8>, n: u16, order: Order) -> Result<(), AllocError
         Order::Little => LittleEndian::write_u16(&mut bytes, n),
         Order::Big => BigEndian::write_u16(&mut bytes, n),
     }
-    out.extend_from_slice(&bytes)?;
-    Ok(())
+    out.extend_from_slice(&bytes)
 }
 
 /// Adds the number in 4 bytes, in this order. The one error is that memory ran out, and then `out` is as before.
@@ -129,8 +128,7 @@ pub fn put_u32(out: &mut Vec<u8>, n: u32, order: Order) -> Result<(), AllocError
         Order::Little => LittleEndian::write_u32(&mut bytes, n),
         Order::Big => BigEndian::write_u32(&mut bytes, n),
     }
-    out.extend_from_slice(&bytes)?;
-    Ok(())
+    out.extend_from_slice(&bytes)
 }
 
 /// Adds the number in 8 bytes, in this order. The one error is that memory ran out, and then `out` is as before.
@@ -143,8 +141,7 @@ pub fn put_u64(out: &mut Vec<u8>, n: u64, order: Order) -> Result<(), AllocError
         Order::Little => LittleEndian::write_u64(&mut bytes, n),
         Order::Big => BigEndian::write_u64(&mut bytes, n),
     }
-    out.extend_from_slice(&bytes)?;
-    Ok(())
+    out.extend_from_slice(&bytes)
 }
 
 /// Adds the offset or length, in the 4 bytes of the 32-bit format or the 8 of the 64-bit one (DWARF 5, section 7.4).
@@ -265,8 +262,7 @@ fn add_block(
     ensures extends { OnErr result (Extends out.old.items out.new.items) }
 {
     add_length(out, block.len(), prefix, order)?;
-    out.extend_from_slice(block)?;
-    Ok(())
+    out.extend_from_slice(block)
 }
 
 // Adds the length of a block, spelled as `prefix` says. A refused call leaves `out` as it was.

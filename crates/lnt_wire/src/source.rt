@@ -16,7 +16,7 @@ impl fmt::Display for ReadFault {
     ghost output = { λ _. Some (codes "cannot read") };
 
     fn fmt<W: fmt::Write>(&self, f: &mut fmt::Formatter<W>) -> fmt::Result {
-        write!(f, "cannot read")
+        f.write_str("cannot read")
     }
 }
 

@@ -21,9 +21,9 @@ impl fmt::Display for Stop {
 
     fn fmt<W: fmt::Write>(&self, f: &mut fmt::Formatter<W>) -> fmt::Result {
         match self {
-            Stop::Memory => write!(f, "out of memory"),
-            Stop::Read => write!(f, "cannot read"),
-            Stop::TooLong => write!(f, "too long"),
+            Stop::Memory => f.write_str("out of memory"),
+            Stop::Read => f.write_str("cannot read"),
+            Stop::TooLong => f.write_str("too long"),
         }
     }
 }

@@ -2,9 +2,10 @@
 ghost use Rattle.std.specs.Prelude.{◌≡◌, IfOk, IfErr, OnErr};
 ghost use Rattle.lnt_wire.specs.Borrowed.{value_of};
 ghost use Rattle.lnt_wire.specs.Bytes.{TakenBytes};
+ghost use Rattle.lnt_wire.specs.declared.format.Format.{Format};
 ghost use Rattle.lnt_wire.specs.FormBytes.{TextBytes, BlockBytes, ValueBytes};
 ghost use Rattle.lnt_wire.specs.FormFaults.{IsCutText, IsValueFault};
-ghost use Rattle.lnt_wire.specs.Prefixes.{LengthBytes, IsLengthFault, IsPrefixedFault};
+ghost use Rattle.lnt_wire.specs.Prefixes.{LengthBytes, IsLengthFault, IsPrefixedFault, block_form};
 ghost use Rattle.lnt_wire.specs.Reading.{Reads, RefusesField, RefusesFieldOr, IsCutShort};
 
 use crate::cursor::Cursor;
@@ -37,10 +38,10 @@ impl<'a> Cursor<'a> {
             Form::Data8 => Ok(ValueView::Data8(self.u64()?)),
             Form::Data16 => Ok(ValueView::Data16(self.data16()?)),
             Form::Text => Ok(ValueView::Text(self.text()?)),
-            Form::Block => Ok(ValueView::Block(self.block(Prefix::Leb)?)),
-            Form::Block1 => Ok(ValueView::Block1(self.block(Prefix::One)?)),
-            Form::Block2 => Ok(ValueView::Block2(self.block(Prefix::Two)?)),
-            Form::Block4 => Ok(ValueView::Block4(self.block(Prefix::Four)?)),
+            Form::Block => self.prefixed(Prefix::Leb),
+            Form::Block1 => self.prefixed(Prefix::One),
+            Form::Block2 => self.prefixed(Prefix::Two),
+            Form::Block4 => self.prefixed(Prefix::Four),
             Form::Strp => Ok(ValueView::Strp(self.offset(format)?)),
             Form::LineStrp => Ok(ValueView::LineStrp(self.offset(format)?)),
             Form::Udata => Ok(ValueView::Udata(self.uleb()?)),
@@ -85,7 +86,6 @@ impl<'a> Cursor<'a> {
     // The next bytes up to a zero byte, without it. The cursor moves past it too. It refuses with `Truncated` where none of
     // the bytes that are left is zero.
     #[inline(never)]
-    #[tactic(auto, using(crate::proofs::ValueLemmas::refuses_text, crate::proofs::ValueLemmas::reads_text))]
     fn text(&mut self) -> Result<&'a [u8], Fault>
         ensures ok { IfOk result (λ v. Reads TextBytes v.now self.old self.new) }
         ensures err { IfErr result (λ fault. RefusesField IsCutText TextBytes self.old fault) }
@@ -104,10 +104,28 @@ impl<'a> Cursor<'a> {
         Ok(text)
     }
 
+    // The next block as a value, in the form whose lengths are spelled as `prefix` says; such a form is the same in each format.
+    // It refuses as `block` does.
+    #[inline(always)]
+    fn prefixed(&mut self, prefix: Prefix) -> Result<ValueView<'a>, Fault>
+        ensures ok { IfOk result (λ v. (format : Format) →
+            Reads (ValueBytes format self.old.order (block_form prefix)) (value_of v) self.old self.new) }
+        ensures err { IfErr result (λ fault.
+            RefusesField (IsPrefixedFault self.old.order prefix) (BlockBytes (LengthBytes self.old.order prefix)) self.old fault) }
+        ensures unchanged { OnErr result (self.new ≡ self.old) }
+    {
+        let block = self.block(prefix)?;
+        match prefix {
+            Prefix::Leb => Ok(ValueView::Block(block)),
+            Prefix::One => Ok(ValueView::Block1(block)),
+            Prefix::Two => Ok(ValueView::Block2(block)),
+            Prefix::Four => Ok(ValueView::Block4(block)),
+        }
+    }
+
     // The bytes of the next block, whose length is spelled as `prefix` says. It refuses with `Truncated` where the length isn't
     // there, or counts more bytes than follow it, and with `LebTooLarge`. The place of each is the length's first byte.
     #[inline(never)]
-    #[tactic(auto, using(crate::proofs::ValueLemmas::block_exits))]
     fn block(&mut self, prefix: Prefix) -> Result<&'a [u8], Fault>
         ensures ok { IfOk result (λ v. Reads (BlockBytes (LengthBytes self.old.order prefix)) v.now self.old self.new) }
         ensures err { IfErr result (λ fault.

@@ -1,5 +1,5 @@
 use Rattle.lnt_wire.specs.declared.form.FormValue.TheVariants.{Text, LineStrp, Strp, Udata, Data1, Data2, Data4, Data8, Data16}
-use Rattle.lnt_wire.specs.declared.form.FormValue.TheVariants.{Block, Block1, Block2, Block4}
+use Rattle.lnt_wire.specs.declared.form.Form.TheVariants as forms
 use Rattle.lnt_wire.specs.declared.form.Prefix.TheVariants.{Leb, One, Two, Four}
 use Rattle.lnt_wire.specs.declared.view.ValueView.{ValueView}
 use Rattle.lnt_wire.specs.Borrowed.{value_of}
@@ -7,9 +7,10 @@ use Rattle.lnt_wire.specs.Bytes.{TakenBytes}
 use Rattle.lnt_wire.specs.FormBytes.{BlockBytes, TextBytes, ValueBytes}
 use Rattle.lnt_wire.specs.Leb128.{UnsignedLeb}
 use Rattle.lnt_wire.specs.Numbers.{NumberBytes, OffsetBytes}
-use Rattle.lnt_wire.specs.Prefixes.{LengthBytes}
-use Rattle.lnt_wire.specs.Reading.{Reads}
-use Rattle.lnt_wire.proofs.RefusedForms.{hands_on, gives_none, leaves_it, reads_value}
+use Rattle.lnt_wire.specs.FormFaults.{IsValueFault}
+use Rattle.lnt_wire.specs.Prefixes.{LengthBytes, IsPrefixedFault}
+use Rattle.lnt_wire.specs.Reading.{Reads, RefusesField}
+use Rattle.lnt_wire.proofs.RefusedForms.{hands_on, gives_none, leaves_it, reads_value, refuses_as, reads_in}
 use Rattle.lnt_wire.proofs.RefusedForms.{refuses_data1, refuses_data2, refuses_data4, refuses_data8, refuses_data16}
 use Rattle.lnt_wire.proofs.RefusedForms.{refuses_strp, refuses_line_strp, refuses_udata, refuses_string}
 use Rattle.lnt_wire.proofs.RefusedForms.{refuses_block, refuses_block1, refuses_block2, refuses_block4}
@@ -165,105 +166,69 @@ returns-in_ok-text-in-Text-clause-ok c =
     (Text c.in_ok-text-in-Text.field-0.now) c.args.self.now c.text.new.self c.in-Text.is
     (λ bytes p. p) c.in_ok-text-in-Text.ensures.ok
 
-pub returns-in_err-block-in-Block-clause-err : goal.returns-in_err-block-in-Block-clause-err
-returns-in_err-block-in-Block-clause-err c =
-    hands_on c.from_residual-in_err-block-in-Block.result c.args.format c.args.form c.args.self.now
-    c.in_err-block-in-Block.field-0.0 c.from_residual-in_err-block-in-Block.ensures.1
-    (refuses_block c.args.format c.args.form c.args.self.now c.in_err-block-in-Block.field-0.0 c.in-Block.is
-    c.in_err-block-in-Block.ensures.err)
+pub returns-in-Block-clause-err : goal.returns-in-Block-clause-err
+returns-in-Block-clause-err c =
+    refuses_as c.prefixed.result
+    (RefusesField (IsPrefixedFault c.args.self.now.order Leb) (BlockBytes (LengthBytes c.args.self.now.order Leb)) c.args.self.now)
+    (RefusesField (IsValueFault c.args.format c.args.self.now.order c.args.form)
+    (ValueBytes c.args.format c.args.self.now.order c.args.form) c.args.self.now)
+    (λ fault. refuses_block c.args.format c.args.form c.args.self.now fault c.in-Block.is) c.prefixed.ensures.err
 
-pub returns-in_err-block-in-Block-clause-ok : goal.returns-in_err-block-in-Block-clause-ok
-returns-in_err-block-in-Block-clause-ok c =
-    gives_none c.from_residual-in_err-block-in-Block.result
-    (λ (view : ValueView). Reads (ValueBytes c.args.format c.args.self.now.order c.args.form) (value_of view) c.args.self.now
-    c.block.new.self)
-    c.from_residual-in_err-block-in-Block.ensures.0
+pub returns-in-Block-clause-ok : goal.returns-in-Block-clause-ok
+returns-in-Block-clause-ok c =
+    reads_in c.prefixed.result c.args.format c.args.form forms.Block c.args.self.now c.prefixed.new.self
+    c.in-Block.is c.prefixed.ensures.ok
 
-pub returns-in_err-block-in-Block-clause-unchanged : goal.returns-in_err-block-in-Block-clause-unchanged
-returns-in_err-block-in-Block-clause-unchanged c =
-    leaves_it c.from_residual-in_err-block-in-Block.result c.args.self.now c.block.new.self
-    c.in_err-block-in-Block.ensures.unchanged
+pub returns-in-Block-clause-unchanged : goal.returns-in-Block-clause-unchanged
+returns-in-Block-clause-unchanged c = c.prefixed.ensures.unchanged
 
-pub returns-in_ok-block-in-Block-clause-ok : goal.returns-in_ok-block-in-Block-clause-ok
-returns-in_ok-block-in-Block-clause-ok c =
-    reads_value (BlockBytes (LengthBytes c.args.self.now.order Leb)) c.in_ok-block-in-Block.field-0.now c.args.format c.args.form
-    (Block c.in_ok-block-in-Block.field-0.now) c.args.self.now c.block.new.self c.in-Block.is
-    (λ bytes p. p) c.in_ok-block-in-Block.ensures.ok
+pub returns-in-Block1-clause-err : goal.returns-in-Block1-clause-err
+returns-in-Block1-clause-err c =
+    refuses_as c.prefixed-in-Block1.result
+    (RefusesField (IsPrefixedFault c.args.self.now.order One) (BlockBytes (LengthBytes c.args.self.now.order One)) c.args.self.now)
+    (RefusesField (IsValueFault c.args.format c.args.self.now.order c.args.form)
+    (ValueBytes c.args.format c.args.self.now.order c.args.form) c.args.self.now)
+    (λ fault. refuses_block1 c.args.format c.args.form c.args.self.now fault c.in-Block1.is) c.prefixed-in-Block1.ensures.err
 
-pub returns-in_err-block-in-Block1-clause-err : goal.returns-in_err-block-in-Block1-clause-err
-returns-in_err-block-in-Block1-clause-err c =
-    hands_on c.from_residual-in_err-block-in-Block1.result c.args.format c.args.form c.args.self.now
-    c.in_err-block-in-Block1.field-0.0 c.from_residual-in_err-block-in-Block1.ensures.1
-    (refuses_block1 c.args.format c.args.form c.args.self.now c.in_err-block-in-Block1.field-0.0 c.in-Block1.is
-    c.in_err-block-in-Block1.ensures.err)
+pub returns-in-Block1-clause-ok : goal.returns-in-Block1-clause-ok
+returns-in-Block1-clause-ok c =
+    reads_in c.prefixed-in-Block1.result c.args.format c.args.form forms.Block1 c.args.self.now c.prefixed-in-Block1.new.self
+    c.in-Block1.is c.prefixed-in-Block1.ensures.ok
 
-pub returns-in_err-block-in-Block1-clause-ok : goal.returns-in_err-block-in-Block1-clause-ok
-returns-in_err-block-in-Block1-clause-ok c =
-    gives_none c.from_residual-in_err-block-in-Block1.result
-    (λ (view : ValueView). Reads (ValueBytes c.args.format c.args.self.now.order c.args.form) (value_of view) c.args.self.now
-    c.block-in-Block1.new.self)
-    c.from_residual-in_err-block-in-Block1.ensures.0
+pub returns-in-Block1-clause-unchanged : goal.returns-in-Block1-clause-unchanged
+returns-in-Block1-clause-unchanged c = c.prefixed-in-Block1.ensures.unchanged
 
-pub returns-in_err-block-in-Block1-clause-unchanged : goal.returns-in_err-block-in-Block1-clause-unchanged
-returns-in_err-block-in-Block1-clause-unchanged c =
-    leaves_it c.from_residual-in_err-block-in-Block1.result c.args.self.now c.block-in-Block1.new.self
-    c.in_err-block-in-Block1.ensures.unchanged
+pub returns-in-Block2-clause-err : goal.returns-in-Block2-clause-err
+returns-in-Block2-clause-err c =
+    refuses_as c.prefixed-in-Block2.result
+    (RefusesField (IsPrefixedFault c.args.self.now.order Two) (BlockBytes (LengthBytes c.args.self.now.order Two)) c.args.self.now)
+    (RefusesField (IsValueFault c.args.format c.args.self.now.order c.args.form)
+    (ValueBytes c.args.format c.args.self.now.order c.args.form) c.args.self.now)
+    (λ fault. refuses_block2 c.args.format c.args.form c.args.self.now fault c.in-Block2.is) c.prefixed-in-Block2.ensures.err
 
-pub returns-in_ok-block-in-Block1-clause-ok : goal.returns-in_ok-block-in-Block1-clause-ok
-returns-in_ok-block-in-Block1-clause-ok c =
-    reads_value (BlockBytes (LengthBytes c.args.self.now.order One)) c.in_ok-block-in-Block1.field-0.now c.args.format c.args.form
-    (Block1 c.in_ok-block-in-Block1.field-0.now) c.args.self.now c.block-in-Block1.new.self c.in-Block1.is
-    (λ bytes p. p) c.in_ok-block-in-Block1.ensures.ok
+pub returns-in-Block2-clause-ok : goal.returns-in-Block2-clause-ok
+returns-in-Block2-clause-ok c =
+    reads_in c.prefixed-in-Block2.result c.args.format c.args.form forms.Block2 c.args.self.now c.prefixed-in-Block2.new.self
+    c.in-Block2.is c.prefixed-in-Block2.ensures.ok
 
-pub returns-in_err-block-in-Block2-clause-err : goal.returns-in_err-block-in-Block2-clause-err
-returns-in_err-block-in-Block2-clause-err c =
-    hands_on c.from_residual-in_err-block-in-Block2.result c.args.format c.args.form c.args.self.now
-    c.in_err-block-in-Block2.field-0.0 c.from_residual-in_err-block-in-Block2.ensures.1
-    (refuses_block2 c.args.format c.args.form c.args.self.now c.in_err-block-in-Block2.field-0.0 c.in-Block2.is
-    c.in_err-block-in-Block2.ensures.err)
+pub returns-in-Block2-clause-unchanged : goal.returns-in-Block2-clause-unchanged
+returns-in-Block2-clause-unchanged c = c.prefixed-in-Block2.ensures.unchanged
 
-pub returns-in_err-block-in-Block2-clause-ok : goal.returns-in_err-block-in-Block2-clause-ok
-returns-in_err-block-in-Block2-clause-ok c =
-    gives_none c.from_residual-in_err-block-in-Block2.result
-    (λ (view : ValueView). Reads (ValueBytes c.args.format c.args.self.now.order c.args.form) (value_of view) c.args.self.now
-    c.block-in-Block2.new.self)
-    c.from_residual-in_err-block-in-Block2.ensures.0
+pub returns-in-Block4-clause-err : goal.returns-in-Block4-clause-err
+returns-in-Block4-clause-err c =
+    refuses_as c.prefixed-in-Block4.result
+    (RefusesField (IsPrefixedFault c.args.self.now.order Four) (BlockBytes (LengthBytes c.args.self.now.order Four)) c.args.self.now)
+    (RefusesField (IsValueFault c.args.format c.args.self.now.order c.args.form)
+    (ValueBytes c.args.format c.args.self.now.order c.args.form) c.args.self.now)
+    (λ fault. refuses_block4 c.args.format c.args.form c.args.self.now fault c.in-Block4.is) c.prefixed-in-Block4.ensures.err
 
-pub returns-in_err-block-in-Block2-clause-unchanged : goal.returns-in_err-block-in-Block2-clause-unchanged
-returns-in_err-block-in-Block2-clause-unchanged c =
-    leaves_it c.from_residual-in_err-block-in-Block2.result c.args.self.now c.block-in-Block2.new.self
-    c.in_err-block-in-Block2.ensures.unchanged
+pub returns-in-Block4-clause-ok : goal.returns-in-Block4-clause-ok
+returns-in-Block4-clause-ok c =
+    reads_in c.prefixed-in-Block4.result c.args.format c.args.form forms.Block4 c.args.self.now c.prefixed-in-Block4.new.self
+    c.in-Block4.is c.prefixed-in-Block4.ensures.ok
 
-pub returns-in_ok-block-in-Block2-clause-ok : goal.returns-in_ok-block-in-Block2-clause-ok
-returns-in_ok-block-in-Block2-clause-ok c =
-    reads_value (BlockBytes (LengthBytes c.args.self.now.order Two)) c.in_ok-block-in-Block2.field-0.now c.args.format c.args.form
-    (Block2 c.in_ok-block-in-Block2.field-0.now) c.args.self.now c.block-in-Block2.new.self c.in-Block2.is
-    (λ bytes p. p) c.in_ok-block-in-Block2.ensures.ok
-
-pub returns-in_err-block-in-Block4-clause-err : goal.returns-in_err-block-in-Block4-clause-err
-returns-in_err-block-in-Block4-clause-err c =
-    hands_on c.from_residual-in_err-block-in-Block4.result c.args.format c.args.form c.args.self.now
-    c.in_err-block-in-Block4.field-0.0 c.from_residual-in_err-block-in-Block4.ensures.1
-    (refuses_block4 c.args.format c.args.form c.args.self.now c.in_err-block-in-Block4.field-0.0 c.in-Block4.is
-    c.in_err-block-in-Block4.ensures.err)
-
-pub returns-in_err-block-in-Block4-clause-ok : goal.returns-in_err-block-in-Block4-clause-ok
-returns-in_err-block-in-Block4-clause-ok c =
-    gives_none c.from_residual-in_err-block-in-Block4.result
-    (λ (view : ValueView). Reads (ValueBytes c.args.format c.args.self.now.order c.args.form) (value_of view) c.args.self.now
-    c.block-in-Block4.new.self)
-    c.from_residual-in_err-block-in-Block4.ensures.0
-
-pub returns-in_err-block-in-Block4-clause-unchanged : goal.returns-in_err-block-in-Block4-clause-unchanged
-returns-in_err-block-in-Block4-clause-unchanged c =
-    leaves_it c.from_residual-in_err-block-in-Block4.result c.args.self.now c.block-in-Block4.new.self
-    c.in_err-block-in-Block4.ensures.unchanged
-
-pub returns-in_ok-block-in-Block4-clause-ok : goal.returns-in_ok-block-in-Block4-clause-ok
-returns-in_ok-block-in-Block4-clause-ok c =
-    reads_value (BlockBytes (LengthBytes c.args.self.now.order Four)) c.in_ok-block-in-Block4.field-0.now c.args.format c.args.form
-    (Block4 c.in_ok-block-in-Block4.field-0.now) c.args.self.now c.block-in-Block4.new.self c.in-Block4.is
-    (λ bytes p. p) c.in_ok-block-in-Block4.ensures.ok
+pub returns-in-Block4-clause-unchanged : goal.returns-in-Block4-clause-unchanged
+returns-in-Block4-clause-unchanged c = c.prefixed-in-Block4.ensures.unchanged
 
 pub returns-in_err-offset-in-Strp-clause-err : goal.returns-in_err-offset-in-Strp-clause-err
 returns-in_err-offset-in-Strp-clause-err c =
