@@ -65,14 +65,23 @@ fn print_file<W: Write>(
     ensures record { OnOk result (Appends (W.contents out.old) (W.contents out.new) (file_record index.now unit file)) }
     ensures front { OnErr result (AppendsFront (W.contents out.old) (W.contents out.new) (file_record index.now unit file)) }
 {
+    let bytes = record_of(alloc, index, unit, file)?;
+    write_whole(out, &bytes)?;
+    Ok(())
+}
+
+// The record of a file that the unit has.
+fn record_of(alloc: Global, index: &Index<'_>, unit: u64, file: u64) -> Result<Vec<u8>, AllocError>
+    requires { file < file_count_in index.now unit }
+    ensures { IfOk result (λ bytes. bytes.items ≡ file_record index.now unit file) }
+{
     let mut records = Writer::from_writer(Vec::new(alloc));
     put_file(alloc, index, unit, file, &mut records)?;
     // A vector refuses to be flushed only for want of memory.
-    let Ok(bytes) = records.into_inner() else {
-        return Err(Halt::Memory);
-    };
-    write_whole(out, &bytes)?;
-    Ok(())
+    match records.into_inner() {
+        Ok(bytes) => Ok(bytes),
+        Err(_) => Err(AllocError),
+    }
 }
 
 // Adds the record of a file that the unit has to the writer, which is between two records before and afterwards.

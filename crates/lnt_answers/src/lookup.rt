@@ -7,7 +7,7 @@ ghost use Rattle.lnt_lines.specs.Indexed.{IsIndexOf, file_path_in};
 ghost use Rattle.lnt_output.specs.Fronts.{AppendsFront};
 ghost use Rattle.lnt_sources.specs.Halts.{IsPrinting};
 ghost use Rattle.std.specs.List.{flat_map};
-ghost use Rattle.lnt_answers.specs.Lines.{answer_line, lookup_line, place_text, row_text};
+ghost use Rattle.lnt_answers.specs.Lines.{answer_line, lookup_line, path_end, place_text, row_text};
 
 use lnt_lines::Index;
 use lnt_output::write_whole;
@@ -76,10 +76,17 @@ fn print_answered<W: Write>(
 {
     print_answer(position, answer, out)?;
     match index.path_of(alloc, answer.unit, answer.file) {
-        Ok(Some(path)) => writeln!(out, " path {}", Quoted(&path))?,
+        Ok(Some(path)) => print_path(&path, out),
         Ok(None) => unreachable!(),
-        Err(_) => return Err(Halt::Memory),
+        Err(_) => Err(Halt::Memory),
     }
+}
+
+// Prints the end of a line with this path.
+fn print_path<W: Write>(path: &[u8], out: &mut W) -> Result<(), Halt>
+    ensures text { OnOk result (Appends (W.contents out.old) (W.contents out.new) (path_end (Some path.now))) }
+{
+    writeln!(out, " path {}", Quoted(path))?;
     Ok(())
 }
 

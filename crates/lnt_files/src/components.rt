@@ -116,7 +116,6 @@ pub(crate) fn read_entry<'a>(
 
 // What the next path says.
 #[inline(always)]
-#[tactic(auto, using(crate::proofs::EntryLemmas::path_read, crate::proofs::EntryLemmas::no_path))]
 fn read_path<'a>(
     cursor: &mut Cursor<'a>,
     format: Format,
@@ -136,7 +135,6 @@ fn read_path<'a>(
 
 // What the next path and the number of its directory say.
 #[inline(always)]
-#[tactic(auto, using(crate::proofs::EntryLemmas::indexed_path_read, crate::proofs::EntryLemmas::no_indexed_path, crate::proofs::EntryLemmas::no_index))]
 fn read_indexed_path<'a>(
     cursor: &mut Cursor<'a>,
     format: Format,
@@ -157,7 +155,6 @@ fn read_indexed_path<'a>(
 
 // What the next path, the number of its directory and its MD5 sum say.
 #[inline(always)]
-#[tactic(auto, using(crate::proofs::EntryLemmas::summed_path_read, crate::proofs::EntryLemmas::no_summed_path, crate::proofs::EntryLemmas::no_summed_index, crate::proofs::EntryLemmas::no_sum))]
 fn read_summed_path<'a>(
     cursor: &mut Cursor<'a>,
     format: Format,

@@ -49,8 +49,8 @@ impl fmt::Display for EntryTableText {
 
     fn fmt<W: fmt::Write>(&self, f: &mut fmt::Formatter<W>) -> fmt::Result {
         match self.0 {
-            EntryTable::Directories => write!(f, "directories"),
-            EntryTable::Files => write!(f, "files"),
+            EntryTable::Directories => f.write_str("directories"),
+            EntryTable::Files => f.write_str("files"),
         }
     }
 }

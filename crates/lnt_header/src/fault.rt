@@ -27,7 +27,7 @@ impl fmt::Display for UnitFault {
 
     fn fmt<W: fmt::Write>(&self, f: &mut fmt::Formatter<W>) -> fmt::Result {
         match *self {
-            UnitFault::HeaderNumber => write!(f, "number or format that no header has"),
+            UnitFault::HeaderNumber => f.write_str("number or format that no header has"),
             UnitFault::EntryNotOfFormat(which, index) => {
                 write!(f, "{which} {index} isn't of its format")
             }

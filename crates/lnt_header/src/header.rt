@@ -40,8 +40,8 @@ impl fmt::Display for EntryTable {
 
     fn fmt<W: fmt::Write>(&self, f: &mut fmt::Formatter<W>) -> fmt::Result {
         match self {
-            EntryTable::Directories => write!(f, "directory"),
-            EntryTable::Files => write!(f, "file"),
+            EntryTable::Directories => f.write_str("directory"),
+            EntryTable::Files => f.write_str("file"),
         }
     }
 }

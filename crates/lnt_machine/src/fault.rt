@@ -24,8 +24,8 @@ impl fmt::Display for RunFault {
     fn fmt<W: fmt::Write>(&self, f: &mut fmt::Formatter<W>) -> fmt::Result {
         match *self {
             RunFault::LineOutOfRange(index) => write!(f, "line out of range at operation {index}"),
-            RunFault::OpenSequence => write!(f, "open sequence"),
-            RunFault::Memory => write!(f, "out of memory"),
+            RunFault::OpenSequence => f.write_str("open sequence"),
+            RunFault::Memory => f.write_str("out of memory"),
         }
     }
 }

@@ -99,7 +99,6 @@ fn add_code(out: &mut Vec<u8>, code: u8) -> Result<(), AllocError>
 }
 
 // Adds an opcode and an unsigned number.
-#[tactic(auto, using(crate::proofs::OpPutLemmas::coded_put))]
 fn add_unsigned(out: &mut Vec<u8>, code: u8, n: u64) -> Result<(), AllocError>
     ensures ok { OnOk result (Appends (Coded code UnsignedLeb) n out.old.items out.new.items) }
     ensures extends { OnErr result (Extends out.old.items out.new.items) }
@@ -119,7 +118,6 @@ fn add_signed(out: &mut Vec<u8>, code: u8, z: i64) -> Result<(), AllocError>
 }
 
 // Adds an opcode and a number of 2 bytes.
-#[tactic(auto, using(crate::proofs::OpPutLemmas::coded_put))]
 fn add_number(out: &mut Vec<u8>, code: u8, n: u16, order: Order) -> Result<(), AllocError>
     ensures ok { OnOk result (Appends (Coded code (NumberBytes order 2)) n out.old.items out.new.items) }
     ensures extends { OnErr result (Extends out.old.items out.new.items) }

@@ -40,8 +40,7 @@ pub(crate) fn put_line<P: Paths>(
     put_address(line, span.high.address)?;
     line.extend_from_slice(b",")?;
     fields.put(alloc, paths, span.answer.unit, span.answer.file, line)?;
-    put_place(version, &span.answer, line)?;
-    Ok(())
+    put_place(version, &span.answer, line)
 }
 
 // Adds the line in the file, in version 3 the column, and the line feed.

@@ -1,6 +1,7 @@
 -- A table of which some lines were passed, and the rest was read after its header.
 use Rattle.std.proofs.Common.{◌≡◌, ◌≢◌, ◌∙◌, ℕ, ◌+◌, ◌^◌, ◌<◌, List, [], ◌∷◌, ◌++◌, Option, Some, None, IfSome, append_assoc, length}
 use Rattle.std.proofs.Common.{length-append, refl, ap, subst, sym, arith}
+use Rattle.std.proofs.Common.{Result, Ok, Err, IfOk, IsOkAnd, MatchResult}
 use Rattle.std.specs.List.{AllByRecursion, AllZip}
 use Rattle.csv.specs.Reading.{Reached, default_config, strip_bom}
 use Rattle.csv.specs.declared.parser.State.{State}
@@ -248,3 +249,11 @@ all_bytes a b la lb w0 w1 w2 all P none p same ends h =
     let given : w1 ≡ p.given = sym p.joined ∙ ap (λ (t : List ℕ). t ++ p.given) none in
     let whole : p.given ++ ends.given ≡ all = sym (ends.joined ∙ ap (λ (t : List ℕ). t ++ ends.given) (same ∙ given)) in
     told_bytes a (p.given ++ ends.given) P (whole_bytes a b p.given ends.given p.pulls ends.whole) (subst P (sym whole) h)
+
+-- what holds of a value that `map` made
+pub mapped : {T U E : Type 0} (found : Result T E) (made : Result U E) (Post : T → U → Type 0) (P : T → Type 0) (Q : U → Type 0)
+    → MatchResult found (λ x. IsOkAnd made (Post x)) (λ e. made ≡ Err e) → IfOk found P
+    → ((x : T) (y : U) → P x → Post x y → Q y) → IfOk made Q
+mapped (Ok x) (Ok y) Post P Q post p h = h x y p post
+mapped (Ok x) (Err e) Post P Q post p h = tt
+mapped (Err e) made Post P Q post p h = subst (λ (m : Result _ _). IfOk m Q) (sym post) tt

@@ -1,8 +1,10 @@
 -- Lines that are written are read as a table by `csv`.
 use Rattle.std.proofs.Common.{◌≡◌, ◌∙◌, ℕ, suc, ◌+◌, ◌<◌, ◌≤◌, Bool, true, false, List, [], ◌∷◌, ◌++◌, Option, Some, None, length, get_or}
 use Rattle.std.proofs.Common.{take, drop, take-append-drop, refl, sym, ap, subst, append_assoc, arith}
+use Rattle.std.proofs.Common.{Result, Ok, Err, OnOk, is_ok}
 use Rattle.std.proofs.KnownBytes.{Appends-nil, Appends-trans}
 use Rattle.std.proofs.lemmas.List.{append-nil, take_more, take_all}
+use Rattle.std.specs.Bool.{if◌then◌else◌}
 use Rattle.std.specs.Io.KnownBytes.{Appends}
 use Rattle.std.specs.List.{AllByRecursion, AllZip, cons_option}
 use Rattle.csv.specs.Reading.{Reached, default_config, strip_bom}
@@ -306,3 +308,8 @@ begun_all version old now new block spans i le l f =
     begun_sending version old now new block spans [] spans
     (subst (λ (xs : List Span). Lines version old now block xs) (take_all i spans le) l)
     (append-nil spans) f
+
+-- what a block has if bytes could be added
+pub on_added : {T E : Type 0} (r : Result T E) (new more same : List ℕ) → new ≡ (if is_ok r then more else same) → OnOk r (new ≡ more)
+on_added (Ok x) new more same e = e
+on_added (Err y) new more same e = tt

@@ -106,8 +106,7 @@ pub fn differ_or_take<S: SpanSource + Drop, T: Source>(
     let text = window.rest_after(alloc, header_line(version), table)?;
     let merge = Merge::past(SpanSlice::of(&[]), version, passed.end);
     let gathered = gather_after(alloc, &text, merge, version, passed.count);
-    let differing = told(differ_after(gathered, passed.spans, version, passed.end))?;
-    Ok(DifferingRead::Differing(differing))
+    told(differ_after(gathered, passed.spans, version, passed.end)).map(DifferingRead::Differing)
 }
 
 // Does the same for a table whose bytes are all in memory.
@@ -124,10 +123,7 @@ fn differ_taken<S: SpanSource + Drop>(
         read) }
 {
     match header_of(alloc, &text)? {
-        Some(version) => {
-            let differing = differ_text(alloc, &text, spans, version)?;
-            Ok(DifferingRead::Differing(differing))
-        }
+        Some(version) => differ_text(alloc, &text, spans, version).map(DifferingRead::Differing),
         None => Ok(DifferingRead::Other(text)),
     }
 }

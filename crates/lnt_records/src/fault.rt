@@ -27,7 +27,7 @@ impl fmt::Display for TableFault {
 
     fn fmt<W: fmt::Write>(&self, f: &mut fmt::Formatter<W>) -> fmt::Result {
         match *self {
-            TableFault::Header => write!(f, "table header"),
+            TableFault::Header => f.write_str("table header"),
             TableFault::Fields(record) => write!(f, "table fields record {record}"),
             TableFault::Number(record, column) => {
                 write!(f, "table number record {record} column {column}")
@@ -53,8 +53,8 @@ impl fmt::Display for WriteStop {
 
     fn fmt<W: fmt::Write>(&self, f: &mut fmt::Formatter<W>) -> fmt::Result {
         match self {
-            WriteStop::Memory => write!(f, "out of memory"),
-            WriteStop::Write => write!(f, "cannot write"),
+            WriteStop::Memory => f.write_str("out of memory"),
+            WriteStop::Write => f.write_str("cannot write"),
         }
     }
 }

@@ -88,8 +88,7 @@ pub fn compare_or_take<S: SpanSource + Drop, T: Source>(
     let mut count = passed.count;
     push_lines(alloc, &mut merge, &mut count, version, table, &mut window)?;
     let text = window.rest_after(alloc, header_line(version), table)?;
-    let compared = told(compare_after(alloc, &text, merge, version, count))?;
-    Ok(TableRead::Compared(compared))
+    told(compare_after(alloc, &text, merge, version, count)).map(TableRead::Compared)
 }
 
 // Does the same for a table whose bytes are all in memory.
@@ -102,10 +101,7 @@ fn compare_taken<S: SpanSource + Drop>(
     ensures { IfOk result (λ read. (list : List Span) → S.to_come spans list → AreInOrder list → IsTableRead text.items list read) }
 {
     match header_of(alloc, &text)? {
-        Some(_) => {
-            let compared = compare_records(alloc, &text, spans)?;
-            Ok(TableRead::Compared(compared))
-        }
+        Some(_) => compare_records(alloc, &text, spans).map(TableRead::Compared),
         None => Ok(TableRead::Other(text)),
     }
 }

@@ -95,6 +95,5 @@ pub(crate) fn put_span(
         → OnOk result (AddsRecord version span.now block.old.items block.new.items) }
 {
     let start = line_of(room, span);
-    block.extend_from_slice(&room[start..])?;
-    Ok(())
+    block.extend_from_slice(&room[start..])
 }

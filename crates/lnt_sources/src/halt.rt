@@ -27,10 +27,10 @@ impl fmt::Display for Halt {
 
     fn fmt<W: fmt::Write>(&self, f: &mut fmt::Formatter<W>) -> fmt::Result {
         match self {
-            Halt::Read => write!(f, "cannot read"),
-            Halt::TooLong => write!(f, "too long"),
-            Halt::Write => write!(f, "cannot write"),
-            Halt::Memory => write!(f, "out of memory"),
+            Halt::Read => f.write_str("cannot read"),
+            Halt::TooLong => f.write_str("too long"),
+            Halt::Write => f.write_str("cannot write"),
+            Halt::Memory => f.write_str("out of memory"),
         }
     }
 }

@@ -29,10 +29,10 @@ impl fmt::Display for SectionStop {
     fn fmt<W: fmt::Write>(&self, f: &mut fmt::Formatter<W>) -> fmt::Result {
         match *self {
             SectionStop::Fault(fault) => write!(f, "{fault}"),
-            SectionStop::Memory => write!(f, "out of memory"),
-            SectionStop::Read => write!(f, "cannot read"),
-            SectionStop::TooLong => write!(f, "too long"),
-            SectionStop::Failed => write!(f, "stopped before"),
+            SectionStop::Memory => f.write_str("out of memory"),
+            SectionStop::Read => f.write_str("cannot read"),
+            SectionStop::TooLong => f.write_str("too long"),
+            SectionStop::Failed => f.write_str("stopped before"),
         }
     }
 }

@@ -122,7 +122,7 @@ section_so line general options None index (ByPath compared) i h = tt
 section_so line general options (Some bytes) index (ByPath compared) i h = (i.units, i.good)
 
 -- the verdict of a comparison has no reason of the section
-none_of_section : (compared : Compared) (reason : SectionNo) → verdict_of compared ≡ No (no.Section reason) → ⊥
+pub none_of_section : (compared : Compared) (reason : SectionNo) → verdict_of compared ≡ No (no.Section reason) → ⊥
 none_of_section kind.Same reason e = cc
 none_of_section (kind.Fault fault.Header) reason e = cc
 none_of_section (kind.Fault (fault.Fields k)) reason e = cc

@@ -35,13 +35,11 @@ impl fmt::Display for Checked {
 
     fn fmt<W: fmt::Write>(&self, f: &mut fmt::Formatter<W>) -> fmt::Result {
         match self {
-            Checked::Numbered(verdict) => write!(f, "{verdict}"),
-            Checked::ByPath(ComparedByPath::Same) => write!(f, "yes"),
-            Checked::ByPath(ComparedByPath::Fault(fault)) => {
-                write!(f, "{}", TableNo::from(*fault))
-            }
+            Checked::Numbered(verdict) => verdict.fmt(f),
+            Checked::ByPath(ComparedByPath::Same) => f.write_str("yes"),
+            Checked::ByPath(ComparedByPath::Fault(fault)) => TableNo::from(*fault).fmt(f),
             Checked::ByPath(ComparedByPath::Differs(difference)) => {
-                write!(f, "{}", PathDifferenceLine(difference))
+                PathDifferenceLine(difference).fmt(f)
             }
         }
     }

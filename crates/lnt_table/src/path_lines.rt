@@ -34,7 +34,7 @@ impl fmt::Display for PathAnswerText<'_> {
 
     fn fmt<W: fmt::Write>(&self, f: &mut fmt::Formatter<W>) -> fmt::Result {
         let Some(answer) = self.0 else {
-            return write!(f, "none");
+            return f.write_str("none");
         };
         let path = Quoted(&answer.path);
         let line = answer.line;

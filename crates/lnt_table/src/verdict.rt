@@ -26,8 +26,8 @@ impl fmt::Display for Verdict {
 
     fn fmt<W: fmt::Write>(&self, f: &mut fmt::Formatter<W>) -> fmt::Result {
         match *self {
-            Verdict::Yes => write!(f, "yes"),
-            Verdict::No(no) => write!(f, "{no}"),
+            Verdict::Yes => f.write_str("yes"),
+            Verdict::No(no) => no.fmt(f),
         }
     }
 }
@@ -73,7 +73,7 @@ impl fmt::Display for TableNo {
 
     fn fmt<W: fmt::Write>(&self, f: &mut fmt::Formatter<W>) -> fmt::Result {
         match *self {
-            TableNo::Section(no) => write!(f, "{no}"),
+            TableNo::Section(no) => no.fmt(f),
             TableNo::Header => write!(f, "no 36 {}", TableFault::Header),
             TableNo::Fields(record) => write!(f, "no 37 {}", TableFault::Fields(record)),
             TableNo::Number { record, column } => {
@@ -90,7 +90,7 @@ impl fmt::Display for TableNo {
                     by_table,
                     by_section,
                 };
-                write!(f, "{}", DifferenceLine(difference))
+                DifferenceLine(difference).fmt(f)
             }
         }
     }

@@ -30,7 +30,7 @@ impl fmt::Display for ConvertFault {
         match *self {
             ConvertFault::Malformed(fault) => write!(f, "{fault}"),
             ConvertFault::TooLarge(offset) => write!(f, "too large unit 0x{offset:x}"),
-            ConvertFault::Memory => write!(f, "out of memory"),
+            ConvertFault::Memory => f.write_str("out of memory"),
         }
     }
 }

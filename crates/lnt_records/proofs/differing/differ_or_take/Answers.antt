@@ -7,7 +7,7 @@ use Rattle.lnt_records.specs.Table.{column_names}
 use Rattle.lnt_records.specs.Written.{line_text}
 use Rattle.lnt_records.proofs.GatherLemmas.{gathered_is, goes_on, judges_off, no_header_fault, order_alone, started}
 use Rattle.lnt_records.proofs.PassingLemmas.{passes_both}
-use Rattle.lnt_records.proofs.StreamLemmas.{all_bytes, begun, cut_begins, few_all, rest_begins, rest_cut, whole_cut}
+use Rattle.lnt_records.proofs.StreamLemmas.{all_bytes, begun, cut_begins, few_all, mapped, rest_begins, rest_cut, whole_cut}
 use Rattle.lnt_records.proofs.differing.differ_or_take.Goals as goal
 
 pub returns-in_default-clause-ok : goal.returns-in_default-clause-ok
@@ -58,7 +58,7 @@ gather_after-gathered-requires-clause-judged g c =
     )
 
 pub returns-clause-ok : goal.returns-clause-ok
-returns-clause-ok g c list section coming order answers =
+returns-clause-ok g c =
     let version = c.in-Some.version in
     let count = c.in_ok-passed.passed.count in
     let begun = begun version _ _ _ _ c.new-window.result c.fill.new.self c.pass_header.new.window c.new-window.ensures
@@ -68,6 +68,8 @@ returns-clause-ok g c list section coming order answers =
     let both = passes_both _ _ _ _ _ _ [] c.pass_header.new.window past (line_text (column_names version)) spans.0 begun spans.1 in
     let ends : Ends (g.T.Source.remaining c.pass_spans.new.source) (g.T.Source.left c.pass_spans.new.source)
     (c.header_line.result.now ++ past) c.deref.result.now = rw (← c.deref.ensures.value) at c.in_ok-text-2.ensures.ok in
+    mapped c.told-2.result c.map.result _ _ _ c.map.ensures.cases c.told-2.ensures.ok
+    (λ differing read is same list section coming order answers.
     let off = spans.2 list coming order in
     let compares =
     c.past-merge.ensures.compares off.table [] c.of.ensures (order_alone off.table off.rest off.order) off.told off.end_is in
@@ -77,13 +79,13 @@ returns-clause-ok g c list section coming order answers =
     whole_cut version _ _ _ _ c.header_line.result.now past spans.0 c.deref.result.now off.table count _ c.header_line.ensures both ends
     off.lines
     (λ bytes cut.
-    let told = (rw c.in_ok-differing.ensures.ok at c.differ_after.ensures) bytes section off.table off.rest
+    let told = (rw is at c.differ_after.ensures) bytes section off.table off.rest
     (gathered_is _ (record { merge = c.past-merge.result; version = version; count = count }) (off.table ++ []) off.table
     off.lines.records bytes version c.deref.result.now c.gather_after-gathered.result j.0 j.1 cut
     c.gather_after-gathered.ensures)
     (goes_on version list off.table off.rest section c.in_ok-passed.passed.end off.order off.same off.end_is answers) off.left in
     let begins = cut_begins version c.deref.result.now bytes off.lines.records cut header in
-    (told, no_header_fault _ _ bytes version section c.in_ok-differing.differing begins told))
+    rw same (told, no_header_fault _ _ bytes version section differing begins told)))
 
 pub returns-clause-started : goal.returns-clause-started
 returns-clause-started g c =
@@ -105,13 +107,15 @@ returns-clause-started g c =
     compares in
     let cut = rest_cut version _ _ _ _ c.header_line.result.now past spans.0 c.deref.result.now off.table count c.header_line.ensures
     both ends off.lines in
-    started _ _ (both.given ++ ends.given) (span_answer list) c.in_ok-differing.differing
-    ((rw c.in_ok-differing.ensures.ok at c.differ_after.ensures) (both.given ++ ends.given) (span_answer list) off.table off.rest
+    mapped c.told-2.result c.map.result _ _ _ c.map.ensures.cases c.told-2.ensures.ok
+    (λ differing read is same.
+    rw same (started _ _ (both.given ++ ends.given) (span_answer list) differing
+    ((rw is at c.differ_after.ensures) (both.given ++ ends.given) (span_answer list) off.table off.rest
     (gathered_is _ (record { merge = c.past-merge.result; version = version; count = count }) (off.table ++ []) off.table
     off.lines.records (both.given ++ ends.given) version c.deref.result.now c.gather_after-gathered.result j.0 j.1 cut
     c.gather_after-gathered.ensures)
     (goes_on version list off.table off.rest (span_answer list) c.in_ok-passed.passed.end off.order off.same off.end_is (λ p. refl))
-    off.left)
+    off.left)))
 
 pub returns-in_err-text-2-clause-more : goal.returns-in_err-text-2-clause-more
 returns-in_err-text-2-clause-more g c = grind (arith, elements)

@@ -4,7 +4,7 @@ use Rattle.lnt_records.specs.Passing.{Ends, Passes}
 use Rattle.lnt_records.specs.Table.{column_names}
 use Rattle.lnt_records.specs.Written.{line_text}
 use Rattle.lnt_records.proofs.PassingLemmas.{longer_from_start, passes_both}
-use Rattle.lnt_records.proofs.StreamLemmas.{begun, few_all, few_lines, judges_passed, passed_after, rest_begins, whole_told}
+use Rattle.lnt_records.proofs.StreamLemmas.{begun, few_all, few_lines, judges_passed, mapped, passed_after, rest_begins, whole_told}
 use Rattle.lnt_records.proofs.stream.compare_or_take.Goals as goal
 
 pub push_lines-requires-clause-few : goal.push_lines-requires-clause-few
@@ -105,7 +105,7 @@ compare_after-requires-clause-judged g c =
     )
 
 pub returns-clause-ok : goal.returns-clause-ok
-returns-clause-ok g c list coming order =
+returns-clause-ok g c =
     let version = c.in-Some.version in
     let begun = begun version _ _ _ _ c.new-window.result c.fill.new.self c.pass_header.new.window c.new-window.ensures
     c.in_ok-fill.ensures.taken c.in-Some.ensures in
@@ -121,11 +121,12 @@ returns-clause-ok g c list coming order =
     (append_assoc (line_text (column_names version)) spans.0 lines.0) both in
     let ends : Ends (g.T.Source.remaining c.push_lines.new.source) (g.T.Source.left c.push_lines.new.source)
     (c.header_line.result.now ++ past) c.deref.result.now = rw (← c.deref.ensures.value) at c.in_ok-text-2.ensures.ok in
+    mapped c.told-2.result c.map.result _ _ _ c.map.ensures.cases c.told-2.ensures.ok
+    (λ compared read is same list coming order.
     let passed = lines.2 list spans.0 (passed_after _ _ c.past-merge.result version list spans.0 c.in_ok-passed.passed.count
     c.in_ok-passed.passed.end (spans.2 list coming order) c.past-merge.ensures.version c.past-merge.ensures.compares) in
-    whole_told _ c.push_lines.new.merge version list _ _ _ _ c.header_line.result.now past (spans.0 ++ lines.0) c.deref.result.now
-    c.push_lines.new.count c.in_ok-compared.compared c.header_line.ensures taken ends passed
-    (rw c.in_ok-compared.ensures.ok at c.compare_after.ensures)
+    rw same (whole_told _ c.push_lines.new.merge version list _ _ _ _ c.header_line.result.now past (spans.0 ++ lines.0)
+    c.deref.result.now c.push_lines.new.count compared c.header_line.ensures taken ends passed (rw is at c.compare_after.ensures)))
 
 pub returns-in_err-text-clause-more : goal.returns-in_err-text-clause-more
 returns-in_err-text-clause-more g c = grind (arith, elements)

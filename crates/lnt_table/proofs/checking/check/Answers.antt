@@ -1,3 +1,7 @@
+use Rattle.std.proofs.Common.{◌≡◌, ◌∙◌, sym}
+use Rattle.lnt_table.specs.declared.verdict.TableNo.TheVariants as no
+use Rattle.lnt_table.specs.declared.verdict.Verdict.TheVariants.{No}
+use Rattle.lnt_table.proofs.AnyLemmas.{none_of_section}
 use Rattle.lnt_table.proofs.CheckLemmas.{good_told, verdict_told}
 use Rattle.lnt_table.proofs.checking.check.Goals as goal
 
@@ -13,3 +17,8 @@ returns-clause-of_section g c =
     rw c.verdict_of.ensures
     (good_told c.args.strings.now.line.now c.args.strings.now.general.now c.args.options.now (g.R.Source.remaining c.args.section.now)
     c.in-Good.index c.in_ok-compared.compared (rw c.in-Good.is at c.in_ok-index.ensures.judged))
+
+pub returns-clause-unread : goal.returns-clause-unread
+returns-clause-unread g c reason e =
+    let same : c.verdict_of.result ≡ No (no.Section reason) = cc in
+    absurd (none_of_section c.in_ok-compared.compared reason (sym c.verdict_of.ensures ∙ same))
