@@ -50,17 +50,17 @@ proving=$'linetab: proving and building the program, which takes some minutes th
 
 expect 'no program and no toolchain' 127 '' "linetab: the program isn't built: it would be WORK/tree/crates/linetab/out/linetab. To prove and build it, install the Rattle toolchain, so that its command rt is on the PATH"$'\n' \
   plainly without_rt "$tree/linetab" units "$section"
-touch "$work/no_lnt_header"
-expect 'a crate that is not proved' 126 '' "$proving"$'== lnt_header\nfn lnt_header::b: not proved\nrt: lnt_header NOT PROVED\nlinetab: the program isn\'t proved\n' \
+touch "$work/no_lnt_ops"
+expect 'a crate that is not proved' 126 '' "$proving"$'== lnt_ops\nfn lnt_ops::b: not proved\nrt: lnt_ops NOT PROVED\nlinetab: the program isn\'t proved\n' \
   plainly with_rt "$tree/linetab" units "$section"
 expect 'no program is left' 1 '' '' test -e "$tree/crates/linetab/out/linetab"
 expect 'no temporary folder is left' 0 '' '' eval '[ -z "$(ls "$work/temporary")" ]'
-rm "$work/no_lnt_header" "$work/asked"
+rm "$work/no_lnt_ops" "$work/asked"
 expect 'the first build' 0 $'0x0 32 156\n' "$proving"'linetab: proved linetab ('"$all of $all"$'), N s\nlinetab: built in N s\n' \
   plainly with_rt "$tree/linetab" units "$section"
 expect 'no temporary folder is left of it' 0 '' '' eval '[ -z "$(ls "$work/temporary")" ]'
 expect 'once built, nothing is asked of the toolchain' 0 $'0x0 32 156\n' '' with_rt "$tree/linetab" units "$section"
-expect 'the gate was asked for what all wait for, and once for all' 0 $'ci lnt_wire\nci\n' '' cat "$work/asked"
+expect 'the gate was asked for what all wait for, and once for all' 0 $'ci lnt_header\nci\n' '' cat "$work/asked"
 expect 'it runs without one' 0 $'0x0 32 156\n' '' without_rt "$tree/linetab" units "$section"
 cp -r "$tree" "$work/copy"
 find "$work/copy" -name '*.rt' -exec touch {} +
@@ -70,5 +70,5 @@ touch -d 2000-01-01 "$tree/crates/lnt_wire/src/lib.rt"
 rm "$work/asked"
 expect 'a changed source, and two that ask at once' 0 $'0x0 64 172\n' '' \
   with_rt bash -c '"$0" convert "$1" --format 64 --order little 2>/dev/null | "$0" units - 2>/dev/null' "$tree/linetab" "$section"
-expect 'are one build' 0 $'ci lnt_wire\nci\n' '' cat "$work/asked"
+expect 'are one build' 0 $'ci lnt_header\nci\n' '' cat "$work/asked"
 finish

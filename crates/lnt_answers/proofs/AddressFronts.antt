@@ -8,7 +8,7 @@ use Rattle.std.specs.List.{flat_map}
 use Rattle.std.specs.Str.Lines.{lines, strip_carriage_return}
 use Rattle.lnt_output.specs.Fronts.{AppendsFront}
 use Rattle.lnt_output.proofs.FrontLaws.{front_after, front_all, front_before, front_none, front_same}
-use Rattle.lnt_wire.specs.Pulling.{Pulls, IsAtEnd}
+use Rattle.lnt_input.specs.Pulling.{Pulls, IsAtEnd}
 use Rattle.lnt_sources.specs.declared.status.Status.{Status}
 use Rattle.lnt_spans.specs.declared.position.Position.{Position}
 use Rattle.lnt_unit.specs.declared.unit.Parts.{Parts}

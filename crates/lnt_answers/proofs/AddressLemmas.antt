@@ -14,7 +14,7 @@ use Rattle.std.proofs.ByRecursion.{All-append as all_append}
 use Rattle.std.specs.List.{flat_map, slice_split}
 use Rattle.std.specs.Str.Lines.{lines, lines_of_parts, strip_carriage_return}
 use Rattle.std.specs.Io.KnownBytes.{Appends, Keeps}
-use Rattle.lnt_wire.specs.Pulling.{Pulls, IsAtEnd}
+use Rattle.lnt_input.specs.Pulling.{Pulls, IsAtEnd}
 use Rattle.lnt_sources.specs.declared.status.Status.{Status}
 use Rattle.lnt_sources.specs.declared.status.Status.TheVariants.{Done}
 use Rattle.lnt_spans.specs.declared.position.Position.{Position}

@@ -15,12 +15,12 @@ ghost use Rattle.lnt_spans.specs.declared.position.Position.{Position as Spec};
 
 use crate::lookup::print_lookup;
 use lnt_digits::{address, decimal};
+use lnt_input::Source;
 use lnt_lines::Index;
 use lnt_output::write_whole;
 use lnt_sources::{Halt, Status};
 use lnt_spans::Position;
 use lnt_text::Quoted;
-use lnt_wire::Source;
 use std::alloc::Global;
 use std::io::Write;
 

@@ -10,12 +10,12 @@ ghost use Rattle.lnt_answers.specs.SumLines.{AreSumsTold, IsTrueOfFile, both, fo
 ghost use Rattle.lnt_answers.specs.SumLines.{listed_at, listed_files, listed_in};
 
 use crate::files::path_of;
+use lnt_input::Counted;
 use lnt_lines::Index;
 use lnt_output::write_whole;
 use lnt_sources::{Halt, LIMIT, Opener, Status};
 use lnt_sums::{Agreement, md5_agrees};
 use lnt_text::Quoted;
-use lnt_wire::Counted;
 use std::alloc::Global;
 use std::io::Write;
 use std::str;

@@ -7,9 +7,10 @@ ghost use Rattle.lnt_cli.specs.Stepping.{IsFileStop};
 ghost use Rattle.lnt_cli.specs.Stops.{IsUsage};
 
 use crate::stop::CliStop;
+use lnt_input::{Counted, Source};
 use lnt_notes::{Seen, WatchedReader};
 use lnt_sources::{Halt, Opener, bytes_of_file, open_file, source_of};
-use lnt_wire::{Counted, Source, Strings};
+use lnt_wire::Strings;
 use lnt_words::Judging;
 use std::alloc::Global;
 use std::cell::Cell;
@@ -71,9 +72,9 @@ pub(crate) fn open_section<'c, O: Opener>(
 
 // The open files of a section that is to be judged.
 #[derive(Drop)]
-pub(crate) struct Opened<'c, R> {
+pub(crate) struct Opened<S> {
     pub(crate) texts: Texts,
-    pub(crate) section: Section<'c, R>,
+    pub(crate) section: S,
 }
 
 // Reads the string files of the section that is to be judged, whole, and opens the section.
@@ -82,7 +83,7 @@ pub(crate) fn open_judged<'c, O: Opener>(
     opener: &mut O,
     from: &Judging<'_>,
     seen: &'c Cell<Seen>,
-) -> Result<Opened<'c, O::Reader>, CliStop>
+) -> Result<Opened<Section<'c, O::Reader>>, CliStop>
     ensures usage { IfErr result (λ stop. IsUsage stop → ⊥) }
     ensures texts { IfOk result (λ opened.
         AreTextsOf (O.tells opener.old) from.now opened.texts.line.items opened.texts.general.items) }
@@ -115,10 +116,10 @@ pub(crate) fn open<O: Opener>(
 
 // The open files of a section that is to be judged, and another open file.
 #[derive(Drop)]
-pub(crate) struct OpenedBoth<'c, R> {
+pub(crate) struct OpenedBoth<S, F> {
     pub(crate) texts: Texts,
-    pub(crate) section: Section<'c, R>,
-    pub(crate) file: Counted<BufReader<R>>,
+    pub(crate) section: S,
+    pub(crate) file: F,
 }
 
 // Opens the files of a section that is to be judged and then the file of this name, before the first read of the section or
@@ -129,7 +130,7 @@ pub(crate) fn open_both<'c, O: Opener>(
     from: &Judging<'_>,
     name: &str,
     seen: &'c Cell<Seen>,
-) -> Result<OpenedBoth<'c, O::Reader>, CliStop>
+) -> Result<OpenedBoth<Section<'c, O::Reader>, Counted<BufReader<O::Reader>>>, CliStop>
     ensures usage { IfErr result (λ stop. IsUsage stop → ⊥) }
     ensures texts { IfOk result (λ opened.
         AreTextsOf (O.tells opener.old) from.now opened.texts.line.items opened.texts.general.items) }

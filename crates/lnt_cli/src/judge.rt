@@ -14,10 +14,11 @@ ghost use Rattle.lnt_lines.specs.declared.section.JudgedIndex.TheVariants.{Good}
 ghost use Rattle.lnt_table.specs.AnyVersion.{IsTrueCheck};
 ghost use Rattle.lnt_verdicts.specs.Verdicts.{checked_line, checked_status, compared_status, verdict_status};
 
-use crate::inputs::{Texts, of_file, open_both};
+use crate::inputs::{OpenedBoth, of_file, open_both};
 use crate::question::judge;
 use crate::session::Session;
 use crate::stop::CliStop;
+use lnt_input::Source;
 use lnt_lines::{Index, JudgedIndex, No, Options};
 use lnt_notes::{Columns, Given, Hints, Seen, tell_agreed, tell_bad, tell_good, tell_table};
 use lnt_paths::ComparedByPath;
@@ -25,7 +26,6 @@ use lnt_records::TableFault;
 use lnt_sources::{Halt, Opener, Status};
 use lnt_table::{Checked, TableNo, Verdict, check_any};
 use lnt_verdicts::{Stretches, print_checked, print_stretches};
-use lnt_wire::Source;
 use lnt_words::Judging;
 use std::alloc::Global;
 use std::cell::Cell;
@@ -86,32 +86,35 @@ fn judge_table<O: Opener>(
     ensures checked { IfOk result (λ checked. (old new : Option (List ℕ)) → Appends old new (checked_line checked)
         → IsChecked (O.tells opener.old) from.now table.now old new checked) }
 {
-    let mut opened = open_both(alloc, opener, from, table, seen)?;
-    let files = &mut opened;
-    let (texts, section, records) = (&files.texts, &mut files.section, &mut files.file);
-    judge_table_of(alloc, from, table, texts, section, records)
+    let mut files = open_both(alloc, opener, from, table, seen)?;
+    judge_table_of(alloc, from, table, &mut files)
 }
 
 // The same. The files are open.
-fn judge_table_of<R: Source, T: Source>(
+fn judge_table_of<S: Source, F: Source>(
     alloc: Global,
     from: &Judging<'_>,
     table: &str,
-    texts: &Texts,
-    section: &mut R,
-    records: &mut T,
+    files: &mut OpenedBoth<S, F>,
 ) -> Result<Checked, CliStop>
-    requires section { R.failures section.old < 2 ^ 64 - 1 }
-    requires records { T.failures records.old < 2 ^ 64 - 1 }
+    requires section { S.failures files.old.section < 2 ^ 64 - 1 }
+    requires table { F.failures files.old.file < 2 ^ 64 - 1 }
     ensures usage { IfErr result (λ stop. IsUsage stop → ⊥) }
-    ensures checked { IfOk result (λ checked. IfSome (R.remaining section.old) (λ bytes. IfSome (T.remaining records.old) (λ text.
-        IsTrueCheck texts.now.line.items texts.now.general.items (options_in from.now) bytes text checked))) }
+    ensures checked { IfOk result (λ checked. IfSome (S.remaining files.old.section) (λ bytes. IfSome (F.remaining files.old.file) (λ text.
+        IsTrueCheck files.old.texts.line.items files.old.texts.general.items (options_in from.now) bytes text checked))) }
 {
-    match check_any(alloc, section, &texts.strings(), records, &options_of(from)) {
+    let strings = files.texts.strings();
+    match check_any(
+        alloc,
+        &mut files.section,
+        &strings,
+        &mut files.file,
+        &options_of(from),
+    ) {
         Ok(checked) => Ok(checked),
         // The section is read first: where it caused the stop, the table wasn't read.
         Err(stop) => {
-            let of_section = section.failures() > 0 || section.too_long();
+            let of_section = files.section.failures() > 0 || files.section.too_long();
             let name = if of_section { from.section } else { table };
             Err(CliStop::of_file(alloc, name, Halt::from(stop)))
         }
@@ -161,37 +164,33 @@ fn judge_places<O: Opener, W: Write>(
     ensures stopped { OnErr result (Keeps (W.contents out.old) (W.contents out.new)
         ⊎ BeginsPlaces (O.tells opener.old) from.now table.now (W.contents out.old) (W.contents out.new)) }
 {
-    let mut opened = open_both(alloc, opener, from, table, seen)?;
-    let files = &mut opened;
-    let (texts, section, records) = (&files.texts, &mut files.section, &mut files.file);
-    judge_places_of(alloc, from, table, texts, section, records, out)
+    let mut files = open_both(alloc, opener, from, table, seen)?;
+    judge_places_of(alloc, from, table, &mut files, out)
 }
 
 // Prints all places at which the table in the file of this name answers otherwise than the section. The files are open.
-fn judge_places_of<R: Source, T: Source, W: Write>(
+fn judge_places_of<S: Source, F: Source, W: Write>(
     alloc: Global,
     from: &Judging<'_>,
     table: &str,
-    texts: &Texts,
-    section: &mut R,
-    records: &mut T,
+    files: &mut OpenedBoth<S, F>,
     out: &mut W,
 ) -> Result<Places, CliStop>
-    requires section { R.failures section.old < 2 ^ 64 - 1 }
-    requires records { T.failures records.old < 2 ^ 64 - 1 }
+    requires section { S.failures files.old.section < 2 ^ 64 - 1 }
+    requires table { F.failures files.old.file < 2 ^ 64 - 1 }
     ensures usage { IfErr result (λ stop. IsUsage stop → ⊥) }
     ensures answer { IfOk result (λ places. (judged : JudgedIndex)
-        × IfSome (R.remaining section.old) (λ bytes.
-        IsJudgedIndex texts.now.line.items texts.now.general.items (options_in from.now) bytes judged)
-        × ArePlacesTold (options_in from.now) judged (T.remaining records.old) (W.contents out.old) (W.contents out.new)
+        × IfSome (S.remaining files.old.section) (λ bytes.
+        IsJudgedIndex files.old.texts.line.items files.old.texts.general.items (options_in from.now) bytes judged)
+        × ArePlacesTold (options_in from.now) judged (F.remaining files.old.file) (W.contents out.old) (W.contents out.new)
         (places_status places)) }
     ensures stopped { OnErr result (Keeps (W.contents out.old) (W.contents out.new) ⊎ ((judged : JudgedIndex)
-        × IfSome (R.remaining section.old) (λ bytes.
-        IsJudgedIndex texts.now.line.items texts.now.general.items (options_in from.now) bytes judged)
-        × ArePlacesBegun (options_in from.now) judged (T.remaining records.old) (W.contents out.old) (W.contents out.new))) }
+        × IfSome (S.remaining files.old.section) (λ bytes.
+        IsJudgedIndex files.old.texts.line.items files.old.texts.general.items (options_in from.now) bytes judged)
+        × ArePlacesBegun (options_in from.now) judged (F.remaining files.old.file) (W.contents out.old) (W.contents out.new))) }
 {
-    match judge(alloc, section, texts, from, out)? {
-        JudgedIndex::Good(index) => print_places(alloc, &index, table, records, out),
+    match judge(alloc, &mut files.section, &files.texts, from, out)? {
+        JudgedIndex::Good(index) => print_places(alloc, &index, table, &mut files.file, out),
         JudgedIndex::Bad(no) => Ok(Places::Section(no)),
     }
 }

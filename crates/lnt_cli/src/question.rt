@@ -11,20 +11,20 @@ ghost use Rattle.lnt_lines.specs.Drafts.{IsJudgedIndex};
 ghost use Rattle.lnt_lines.specs.declared.options.Options.{Options as OptionsSpec};
 ghost use Rattle.lnt_lines.specs.declared.section.JudgedIndex.{JudgedIndex};
 
-use crate::inputs::{Texts, of_file, open_both, open_judged};
+use crate::inputs::{Opened, OpenedBoth, Texts, of_file, open_both, open_judged};
 use crate::judge::options_of;
 use crate::session::Session;
 use crate::stop::CliStop;
 use lnt_answers::{
     judge_section, lists_sums, print_addresses, print_files, print_lookups, print_sums,
 };
+use lnt_input::Source;
 use lnt_lines::{Index, JudgedIndex, No};
 use lnt_notes::{Hints, Seen, hints_of};
 use lnt_output::write_whole;
 use lnt_paths::PathVersion;
 use lnt_sources::{Halt, Opener, Status};
 use lnt_verdicts::{print_path_table, print_table};
-use lnt_wire::Source;
 use lnt_words::{Judging, Question};
 use std::alloc::Global;
 use std::cell::Cell;
@@ -111,35 +111,32 @@ fn answer_alone<O: Opener, W: Write>(
     ensures stopped { OnErr result (Keeps (W.contents out.old) (W.contents out.new)
         ⊎ BeginsQuestion (O.tells opener.old) from.now question.now (W.contents out.old) (W.contents out.new)) }
 {
-    let mut opened = open_judged(alloc, opener, from, seen)?;
-    let files = &mut opened;
-    let (texts, section) = (&files.texts, &mut files.section);
-    answer_opened(alloc, from, question, texts, section, opener, out)
+    let mut files = open_judged(alloc, opener, from, seen)?;
+    answer_opened(alloc, from, question, &mut files, opener, out)
 }
 
 // Answers a question about a section whose files are open.
-fn answer_opened<R: Source, O: Opener, W: Write>(
+fn answer_opened<S: Source, O: Opener, W: Write>(
     alloc: Global,
     from: &Judging<'_>,
     question: &Question,
-    texts: &Texts,
-    section: &mut R,
+    files: &mut Opened<S>,
     opener: &mut O,
     out: &mut W,
 ) -> Result<Answered, CliStop>
-    requires { R.failures section.old < 2 ^ 64 - 1 }
+    requires { S.failures files.old.section < 2 ^ 64 - 1 }
     ensures usage { IfErr result (λ stop. IsUsage stop → ⊥) }
     ensures answer { IfOk result (λ answered. (judged : JudgedIndex)
-        × IfSome (R.remaining section.old) (λ bytes.
-        IsJudgedIndex texts.now.line.items texts.now.general.items (options_in from.now) bytes judged)
+        × IfSome (S.remaining files.old.section) (λ bytes.
+        IsJudgedIndex files.old.texts.line.items files.old.texts.general.items (options_in from.now) bytes judged)
         × AnswersJudged (O.tells opener.old) (options_in from.now) question.now judged (W.contents out.old) (W.contents out.new)
         answered.status) }
     ensures stopped { OnErr result (Keeps (W.contents out.old) (W.contents out.new) ⊎ ((judged : JudgedIndex)
-        × IfSome (R.remaining section.old) (λ bytes.
-        IsJudgedIndex texts.now.line.items texts.now.general.items (options_in from.now) bytes judged)
+        × IfSome (S.remaining files.old.section) (λ bytes.
+        IsJudgedIndex files.old.texts.line.items files.old.texts.general.items (options_in from.now) bytes judged)
         × BeginsJudged (O.tells opener.old) (options_in from.now) question.now judged (W.contents out.old) (W.contents out.new))) }
 {
-    match judge(alloc, section, texts, from, out)? {
+    match judge(alloc, &mut files.section, &files.texts, from, out)? {
         JudgedIndex::Good(index) => answer_good(alloc, from.section, &index, question, opener, out),
         JudgedIndex::Bad(no) => Ok(refused(no)),
     }
@@ -182,37 +179,33 @@ fn answer_lines<O: Opener, W: Write>(
     ensures stopped { OnErr result (Keeps (W.contents out.old) (W.contents out.new)
         ⊎ BeginsAddresses (O.tells opener.old) from.now file.now op (W.contents out.old) (W.contents out.new)) }
 {
-    let mut opened = open_both(alloc, opener, from, file, seen)?;
-    let files = &mut opened;
-    let (texts, section, lines) = (&files.texts, &mut files.section, &mut files.file);
-    answer_lines_of(alloc, from, file, op, texts, section, lines, out)
+    let mut files = open_both(alloc, opener, from, file, seen)?;
+    answer_lines_of(alloc, from, file, op, &mut files, out)
 }
 
 // Answers the lines of the file of this name. That file and the section's files are open.
-fn answer_lines_of<R: Source, T: Source, W: Write>(
+fn answer_lines_of<S: Source, F: Source, W: Write>(
     alloc: Global,
     from: &Judging<'_>,
     file: &str,
     op: u64,
-    texts: &Texts,
-    section: &mut R,
-    lines: &mut T,
+    files: &mut OpenedBoth<S, F>,
     out: &mut W,
 ) -> Result<Answered, CliStop>
-    requires section { R.failures section.old < 2 ^ 64 - 1 }
-    requires lines { T.failures lines.old < 2 ^ 64 - 1 }
+    requires section { S.failures files.old.section < 2 ^ 64 - 1 }
+    requires lines { F.failures files.old.file < 2 ^ 64 - 1 }
     ensures usage { IfErr result (λ stop. IsUsage stop → ⊥) }
     ensures answer { IfOk result (λ answered. (judged : JudgedIndex)
-        × IfSome (R.remaining section.old) (λ bytes.
-        IsJudgedIndex texts.now.line.items texts.now.general.items (options_in from.now) bytes judged)
-        × AnswersAddressesJudged judged op (T.remaining lines.old) (W.contents out.old) (W.contents out.new) answered.status) }
+        × IfSome (S.remaining files.old.section) (λ bytes.
+        IsJudgedIndex files.old.texts.line.items files.old.texts.general.items (options_in from.now) bytes judged)
+        × AnswersAddressesJudged judged op (F.remaining files.old.file) (W.contents out.old) (W.contents out.new) answered.status) }
     ensures stopped { OnErr result (Keeps (W.contents out.old) (W.contents out.new) ⊎ ((judged : JudgedIndex)
-        × IfSome (R.remaining section.old) (λ bytes.
-        IsJudgedIndex texts.now.line.items texts.now.general.items (options_in from.now) bytes judged)
-        × BeginsAddressesJudged judged op (T.remaining lines.old) (W.contents out.old) (W.contents out.new))) }
+        × IfSome (S.remaining files.old.section) (λ bytes.
+        IsJudgedIndex files.old.texts.line.items files.old.texts.general.items (options_in from.now) bytes judged)
+        × BeginsAddressesJudged judged op (F.remaining files.old.file) (W.contents out.old) (W.contents out.new))) }
 {
-    match judge(alloc, section, texts, from, out)? {
-        JudgedIndex::Good(index) => print_lines(alloc, &index, file, op, lines, out),
+    match judge(alloc, &mut files.section, &files.texts, from, out)? {
+        JudgedIndex::Good(index) => print_lines(alloc, &index, file, op, &mut files.file, out),
         JudgedIndex::Bad(no) => Ok(refused(no)),
     }
 }

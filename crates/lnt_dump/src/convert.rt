@@ -11,10 +11,11 @@ ghost use Rattle.lnt_dump.specs.Stepping.{IsFrontIn};
 
 use crate::faults::print_fault;
 use crate::page::PAGE;
+use lnt_input::{Source, read_all};
 use lnt_output::write_whole;
 use lnt_sources::{Halt, Status};
 use lnt_unit_encode::{ConvertFault, convert_unit, judge_conversion};
-use lnt_wire::{Cursor, Format, Order, Source, read_all};
+use lnt_wire::{Cursor, Format, Order};
 use std::alloc::Global;
 use std::io::Write;
 

@@ -6,11 +6,12 @@ use crate::operations::print_ops;
 use crate::page::{Page, Sheet, hand_on, judge};
 use crate::rows::print_rows;
 use crate::units::{Next, next_of};
+use lnt_input::Source;
 use lnt_machine::RunFault;
 use lnt_sources::{Halt, Status};
 use lnt_stream::{SectionReader, UnitBuffer};
 use lnt_unit::UnitInPlace;
-use lnt_wire::{Fault, Order, Source};
+use lnt_wire::{Fault, Order};
 use std::alloc::{AllocError, Global};
 use std::io::Write;
 

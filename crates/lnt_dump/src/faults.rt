@@ -4,12 +4,13 @@ ghost use Rattle.std.specs.Io.KnownBytes.{Appends};
 ghost use Rattle.lnt_output.specs.Fronts.{AppendsFront};
 ghost use Rattle.lnt_sources.specs.Halts.{IsPrinting};
 ghost use Rattle.lnt_sources.specs.declared.status.Status.TheVariants.{No};
-ghost use Rattle.lnt_text.specs.Texts.{malformed_text, run_text};
+ghost use Rattle.lnt_machine.specs.FaultTexts.{run_text};
+ghost use Rattle.lnt_text.specs.Texts.{malformed_text};
 
-use lnt_machine::RunFault;
+use lnt_machine::{RunFault, RunLine};
 use lnt_output::write_whole;
 use lnt_sources::{Halt, Status};
-use lnt_text::{MalformedLine, RunLine};
+use lnt_text::MalformedLine;
 use lnt_wire::{Fault, Reason};
 use std::alloc::Global;
 use std::io::Write;

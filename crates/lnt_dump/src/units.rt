@@ -9,10 +9,11 @@ ghost use Rattle.lnt_dump.specs.Units.{AreBytes, AreUnitsTold, unit_line};
 
 use crate::faults::print_fault;
 use crate::width::width_of;
+use lnt_input::Source;
 use lnt_output::write_whole;
 use lnt_sources::{Halt, Status};
 use lnt_stream::{SectionReader, SectionStop, UnitBuffer};
-use lnt_wire::{Fault, Frame, Order, Source};
+use lnt_wire::{Fault, Frame, Order};
 use std::alloc::Global;
 use std::io::Write;
 

@@ -7,8 +7,8 @@ use crate::judging::index_of;
 use crate::room::put_bytes;
 use crate::section::FlatSection;
 use crate::verdict::{FlatVerdict, YES, verdict_of_stop};
+use lnt_input::Stop;
 use lnt_lines::Index;
-use lnt_wire::Stop;
 use std::alloc::Global;
 
 /// A unit: `struct linetab_unit`.

@@ -5,12 +5,13 @@ ghost use Rattle.lnt_lines.specs.declared.no.No.TheVariants.{Overlap};
 
 use crate::flat::{FlatAnswer, NOTHING, flat_side};
 use lnt_header::EntryTable;
+use lnt_input::Stop;
 use lnt_lines::No;
 use lnt_machine::RunFault;
 use lnt_sequences::SeqId;
 use lnt_spans::Position;
 use lnt_table::{TableNo, Verdict};
-use lnt_wire::{Fault, Reason, Stop};
+use lnt_wire::{Fault, Reason};
 
 /// What was found: `struct linetab_verdict`. `include/linetab.h` says of each number which fields tell what; the others
 /// are 0.

@@ -6,9 +6,9 @@ use crate::judging::index_of;
 use crate::room::put_bytes;
 use crate::section::FlatSection;
 use crate::verdict::{FlatVerdict, YES, verdict_of_stop};
+use lnt_input::Stop;
 use lnt_spans::Version;
 use lnt_table::write_index;
-use lnt_wire::Stop;
 use std::alloc::Global;
 
 /// Puts the address table of a good section into the front of `room`, where there is room for all of it: the one shortest

@@ -8,10 +8,10 @@ use Rattle.lnt_wire.specs.declared.format.Format.{Format}
 use Rattle.lnt_wire.specs.FrameBytes.{FrameBytes}
 use Rattle.lnt_wire.specs.InitialLength.{initial_length}
 use Rattle.lnt_wire.proofs.LengthLaws.{length-initial}
-use Rattle.lnt_wire.proofs.PullLaws.{pulls_append}
-use Rattle.lnt_wire.specs.Pulling.{Pulls}
-use Rattle.lnt_wire.specs.declared.stop.Stop.{Stop}
-use Rattle.lnt_wire.specs.declared.stop.Stop.TheVariants as stops
+use Rattle.lnt_input.proofs.PullLaws.{pulls_append}
+use Rattle.lnt_input.specs.Pulling.{Pulls}
+use Rattle.lnt_input.specs.declared.stop.Stop.{Stop}
+use Rattle.lnt_input.specs.declared.stop.Stop.TheVariants as stops
 use Rattle.lnt_stream.specs.declared.stop.SectionStop.{SectionStop}
 use Rattle.lnt_stream.specs.declared.stop.SectionStop.TheVariants as section
 use Rattle.lnt_stream.specs.Stops.{IfFault}

@@ -6,7 +6,8 @@ use Rattle.lnt_lines.specs.declared.no.No.TheVariants.{Malformed, Run, EntryForm
 use Rattle.lnt_lines.specs.declared.no.No.TheVariants.{Overlap}
 use Rattle.lnt_wire.specs.FaultTexts.{hexadecimal}
 use Rattle.lnt_files.specs.FaultTexts.{table_text}
-use Rattle.lnt_text.specs.Texts.{malformed_text, run_text}
+use Rattle.lnt_machine.specs.FaultTexts.{run_text}
+use Rattle.lnt_text.specs.Texts.{malformed_text}
 
 -- why a section isn't good
 abbrev pub no_text : No → List ℕ

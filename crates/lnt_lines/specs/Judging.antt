@@ -21,7 +21,7 @@ use Rattle.lnt_lines.specs.declared.no.No.{No}
 use Rattle.lnt_lines.specs.declared.no.No.TheVariants as no
 use Rattle.lnt_lines.specs.declared.refusal.Refusal.{Refusal}
 use Rattle.lnt_lines.specs.declared.refusal.Refusal.TheVariants as refusal
-use Rattle.lnt_wire.specs.declared.stop.Stop.TheVariants as stop
+use Rattle.lnt_input.specs.declared.stop.Stop.TheVariants as stop
 use Rattle.lnt_lines.specs.Good.{IsSoundUnit}
 use Rattle.lnt_lines.specs.Nos.{IsFlaw}
 

@@ -20,9 +20,9 @@ mod spans;
 
 pub use index::Index;
 pub use lines::Lines;
+pub use lnt_input::Stop;
 pub use lnt_sequences::SeqId;
 pub use lnt_spans::{Answer, More, Position, Probes, Span, Version};
-pub use lnt_wire::Stop;
 pub use no::No;
 pub use options::Options;
 pub use section::{Judged, JudgedIndex, index_section, verify};

@@ -4,10 +4,10 @@ ghost use Rattle.lnt_lines.specs.FaultTexts.{no_text};
 
 use lnt_files::EntryTableText;
 use lnt_header::EntryTable;
-use lnt_machine::RunFault;
+use lnt_machine::{RunFault, RunLine};
 use lnt_sequences::{Overlap, SeqId};
 use lnt_spans::Position;
-use lnt_text::{MalformedLine, RunLine};
+use lnt_text::MalformedLine;
 use lnt_wire::Fault;
 use std::fmt;
 

@@ -1,6 +1,6 @@
 //! A whole section, judged.
 ghost use Rattle.std.specs.Prelude.{◌≡◌, ◌≢◌, ◌+◌, ◌-◌, ◌^◌, ◌<◌, IfOk, IfErr, IfSome, IsErrOf, IsTrue};
-ghost use Rattle.lnt_wire.specs.Pulling.{HasMoreThan};
+ghost use Rattle.lnt_input.specs.Pulling.{HasMoreThan};
 ghost use Rattle.lnt_lines.specs.Drafts.{IsIndexOfSection, IsJudged, IsJudgedIndex};
 ghost use Rattle.lnt_lines.specs.Stepping.{IsDraftOfSection, IsRefusal};
 ghost use Rattle.lnt_stream.specs.declared.reader.Progress.TheVariants.{Reading};
@@ -14,8 +14,9 @@ use crate::no::No;
 use crate::options::Options;
 use crate::refusal::Refusal;
 use lnt_files::StringEnds;
+use lnt_input::{Source, Stop};
 use lnt_stream::SectionReader;
-use lnt_wire::{Source, Stop, Strings};
+use lnt_wire::Strings;
 use std::alloc::Global;
 
 /// What a section was judged to be.

@@ -1,6 +1,6 @@
 //! Why a program doesn't run, and why its rows end before it does.
 ghost use Rattle.std.specs.Prelude.{◌≡◌, Some};
-ghost use Rattle.lnt_machine.specs.FaultTexts.{row_fault_text, run_fault_text};
+ghost use Rattle.lnt_machine.specs.FaultTexts.{row_fault_text, run_fault_text, run_text};
 
 use lnt_wire::Fault;
 use std::alloc::AllocError;
@@ -39,6 +39,20 @@ impl From<AllocError> for RunFault {
 
     fn from(_error: AllocError) -> RunFault {
         RunFault::Memory
+    }
+}
+
+/// The line that says why a program doesn't run (number 26), without its line feed: the offset of its unit in the section,
+/// and the reason.
+#[derive(Clone, Copy)]
+pub struct RunLine(pub u64, pub RunFault);
+
+impl fmt::Display for RunLine {
+    ghost output = { λ line. Some (run_text line.0 line.1) };
+
+    fn fmt<W: fmt::Write>(&self, f: &mut fmt::Formatter<W>) -> fmt::Result {
+        let RunLine(offset, reason) = *self;
+        write!(f, "no 26 run unit 0x{offset:x}: {reason}")
     }
 }
 

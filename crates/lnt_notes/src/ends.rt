@@ -1,12 +1,13 @@
 //! The positions at which sequences of a section begin and end.
 ghost use Rattle.std.specs.Prelude.{◌-◌, ◌^◌, ◌<◌};
 
+use lnt_input::Source;
 use lnt_machine::Rows;
 use lnt_sequences::SeqId;
 use lnt_spans::Position;
 use lnt_stream::{SectionReader, UnitBuffer};
 use lnt_unit::UnitView;
-use lnt_wire::{Order, Source};
+use lnt_wire::Order;
 use std::alloc::Global;
 
 // The positions of the first row and of the end row of a sequence.

@@ -2,10 +2,11 @@
 ghost use Rattle.std.specs.Prelude.{◌-◌, ◌^◌, ◌<◌};
 
 use crate::marks::is_mark;
+use lnt_input::Source;
 use lnt_machine::{Row, Rows};
 use lnt_stream::{SectionReader, UnitBuffer};
 use lnt_unit::UnitInPlace;
-use lnt_wire::{Order, Source};
+use lnt_wire::Order;
 use std::alloc::Global;
 
 // The addresses at which the sequences of a section begin, so far as they point to discarded code.

@@ -2,10 +2,11 @@
 ghost use Rattle.std.specs.Prelude.{◌-◌, ◌^◌, ◌<◌};
 
 use lnt_header::{EntryTable, Header, Pair};
+use lnt_input::Source;
 use lnt_stream::{SectionReader, UnitBuffer};
 use lnt_text::StringSection;
 use lnt_unit::UnitView;
-use lnt_wire::{Form, Order, Source};
+use lnt_wire::{Form, Order};
 use std::alloc::Global;
 
 // The content type of a path (DWARF 5, section 6.2.4.1).

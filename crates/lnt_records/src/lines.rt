@@ -12,8 +12,8 @@ ghost use Rattle.lnt_records.specs.Written.{line_text};
 use crate::header::header_line;
 use crate::window::Window;
 use lnt_digits::{address_until, decimal_until, past};
+use lnt_input::{Source, Stop};
 use lnt_spans::{Answer, Merge, More, Position, Span, SpanSource, Version};
-use lnt_wire::{Source, Stop};
 use std::alloc::Global;
 
 // Parses the lines of a table and pushes their spans, up to the first line that isn't well formed, has quotes or a number of

@@ -10,8 +10,8 @@ ghost use Rattle.lnt_records.specs.Written.{IsOfVersion};
 use crate::remaining::Remaining;
 use crate::text::{ROOM, line_of};
 use crate::window::Window;
+use lnt_input::{Source, Stop};
 use lnt_spans::{Answer, Joiner, Merge, Position, Span, SpanSource, Version};
-use lnt_wire::{Source, Stop};
 use std::alloc::Global;
 
 // The state after these lines: the spans after those of the lines, the number of records so far, the header included, and

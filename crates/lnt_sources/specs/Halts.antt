@@ -1,6 +1,6 @@
 -- Why the work on a file was stopped.
-use Rattle.lnt_wire.specs.declared.stop.Stop.{Stop}
-use Rattle.lnt_wire.specs.declared.stop.Stop.TheVariants.{Memory as SourceMemory, Read as SourceRead, TooLong as SourceTooLong}
+use Rattle.lnt_input.specs.declared.stop.Stop.{Stop}
+use Rattle.lnt_input.specs.declared.stop.Stop.TheVariants.{Memory as SourceMemory, Read as SourceRead, TooLong as SourceTooLong}
 use Rattle.lnt_sources.specs.declared.halt.Halt.{Halt}
 use Rattle.lnt_sources.specs.declared.halt.Halt.TheVariants.{Memory, Read, TooLong, Write}
 

@@ -4,7 +4,7 @@ ghost use Rattle.lnt_sources.specs.FaultTexts.{halt_text};
 ghost use Rattle.lnt_sources.specs.Halts.{halt_of_source};
 ghost use Rattle.lnt_sources.specs.declared.halt.Halt.TheVariants.{Memory, Write};
 
-use lnt_wire::Stop;
+use lnt_input::Stop;
 use std::alloc::AllocError;
 use std::error::Error;
 use std::{fmt, io};

@@ -5,7 +5,7 @@ ghost use Rattle.lnt_sources.specs.Halts.{IsOpening};
 ghost use Rattle.lnt_sources.specs.declared.halt.Halt.TheVariants.{Write};
 
 use crate::halt::Halt;
-use lnt_wire::{Counted, Source, read_all};
+use lnt_input::{Counted, Source, read_all};
 use std::alloc::{AllocError, Global};
 use std::io::{BufReader, Read};
 

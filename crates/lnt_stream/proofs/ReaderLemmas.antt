@@ -12,11 +12,11 @@ use Rattle.lnt_wire.specs.FrameBytes.{FrameBytes}
 use Rattle.lnt_wire.specs.FrameFaults.{InFrame, IsCutFrame, IsFrameFault}
 use Rattle.lnt_wire.specs.FrameFaults.IsCutFrame.{no_length}
 use Rattle.lnt_wire.specs.Numbers.{number_bytes}
-use Rattle.lnt_wire.specs.Pulling.{Pulls}
+use Rattle.lnt_input.specs.Pulling.{Pulls}
 use Rattle.lnt_wire.specs.Reading.{Refuses}
 use Rattle.lnt_wire.proofs.FrameLaws.{no_frame}
-use Rattle.lnt_wire.specs.declared.stop.Stop.{Stop}
-use Rattle.lnt_wire.specs.declared.stop.Stop.TheVariants as source
+use Rattle.lnt_input.specs.declared.stop.Stop.{Stop}
+use Rattle.lnt_input.specs.declared.stop.Stop.TheVariants as source
 use Rattle.lnt_stream.specs.Stops.{IfFault, stop_of}
 use Rattle.lnt_stream.specs.Units.{SectionEndsBy}
 

@@ -2,8 +2,8 @@
 use Rattle.std.proofs.Common.{ℕ, ◌+◌, ◌≤◌, List, ◌++◌, length, Option, sym, subst, ◌∙◌, append_assoc, arith}
 use Rattle.std.proofs.lemmas.List.{length-append}
 use Rattle.lnt_wire.specs.declared.format.Order.{Order}
-use Rattle.lnt_wire.specs.Pulling.{GivesMore}
-use Rattle.lnt_wire.proofs.PullLaws.{pulls_none, pulls_more, more_from_start}
+use Rattle.lnt_input.specs.Pulling.{GivesMore}
+use Rattle.lnt_input.proofs.PullLaws.{pulls_none, pulls_more, more_from_start}
 use Rattle.lnt_stream.specs.Sizes.{IsLeastSize}
 use Rattle.lnt_stream.proofs.SizeLemmas.{least_nothing}
 

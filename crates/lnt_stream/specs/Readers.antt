@@ -2,7 +2,7 @@
 use base.Fml.{GName}
 use Rattle.std.specs.Prelude.{ℕ}
 use Rattle.lnt_wire.specs.declared.format.Order.{Order}
-use Rattle.lnt_wire.specs.declared.source.Source.{Ghosts}
+use Rattle.lnt_input.specs.declared.source.Source.{Ghosts}
 use Rattle.lnt_stream.specs.declared.reader.Progress.{Progress}
 use Rattle.lnt_stream.specs.declared.reader.SectionReader.{SectionReader}
 

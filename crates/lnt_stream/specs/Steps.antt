@@ -1,8 +1,8 @@
 -- What a call of `next_unit` or `next_unit_in` does (DWARF 5, sections 6.2.4 and 7.4).
 use Rattle.std.specs.Prelude.{◌≡◌, ◌≢◌, ◌+◌, ◌<◌, length, IsTrue, false, Option, Some, None, IfSome, IfNone}
 use Rattle.std.specs.Prelude.{Result, Ok, Err, IfOk, IfErr, OnErr, IsErrOf}
-use Rattle.lnt_wire.specs.declared.source.Source.{Ghosts}
-use Rattle.lnt_wire.specs.Pulling.{HasMoreThan}
+use Rattle.lnt_input.specs.declared.source.Source.{Ghosts}
+use Rattle.lnt_input.specs.Pulling.{HasMoreThan}
 use Rattle.lnt_stream.specs.declared.reader.Progress.TheVariants.{Reading, Ended, Failed}
 use Rattle.lnt_stream.specs.declared.reader.SectionReader.{SectionReader}
 use Rattle.lnt_stream.specs.declared.stop.SectionStop.{SectionStop}

@@ -1,8 +1,8 @@
 -- The stops of a reader of a section, those that come from its source, and their texts.
 use Rattle.std.specs.Prelude.{ℕ, List, codes}
 use Rattle.lnt_wire.specs.declared.fault.Fault.{Fault}
-use Rattle.lnt_wire.specs.declared.stop.Stop.{Stop}
-use Rattle.lnt_wire.specs.declared.stop.Stop.TheVariants as source
+use Rattle.lnt_input.specs.declared.stop.Stop.{Stop}
+use Rattle.lnt_input.specs.declared.stop.Stop.TheVariants as source
 use Rattle.lnt_stream.specs.declared.stop.SectionStop.{SectionStop}
 use Rattle.lnt_wire.specs.FaultTexts.{fault_text}
 use Rattle.lnt_stream.specs.declared.stop.SectionStop.TheVariants.{Fault as stop_fault, Memory, Read, TooLong, Failed}

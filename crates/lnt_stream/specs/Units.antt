@@ -6,7 +6,7 @@ use Rattle.lnt_wire.specs.declared.format.Format.TheVariants.{D32, D64}
 use Rattle.lnt_wire.specs.declared.fault.Fault.{Fault}
 use Rattle.lnt_wire.specs.FrameBytes.{FrameBytes}
 use Rattle.lnt_wire.specs.Frames.{EndsBy}
-use Rattle.lnt_wire.specs.Pulling.{Pulls}
+use Rattle.lnt_input.specs.Pulling.{Pulls}
 
 -- The bytes of a unit, the offset in the section of the first of them, and the byte order of its numbers.
 pub record BufferedUnit : Type 0 where

@@ -1,7 +1,7 @@
 //! The reader of a section, which gives one unit after another.
 ghost use Rattle.std.specs.Prelude.{◌≡◌, ◌≢◌, ℕ, ◌+◌, ◌-◌, ◌^◌, ◌<◌, length};
 ghost use Rattle.std.specs.Prelude.{IsTrue, false, IfOk, IfErr, OnErr, IsErrOf, IfSome, IfNone};
-ghost use Rattle.lnt_wire.specs.Pulling.{HasMoreThan};
+ghost use Rattle.lnt_input.specs.Pulling.{HasMoreThan};
 ghost use Rattle.lnt_stream.specs.Stops.{IfFault};
 ghost use Rattle.lnt_stream.specs.Units.{IsNextUnit, SectionEndsBy};
 ghost use Rattle.lnt_stream.specs.declared.reader.Progress.TheVariants.{Reading};
@@ -9,7 +9,8 @@ ghost use Rattle.lnt_stream.specs.declared.reader.Progress.TheVariants.{Reading}
 use crate::buffer::UnitBuffer;
 use crate::stop::SectionStop;
 use crate::taking::take_unit_bytes;
-use lnt_wire::{Order, Source};
+use lnt_input::Source;
+use lnt_wire::Order;
 use std::alloc::Global;
 
 /// Where a reader of a section stands, and so what its next call does.

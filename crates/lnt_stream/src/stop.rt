@@ -3,7 +3,8 @@ ghost use Rattle.std.specs.Prelude.{◌≡◌, Some};
 ghost use Rattle.lnt_stream.specs.declared.stop.SectionStop.TheVariants.{Fault as StopFault};
 ghost use Rattle.lnt_stream.specs.Stops.{stop_of, section_stop_text};
 
-use lnt_wire::{Fault, Stop};
+use lnt_input::Stop;
+use lnt_wire::Fault;
 use std::error::Error;
 use std::fmt;
 

@@ -2,11 +2,12 @@
 ghost use Rattle.std.specs.Prelude.{◌≡◌, ◌≢◌, ◌+◌, ◌-◌, ◌^◌, ◌<◌, [], length};
 ghost use Rattle.std.specs.Prelude.{IfOk, IfSome, OnOk, IsErrOf, IsTrue, false, MatchBool};
 ghost use Rattle.lnt_wire.specs.FrameFaults.{IsCutFrame};
-ghost use Rattle.lnt_wire.specs.Pulling.{Pulls, HasMoreThan};
+ghost use Rattle.lnt_input.specs.Pulling.{Pulls, HasMoreThan};
 ghost use Rattle.lnt_stream.specs.Sizes.{IsLeastSize};
 
 use crate::size::missing_size;
-use lnt_wire::{BLOCK, Order, Source, Stop, take_block};
+use lnt_input::{BLOCK, Source, Stop, take_block};
+use lnt_wire::Order;
 
 // Takes the bytes of the frame that comes next, and none after them: all of them, or those up to the end of the source. It
 // answers whether they came as far as the initial length tells: false says that the source ended within the frame, or had

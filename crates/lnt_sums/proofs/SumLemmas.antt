@@ -3,8 +3,8 @@ use Rattle.std.proofs.Common.{◌≡◌, ℕ, ◌+◌, List, [], ◌++◌, lengt
 use Rattle.std.proofs.lemmas.List.{length-append}
 use Rattle.md5.specs.Md5.{md5, Holds}
 use Rattle.md5.specs.declared.Md5.{Md5}
-use Rattle.lnt_wire.proofs.PullLaws.{pulls_none, pulls_append, pulls_all, more_from_start}
-use Rattle.lnt_wire.specs.Pulling.{Pulls, HasMoreThan}
+use Rattle.lnt_input.proofs.PullLaws.{pulls_none, pulls_append, pulls_all, more_from_start}
+use Rattle.lnt_input.specs.Pulling.{Pulls, HasMoreThan}
 
 -- The hasher holds the bytes that were pulled (given), and the source may still give as many fewer bytes.
 pub record Summed (hasher : Md5) (old new : Option (List ℕ)) (before after : ℕ) : Type 0 where

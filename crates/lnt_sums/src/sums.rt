@@ -1,10 +1,10 @@
 //! The MD5 sum of a source, and its comparison with the one that is listed.
 ghost use Rattle.std.specs.Prelude.{◌≡◌, ◌≢◌, ℕ, ◌+◌, ◌-◌, ◌^◌, ◌<◌, IfOk, IfSome, IsErrOf, IsTrue, OnOk, false};
 ghost use Rattle.md5.specs.Md5.{md5};
-ghost use Rattle.lnt_wire.specs.Pulling.{HasMoreThan};
+ghost use Rattle.lnt_input.specs.Pulling.{HasMoreThan};
 ghost use Rattle.lnt_sums.specs.Agreements.{Agrees};
 
-use lnt_wire::{Source, Stop};
+use lnt_input::{Source, Stop};
 use md5::{Digest, Md5};
 
 /// Whether the MD5 sum of a source is the listed one.

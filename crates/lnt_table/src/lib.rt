@@ -19,13 +19,13 @@ mod write;
 
 pub use by_path::{Checked, check_any};
 pub use checking::check;
+pub use lnt_input::Stop;
 pub use lnt_lines::{No, Options};
 pub use lnt_paths::{
     AnswerByPath, ComparedByPath, DifferenceByPath, DifferencesByPath, HeldSpan, HeldTable,
     PathTable, PathVersion,
 };
 pub use lnt_records::{Differing, TableFault, WriteStop};
-pub use lnt_wire::Stop;
 pub use path_lines::{OperationLine, PathDifferenceLine};
 pub use paths::{IndexPaths, write_paths};
 pub use stretches::{AnyDiffering, differences, differences_any, differences_by_path};

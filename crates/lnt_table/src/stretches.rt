@@ -1,7 +1,7 @@
 //! Compares a table with a good section at every position.
 ghost use Rattle.std.specs.Prelude.{◌≡◌, ◌≢◌, ◌+◌, ◌-◌, ◌^◌, ◌<◌, Bool, ℕ, List, [], map, Option, IfOk, IfSome, IsErrOf};
 ghost use Rattle.lnt_lines.specs.Indexed.{IsIndexOf};
-ghost use Rattle.lnt_wire.specs.declared.stop.Stop.TheVariants.{Read, TooLong};
+ghost use Rattle.lnt_input.specs.declared.stop.Stop.TheVariants.{Read, TooLong};
 ghost use Rattle.lnt_spans.specs.declared.position.Position.{Position};
 ghost use Rattle.lnt_records.specs.Differing.{IsStarted};
 ghost use Rattle.lnt_paths.specs.Held.{held_span};
@@ -13,11 +13,11 @@ ghost use Rattle.lnt_table.specs.Headline.{IsFoundTooLong};
 ghost use Rattle.lnt_table.specs.Stretches.{IsAnyDiffering, IsDifferingFrom, IsStartedAny};
 ghost use Rattle.lnt_unit.specs.declared.unit.Parts.{Parts};
 
+use lnt_input::{Source, Stop};
 use lnt_lines::{Index, Spans};
 use lnt_paths::{DifferencesByPath, HeldSpan, HeldTable, PathVersion, hold_table};
 use lnt_records::{Differing, DifferingRead, Remaining, compare_all, differ_or_take};
 use lnt_spans::{SpanList, SpanSource};
-use lnt_wire::{Source, Stop};
 use std::alloc::{AllocError, Global};
 
 /// Compares the address table that a source has to give with the units that an index was made of, at every position.

@@ -1,12 +1,12 @@
 //! Sections checked against tables by path.
 use crate::lines::{OPTIONS, STRINGS};
+use lnt_input::Counted;
 use lnt_lines::{JudgedIndex, index_section};
 use lnt_records::TableFault;
 use lnt_samples::{PLAIN, TABLE, whole};
 use lnt_table::{
     AnyDiffering, Checked, ComparedByPath, HeldTable, Verdict, check_any, differences_any,
 };
-use lnt_wire::Counted;
 use std::alloc::Global;
 
 const COLUMNS: &[u8] = b"low,high,path,line,column

@@ -1,9 +1,10 @@
 //! Sections judged.
 use crate::worked::{at, narrow, wide};
+use lnt_input::{Counted, Stop};
 use lnt_lines::{Judged, Lines, No, Options, verify};
 use lnt_samples::{LISTED, OF_NOTHING, PLAIN, Reader, failing, whole};
 use lnt_spans::{Answer, Probes, Span, Version};
-use lnt_wire::{Counted, Order, Stop, Strings};
+use lnt_wire::{Order, Strings};
 use std::alloc::Global;
 
 pub(crate) const STRINGS: Strings<'static> = Strings {

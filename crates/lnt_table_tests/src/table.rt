@@ -1,13 +1,13 @@
 //! Sections checked against tables, and their tables written.
 use crate::lines::{OPTIONS, STRINGS, lines_of};
 use crate::worked::{at, narrow};
+use lnt_input::Counted;
 use lnt_lines::{JudgedIndex, index_section};
 use lnt_samples::{PLAIN, Reader, Refusing, TABLE, failing, whole};
 use lnt_spans::{Difference, Version};
 use lnt_table::{
     Differing, No, Stop, TableNo, Verdict, WriteStop, check, differences, write_table,
 };
-use lnt_wire::Counted;
 use std::alloc::Global;
 
 // What a check of two sources answers, of which each gives at most so many bytes.

@@ -1,9 +1,7 @@
--- The texts of positions and answers, and the lines of malformed bytes (25) and of programs that don't run (26).
+-- The texts of positions and answers, and the line of malformed bytes (25).
 use Rattle.std.specs.Prelude.{ℕ, List, [], ◌++◌, Option, Some, None, if◌then◌else◌, codes, decimal}
 use Rattle.lnt_wire.specs.declared.fault.Fault.{Fault}
 use Rattle.lnt_wire.specs.FaultTexts.{fault_text, hexadecimal}
-use Rattle.lnt_machine.specs.declared.fault.RunFault.{RunFault}
-use Rattle.lnt_machine.specs.FaultTexts.{run_fault_text}
 use Rattle.lnt_spans.specs.declared.answer.Answer.{Answer}
 use Rattle.lnt_spans.specs.declared.answer.More.{More}
 use Rattle.lnt_spans.specs.declared.difference.Difference.{Difference}
@@ -36,7 +34,3 @@ difference_text difference =
 -- which bytes are refused, and why
 abbrev pub malformed_text : Fault → List ℕ
 malformed_text fault = codes "no 25 " ++ fault_text fault
-
--- the program of the unit at the offset doesn't run
-abbrev pub run_text : ℕ → RunFault → List ℕ
-run_text offset fault = codes "no 26 run unit " ++ hexadecimal offset ++ codes ": " ++ run_fault_text fault

@@ -1,8 +1,7 @@
-//! How faults are printed.
+//! How the fault of bytes that are refused is printed.
 ghost use Rattle.std.specs.Prelude.{Some};
-ghost use Rattle.lnt_text.specs.Texts.{malformed_text, run_text};
+ghost use Rattle.lnt_text.specs.Texts.{malformed_text};
 
-use lnt_machine::RunFault;
 use lnt_wire::Fault;
 use std::fmt;
 
@@ -15,19 +14,5 @@ impl fmt::Display for MalformedLine {
 
     fn fmt<W: fmt::Write>(&self, f: &mut fmt::Formatter<W>) -> fmt::Result {
         write!(f, "no 25 {}", self.0)
-    }
-}
-
-/// The line that says why a program doesn't run (number 26), without its line feed: the offset of its unit in the section,
-/// and the reason.
-#[derive(Clone, Copy)]
-pub struct RunLine(pub u64, pub RunFault);
-
-impl fmt::Display for RunLine {
-    ghost output = { λ line. Some (run_text line.0 line.1) };
-
-    fn fmt<W: fmt::Write>(&self, f: &mut fmt::Formatter<W>) -> fmt::Result {
-        let RunLine(offset, reason) = *self;
-        write!(f, "no 26 run unit 0x{offset:x}: {reason}")
     }
 }

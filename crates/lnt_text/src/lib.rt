@@ -11,7 +11,7 @@ mod quoted;
 mod shown;
 
 pub use difference::DifferenceLine;
-pub use fault::{MalformedLine, RunLine};
+pub use fault::MalformedLine;
 pub use note::{Argument, Column, Look, Note, RecordRule, StringSection};
 pub use position::PositionText;
 pub use quoted::Quoted;

@@ -1,7 +1,8 @@
 use crate::worked::joined;
+use lnt_input::{Counted, Source};
 use lnt_samples::{ENDLESS, PLAIN, Pieces, SHORT, WIDE};
 use lnt_stream::{SectionReader, SectionStop, UnitBuffer};
-use lnt_wire::{Counted, Fault, Order, Reason, Source, frames};
+use lnt_wire::{Fault, Order, Reason, frames};
 use std::alloc::{AllocError, Global};
 use std::test::Fail;
 

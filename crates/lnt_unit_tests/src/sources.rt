@@ -1,5 +1,5 @@
+use lnt_input::{Counted, Source, Stop, read_all};
 use lnt_samples::Pieces;
-use lnt_wire::{Counted, Source, Stop, read_all};
 use std::alloc::{AllocError, Global};
 use std::test::Fail;
 

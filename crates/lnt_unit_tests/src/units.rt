@@ -1,9 +1,10 @@
 use crate::worked::{joined, unit_of};
+use lnt_input::Counted;
 use lnt_samples::{PLAIN, Pieces, WIDE};
 use lnt_stream::{SectionReader, UnitBuffer};
 use lnt_unit::{Unit, UnitView, decode_section};
 use lnt_unit_encode::{convert_section, encode_unit};
-use lnt_wire::{Counted, Format, Order};
+use lnt_wire::{Format, Order};
 use std::alloc::Global;
 
 // Whether the units are two of five operations, the second at offset 71.

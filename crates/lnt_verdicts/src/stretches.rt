@@ -17,6 +17,7 @@ ghost use Rattle.lnt_table.specs.Verdicts.{no_of_fault};
 ghost use Rattle.lnt_unit.specs.declared.unit.Parts.{Parts};
 
 use crate::differences::print_differences;
+use lnt_input::Source;
 use lnt_lines::Index;
 use lnt_output::write_whole;
 use lnt_paths::{DifferenceByPath, DifferencesByPath, HeldTable, Paths};
@@ -26,7 +27,6 @@ use lnt_spans::SpanSource;
 use lnt_table::{
     AnyDiffering, IndexPaths, PathDifferenceLine, TableNo, differences_any, differences_by_path,
 };
-use lnt_wire::Source;
 use std::alloc::{AllocError, Global};
 use std::io::Write;
 

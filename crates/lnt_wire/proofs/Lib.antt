@@ -8,7 +8,6 @@ pub mod FrameListLaws
 pub mod LebLemmas
 pub mod LengthLaws
 pub mod NumberLaws
-pub mod PullLaws
 pub mod PutLemmas
 pub mod ReadLemmas
 pub mod RefusedForms

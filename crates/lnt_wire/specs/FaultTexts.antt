@@ -1,4 +1,4 @@
--- The texts of refusals and stops, as their types print them.
+-- The texts of refusals, as their types print them.
 use Rattle.std.specs.Prelude.{ℕ, List, ◌++◌, codes, decimal, false}
 use Rattle.std.specs.Fmt.{digits}
 use Rattle.lnt_wire.specs.declared.fault.Fault.{Fault}
@@ -9,8 +9,6 @@ use Rattle.lnt_wire.specs.declared.fault.Reason.TheVariants.{OpcodeBaseZero, Sta
 use Rattle.lnt_wire.specs.declared.fault.Reason.TheVariants.{LebTooLarge, ExtendedLength, Memory}
 use Rattle.lnt_wire.specs.declared.put.EncodeFault.{EncodeFault}
 use Rattle.lnt_wire.specs.declared.put.EncodeFault.TheVariants.{TooLarge, Memory as NoRoom}
-use Rattle.lnt_wire.specs.declared.stop.Stop.{Stop}
-use Rattle.lnt_wire.specs.declared.stop.Stop.TheVariants as stop
 
 -- a number by its hexadecimal digits, in lower case and without leading zeros
 abbrev pub hexadecimal : ℕ → List ℕ
@@ -42,9 +40,3 @@ fault_text fault = codes "malformed at " ++ hexadecimal fault.place ++ codes ": 
 abbrev pub encode_fault_text : EncodeFault → List ℕ
 encode_fault_text TooLarge = codes "too large for the 32-bit format"
 encode_fault_text NoRoom = codes "out of memory"
-
--- why the work on the bytes of a source was stopped
-abbrev pub stop_text : Stop → List ℕ
-stop_text stop.Memory = codes "out of memory"
-stop_text stop.Read = codes "cannot read"
-stop_text stop.TooLong = codes "too long"

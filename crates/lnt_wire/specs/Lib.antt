@@ -1,7 +1,6 @@
 pub mod At
 pub mod Borrowed
 pub mod Bytes
-pub mod CountedSources
 pub mod FaultTexts
 pub mod FirstValues
 pub mod FormBytes
@@ -15,7 +14,6 @@ pub mod Laws
 pub mod Leb128
 pub mod Numbers
 pub mod Prefixes
-pub mod Pulling
 pub mod Reading
 pub mod ShortLebs
 pub mod Skipping

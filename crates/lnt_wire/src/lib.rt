@@ -1,12 +1,10 @@
-//! The fields of DWARF 5 line number sections as bytes: numbers, values in a form, and frames; and where bytes come from.
+//! The fields of DWARF 5 line number sections as bytes: numbers, values in a form, and frames.
 //!
 //! A [`Cursor`] reads one field after another, and moves past exactly the bytes that spell it; `put_u16`, `put_form` and
-//! their like write one. [`frames`] parts a section into its units by their initial lengths and versions alone. A
-//! [`Source`] gives the bytes of a file some at a time, and [`read_all`] takes them all. Bytes are refused with a
-//! [`Fault`]: a reason, and the offset in the section of the field at which it holds.
+//! their like write one. [`frames`] parts a section into its units by their initial lengths and versions alone. Bytes
+//! are refused with a [`Fault`]: a reason, and the offset in the section of the field at which it holds.
 #![tactic(auto)]
 
-mod counted;
 mod cursor;
 mod fault;
 mod form;
@@ -17,20 +15,15 @@ pub mod laws;
 mod leb;
 mod number;
 mod put;
-mod source;
-mod stop;
 mod strings;
 mod value;
 mod view;
 
-pub use counted::Counted;
 pub use cursor::Cursor;
 pub use fault::{Fault, Reason};
 pub use form::{Form, FormValue};
 pub use format::{Format, Order};
 pub use frame::{Frame, Framed, frames, take_frame};
 pub use put::{EncodeFault, put_form, put_offset, put_sleb, put_u16, put_u32, put_u64, put_uleb};
-pub use source::{BLOCK, ReadFault, Source, read_all, take_block};
-pub use stop::Stop;
 pub use strings::Strings;
 pub use view::{ValueView, copied};

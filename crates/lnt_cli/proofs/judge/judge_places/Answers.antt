@@ -8,9 +8,9 @@ use Rattle.lnt_cli.proofs.judge.judge_places.Goals as goal
 pub returns-clause-answer : goal.returns-clause-answer
 returns-clause-answer g c =
     places_of (g.O.Opener.tells c.args.opener.now) c.args.from.now c.args.table.now (g.W.Write.contents c.args.out.now)
-    (g.W.Write.contents c.judge_places_of.new.out) c.in_ok-opened.opened.texts.line.items
-    c.in_ok-opened.opened.texts.general.items _ _ c.judge_places_of.result places_status c.in_ok-opened.ensures.texts
-    c.in_ok-opened.ensures.section_told c.in_ok-opened.ensures.file_told c.judge_places_of.ensures.answer
+    (g.W.Write.contents c.judge_places_of.new.out) c.in_ok-files.files.texts.line.items
+    c.in_ok-files.files.texts.general.items _ _ c.judge_places_of.result places_status c.in_ok-files.ensures.texts
+    c.in_ok-files.ensures.section_told c.in_ok-files.ensures.file_told c.judge_places_of.ensures.answer
 
 pub returns-clause-stopped : goal.returns-clause-stopped
 returns-clause-stopped g c =
@@ -18,5 +18,5 @@ returns-clause-stopped g c =
     let new = g.W.Write.contents c.judge_places_of.new.out in
     of_file_stopped (g.O.Opener.tells c.args.opener.now) c.args.from.now c.args.table.now
     (λ judged text. ArePlacesBegun (options_in c.args.from.now) judged text old new) old new
-    c.in_ok-opened.opened.texts.line.items c.in_ok-opened.opened.texts.general.items _ _ c.judge_places_of.result
-    c.in_ok-opened.ensures.texts c.in_ok-opened.ensures.section_told c.in_ok-opened.ensures.file_told c.judge_places_of.ensures.stopped
+    c.in_ok-files.files.texts.line.items c.in_ok-files.files.texts.general.items _ _ c.judge_places_of.result
+    c.in_ok-files.ensures.texts c.in_ok-files.ensures.section_told c.in_ok-files.ensures.file_told c.judge_places_of.ensures.stopped

@@ -10,7 +10,8 @@ returns-in_err-index-clause-stopped g c =
     let old = g.W.Write.contents c.args.out.now in
     let new = g.W.Write.contents c.judge.new.out in
     begins_bad
-    (λ judged. IfSome (g.R.Source.remaining c.args.section.now)
-    (λ bytes. IsJudgedIndex c.args.texts.now.line.items c.args.texts.now.general.items (options_in c.args.from.now) bytes judged))
-    (λ judged. ArePlacesBegun (options_in c.args.from.now) judged (g.T.Source.remaining c.args.records.now) old new) old new
+    (λ judged. IfSome (g.S.Source.remaining c.args.files.now.section)
+    (λ bytes. IsJudgedIndex c.args.files.now.texts.line.items c.args.files.now.texts.general.items
+    (options_in c.args.from.now) bytes judged))
+    (λ judged. ArePlacesBegun (options_in c.args.from.now) judged (g.F.Source.remaining c.args.files.now.file) old new) old new
     c.from_residual.result (λ reason front. front) c.in_err-index.ensures.stopped

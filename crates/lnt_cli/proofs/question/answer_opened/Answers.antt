@@ -7,6 +7,7 @@ use Rattle.lnt_cli.proofs.question.answer_opened.Goals as goal
 pub returns-in_err-index-clause-stopped : goal.returns-in_err-index-clause-stopped
 returns-in_err-index-clause-stopped g c =
     begins_line (g.O.Opener.tells c.args.opener.now) (options_in c.args.from.now) c.args.question.now
-    (λ judged. IfSome (g.R.Source.remaining c.args.section.now)
-    (λ bytes. IsJudgedIndex c.args.texts.now.line.items c.args.texts.now.general.items (options_in c.args.from.now) bytes judged))
+    (λ judged. IfSome (g.S.Source.remaining c.args.files.now.section)
+    (λ bytes. IsJudgedIndex c.args.files.now.texts.line.items c.args.files.now.texts.general.items
+    (options_in c.args.from.now) bytes judged))
     (g.W.Write.contents c.args.out.now) (g.W.Write.contents c.judge.new.out) c.from_residual.result c.in_err-index.ensures.stopped

@@ -2,7 +2,7 @@ use Rattle.std.proofs.Common.{◌≡◌, ℕ, ◌+◌, List, Some, [], ◌∷◌
 use Rattle.std.proofs.lemmas.Bool.{eqb-true}
 use Rattle.std.proofs.lemmas.Result.{err_from_is_err_and}
 use Rattle.lnt_wire.specs.declared.fault.Fault.{Fault}
-use Rattle.lnt_wire.specs.Pulling.{Pulls}
+use Rattle.lnt_input.specs.Pulling.{Pulls}
 use Rattle.lnt_stream.specs.Units.{BufferedUnit, SectionEndsBy}
 use Rattle.lnt_stream.proofs.ReaderLemmas.{section_ends, ended_short, no_fault, unit_exits}
 use Rattle.lnt_stream.proofs.reader.take_unit.Goals as goal

@@ -1,5 +1,5 @@
 use Rattle.std.proofs.Common.{◌≡◌, ◌+◌, length}
-use Rattle.lnt_wire.specs.Pulling.{Pulls}
+use Rattle.lnt_input.specs.Pulling.{Pulls}
 use Rattle.lnt_stream.specs.Sizes.{IsLeastSize}
 use Rattle.lnt_stream.proofs.taking.take_unit_bytes.Given as goal
 

@@ -1,6 +1,6 @@
 use Rattle.std.proofs.Common.{◌≡◌, ◌+◌, ◌-◌, ◌≤◌, length, take}
-use Rattle.lnt_wire.specs.Pulling.{Pulls}
-use Rattle.lnt_wire.proofs.source.fill.Given as goal
+use Rattle.lnt_input.specs.Pulling.{Pulls}
+use Rattle.lnt_input.proofs.source.fill.Given as goal
 
 abbrev pub invariant-loop-filled : goal.invariant-loop-filled
 invariant-loop-filled g l = record {

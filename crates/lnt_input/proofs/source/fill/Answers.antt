@@ -1,7 +1,7 @@
 use Rattle.std.proofs.Common.{arith}
 use Rattle.std.proofs.lemmas.Grind.{common_steps}
-use Rattle.lnt_wire.proofs.PullLaws.{pulls_filled}
-use Rattle.lnt_wire.proofs.source.fill.Goals as goal
+use Rattle.lnt_input.proofs.PullLaws.{pulls_filled}
+use Rattle.lnt_input.proofs.source.fill.Goals as goal
 
 pub loop-filled-preserved : goal.loop-filled-preserved
 loop-filled-preserved g c = record {

@@ -1,6 +1,6 @@
 //! Why the work on the bytes of a source was stopped.
 ghost use Rattle.std.specs.Prelude.{Some};
-ghost use Rattle.lnt_wire.specs.FaultTexts.{stop_text};
+ghost use Rattle.lnt_input.specs.FaultTexts.{stop_text};
 
 use std::error::Error;
 use std::fmt;

@@ -3,7 +3,7 @@ use Rattle.std.proofs.Common.{◌≡◌, ℕ, ◌+◌, ◌≤◌, List, [], ◌+
 use Rattle.std.proofs.Common.{append-nil, refl, arith, subst}
 use Rattle.std.proofs.Math.Seq.{take-append-add, take-append_seam, take-take}
 use Rattle.std.proofs.lemmas.List.{length-append, take-append-le, length-take-le, take_all}
-use Rattle.lnt_wire.specs.Pulling.{Pulls, GivesMore, HasMoreThan}
+use Rattle.lnt_input.specs.Pulling.{Pulls, GivesMore, HasMoreThan}
 
 -- nothing was pulled yet
 pub pulls_none : (a : Option (List ℕ)) → Pulls a a []

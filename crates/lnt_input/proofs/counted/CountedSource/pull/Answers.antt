@@ -1,6 +1,6 @@
 use Rattle.std.proofs.Common.{rules, arith}
 use Rattle.std.proofs.lemmas.Grind.{common_steps}
-use Rattle.lnt_wire.proofs.counted.CountedSource.pull.Goals as goal
+use Rattle.lnt_input.proofs.counted.CountedSource.pull.Goals as goal
 
 pub returns-in_default-clause-end : goal.returns-in_default-clause-end
 returns-in_default-clause-end c = search rules

@@ -1,7 +1,7 @@
 use Rattle.std.proofs.Common.{◌≡◌, ◌+◌, ◌-◌, ◌≤◌, ◌++◌, take, length, arith, vec_len, replicate, rules}
 use Rattle.std.proofs.lemmas.Grind.{common_steps}
-use Rattle.lnt_wire.proofs.PullLaws.{gives_written, front_kept}
-use Rattle.lnt_wire.proofs.source.take_block.Goals as goal
+use Rattle.lnt_input.proofs.PullLaws.{gives_written, front_kept}
+use Rattle.lnt_input.proofs.source.take_block.Goals as goal
 
 pub returns-clause-bytes : goal.returns-clause-bytes
 returns-clause-bytes g c =

@@ -2,8 +2,8 @@
 use Rattle.std.specs.Prelude.{◌≡◌, Bool, ℕ, List, Option, Some, None, is_some, true, option_to_list}
 use Rattle.std.specs.Io.KnownBytes.{prepend_known}
 use Rattle.std.proofs.Common.{arith}
-use Rattle.lnt_wire.specs.declared.counted.Counted.{Counted}
-use Rattle.lnt_wire.specs.Pulling.{HasMoreThan}
+use Rattle.lnt_input.specs.declared.counted.Counted.{Counted}
+use Rattle.lnt_input.specs.Pulling.{HasMoreThan}
 
 -- The byte after the limit, where it was found, and then what the reader has to give.
 abbrev pub counted_remaining : {R : Type 0} → (R → Option (List ℕ)) → Counted R → Option (List ℕ)

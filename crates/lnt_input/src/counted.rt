@@ -42,7 +42,7 @@ impl<R: Read> Counted<R> {
 }
 
 impl<R: Read> Source for Counted<R> {
-    ghost use Rattle.lnt_wire.specs.CountedSources.{counted_failures, counted_left, counted_more, counted_remaining, counted_too_long};
+    ghost use Rattle.lnt_input.specs.CountedSources.{counted_failures, counted_left, counted_more, counted_remaining, counted_too_long};
 
     ghost remaining = { counted_remaining R.remaining };
 

@@ -1,7 +1,7 @@
 //! Where the bytes of a file come from, some at a time, up to a limit.
 ghost use Rattle.std.specs.Prelude.{◌≡◌, ◌≢◌, ℕ, ◌+◌, ◌-◌, ◌^◌, ◌<◌, ◌≤◌, length, take};
 ghost use Rattle.std.specs.Prelude.{IfOk, IsErrOf, IfSome, IsTrue, true, Bool, Option, List, MatchResult, Some, codes};
-ghost use Rattle.lnt_wire.specs.Pulling.{Pulls, GivesMore, IsAtEnd, HasMoreThan};
+ghost use Rattle.lnt_input.specs.Pulling.{Pulls, GivesMore, IsAtEnd, HasMoreThan};
 
 use crate::stop::Stop;
 use std::alloc::Global;

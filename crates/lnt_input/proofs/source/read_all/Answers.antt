@@ -1,7 +1,7 @@
 use Rattle.std.proofs.Common.{rules, arith}
 use Rattle.std.proofs.lemmas.Grind.{common_steps}
-use Rattle.lnt_wire.proofs.PullLaws.{pulling}
-use Rattle.lnt_wire.proofs.source.read_all.Goals as goal
+use Rattle.lnt_input.proofs.PullLaws.{pulling}
+use Rattle.lnt_input.proofs.source.read_all.Goals as goal
 
 pub returns-then-too_long-clause-more : goal.returns-then-too_long-clause-more
 returns-then-too_long-clause-more g c = search (rules, pulling)

@@ -1,0 +1,3 @@
+pub mod CountedSources
+pub mod FaultTexts
+pub mod Pulling
