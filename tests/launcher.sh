@@ -44,7 +44,7 @@ plainly() {
   return $status
 }
 # The program and the crates below it: all but those of tests and of the library.
-all=$(cd crates && printf '%s\n' */ | grep -cvE '^lnt_(ffi|samples)/|_tests/$')
+all=$(cd crates && printf '%s\n' */ | grep -cvE '^lnt_(ffi|tests)/')
 section=$top/examples/hello.debug_line
 proving=$'linetab: proving and building the program, which takes some minutes the first time\n'
 

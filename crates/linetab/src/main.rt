@@ -2,18 +2,15 @@
 #![tactic(auto)]
 
 mod exit;
-mod output;
-mod system;
 
 use exit::exit_code;
 use lnt_cli::{CliStop, Status, run};
-use output::Output;
+use lnt_system::{Output, System, hold_standard_descriptors};
 use std::alloc::Global;
 use std::cell::Cell;
 use std::env;
 use std::io::{self, BufWriter, ErrorKind, Write};
 use std::process::ExitCode;
-use system::{System, hold_standard_descriptors};
 
 fn main(rt: HostRuntime) -> ExitCode {
     let _held = hold_standard_descriptors(&rt);
@@ -48,7 +45,11 @@ fn run_words(
 ) -> Result<Status, CliStop> {
     let alloc = rt.alloc();
     let words = words_of(rt, alloc)?;
-    let Ok(mut out) = BufWriter::new(alloc, Output::new(io::writer(rt), is_unread)) else {
+    let output = Output {
+        writer: io::writer(rt),
+        is_unread,
+    };
+    let Ok(mut out) = BufWriter::new(alloc, output) else {
         return Err(CliStop::Memory);
     };
     let reason = Cell::new(None);

@@ -11,7 +11,7 @@ use Rattle.lnt_output.proofs.FrontLaws.{front_after, front_all, front_before, fr
 use Rattle.lnt_input.specs.Pulling.{Pulls, IsAtEnd}
 use Rattle.lnt_sources.specs.declared.status.Status.{Status}
 use Rattle.lnt_spans.specs.declared.position.Position.{Position}
-use Rattle.lnt_unit.specs.declared.unit.Parts.{Parts}
+use Rattle.lnt_header.specs.declared.unit_parts.UnitParts.{UnitParts}
 use Rattle.lnt_lines.specs.Indexed.{Indexed, IsIndexOf}
 use Rattle.lnt_answers.specs.AddressBlocks.{IsBlockBegun, IsBlockTold, IsCutAt}
 use Rattle.lnt_answers.specs.AddressLines.{AreAddressesBegun, AreLinesBegun, AreLinesTold, Tells, told_line}
@@ -36,7 +36,7 @@ begun_told index op texts old new s t all = record {
 -- one line
 pub begun_one : (index : Indexed) (op : ℕ) (line : List ℕ) (position : Option Position) (old new : Option (List ℕ))
     → Tells op (line, position)
-    → ((dead : Option ℕ) (skip : Bool) (units : List (ℕ × Parts)) → IsIndexOf dead skip units index
+    → ((dead : Option ℕ) (skip : Bool) (units : List (ℕ × UnitParts)) → IsIndexOf dead skip units index
     → AppendsFront old new (told_line index dead skip units (line, position)))
     → AreLinesBegun index op (line ∷ []) old new
 begun_one index op line position old new tells front = record {

@@ -18,7 +18,7 @@ use Rattle.lnt_input.specs.Pulling.{Pulls, IsAtEnd}
 use Rattle.lnt_sources.specs.declared.status.Status.{Status}
 use Rattle.lnt_sources.specs.declared.status.Status.TheVariants.{Done}
 use Rattle.lnt_spans.specs.declared.position.Position.{Position}
-use Rattle.lnt_unit.specs.declared.unit.Parts.{Parts}
+use Rattle.lnt_header.specs.declared.unit_parts.UnitParts.{UnitParts}
 use Rattle.lnt_lines.specs.Indexed.{Indexed, IsIndexOf}
 use Rattle.lnt_answers.specs.AddressBlocks.{HasNo, IsBlockTold, IsCutAt}
 use Rattle.lnt_answers.specs.AddressLines.{AreAddressesTold, AreLinesTold, Tells, line_status, lines_status, told_line}
@@ -63,7 +63,7 @@ told_none index op old status =
 -- one line
 pub told_one : (index : Indexed) (op : ℕ) (line : List ℕ) (position : Option Position) (old new : Option (List ℕ)) (before after : Status)
     → Tells op (line, position)
-    → ((dead : Option ℕ) (skip : Bool) (units : List (ℕ × Parts)) → IsIndexOf dead skip units index
+    → ((dead : Option ℕ) (skip : Bool) (units : List (ℕ × UnitParts)) → IsIndexOf dead skip units index
     → Appends old new (told_line index dead skip units (line, position)))
     → after ≡ line_status before position → AreLinesTold index op (line ∷ []) old new before after
 told_one index op line position old new before after tells printed status = record {

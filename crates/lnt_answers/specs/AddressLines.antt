@@ -7,7 +7,7 @@ use Rattle.lnt_output.specs.Fronts.{AppendsFront}
 use Rattle.lnt_sources.specs.declared.status.Status.{Status}
 use Rattle.lnt_sources.specs.declared.status.Status.TheVariants.{Done, No}
 use Rattle.lnt_spans.specs.declared.position.Position.{Position}
-use Rattle.lnt_unit.specs.declared.unit.Parts.{Parts}
+use Rattle.lnt_header.specs.declared.unit_parts.UnitParts.{UnitParts}
 use Rattle.lnt_lines.specs.Indexed.{Indexed, IsIndexOf}
 use Rattle.lnt_text.specs.Quotes.{quoted_text}
 use Rattle.lnt_answers.specs.Lines.{TellsPosition, lookup_line}
@@ -18,7 +18,7 @@ Tells op (line, Some position) = TellsPosition op line position
 Tells op (line, None) = (position : Position) → TellsPosition op line position → ⊥
 
 -- what is printed of a line: what is answered at its position; or that it is bad
-abbrev pub told_line : Indexed → Option ℕ → Bool → List (ℕ × Parts) → List ℕ × Option Position → List ℕ
+abbrev pub told_line : Indexed → Option ℕ → Bool → List (ℕ × UnitParts) → List ℕ × Option Position → List ℕ
 told_line index dead skip units (line, Some position) = lookup_line index dead skip units position
 told_line index dead skip units (line, None) = codes "bad " ++ (quoted_text line ++ codes "\n")
 
@@ -39,7 +39,7 @@ pub record AreLinesTold (index : Indexed) (op : ℕ) (texts : List (List ℕ)) (
   pub told : List (List ℕ × Option Position)
   pub lines_are : map (λ line. line.0) told ≡ texts
   pub so : AllByRecursion (Tells op) told
-  pub printed : (dead : Option ℕ) (skip : Bool) (units : List (ℕ × Parts)) → IsIndexOf dead skip units index
+  pub printed : (dead : Option ℕ) (skip : Bool) (units : List (ℕ × UnitParts)) → IsIndexOf dead skip units index
       → Appends old new (flat_map (told_line index dead skip units) told)
   pub status_is : after ≡ lines_status before told
 
@@ -55,7 +55,7 @@ pub record AreLinesBegun (index : Indexed) (op : ℕ) (texts : List (List ℕ)) 
   pub told : List (List ℕ × Option Position)
   pub lines_are : map (λ line. line.0) told ≡ texts
   pub so : AllByRecursion (Tells op) told
-  pub front : (dead : Option ℕ) (skip : Bool) (units : List (ℕ × Parts)) → IsIndexOf dead skip units index
+  pub front : (dead : Option ℕ) (skip : Bool) (units : List (ℕ × UnitParts)) → IsIndexOf dead skip units index
       → AppendsFront old new (flat_map (told_line index dead skip units) told)
 
 -- Where the source of the text told what it had to give (text), this is so of all the text's lines, also of those that weren't read

@@ -7,7 +7,7 @@ use Rattle.lnt_spans.specs.declared.position.Position.{Position}
 use Rattle.lnt_lines.specs.declared.no.No.{No}
 use Rattle.lnt_lines.specs.declared.section.JudgedIndex.{JudgedIndex}
 use Rattle.lnt_lines.specs.declared.section.JudgedIndex.TheVariants.{Good, Bad}
-use Rattle.lnt_unit.specs.declared.unit.Parts.{Parts}
+use Rattle.lnt_header.specs.declared.unit_parts.UnitParts.{UnitParts}
 use Rattle.lnt_output.specs.Fronts.{AppendsFront}
 use Rattle.lnt_sequences.specs.Sequences.{line_answer}
 use Rattle.lnt_lines.specs.Indexed.{file_path_in, Indexed}
@@ -59,7 +59,7 @@ answer_line index position (Some answer) =
     (place_text position answer ++ row_text answer) ++ path_end (file_path_in index answer.unit answer.file)
 
 -- the line of the answer that the kept sequences of these units give at a position
-abbrev pub lookup_line : Indexed → Option ℕ → Bool → List (ℕ × Parts) → Position → List ℕ
+abbrev pub lookup_line : Indexed → Option ℕ → Bool → List (ℕ × UnitParts) → Position → List ℕ
 lookup_line index dead skip units position = answer_line index position (line_answer dead skip units position)
 
 -- The position in a line whose first comma is at this index: an address before the comma, and an operation index after it.

@@ -2,7 +2,7 @@
 ghost use Rattle.std.specs.Prelude.{◌≡◌, Bool, ℕ, List, ◌++◌, Option, IfErr, IfOk, IsSome, OnErr, OnOk, Some};
 ghost use Rattle.std.specs.Io.KnownBytes.{Appends};
 ghost use Rattle.lnt_sources.specs.declared.status.Status.TheVariants.{Done};
-ghost use Rattle.lnt_unit.specs.declared.unit.Parts.{Parts};
+ghost use Rattle.lnt_header.specs.declared.unit_parts.UnitParts.{UnitParts};
 ghost use Rattle.lnt_lines.specs.Indexed.{IsIndexOf, file_path_in};
 ghost use Rattle.lnt_output.specs.Fronts.{AppendsFront};
 ghost use Rattle.lnt_sources.specs.Halts.{IsPrinting};
@@ -31,9 +31,9 @@ pub(crate) fn print_lookup<W: Write>(
 ) -> Result<Status, Halt>
     ensures done { IfOk result (λ status. status ≡ Done) }
     ensures err { IfErr result (λ halt. IsPrinting halt) }
-    ensures line { (dead : Option ℕ) (skip : Bool) (units : List (ℕ × Parts)) → IsIndexOf dead skip units index.now
+    ensures line { (dead : Option ℕ) (skip : Bool) (units : List (ℕ × UnitParts)) → IsIndexOf dead skip units index.now
         → OnOk result (Appends (W.contents out.old) (W.contents out.new) (lookup_line index.now dead skip units position)) }
-    ensures front { (dead : Option ℕ) (skip : Bool) (units : List (ℕ × Parts)) → IsIndexOf dead skip units index.now
+    ensures front { (dead : Option ℕ) (skip : Bool) (units : List (ℕ × UnitParts)) → IsIndexOf dead skip units index.now
         → OnErr result (AppendsFront (W.contents out.old) (W.contents out.new) (lookup_line index.now dead skip units position)) }
 {
     room.clear();
@@ -52,7 +52,7 @@ fn put_lookup<W: Write>(
     position: Position,
     out: &mut W,
 ) -> Result<(), Halt>
-    ensures line { (dead : Option ℕ) (skip : Bool) (units : List (ℕ × Parts)) → IsIndexOf dead skip units index.now
+    ensures line { (dead : Option ℕ) (skip : Bool) (units : List (ℕ × UnitParts)) → IsIndexOf dead skip units index.now
         → OnOk result (Appends (W.contents out.old) (W.contents out.new) (lookup_line index.now dead skip units position)) }
 {
     let Some(answer) = index.lookup(position, &mut Probes::new()) else {
@@ -103,9 +103,9 @@ pub fn print_lookups<W: Write>(
 ) -> Result<Status, Halt>
     ensures done { IfOk result (λ status. status ≡ Done) }
     ensures err { IfErr result (λ halt. IsPrinting halt) }
-    ensures lines { (dead : Option ℕ) (skip : Bool) (units : List (ℕ × Parts)) → IsIndexOf dead skip units index.now
+    ensures lines { (dead : Option ℕ) (skip : Bool) (units : List (ℕ × UnitParts)) → IsIndexOf dead skip units index.now
         → OnOk result (Appends (W.contents out.old) (W.contents out.new) (flat_map (lookup_line index.now dead skip units) positions.now)) }
-    ensures front { (dead : Option ℕ) (skip : Bool) (units : List (ℕ × Parts)) → IsIndexOf dead skip units index.now
+    ensures front { (dead : Option ℕ) (skip : Bool) (units : List (ℕ × UnitParts)) → IsIndexOf dead skip units index.now
         → OnErr result (AppendsFront (W.contents out.old) (W.contents out.new)
         (flat_map (lookup_line index.now dead skip units) positions.now)) }
 {

@@ -16,9 +16,8 @@ use Rattle.lnt_table.specs.AnyVersion.{IsTrueCheck}
 use Rattle.lnt_verdicts.specs.Verdicts.{checked_line}
 use Rattle.lnt_answers.specs.SumLines.{listed_files}
 use Rattle.lnt_answers.proofs.SumLaws.{sums_later}
-use Rattle.lnt_cli.specs.Answered.{AnswersAddresses, AnswersPlaces, AnswersQuestion, AreTextsOf, IsChecked, options_in}
-use Rattle.lnt_cli.specs.Places.{ArePlacesTold}
-use Rattle.lnt_cli.specs.Questions.{AnswersAddressesJudged, AnswersGood, AnswersJudged}
+use Rattle.lnt_cli.specs.Answered.{AnswersQuestion, AreTextsOf, IsChecked, IsOfFile, options_in}
+use Rattle.lnt_cli.specs.Questions.{AnswersGood, AnswersJudged}
 
 -- an answer stays true where more may be told of the files
 good_later : (tells tells' : List ℕ → Option (List ℕ) → Type 0) (options : Options) (question : Question) (index : Indexed)
@@ -61,51 +60,36 @@ question_of tells tells' from question old new line general section (Ok answered
     }
 question_of tells tells' from question old new line general section (Err stop) status_of texts of_section later so = so
 
--- The answer for a judged section and the bytes of a file is the answer for that file: to the lines of a text of positions,
-pub addresses_of : {T E : Type 0} (tells : List ℕ → Option (List ℕ) → Type 0) (from : Judging) (file : List ℕ) (op : ℕ)
-    (old new : Option (List ℕ)) (line general : List ℕ) (section text : Option (List ℕ)) (ended : Result T E) (status_of : T → Status)
+-- What is told of a judged section and of the bytes of a file is told of that file.
+pub told_of_file : (tells : List ℕ → Option (List ℕ) → Type 0) (from : Judging) (file : List ℕ)
+    (IsTold : JudgedIndex → Option (List ℕ) → Type 0) (line general : List ℕ) (section text : Option (List ℕ))
+    → AreTextsOf tells from line general → tells from.section.now section → tells file text
+    → (judged : JudgedIndex) × IfSome section (λ bytes. IsJudgedIndex line general (options_in from) bytes judged) × IsTold judged text
+    → IsOfFile tells from file IsTold
+told_of_file tells from file IsTold line general section text texts of_section of_file so = record {
+  line = line;
+  general = general;
+  texts = texts;
+  section_bytes = section;
+  of_section = of_section;
+  judged = so.0;
+  is_true = so.1;
+  file_bytes = text;
+  of_file = of_file;
+  told = so.2;
+}
+
+-- The answer for a judged section and the bytes of a file is the answer for that file.
+pub of_file_answered : {T E : Type 0} (tells : List ℕ → Option (List ℕ) → Type 0) (from : Judging) (file : List ℕ)
+    (IsTold : T → JudgedIndex → Option (List ℕ) → Type 0) (line general : List ℕ) (section text : Option (List ℕ))
+    (ended : Result T E)
     → AreTextsOf tells from line general → tells from.section.now section → tells file text
     → IfOk ended (λ answered. (judged : JudgedIndex)
-    × IfSome section (λ bytes. IsJudgedIndex line general (options_in from) bytes judged)
-    × AnswersAddressesJudged judged op text old new (status_of answered))
-    → IfOk ended (λ answered. AnswersAddresses tells from file op old new (status_of answered))
-addresses_of tells from file op old new line general section text (Ok answered) status_of texts of_section of_text so =
-    record {
-      line = line;
-      general = general;
-      texts = texts;
-      section_bytes = section;
-      of_section = of_section;
-      judged = so.0;
-      is_true = so.1;
-      text_bytes = text;
-      of_text = of_text;
-      answered = so.2;
-    }
-addresses_of tells from file op old new line general section text (Err stop) status_of texts of_section of_text so = so
-
--- and of the places at which a table answers otherwise.
-pub places_of : {T E : Type 0} (tells : List ℕ → Option (List ℕ) → Type 0) (from : Judging) (table : List ℕ)
-    (old new : Option (List ℕ)) (line general : List ℕ) (section text : Option (List ℕ)) (ended : Result T E) (status_of : T → Status)
-    → AreTextsOf tells from line general → tells from.section.now section → tells table text
-    → IfOk ended (λ places. (judged : JudgedIndex)
-    × IfSome section (λ bytes. IsJudgedIndex line general (options_in from) bytes judged)
-    × ArePlacesTold (options_in from) judged text old new (status_of places))
-    → IfOk ended (λ places. AnswersPlaces tells from table old new (status_of places))
-places_of tells from table old new line general section text (Ok places) status_of texts of_section of_table so =
-    record {
-      line = line;
-      general = general;
-      texts = texts;
-      section_bytes = section;
-      of_section = of_section;
-      judged = so.0;
-      is_true = so.1;
-      table_bytes = text;
-      of_table = of_table;
-      answered = so.2;
-    }
-places_of tells from table old new line general section text (Err stop) status_of texts of_section of_table so = so
+    × IfSome section (λ bytes. IsJudgedIndex line general (options_in from) bytes judged) × IsTold answered judged text)
+    → IfOk ended (λ answered. IsOfFile tells from file (IsTold answered))
+of_file_answered tells from file IsTold line general section text (Ok answered) texts of_section of_file so =
+    told_of_file tells from file (IsTold answered) line general section text texts of_section of_file so
+of_file_answered tells from file IsTold line general section text (Err stop) texts of_section of_file so = so
 
 -- What is true of the bytes of a section and of a table answers the check of their files, once its line is printed.
 pub checked_of : {E : Type 0} (tells : List ℕ → Option (List ℕ) → Type 0) (from : Judging) (table line general : List ℕ)

@@ -6,7 +6,7 @@ use Rattle.std.specs.Io.KnownBytes.{Appends, Keeps, append_known}
 use Rattle.lnt_output.specs.Fronts.{AppendsFront, HasBegun}
 use Rattle.lnt_output.proofs.FrontLaws.{appends_known}
 use Rattle.lnt_sources.specs.Files.{TellsNoMore}
-use Rattle.lnt_unit.specs.declared.unit.Parts.{Parts}
+use Rattle.lnt_header.specs.declared.unit_parts.UnitParts.{UnitParts}
 use Rattle.lnt_lines.specs.declared.no.No.{No}
 use Rattle.lnt_lines.specs.declared.options.Options.{Options}
 use Rattle.lnt_lines.specs.declared.section.JudgedIndex.{JudgedIndex}
@@ -23,8 +23,9 @@ use Rattle.lnt_lines.specs.FaultTexts.{no_text}
 use Rattle.lnt_answers.proofs.SumLaws.{sums_later}
 use Rattle.lnt_verdicts.specs.Stretches.{AreStretchesBegun}
 use Rattle.lnt_verdicts.specs.Verdicts.{checked_line, checked_status}
-use Rattle.lnt_cli.specs.Answered.{AnswersCheck, AreTextsOf, IsChecked, options_in}
-use Rattle.lnt_cli.specs.Stopped.{ArePlacesBegun, BeginsGood, BeginsJudged, BeginsOfFile, BeginsQuestion}
+use Rattle.lnt_cli.specs.Answered.{AnswersCheck, AreTextsOf, IsChecked, IsOfFile, options_in}
+use Rattle.lnt_cli.specs.Stopped.{ArePlacesBegun, BeginsGood, BeginsJudged, BeginsQuestion}
+use Rattle.lnt_cli.proofs.QuestionLemmas.{told_of_file}
 
 -- a front of the line of a check's result, which is the answer once its line is printed
 check_begun : (tells : List ℕ → Option (List ℕ) → Type 0) (from : Judging) (table : List ℕ) (checked : Checked) (old new : Option (List ℕ))
@@ -148,28 +149,17 @@ pub of_file_stopped : {T E : Type 0} (tells : List ℕ → Option (List ℕ) →
     → AreTextsOf tells from line general → tells from.section.now section → tells file text
     → OnErr ended (BeginsOf (λ judged. IfSome section (λ bytes. IsJudgedIndex line general (options_in from) bytes judged))
     (λ judged. HasBegunOf judged text) old new)
-    → OnErr ended (Keeps old new ⊎ BeginsOfFile tells from file HasBegunOf)
+    → OnErr ended (Keeps old new ⊎ IsOfFile tells from file HasBegunOf)
 of_file_stopped tells from file HasBegunOf old new line general section text (Ok answered) texts of_section of_text begun = tt
 of_file_stopped tells from file HasBegunOf old new line general section text (Err stop) texts of_section of_text (inl kept) = inl kept
 of_file_stopped tells from file HasBegunOf old new line general section text (Err stop) texts of_section of_text (inr begun) =
-    inr (record {
-      line = line;
-      general = general;
-      texts = texts;
-      section_bytes = section;
-      of_section = of_section;
-      judged = begun.0;
-      is_true = begun.1;
-      file_bytes = text;
-      of_file = of_text;
-      begun = begun.2;
-    })
+    inr (told_of_file tells from file HasBegunOf line general section text texts of_section of_text begun)
 
 -- ---- all places
 
 -- a front of the places at which a table answers otherwise than the units that an index was made of, whatever these are
 abbrev pub BeginsStretches : Indexed → Option (List ℕ) → Option (List ℕ) → Option (List ℕ) → Type 0
-BeginsStretches index table old new = Keeps old new ⊎ ((dead : Option ℕ) (skip : Bool) (units : List (ℕ × Parts))
+BeginsStretches index table old new = Keeps old new ⊎ ((dead : Option ℕ) (skip : Bool) (units : List (ℕ × UnitParts))
     → IsIndexOf dead skip units index → IfSome table (λ text. AreStretchesBegun index dead skip units text old new))
 
 -- The printing of the places stopped the run.

@@ -73,10 +73,10 @@ pub record AnswersQuestion (tells : List ℕ → Option (List ℕ) → Type 0) (
   pub is_true : IfSome section_bytes (λ section. IsJudgedIndex line general (options_in from) section judged)
   pub answered : AnswersJudged tells (options_in from) question judged old new status
 
--- The judgement of the section in the named file is true, and the writer has gained the answers to the positions in the lines
--- of the file of this name.
-pub record AnswersAddresses (tells : List ℕ → Option (List ℕ) → Type 0) (from : Judging) (file : List ℕ) (op : ℕ)
-    (old new : Option (List ℕ)) (status : Status) : Type 0 where
+-- The judgement of the section in the named file is true, and what is told of it and of the bytes of another file is so.
+--     IsTold    what is told, of a judgement and the other file's bytes
+pub record IsOfFile (tells : List ℕ → Option (List ℕ) → Type 0) (from : Judging) (file : List ℕ)
+    (IsTold : JudgedIndex → Option (List ℕ) → Type 0) : Type 0 where
   pub line : List ℕ
   pub general : List ℕ
   pub texts : AreTextsOf tells from line general
@@ -84,24 +84,21 @@ pub record AnswersAddresses (tells : List ℕ → Option (List ℕ) → Type 0) 
   pub of_section : tells from.section.now section_bytes
   pub judged : JudgedIndex
   pub is_true : IfSome section_bytes (λ section. IsJudgedIndex line general (options_in from) section judged)
-  pub text_bytes : Option (List ℕ)
-  pub of_text : tells file text_bytes
-  pub answered : AnswersAddressesJudged judged op text_bytes old new status
+  pub file_bytes : Option (List ℕ)
+  pub of_file : tells file file_bytes
+  pub told : IsTold judged file_bytes
 
--- The judgement of the section in the named file is true, and the writer has gained the lines of the places at which the table
--- in the file of this name answers otherwise.
-pub record AnswersPlaces (tells : List ℕ → Option (List ℕ) → Type 0) (from : Judging) (table : List ℕ) (old new : Option (List ℕ))
-    (status : Status) : Type 0 where
-  pub line : List ℕ
-  pub general : List ℕ
-  pub texts : AreTextsOf tells from line general
-  pub section_bytes : Option (List ℕ)
-  pub of_section : tells from.section.now section_bytes
-  pub judged : JudgedIndex
-  pub is_true : IfSome section_bytes (λ section. IsJudgedIndex line general (options_in from) section judged)
-  pub table_bytes : Option (List ℕ)
-  pub of_table : tells table table_bytes
-  pub answered : ArePlacesTold (options_in from) judged table_bytes old new status
+-- The writer has gained the answers to the positions in the lines of the file of this name, or why the section isn't good.
+abbrev pub AnswersAddresses : (List ℕ → Option (List ℕ) → Type 0) → Judging → List ℕ → ℕ → Option (List ℕ) → Option (List ℕ) → Status
+    → Type 0
+AnswersAddresses tells from file op old new status =
+    IsOfFile tells from file (λ judged text. AnswersAddressesJudged judged op text old new status)
+
+-- The writer has gained the lines of the places at which the table in the file of this name answers otherwise, or why the section
+-- isn't good.
+abbrev pub AnswersPlaces : (List ℕ → Option (List ℕ) → Type 0) → Judging → List ℕ → Option (List ℕ) → Option (List ℕ) → Status → Type 0
+AnswersPlaces tells from table old new status =
+    IsOfFile tells from table (λ judged text. ArePlacesTold (options_in from) judged text old new status)
 
 -- ---- sections that are read
 

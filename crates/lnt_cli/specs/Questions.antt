@@ -6,7 +6,7 @@ use Rattle.std.specs.List.{flat_map}
 use Rattle.std.specs.Io.KnownBytes.{Appends}
 use Rattle.lnt_sources.specs.declared.status.Status.{Status}
 use Rattle.lnt_sources.specs.declared.status.Status.TheVariants as ending
-use Rattle.lnt_unit.specs.declared.unit.Parts.{Parts}
+use Rattle.lnt_header.specs.declared.unit_parts.UnitParts.{UnitParts}
 use Rattle.lnt_spans.specs.declared.answer.Version.{Version}
 use Rattle.lnt_spans.specs.declared.position.Position.{Position}
 use Rattle.lnt_lines.specs.declared.no.No.{No}
@@ -28,8 +28,8 @@ use Rattle.lnt_lines.specs.FaultTexts.{no_text}
 use Rattle.lnt_verdicts.specs.PathTables.{IsPrintedTable}
 
 -- It holds for all units that the index may have been made of, with these options.
-abbrev pub ForUnitsOf : Options → Indexed → (List (ℕ × Parts) → Type 0) → Type 0
-ForUnitsOf options index IsSo = (units : List (ℕ × Parts)) → IsIndexOf options.dead options.skip_copies units index → IsSo units
+abbrev pub ForUnitsOf : Options → Indexed → (List (ℕ × UnitParts) → Type 0) → Type 0
+ForUnitsOf options index IsSo = (units : List (ℕ × UnitParts)) → IsIndexOf options.dead options.skip_copies units index → IsSo units
 
 -- The line of the units' answer at each of these positions was printed, and nothing else.
 abbrev pub AreLookupsTold : Options → Indexed → List Position → Option (List ℕ) → Option (List ℕ) → Type 0

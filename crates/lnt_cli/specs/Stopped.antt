@@ -28,7 +28,7 @@ use Rattle.lnt_answers.specs.SumLines.{AreSumsTold, listed_files}
 use Rattle.lnt_lines.specs.FaultTexts.{no_text}
 use Rattle.lnt_verdicts.specs.PathTables.{BeginsPrintedTable}
 use Rattle.lnt_verdicts.specs.Stretches.{AreStretchesBegun}
-use Rattle.lnt_cli.specs.Answered.{AnswersCheck, AreTextsOf, options_in}
+use Rattle.lnt_cli.specs.Answered.{AnswersCheck, AreTextsOf, IsOfFile, options_in}
 use Rattle.lnt_cli.specs.Questions.{ForUnitsOf}
 use Rattle.lnt_cli.specs.Readings.{BeginsReading}
 
@@ -81,29 +81,13 @@ ArePlacesBegun options (Good index) table old new = ForUnitsOf options index (λ
     (λ text. AreStretchesBegun index options.dead options.skip_copies units text old new))
 ArePlacesBegun options (Bad reason) table old new = AppendsFront old new (no_text reason ++ codes "\n")
 
--- The judgement of the section in the named file is true, and a part of the answer was written for it and for the bytes of
--- another file.
---     HasBegunOf    the part that was written, for a judgement and the other file's bytes
-pub record BeginsOfFile (tells : List ℕ → Option (List ℕ) → Type 0) (from : Judging) (file : List ℕ)
-    (HasBegunOf : JudgedIndex → Option (List ℕ) → Type 0) : Type 0 where
-  pub line : List ℕ
-  pub general : List ℕ
-  pub texts : AreTextsOf tells from line general
-  pub section_bytes : Option (List ℕ)
-  pub of_section : tells from.section.now section_bytes
-  pub judged : JudgedIndex
-  pub is_true : IfSome section_bytes (λ section. IsJudgedIndex line general (options_in from) section judged)
-  pub file_bytes : Option (List ℕ)
-  pub of_file : tells file file_bytes
-  pub begun : HasBegunOf judged file_bytes
-
 -- The writer has gained a front of the answers to all lines of the file of this name, also to those that weren't read yet.
 abbrev pub BeginsAddresses : (List ℕ → Option (List ℕ) → Type 0) → Judging → List ℕ → ℕ → Option (List ℕ) → Option (List ℕ) → Type 0
-BeginsAddresses tells from file op old new = BeginsOfFile tells from file (λ judged text. BeginsAddressesJudged judged op text old new)
+BeginsAddresses tells from file op old new = IsOfFile tells from file (λ judged text. BeginsAddressesJudged judged op text old new)
 
 -- The writer has gained a front of the lines of all places at which the table in the file of this name answers otherwise.
 abbrev pub BeginsPlaces : (List ℕ → Option (List ℕ) → Type 0) → Judging → List ℕ → Option (List ℕ) → Option (List ℕ) → Type 0
-BeginsPlaces tells from table old new = BeginsOfFile tells from table (λ judged text. ArePlacesBegun (options_in from) judged text old new)
+BeginsPlaces tells from table old new = IsOfFile tells from table (λ judged text. ArePlacesBegun (options_in from) judged text old new)
 
 -- ---- sections that are read
 

@@ -16,26 +16,27 @@ use Rattle.lnt_sources.specs.declared.status.Status.{Status}
 use Rattle.lnt_sources.specs.declared.status.Status.TheVariants.{No}
 use Rattle.lnt_unit_encode.specs.ConvertedUnits.{Converts}
 use Rattle.lnt_unit_encode.specs.Stepping.{ConvertedTo}
-use Rattle.lnt_unit.specs.Converting.{unit_in_format, units_in_format, IsConverted}
+use Rattle.lnt_header.specs.Conversion.{unit_in_format}
+use Rattle.lnt_unit.specs.Converting.{units_in_format, IsConverted}
 use Rattle.lnt_unit_encode.specs.ConvertFaults.{IsConvertFault}
 use Rattle.lnt_unit_encode.proofs.ConvertedLaws.{whole_converted}
 use Rattle.lnt_unit.proofs.UnitLaws.{one_spelling, unit_is_some}
 use Rattle.lnt_unit.specs.UnitBytes.{SectionBytes, UnitBytesIn, UnitsFrom}
 use Rattle.lnt_unit_encode.specs.declared.convert.ConvertFault.{ConvertFault}
 use Rattle.lnt_unit_encode.specs.declared.convert.ConvertFault.TheVariants.{Malformed, Memory, TooLarge}
-use Rattle.lnt_unit.specs.declared.unit.Parts.{Parts}
+use Rattle.lnt_header.specs.declared.unit_parts.UnitParts.{UnitParts}
 use Rattle.lnt_dump.specs.Printed.{IsConversionBegun, refusal_text}
 use Rattle.lnt_dump.specs.Stepping.{IsFrontIn}
 use Rattle.lnt_dump.proofs.Sections.{PrintedTo}
 
 -- ---- the rest of a section
 
-same_placed : (u v : ℕ × Parts) → u.0 ≡ v.0 → u.1 ≡ v.1 → u ≡ v
+same_placed : (u v : ℕ × UnitParts) → u.0 ≡ v.0 → u.1 ≡ v.1 → u ≡ v
 same_placed (m, x) (n, y) places parts = cc (places, parts)
 
 -- where a section begins with the bytes of units, its units begin with these
-units_begin : (order : Order) (offset : ℕ) (us vs : List (ℕ × Parts)) (front rest whole : List ℕ) → UnitsFrom order offset us front
-    → UnitsFrom order offset vs whole → whole ≡ front ++ rest → (more : List (ℕ × Parts)) × (vs ≡ us ++ more)
+units_begin : (order : Order) (offset : ℕ) (us vs : List (ℕ × UnitParts)) (front rest whole : List ℕ) → UnitsFrom order offset us front
+    → UnitsFrom order offset vs whole → whole ≡ front ++ rest → (more : List (ℕ × UnitParts)) × (vs ≡ us ++ more)
 units_begin order offset [] vs front rest whole p q e = (vs, refl)
 units_begin order offset (u ∷ us) [] front rest whole p q e =
     absurd (omega (
@@ -82,24 +83,24 @@ has_rest : (order : Order) (section : List ℕ) (format : Format) (to : Order) (
     → ConvertedTo order section format to at bytes → Converts order section format to → HasRest order section format to bytes
 has_rest order section format to at bytes p c =
     let whole = c.converted in
-    let IsPut : List Parts → List ℕ → Type 0 = λ (us : List Parts) (z : List ℕ). Each (IsShortest (UnitBytesIn to)) us z in
+    let IsPut : List UnitParts → List ℕ → Type 0 = λ (us : List UnitParts) (z : List ℕ). Each (IsShortest (UnitBytesIn to)) us z in
     let found = units_begin order 0 p.units whole.units p.front at.rest section p.sound whole.sound p.whole in
     let units = p.units ++ found.0 in
-    let sound : SectionBytes order units section = subst (λ (us : List (ℕ × Parts)). SectionBytes order us section) found.1 whole.sound in
+    let sound : SectionBytes order units section = subst (λ (us : List (ℕ × UnitParts)). SectionBytes order us section) found.1 whole.sound in
     let first = units_in_format p.units format to in
     let second = units_in_format found.0 format to in
     let parts : units_in_format units format to ≡ first ++ second =
-    map-append (λ (unit : ℕ × Parts). unit_in_format unit.1 format to) p.units found.0 in
+    map-append (λ (unit : ℕ × UnitParts). unit_in_format unit.1 format to) p.units found.0 in
     let each : IsPut (first ++ second) c.bytes =
-    subst (λ (us : List Parts). IsPut us c.bytes) parts
-    (subst (λ (us : List (ℕ × Parts)). IsPut (units_in_format us format to) c.bytes) found.1 whole.shortest) in
+    subst (λ (us : List UnitParts). IsPut us c.bytes) parts
+    (subst (λ (us : List (ℕ × UnitParts)). IsPut (units_in_format us format to) c.bytes) found.1 whole.shortest) in
     let later = each_rest (IsShortest (UnitBytesIn to)) first second c.bytes each in
     let all : IsPut (first ++ second) (bytes ++ later.0) =
     each_join (IsShortest (UnitBytesIn to)) first second bytes later.0 p.put later.1 in
     record {
       more = later.0;
       converted = whole_converted order section format to units (bytes ++ later.0) sound
-          (subst (λ (us : List Parts). IsPut us (bytes ++ later.0)) (sym parts) all);
+          (subst (λ (us : List UnitParts). IsPut us (bytes ++ later.0)) (sym parts) all);
     }
 
 -- ---- a section that is printed

@@ -1,7 +1,7 @@
 -- What C is told by each call.
 use Rattle.std.specs.Prelude.{◌≡◌, ◌≤◌, ℕ, Bool, true, false, if◌then◌else◌, Some, None, List, length, map, take}
 use Rattle.std.specs.List.Sorted.{IsPermutation}
-use Rattle.lnt_unit.specs.declared.unit.Parts.{Parts}
+use Rattle.lnt_header.specs.declared.unit_parts.UnitParts.{UnitParts}
 use Rattle.lnt_sequences.specs.RowSpans.{spans_of}
 use Rattle.lnt_sequences.specs.Sequences.{kept_sequences, line_answer}
 use Rattle.lnt_spans.specs.declared.answer.Version.{Version}
@@ -44,7 +44,7 @@ pub data IsRefused (section : FlatSection) (told : FlatVerdict) : Type 0 where
 
 -- The section is good. These are the spans of its kept sequences, each once, in order, and they answer as its rows do.
 pub record AreSpansOf (section : FlatSection) (spans : List Span) : Type 0 where
-  pub units : List (ℕ × Parts)
+  pub units : List (ℕ × UnitParts)
   pub good : IsGood section.line_str.now section.general.now (options_of section) section.line.now units
   pub spans_are : IsPermutation (spans_of (kept_sequences (options_of section).dead section.skip_copies units)) spans
   pub in_order : AreInOrder spans
@@ -56,7 +56,7 @@ IsIndexOfFlat section index = IsIndexOfSection section.line_str.now section.gene
 
 -- The section is good, and the bytes are the table of its units.
 pub record IsTableOfFlat (section : FlatSection) (version : Version) (bytes : List ℕ) : Type 0 where
-  pub units : List (ℕ × Parts)
+  pub units : List (ℕ × UnitParts)
   pub good : IsGood section.line_str.now section.general.now (options_of section) section.line.now units
   pub table : IsTableOfUnits version (options_of section).dead section.skip_copies units bytes
 

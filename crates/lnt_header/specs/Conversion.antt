@@ -1,8 +1,13 @@
--- A header in another format and byte order.
+-- A header and a unit in another format and byte order.
 use Rattle.lnt_wire.specs.declared.format.Format.{Format}
 use Rattle.lnt_wire.specs.declared.format.Order.{Order}
 use Rattle.lnt_header.specs.declared.header.HeaderParts.{HeaderParts}
+use Rattle.lnt_header.specs.declared.unit_parts.UnitParts.{UnitParts}
 
 -- the same header in this format and order: these two are changed, and nothing else
 abbrev pub in_format : HeaderParts → Format → Order → HeaderParts
 in_format h format order = record h { format = format; order = order }
+
+-- the same unit in this format and order: its header is, and nothing else is changed
+abbrev pub unit_in_format : UnitParts → Format → Order → UnitParts
+unit_in_format unit format order = record unit { header = in_format unit.header format order }

@@ -8,7 +8,8 @@ use Rattle.lnt_wire.specs.declared.form.FormValue.{FormValue}
 use Rattle.lnt_wire.specs.FirstValues.{first_value, first_size}
 use Rattle.lnt_wire.proofs.LengthLaws.{same_rest}
 use Rattle.lnt_wire.proofs.FirstValueLaws.{IsFound, value_found}
-use Rattle.lnt_header_bytes.specs.Borrowed.{first_values, first_values_size, first_entries, without_entries}
+use Rattle.lnt_header.specs.HeaderNumbers.{without_entries}
+use Rattle.lnt_header_bytes.specs.Borrowed.{first_values, first_values_size, first_entries}
 use Rattle.lnt_header.specs.declared.header.Entry.{Entry}
 use Rattle.lnt_header.specs.declared.header.Pair.{Pair}
 use Rattle.lnt_header.specs.declared.header.HeaderParts.{HeaderParts}

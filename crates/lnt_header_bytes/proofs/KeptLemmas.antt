@@ -1,6 +1,6 @@
 -- Headers that share their numbers and formats.
 use Rattle.std.proofs.Common.{◌≡◌, ◌∙◌, sym}
-use Rattle.lnt_header_bytes.specs.Borrowed.{without_entries}
+use Rattle.lnt_header.specs.HeaderNumbers.{without_entries}
 use Rattle.lnt_header_bytes.specs.Stepping.{HasSameForm, HasSameNumbers}
 use Rattle.lnt_header.specs.declared.header.HeaderParts.{HeaderParts}
 

@@ -10,7 +10,8 @@ use Rattle.lnt_wire.specs.declared.format.Order.{Order}
 use Rattle.lnt_header.specs.declared.header.Entry.{Entry}
 use Rattle.lnt_header.specs.declared.header.Pair.{Pair}
 use Rattle.lnt_header_bytes.specs.declared.read_table.EntryTableRead.{EntryTableRead}
-use Rattle.lnt_header_bytes.specs.Borrowed.{first_entries, BorrowedTable, borrowed_table, AreEntryBytes, without_entries}
+use Rattle.lnt_header.specs.HeaderNumbers.{without_entries}
+use Rattle.lnt_header_bytes.specs.Borrowed.{first_entries, BorrowedTable, borrowed_table, AreEntryBytes}
 use Rattle.lnt_header_bytes.specs.Stepping.{PassesAll}
 use Rattle.lnt_header_bytes.specs.Borrowed.{header_over, directories_over, files_over}
 use Rattle.lnt_header_bytes.specs.Stepping.{IsEntryTableRead, AreFieldsRead, ArePlain, lying_table}

@@ -8,6 +8,7 @@ use Rattle.lnt_wire.specs.FirstValues.{first_value, first_size}
 use Rattle.lnt_header.specs.declared.header.Entry.{Entry}
 use Rattle.lnt_header.specs.declared.header.HeaderParts.{HeaderParts}
 use Rattle.lnt_header.specs.declared.header.Pair.{Pair}
+use Rattle.lnt_header.specs.HeaderNumbers.{without_entries}
 use Rattle.lnt_header.specs.HeaderRules.{IsHeader}
 use Rattle.lnt_header.specs.Joins.{Each}
 use Rattle.lnt_header_bytes.specs.Layouts.{entry_of}
@@ -52,10 +53,6 @@ abbrev pub AreEntryBytes : BorrowedTable → List ℕ → Type 0
 AreEntryBytes table bytes = Each (EntryBytes table.format table.order table.pairs) table.entries bytes
 
 -- ---- headers
-
--- the numbers and the formats of a header alone
-abbrev pub without_entries : HeaderParts → HeaderParts
-without_entries h = record h { directories = []; files = []; extra = [] }
 
 -- the header of these numbers and tables
 abbrev pub borrowed_header : HeaderParts → BorrowedTable → BorrowedTable → List ℕ → HeaderParts

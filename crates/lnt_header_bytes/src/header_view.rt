@@ -1,6 +1,7 @@
 //! Headers whose entries stay where they lie.
 ghost use Rattle.std.specs.Prelude.{◌≡◌, IfOk};
-ghost use Rattle.lnt_header_bytes.specs.Borrowed.{without_entries, header_over, IsHeaderOver, IsTableIn};
+ghost use Rattle.lnt_header.specs.HeaderNumbers.{without_entries};
+ghost use Rattle.lnt_header_bytes.specs.Borrowed.{header_over, IsHeaderOver, IsTableIn};
 ghost use Rattle.lnt_header_bytes.specs.Marks.{AreMarksOver};
 ghost use Rattle.lnt_header.specs.HeaderRules.{IsHeader};
 

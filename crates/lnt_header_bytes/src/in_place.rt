@@ -3,7 +3,7 @@ ghost use Rattle.std.specs.Prelude.{◌≡◌, ◌≢◌, ◌+◌, ◌^◌, ◌<
 ghost use Rattle.lnt_wire.specs.FrameBytes.{frame_bytes, IsPlacedFrame};
 ghost use Rattle.lnt_wire.specs.Reading.{RefusesOr};
 ghost use Rattle.lnt_wire.specs.declared.fault.Reason.TheVariants.{Memory};
-ghost use Rattle.lnt_header_bytes.specs.Borrowed.{without_entries};
+ghost use Rattle.lnt_header.specs.HeaderNumbers.{without_entries};
 ghost use Rattle.lnt_header_bytes.specs.Stepping.{AreFieldsRead, ArePlain};
 ghost use Rattle.lnt_header_bytes.specs.Broken.{BrokenHeader};
 ghost use Rattle.lnt_header_bytes.specs.FieldsBytes.{FieldsBytes};

@@ -1,6 +1,7 @@
 //! Headers that are kept without the bytes of their units.
 ghost use Rattle.std.specs.Prelude.{◌≡◌, ◌++◌, IsTrue, IfOk, IfSome};
-ghost use Rattle.lnt_header_bytes.specs.Borrowed.{without_entries, IsHeaderOver};
+ghost use Rattle.lnt_header.specs.HeaderNumbers.{without_entries};
+ghost use Rattle.lnt_header_bytes.specs.Borrowed.{IsHeaderOver};
 ghost use Rattle.lnt_header_bytes.specs.Stepping.{HasSameForm, HasSameNumbers};
 ghost use Rattle.lnt_header_bytes.specs.Stepping.{AreKept};
 ghost use Rattle.lnt_header.specs.HeaderRules.{IsHeader};

@@ -6,7 +6,7 @@ use Rattle.std.specs.List.{AllByRecursion, AllZip}
 use Rattle.std.specs.List.Sorted.{IsPermutation}
 use Rattle.std.proofs.lemmas.List.Elements.{recursion_from_All}
 use Rattle.std.proofs.lemmas.List.Sorted.{All-permutation}
-use Rattle.lnt_unit.specs.declared.unit.Parts.{Parts}
+use Rattle.lnt_header.specs.declared.unit_parts.UnitParts.{UnitParts}
 use Rattle.lnt_machine.proofs.FittingLaws.{HasNumbers}
 use Rattle.lnt_machine.specs.declared.row.Row.{Row}
 use Rattle.lnt_machine.specs.Walking.{KeptProgram, SequenceWalk, WillGive}
@@ -116,7 +116,7 @@ begun_fewer programs all entries entry (Some walk) is left = rw is (omega (arith
 
 -- ---- all of them
 
-entries_found : (dead : Option ℕ) (skip : Bool) (units : List (ℕ × Parts)) (index : Indexed) (entries : List Extent) (in_turn : List Placed)
+entries_found : (dead : Option ℕ) (skip : Bool) (units : List (ℕ × UnitParts)) (index : Indexed) (entries : List Extent) (in_turn : List Placed)
     → IsIndexOf dead skip units index
     → AllZip (IsExtentOf (kept_sequences dead skip units)) entries in_turn → AllZip (IsEntry index.units index.programs) entries in_turn
 entries_found dead skip units index [] [] is each = tt
@@ -132,12 +132,12 @@ pub all_small : (offsets : List ℕ) → ((k : ℕ) → get_or offsets k 0 < 2 ^
 all_small [] each = tt
 all_small (offset ∷ offsets) each = (each 0, all_small offsets (λ k. each (suc k)))
 
-small_units : (units : List (ℕ × Parts)) → AllByRecursion (λ offset. offset < 2 ^ 64) (map (λ (unit : ℕ × Parts). unit.0) units)
-    → AllByRecursion (λ (unit : ℕ × Parts). unit.0 < 2 ^ 64) units
+small_units : (units : List (ℕ × UnitParts)) → AllByRecursion (λ offset. offset < 2 ^ 64) (map (λ (unit : ℕ × UnitParts). unit.0) units)
+    → AllByRecursion (λ (unit : ℕ × UnitParts). unit.0 < 2 ^ 64) units
 small_units [] small = tt
 small_units (unit ∷ units) small = (small.0, small_units units small.1)
 
-fitting_spans : (dead : Option ℕ) (skip : Bool) (units : List (ℕ × Parts)) (index : Indexed) (spans : List Span)
+fitting_spans : (dead : Option ℕ) (skip : Bool) (units : List (ℕ × UnitParts)) (index : Indexed) (spans : List Span)
     → IsIndexOf dead skip units index → AllByRecursion HasNumbers index.programs
     → AllByRecursion (λ offset. offset < 2 ^ 64) index.units
     → IsPermutation (spans_of (kept_sequences dead skip units)) spans → FitSpans spans
@@ -147,7 +147,7 @@ fitting_spans dead skip units index spans is numbers small same =
     recursion_from_All FitsSpan spans
     (All-permutation FitsSpan all spans same (kept_spans_fit dead skip units index.programs is.programs numbers offsets))
 
-pub gives_all : (dead : Option ℕ) (skip : Bool) (units : List (ℕ × Parts)) (index : Indexed) → EntriesInTurn
+pub gives_all : (dead : Option ℕ) (skip : Bool) (units : List (ℕ × UnitParts)) (index : Indexed) → EntriesInTurn
     → AllByRecursion HasNumbers index.programs → AllByRecursion (λ offset. offset < 2 ^ 64) index.units → IsIndexOf dead skip units index
     → GivesAllOf dead skip units (length index.entries)
     (record { units = index.units; programs = index.programs; entries = index.entries; unit = 0; rows = None; last = None })

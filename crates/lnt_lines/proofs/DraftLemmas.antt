@@ -6,7 +6,7 @@ use Rattle.std.proofs.lemmas.List.Elements.{All-cons, All-nil, All-weaker}
 use Rattle.lnt_wire.specs.declared.format.Order.{Order}
 use Rattle.lnt_header.specs.HeaderRules.{HasHeaderNumbers}
 use Rattle.lnt_stream.specs.Units.{BufferedUnit}
-use Rattle.lnt_unit.specs.declared.unit.Parts.{Parts}
+use Rattle.lnt_header.specs.declared.unit_parts.UnitParts.{UnitParts}
 use Rattle.lnt_unit.proofs.UnitLaws.{unit_is_some}
 use Rattle.lnt_unit.specs.UnitBytes.{UnitsFrom}
 use Rattle.lnt_machine.specs.Walking.{KeptProgram, KeepsProgram}
@@ -38,8 +38,8 @@ zip_push R [] (v ∷ ys) x y all here = absurd all
 zip_push R (u ∷ xs) [] x y all here = absurd all
 zip_push R (u ∷ xs) (v ∷ ys) x y all here = (all.0, zip_push R xs ys x y all.1 here)
 
-offsets_push : (units : List (ℕ × Parts)) (unit : ℕ × Parts)
-    → map (λ (u : ℕ × Parts). u.0) (units ++ unit ∷ []) ≡ map (λ (u : ℕ × Parts). u.0) units ++ unit.0 ∷ []
+offsets_push : (units : List (ℕ × UnitParts)) (unit : ℕ × UnitParts)
+    → map (λ (u : ℕ × UnitParts). u.0) (units ++ unit ∷ []) ≡ map (λ (u : ℕ × UnitParts). u.0) units ++ unit.0 ∷ []
 offsets_push [] unit = refl
 offsets_push (first ∷ units) unit = ap (λ (rest : List ℕ). first.0 ∷ rest) (offsets_push units unit)
 
@@ -55,30 +55,30 @@ added text general dead buffer old new offset kept judged at offsets programs = 
     collects = judged.collects units draft.collects;
     offsets = offsets ∙ ap (λ (n : ℕ). old.units.items ++ n ∷ []) at ∙ ap (λ (list : List ℕ). list ++ buffer.offset ∷ []) draft.offsets
         ∙ sym (offsets_push units (buffer.offset, judged.unit));
-    programs = subst (AllZip (λ (unit : ℕ × Parts) (k : KeptProgram). KeepsProgram k unit.1)
+    programs = subst (AllZip (λ (unit : ℕ × UnitParts) (k : KeptProgram). KeepsProgram k unit.1)
         (units ++ (buffer.offset, judged.unit) ∷ [])) (sym programs)
-        (zip_push (λ (unit : ℕ × Parts) (k : KeptProgram). KeepsProgram k unit.1) units old.programs.items (buffer.offset, judged.unit) kept
+        (zip_push (λ (unit : ℕ × UnitParts) (k : KeptProgram). KeepsProgram k unit.1) units old.programs.items (buffer.offset, judged.unit) kept
         draft.programs judged.keeps);
   };
 }
 
 -- ---- all units
 
-offsets_at_least : (order : Order) (k : ℕ) (units : List (ℕ × Parts)) (bytes : List ℕ) → UnitsFrom order k units bytes
-    → All (λ (n : ℕ). k ≤ n) (map (λ (u : ℕ × Parts). u.0) units)
+offsets_at_least : (order : Order) (k : ℕ) (units : List (ℕ × UnitParts)) (bytes : List ℕ) → UnitsFrom order k units bytes
+    → All (λ (n : ℕ). k ≤ n) (map (λ (u : ℕ × UnitParts). u.0) units)
 offsets_at_least order k [] bytes u = All-nil (λ (n : ℕ). k ≤ n)
 offsets_at_least order k (unit ∷ units) bytes (front, back, at, spelled, whole, rest) =
-    let offsets : List ℕ = map (λ (u : ℕ × Parts). u.0) units in
+    let offsets : List ℕ = map (λ (u : ℕ × UnitParts). u.0) units in
     All-cons (λ (n : ℕ). k ≤ n) unit.0 offsets (omega (arith, at))
     (All-weaker (λ (n : ℕ). k + length front ≤ n) (λ (n : ℕ). k ≤ n) (λ n le. omega (arith, le)) offsets
     (offsets_at_least order (k + length front) units back rest))
 
 -- the offsets of units rise
-pub rising_from : (order : Order) (k : ℕ) (units : List (ℕ × Parts)) (bytes : List ℕ) → UnitsFrom order k units bytes
-    → AreRising (map (λ (u : ℕ × Parts). u.0) units)
+pub rising_from : (order : Order) (k : ℕ) (units : List (ℕ × UnitParts)) (bytes : List ℕ) → UnitsFrom order k units bytes
+    → AreRising (map (λ (u : ℕ × UnitParts). u.0) units)
 rising_from order k [] bytes u = pairs_nil (λ (one other : ℕ). one < other)
 rising_from order k (unit ∷ units) bytes (front, back, at, spelled, whole, rest) =
-    let offsets : List ℕ = map (λ (u : ℕ × Parts). u.0) units in
+    let offsets : List ℕ = map (λ (u : ℕ × UnitParts). u.0) units in
     pairs_cons (λ (one other : ℕ). one < other) unit.0 offsets
     (All-weaker (λ (n : ℕ). k + length front ≤ n) (λ (n : ℕ). unit.0 < n)
     (λ n le. omega (arith, le, at, unit_is_some order unit.1 front spelled)) offsets
@@ -86,18 +86,18 @@ rising_from order k (unit ∷ units) bytes (front, back, at, spelled, whole, res
     (rising_from order (k + length front) units back rest)
 
 -- the numbers of headers that bytes spell can be read
-pub numbers_from : (order : Order) (k : ℕ) (units : List (ℕ × Parts)) (bytes : List ℕ) → UnitsFrom order k units bytes
-    → AllByRecursion (λ (unit : ℕ × Parts). HasHeaderNumbers unit.1.header) units
+pub numbers_from : (order : Order) (k : ℕ) (units : List (ℕ × UnitParts)) (bytes : List ℕ) → UnitsFrom order k units bytes
+    → AllByRecursion (λ (unit : ℕ × UnitParts). HasHeaderNumbers unit.1.header) units
 numbers_from order k [] bytes u = tt
 numbers_from order k (unit ∷ units) bytes (front, back, at, spelled, whole, rest) =
     (spelled.spelled.whole.counted.numbers, numbers_from order (k + length front) units back rest)
 
-pub distinct : (order : Order) (dead : Option ℕ) (units : List (ℕ × Parts)) (bytes : List ℕ) → UnitsFrom order 0 units bytes
+pub distinct : (order : Order) (dead : Option ℕ) (units : List (ℕ × UnitParts)) (bytes : List ℕ) → UnitsFrom order 0 units bytes
     → AreDistinct (live_sequences dead units)
 distinct order dead units bytes u = distinct_sequences dead units (offsets_differ order 0 units bytes u)
 
 -- the live sequences of sound units are in order
-pub all_ordered : (text general : List ℕ) (dead : Option ℕ) (units : List (ℕ × Parts))
+pub all_ordered : (text general : List ℕ) (dead : Option ℕ) (units : List (ℕ × UnitParts))
     → AllByRecursion (IsSoundUnit text general dead) units → AreOrdered (live_sequences dead units)
 all_ordered text general dead [] all = tt
 all_ordered text general dead (unit ∷ units) all =
@@ -105,21 +105,21 @@ all_ordered text general dead (unit ∷ units) all =
 
 -- ---- the index
 
-usable_tables : (text general : List ℕ) (dead : Option ℕ) (units : List (ℕ × Parts)) → AllByRecursion (IsSoundUnit text general dead) units
-    → AllByRecursion (λ (unit : ℕ × Parts). AreUsableTables text general unit.1.header) units
+usable_tables : (text general : List ℕ) (dead : Option ℕ) (units : List (ℕ × UnitParts)) → AllByRecursion (IsSoundUnit text general dead) units
+    → AllByRecursion (λ (unit : ℕ × UnitParts). AreUsableTables text general unit.1.header) units
 usable_tables text general dead [] all = tt
 usable_tables text general dead (unit ∷ units) all = (all.0.well_formed.tables, usable_tables text general dead units all.1)
 
 -- the rows of live sequences name files that are there
-pub named_files : (text general : List ℕ) (dead : Option ℕ) (units : List (ℕ × Parts))
+pub named_files : (text general : List ℕ) (dead : Option ℕ) (units : List (ℕ × UnitParts))
     → AllByRecursion (IsSoundUnit text general dead) units
-    → AllByRecursion (λ (unit : ℕ × Parts). HaveFiles (length unit.1.header.files) (live_in dead unit)) units
+    → AllByRecursion (λ (unit : ℕ × UnitParts). HaveFiles (length unit.1.header.files) (live_in dead unit)) units
 named_files text general dead [] all = tt
 named_files text general dead (unit ∷ units) all = (all.0.files, named_files text general dead units all.1)
 
 -- the kept headers are those of the units
-pub kept_numbers : (units : List (ℕ × Parts)) (programs : List KeptProgram) → AllZip (λ unit kept. KeepsProgram kept unit.1) units programs
-    → AllByRecursion (λ (unit : ℕ × Parts). HasHeaderNumbers unit.1.header) units
+pub kept_numbers : (units : List (ℕ × UnitParts)) (programs : List KeptProgram) → AllZip (λ unit kept. KeepsProgram kept unit.1) units programs
+    → AllByRecursion (λ (unit : ℕ × UnitParts). HasHeaderNumbers unit.1.header) units
     → AllByRecursion (λ (kept : KeptProgram). HasHeaderNumbers kept.header) programs
 kept_numbers [] [] keeps all = tt
 kept_numbers [] (kept ∷ programs) keeps all = absurd keeps
@@ -127,7 +127,7 @@ kept_numbers (unit ∷ units) [] keeps all = tt
 kept_numbers (unit ∷ units) (kept ∷ programs) keeps all =
     (subst HasHeaderNumbers (sym keeps.0.header_is) all.0, kept_numbers units programs keeps.1 all.1)
 
-pub index_of_draft : (text general : List ℕ) (dead : Option ℕ) (skip : Bool) (units : List (ℕ × Parts)) (draft : Draft)
+pub index_of_draft : (text general : List ℕ) (dead : Option ℕ) (skip : Bool) (units : List (ℕ × UnitParts)) (draft : Draft)
     (entries : List Extent) → IsDraftOf text general dead units draft → AreRising draft.units.items
     → AreSettled entries → IsPermutation (extents_of (kept_sequences dead skip units)) entries → AreApart (kept_sequences dead skip units)
     → IsIndexOf dead skip units (record {

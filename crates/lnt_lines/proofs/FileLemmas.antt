@@ -7,7 +7,7 @@ use Rattle.std.specs.Option.{option_and_then, option_map, option_map_or}
 use Rattle.std.proofs.lemmas.List.Sums.{position_or_len_is}
 use Rattle.lnt_wire.specs.declared.format.Order.{Order}
 use Rattle.lnt_header.specs.declared.header.HeaderParts.{HeaderParts}
-use Rattle.lnt_unit.specs.declared.unit.Parts.{Parts}
+use Rattle.lnt_header.specs.declared.unit_parts.UnitParts.{UnitParts}
 use Rattle.lnt_machine.specs.Walking.{KeepsProgram, KeptProgram}
 use Rattle.lnt_unit.specs.UnitBytes.{SectionBytes}
 use Rattle.lnt_files.specs.Files.{AreFilesOf, KeptFile, kept_path, kept_sum}
@@ -33,38 +33,38 @@ zip_at R (x ∷ xs) (y ∷ ys) (suc k) d all lt =
     let rest = zip_at R xs ys k d all.1 (omega arith) in
     record { y = rest.y; there = rest.there; related = rest.related }
 
-offset_at : (units : List (ℕ × Parts)) (k : ℕ) (d : ℕ × Parts) → k < length units
-    → get_or (map (λ (u : ℕ × Parts). u.0) units) k 0 ≡ (get_or units k d).0
+offset_at : (units : List (ℕ × UnitParts)) (k : ℕ) (d : ℕ × UnitParts) → k < length units
+    → get_or (map (λ (u : ℕ × UnitParts). u.0) units) k 0 ≡ (get_or units k d).0
 offset_at [] k d lt = absurd (omega arith)
 offset_at (unit ∷ units) zero d lt = refl
 offset_at (unit ∷ units) (suc k) d lt = offset_at units k d (omega arith)
 
-as_many : (units : List (ℕ × Parts)) → length (map (λ (u : ℕ × Parts). u.0) units) ≡ length units
+as_many : (units : List (ℕ × UnitParts)) → length (map (λ (u : ℕ × UnitParts). u.0) units) ≡ length units
 as_many [] = refl
 as_many (unit ∷ units) = let more = as_many units in omega (arith, more)
 
-abbrev FilesOf : List ℕ → List ℕ → ℕ × Parts → List KeptFile → Type 0
+abbrev FilesOf : List ℕ → List ℕ → ℕ × UnitParts → List KeptFile → Type 0
 FilesOf text general unit files = AreFilesOf text general unit.1.header files
 
 -- its files are held
-held : (text general : List ℕ) (dead : Option ℕ) (skip : Bool) (order : Order) (section : List ℕ) (units : List (ℕ × Parts))
-    (contents : Contents) (unit : ℕ × Parts)
+held : (text general : List ℕ) (dead : Option ℕ) (skip : Bool) (order : Order) (section : List ℕ) (units : List (ℕ × UnitParts))
+    (contents : Contents) (unit : ℕ × UnitParts)
     → SectionBytes order units section → TellsOf text general dead skip units contents → Contains units unit
     → (files : List KeptFile) × (files_of contents unit.0 ≡ Some files) × AreFilesOf text general unit.1.header files
 held text general dead skip order section units contents unit spelled tells (k, lt, same) =
-    let offsets : List ℕ = map (λ (u : ℕ × Parts). u.0) units in
+    let offsets : List ℕ = map (λ (u : ℕ × UnitParts). u.0) units in
     let at = zip_at (FilesOf text general) units contents.files k unit tells.files_are lt in
     let few : k < length offsets = omega (arith, lt, as_many units) in
     let place : Some k ≡ position (λ offset. offset == unit.0) offsets =
     place_found offsets unit.0 k (rising_from order 0 units section spelled) few
-    (offset_at units k unit lt ∙ ap (λ (u : ℕ × Parts). u.0) same) in
+    (offset_at units k unit lt ∙ ap (λ (u : ℕ × UnitParts). u.0) same) in
     let there : files_of contents unit.0 ≡ Some at.y =
     ap (λ (list : List ℕ). files_at list contents.files unit.0) tells.units_are
     ∙ ap (λ (o : Option ℕ). option_and_then (slice_get contents.files) o) (sym place) ∙ at.there in
-    (at.y, there, subst (λ (u : ℕ × Parts). AreFilesOf text general u.1.header at.y) same at.related)
+    (at.y, there, subst (λ (u : ℕ × UnitParts). AreFilesOf text general u.1.header at.y) same at.related)
 
-listed : (text general : List ℕ) (dead : Option ℕ) (skip : Bool) (order : Order) (section : List ℕ) (units : List (ℕ × Parts))
-    (contents : Contents) (unit : ℕ × Parts)
+listed : (text general : List ℕ) (dead : Option ℕ) (skip : Bool) (order : Order) (section : List ℕ) (units : List (ℕ × UnitParts))
+    (contents : Contents) (unit : ℕ × UnitParts)
     → SectionBytes order units section → TellsOf text general dead skip units contents → Contains units unit
     → ListsFilesOf text general unit contents
 listed text general dead skip order section units contents unit spelled tells within =
@@ -78,10 +78,10 @@ listed text general dead skip order section units contents unit spelled tells wi
           λ file. ap (λ (o : Option (List KeptFile)). option_and_then (λ (f : List KeptFile). kept_sum f file) o) found.1 ∙ files.sums file;
     }
 
-no_place : (units : List (ℕ × Parts)) (offset : ℕ) → All (λ (unit : ℕ × Parts). unit.0 ≢ offset) units
-    → position (λ (n : ℕ). n == offset) (map (λ (u : ℕ × Parts). u.0) units) ≡ None
+no_place : (units : List (ℕ × UnitParts)) (offset : ℕ) → All (λ (unit : ℕ × UnitParts). unit.0 ≢ offset) units
+    → position (λ (n : ℕ). n == offset) (map (λ (u : ℕ × UnitParts). u.0) units) ≡ None
 no_place units offset all =
-    let offsets : List ℕ = map (λ (u : ℕ × Parts). u.0) units in
+    let offsets : List ℕ = map (λ (u : ℕ × UnitParts). u.0) units in
     let none : (j : ℕ) → j < length offsets → (get_or offsets j 0 == offset) ≡ false = λ j lt.
     let few : j < length units = omega (arith, lt, as_many units) in
     other_is (get_or offsets j 0) offset (λ same. all j (0, get_or_unit units j few) few
@@ -90,7 +90,7 @@ no_place units offset all =
     position_or_len_is (λ (n : ℕ). n == offset) offsets (length offsets) 0 (omega arith) none (λ lt. absurd (omega arith)) in
     rw (at, outside_is (length offsets) (length offsets) (omega arith)) refl
   where
-    get_or_unit : (us : List (ℕ × Parts)) (j : ℕ) → j < length us → Parts
+    get_or_unit : (us : List (ℕ × UnitParts)) (j : ℕ) → j < length us → UnitParts
     get_or_unit [] j lt = absurd (omega arith)
     get_or_unit (u ∷ us) j lt = u.1
 
@@ -108,19 +108,19 @@ files_of_units = record {
 abbrev say_header : Option KeptProgram → Option HeaderParts
 say_header found = option_map (λ (kept : KeptProgram). kept.header) found
 
-header_found : (dead : Option ℕ) (skip : Bool) (units : List (ℕ × Parts)) (index : Indexed) (unit : ℕ × Parts)
+header_found : (dead : Option ℕ) (skip : Bool) (units : List (ℕ × UnitParts)) (index : Indexed) (unit : ℕ × UnitParts)
     → IsIndexOf dead skip units index → Contains units unit → header_in index unit.0 ≡ Some unit.1.header
 header_found dead skip units index unit is (k, lt, same) =
-    let offsets : List ℕ = map (λ (u : ℕ × Parts). u.0) units in
-    let at = zip_at (λ (u : ℕ × Parts) (kept : KeptProgram). KeepsProgram kept u.1) units index.programs k unit is.programs lt in
+    let offsets : List ℕ = map (λ (u : ℕ × UnitParts). u.0) units in
+    let at = zip_at (λ (u : ℕ × UnitParts) (kept : KeptProgram). KeepsProgram kept u.1) units index.programs k unit is.programs lt in
     let few : k < length offsets = omega (arith, lt, as_many units) in
     let place : Some k ≡ position (λ offset. offset == unit.0) offsets =
     place_found offsets unit.0 k (subst AreRising is.offsets is.rising) few
-    (offset_at units k unit lt ∙ ap (λ (u : ℕ × Parts). u.0) same) in
+    (offset_at units k unit lt ∙ ap (λ (u : ℕ × UnitParts). u.0) same) in
     ap (λ (list : List ℕ). say_header (option_and_then (slice_get index.programs) (position (λ offset. offset == unit.0) list))) is.offsets
     ∙ ap (λ (o : Option ℕ). say_header (option_and_then (slice_get index.programs) o)) (sym place)
     ∙ ap say_header at.there
-    ∙ ap Some (at.related.header_is ∙ ap (λ (u : ℕ × Parts). u.1.header) same)
+    ∙ ap Some (at.related.header_is ∙ ap (λ (u : ℕ × UnitParts). u.1.header) same)
 
 pub headers_of_units : HeadersOfUnits
 headers_of_units = record {

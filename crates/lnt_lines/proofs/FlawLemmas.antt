@@ -8,7 +8,7 @@ use Rattle.lnt_wire.proofs.LengthLaws.{same_rest}
 use Rattle.lnt_header.specs.declared.header.HeaderParts.{HeaderParts}
 use Rattle.lnt_header.specs.declared.header.EntryTable.TheVariants.{Directories, Files}
 use Rattle.lnt_header.proofs.FirstLaws.{first_is_wrong}
-use Rattle.lnt_unit.specs.declared.unit.Parts.{Parts}
+use Rattle.lnt_header.specs.declared.unit_parts.UnitParts.{UnitParts}
 use Rattle.lnt_unit.proofs.UnitLaws.{one_section, one_spelling, unit_is_some}
 use Rattle.lnt_unit.specs.UnitBytes.{UnitsFrom}
 use Rattle.lnt_machine.specs.declared.fault.RunFault.{RunFault}
@@ -29,7 +29,7 @@ use Rattle.lnt_lines.specs.Nos.{IsFirstFlaw, IsFlaw}
 
 -- ---- a sound unit has no flaw
 
-pub runs_well : (unit : Parts) (fault : RunFault) → Runs unit → fault ≢ run.Memory → IsRunFault unit fault → ⊥
+pub runs_well : (unit : UnitParts) (fault : RunFault) → Runs unit → fault ≢ run.Memory → IsRunFault unit fault → ⊥
 runs_well unit (run.LineOutOfRange k) runs some f = f.2 (runs.lines (k + 1) (omega (arith, f.0)))
 runs_well unit run.OpenSequence runs some f = f.1 runs.closed
 runs_well unit run.Memory runs some f = some refl
@@ -42,7 +42,7 @@ tables_well text general h (table.StringOutside Directories entry) usable f = fi
 tables_well text general h (table.StringOutside Files entry) usable f = first_is_wrong f.2 usable.files.paths
 tables_well text general h (table.DirectoryNumber file) usable f = first_is_wrong f.2 usable.numbers
 
-pub sound_well : FallIsNotOrdered → MissingFileIsNotThere → (text general : List ℕ) (dead : Option ℕ) (unit : ℕ × Parts) (reason : No)
+pub sound_well : FallIsNotOrdered → MissingFileIsNotThere → (text general : List ℕ) (dead : Option ℕ) (unit : ℕ × UnitParts) (reason : No)
     → IsSoundUnit text general dead unit → IsFlaw text general dead unit reason → ⊥
 sound_well falls missing text general dead unit (no.Malformed fault) s f = f
 sound_well falls missing text general dead unit (no.Run offset fault) s f = runs_well unit.1 fault s.well_formed.runs f.1 f.2
@@ -59,12 +59,12 @@ sound_well falls missing text general dead unit (no.Overlap first second positio
 
 -- ---- its units begin with those of each front
 
-pub same_pair : (u v : ℕ × Parts) → u.0 ≡ v.0 → u.1 ≡ v.1 → u ≡ v
+pub same_pair : (u v : ℕ × UnitParts) → u.0 ≡ v.0 → u.1 ≡ v.1 → u ≡ v
 same_pair (m, x) (n, y) places parts = cc (places, parts)
 
-pub units_begin : (order : Order) (offset : ℕ) (us vs : List (ℕ × Parts)) (front rest whole : List ℕ) → UnitsFrom order offset us front
+pub units_begin : (order : Order) (offset : ℕ) (us vs : List (ℕ × UnitParts)) (front rest whole : List ℕ) → UnitsFrom order offset us front
     → UnitsFrom order offset vs whole → whole ≡ front ++ rest
-    → (ws : List (ℕ × Parts)) × (vs ≡ us ++ ws)
+    → (ws : List (ℕ × UnitParts)) × (vs ≡ us ++ ws)
 units_begin order offset [] vs front rest whole p q e = (vs, refl)
 units_begin order offset (u ∷ us) [] front rest whole p q e =
     absurd (omega (
@@ -92,7 +92,7 @@ all_at P [] ys x all = all.0
 all_at P (y ∷ xs) ys x all = all_at P xs ys x all.1
 
 no_first_flaw : FallIsNotOrdered → MissingFileIsNotThere
-    → (text general : List ℕ) (options : Options) (section : List ℕ) (units : List (ℕ × Parts)) (reason : No)
+    → (text general : List ℕ) (options : Options) (section : List ℕ) (units : List (ℕ × UnitParts)) (reason : No)
     → IsGood text general options section units → IsFirstFlaw text general options section reason → ⊥
 no_first_flaw falls missing text general options section units reason good f =
     let more = units_begin options.order 0 (f.units ++ f.unit ∷ []) units f.front f.rest section f.spelled good.spelled f.split in
@@ -106,7 +106,7 @@ no_flaw falls missing overlaps text general options section units (no.Overlap fi
     let same : f.units ≡ units = one_section.units options.order f.units units section f.spelled good.spelled in
     overlaps (kept_sequences options.dead options.skip_copies f.units) (record { first = first; second = second; position = position })
     f.first
-    (subst (λ (list : List (ℕ × Parts)). AreApart (kept_sequences options.dead options.skip_copies list)) (sym same) good.apart)
+    (subst (λ (list : List (ℕ × UnitParts)). AreApart (kept_sequences options.dead options.skip_copies list)) (sym same) good.apart)
 no_flaw falls missing overlaps text general options section units (no.Run unit fault) good f =
     no_first_flaw falls missing text general options section units (no.Run unit fault) good f
 no_flaw falls missing overlaps text general options section units (no.EntryFormat unit which) good f =

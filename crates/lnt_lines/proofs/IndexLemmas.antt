@@ -5,7 +5,7 @@ use Rattle.std.specs.Prelude.{cond, IfNone, IfSome, IsSomeAnd, map}
 use Rattle.std.specs.List.{AllByRecursion, AllZip, Contains, position}
 use Rattle.std.specs.Option.{option_map}
 use Rattle.std.proofs.lemmas.Option.{same_Some}
-use Rattle.lnt_unit.specs.declared.unit.Parts.{Parts}
+use Rattle.lnt_header.specs.declared.unit_parts.UnitParts.{UnitParts}
 use Rattle.lnt_machine.specs.declared.row.Sequence.{Sequence}
 use Rattle.lnt_machine.specs.Matrix.{sequences}
 use Rattle.lnt_machine.specs.declared.row.Row.{Row}
@@ -25,8 +25,8 @@ use Rattle.lnt_lines.specs.Cursors.{room_of}
 use Rattle.lnt_lines.specs.Indexed.{Indexed, IsIndexOf, IsSequenceIn}
 use Rattle.lnt_lines.proofs.PlaceLemmas.{place_found}
 
-pub offset_at : (units : List (ℕ × Parts)) (k : ℕ) (d : ℕ × Parts) → k < length units
-    → (get_or (map (λ (u : ℕ × Parts). u.0) units) k 0 ≡ (get_or units k d).0) × (k < length (map (λ (u : ℕ × Parts). u.0) units))
+pub offset_at : (units : List (ℕ × UnitParts)) (k : ℕ) (d : ℕ × UnitParts) → k < length units
+    → (get_or (map (λ (u : ℕ × UnitParts). u.0) units) k 0 ≡ (get_or units k d).0) × (k < length (map (λ (u : ℕ × UnitParts). u.0) units))
 offset_at [] k d few = absurd (omega arith)
 offset_at (unit ∷ units) zero d few = (refl, omega arith)
 offset_at (unit ∷ units) (suc k) d few = let more = offset_at units k d (omega arith) in (more.0, omega (arith, more.1))
@@ -38,19 +38,19 @@ zip_at R (u ∷ xs) [] k x y all few = absurd all
 zip_at R (u ∷ xs) (v ∷ ys) zero x y all few = (all.0, omega arith)
 zip_at R (u ∷ xs) (v ∷ ys) (suc k) x y all few = let more = zip_at R xs ys k x y all.1 (omega arith) in (more.0, omega (arith, more.1))
 
-pub sequence_in : (dead : Option ℕ) (skip : Bool) (units : List (ℕ × Parts)) (index : Indexed) (id : SeqId) (placed : Placed)
+pub sequence_in : (dead : Option ℕ) (skip : Bool) (units : List (ℕ × UnitParts)) (index : Indexed) (id : SeqId) (placed : Placed)
     → IsIndexOf dead skip units index → Contains (kept_sequences dead skip units) placed → placed.id ≡ id
     → IsSequenceIn index.units index.programs id placed.rows
 sequence_in dead skip units index id placed is contained same =
     let one = live_placed dead units placed (kept_live skip (live_sequences dead units) placed contained) in
     let at = offset_at units one.place one.unit one.within in
     let offset : get_or index.units one.place 0 ≡ id.unit =
-    ap (λ (list : List ℕ). get_or list one.place 0) is.offsets ∙ at.0 ∙ ap (λ (u : ℕ × Parts). u.0) (one.unit_at one.unit) ∙ sym one.unit_is
+    ap (λ (list : List ℕ). get_or list one.place 0) is.offsets ∙ at.0 ∙ ap (λ (u : ℕ × UnitParts). u.0) (one.unit_at one.unit) ∙ sym one.unit_is
     ∙ ap (λ (i : SeqId). i.unit) same in
     let kept : (d : KeptProgram) → KeepsProgram (get_or index.programs one.place d) one.unit.1 × (one.place < length index.programs) =
-    λ d. let z = zip_at (λ (u : ℕ × Parts) (k : KeptProgram). KeepsProgram k u.1) units index.programs one.place one.unit d is.programs
+    λ d. let z = zip_at (λ (u : ℕ × UnitParts) (k : KeptProgram). KeepsProgram k u.1) units index.programs one.place one.unit d is.programs
     one.within in
-    (subst (λ (u : ℕ × Parts). KeepsProgram (get_or index.programs one.place d) u.1) (one.unit_at one.unit) z.0, z.1) in
+    (subst (λ (u : ℕ × UnitParts). KeepsProgram (get_or index.programs one.place d) u.1) (one.unit_at one.unit) z.0, z.1) in
     record {
       place = one.place;
       unit = one.unit.1;
@@ -62,13 +62,13 @@ sequence_in dead skip units index id placed is contained same =
     }
 
 -- The sequence with this id has rows that answer.
-pub record Answers (dead : Option ℕ) (skip : Bool) (units : List (ℕ × Parts)) (index : Indexed) (p : spans.Position) (id : SeqId) : Type
+pub record Answers (dead : Option ℕ) (skip : Bool) (units : List (ℕ × UnitParts)) (index : Indexed) (p : spans.Position) (id : SeqId) : Type
     0 where
   pub rows : List Row
   pub sequence_is : IsSequenceIn index.units index.programs id rows
   pub answer_is : line_answer dead skip units p ≡ option_map (answer_of id.unit) (row_at p rows)
 
-pub found_answer : (dead : Option ℕ) (skip : Bool) (units : List (ℕ × Parts)) (index : Indexed) (p : spans.Position) (extent : Extent)
+pub found_answer : (dead : Option ℕ) (skip : Bool) (units : List (ℕ × UnitParts)) (index : Indexed) (p : spans.Position) (extent : Extent)
     → HolderAnswers → IsIndexOf dead skip units index
     → IsHolder index.entries p extent → Answers dead skip units index p extent.id
 found_answer dead skip units index p extent law is holder =
@@ -79,7 +79,7 @@ found_answer dead skip units index p extent law is holder =
       answer_is = answers.answer_is ∙ ap (λ (i : SeqId). option_map (answer_of i.unit) (row_at p answers.placed.rows)) answers.id_is;
     }
 
-pub found_none : (dead : Option ℕ) (skip : Bool) (units : List (ℕ × Parts)) (index : Indexed) (p : spans.Position) → HolderAnswers
+pub found_none : (dead : Option ℕ) (skip : Bool) (units : List (ℕ × UnitParts)) (index : Indexed) (p : spans.Position) → HolderAnswers
     → IsIndexOf dead skip units index → NoneHolds index.entries p → None ≡ line_answer dead skip units p
 found_none dead skip units index p law is none = sym (law.none (kept_sequences dead skip units) index.entries p is.entries none)
 
@@ -91,10 +91,10 @@ pub same_place : (units : List ℕ) (unit place found : ℕ) → Some place ≡ 
 same_place units unit place found p q = same_Some place found (p ∙ sym q)
 
 -- they come where the unit's program keeps the sequence
-pub rows_come : (kept : KeptProgram) (unit : Parts) (index : ℕ) (rows : List Row) (found : Option SequenceWalk) → KeepsProgram kept unit
+pub rows_come : (kept : KeptProgram) (unit : UnitParts) (index : ℕ) (rows : List Row) (found : Option SequenceWalk) → KeepsProgram kept unit
     → index < length (sequences unit)
     → ((d : Sequence) → rows ≡ (get_or (sequences unit) index d).rows) → IfNone found (length kept.places ≤ index)
-    → IfSome found (λ walk. (unit : Parts) (d : Sequence) → KeepsProgram kept unit → WillGive (get_or (sequences unit) index d).rows walk)
+    → IfSome found (λ walk. (unit : UnitParts) (d : Sequence) → KeepsProgram kept unit → WillGive (get_or (sequences unit) index d).rows walk)
     → IsSomeAnd found (WillGive rows)
 rows_come kept unit index rows None keeps few are none some = absurd (omega (arith, none, keeps.count, few))
 rows_come kept unit index rows (Some walk) keeps few are none some =
@@ -127,9 +127,9 @@ rows_few programs place kept (Some walk) few is left =
 
 -- ---- tables and files
 
-pub usable_at : (line general : List ℕ) (units : List (ℕ × Parts)) (programs : List KeptProgram) (k : ℕ) (d : KeptProgram)
-    → AllZip (λ (unit : ℕ × Parts) (kept : KeptProgram). KeepsProgram kept unit.1) units programs
-    → AllByRecursion (λ (unit : ℕ × Parts). AreUsableTables line general unit.1.header) units → k < length programs
+pub usable_at : (line general : List ℕ) (units : List (ℕ × UnitParts)) (programs : List KeptProgram) (k : ℕ) (d : KeptProgram)
+    → AllZip (λ (unit : ℕ × UnitParts) (kept : KeptProgram). KeepsProgram kept unit.1) units programs
+    → AllByRecursion (λ (unit : ℕ × UnitParts). AreUsableTables line general unit.1.header) units → k < length programs
     → AreUsableTables line general (get_or programs k d).header
 usable_at line general [] [] k d keeps usable few = absurd (omega arith)
 usable_at line general [] (kept ∷ programs) k d keeps usable few = absurd keeps
@@ -140,10 +140,10 @@ usable_at line general (unit ∷ units) (kept ∷ programs) (suc k) d keeps usab
     usable_at line general units programs k d keeps.1 usable.1 (omega arith)
 
 -- the files of programs are those of the units
-pub files_zip : (line general : List ℕ) (units : List (ℕ × Parts)) (programs : List KeptProgram) (files : List (List KeptFile))
-    → AllZip (λ (unit : ℕ × Parts) (kept : KeptProgram). KeepsProgram kept unit.1) units programs
+pub files_zip : (line general : List ℕ) (units : List (ℕ × UnitParts)) (programs : List KeptProgram) (files : List (List KeptFile))
+    → AllZip (λ (unit : ℕ × UnitParts) (kept : KeptProgram). KeepsProgram kept unit.1) units programs
     → AllZip (λ (kept : KeptProgram) (some : List KeptFile). AreFilesOf line general kept.header some) programs files
-    → AllZip (λ (unit : ℕ × Parts) (some : List KeptFile). AreFilesOf line general unit.1.header some) units files
+    → AllZip (λ (unit : ℕ × UnitParts) (some : List KeptFile). AreFilesOf line general unit.1.header some) units files
 files_zip line general [] [] [] keeps are = tt
 files_zip line general [] [] (some ∷ files) keeps are = absurd are
 files_zip line general [] (kept ∷ programs) files keeps are = absurd keeps
@@ -161,8 +161,8 @@ zip_length R f [] (y ∷ ys) all = absurd all
 zip_length R f (x ∷ xs) [] all = absurd all
 zip_length R f (x ∷ xs) (y ∷ ys) all = let more = zip_length R f xs ys all.1 in omega (arith, more)
 
-pub same_number : (line general : List ℕ) (units : List (ℕ × Parts)) (files : List (List KeptFile))
-    → AllZip (λ (unit : ℕ × Parts) (some : List KeptFile). AreFilesOf line general unit.1.header some) units files
-    → length (map (λ (u : ℕ × Parts). u.0) units) ≡ length files
+pub same_number : (line general : List ℕ) (units : List (ℕ × UnitParts)) (files : List (List KeptFile))
+    → AllZip (λ (unit : ℕ × UnitParts) (some : List KeptFile). AreFilesOf line general unit.1.header some) units files
+    → length (map (λ (u : ℕ × UnitParts). u.0) units) ≡ length files
 same_number line general units files all = zip_length
-    (λ (unit : ℕ × Parts) (some : List KeptFile). AreFilesOf line general unit.1.header some) (λ (u : ℕ × Parts). u.0) units files all
+    (λ (unit : ℕ × UnitParts) (some : List KeptFile). AreFilesOf line general unit.1.header some) (λ (u : ℕ × UnitParts). u.0) units files all

@@ -8,7 +8,7 @@ use native.Mathlib.Nat.{mod-one}
 use Rattle.lnt_header.specs.declared.header.HeaderParts.{HeaderParts}
 use Rattle.lnt_header.specs.declared.op.Op.{Op}
 use Rattle.lnt_header.specs.declared.op.Op.TheVariants.{Special, Copy, EndSequence}
-use Rattle.lnt_unit.specs.declared.unit.Parts.{Parts}
+use Rattle.lnt_header.specs.declared.unit_parts.UnitParts.{UnitParts}
 use Rattle.lnt_machine.specs.declared.row.Row.{Row}
 use Rattle.lnt_machine.specs.Matrix.{row_made, rows, rows_after}
 use Rattle.lnt_machine.specs.Registers.{advances, op_index}
@@ -50,7 +50,7 @@ all_made h back (op ∷ ops) one = one_made h back op (rows_after h (op ∷ back
 abbrev IsAny : ℕ → Type 0
 IsAny offset = Unit {0}
 
-of_units : (units : List (ℕ × Parts)) (programs : List KeptProgram) → AllZip (λ unit kept. KeepsProgram kept unit.1) units programs
+of_units : (units : List (ℕ × UnitParts)) (programs : List KeptProgram) → AllZip (λ unit kept. KeepsProgram kept unit.1) units programs
     → AllByRecursion HasOneOperation programs → AllByRecursion (EachIn IsAny IsFirst) units
 of_units [] programs keeps one = tt
 of_units (unit ∷ units) [] keeps one = absurd keeps
@@ -60,7 +60,7 @@ of_units (unit ∷ units) (kept ∷ programs) keeps one =
 
 -- ---- spans
 
-pub spans_of_instructions : (index : Indexed) (dead : Option ℕ) (skip : Bool) (units : List (ℕ × Parts)) (spans : List Span)
+pub spans_of_instructions : (index : Indexed) (dead : Option ℕ) (skip : Bool) (units : List (ℕ × UnitParts)) (spans : List Span)
     → All HasOneOperation index.programs → IsIndexOf dead skip units index
     → IsPermutation (spans_of (kept_sequences dead skip units)) spans → AllByRecursion IsOfInstructions spans
 spans_of_instructions index dead skip units spans one is same =

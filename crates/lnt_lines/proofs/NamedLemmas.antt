@@ -7,7 +7,7 @@ use Rattle.std.proofs.lemmas.List.Elements.{recursion_from_All}
 use Rattle.std.proofs.lemmas.Option.{slice_get-get_or}
 use Rattle.lnt_header.specs.declared.header.HeaderParts.{HeaderParts}
 use Rattle.lnt_header.proofs.FirstLaws.{all_at}
-use Rattle.lnt_unit.specs.declared.unit.Parts.{Parts}
+use Rattle.lnt_header.specs.declared.unit_parts.UnitParts.{UnitParts}
 use Rattle.lnt_machine.specs.Walking.{KeepsProgram, KeptProgram}
 use Rattle.lnt_files.specs.Paths.{path_bytes}
 use Rattle.lnt_files.specs.Tables.{AreUsableTables}
@@ -22,16 +22,16 @@ use Rattle.lnt_lines.proofs.IndexLemmas.{offset_at, zip_at}
 use Rattle.lnt_lines.proofs.PlaceLemmas.{place_found}
 
 -- the header that is found by the offset of a unit
-header_at : (index : Indexed) (dead : Option ℕ) (skip : Bool) (units : List (ℕ × Parts)) (k : ℕ) (d : ℕ × Parts)
+header_at : (index : Indexed) (dead : Option ℕ) (skip : Bool) (units : List (ℕ × UnitParts)) (k : ℕ) (d : ℕ × UnitParts)
     → IsIndexOf dead skip units index → k < length units → header_in index (get_or units k d).0 ≡ Some (get_or units k d).1.header
 header_at index dead skip units k d is few =
-    let unit : ℕ × Parts = get_or units k d in
+    let unit : ℕ × UnitParts = get_or units k d in
     let none : KeptProgram = record { header = unit.1.header; program = []; places = [] } in
     let at = offset_at units k d few in
     let place : Some k ≡ position (λ offset. offset == unit.0) index.units =
     place_found index.units unit.0 k is.rising (omega (arith, at.1, ap length is.offsets))
     (ap (λ (offsets : List ℕ). get_or offsets k 0) is.offsets ∙ at.0) in
-    let kept = zip_at (λ (u : ℕ × Parts) (p : KeptProgram). KeepsProgram p u.1) units index.programs k d none is.programs few in
+    let kept = zip_at (λ (u : ℕ × UnitParts) (p : KeptProgram). KeepsProgram p u.1) units index.programs k d none is.programs few in
     ap (λ (found : Option ℕ). option_map (λ (p : KeptProgram). p.header) (option_and_then (slice_get index.programs) found)) (sym place)
     ∙ ap (option_map (λ (p : KeptProgram). p.header)) (slice_get-get_or index.programs k none kept.1)
     ∙ ap Some kept.0.header_is
@@ -39,7 +39,7 @@ header_at index dead skip units k d is few =
 abbrev HasPathIn : Indexed → ℕ → ℕ → Type 0
 HasPathIn index unit file = IsSome (file_path_in index unit file)
 
-path_at : (index : Indexed) (dead : Option ℕ) (skip : Bool) (units : List (ℕ × Parts)) (k : ℕ) (d : ℕ × Parts)
+path_at : (index : Indexed) (dead : Option ℕ) (skip : Bool) (units : List (ℕ × UnitParts)) (k : ℕ) (d : ℕ × UnitParts)
     → IsIndexOf dead skip units index → k < length units → (file : ℕ) → file < length (get_or units k d).1.header.files
     → HasPathIn index (get_or units k d).0 file
 path_at index dead skip units k d is few file there =
@@ -47,7 +47,7 @@ path_at index dead skip units k d is few file there =
     (λ (header : Option HeaderParts). IsSome (option_and_then (λ (h : HeaderParts). path_bytes index.line index.general h file) header))
     (sym (header_at index dead skip units k d is few))
     (has_path index.line index.general (get_or units k d).1.header file
-    (all_at (λ (unit : ℕ × Parts). AreUsableTables index.line index.general unit.1.header) units k d few is.tables) there)
+    (all_at (λ (unit : ℕ × UnitParts). AreUsableTables index.line index.general unit.1.header) units k d few is.tables) there)
 
 -- The file of what the index answers has a path.
 pub answer_named : (index : Indexed) (p : Position) (answer : Option Answer) (is : IsIndex index)
@@ -58,7 +58,7 @@ answer_named index p answer is same =
     (line_names (HasPathIn index) is.dead is.skip is.units p
     (recursion_from_All (NamesFiles (HasPathIn index) is.dead) is.units
     (λ k d few. record {
-      have = all_at (λ (unit : ℕ × Parts). HaveFiles (length unit.1.header.files) (live_in is.dead unit)) is.units k d few is.files;
+      have = all_at (λ (unit : ℕ × UnitParts). HaveFiles (length unit.1.header.files) (live_in is.dead unit)) is.units k d few is.files;
       there = path_at index is.dead is.skip is.units k d is.index_is few;
     })))
 

@@ -9,7 +9,7 @@ use Rattle.lnt_header.specs.declared.header.HeaderParts.{HeaderParts}
 use Rattle.lnt_header.specs.declared.header.EntryTable.TheVariants.{Directories, Files}
 use Rattle.lnt_header.specs.HeaderTests.{IsFirstNot}
 use Rattle.lnt_header.proofs.FirstLaws.{first_is_wrong}
-use Rattle.lnt_unit.specs.declared.unit.Parts.{Parts}
+use Rattle.lnt_header.specs.declared.unit_parts.UnitParts.{UnitParts}
 use Rattle.lnt_machine.specs.declared.fault.RunFault.{RunFault}
 use Rattle.lnt_machine.specs.declared.fault.RunFault.TheVariants as run
 use Rattle.lnt_machine.specs.declared.row.Row.{Row}
@@ -65,7 +65,7 @@ one_first P xs i j a b =
 
 -- ---- runs
 
-one_run : (unit : Parts) (f g : RunFault) → f ≢ run.Memory → g ≢ run.Memory → IsRunFault unit f → IsRunFault unit g → f ≡ g
+one_run : (unit : UnitParts) (f g : RunFault) → f ≢ run.Memory → g ≢ run.Memory → IsRunFault unit f → IsRunFault unit g → f ≡ g
 one_run unit (run.LineOutOfRange k) (run.LineOutOfRange l) m n f g =
     ap run.LineOutOfRange (same_least k l (λ lt. f.2 (g.1 (k + 1) (omega (arith, lt)))) (λ lt. g.2 (f.1 (l + 1) (omega (arith, lt)))))
 one_run unit (run.LineOutOfRange k) run.OpenSequence m n f g = absurd (f.2 (g.0 (k + 1) (omega (arith, f.0))))
@@ -142,7 +142,7 @@ one_fall dead ss i j f g = same_least i j (λ lt. g.first i lt f.fall) (λ lt. f
 
 -- ---- flaws, by their kinds
 
-data Flaw (text general : List ℕ) (dead : Option ℕ) (unit : ℕ × Parts) (reason : No) : Type 0 where
+data Flaw (text general : List ℕ) (dead : Option ℕ) (unit : ℕ × UnitParts) (reason : No) : Type 0 where
   of_run : (fault : RunFault) → reason ≡ no.Run unit.0 fault → fault ≢ run.Memory → IsRunFault unit.1 fault
       → Flaw text general dead unit reason
   of_tables : (fault : EntryTableFault) → reason ≡ table_no unit.0 fault → Runs unit.1 → IsTablesFault text general unit.1.header fault
@@ -153,7 +153,7 @@ data Flaw (text general : List ℕ) (dead : Option ℕ) (unit : ℕ × Parts) (r
       → HaveFiles (length unit.1.header.files) (live_in dead unit) → IsFirstFall dead (placed_in unit) row
       → Flaw text general dead unit reason
 
-flaw_kind : (text general : List ℕ) (dead : Option ℕ) (unit : ℕ × Parts) (reason : No) → IsFlaw text general dead unit reason
+flaw_kind : (text general : List ℕ) (dead : Option ℕ) (unit : ℕ × UnitParts) (reason : No) → IsFlaw text general dead unit reason
     → Flaw text general dead unit reason
 flaw_kind text general dead unit (no.Malformed fault) f = absurd f
 flaw_kind text general dead unit (no.Run offset fault) f = of_run fault (ap (λ (o : ℕ). no.Run o fault) f.0) f.1 f.2
@@ -168,7 +168,7 @@ flaw_kind text general dead unit (no.FileNumber offset row file) f =
 flaw_kind text general dead unit (no.Falls offset row) f = of_fall row (ap (λ (o : ℕ). no.Falls o row) f.0) f.1 f.2 f.3
 flaw_kind text general dead unit (no.Overlap first second position) f = absurd f
 
-one_kind : MissingFileIsNotThere → (text general : List ℕ) (dead : Option ℕ) (unit : ℕ × Parts) (r s : No) → Flaw text general dead unit r
+one_kind : MissingFileIsNotThere → (text general : List ℕ) (dead : Option ℕ) (unit : ℕ × UnitParts) (r s : No) → Flaw text general dead unit r
     → Flaw text general dead unit s → r ≡ s
 one_kind law text general dead unit r s (of_run f e some is) (of_run g e' some' is') =
     e ∙ ap (no.Run unit.0) (one_run unit.1 f g some some' is is') ∙ sym e'
@@ -198,7 +198,7 @@ one_kind law text general dead unit r s (of_fall f e well have is) (of_file g e'
 one_kind law text general dead unit r s (of_fall f e well have is) (of_fall g e' well' have' is') =
     e ∙ ap (no.Falls unit.0) (one_fall dead (placed_in unit) f g is is') ∙ sym e'
 
-pub one_flaw : MissingFileIsNotThere → (text general : List ℕ) (dead : Option ℕ) (unit : ℕ × Parts) (r s : No)
+pub one_flaw : MissingFileIsNotThere → (text general : List ℕ) (dead : Option ℕ) (unit : ℕ × UnitParts) (r s : No)
     → IsFlaw text general dead unit r → IsFlaw text general dead unit s → r ≡ s
 one_flaw law text general dead unit r s f g =
     one_kind law text general dead unit r s (flaw_kind text general dead unit r f) (flaw_kind text general dead unit s g)

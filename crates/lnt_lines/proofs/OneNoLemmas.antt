@@ -6,7 +6,7 @@ use Rattle.lnt_wire.specs.Bytes.{NoneSpelled}
 use Rattle.lnt_wire.specs.declared.fault.Fault.{Fault}
 use Rattle.lnt_wire.specs.declared.format.Order.{Order}
 use Rattle.lnt_wire.proofs.LengthLaws.{same_rest}
-use Rattle.lnt_unit.specs.declared.unit.Parts.{Parts}
+use Rattle.lnt_header.specs.declared.unit_parts.UnitParts.{UnitParts}
 use Rattle.lnt_unit.specs.Laws.{OneTrueFault}
 use Rattle.lnt_unit.proofs.UnitLaws.{one_section, one_spelling}
 use Rattle.lnt_unit.specs.UnitBytes.{UnitBytesIn, UnitsFrom}
@@ -28,13 +28,13 @@ use Rattle.lnt_lines.proofs.OneOverlapLemmas.{one_overlap}
 
 -- ---- the first unit of the same bytes
 
-record SameHead (u v : ℕ × Parts) (x y r s : List ℕ) : Type 0 where
+record SameHead (u v : ℕ × UnitParts) (x y r s : List ℕ) : Type 0 where
   unit : u ≡ v
   bytes : x ≡ y
   past : r ≡ s
 
 -- the rests are compared with what follows them
-same_head : (order : Order) (offset : ℕ) (u v : ℕ × Parts) (x y x' y' r s : List ℕ) → u.0 ≡ offset → v.0 ≡ offset → UnitBytesIn order u.1 x
+same_head : (order : Order) (offset : ℕ) (u v : ℕ × UnitParts) (x y x' y' r s : List ℕ) → u.0 ≡ offset → v.0 ≡ offset → UnitBytesIn order u.1 x
     → UnitBytesIn order v.1 y → (x ++ x') ++ r ≡ (y ++ y') ++ s
     → SameHead u v x y (x' ++ r) (y' ++ s)
 same_head order offset u v x y x' y' r s at at' p q e =
@@ -46,7 +46,7 @@ same_head order offset u v x y x' y' r s at at' p q e =
 
 module _ (falls : FallIsNotOrdered) (missing : MissingFileIsNotThere) (text general : List ℕ) (dead : Option ℕ) (order : Order) where
   -- after sound units the first with a flaw is one
-  same_flawed : (offset : ℕ) (us vs : List (ℕ × Parts)) (u v : ℕ × Parts) (x y r s : List ℕ) (one two : No)
+  same_flawed : (offset : ℕ) (us vs : List (ℕ × UnitParts)) (u v : ℕ × UnitParts) (x y r s : List ℕ) (one two : No)
       → UnitsFrom order offset (us ++ u ∷ []) x → UnitsFrom order offset (vs ++ v ∷ []) y
       → x ++ r ≡ y ++ s → AllByRecursion (IsSoundUnit text general dead) us → AllByRecursion (IsSoundUnit text general dead) vs
       → IsFlaw text general dead u one → IsFlaw text general dead v two → u ≡ v
@@ -69,7 +69,7 @@ module _ (falls : FallIsNotOrdered) (missing : MissingFileIsNotThere) (text gene
       same_flawed (offset + length p.0) us vs u v p.1 q.1 r s one two p.5 later h.past sound.1 sound'.1 f g
 
   -- where no unit stands after sound ones, none has a flaw
-  none_flawed : (offset : ℕ) (us vs : List (ℕ × Parts)) (v : ℕ × Parts) (x y r s : List ℕ) (two : No) → UnitsFrom order offset us x
+  none_flawed : (offset : ℕ) (us vs : List (ℕ × UnitParts)) (v : ℕ × UnitParts) (x y r s : List ℕ) (two : No) → UnitsFrom order offset us x
       → UnitsFrom order offset (vs ++ v ∷ []) y
       → x ++ r ≡ y ++ s → NoneSpelled (UnitBytesIn order) r → AllByRecursion (IsSoundUnit text general dead) us
       → IsFlaw text general dead v two → ⊥
@@ -138,7 +138,7 @@ two_overlaps text general options section a b o q =
     one_overlap (kept_sequences options.dead options.skip_copies o.units) a b
     (kept_distinct options.skip_copies (live_sequences options.dead o.units)
     (distinct options.order options.dead o.units section o.spelled)) o.first
-    (subst (λ (units : List (ℕ × Parts)). IsFirstOverlap (kept_sequences options.dead options.skip_copies units) b) same q.first)
+    (subst (λ (units : List (ℕ × UnitParts)). IsFirstOverlap (kept_sequences options.dead options.skip_copies units) b) same q.first)
 
 two_flaws : FallIsNotOrdered → MissingFileIsNotThere → (text general : List ℕ) (options : Options) (section : List ℕ) (r s : No)
     → IsFirstFlaw text general options section r
@@ -147,7 +147,7 @@ two_flaws falls missing text general options section r s f g =
     let same : f.unit ≡ g.unit = same_flawed falls missing text general options.dead options.order 0 f.units g.units f.unit g.unit f.front
     g.front f.rest g.rest r s f.spelled g.spelled (sym f.split ∙ g.split) f.sound g.sound f.flaw g.flaw in
     one_flaw missing text general options.dead g.unit r s
-    (subst (λ (unit : ℕ × Parts). IsFlaw text general options.dead unit r) same f.flaw) g.flaw
+    (subst (λ (unit : ℕ × UnitParts). IsFlaw text general options.dead unit r) same f.flaw) g.flaw
 
 by_kinds : FallIsNotOrdered → MissingFileIsNotThere → OneTrueFault
     → (text general : List ℕ) (options : Options) (section : List ℕ) (r s : No) → Kind text general options section r

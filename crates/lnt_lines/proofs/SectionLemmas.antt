@@ -16,7 +16,7 @@ use Rattle.lnt_stream.specs.declared.stop.SectionStop.{SectionStop}
 use Rattle.lnt_stream.specs.declared.stop.SectionStop.TheVariants as section
 use Rattle.lnt_stream.specs.Stops.{IfFault}
 use Rattle.lnt_stream.specs.Units.{IsNextUnit, IsWholeUnit, SectionEndsBy, BufferedUnit}
-use Rattle.lnt_unit.specs.declared.unit.Parts.{Parts}
+use Rattle.lnt_header.specs.declared.unit_parts.UnitParts.{UnitParts}
 use Rattle.lnt_unit.specs.BrokenUnits.{BrokenUnit, IsTrueFault}
 use Rattle.lnt_unit.proofs.BrokenLaws.{frame_broken}
 use Rattle.lnt_unit.proofs.FrameLaws.{broken_more}
@@ -44,7 +44,7 @@ use Rattle.lnt_lines.proofs.DraftLemmas.{distinct, numbers_from, rising_from}
 
 -- what was judged so far: of the bytes that the source had to give, old, the front was taken, and now the others are left
 pub record JudgedSoFar (text general : List ℕ) (options : Options) (old now : Option (List ℕ)) (offset : ℕ) (draft : Draft) : Type 0 where
-  pub units : List (ℕ × Parts)
+  pub units : List (ℕ × UnitParts)
   pub front : List ℕ
   pub spelled : SectionBytes options.order units front
   pub pulls : Pulls old now front
@@ -233,7 +233,7 @@ whole_draft text general options section draft all = record {
 pub indexed : (text general : List ℕ) (options : Options) (section : Option (List ℕ)) (draft : Draft) (index : Indexed)
     → IsDraftOfSection text general options section draft
     → ((sequences : List Placed) → Collects draft.collected sequences → AreApart (kept_of options.skip_copies sequences))
-    → ((dead : Option ℕ) (units : List (ℕ × Parts)) → IsDraftOf text general dead units draft
+    → ((dead : Option ℕ) (units : List (ℕ × UnitParts)) → IsDraftOf text general dead units draft
     → IsIndexOf dead options.skip_copies units index) → index.line ≡ text → index.general ≡ general
     → IfSome section (λ bytes. IsIndexOfSection text general options bytes index)
 indexed text general options section draft index all apart is line_is general_is =

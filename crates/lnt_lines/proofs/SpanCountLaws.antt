@@ -4,7 +4,7 @@ use Rattle.std.specs.List.Sorted.{IsPermutation}
 use Rattle.std.proofs.lemmas.List.{length-append}
 use Rattle.std.proofs.lemmas.List.Sorted.{length_permutation}
 use Rattle.lnt_wire.specs.declared.format.Order.{Order}
-use Rattle.lnt_unit.specs.declared.unit.Parts.{Parts}
+use Rattle.lnt_header.specs.declared.unit_parts.UnitParts.{UnitParts}
 use Rattle.lnt_unit.specs.UnitBytes.{SectionBytes, UnitsFrom}
 use Rattle.lnt_unit.proofs.CountLaws.{ops_within}
 use Rattle.lnt_machine.specs.Matrix.{rows}
@@ -15,7 +15,7 @@ use Rattle.lnt_sequences.specs.Sequences.{kept_sequences}
 use Rattle.lnt_sequences.proofs.CountLaws.{rows_of_units, spans_within_rows}
 
 -- A unit makes a row for each of some operations, and each operation is spelled by a byte or more.
-rows_within : (order : Order) (offset : ℕ) (units : List (ℕ × Parts)) (bytes : List ℕ) → UnitsFrom order offset units bytes
+rows_within : (order : Order) (offset : ℕ) (units : List (ℕ × UnitParts)) (bytes : List ℕ) → UnitsFrom order offset units bytes
     → length (rows_of_units units) ≤ length bytes
 rows_within order offset [] bytes spelled = omega arith
 rows_within order offset (unit ∷ units) bytes (front, back, at, first, joined, later) =
@@ -30,13 +30,13 @@ rows_within order offset (unit ∷ units) bytes (front, back, at, first, joined,
     )
 
 -- The kept sequences of a section have no more spans than the section has bytes.
-pub spans_within_section : (order : Order) (dead : Option ℕ) (skip : Bool) (units : List (ℕ × Parts)) (section : List ℕ)
+pub spans_within_section : (order : Order) (dead : Option ℕ) (skip : Bool) (units : List (ℕ × UnitParts)) (section : List ℕ)
     → SectionBytes order units section → length (spans_of (kept_sequences dead skip units)) ≤ length section
 spans_within_section order dead skip units section spelled =
     omega (arith, spans_within_rows dead skip units, rows_within order 0 units section spelled)
 
 -- So it is of the same spans in any order.
-pub permuted_within_section : (order : Order) (dead : Option ℕ) (skip : Bool) (units : List (ℕ × Parts)) (section : List ℕ)
+pub permuted_within_section : (order : Order) (dead : Option ℕ) (skip : Bool) (units : List (ℕ × UnitParts)) (section : List ℕ)
     (spans : List Span) → SectionBytes order units section → IsPermutation (spans_of (kept_sequences dead skip units)) spans
     → length spans ≤ length section
 permuted_within_section order dead skip units section spans spelled same =

@@ -3,7 +3,7 @@ use Rattle.std.specs.Prelude.{◌≡◌, ◌<◌, Bool, ℕ, ◌==◌, List, map
 use Rattle.std.specs.List.{AllByRecursion, AllPairs, AllZip, position, slice_get}
 use Rattle.std.specs.List.Sorted.{IsPermutation}
 use Rattle.std.specs.Option.{option_and_then, option_map_or}
-use Rattle.lnt_unit.specs.declared.unit.Parts.{Parts}
+use Rattle.lnt_header.specs.declared.unit_parts.UnitParts.{UnitParts}
 use Rattle.lnt_files.specs.Files.{AreFilesOf, KeptFile, kept_path, kept_sum}
 use Rattle.lnt_sequences.specs.RowSpans.{spans_of}
 use Rattle.lnt_sequences.specs.Sequences.{kept_sequences, line_answer}
@@ -54,7 +54,7 @@ sum_in contents unit file = option_and_then (λ files. kept_sum files file) (fil
 
 -- The contents are those of the units: the spans of their kept sequences, each once and in order, which answer at each position as
 -- the rows do; the units' offsets; and their files.
-pub record TellsOf (line general : List ℕ) (dead : Option ℕ) (skip : Bool) (units : List (ℕ × Parts)) (contents : Contents) : Type 0 where
+pub record TellsOf (line general : List ℕ) (dead : Option ℕ) (skip : Bool) (units : List (ℕ × UnitParts)) (contents : Contents) : Type 0 where
   pub spans_are : IsPermutation (spans_of (kept_sequences dead skip units)) contents.spans
   pub in_order : AreInOrder contents.spans
   pub answers : (p : Position) → span_answer contents.spans p ≡ line_answer dead skip units p

@@ -2,7 +2,7 @@
 use Rattle.std.specs.Prelude.{◌≡◌, Bool, ℕ, ◌+◌, ◌≤◌, List, [], ◌∷◌, ◌++◌, length, Option, Some, None}
 use Rattle.std.specs.List.{AllZip}
 use Rattle.std.specs.List.Sorted.{IsPermutation}
-use Rattle.lnt_unit.specs.declared.unit.Parts.{Parts}
+use Rattle.lnt_header.specs.declared.unit_parts.UnitParts.{UnitParts}
 use Rattle.lnt_machine.specs.declared.row.Row.{Row}
 use Rattle.lnt_machine.specs.Walking.{KeptProgram, SequenceWalk}
 use Rattle.lnt_spans.specs.declared.position.Position.{Position}
@@ -47,7 +47,7 @@ pub record AreToCome (cursor : Cursor) (spans : List Span) : Type 0 where
 
 -- What is to come are the spans of the kept sequences of these units, each once: they are in order, answer as the rows do at
 -- every position, tell everything, and are no fewer than so many. Each of their numbers is of at most 64 bits.
-pub record GivesAllOf (dead : Option ℕ) (skip : Bool) (units : List (ℕ × Parts)) (count : ℕ) (cursor : Cursor) : Type 0 where
+pub record GivesAllOf (dead : Option ℕ) (skip : Bool) (units : List (ℕ × UnitParts)) (count : ℕ) (cursor : Cursor) : Type 0 where
   pub spans : List Span
   pub to_come : AreToCome cursor spans
   pub spans_are : IsPermutation (spans_of (kept_sequences dead skip units)) spans

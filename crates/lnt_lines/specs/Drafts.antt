@@ -2,7 +2,7 @@
 --     line, general   the bytes of .debug_line_str and of .debug_str
 --     dead            the address at which sequences of dead code begin, where one is given
 use Rattle.std.specs.Prelude.{◌≡◌, ℕ, List}
-use Rattle.lnt_unit.specs.declared.unit.Parts.{Parts}
+use Rattle.lnt_header.specs.declared.unit_parts.UnitParts.{UnitParts}
 use Rattle.lnt_lines.specs.declared.options.Options.{Options}
 use Rattle.lnt_lines.specs.declared.section.Judged.{Judged}
 use Rattle.lnt_lines.specs.declared.section.Judged.TheVariants.{Good, Bad}
@@ -15,13 +15,13 @@ use Rattle.lnt_lines.specs.Nos.{IsTrueNo}
 
 -- The section is good, and these are its lines.
 pub record AreLinesOf (line general : List ℕ) (options : Options) (section : List ℕ) (lines : Contents) : Type 0 where
-  pub units : List (ℕ × Parts)
+  pub units : List (ℕ × UnitParts)
   pub good : IsGood line general options section units
   pub tells : TellsOf line general options.dead options.skip_copies units lines
 
 -- The section is good, and this is the index of its units.
 pub record IsIndexOfSection (line general : List ℕ) (options : Options) (section : List ℕ) (index : Indexed) : Type 0 where
-  pub units : List (ℕ × Parts)
+  pub units : List (ℕ × UnitParts)
   pub good : IsGood line general options section units
   pub index_is : IsIndexOf options.dead options.skip_copies units index
   pub line_is : index.line ≡ line

@@ -3,7 +3,7 @@
 --     dead            the address at which sequences of dead code begin, where one is given
 use Rattle.std.specs.Prelude.{ℕ, List, length, Option}
 use Rattle.std.specs.List.{AllByRecursion}
-use Rattle.lnt_unit.specs.declared.unit.Parts.{Parts}
+use Rattle.lnt_header.specs.declared.unit_parts.UnitParts.{UnitParts}
 use Rattle.lnt_unit.specs.UnitBytes.{SectionBytes}
 use Rattle.lnt_machine.specs.Matrix.{Runs}
 use Rattle.lnt_files.specs.Tables.{AreUsableTables}
@@ -12,20 +12,20 @@ use Rattle.lnt_sequences.specs.Sequences.{kept_sequences, live_in}
 use Rattle.lnt_lines.specs.declared.options.Options.{Options}
 
 -- A unit whose program runs, and whose tables are usable: each file's directory is there, and the text of each path.
-pub record IsWellFormed (line general : List ℕ) (unit : Parts) : Type 0 where
+pub record IsWellFormed (line general : List ℕ) (unit : UnitParts) : Type 0 where
   pub runs : Runs unit
   pub tables : AreUsableTables line general unit.header
 
 -- A well-formed unit, which stands at an offset. The rows of its live sequences name files that are there, and their
 -- positions never fall.
-pub record IsSoundUnit (line general : List ℕ) (dead : Option ℕ) (unit : ℕ × Parts) : Type 0 where
+pub record IsSoundUnit (line general : List ℕ) (dead : Option ℕ) (unit : ℕ × UnitParts) : Type 0 where
   pub well_formed : IsWellFormed line general unit.1
   pub files : HaveFiles (length unit.1.header.files) (live_in dead unit)
   pub ordered : AreOrdered (live_in dead unit)
 
 -- The section is the bytes of these units. Each of them is sound, and no position is held by two of their kept sequences: of
 -- the live ones, less the copies where these are skipped.
-pub record IsGood (line general : List ℕ) (options : Options) (section : List ℕ) (units : List (ℕ × Parts)) : Type 0 where
+pub record IsGood (line general : List ℕ) (options : Options) (section : List ℕ) (units : List (ℕ × UnitParts)) : Type 0 where
   pub spelled : SectionBytes options.order units section
   pub sound : AllByRecursion (IsSoundUnit line general options.dead) units
   pub apart : AreApart (kept_sequences options.dead options.skip_copies units)

@@ -6,7 +6,7 @@ use Rattle.std.specs.List.Sorted.{IsPermutation}
 use Rattle.std.specs.Option.{option_and_then, option_map, option_map_or}
 use Rattle.lnt_header.specs.declared.header.HeaderParts.{HeaderParts}
 use Rattle.lnt_header.specs.HeaderRules.{HasHeaderNumbers}
-use Rattle.lnt_unit.specs.declared.unit.Parts.{Parts}
+use Rattle.lnt_header.specs.declared.unit_parts.UnitParts.{UnitParts}
 use Rattle.lnt_machine.specs.declared.row.Row.{Row}
 use Rattle.lnt_machine.specs.declared.row.Sequence.{Sequence}
 use Rattle.lnt_machine.specs.Matrix.{sequences}
@@ -31,7 +31,7 @@ pub record Indexed : Type 0 where
 
 -- The index is that of the kept sequences of these units, no two of which hold one position. Positions fall in no live sequence.
 -- The units stand in order, and the tables of each are usable.
-pub record IsIndexOf (dead : Option ℕ) (skip : Bool) (units : List (ℕ × Parts)) (index : Indexed) : Type 0 where
+pub record IsIndexOf (dead : Option ℕ) (skip : Bool) (units : List (ℕ × UnitParts)) (index : Indexed) : Type 0 where
   pub settled : AreSettled index.entries
   pub entries : IsPermutation (extents_of (kept_sequences dead skip units)) index.entries
   pub apart : AreApart (kept_sequences dead skip units)
@@ -46,7 +46,7 @@ pub record IsIndexOf (dead : Option ℕ) (skip : Bool) (units : List (ℕ × Par
 pub record IsIndex (index : Indexed) : Type 0 where
   pub dead : Option ℕ
   pub skip : Bool
-  pub units : List (ℕ × Parts)
+  pub units : List (ℕ × UnitParts)
   pub index_is : IsIndexOf dead skip units index
   pub files : AllByRecursion (λ unit. HaveFiles (length unit.1.header.files) (live_in dead unit)) units
   pub numbers : AllByRecursion (λ kept. HasHeaderNumbers kept.header) index.programs
@@ -80,7 +80,7 @@ file_sum_in index unit file = option_and_then (λ header. listed_sum header file
 -- The sequence with this id has these rows: of these units and their programs.
 pub record IsSequenceIn (units : List ℕ) (programs : List KeptProgram) (id : SeqId) (rows : List Row) : Type 0 where
   pub place : ℕ
-  pub unit : Parts
+  pub unit : UnitParts
   pub place_is : Some place ≡ position (λ offset. offset == id.unit) units
   pub within : place < length programs
   pub keeps : (d : KeptProgram) → KeepsProgram (get_or programs place d) unit

@@ -5,7 +5,7 @@
 use Rattle.std.specs.Prelude.{◌≡◌, ℕ, List, [], ◌∷◌, ◌++◌, length, drop, Option}
 use Rattle.lnt_wire.specs.declared.fault.Fault.{Fault}
 use Rattle.lnt_stream.specs.Units.{BufferedUnit}
-use Rattle.lnt_unit.specs.declared.unit.Parts.{Parts}
+use Rattle.lnt_header.specs.declared.unit_parts.UnitParts.{UnitParts}
 use Rattle.lnt_unit.specs.BrokenUnits.{BrokenUnit}
 use Rattle.lnt_unit.specs.UnitBytes.{UnitBytesIn}
 use Rattle.lnt_unit.specs.Views.{HasCount, View}
@@ -27,7 +27,7 @@ use Rattle.lnt_lines.specs.Nos.{IsFlaw}
 
 -- The bytes of the buffer are those of a unit with this flaw.
 pub record HasFlaw (line general : List ℕ) (dead : Option ℕ) (buffer : BufferedUnit) (reason : No) : Type 0 where
-  pub unit : Parts
+  pub unit : UnitParts
   pub spelled : UnitBytesIn buffer.order unit buffer.bytes
   pub flaw : IsFlaw line general dead (buffer.offset, unit) reason
 
@@ -51,7 +51,7 @@ pub data IsRefusalOfRun (view : View) (unit : ℕ) (fault : RunFault) (told : Re
 
 -- The program of the unit ran to its end, all of its rows were seen, and these are the places of its sequences.
 pub record HasRun (dead : Option ℕ) (view : View) (places : List ℕ) (old new : Collected) (watch : Watch) : Type 0 where
-  pub unit : Parts
+  pub unit : UnitParts
   pub header_is : unit.header ≡ view.header
   pub spelled : UnitBytesIn view.unit.order unit view.unit.bytes
   pub runs : Runs unit
@@ -66,11 +66,11 @@ kept_program_of buffer unit = record { header = unit.header; program = drop unit
 -- The bytes of the buffer are those of a sound unit, whose program is kept. What its live sequences hold was collected.
 pub record IsJudgedSound (line general : List ℕ) (dead : Option ℕ) (buffer : BufferedUnit) (old new : Collected)
     (kept : KeptProgram) : Type 0 where
-  pub unit : Parts
+  pub unit : UnitParts
   pub spelled : UnitBytesIn buffer.order unit buffer.bytes
   pub sound : IsSoundUnit line general dead (buffer.offset, unit)
   pub keeps : KeepsProgram kept unit
-  pub collects : (units : List (ℕ × Parts)) → Collects old (live_sequences dead units)
+  pub collects : (units : List (ℕ × UnitParts)) → Collects old (live_sequences dead units)
       → Collects new (live_sequences dead (units ++ (buffer.offset, unit) ∷ []))
 
 -- A unit whose program ran to its end, and whose rows the watch has seen, has this flaw; or it is sound.

@@ -4,7 +4,7 @@
 use Rattle.std.specs.Prelude.{◌≡◌, ◌≢◌, Bool, ℕ, List, length, None, Option, Some}
 use Rattle.std.specs.List.{All, Contains}
 use Rattle.lnt_wire.specs.declared.format.Order.{Order}
-use Rattle.lnt_unit.specs.declared.unit.Parts.{Parts}
+use Rattle.lnt_header.specs.declared.unit_parts.UnitParts.{UnitParts}
 use Rattle.lnt_unit.specs.UnitBytes.{SectionBytes}
 use Rattle.lnt_machine.specs.declared.row.Row.{Row}
 use Rattle.lnt_spans.specs.declared.position.Position.{Position}
@@ -20,45 +20,45 @@ use Rattle.lnt_lines.specs.Nos.{IsTrueNo}
 
 -- Of a good section no reason is true.
 abbrev pub GoodHasNoFlaw : Type 0
-GoodHasNoFlaw = (line general : List ℕ) (options : Options) (section : List ℕ) (units : List (ℕ × Parts)) (reason : No)
+GoodHasNoFlaw = (line general : List ℕ) (options : Options) (section : List ℕ) (units : List (ℕ × UnitParts)) (reason : No)
     → IsGood line general options section units → IsTrueNo line general options section reason → ⊥
 
 -- The files that are held of a unit are those that its header lists.
-pub record ListsFilesOf (line general : List ℕ) (unit : ℕ × Parts) (contents : Contents) : Type 0 where
+pub record ListsFilesOf (line general : List ℕ) (unit : ℕ × UnitParts) (contents : Contents) : Type 0 where
   pub count : count_in contents unit.0 ≡ length unit.1.header.files
   pub paths : (file : ℕ) → path_in contents unit.0 file ≡ path_bytes line general unit.1.header file
   pub sums : (file : ℕ) → sum_in contents unit.0 file ≡ listed_sum unit.1.header file
 
 -- So it is of each unit of the section, and no files are held where no unit stands.
 pub record FilesOfUnits : Type 0 where
-  pub listed : (line general : List ℕ) (dead : Option ℕ) (skip : Bool) (order : Order) (section : List ℕ) (units : List (ℕ × Parts))
-      (contents : Contents) (unit : ℕ × Parts)
+  pub listed : (line general : List ℕ) (dead : Option ℕ) (skip : Bool) (order : Order) (section : List ℕ) (units : List (ℕ × UnitParts))
+      (contents : Contents) (unit : ℕ × UnitParts)
       → SectionBytes order units section → TellsOf line general dead skip units contents → Contains units unit
       → ListsFilesOf line general unit contents
-  pub none : (line general : List ℕ) (dead : Option ℕ) (skip : Bool) (units : List (ℕ × Parts)) (contents : Contents) (offset : ℕ)
+  pub none : (line general : List ℕ) (dead : Option ℕ) (skip : Bool) (units : List (ℕ × UnitParts)) (contents : Contents) (offset : ℕ)
       → TellsOf line general dead skip units contents → All (λ unit. unit.0 ≢ offset) units → files_of contents offset ≡ None
 
 -- The header that an index finds at the offset of a unit is that of the unit, and it finds none where no unit stands.
 pub record HeadersOfUnits : Type 0 where
-  pub found : (dead : Option ℕ) (skip : Bool) (units : List (ℕ × Parts)) (index : Indexed) (unit : ℕ × Parts)
+  pub found : (dead : Option ℕ) (skip : Bool) (units : List (ℕ × UnitParts)) (index : Indexed) (unit : ℕ × UnitParts)
       → IsIndexOf dead skip units index → Contains units unit → header_in index unit.0 ≡ Some unit.1.header
-  pub none : (dead : Option ℕ) (skip : Bool) (units : List (ℕ × Parts)) (index : Indexed) (offset : ℕ) → IsIndexOf dead skip units index
+  pub none : (dead : Option ℕ) (skip : Bool) (units : List (ℕ × UnitParts)) (index : Indexed) (offset : ℕ) → IsIndexOf dead skip units index
       → All (λ unit. unit.0 ≢ offset) units → header_in index offset ≡ None
 
 -- Of the kept sequences of a good section at most one holds p, and the section answers at p what its last row at or before p says.
 -- Where none holds p, it answers nothing.
 pub record AnswersAsHolder : Type 0 where
-  pub one_alone : (line general : List ℕ) (options : Options) (section : List ℕ) (units : List (ℕ × Parts)) (one other : Placed)
+  pub one_alone : (line general : List ℕ) (options : Options) (section : List ℕ) (units : List (ℕ × UnitParts)) (one other : Placed)
       (p : Position) → IsGood line general options section units
       → Contains (kept_sequences options.dead options.skip_copies units) one
       → Contains (kept_sequences options.dead options.skip_copies units) other → Holds one.rows p
       → Holds other.rows p → one ≡ other
-  pub held : (line general : List ℕ) (options : Options) (section : List ℕ) (units : List (ℕ × Parts)) (placed : Placed) (p : Position)
+  pub held : (line general : List ℕ) (options : Options) (section : List ℕ) (units : List (ℕ × UnitParts)) (placed : Placed) (p : Position)
       → IsGood line general options section units
       → Contains (kept_sequences options.dead options.skip_copies units) placed → Holds placed.rows p
       → (row : Row) × IsLastAt p placed.rows row
       × (line_answer options.dead options.skip_copies units p ≡ Some (answer_of placed.id.unit row))
-  pub none : (dead : Option ℕ) (skip : Bool) (units : List (ℕ × Parts)) (p : Position)
+  pub none : (dead : Option ℕ) (skip : Bool) (units : List (ℕ × UnitParts)) (p : Position)
       → ((placed : Placed) → Contains (kept_sequences dead skip units) placed → Holds placed.rows p → ⊥)
       → line_answer dead skip units p ≡ None
 

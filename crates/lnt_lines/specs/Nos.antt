@@ -4,7 +4,7 @@
 use Rattle.std.specs.Prelude.{◌≡◌, ◌≢◌, ℕ, List, [], ◌∷◌, ◌++◌, length, Option}
 use Rattle.std.specs.List.{AllByRecursion}
 use Rattle.lnt_wire.specs.declared.fault.Fault.{Fault}
-use Rattle.lnt_unit.specs.declared.unit.Parts.{Parts}
+use Rattle.lnt_header.specs.declared.unit_parts.UnitParts.{UnitParts}
 use Rattle.lnt_unit.specs.BrokenUnits.{BrokenSection}
 use Rattle.lnt_unit.specs.UnitBytes.{SectionBytes}
 use Rattle.lnt_machine.specs.declared.fault.RunFault.TheVariants as run
@@ -23,7 +23,7 @@ use Rattle.lnt_lines.specs.Good.{IsSoundUnit, IsWellFormed}
 
 -- The unit at this offset has the flaw that is told, and none of a lower number; and it is the first of its number.
 -- What isn't of one unit is no flaw.
-abbrev pub IsFlaw : List ℕ → List ℕ → Option ℕ → ℕ × Parts → No → Type 0
+abbrev pub IsFlaw : List ℕ → List ℕ → Option ℕ → ℕ × UnitParts → No → Type 0
 IsFlaw line general dead unit (no.Run offset fault) = (offset ≡ unit.0) × (fault ≢ run.Memory) × IsRunFault unit.1 fault
 IsFlaw line general dead unit (no.EntryFormat offset which) =
     (offset ≡ unit.0) × Runs unit.1 × IsTablesFault line general unit.1.header (table.EntryFormat which)
@@ -41,8 +41,8 @@ IsFlaw line general dead unit _ = ⊥
 
 -- A front of the section is the bytes of sound units, and of one after them that has the flaw.
 pub record IsFirstFlaw (line general : List ℕ) (options : Options) (section : List ℕ) (reason : No) : Type 0 where
-  pub units : List (ℕ × Parts)
-  pub unit : ℕ × Parts
+  pub units : List (ℕ × UnitParts)
+  pub unit : ℕ × UnitParts
   pub front : List ℕ
   pub rest : List ℕ
   pub spelled : SectionBytes options.order (units ++ unit ∷ []) front
@@ -57,7 +57,7 @@ pub record IsMalformed (line general : List ℕ) (options : Options) (section : 
 
 -- The section is the bytes of sound units, and of their kept sequences these are the first that overlap.
 pub record IsOverlap (line general : List ℕ) (options : Options) (section : List ℕ) (overlap : Overlap) : Type 0 where
-  pub units : List (ℕ × Parts)
+  pub units : List (ℕ × UnitParts)
   pub spelled : SectionBytes options.order units section
   pub sound : AllByRecursion (IsSoundUnit line general options.dead) units
   pub first : IsFirstOverlap (kept_sequences options.dead options.skip_copies units) overlap

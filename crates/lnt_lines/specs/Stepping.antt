@@ -3,7 +3,7 @@ use Rattle.std.specs.Prelude.{◌≡◌, ℕ, List, [], ◌∷◌, ◌++◌, map
 use Rattle.std.specs.List.{AllByRecursion, AllZip}
 use Rattle.lnt_header.specs.HeaderRules.{HasHeaderNumbers}
 use Rattle.lnt_stream.specs.Units.{BufferedUnit}
-use Rattle.lnt_unit.specs.declared.unit.Parts.{Parts}
+use Rattle.lnt_header.specs.declared.unit_parts.UnitParts.{UnitParts}
 use Rattle.lnt_unit.specs.UnitBytes.{SectionBytes, UnitBytesIn}
 use Rattle.lnt_machine.specs.Walking.{KeepsProgram, KeptProgram}
 use Rattle.lnt_sequences.specs.Rules.{AreDistinct}
@@ -21,7 +21,7 @@ use Rattle.lnt_spans.specs.Coming.{GivesFirstSpan}
 use Rattle.lnt_lines.specs.Cursors.{Cursor, ComeLater, AreToCome}
 
 -- The draft is of these units, all of which are sound.
-pub record IsDraftOf (line general : List ℕ) (dead : Option ℕ) (units : List (ℕ × Parts)) (draft : Draft) : Type 0 where
+pub record IsDraftOf (line general : List ℕ) (dead : Option ℕ) (units : List (ℕ × UnitParts)) (draft : Draft) : Type 0 where
   pub sound : AllByRecursion (IsSoundUnit line general dead) units
   pub collects : Collects draft.collected (live_sequences dead units)
   pub offsets : draft.units.items ≡ map (λ unit. unit.0) units
@@ -30,7 +30,7 @@ pub record IsDraftOf (line general : List ℕ) (dead : Option ℕ) (units : List
 -- The draft is of some units that stand in order, with different sequences, and with headers whose numbers are such as can be read.
 pub record IsWholeDraft (line general : List ℕ) (draft : Draft) : Type 0 where
   pub dead : Option ℕ
-  pub units : List (ℕ × Parts)
+  pub units : List (ℕ × UnitParts)
   pub draft_is : IsDraftOf line general dead units draft
   pub numbers : AllByRecursion (λ unit. HasHeaderNumbers unit.1.header) units
   pub distinct : AreDistinct (live_sequences dead units)
@@ -38,7 +38,7 @@ pub record IsWholeDraft (line general : List ℕ) (draft : Draft) : Type 0 where
 
 -- The draft is of units that the whole section is the bytes of, where its source tells its bytes.
 pub record IsDraftOfSection (line general : List ℕ) (options : Options) (section : Option (List ℕ)) (draft : Draft) : Type 0 where
-  pub units : List (ℕ × Parts)
+  pub units : List (ℕ × UnitParts)
   pub bytes : List ℕ
   pub spelled : SectionBytes options.order units bytes
   pub whole : IfSome section (λ known. bytes ≡ known)
@@ -46,9 +46,9 @@ pub record IsDraftOfSection (line general : List ℕ) (options : Options) (secti
 
 -- One more unit is in the draft: that whose bytes are in the buffer.
 pub record HasAdded (line general : List ℕ) (dead : Option ℕ) (buffer : BufferedUnit) (old new : Draft) : Type 0 where
-  pub unit : Parts
+  pub unit : UnitParts
   pub spelled : UnitBytesIn buffer.order unit buffer.bytes
-  pub drafts : (units : List (ℕ × Parts)) → IsDraftOf line general dead units old
+  pub drafts : (units : List (ℕ × UnitParts)) → IsDraftOf line general dead units old
       → IsDraftOf line general dead (units ++ (buffer.offset, unit) ∷ []) new
 
 -- What is told of the section is wrong with it.

@@ -1,6 +1,6 @@
 //! What is known of a section as far as its units were judged.
 ghost use Rattle.std.specs.Prelude.{◌≡◌, ◌≤◌, ℕ, List, [], ◌∷◌, ◌++◌, length, drop, Option, IfOk, OnOk, IfErr};
-ghost use Rattle.lnt_unit.specs.declared.unit.Parts.{Parts};
+ghost use Rattle.lnt_header.specs.declared.unit_parts.UnitParts.{UnitParts};
 ghost use Rattle.lnt_sequences.specs.Extents.{IsFirstOverlap};
 ghost use Rattle.lnt_sequences.specs.Rules.{AreApart};
 ghost use Rattle.lnt_sequences.specs.Sequences.{Placed, kept_of};
@@ -85,7 +85,7 @@ impl Draft {
         skip_copies: bool,
     ) -> Result<Index<'a>, Overlap>
         requires { IsWholeDraft strings.now.line.now strings.now.general.now self }
-        ensures index { IfOk result (λ index. (dead : Option ℕ) (units : List (ℕ × Parts))
+        ensures index { IfOk result (λ index. (dead : Option ℕ) (units : List (ℕ × UnitParts))
             → IsDraftOf strings.now.line.now strings.now.general.now dead units self → IsIndexOf dead skip_copies units index) }
         ensures line { IfOk result (λ index. index.line ≡ strings.now.line.now) }
         ensures general { IfOk result (λ index. index.general ≡ strings.now.general.now) }

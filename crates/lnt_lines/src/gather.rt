@@ -1,6 +1,6 @@
 //! The lines of an index, with all spans and paths at hand.
 ghost use Rattle.std.specs.Prelude.{◌≡◌, Bool, ℕ, List, Option, IfOk};
-ghost use Rattle.lnt_unit.specs.declared.unit.Parts.{Parts};
+ghost use Rattle.lnt_header.specs.declared.unit_parts.UnitParts.{UnitParts};
 ghost use Rattle.lnt_lines.specs.Contents.{TellsOf};
 ghost use Rattle.lnt_lines.specs.Indexed.{IsIndexOf};
 
@@ -11,7 +11,7 @@ use std::alloc::{AllocError, Global};
 
 // The lines of the units that the index is of. The one error is that memory ran out.
 pub(crate) fn lines_of(alloc: Global, index: &Index<'_>) -> Result<Lines, AllocError>
-    ensures { IfOk result (λ lines. (dead : Option ℕ) (skip : Bool) (units : List (ℕ × Parts)) → IsIndexOf dead skip units index.now
+    ensures { IfOk result (λ lines. (dead : Option ℕ) (skip : Bool) (units : List (ℕ × UnitParts)) → IsIndexOf dead skip units index.now
         → TellsOf index.now.line index.now.general dead skip units lines) }
 {
     let spans = collect(alloc, index.spans())?;

@@ -4,7 +4,7 @@ ghost use Rattle.std.specs.Prelude.{IsSome, IsSomeAnd, IsTrue};
 ghost use Rattle.std.specs.List.{All, AllByRecursion, AllZip};
 ghost use Rattle.std.specs.List.Sorted.{IsPermutation};
 ghost use Rattle.std.specs.Option.{option_map};
-ghost use Rattle.lnt_unit.specs.declared.unit.Parts.{Parts};
+ghost use Rattle.lnt_header.specs.declared.unit_parts.UnitParts.{UnitParts};
 ghost use Rattle.lnt_machine.specs.declared.row.Row.{Row};
 ghost use Rattle.lnt_machine.specs.Walking.{WillGive};
 ghost use Rattle.lnt_files.specs.Files.{AreFilesOf};
@@ -107,7 +107,7 @@ impl<'a> Index<'a> {
     /// digits: `probes` rises by the comparisons. The caller sees to it that `probes` stands at 2^63 or below.
     pub fn lookup(&self, position: Position, probes: &mut Probes) -> Option<Answer>
         requires { probes.old ≤ 2 ^ 63 }
-        ensures answer { (dead : Option ℕ) (skip : Bool) (units : List (ℕ × Parts)) → IsIndexOf dead skip units self.now
+        ensures answer { (dead : Option ℕ) (skip : Bool) (units : List (ℕ × UnitParts)) → IsIndexOf dead skip units self.now
             → result ≡ line_answer dead skip units position }
         ensures named { IfSome result (λ answer. IsSome (file_path_in self.now answer.unit answer.file)) }
         ensures rises { probes.old ≤ probes.new }
@@ -129,7 +129,7 @@ impl<'a> Index<'a> {
     /// spans come next, and there are no fewer spans than sequences that hold anything. It takes no memory.
     pub fn spans(&self) -> Spans<'_>
         ensures is_index { IsIndex self.now }
-        ensures gives { (dead : Option ℕ) (skip : Bool) (units : List (ℕ × Parts)) → IsIndexOf dead skip units self.now
+        ensures gives { (dead : Option ℕ) (skip : Bool) (units : List (ℕ × UnitParts)) → IsIndexOf dead skip units self.now
             → GivesAllOf dead skip units (length self.now.entries) result }
     {
         lnt_sequences::laws::entries_in_turn();
@@ -140,7 +140,7 @@ impl<'a> Index<'a> {
     /// Whether no instruction of the units has more than one operation, as their headers say (DWARF 5, section 6.2.4). Then
     /// each span begins and ends at operation index 0, which is told without a walk over the rows.
     pub fn has_single_operations(&self) -> bool
-        ensures { IsTrue result → (dead : Option ℕ) (skip : Bool) (units : List (ℕ × Parts)) (spans : List Span)
+        ensures { IsTrue result → (dead : Option ℕ) (skip : Bool) (units : List (ℕ × UnitParts)) (spans : List Span)
             → IsIndexOf dead skip units self.now → IsPermutation (spans_of (kept_sequences dead skip units)) spans
             → AllByRecursion IsOfInstructions spans }
     {

@@ -4,12 +4,11 @@ use Rattle.std.specs.Prelude.{true, false, ℤ, pos, ◌+ℤ◌, unsigned_abs, O
 use Rattle.std.specs.List.{cons_option}
 use Rattle.lnt_wire.specs.declared.format.Format.{Format}
 use Rattle.lnt_wire.specs.declared.format.Order.{Order}
-use Rattle.lnt_header.specs.Conversion.{in_format}
+use Rattle.lnt_header.specs.Conversion.{in_format, unit_in_format}
 use Rattle.lnt_header.specs.declared.header.HeaderParts.{HeaderParts}
 use Rattle.lnt_header.specs.declared.op.Op.{Op}
 use Rattle.lnt_header.specs.declared.op.Op.TheVariants.{Special, Copy, AdvanceLine, FixedAdvancePc, EndSequence, SetAddress}
-use Rattle.lnt_unit.specs.Converting.{unit_in_format}
-use Rattle.lnt_unit.specs.declared.unit.Parts.{Parts}
+use Rattle.lnt_header.specs.declared.unit_parts.UnitParts.{UnitParts}
 use Rattle.lnt_machine.specs.Laws.{SameMatrix}
 use Rattle.lnt_machine.proofs.NumberLaws.{fault_over, runs_over}
 use Rattle.lnt_machine.specs.Matrix.{row_of, end_row_of, row_made, rows_after, rows, sequences_of}
@@ -108,7 +107,7 @@ same_rows h format order back (op ∷ ops) =
     ap (λ (row : Option Row). cons_option row (rows_after (in_format h format order) (op ∷ back) ops)) (same_made h format order back op)
     ∙ ap (λ (more : List Row). cons_option (row_made h back op) more) (same_rows h format order (op ∷ back) ops)
 
-unit_rows : (unit : Parts) (format : Format) (order : Order) → rows (unit_in_format unit format order) ≡ rows unit
+unit_rows : (unit : UnitParts) (format : Format) (order : Order) → rows (unit_in_format unit format order) ≡ rows unit
 unit_rows unit format order = same_rows unit.header format order [] unit.ops
 
 -- ---- how the program runs

@@ -14,7 +14,7 @@ use Rattle.lnt_header.specs.Joins.{Each}
 use Rattle.lnt_ops.proofs.OpLaws.{op_allowed}
 use Rattle.lnt_ops.specs.OpBytes.{OpBytes}
 use Rattle.lnt_ops.specs.Spelled.{FitsOp}
-use Rattle.lnt_unit.specs.declared.unit.Parts.{Parts}
+use Rattle.lnt_header.specs.declared.unit_parts.UnitParts.{UnitParts}
 use Rattle.lnt_machine.specs.declared.row.Row.{Row}
 use Rattle.lnt_machine.specs.declared.row.Sequence.{Sequence}
 use Rattle.lnt_machine.specs.Matrix.{end_row_of, row_made, row_of, rows_after, sequences, sequences_of}
@@ -166,7 +166,7 @@ rows_fit h back (op ∷ ops) x numbers f spelled lines =
 -- ---- sequences
 
 -- No sequence ends before the place of the first one, so that its operations and the later ones make all of them.
-fit_from_first : (unit : Parts) (program : List ℕ) (place : ℕ) → HasHeaderNumbers unit.header → IsPlaceOf unit program 0 place
+fit_from_first : (unit : UnitParts) (program : List ℕ) (place : ℕ) → HasHeaderNumbers unit.header → IsPlaceOf unit program 0 place
     → AllByRecursion FitsSequence (sequences unit)
 fit_from_first unit program place numbers is =
     let h = unit.header in
@@ -189,7 +189,7 @@ abbrev pub HasNumbers : KeptProgram → Type 0
 HasNumbers kept = HasHeaderNumbers kept.header
 
 -- The rows in sequences of a unit whose program is kept fit.
-pub kept_fits : (kept : KeptProgram) (unit : Parts) → HasNumbers kept → KeepsProgram kept unit
+pub kept_fits : (kept : KeptProgram) (unit : UnitParts) → HasNumbers kept → KeepsProgram kept unit
     → AllByRecursion FitsSequence (sequences unit)
 kept_fits kept unit numbers keeps = by_first (sequences unit) refl
   where

@@ -2,12 +2,12 @@
 use Rattle.std.proofs.Common.{◌≡◌, ℕ, ◌+◌, ◌%◌, ◌<◌, ◌≤◌, List, [], ◌∷◌, length, refl, sym, ap, subst, ◌∙◌}
 use Rattle.std.specs.Prelude.{true, false, ℤ, pos, ◌+ℤ◌, unsigned_abs, Option, Some, reverse, slice_index_or}
 use Rattle.std.specs.List.{cons_option}
-use Rattle.lnt_header_bytes.specs.Borrowed.{without_entries}
+use Rattle.lnt_header.specs.HeaderNumbers.{without_entries}
 use Rattle.lnt_header.specs.declared.header.HeaderParts.{HeaderParts}
 use Rattle.lnt_header.specs.declared.op.Op.{Op}
 use Rattle.lnt_header.specs.declared.op.Op.TheVariants.{Special, Copy, AdvanceLine, FixedAdvancePc, EndSequence, SetAddress}
-use Rattle.lnt_unit.specs.declared.unit.Parts.{Parts}
-use Rattle.lnt_unit.proofs.NumberLaws.{numbers_of_ops, ops_by_numbers}
+use Rattle.lnt_header.specs.declared.unit_parts.UnitParts.{UnitParts}
+use Rattle.lnt_ops.proofs.NumberLaws.{numbers_of_ops, ops_by_numbers}
 use Rattle.lnt_machine.proofs.PlaceLaws.{kept_sequence}
 use Rattle.lnt_machine.specs.Laws.{unit_by_numbers, SameByNumbers}
 use Rattle.lnt_machine.specs.Matrix.{row_of, end_row_of, row_made, rows_after, rows, sequences_of, joined_rows, done}
@@ -107,7 +107,7 @@ same_rows h back (op ∷ ops) =
     ∙ ap (λ (more : List Row). cons_option (row_made h back op) more) (same_rows h (op ∷ back) ops)
 
 -- the unit of the same operations, with the numbers of its header alone
-unit_rows : (unit : Parts) → rows (unit_by_numbers unit) ≡ rows unit
+unit_rows : (unit : UnitParts) → rows (unit_by_numbers unit) ≡ rows unit
 unit_rows unit = same_rows unit.header [] unit.ops
 
 -- ---- how the program runs
@@ -184,7 +184,7 @@ place_by_numbers h program earlier later place is =
     }
 
 -- the rows of the sequence with an index, where a walk by the header's numbers gives those from its place on
-pub sequence_by_numbers : (kept : KeptProgram) (numbers : HeaderParts) (unit : Parts) (index place : ℕ) (d : Sequence) (walk : SequenceWalk)
+pub sequence_by_numbers : (kept : KeptProgram) (numbers : HeaderParts) (unit : UnitParts) (index place : ℕ) (d : Sequence) (walk : SequenceWalk)
     → numbers ≡ without_entries kept.header → KeepsProgram kept unit
     → index < length kept.places → slice_index_or kept.places index 0 ≡ place
     → ((earlier later : List Op) → IsSequencePlace numbers kept.program earlier later place

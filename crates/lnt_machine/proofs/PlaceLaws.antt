@@ -16,7 +16,7 @@ use Rattle.lnt_ops.proofs.LeftLaws.{place_found}
 use Rattle.lnt_ops.specs.Left.{IsPlace}
 use Rattle.lnt_ops.specs.OpBytes.{OpBytes}
 use Rattle.lnt_ops.specs.Stepping.{OpsSoFar}
-use Rattle.lnt_unit.specs.declared.unit.Parts.{Parts}
+use Rattle.lnt_header.specs.declared.unit_parts.UnitParts.{UnitParts}
 use Rattle.lnt_machine.specs.declared.row.Row.{Row}
 use Rattle.lnt_machine.specs.declared.row.Sequence.{Sequence}
 use Rattle.lnt_machine.proofs.PartLaws.{first_of, rows_at_start, sequences_of_parts}
@@ -40,7 +40,7 @@ index_after (one ∷ front) rest d k e few = rw e (by_rest rest (omega (arith, l
     by_rest (first ∷ others) some = (first, others, refl, get_or-append_seam (one ∷ front) first others d)
 
 -- the sequence with this index has the rows from its place on, up to the first end row
-pub sequence_at : (unit : Parts) (program : List ℕ) (index place : ℕ) (d : Sequence) (is : IsPlaceOf unit program index place)
+pub sequence_at : (unit : UnitParts) (program : List ℕ) (index place : ℕ) (d : Sequence) (is : IsPlaceOf unit program index place)
     → index < length (sequences unit)
     → (slice_index_or (sequences unit) index d).rows ≡ first_sequence (rows_after unit.header (reverse is.earlier) is.later)
 sequence_at unit program index place d is few =
@@ -56,7 +56,7 @@ sequence_at unit program index place d is few =
     ∙ ap first_sequence (sym (rows_at_start h (reverse is.earlier) is.later is.place_is.start))
 
 -- the rows of the sequence with an index, where a walk gives those from its place on
-pub kept_sequence : (kept : KeptProgram) (unit : Parts) (index place : ℕ) (d : Sequence) (walk : SequenceWalk) → KeepsProgram kept unit
+pub kept_sequence : (kept : KeptProgram) (unit : UnitParts) (index place : ℕ) (d : Sequence) (walk : SequenceWalk) → KeepsProgram kept unit
     → index < length kept.places → slice_index_or kept.places index 0 ≡ place
     → ((earlier later : List Op) → IsSequencePlace kept.header kept.program earlier later place
     → WillGive (first_sequence (rows_after kept.header (reverse earlier) later)) walk)
@@ -90,7 +90,7 @@ lines_after h earlier (op ∷ later) fit =
     fit) in
     (here, subst (λ (back : List Op). LinesAfter h back later) (reverse-append earlier (op ∷ [])) more)
 
-pub place_of_front : (unit : Parts) (program : List ℕ) (index place : ℕ) → IsHeader unit.header
+pub place_of_front : (unit : UnitParts) (program : List ℕ) (index place : ℕ) → IsHeader unit.header
     → Each (OpBytes unit.header) unit.ops program → LinesFit unit (length unit.ops)
     → IsProgramFront unit.header program index place → IsPlaceOf unit program index place
 place_of_front unit program index place valid all fit is =
@@ -163,7 +163,7 @@ ends_at_start h back op row made ends = absurd (none_is made)
     none_is e = cc
 
 -- the program was read to its end, and runs
-pub places_kept : (unit : Parts) (header : HeaderParts) (program : List ℕ) (places : List ℕ) (place : ℕ) → IsHeader unit.header
+pub places_kept : (unit : UnitParts) (header : HeaderParts) (program : List ℕ) (places : List ℕ) (place : ℕ) → IsHeader unit.header
     → header ≡ unit.header → Each (OpBytes unit.header) unit.ops program
     → LinesFit unit (length unit.ops) → HasPlaces unit.header program (length (sequences unit)) places place
     → KeepsProgram (record { header = header; program = program; places = places }) unit

@@ -5,8 +5,7 @@ use Rattle.lnt_header.specs.declared.op.Op.{Op}
 use Rattle.lnt_header.specs.declared.op.OpView.{OpView}
 use Rattle.lnt_header.specs.OpRules.{Admits, StandsFor}
 use Rattle.lnt_ops.specs.Walks as walks
-use Rattle.lnt_ops.specs.Walks.{Walk}
-use Rattle.lnt_unit.specs.Laws.{GivesEach}
+use Rattle.lnt_ops.specs.Walks.{Walk, GivesEach}
 use Rattle.lnt_machine.specs.declared.fault.RowFault.TheVariants.{Run}
 use Rattle.lnt_machine.specs.declared.fault.RunFault.{RunFault}
 use Rattle.lnt_machine.specs.declared.fault.RunFault.TheVariants.{LineOutOfRange}

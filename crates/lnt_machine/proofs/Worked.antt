@@ -4,7 +4,7 @@ use Rattle.std.proofs.lemmas.Int.{ints}
 use Rattle.std.specs.Prelude.{pos, negsuc, map, length}
 use Rattle.lnt_wire.specs.declared.format.Order.TheVariants.{Little}
 use Rattle.lnt_wire.specs.declared.format.Format.TheVariants.{D32}
-use Rattle.lnt_unit.specs.declared.unit.Parts.{Parts}
+use Rattle.lnt_header.specs.declared.unit_parts.UnitParts.{UnitParts}
 use Rattle.lnt_header.specs.declared.op.Op.{Op}
 use Rattle.lnt_header.specs.declared.op.Op.TheVariants.{Special, Copy, AdvancePc, AdvanceLine, SetFile, NegateStmt}
 use Rattle.lnt_header.specs.declared.op.Op.TheVariants.{SetBasicBlock, ConstAddPc, FixedAdvancePc, SetPrologueEnd}
@@ -17,7 +17,7 @@ use Rattle.lnt_machine.specs.Matrix.{done, IsRunFault, joined_rows, rows, sequen
 
 -- A unit whose header has these numbers: minimum_instruction_length, max_ops, opcode_base and the standard lengths. Rows depend
 -- on no table.
-abbrev unit_of : ℕ → ℕ → ℕ → List ℕ → List Op → Parts
+abbrev unit_of : ℕ → ℕ → ℕ → List ℕ → List Op → UnitParts
 unit_of minimum max_ops opcode_base lengths ops = record {
   header = record {
     format = D32;
@@ -40,14 +40,14 @@ unit_of minimum max_ops opcode_base lengths ops = record {
 }
 
 -- one operation an instruction, which has one byte
-abbrev simple : List Op → Parts
+abbrev simple : List Op → UnitParts
 simple ops = unit_of 1 1 13 known_lengths ops
 
 -- what most units show of a row: address, op_index, line, end_sequence
 abbrev shown : Row → ℕ × ℕ × ℕ × Bool
 shown row = (row.address, row.op_index, row.line, row.end_sequence)
 
-abbrev plain : Parts
+abbrev plain : UnitParts
 plain = simple (SetAddress 0x1000 ∷ Special 20 ∷ Special 75 ∷ AdvancePc 2 ∷ EndSequence ∷ [])
 
 plain_rows : map shown (rows plain) ≡ (0x1000, 0, 3, false) ∷ (0x1004, 0, 4, false) ∷ (0x1006, 0, 4, true) ∷ []
@@ -56,7 +56,7 @@ plain_rows = refl
 plain_sequences : sequences plain ≡ record { rows = rows plain } ∷ []
 plain_sequences = refl
 
-abbrev two_rows_at_one_address : Parts
+abbrev two_rows_at_one_address : UnitParts
 two_rows_at_one_address = simple (SetAddress 0x1000 ∷ Special 20 ∷ AdvanceLine (pos 6) ∷ Copy ∷ AdvancePc 4 ∷ EndSequence ∷ [])
 
 two_rows_at_one_address_rows : map shown (rows two_rows_at_one_address) ≡ (0x1000, 0, 3, false) ∷ (0x1000, 0, 9, false) ∷
@@ -64,7 +64,7 @@ two_rows_at_one_address_rows : map shown (rows two_rows_at_one_address) ≡ (0x1
 two_rows_at_one_address_rows = refl
 
 -- instructions of 16 bytes
-abbrev three_operations_per_instruction : Parts
+abbrev three_operations_per_instruction : UnitParts
 three_operations_per_instruction = unit_of 16 3 13 known_lengths (
     SetAddress 0x2000 ∷ Special 20 ∷ AdvancePc 2 ∷ Copy ∷ AdvancePc 2 ∷ AdvanceLine (pos 1) ∷ Copy ∷ AdvancePc 2 ∷ EndSequence ∷ [])
 
@@ -73,14 +73,14 @@ three_operations_per_instruction_rows : map shown (rows three_operations_per_ins
 three_operations_per_instruction_rows = refl
 
 -- the advance of special opcode 255
-abbrev const_add_pc : Parts
+abbrev const_add_pc : UnitParts
 const_add_pc = simple (SetAddress 0x1000 ∷ Special 20 ∷ ConstAddPc ∷ Copy ∷ AdvancePc 1 ∷ EndSequence ∷ [])
 
 const_add_pc_rows : map shown (rows const_add_pc) ≡ (0x1000, 0, 3, false) ∷ (0x1011, 0, 3, false) ∷ (0x1012, 0, 3, true) ∷ []
 const_add_pc_rows = refl
 
 -- an unscaled advance from within an instruction of 4 bytes
-abbrev fixed_advance_pc : Parts
+abbrev fixed_advance_pc : UnitParts
 fixed_advance_pc =
     unit_of 4 2 13 known_lengths (SetAddress 0x1000 ∷ Special 20 ∷ AdvancePc 1 ∷ FixedAdvancePc 5 ∷ Copy ∷ AdvancePc 2 ∷ EndSequence ∷ [])
 
@@ -88,7 +88,7 @@ fixed_advance_pc_rows : map shown (rows fixed_advance_pc) ≡ (0x1000, 0, 3, fal
 fixed_advance_pc_rows = refl
 
 -- special opcodes from 10 on
-abbrev opcode_base_10 : Parts
+abbrev opcode_base_10 : UnitParts
 opcode_base_10 =
     unit_of 1 1 10 (0 ∷ 1 ∷ 1 ∷ 1 ∷ 1 ∷ 0 ∷ 0 ∷ 0 ∷ 1 ∷ [])
     (SetAddress 0x1000 ∷ AdvanceLine (pos 9) ∷ Special 10 ∷ AdvancePc 2 ∷ EndSequence ∷ [])
@@ -97,7 +97,7 @@ opcode_base_10_rows : map shown (rows opcode_base_10) ≡ (0x1000, 0, 5, false) 
 opcode_base_10_rows = refl
 
 -- unknown standard opcodes, with operands and without
-abbrev opcode_base_15 : Parts
+abbrev opcode_base_15 : UnitParts
 opcode_base_15 = unit_of 1 1 15 (0 ∷ 1 ∷ 1 ∷ 1 ∷ 1 ∷ 0 ∷ 0 ∷ 0 ∷ 1 ∷ 0 ∷ 0 ∷ 1 ∷ 2 ∷ 0 ∷ []) (
     SetAddress 0x1000 ∷ UnknownStandard 13 (128 ∷ 5 ∷ []) ∷ UnknownStandard 14 [] ∷ Special 22 ∷ AdvancePc 2 ∷ EndSequence ∷ [])
 
@@ -105,7 +105,7 @@ opcode_base_15_rows : map shown (rows opcode_base_15) ≡ (0x1000, 0, 3, false) 
 opcode_base_15_rows = refl
 
 -- the line goes from 1 to -1 by the second operation
-abbrev line_below_zero : Parts
+abbrev line_below_zero : UnitParts
 line_below_zero = simple (SetAddress 0x1000 ∷ AdvanceLine (negsuc 1) ∷ Copy ∷ AdvancePc 2 ∷ EndSequence ∷ [])
 
 -- what holds of 0 and of 1
@@ -122,21 +122,21 @@ line_below_zero_fault =
       λ fits. omega (arith, ints, fits.0),
     )
 
-abbrev file_zero : Parts
+abbrev file_zero : UnitParts
 file_zero = simple (SetAddress 0x1000 ∷ SetFile 0 ∷ Special 20 ∷ Special 75 ∷ AdvancePc 2 ∷ EndSequence ∷ [])
 
 file_zero_rows : map (λ row. row.file) (rows file_zero) ≡ 0 ∷ 0 ∷ 0 ∷ []
 file_zero_rows = refl
 
 -- the address goes past the last one of 8 bytes
-abbrev address_wraps : Parts
+abbrev address_wraps : UnitParts
 address_wraps = simple (SetAddress 0xffff_ffff_ffff_fff0 ∷ Special 20 ∷ AdvancePc 16 ∷ EndSequence ∷ [])
 
 address_wraps_rows : map shown (rows address_wraps) ≡ (0xffff_ffff_ffff_fff0, 0, 3, false) ∷ (0, 0, 3, true) ∷ []
 address_wraps_rows = refl
 
 -- the marks and the discriminator of the first row are gone in the second
-abbrev marks_and_discriminator : Parts
+abbrev marks_and_discriminator : UnitParts
 marks_and_discriminator =
     simple (SetAddress 0x1000 ∷ SetDiscriminator 7 ∷ SetBasicBlock ∷ SetPrologueEnd ∷ Special 20 ∷ Special 75 ∷ AdvancePc 2 ∷ EndSequence ∷
     [])
@@ -150,7 +150,7 @@ marks_and_discriminator_rows : map marks (rows marks_and_discriminator)
 marks_and_discriminator_rows = refl
 
 -- is_stmt is inverted in the first sequence alone
-abbrev two_sequences : Parts
+abbrev two_sequences : UnitParts
 two_sequences = simple (
     SetAddress 0x1000 ∷ NegateStmt ∷ Special 20 ∷ AdvancePc 1 ∷ EndSequence ∷ SetAddress 0x2000 ∷ Special 20 ∷ AdvancePc 1 ∷ EndSequence ∷
     [])
@@ -167,7 +167,7 @@ two_sequences_sizes : map (λ sequence. length sequence.rows) (sequences two_seq
 two_sequences_sizes = refl
 
 -- the plain unit without its end: rows that stand in no sequence
-abbrev open_sequence : Parts
+abbrev open_sequence : UnitParts
 open_sequence = simple (SetAddress 0x1000 ∷ Special 20 ∷ Special 75 ∷ AdvancePc 2 ∷ [])
 
 open_sequence_rows : map shown (rows open_sequence) ≡ (0x1000, 0, 3, false) ∷ (0x1004, 0, 4, false) ∷ []

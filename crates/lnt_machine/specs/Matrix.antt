@@ -2,7 +2,7 @@
 use Rattle.std.specs.Prelude.{◌≡◌, ℕ, ◌+◌, ◌<◌, ◌≤◌, true, cond, List, [], ◌∷◌, length, take, reverse, Option, Some, None}
 use Rattle.std.specs.List.{cons_option, flat_map}
 use Rattle.lnt_header.specs.declared.header.HeaderParts.{HeaderParts}
-use Rattle.lnt_unit.specs.declared.unit.Parts.{Parts}
+use Rattle.lnt_header.specs.declared.unit_parts.UnitParts.{UnitParts}
 use Rattle.lnt_header.specs.declared.op.Op.{Op}
 use Rattle.lnt_header.specs.declared.op.Op.TheVariants.{Special, Copy, EndSequence}
 use Rattle.lnt_machine.specs.declared.fault.RunFault.{RunFault}
@@ -38,7 +38,7 @@ rows_after h back [] = []
 rows_after h back (op ∷ ops) = cons_option (row_made h back op) (rows_after h (op ∷ back) ops)
 
 -- the rows of a program
-abbrev pub rows : Parts → List Row
+abbrev pub rows : UnitParts → List Row
 rows unit = rows_after unit.header [] unit.ops
 
 -- a row put before the first of some sequences; where there is none, it belongs to none
@@ -52,7 +52,7 @@ sequences_of [] = []
 sequences_of (row ∷ rows) = cond row.end_sequence (record { rows = row ∷ [] } ∷ sequences_of rows) (onto_first row (sequences_of rows))
 
 -- the sequences of a program
-abbrev pub sequences : Parts → List Sequence
+abbrev pub sequences : UnitParts → List Sequence
 sequences unit = sequences_of (rows unit)
 
 -- the rows of sequences, one after another
@@ -64,17 +64,17 @@ abbrev pub done : List Op → ℕ → List Op
 done ops k = reverse (take k ops)
 
 -- the line is in range before the operations, and after each of the first k
-abbrev pub LinesFit : Parts → ℕ → Type 0
+abbrev pub LinesFit : UnitParts → ℕ → Type 0
 LinesFit unit k = (j : ℕ) → j ≤ k → IsLine (line unit.header (done unit.ops j))
 
 -- The program runs: its lines are in range, and each of its rows stands in a sequence, so that none follows the last end row.
-pub record Runs (unit : Parts) : Type 0 where
+pub record Runs (unit : UnitParts) : Type 0 where
   pub lines : LinesFit unit (length unit.ops)
   pub closed : joined_rows (sequences unit) ≡ rows unit
 
 -- Why a program doesn't run. The line leaves its range with an operation and with none before it; or no line does, and
 -- some row stands in no sequence. Want of memory says nothing of the program.
-abbrev pub IsRunFault : Parts → RunFault → Type 0
+abbrev pub IsRunFault : UnitParts → RunFault → Type 0
 IsRunFault unit (LineOutOfRange k) = (k < length unit.ops) × LinesFit unit k × (IsLine (line unit.header (done unit.ops (k + 1))) → ⊥)
 IsRunFault unit OpenSequence = LinesFit unit (length unit.ops) × (joined_rows (sequences unit) ≡ rows unit → ⊥)
 IsRunFault unit Memory = Unit {0}

@@ -3,8 +3,7 @@ use Rattle.std.specs.Prelude.{◌≡◌, ◌⊎◌, ℕ, Bool, true, false, List
 use Rattle.lnt_wire.specs.declared.fault.Fault.{Fault}
 use Rattle.lnt_header.specs.declared.op.OpView.{OpView}
 use Rattle.lnt_ops.specs.Walks as walks
-use Rattle.lnt_ops.specs.Walks.{Walk, Ends, Fails}
-use Rattle.lnt_unit.specs.Laws.{GivesEach}
+use Rattle.lnt_ops.specs.Walks.{Walk, Ends, Fails, GivesEach}
 use Rattle.lnt_machine.specs.declared.fault.RowFault.{RowFault}
 use Rattle.lnt_machine.specs.declared.fault.RowFault.TheVariants.{Malformed, Run}
 use Rattle.lnt_machine.specs.declared.fault.RunFault.TheVariants.{LineOutOfRange, OpenSequence, Memory}

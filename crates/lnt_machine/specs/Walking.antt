@@ -5,7 +5,7 @@ use Rattle.lnt_header.specs.declared.op.Op.{Op}
 use Rattle.lnt_header.specs.HeaderRules.{IsHeader}
 use Rattle.lnt_ops.specs.Left.{OperationsAreLeft, IsPlace}
 use Rattle.lnt_ops.specs.Walks.{Walk}
-use Rattle.lnt_unit.specs.declared.unit.Parts.{Parts}
+use Rattle.lnt_header.specs.declared.unit_parts.UnitParts.{UnitParts}
 use Rattle.lnt_machine.specs.declared.row.Row.{Row}
 use Rattle.lnt_machine.specs.Matrix.{rows_after, sequences, sequences_of}
 use Rattle.lnt_machine.specs.Parts.{AtStart, first_sequence, rows_of_ops}
@@ -60,7 +60,7 @@ pub record IsSequencePlace (h : HeaderParts) (program : List ℕ) (earlier later
 -- ---- the places of all sequences
 
 -- The sequence of the unit with this index begins at this place of the program.
-pub record IsPlaceOf (unit : Parts) (program : List ℕ) (index place : ℕ) : Type 0 where
+pub record IsPlaceOf (unit : UnitParts) (program : List ℕ) (index place : ℕ) : Type 0 where
   pub earlier : List Op
   pub later : List Op
   pub ops_are : unit.ops ≡ earlier ++ later
@@ -75,12 +75,12 @@ pub record KeptProgram : Type 0 where
 
 -- The header is the unit's, and the places are those of its sequences in this program, in order. So where the unit has a sequence,
 -- the program spells its operations.
-pub record KeepsProgram (kept : KeptProgram) (unit : Parts) : Type 0 where
+pub record KeepsProgram (kept : KeptProgram) (unit : UnitParts) : Type 0 where
   pub header_is : kept.header ≡ unit.header
   pub count : length kept.places ≡ length (sequences unit)
   pub places : (k d : ℕ) → k < length kept.places → IsPlaceOf unit kept.program k (slice_index_or kept.places k d)
 
 -- it is kept of some unit
 pub record IsKeptProgram (kept : KeptProgram) : Type 0 where
-  pub unit : Parts
+  pub unit : UnitParts
   pub keeps : KeepsProgram kept unit

@@ -1,6 +1,6 @@
 //! The program of a unit that runs, kept with the places of its sequences.
 ghost use Rattle.std.specs.Prelude.{◌≡◌, ◌<◌, ◌≤◌, length, drop, slice_index_or, IfNone, IfSome};
-ghost use Rattle.lnt_unit.specs.declared.unit.Parts.{Parts};
+ghost use Rattle.lnt_header.specs.declared.unit_parts.UnitParts.{UnitParts};
 ghost use Rattle.lnt_machine.specs.declared.row.Sequence as spec;
 ghost use Rattle.lnt_machine.specs.Matrix.{sequences};
 ghost use Rattle.lnt_machine.specs.Walking.{IsKeptProgram, KeepsProgram, WillGive};
@@ -68,7 +68,7 @@ impl Program {
     pub fn sequence(&self, index: usize) -> Option<SequenceRows<'_>>
         ensures none { IfNone result (length self.now.places ≤ index) }
         ensures left { IfSome result (λ walk. length walk.walk.at.rest ≤ length self.now.program) }
-        ensures rows { IfSome result (λ walk. (unit : Parts) (d : spec.Sequence) → KeepsProgram self.now unit
+        ensures rows { IfSome result (λ walk. (unit : UnitParts) (d : spec.Sequence) → KeepsProgram self.now unit
             → WillGive (slice_index_or (sequences unit) index d).rows walk) }
     {
         let place = *self.places.get(index)?;

@@ -1,5 +1,5 @@
 -- Walks over the operations of a program, one by one.
-use Rattle.std.specs.Prelude.{◌≡◌, ◌<◌, ◌⊎◌, Bool, true, false, length, Option, Some, None, Result, Ok, Err}
+use Rattle.std.specs.Prelude.{◌≡◌, ◌<◌, ◌⊎◌, Bool, true, false, List, [], ◌∷◌, length, Option, Some, None, Result, Ok, Err}
 use Rattle.lnt_wire.specs.At.{At}
 use Rattle.lnt_wire.specs.declared.fault.Fault.{Fault}
 use Rattle.lnt_wire.specs.Reading.{Refuses}
@@ -43,3 +43,8 @@ abbrev pub WalkStep : Walk → Option (Result OpView Fault) → Walk → Type 0
 WalkStep old None new = Ends old new
 WalkStep old (Some (Ok view)) new = GivesOperation view old new
 WalkStep old (Some (Err fault)) new = Fails fault old new
+
+-- The walk gives these, one after another, and then stands as told.
+abbrev pub GivesEach : List OpView → Walk → Walk → Type 0
+GivesEach [] old new = new ≡ old
+GivesEach (item ∷ items) old new = (next : Walk) × GivesOperation item old next × GivesEach items next new

@@ -5,8 +5,8 @@ use Rattle.std.specs.List.{AllPairs, AllZip, filter, find, list_any}
 use Rattle.std.specs.Option.{option_and_then, option_map}
 use Rattle.lnt_wire.specs.declared.format.Format.{Format}
 use Rattle.lnt_wire.specs.declared.format.Order.{Order}
-use Rattle.lnt_unit.specs.Converting.{unit_in_format}
-use Rattle.lnt_unit.specs.declared.unit.Parts.{Parts}
+use Rattle.lnt_header.specs.Conversion.{unit_in_format}
+use Rattle.lnt_header.specs.declared.unit_parts.UnitParts.{UnitParts}
 use Rattle.lnt_machine.specs.declared.row.Row.{Row}
 use Rattle.lnt_machine.specs.declared.row.Sequence.{Sequence}
 use Rattle.lnt_machine.specs.Laws.{SameMatrix}
@@ -83,13 +83,13 @@ twins : (unit other index : ℕ) (ss : List Sequence) → AllZip (IsTwin unit ot
 twins unit other index [] = tt
 twins unit other index (s ∷ ss) = (record { rows_are = refl; unit_is = refl; other_is = refl }, twins unit other (index + 1) ss)
 
-unit_twins : (unit other : ℕ × Parts) → sequences other.1 ≡ sequences unit.1
+unit_twins : (unit other : ℕ × UnitParts) → sequences other.1 ≡ sequences unit.1
     → AllZip (IsTwin unit.0 other.0) (placed_in unit) (placed_in other)
 unit_twins unit other same =
     subst (λ (ss : List Sequence). AllZip (IsTwin unit.0 other.0) (placed_in unit) (placed_from other.0 0 ss)) (sym same)
     (twins unit.0 other.0 0 (sequences unit.1))
 
-live_twins : (dead : Option ℕ) (unit other : ℕ × Parts) → sequences other.1 ≡ sequences unit.1
+live_twins : (dead : Option ℕ) (unit other : ℕ × UnitParts) → sequences other.1 ≡ sequences unit.1
     → AllZip (IsTwin unit.0 other.0) (live_in dead unit) (live_in dead other)
 live_twins dead unit other same =
     zip_filter (IsTwin unit.0 other.0) (is_live dead) (is_live dead) (λ one two t. ap (are_live dead) t.rows_are) (placed_in unit)
@@ -98,11 +98,11 @@ live_twins dead unit other same =
 -- ---- the sequences of two sections
 
 -- the same rows, in units that stand alike
-record AreTwins (units others : List (ℕ × Parts)) (one two : Placed) : Type 0 where
+record AreTwins (units others : List (ℕ × UnitParts)) (one two : Placed) : Type 0 where
   rows_are : one.rows ≡ two.rows
   stand : StandAlike units others one.id.unit two.id.unit
 
-later_twins : (unit other : ℕ × Parts) (units others : List (ℕ × Parts)) (one two : Placed) → AreTwins units others one two
+later_twins : (unit other : ℕ × UnitParts) (units others : List (ℕ × UnitParts)) (one two : Placed) → AreTwins units others one two
     → AreTwins (unit ∷ units) (other ∷ others) one two
 later_twins unit other units others one two t =
     let s = t.stand in
@@ -111,7 +111,7 @@ later_twins unit other units others one two t =
       stand = record { place = suc s.place; within = omega (arith, s.within); unit_is = s.unit_is; other_is = s.other_is };
     }
 
-here_twins : (unit other : ℕ × Parts) (units others : List (ℕ × Parts)) (one two : Placed) → IsTwin unit.0 other.0 one two
+here_twins : (unit other : ℕ × UnitParts) (units others : List (ℕ × UnitParts)) (one two : Placed) → IsTwin unit.0 other.0 one two
     → AreTwins (unit ∷ units) (other ∷ others) one two
 here_twins unit other units others one two t =
     record {
@@ -119,7 +119,7 @@ here_twins unit other units others one two t =
       stand = record { place = 0; within = omega arith; unit_is = λ d. t.unit_is; other_is = λ d. t.other_is };
     }
 
-section_twins : SameMatrix → (dead : Option ℕ) (format : Format) (order : Order) (units others : List (ℕ × Parts))
+section_twins : SameMatrix → (dead : Option ℕ) (format : Format) (order : Order) (units others : List (ℕ × UnitParts))
     → map (λ unit. unit.1) others ≡ map (λ unit. unit_in_format unit.1 format order) units
     → AllZip (AreTwins units others) (live_sequences dead units) (live_sequences dead others)
 section_twins law dead format order [] [] e = tt
@@ -127,7 +127,7 @@ section_twins law dead format order [] (other ∷ others) e = absurd cc
 section_twins law dead format order (unit ∷ units) [] e = absurd cc
 section_twins law dead format order (unit ∷ units) (other ∷ others) e =
     let heads : other.1 ≡ unit_in_format unit.1 format order = cc in
-    let tails : map (λ (u : ℕ × Parts). u.1) others ≡ map (λ (u : ℕ × Parts). unit_in_format u.1 format order) units = cc in
+    let tails : map (λ (u : ℕ × UnitParts). u.1) others ≡ map (λ (u : ℕ × UnitParts). unit_in_format u.1 format order) units = cc in
     let same : sequences other.1 ≡ sequences unit.1 = ap sequences heads ∙ law.same_sequences unit.1 format order in
     zip_append (AreTwins (unit ∷ units) (other ∷ others)) (live_in dead unit) (live_in dead other) (live_sequences dead units)
     (live_sequences dead others)
@@ -188,12 +188,12 @@ kept_alike R rows true ss ts order order' z = kept_twins R rows ss ts [] [] ss t
 
 -- ---- answers
 
-row_alike : (units others : List (ℕ × Parts)) (unit other : ℕ) (row : Option Row) → StandAlike units others unit other
+row_alike : (units others : List (ℕ × UnitParts)) (unit other : ℕ) (row : Option Row) → StandAlike units others unit other
     → AreAlike units others (option_map (answer_of unit) row) (option_map (answer_of other) row)
 row_alike units others unit other None s = tt
 row_alike units others unit other (Some row) s = record { stand = s; same = refl }
 
-said_alike : (units others : List (ℕ × Parts)) (p : Position) (one two : Option Placed) → FoundAlike (AreTwins units others) one two
+said_alike : (units others : List (ℕ × UnitParts)) (p : Position) (one two : Option Placed) → FoundAlike (AreTwins units others) one two
     → AreAlike units others (option_and_then (λ (placed : Placed). option_map (answer_of placed.id.unit) (row_at p placed.rows)) one)
     (option_and_then (λ (placed : Placed). option_map (answer_of placed.id.unit) (row_at p placed.rows)) two)
 said_alike units others p None None t = tt

@@ -3,7 +3,7 @@ use Rattle.std.proofs.Common.{ℕ, ◌+◌, ◌≤◌, Bool, true, false, not, c
 use Rattle.std.specs.List.{filter, flat_map}
 use Rattle.std.proofs.lemmas.List.{length-append}
 use Rattle.std.proofs.lemmas.List.Concat.{flat_map-append}
-use Rattle.lnt_unit.specs.declared.unit.Parts.{Parts}
+use Rattle.lnt_header.specs.declared.unit_parts.UnitParts.{UnitParts}
 use Rattle.lnt_machine.specs.declared.row.Row.{Row}
 use Rattle.lnt_machine.specs.declared.row.Sequence.{Sequence}
 use Rattle.lnt_machine.specs.Matrix.{joined_rows, rows, sequences}
@@ -75,10 +75,10 @@ placed_within unit k (s ∷ ss) =
     )
 
 -- the rows of units, one after another
-abbrev pub rows_of_units : List (ℕ × Parts) → List Row
-rows_of_units units = flat_map (λ (unit : ℕ × Parts). rows unit.1) units
+abbrev pub rows_of_units : List (ℕ × UnitParts) → List Row
+rows_of_units units = flat_map (λ (unit : ℕ × UnitParts). rows unit.1) units
 
-unit_within : (dead : Option ℕ) (unit : ℕ × Parts) → length (spans_of (live_in dead unit)) ≤ length (rows unit.1)
+unit_within : (dead : Option ℕ) (unit : ℕ × UnitParts) → length (spans_of (live_in dead unit)) ≤ length (rows unit.1)
 unit_within dead unit =
     omega (
       arith,
@@ -87,7 +87,7 @@ unit_within dead unit =
       joined_within (rows unit.1),
     )
 
-live_within : (dead : Option ℕ) (units : List (ℕ × Parts)) → length (spans_of (live_sequences dead units)) ≤ length (rows_of_units units)
+live_within : (dead : Option ℕ) (units : List (ℕ × UnitParts)) → length (spans_of (live_sequences dead units)) ≤ length (rows_of_units units)
 live_within dead [] = omega arith
 live_within dead (unit ∷ units) =
     let both =
@@ -102,6 +102,6 @@ live_within dead (unit ∷ units) =
     )
 
 -- The kept sequences have no more spans than the units have rows.
-pub spans_within_rows : (dead : Option ℕ) (skip : Bool) (units : List (ℕ × Parts))
+pub spans_within_rows : (dead : Option ℕ) (skip : Bool) (units : List (ℕ × UnitParts))
     → length (spans_of (kept_sequences dead skip units)) ≤ length (rows_of_units units)
 spans_within_rows dead skip units = omega (arith, kept_within skip (live_sequences dead units), live_within dead units)

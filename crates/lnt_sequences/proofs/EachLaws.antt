@@ -2,7 +2,7 @@
 use Rattle.std.proofs.Common.{ℕ, ◌+◌, Bool, true, false, not, cond, List, [], ◌∷◌, ◌++◌, Option}
 use Rattle.std.specs.List.{All, AllByRecursion}
 use Rattle.std.proofs.lemmas.List.Elements.{All-append, All-filter, All-from_recursion, All-nil, recursion_from_All}
-use Rattle.lnt_unit.specs.declared.unit.Parts.{Parts}
+use Rattle.lnt_header.specs.declared.unit_parts.UnitParts.{UnitParts}
 use Rattle.lnt_machine.specs.declared.row.Row.{Row}
 use Rattle.lnt_machine.specs.declared.row.Sequence.{Sequence}
 use Rattle.lnt_machine.specs.Matrix.{sequences}
@@ -15,7 +15,7 @@ use Rattle.lnt_sequences.specs.Sequences.{placed_in, position_of}
 use Rattle.lnt_sequences.proofs.WalkLaws.{placed_from}
 
 -- U holds of the unit's offset, and P of each row of its sequences
-pub record EachIn (U : ℕ → Type 0) (P : Row → Type 0) (unit : ℕ × Parts) : Type 0 where
+pub record EachIn (U : ℕ → Type 0) (P : Row → Type 0) (unit : ℕ × UnitParts) : Type 0 where
   pub offset : U unit.0
   pub rows : AllByRecursion (EachRow P) (sequences unit.1)
 
@@ -31,7 +31,7 @@ each_placed : (U : ℕ → Type 0) (P : Row → Type 0) (unit k : ℕ) (ss : Lis
 each_placed U P unit k [] offset all = tt
 each_placed U P unit k (s ∷ ss) offset all = (record { offset = offset; rows = all.0 }, each_placed U P unit (k + 1) ss offset all.1)
 
-each_live : (U : ℕ → Type 0) (P : Row → Type 0) (dead : Option ℕ) (units : List (ℕ × Parts)) → AllByRecursion (EachIn U P) units
+each_live : (U : ℕ → Type 0) (P : Row → Type 0) (dead : Option ℕ) (units : List (ℕ × UnitParts)) → AllByRecursion (EachIn U P) units
     → All (EachOf U P) (live_sequences dead units)
 each_live U P dead [] all = All-nil (EachOf U P)
 each_live U P dead (unit ∷ units) all =
@@ -81,7 +81,7 @@ each_span U P Q (s ∷ ss) between all =
     (each_span U P Q ss between all.1)
 
 -- the spans of the kept sequences of units
-pub each_kept_span : (U : ℕ → Type 0) (P : Row → Type 0) (Q : Span → Type 0) (dead : Option ℕ) (skip : Bool) (units : List (ℕ × Parts))
+pub each_kept_span : (U : ℕ → Type 0) (P : Row → Type 0) (Q : Span → Type 0) (dead : Option ℕ) (skip : Bool) (units : List (ℕ × UnitParts))
     → Between U P Q → AllByRecursion (EachIn U P) units → All Q (spans_of (kept_sequences dead skip units))
 each_kept_span U P Q dead skip units between all =
     let kept = each_kept U P skip (live_sequences dead units) (each_live U P dead units all) in

@@ -1,7 +1,7 @@
 -- Where programs are kept, the numbers of their rows are of at most 64 bits, and so are those of the spans between these.
 use Rattle.std.proofs.Common.{ℕ, ◌^◌, ◌<◌, Bool, List, [], ◌∷◌, Option}
 use Rattle.std.specs.List.{All, AllByRecursion, AllZip}
-use Rattle.lnt_unit.specs.declared.unit.Parts.{Parts}
+use Rattle.lnt_header.specs.declared.unit_parts.UnitParts.{UnitParts}
 use Rattle.lnt_machine.specs.Walking.{KeepsProgram, KeptProgram}
 use Rattle.lnt_machine.proofs.FittingLaws.{FitsRow, HasNumbers, kept_fits}
 use Rattle.lnt_spans.specs.Fitting.{FitsSpan}
@@ -19,8 +19,8 @@ between_fits unit row next small one other = record {
   answer = record { unit = small; file = one.file; line = one.line; column = one.column; more = (one.isa, one.discriminator) };
 }
 
-units_fit : (units : List (ℕ × Parts)) (programs : List KeptProgram) → AllZip (λ unit kept. KeepsProgram kept unit.1) units programs
-    → AllByRecursion HasNumbers programs → AllByRecursion (λ (unit : ℕ × Parts). unit.0 < 2 ^ 64) units
+units_fit : (units : List (ℕ × UnitParts)) (programs : List KeptProgram) → AllZip (λ unit kept. KeepsProgram kept unit.1) units programs
+    → AllByRecursion HasNumbers programs → AllByRecursion (λ (unit : ℕ × UnitParts). unit.0 < 2 ^ 64) units
     → AllByRecursion (EachIn IsSmall FitsRow) units
 units_fit [] programs keeps numbers small = tt
 units_fit (unit ∷ units) [] keeps numbers small = absurd keeps
@@ -30,8 +30,8 @@ units_fit (unit ∷ units) (kept ∷ programs) keeps numbers small = (
 )
 
 -- The spans of the kept sequences of units fit, where their programs are kept and their offsets fit.
-pub kept_spans_fit : (dead : Option ℕ) (skip : Bool) (units : List (ℕ × Parts)) (programs : List KeptProgram)
+pub kept_spans_fit : (dead : Option ℕ) (skip : Bool) (units : List (ℕ × UnitParts)) (programs : List KeptProgram)
     → AllZip (λ unit kept. KeepsProgram kept unit.1) units programs → AllByRecursion HasNumbers programs
-    → AllByRecursion (λ (unit : ℕ × Parts). unit.0 < 2 ^ 64) units → All FitsSpan (spans_of (kept_sequences dead skip units))
+    → AllByRecursion (λ (unit : ℕ × UnitParts). unit.0 < 2 ^ 64) units → All FitsSpan (spans_of (kept_sequences dead skip units))
 kept_spans_fit dead skip units programs keeps numbers small =
     each_kept_span IsSmall FitsRow FitsSpan dead skip units between_fits (units_fit units programs keeps numbers small)

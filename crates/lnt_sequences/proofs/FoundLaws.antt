@@ -3,18 +3,18 @@ use Rattle.std.proofs.Common.{◌≡◌, ℕ, zero, suc, ◌+◌, ◌<◌, Bool,
 use Rattle.std.proofs.Common.{ap, ◌∙◌, arith, length, get_or, inl, inr, ◌⊎◌, ⊎_elim}
 use Rattle.std.specs.Prelude.{cond}
 use Rattle.std.specs.List.{Contains, filter}
-use Rattle.lnt_unit.specs.declared.unit.Parts.{Parts}
+use Rattle.lnt_header.specs.declared.unit_parts.UnitParts.{UnitParts}
 use Rattle.lnt_machine.specs.declared.row.Sequence.{Sequence}
 use Rattle.lnt_machine.specs.Matrix.{sequences}
 use Rattle.lnt_sequences.proofs.WalkLaws.{placed_from}
 use Rattle.lnt_sequences.specs.Sequences.{is_live, live_in, live_sequences, Placed, placed_in}
 
 -- It is the sequence with this index of the unit with this place among all.
-pub record IsSequenceOf (units : List (ℕ × Parts)) (placed : Placed) : Type 0 where
+pub record IsSequenceOf (units : List (ℕ × UnitParts)) (placed : Placed) : Type 0 where
   pub place : ℕ
-  pub unit : ℕ × Parts
+  pub unit : ℕ × UnitParts
   pub within : place < length units
-  pub unit_at : (d : ℕ × Parts) → get_or units place d ≡ unit
+  pub unit_at : (d : ℕ × UnitParts) → get_or units place d ≡ unit
   pub unit_is : placed.id.unit ≡ unit.0
   pub few : placed.id.index < length (sequences unit.1)
   pub rows_are : (d : Sequence) → placed.rows ≡ (get_or (sequences unit.1) placed.id.index d).rows
@@ -84,7 +84,7 @@ of_append {X} (y ∷ xs) ys x h =
     (of_append xs ys x later))
     (head_or_tail y (xs ++ ys) x h)
 
-pub live_placed : (dead : Option ℕ) (units : List (ℕ × Parts)) (placed : Placed) → Contains (live_sequences dead units) placed
+pub live_placed : (dead : Option ℕ) (units : List (ℕ × UnitParts)) (placed : Placed) → Contains (live_sequences dead units) placed
     → IsSequenceOf units placed
 live_placed dead [] placed h = absurd (omega (arith, h.1))
 live_placed dead (unit ∷ units) placed h =

@@ -8,7 +8,7 @@ use Rattle.std.proofs.lemmas.List.Elements.{All-append, All-contains, All-contai
 use Rattle.std.proofs.lemmas.List.Elements.{All-nil, All-weaker, filter_passes}
 use Rattle.std.proofs.lemmas.List.Folds.{list_any-append, list_any_at, list_any_none}
 use Rattle.std.proofs.lemmas.List.Kept.{AllPairs-filter}
-use Rattle.lnt_unit.specs.declared.unit.Parts.{Parts}
+use Rattle.lnt_header.specs.declared.unit_parts.UnitParts.{UnitParts}
 use Rattle.lnt_machine.specs.declared.row.Row.{Row}
 use Rattle.lnt_sequences.specs.declared.sequence.SeqId.{SeqId}
 use Rattle.lnt_spans.specs.declared.position.Position.{Position}
@@ -156,7 +156,7 @@ rising_from unit index (s ∷ ss) =
     (all_from unit (index + 1) ss))
     (rising_from unit (index + 1) ss)
 
-all_above : (dead : Option ℕ) (unit : ℕ) (units : List (ℕ × Parts)) → All (λ (other : ℕ × Parts). unit < other.0) units
+all_above : (dead : Option ℕ) (unit : ℕ) (units : List (ℕ × UnitParts)) → All (λ (other : ℕ × UnitParts). unit < other.0) units
     → All (λ (placed : Placed). unit < placed.id.unit) (live_sequences dead units)
 all_above dead unit [] h = All-nil (λ (placed : Placed). unit < placed.id.unit)
 all_above dead unit (other ∷ units) h =
@@ -167,11 +167,11 @@ all_above dead unit (other ∷ units) h =
     (all_above dead unit units (λ k d l. h (suc k) d (omega arith)))
 
 -- of units at rising offsets
-pub rising_sequences : (dead : Option ℕ) (units : List (ℕ × Parts))
-    → AllPairs (λ (one : ℕ × Parts) (other : ℕ × Parts). one.0 < other.0) units → AllPairs IsBefore (live_sequences dead units)
+pub rising_sequences : (dead : Option ℕ) (units : List (ℕ × UnitParts))
+    → AllPairs (λ (one : ℕ × UnitParts) (other : ℕ × UnitParts). one.0 < other.0) units → AllPairs IsBefore (live_sequences dead units)
 rising_sequences dead [] h = pairs_nil IsBefore
 rising_sequences dead (unit ∷ units) h =
-    let Rise : ℕ × Parts → ℕ × Parts → Type 0 = λ one other. one.0 < other.0 in
+    let Rise : ℕ × UnitParts → ℕ × UnitParts → Type 0 = λ one other. one.0 < other.0 in
     let others = all_above dead unit.0 units (pairs_head Rise unit units h) in
     pairs_append IsBefore (live_in dead unit) (live_sequences dead units)
     (AllPairs-filter IsBefore (is_live dead) (placed_in unit) (rising_from unit.0 0 (sequences_of (rows unit.1))))

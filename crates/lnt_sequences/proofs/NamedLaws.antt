@@ -7,7 +7,7 @@ use Rattle.std.specs.Option.{option_and_then, option_map}
 use Rattle.std.proofs.lemmas.List.{length-append}
 use Rattle.std.proofs.lemmas.List.Elements.{All-append, All-filter, All-from_recursion, All-nil, recursion_from_All}
 use Rattle.std.proofs.lemmas.Option.{same_Some}
-use Rattle.lnt_unit.specs.declared.unit.Parts.{Parts}
+use Rattle.lnt_header.specs.declared.unit_parts.UnitParts.{UnitParts}
 use Rattle.lnt_machine.specs.declared.row.Row.{Row}
 use Rattle.lnt_machine.specs.declared.row.Sequence.{Sequence}
 use Rattle.lnt_machine.specs.Cuts.{AreOpen, IsEnded}
@@ -79,11 +79,11 @@ each_names Q p unit files (s ∷ ss) there of have = (
 )
 
 -- Q holds of the unit's offset and of each of its files, and its live sequences name no other file.
-pub record NamesFiles (Q : ℕ → ℕ → Type 0) (dead : Option ℕ) (unit : ℕ × Parts) : Type 0 where
+pub record NamesFiles (Q : ℕ → ℕ → Type 0) (dead : Option ℕ) (unit : ℕ × UnitParts) : Type 0 where
   pub have : HaveFiles (length unit.1.header.files) (live_in dead unit)
   pub there : (file : ℕ) → file < length unit.1.header.files → Q unit.0 file
 
-live_names : (Q : ℕ → ℕ → Type 0) (p : Position) (dead : Option ℕ) (units : List (ℕ × Parts)) → AllByRecursion (NamesFiles Q dead) units
+live_names : (Q : ℕ → ℕ → Type 0) (p : Position) (dead : Option ℕ) (units : List (ℕ × UnitParts)) → AllByRecursion (NamesFiles Q dead) units
     → All (Names Q p) (live_sequences dead units)
 live_names Q p dead [] all = All-nil (Names Q p)
 live_names Q p dead (unit ∷ units) all =
@@ -118,7 +118,7 @@ answer_names Q p (s ∷ ss) all = by_test (holds p s.rows) refl (answer_names Q 
     by_test true e rest = said Q p s (row_at p s.rows) refl (holds_from_test s.rows p e) all.0
     by_test false e rest = rest
 
-pub line_names : (Q : ℕ → ℕ → Type 0) (dead : Option ℕ) (skip : Bool) (units : List (ℕ × Parts)) (p : Position)
+pub line_names : (Q : ℕ → ℕ → Type 0) (dead : Option ℕ) (skip : Bool) (units : List (ℕ × UnitParts)) (p : Position)
     → AllByRecursion (NamesFiles Q dead) units
     → IfSome (line_answer dead skip units p) (λ (answer : Answer). Q answer.unit answer.file)
 line_names Q dead skip units p all =

@@ -10,7 +10,7 @@ use Rattle.lnt_wire.specs.FrameBytes.{version_five}
 use Rattle.lnt_wire.specs.InitialLength.{initial_length}
 use Rattle.lnt_wire.specs.Numbers.{number_bytes, offset_size}
 use Rattle.lnt_header_bytes.specs.HeaderBytes.{unit_body}
-use Rattle.lnt_unit.specs.declared.unit.Parts.{Parts}
+use Rattle.lnt_header.specs.declared.unit_parts.UnitParts.{UnitParts}
 use Rattle.lnt_unit.specs.UnitBytes.{UnitBytesIn, UnitsFrom}
 use Rattle.lnt_machine.specs.declared.row.Row.{Row}
 use Rattle.lnt_machine.specs.declared.row.Sequence.{Sequence}
@@ -27,7 +27,7 @@ use Rattle.lnt_sequences.proofs.WalkLaws.{each_ended, extents_ended, placed_from
 -- ---- the sequences
 
 -- those of one more unit
-pub live-append : (dead : Option ℕ) (units : List (ℕ × Parts)) (unit : ℕ × Parts)
+pub live-append : (dead : Option ℕ) (units : List (ℕ × UnitParts)) (unit : ℕ × UnitParts)
     → live_sequences dead (units ++ unit ∷ []) ≡ live_sequences dead units ++ live_in dead unit
 live-append dead units unit =
     flat_map-append (live_in dead) units (unit ∷ [])
@@ -62,13 +62,13 @@ collects_all dead unit collected ss all closed few c =
           ∙ sym (flat_map-append extent_of ss (live_of dead (placed_rows unit all)));
     }
 
-pub collects_unit : (dead : Option ℕ) (unit : ℕ × Parts) (collected : Collected) (ss : List Placed) → Runs unit.1
+pub collects_unit : (dead : Option ℕ) (unit : ℕ × UnitParts) (collected : Collected) (ss : List Placed) → Runs unit.1
     → length (rows unit.1) < 2 ^ 64
     → CollectsRows dead unit.0 collected ss (rows unit.1) → Collects collected (ss ++ live_in dead unit)
 collects_unit dead unit collected ss runs few c = collects_all dead unit.0 collected ss (rows unit.1) runs.closed few c
 
 -- the same of a section's units and one more
-pub collects_more : (dead : Option ℕ) (units : List (ℕ × Parts)) (unit : ℕ × Parts) (collected : Collected) → Runs unit.1
+pub collects_more : (dead : Option ℕ) (units : List (ℕ × UnitParts)) (unit : ℕ × UnitParts) (collected : Collected) → Runs unit.1
     → length (rows unit.1) < 2 ^ 64
     → CollectsRows dead unit.0 collected (live_sequences dead units) (rows unit.1)
     → Collects collected (live_sequences dead (units ++ unit ∷ []))
@@ -110,13 +110,13 @@ distinct_from unit index (s ∷ ss) =
 pub distinct_all : (dead : Option ℕ) (unit : ℕ) (all : List Row) → AreDistinct (live_of dead (placed_rows unit all))
 distinct_all dead unit all = AllPairs-filter IdDiffers (is_live dead) (placed_rows unit all) (distinct_from unit 0 (sequences_of all))
 
-pub distinct_in : (dead : Option ℕ) (unit : ℕ × Parts) → AreDistinct (live_in dead unit)
+pub distinct_in : (dead : Option ℕ) (unit : ℕ × UnitParts) → AreDistinct (live_in dead unit)
 distinct_in dead unit = distinct_all dead unit.0 (rows unit.1)
 
 abbrev pub IsOf : ℕ → Placed → Type 0
 IsOf unit placed = placed.id.unit ≡ unit
 
-pub all_of : (dead : Option ℕ) (unit : ℕ × Parts) → All (IsOf unit.0) (live_in dead unit)
+pub all_of : (dead : Option ℕ) (unit : ℕ × UnitParts) → All (IsOf unit.0) (live_in dead unit)
 all_of dead unit =
     All-filter (is_live dead) (IsOf unit.0) (placed_in unit)
     (All-weaker (IsFrom unit.0 0) (IsOf unit.0) (λ placed f. f.unit_is) (placed_in unit) (all_from unit.0 0 (sequences_of (rows unit.1))))
@@ -124,7 +124,7 @@ all_of dead unit =
 abbrev IsNotOf : ℕ → Placed → Type 0
 IsNotOf unit placed = unit ≢ placed.id.unit
 
-none_of : (dead : Option ℕ) (unit : ℕ) (units : List (ℕ × Parts)) → All (λ (other : ℕ × Parts). unit ≢ other.0) units
+none_of : (dead : Option ℕ) (unit : ℕ) (units : List (ℕ × UnitParts)) → All (λ (other : ℕ × UnitParts). unit ≢ other.0) units
     → All (IsNotOf unit) (live_sequences dead units)
 none_of dead unit [] h = All-nil (IsNotOf unit)
 none_of dead unit (other ∷ units) h =
@@ -134,12 +134,12 @@ none_of dead unit (other ∷ units) h =
     (none_of dead unit units (λ k d l. h (suc k) d (omega arith)))
 
 -- those of units with different offsets
-pub distinct_sequences : (dead : Option ℕ) (units : List (ℕ × Parts))
-    → AllPairs (λ (one : ℕ × Parts) (other : ℕ × Parts). one.0 ≢ other.0) units
+pub distinct_sequences : (dead : Option ℕ) (units : List (ℕ × UnitParts))
+    → AllPairs (λ (one : ℕ × UnitParts) (other : ℕ × UnitParts). one.0 ≢ other.0) units
     → AreDistinct (live_sequences dead units)
 distinct_sequences dead [] h = pairs_nil IdDiffers
 distinct_sequences dead (unit ∷ units) h =
-    let Differ : ℕ × Parts → ℕ × Parts → Type 0 = λ one other. one.0 ≢ other.0 in
+    let Differ : ℕ × UnitParts → ℕ × UnitParts → Type 0 = λ one other. one.0 ≢ other.0 in
     let others = none_of dead unit.0 units (pairs_head Differ unit units h) in
     pairs_append IdDiffers (live_in dead unit) (live_sequences dead units) (distinct_in dead unit)
     (distinct_sequences dead units (pairs_tail Differ unit units h))
@@ -149,16 +149,16 @@ distinct_sequences dead (unit ∷ units) h =
 -- ---- offsets
 
 -- each unit of a section has bytes, so it stands after those before it
-offsets_from : (order : Order) (offset : ℕ) (units : List (ℕ × Parts)) (bytes : List ℕ) → UnitsFrom order offset units bytes
-    → All (λ (unit : ℕ × Parts). offset ≤ unit.0) units
-offsets_from order offset [] bytes h = All-nil (λ (unit : ℕ × Parts). offset ≤ unit.0)
+offsets_from : (order : Order) (offset : ℕ) (units : List (ℕ × UnitParts)) (bytes : List ℕ) → UnitsFrom order offset units bytes
+    → All (λ (unit : ℕ × UnitParts). offset ≤ unit.0) units
+offsets_from order offset [] bytes h = All-nil (λ (unit : ℕ × UnitParts). offset ≤ unit.0)
 offsets_from order offset (unit ∷ units) bytes h =
     let at = h.2 in
-    All-cons (λ (unit : ℕ × Parts). offset ≤ unit.0) unit units (omega arith)
-    (All-weaker (λ (unit : ℕ × Parts). offset + length h.0 ≤ unit.0) (λ (unit : ℕ × Parts). offset ≤ unit.0) (λ other le. omega arith) units
+    All-cons (λ (unit : ℕ × UnitParts). offset ≤ unit.0) unit units (omega arith)
+    (All-weaker (λ (unit : ℕ × UnitParts). offset + length h.0 ≤ unit.0) (λ (unit : ℕ × UnitParts). offset ≤ unit.0) (λ other le. omega arith) units
     (offsets_from order (offset + length h.0) units h.1 h.5))
 
-some_bytes : (order : Order) (unit : Parts) (bytes : List ℕ) → UnitBytesIn order unit bytes → 0 < length bytes
+some_bytes : (order : Order) (unit : UnitParts) (bytes : List ℕ) → UnitBytesIn order unit bytes → 0 < length bytes
 some_bytes order unit bytes u =
     let header = u.spelled.whole in
     let body = unit_body unit.header header.fields u.spelled.program in
@@ -175,26 +175,26 @@ some_bytes order unit bytes u =
       length-append (version_five unit.header.order) (unit.header.address_size ∷ 0 ∷ []),
     )
 
-pub offsets_differ : (order : Order) (offset : ℕ) (units : List (ℕ × Parts)) (bytes : List ℕ) → UnitsFrom order offset units bytes
-    → AllPairs (λ (one : ℕ × Parts) (other : ℕ × Parts). one.0 ≢ other.0) units
-offsets_differ order offset [] bytes h = pairs_nil (λ (one : ℕ × Parts) (other : ℕ × Parts). one.0 ≢ other.0)
+pub offsets_differ : (order : Order) (offset : ℕ) (units : List (ℕ × UnitParts)) (bytes : List ℕ) → UnitsFrom order offset units bytes
+    → AllPairs (λ (one : ℕ × UnitParts) (other : ℕ × UnitParts). one.0 ≢ other.0) units
+offsets_differ order offset [] bytes h = pairs_nil (λ (one : ℕ × UnitParts) (other : ℕ × UnitParts). one.0 ≢ other.0)
 offsets_differ order offset (unit ∷ units) bytes h =
     let at = h.2 in
     let some = some_bytes order unit.1 h.0 h.3 in
-    pairs_cons (λ (one : ℕ × Parts) (other : ℕ × Parts). one.0 ≢ other.0) unit units
-    (All-weaker (λ (other : ℕ × Parts). offset + length h.0 ≤ other.0) (λ (other : ℕ × Parts). unit.0 ≢ other.0)
+    pairs_cons (λ (one : ℕ × UnitParts) (other : ℕ × UnitParts). one.0 ≢ other.0) unit units
+    (All-weaker (λ (other : ℕ × UnitParts). offset + length h.0 ≤ other.0) (λ (other : ℕ × UnitParts). unit.0 ≢ other.0)
     (λ other le same. omega arith) units
     (offsets_from order (offset + length h.0) units h.1 h.5))
     (offsets_differ order (offset + length h.0) units h.1 h.5)
 
-pub offsets_rise : (order : Order) (offset : ℕ) (units : List (ℕ × Parts)) (bytes : List ℕ) → UnitsFrom order offset units bytes
-    → AllPairs (λ (one : ℕ × Parts) (other : ℕ × Parts). one.0 < other.0) units
-offsets_rise order offset [] bytes h = pairs_nil (λ (one : ℕ × Parts) (other : ℕ × Parts). one.0 < other.0)
+pub offsets_rise : (order : Order) (offset : ℕ) (units : List (ℕ × UnitParts)) (bytes : List ℕ) → UnitsFrom order offset units bytes
+    → AllPairs (λ (one : ℕ × UnitParts) (other : ℕ × UnitParts). one.0 < other.0) units
+offsets_rise order offset [] bytes h = pairs_nil (λ (one : ℕ × UnitParts) (other : ℕ × UnitParts). one.0 < other.0)
 offsets_rise order offset (unit ∷ units) bytes h =
     let at = h.2 in
     let some = some_bytes order unit.1 h.0 h.3 in
-    pairs_cons (λ (one : ℕ × Parts) (other : ℕ × Parts). one.0 < other.0) unit units
-    (All-weaker (λ (other : ℕ × Parts). offset + length h.0 ≤ other.0) (λ (other : ℕ × Parts). unit.0 < other.0) (λ other le. omega arith)
+    pairs_cons (λ (one : ℕ × UnitParts) (other : ℕ × UnitParts). one.0 < other.0) unit units
+    (All-weaker (λ (other : ℕ × UnitParts). offset + length h.0 ≤ other.0) (λ (other : ℕ × UnitParts). unit.0 < other.0) (λ other le. omega arith)
     units
     (offsets_from order (offset + length h.0) units h.1 h.5))
     (offsets_rise order (offset + length h.0) units h.1 h.5)

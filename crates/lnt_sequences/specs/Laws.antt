@@ -5,7 +5,7 @@ use Rattle.std.specs.Option.{option_map}
 use Rattle.lnt_wire.specs.declared.format.Format.{Format}
 use Rattle.lnt_wire.specs.declared.format.Order.{Order}
 use Rattle.lnt_unit.specs.Converting.{IsConverted}
-use Rattle.lnt_unit.specs.declared.unit.Parts.{Parts}
+use Rattle.lnt_header.specs.declared.unit_parts.UnitParts.{UnitParts}
 use Rattle.lnt_machine.specs.declared.row.Row.{Row}
 use Rattle.lnt_machine.specs.Matrix.{rows, Runs}
 use Rattle.lnt_spans.specs.declared.answer.Answer.{Answer}
@@ -50,21 +50,21 @@ MissingFileIsNotThere = (dead : Option ℕ) (files : ℕ) (sequences : List Plac
 -- What is collected of all rows of a unit, whose program runs, is collected of its live sequences.
 abbrev pub CollectedUnit : Type 0
 CollectedUnit =
-    (dead : Option ℕ) (unit : ℕ × Parts) (collected : Collected) (sequences : List Placed) → Runs unit.1 → length (rows unit.1) < 2 ^ 64
+    (dead : Option ℕ) (unit : ℕ × UnitParts) (collected : Collected) (sequences : List Placed) → Runs unit.1 → length (rows unit.1) < 2 ^ 64
     → CollectsRows dead unit.0 collected sequences (rows unit.1) → Collects collected (sequences ++ live_in dead unit)
 
 -- The live sequences of units at different offsets have different ids.
 abbrev pub DistinctSequences : Type 0
 DistinctSequences =
-    (dead : Option ℕ) (units : List (ℕ × Parts)) → AllPairs (λ one other. one.0 ≢ other.0) units → AreDistinct (live_sequences dead units)
+    (dead : Option ℕ) (units : List (ℕ × UnitParts)) → AllPairs (λ one other. one.0 ≢ other.0) units → AreDistinct (live_sequences dead units)
 
 -- Where copies aren't skipped, the kept sequences are the live ones. Where they are, the kept ones are live, and of units at
 -- different offsets no two that hold a position begin and end at the same ones.
 pub record KeptSequences : Type 0 where
-  pub all : (dead : Option ℕ) (units : List (ℕ × Parts)) → kept_sequences dead false units ≡ live_sequences dead units
-  pub live : (dead : Option ℕ) (units : List (ℕ × Parts)) (placed : Placed) → Contains (kept_sequences dead true units) placed
+  pub all : (dead : Option ℕ) (units : List (ℕ × UnitParts)) → kept_sequences dead false units ≡ live_sequences dead units
+  pub live : (dead : Option ℕ) (units : List (ℕ × UnitParts)) (placed : Placed) → Contains (kept_sequences dead true units) placed
       → Contains (live_sequences dead units) placed
-  pub differ : (dead : Option ℕ) (units : List (ℕ × Parts)) → AllPairs (λ one other. one.0 ≢ other.0) units
+  pub differ : (dead : Option ℕ) (units : List (ℕ × UnitParts)) → AllPairs (λ one other. one.0 ≢ other.0) units
       → AllPairs (λ (one : Placed) (other : Placed). hold_alike one.rows other.rows ≡ false) (kept_sequences dead true units)
 
 -- The row is the last of the rows, in their order, at or before p: those after it stand above p.
@@ -88,19 +88,19 @@ pub record AnswersAsHolder : Type 0 where
       → answer_in sequences p ≡ None
 
 -- The one offset is that of a unit of the one section, and the other that of the unit with the same place in the other section.
-pub record StandAlike (units others : List (ℕ × Parts)) (offset other : ℕ) : Type 0 where
+pub record StandAlike (units others : List (ℕ × UnitParts)) (offset other : ℕ) : Type 0 where
   pub place : ℕ
   pub within : place < length units
-  pub unit_is : (d : ℕ × Parts) → offset ≡ (get_or units place d).0
-  pub other_is : (d : ℕ × Parts) → other ≡ (get_or others place d).0
+  pub unit_is : (d : ℕ × UnitParts) → offset ≡ (get_or units place d).0
+  pub other_is : (d : ℕ × UnitParts) → other ≡ (get_or others place d).0
 
 -- The answers are the same but for the units' offsets, which stand alike.
-pub record IsAlike (units others : List (ℕ × Parts)) (answer other : Answer) : Type 0 where
+pub record IsAlike (units others : List (ℕ × UnitParts)) (answer other : Answer) : Type 0 where
   pub stand : StandAlike units others answer.unit other.unit
   pub same : other ≡ record answer { unit = other.unit }
 
 -- Both sections answer so, or neither answers anything.
-abbrev pub AreAlike : List (ℕ × Parts) → List (ℕ × Parts) → Option Answer → Option Answer → Type 0
+abbrev pub AreAlike : List (ℕ × UnitParts) → List (ℕ × UnitParts) → Option Answer → Option Answer → Type 0
 AreAlike units others None None = Unit {0}
 AreAlike units others (Some answer) (Some other) = IsAlike units others answer other
 AreAlike units others _ _ = ⊥

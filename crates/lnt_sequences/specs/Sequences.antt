@@ -2,7 +2,7 @@
 use Rattle.std.specs.Prelude.{◌≡◌, ℕ, Bool, true, false, not, ◌&&◌, ◌||◌, ◌==◌, nat_lt, List, [], ◌∷◌, map, reverse, Option, Some, None}
 use Rattle.std.specs.List.{enumerate_from, filter, find, flat_map, list_any}
 use Rattle.std.specs.Option.{option_map, option_and_then}
-use Rattle.lnt_unit.specs.declared.unit.Parts.{Parts}
+use Rattle.lnt_header.specs.declared.unit_parts.UnitParts.{UnitParts}
 use Rattle.lnt_machine.specs.declared.row.Row.{Row}
 use Rattle.lnt_machine.specs.Matrix.{rows, sequences_of}
 use Rattle.lnt_spans.specs.declared.answer.Answer.{Answer}
@@ -27,7 +27,7 @@ placed_rows unit rows =
     map (λ p. record { id = record { unit = unit; index = p.0 }; rows = p.1.rows }) (enumerate_from 0 (sequences_of rows))
 
 -- the sequences of a unit, which stands at an offset
-abbrev pub placed_in : ℕ × Parts → List Placed
+abbrev pub placed_in : ℕ × UnitParts → List Placed
 placed_in unit = placed_rows unit.0 (rows unit.1)
 
 -- whether rows that begin with this one are live: where there is a marker, their address isn't it
@@ -48,11 +48,11 @@ abbrev pub live_of : Option ℕ → List Placed → List Placed
 live_of dead sequences = filter (is_live dead) sequences
 
 -- the live sequences of a unit
-abbrev pub live_in : Option ℕ → ℕ × Parts → List Placed
+abbrev pub live_in : Option ℕ → ℕ × UnitParts → List Placed
 live_in dead unit = live_of dead (placed_in unit)
 
 -- the live sequences of a section, unit by unit
-abbrev pub live_sequences : Option ℕ → List (ℕ × Parts) → List Placed
+abbrev pub live_sequences : Option ℕ → List (ℕ × UnitParts) → List Placed
 live_sequences dead units = flat_map (live_in dead) units
 
 -- ---- the positions that a sequence holds
@@ -114,7 +114,7 @@ kept_of false sequences = sequences
 kept_of true sequences = filter (λ placed. not (is_copy sequences placed)) sequences
 
 -- the kept sequences of a section, of the live ones
-abbrev pub kept_sequences : Option ℕ → Bool → List (ℕ × Parts) → List Placed
+abbrev pub kept_sequences : Option ℕ → Bool → List (ℕ × UnitParts) → List Placed
 kept_sequences dead skip units = kept_of skip (live_sequences dead units)
 
 -- ---- what rows answer
@@ -141,5 +141,5 @@ answer_in sequences p =
     (find (λ placed. holds p placed.rows) sequences)
 
 -- What the rows of a section answer at p: those of its kept sequences.
-abbrev pub line_answer : Option ℕ → Bool → List (ℕ × Parts) → Position → Option Answer
+abbrev pub line_answer : Option ℕ → Bool → List (ℕ × UnitParts) → Position → Option Answer
 line_answer dead skip units p = answer_in (kept_sequences dead skip units) p

@@ -1,7 +1,7 @@
 -- What a comparison of a table of any version with a good section says of the two.
 use Rattle.std.proofs.Common.{◌≡◌, ◌≢◌, ◌∙◌, Bool, ℕ, List, [], ◌∷◌, Option, Some, None, IfSome, sym, ap, refl, subst}
 use Rattle.std.specs.Option.{option_map}
-use Rattle.lnt_unit.specs.declared.unit.Parts.{Parts}
+use Rattle.lnt_header.specs.declared.unit_parts.UnitParts.{UnitParts}
 use Rattle.lnt_spans.specs.declared.answer.Version.{Version}
 use Rattle.lnt_spans.specs.declared.position.Position.{Position}
 use Rattle.lnt_spans.specs.declared.span.Span.{Span}
@@ -51,7 +51,7 @@ compared_so bytes f g (Differs difference) e h = record {
   };
 }
 
-pub path_told : (text : Option (List ℕ)) (taken : List ℕ) (index : Indexed) (dead : Option ℕ) (skip : Bool) (units : List (ℕ × Parts))
+pub path_told : (text : Option (List ℕ)) (taken : List ℕ) (index : Indexed) (dead : Option ℕ) (skip : Bool) (units : List (ℕ × UnitParts))
     (spans : List Span) (compared : ComparedByPath)
     → IfSome text (λ bytes. (taken ≡ bytes) × ((version : Version) → BeginsWith bytes (column_names version ∷ []) → ⊥))
     → ((p : Position) → span_answer spans p ≡ line_answer dead skip units p)
@@ -75,7 +75,7 @@ header_found (kind.Fault (fault.Number k i)) e = cc
 header_found (kind.Fault (fault.Order k)) e = cc
 header_found (kind.Differs difference) e = cc
 
-pub numbered_told : (text : Option (List ℕ)) (dead : Option ℕ) (skip : Bool) (units : List (ℕ × Parts)) (spans : List Span)
+pub numbered_told : (text : Option (List ℕ)) (dead : Option ℕ) (skip : Bool) (units : List (ℕ × UnitParts)) (spans : List Span)
     (compared : Compared)
     → ((p : Position) → span_answer spans p ≡ line_answer dead skip units p)
     → IfSome text (λ bytes. IsComparison bytes spans compared × (compared ≢ kind.Fault fault.Header))
@@ -98,7 +98,7 @@ check_told line general options section table index (ByPath compared) i h = reco
 
 pub any_told : (line general : List ℕ) (options : Options) (section table : Option (List ℕ)) (index : Indexed) (checked : Checked)
     → IfSome section (λ bytes. IsIndexOfSection line general options bytes index)
-    → ((dead : Option ℕ) (skip : Bool) (units : List (ℕ × Parts)) → IsIndexOf dead skip units index
+    → ((dead : Option ℕ) (skip : Bool) (units : List (ℕ × UnitParts)) → IsIndexOf dead skip units index
     → IfSome table (λ text. IsCheckedWith index dead skip units text checked))
     → IfSome section (λ bytes. IfSome table (λ text. IsTrueCheck line general options bytes text checked))
 any_told line general options None table index checked i h = tt

@@ -1,7 +1,7 @@
 -- What a comparison of a table with the lines of a good section says of the two.
 use Rattle.std.proofs.Common.{◌≡◌, ◌∙◌, Bool, ℕ, List, Option, Some, None, IfSome, sym, ap}
 use Rattle.std.specs.Option.{option_map}
-use Rattle.lnt_unit.specs.declared.unit.Parts.{Parts}
+use Rattle.lnt_header.specs.declared.unit_parts.UnitParts.{UnitParts}
 use Rattle.lnt_spans.specs.declared.answer.Version.{Version}
 use Rattle.lnt_spans.specs.declared.difference.Difference.{Difference}
 use Rattle.lnt_spans.specs.declared.position.Position.{Position}
@@ -22,12 +22,12 @@ use Rattle.lnt_table.specs.Headline.{IsFaultyTable, IsTrueOfSection, IsTrueVerdi
 use Rattle.lnt_table.specs.Stepping.{IsComparedWith, verdict_of}
 
 -- Spans that answer as the rows do also answer so as each version tells answers.
-pub told_so : (version : Version) (dead : Option ℕ) (skip : Bool) (units : List (ℕ × Parts)) (spans : List Span)
+pub told_so : (version : Version) (dead : Option ℕ) (skip : Bool) (units : List (ℕ × UnitParts)) (spans : List Span)
     → ((p : Position) → span_answer spans p ≡ line_answer dead skip units p)
     → (p : Position) → version_answer version spans p ≡ told_answer version dead skip units p
 told_so version dead skip units spans same p = ap (option_map (in_version version)) (same p)
 
-least_told : (version : Version) (dead : Option ℕ) (skip : Bool) (units : List (ℕ × Parts)) (spans table : List Span)
+least_told : (version : Version) (dead : Option ℕ) (skip : Bool) (units : List (ℕ × UnitParts)) (spans table : List Span)
     (difference : Difference)
     → ((p : Position) → span_answer spans p ≡ line_answer dead skip units p)
     → IsLeastDifference (version_answer version spans) (span_answer table) difference
@@ -85,7 +85,7 @@ section_told line general options section index (Differs difference) i = (i.unit
 -- ---- the same for sources whose bytes are known
 
 abbrev Compares : Option (List ℕ) → Indexed → Compared → Type 0
-Compares table index compared = (dead : Option ℕ) (skip : Bool) (units : List (ℕ × Parts)) → IsIndexOf dead skip units index
+Compares table index compared = (dead : Option ℕ) (skip : Bool) (units : List (ℕ × UnitParts)) → IsIndexOf dead skip units index
     → IfSome table (λ text. IsComparedWith dead skip units text compared)
 
 table_told : (line general : List ℕ) (options : Options) (section : List ℕ) (table : Option (List ℕ)) (index : Indexed)
@@ -105,7 +105,7 @@ verdict_told line general options (Some section) table index compared i h =
     table_told line general options section table index compared i (h options.dead options.skip_copies i.units i.index_is)
 
 -- a comparison with the spans of an index is one with the rows of its units
-pub found_with : (table : Option (List ℕ)) (dead : Option ℕ) (skip : Bool) (units : List (ℕ × Parts)) (spans : List Span)
+pub found_with : (table : Option (List ℕ)) (dead : Option ℕ) (skip : Bool) (units : List (ℕ × UnitParts)) (spans : List Span)
     (compared : Compared) → ((p : Position) → span_answer spans p ≡ line_answer dead skip units p)
     → IfSome table (λ bytes. IsComparison bytes spans compared) → IfSome table (λ text. IsComparedWith dead skip units text compared)
 found_with None dead skip units spans compared answers h = tt

@@ -1,6 +1,6 @@
 -- Where the section is good and the table answers as it does, no verdict but Yes is true.
 use Rattle.std.proofs.Common.{◌∙◌, ℕ, List, refl, sym, subst}
-use Rattle.lnt_unit.specs.declared.unit.Parts.{Parts}
+use Rattle.lnt_header.specs.declared.unit_parts.UnitParts.{UnitParts}
 use Rattle.lnt_unit.proofs.UnitLaws.{same_units}
 use Rattle.lnt_spans.specs.declared.answer.Version.{Version}
 use Rattle.lnt_spans.specs.declared.difference.Difference.{Difference}
@@ -27,7 +27,7 @@ difference_none line general options bytes table difference one h d =
     (span_answer d.spans) difference) tables.0 d.least in
     let of_table = subst (λ (xs : List Span). IsLeastDifference (told_answer h.version options.dead options.skip_copies d.units)
     (span_answer xs) difference) tables.1 in_version in
-    let here = subst (λ (us : List (ℕ × Parts)). IsLeastDifference (told_answer h.version options.dead options.skip_copies us)
+    let here = subst (λ (us : List (ℕ × UnitParts)). IsLeastDifference (told_answer h.version options.dead options.skip_copies us)
     (span_answer h.spans) difference) units of_table in
     here.differ (here.table ∙ h.answers difference.position ∙ sym here.section)
 

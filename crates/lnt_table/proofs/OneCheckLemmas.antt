@@ -4,7 +4,7 @@ use Rattle.std.specs.List.{AllZip, position, slice_get}
 use Rattle.std.specs.Prelude.{◌==◌}
 use Rattle.std.specs.Option.{option_and_then, option_map}
 use Rattle.lnt_header.specs.declared.header.HeaderParts.{HeaderParts}
-use Rattle.lnt_unit.specs.declared.unit.Parts.{Parts}
+use Rattle.lnt_header.specs.declared.unit_parts.UnitParts.{UnitParts}
 use Rattle.lnt_unit.proofs.UnitLaws.{same_units}
 use Rattle.lnt_machine.specs.Walking.{KeepsProgram, KeptProgram}
 use Rattle.lnt_files.specs.Paths.{path_bytes}
@@ -32,9 +32,9 @@ abbrev header_of : Option KeptProgram → Option HeaderParts
 header_of found = option_map (λ (kept : KeptProgram). kept.header) found
 
 -- two lists of programs kept for the same units have the same headers
-same_headers : (units : List (ℕ × Parts)) (xs ys : List KeptProgram) (k : ℕ)
-    → AllZip (λ (unit : ℕ × Parts) (kept : KeptProgram). KeepsProgram kept unit.1) units xs
-    → AllZip (λ (unit : ℕ × Parts) (kept : KeptProgram). KeepsProgram kept unit.1) units ys
+same_headers : (units : List (ℕ × UnitParts)) (xs ys : List KeptProgram) (k : ℕ)
+    → AllZip (λ (unit : ℕ × UnitParts) (kept : KeptProgram). KeepsProgram kept unit.1) units xs
+    → AllZip (λ (unit : ℕ × UnitParts) (kept : KeptProgram). KeepsProgram kept unit.1) units ys
     → header_of (slice_get xs k) ≡ header_of (slice_get ys k)
 same_headers [] [] [] k a b = refl
 same_headers [] (x ∷ xs) ys k a b = absurd a
@@ -44,14 +44,14 @@ same_headers (unit ∷ units) (x ∷ xs) [] k a b = absurd b
 same_headers (unit ∷ units) (x ∷ xs) (y ∷ ys) zero a b = ap Some (a.0.header_is ∙ sym b.0.header_is)
 same_headers (unit ∷ units) (x ∷ xs) (y ∷ ys) (suc k) a b = same_headers units xs ys k a.1 b.1
 
-headers_at : (units : List (ℕ × Parts)) (xs ys : List KeptProgram) (place : Option ℕ)
-    → AllZip (λ (unit : ℕ × Parts) (kept : KeptProgram). KeepsProgram kept unit.1) units xs
-    → AllZip (λ (unit : ℕ × Parts) (kept : KeptProgram). KeepsProgram kept unit.1) units ys
+headers_at : (units : List (ℕ × UnitParts)) (xs ys : List KeptProgram) (place : Option ℕ)
+    → AllZip (λ (unit : ℕ × UnitParts) (kept : KeptProgram). KeepsProgram kept unit.1) units xs
+    → AllZip (λ (unit : ℕ × UnitParts) (kept : KeptProgram). KeepsProgram kept unit.1) units ys
     → header_of (option_and_then (slice_get xs) place) ≡ header_of (option_and_then (slice_get ys) place)
 headers_at units xs ys None a b = refl
 headers_at units xs ys (Some k) a b = same_headers units xs ys k a b
 
-one_header : (options : Options) (units : List (ℕ × Parts)) (one other : Indexed) (unit : ℕ)
+one_header : (options : Options) (units : List (ℕ × UnitParts)) (one other : Indexed) (unit : ℕ)
     → IsIndexOf options.dead options.skip_copies units one → IsIndexOf options.dead options.skip_copies units other
     → header_in one unit ≡ header_in other unit
 one_header options units one other unit i j =
@@ -70,7 +70,7 @@ path_in : (line general : List ℕ) (options : Options) (section : List ℕ) (on
     → IsIndexOfSection line general options section one → IsIndexOfSection line general options section other
     → file_path_in one unit file ≡ file_path_in other unit file
 path_in line general options section one other unit file i j =
-    let of_units = subst (λ (us : List (ℕ × Parts)). IsIndexOf options.dead options.skip_copies us one)
+    let of_units = subst (λ (us : List (ℕ × UnitParts)). IsIndexOf options.dead options.skip_copies us one)
     (same_section line general options section one other i j) i.index_is in
     let header = one_header options j.units one other unit of_units j.index_is in
     ap (λ (h : Option HeaderParts). option_and_then (λ (p : HeaderParts). path_bytes one.line one.general p file) h) header
@@ -100,7 +100,7 @@ told_alike : OnePath → (line general : List ℕ) (options : Options) (section 
 told_alike paths line general options section one other i j version p =
     answer_alike version one other (line_answer options.dead options.skip_copies i.units p)
     (λ unit file. paths.one line general options section one other unit file i j)
-    ∙ ap (λ (us : List (ℕ × Parts)). told_path version other options.dead options.skip_copies us p)
+    ∙ ap (λ (us : List (ℕ × UnitParts)). told_path version other options.dead options.skip_copies us p)
     (same_section line general options section one other i j)
 
 by_path : OnePath → OnePathComparison → (line general : List ℕ) (options : Options) (section table : List ℕ) (one other : ComparedByPath)

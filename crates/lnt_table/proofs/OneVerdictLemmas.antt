@@ -1,6 +1,6 @@
 -- At most one verdict is true of a section and a table.
 use Rattle.std.proofs.Common.{◌≡◌, ◌∙◌, ℕ, List, Option, refl, sym, ap, subst, inl, inr}
-use Rattle.lnt_unit.specs.declared.unit.Parts.{Parts}
+use Rattle.lnt_header.specs.declared.unit_parts.UnitParts.{UnitParts}
 use Rattle.lnt_unit.proofs.UnitLaws.{same_units}
 use Rattle.lnt_spans.specs.declared.answer.Answer.{Answer}
 use Rattle.lnt_spans.specs.declared.answer.Version.{Version}
@@ -59,7 +59,7 @@ two_differences line general options bytes table a b one d h =
     (span_answer d.spans) a) tables.0 d.least in
     let of_table = subst (λ (xs : List Span). IsLeastDifference (told_answer h.version options.dead options.skip_copies d.units)
     (span_answer xs) a) tables.1 in_version in
-    let here = subst (λ (us : List (ℕ × Parts)). IsLeastDifference (told_answer h.version options.dead options.skip_copies us)
+    let here = subst (λ (us : List (ℕ × UnitParts)). IsLeastDifference (told_answer h.version options.dead options.skip_copies us)
     (span_answer h.spans) a) units of_table in
     one_difference (told_answer h.version options.dead options.skip_copies h.units) (span_answer h.spans) a b here h.least
 

@@ -1,6 +1,6 @@
 -- The stretches at which the answers of a table and of the rows of units differ.
 use Rattle.std.proofs.Common.{◌≡◌, ◌≢◌, Bool, ℕ, List, [], ◌∷◌, Option, Some, None, IfSome, Vec, Global, subst}
-use Rattle.lnt_unit.specs.declared.unit.Parts.{Parts}
+use Rattle.lnt_header.specs.declared.unit_parts.UnitParts.{UnitParts}
 use Rattle.lnt_spans.specs.declared.answer.Answer.{Answer}
 use Rattle.lnt_spans.specs.declared.answer.Version.{Version}
 use Rattle.lnt_spans.specs.declared.listed.SpanList.{SpanList}
@@ -20,7 +20,7 @@ use Rattle.lnt_paths.specs.Held.{IsHeld}
 use Rattle.lnt_table.specs.Stretches.{IsDifferingFrom}
 
 pub from_units : {S : Type 0} (of_section : Remaining S → List Span → Type 0) (of_table : SpanList → List Span → Type 0) (dead : Option ℕ)
-    (skip : Bool) (units : List (ℕ × Parts)) (table : Option (List ℕ)) (differing : Differing S)
+    (skip : Bool) (units : List (ℕ × UnitParts)) (table : Option (List ℕ)) (differing : Differing S)
     → IfSome table (λ text. IsDiffering of_section of_table text (line_answer dead skip units) differing)
     → IfSome table (λ text. IsDifferingFrom of_section of_table dead skip units text differing)
 from_units of_section of_table dead skip units None differing h = tt
@@ -31,7 +31,7 @@ from_units of_section of_table dead skip units (Some text) (Table differences) h
 -- ---- a table of any version
 
 pub numbered_from_units : {S : Type 0} (of_section : Remaining S → List Span → Type 0) (of_table : SpanList → List Span → Type 0)
-    (dead : Option ℕ) (skip : Bool) (units : List (ℕ × Parts)) (table : Option (List ℕ)) (became : DifferingRead S)
+    (dead : Option ℕ) (skip : Bool) (units : List (ℕ × UnitParts)) (table : Option (List ℕ)) (became : DifferingRead S)
     (differing : Differing S) → became ≡ read.Differing differing
     → IfSome table (λ text. IsDifferingRead of_section of_table text (line_answer dead skip units) became)
     → IfSome table (λ text. IsDifferingFrom of_section of_table dead skip units text differing × (differing ≢ Fault fault.Header))

@@ -2,7 +2,7 @@
 --     line, general    the bytes of .debug_line_str and of .debug_str
 --     section, table   the bytes of .debug_line, and those of the address table
 use Rattle.std.specs.Prelude.{◌≢◌, ℕ, Bool, List, [], ◌∷◌, Option}
-use Rattle.lnt_unit.specs.declared.unit.Parts.{Parts}
+use Rattle.lnt_header.specs.declared.unit_parts.UnitParts.{UnitParts}
 use Rattle.lnt_spans.specs.declared.answer.Version.{Version}
 use Rattle.lnt_records.specs.Table.{BeginsWith, column_names}
 use Rattle.lnt_paths.specs.declared.answer.ComparedByPath.{ComparedByPath}
@@ -20,7 +20,7 @@ use Rattle.lnt_table.specs.Headline.{IsGoodSection, IsTrueOfSection, IsTrueVerdi
 -- The table begins with the header of neither version 1 nor 2. `compared` is true of the table and of the answers of the
 -- units' rows, with each file's whole path, as versions 3 and 4 tell answers: `Fault` of the header, where the table begins
 -- with that of neither of these.
-pub record IsComparedByPath (index : Indexed) (dead : Option ℕ) (skip : Bool) (units : List (ℕ × Parts)) (table : List ℕ)
+pub record IsComparedByPath (index : Indexed) (dead : Option ℕ) (skip : Bool) (units : List (ℕ × UnitParts)) (table : List ℕ)
     (compared : ComparedByPath) : Type 0 where
   pub unnumbered : (version : Version) → BeginsWith table (column_names version ∷ []) → ⊥
   pub comparison : IsPathComparison table (λ version. told_path version index dead skip units) compared

@@ -4,7 +4,7 @@
 use Rattle.std.specs.Prelude.{◌≡◌, ℕ, Bool, IsTrue, List, Option}
 use Rattle.std.specs.Option.{option_map}
 use Rattle.lnt_input.specs.Pulling.{HasMoreThan}
-use Rattle.lnt_unit.specs.declared.unit.Parts.{Parts}
+use Rattle.lnt_header.specs.declared.unit_parts.UnitParts.{UnitParts}
 use Rattle.lnt_spans.specs.declared.answer.Answer.{Answer}
 use Rattle.lnt_spans.specs.declared.answer.Version.{Version}
 use Rattle.lnt_spans.specs.declared.difference.Difference.{Difference}
@@ -27,12 +27,12 @@ use Rattle.lnt_table.specs.declared.verdict.Verdict.{Verdict}
 use Rattle.lnt_table.specs.declared.verdict.Verdict.TheVariants.{Yes, No}
 
 -- the answer of a section's rows at a position, as this version of the address table tells answers
-abbrev pub told_answer : Version → Option ℕ → Bool → List (ℕ × Parts) → Position → Option Answer
+abbrev pub told_answer : Version → Option ℕ → Bool → List (ℕ × UnitParts) → Position → Option Answer
 told_answer version dead skip units p = option_map (in_version version) (line_answer dead skip units p)
 
 -- The section is good. The table is one of a version, and at every position its answer is that of the section's rows.
 pub record AnswersRight (line general : List ℕ) (options : Options) (section table : List ℕ) : Type 0 where
-  pub units : List (ℕ × Parts)
+  pub units : List (ℕ × UnitParts)
   pub good : IsGood line general options section units
   pub version : Version
   pub spans : List Span
@@ -41,13 +41,13 @@ pub record AnswersRight (line general : List ℕ) (options : Options) (section t
 
 -- The section is good. The table's bytes are no table, and `told` is their first fault.
 pub record IsFaultyTable (line general : List ℕ) (options : Options) (section table : List ℕ) (told : TableFault) : Type 0 where
-  pub units : List (ℕ × Parts)
+  pub units : List (ℕ × UnitParts)
   pub good : IsGood line general options section units
   pub faulty : IsFault table told
 
 -- The section is good. The table is one of a version, and this is the least position at which the two answers differ.
 pub record AnswersOtherwise (line general : List ℕ) (options : Options) (section table : List ℕ) (difference : Difference) : Type 0 where
-  pub units : List (ℕ × Parts)
+  pub units : List (ℕ × UnitParts)
   pub good : IsGood line general options section units
   pub version : Version
   pub spans : List Span
@@ -74,7 +74,7 @@ IsTrueVerdict line general options section table (No reason) = IsTrueTableNo lin
 -- ---- what a verdict says of the section, whatever the table is
 
 abbrev pub IsGoodSection : List ℕ → List ℕ → Options → List ℕ → Type 0
-IsGoodSection line general options section = (units : List (ℕ × Parts)) × IsGood line general options section units
+IsGoodSection line general options section = (units : List (ℕ × UnitParts)) × IsGood line general options section units
 
 -- The verdict's reason is why the section isn't good; where it gives no such reason, the section is good.
 abbrev pub IsTrueOfSection : List ℕ → List ℕ → Options → List ℕ → Verdict → Type 0

@@ -1,6 +1,6 @@
 -- The laws of verdicts and of answers of `check_any`.
 use Rattle.std.specs.Prelude.{◌≡◌, Bool, ℕ, List, Option}
-use Rattle.lnt_unit.specs.declared.unit.Parts.{Parts}
+use Rattle.lnt_header.specs.declared.unit_parts.UnitParts.{UnitParts}
 use Rattle.lnt_spans.specs.declared.answer.Version.{Version}
 use Rattle.lnt_spans.specs.declared.position.Position.{Position}
 use Rattle.lnt_lines.specs.declared.options.Options.{Options}
@@ -42,13 +42,13 @@ OwnTable = (line general : List ℕ) (options : Options) (section table : List �
 -- The same for a table that was written of its index.
 abbrev pub OwnTableOfUnits : Type 0
 OwnTableOfUnits =
-    (line general : List ℕ) (options : Options) (section table : List ℕ) (units : List (ℕ × Parts)) (version : Version) (verdict : Verdict)
+    (line general : List ℕ) (options : Options) (section table : List ℕ) (units : List (ℕ × UnitParts)) (version : Version) (verdict : Verdict)
     → IsGood line general options section units → IsTableOfUnits version options.dead options.skip_copies units table
     → IsTrueVerdict line general options section table verdict → verdict ≡ Yes
 
 -- The rows of some units have one table of each version, byte for byte, and so have answers by path.
 pub record OneWritten : Type 0 where
-  pub of_units : (version : Version) (dead : Option ℕ) (skip : Bool) (units : List (ℕ × Parts)) (one other : List ℕ)
+  pub of_units : (version : Version) (dead : Option ℕ) (skip : Bool) (units : List (ℕ × UnitParts)) (one other : List ℕ)
       → IsTableOfUnits version dead skip units one → IsTableOfUnits version dead skip units other → one ≡ other
   pub by_path : (version : PathVersion) (answers : Position → Option PathAnswer) (one other : List ℕ)
       → IsCanonicalPathTable version answers one → IsCanonicalPathTable version answers other → one ≡ other

@@ -1,6 +1,6 @@
 -- What the bodies of this crate say of a comparison of a table with a good section. No public contract speaks of it.
 use Rattle.std.specs.Prelude.{◌≡◌, ◌≢◌, ℕ, Bool, List, Option}
-use Rattle.lnt_unit.specs.declared.unit.Parts.{Parts}
+use Rattle.lnt_header.specs.declared.unit_parts.UnitParts.{UnitParts}
 use Rattle.lnt_spans.specs.declared.position.Position.{Position}
 use Rattle.lnt_spans.specs.declared.span.Span.{Span}
 use Rattle.lnt_spans.specs.Spans.{span_answer}
@@ -26,7 +26,7 @@ verdict_of (Fault told) = No (no_of_fault told)
 verdict_of (Differs difference) = No (no.Differs difference.position difference.by_table difference.by_section)
 
 -- `compared` is true of the table and of some spans that answer as the units' rows do.
-pub record IsComparedWith (dead : Option ℕ) (skip : Bool) (units : List (ℕ × Parts)) (table : List ℕ) (compared : Compared) : Type 0 where
+pub record IsComparedWith (dead : Option ℕ) (skip : Bool) (units : List (ℕ × UnitParts)) (table : List ℕ) (compared : Compared) : Type 0 where
   pub spans : List Span
   pub answers : (p : Position) → span_answer spans p ≡ line_answer dead skip units p
   pub comparison : IsComparison table spans compared
@@ -34,7 +34,7 @@ pub record IsComparedWith (dead : Option ℕ) (skip : Bool) (units : List (ℕ �
 -- ---- a table of any version
 
 -- What was checked is true of the table and of an index of these units. The header of a table of version 1 or 2 isn't at fault.
-abbrev pub IsCheckedWith : Indexed → Option ℕ → Bool → List (ℕ × Parts) → List ℕ → Checked → Type 0
+abbrev pub IsCheckedWith : Indexed → Option ℕ → Bool → List (ℕ × UnitParts) → List ℕ → Checked → Type 0
 IsCheckedWith index dead skip units table (Numbered verdict) =
     (compared : Compared) × IsComparedWith dead skip units table compared × (verdict ≡ verdict_of compared) × (verdict ≢ No no.Header)
 IsCheckedWith index dead skip units table (ByPath compared) = IsComparedByPath index dead skip units table compared

@@ -1,6 +1,6 @@
 -- All positions at which the answers of a table and of a section's rows differ.
 use Rattle.std.specs.Prelude.{◌≢◌, Bool, ℕ, List, [], ◌∷◌, Option}
-use Rattle.lnt_unit.specs.declared.unit.Parts.{Parts}
+use Rattle.lnt_header.specs.declared.unit_parts.UnitParts.{UnitParts}
 use Rattle.lnt_spans.specs.declared.answer.Version.{Version}
 use Rattle.lnt_spans.specs.declared.listed.SpanList.{SpanList}
 use Rattle.lnt_spans.specs.declared.span.Span.{Span}
@@ -22,7 +22,7 @@ use Rattle.lnt_table.specs.Headline.{told_answer}
 -- The bytes are a table, and `differences` is about to give the first of the stretches at which the answers of the table and
 -- of the units' rows differ, as the table's version tells answers.
 pub record DiffersFromUnits {S T : Type 0} (of_section : S → List Span → Type 0) (of_table : T → List Span → Type 0) (dead : Option ℕ)
-    (skip : Bool) (units : List (ℕ × Parts)) (table : List ℕ) (differences : Differences S T) : Type 0 where
+    (skip : Bool) (units : List (ℕ × UnitParts)) (table : List ℕ) (differences : Differences S T) : Type 0 where
   pub version : Version
   pub spans : List Span
   pub is_table : IsTableOf version table spans
@@ -30,7 +30,7 @@ pub record DiffersFromUnits {S T : Type 0} (of_section : S → List Span → Typ
 
 -- The stretches of a table, or the first fault of bytes that are none.
 abbrev pub IsDifferingFrom : {S : Type 0} → (Remaining S → List Span → Type 0) → (SpanList → List Span → Type 0) → Option ℕ → Bool
-    → List (ℕ × Parts) → List ℕ → Differing S → Type 0
+    → List (ℕ × UnitParts) → List ℕ → Differing S → Type 0
 IsDifferingFrom of_section of_table dead skip units table (Fault told) = IsFault table told
 IsDifferingFrom of_section of_table dead skip units table (Table differences) =
     DiffersFromUnits of_section of_table dead skip units table differences
@@ -38,7 +38,7 @@ IsDifferingFrom of_section of_table dead skip units table (Table differences) =
 -- For bytes with the header of version 1 or 2: the same, and the fault isn't the header's. Else the bytes begin with neither
 -- header, and `held` is the table by path that they are, or their first fault.
 abbrev pub IsAnyDiffering : {S : Type 0} → (Remaining S → List Span → Type 0) → (SpanList → List Span → Type 0) → Option ℕ → Bool
-    → List (ℕ × Parts) → List ℕ → AnyDiffering S → Type 0
+    → List (ℕ × UnitParts) → List ℕ → AnyDiffering S → Type 0
 IsAnyDiffering of_section of_table dead skip units table (Numbered told) =
     IsDifferingFrom of_section of_table dead skip units table told × (told ≢ Fault fault.Header)
 IsAnyDiffering of_section of_table dead skip units table (ByPath held) =

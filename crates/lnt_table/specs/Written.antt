@@ -1,7 +1,7 @@
 -- The tables that are written of a section's lines.
 use Rattle.std.specs.Prelude.{◌≡◌, ◌⊎◌, Bool, ℕ, List, Option}
 use Rattle.lnt_output.specs.Fronts.{AppendsFront}
-use Rattle.lnt_unit.specs.declared.unit.Parts.{Parts}
+use Rattle.lnt_header.specs.declared.unit_parts.UnitParts.{UnitParts}
 use Rattle.lnt_spans.specs.declared.answer.Version.{Version}
 use Rattle.lnt_spans.specs.declared.position.Position.{Position}
 use Rattle.lnt_spans.specs.declared.span.Span.{Span}
@@ -22,7 +22,7 @@ pub record IsTableOfLines (version : Version) (section : List Span) (bytes : Lis
   pub written : IsWrittenTable version bytes spans
 
 -- The same of the canonical spans that answer as the rows of some units do.
-pub record IsTableOfUnits (version : Version) (dead : Option ℕ) (skip : Bool) (units : List (ℕ × Parts)) (bytes : List ℕ) : Type 0 where
+pub record IsTableOfUnits (version : Version) (dead : Option ℕ) (skip : Bool) (units : List (ℕ × UnitParts)) (bytes : List ℕ) : Type 0 where
   pub spans : List Span
   pub canonical : IsCanonical spans
   pub same : (p : Position) → span_answer spans p ≡ told_answer version dead skip units p
@@ -32,7 +32,7 @@ pub record IsTableOfUnits (version : Version) (dead : Option ℕ) (skip : Bool) 
 --     old, new    the known bytes that the writer holds before and afterwards
 
 -- The writer has gained a front of a table of these units. There is one such table, by the law `one_written`.
-pub record BeginsTableOfUnits (version : Version) (dead : Option ℕ) (skip : Bool) (units : List (ℕ × Parts)) (old new : Option (List ℕ))
+pub record BeginsTableOfUnits (version : Version) (dead : Option ℕ) (skip : Bool) (units : List (ℕ × UnitParts)) (old new : Option (List ℕ))
     : Type 0 where
   pub whole : List ℕ
   pub is_table : IsTableOfUnits version dead skip units whole

@@ -2,7 +2,7 @@
 ghost use Rattle.std.specs.Prelude.{◌≡◌, ◌≢◌, ◌+◌, ◌-◌, ◌^◌, ◌<◌, ◌⊎◌, Bool, ℕ, List, Option, IfOk, IfSome, IsErrOf};
 ghost use Rattle.lnt_lines.specs.declared.no.No.{No as SectionNo};
 ghost use Rattle.lnt_input.specs.declared.stop.Stop.TheVariants.{Read, TooLong};
-ghost use Rattle.lnt_unit.specs.declared.unit.Parts.{Parts};
+ghost use Rattle.lnt_header.specs.declared.unit_parts.UnitParts.{UnitParts};
 ghost use Rattle.lnt_lines.specs.Indexed.{IsIndexOf};
 ghost use Rattle.lnt_table.specs.Headline.{IsFoundTooLong, IsTrueOfSection, IsTrueVerdict};
 ghost use Rattle.lnt_table.specs.Stepping.{IsComparedWith};
@@ -85,7 +85,7 @@ fn compare_index<T: Source>(
     index: &Index<'_>,
 ) -> Result<Compared, Stop>
     requires { T.failures table.old < 2 ^ 64 - 1 }
-    ensures ok { IfOk result (λ compared. (dead : Option ℕ) (skip : Bool) (units : List (ℕ × Parts)) → IsIndexOf dead skip units index.now
+    ensures ok { IfOk result (λ compared. (dead : Option ℕ) (skip : Bool) (units : List (ℕ × UnitParts)) → IsIndexOf dead skip units index.now
         → IfSome (T.remaining table.old) (λ text. IsComparedWith dead skip units text compared)) }
     ensures read { IsErrOf result Stop.Read → T.failures table.new ≡ T.failures table.old + 1 }
     ensures no_failure { result ≢ Err Stop.Read → T.failures table.new ≡ T.failures table.old }

@@ -1,6 +1,6 @@
 //! Writes the table by path of a section's units.
 ghost use Rattle.std.specs.Prelude.{◌≡◌, Bool, ℕ, List, Option, IfOk, OnErr};
-ghost use Rattle.lnt_unit.specs.declared.unit.Parts.{Parts};
+ghost use Rattle.lnt_header.specs.declared.unit_parts.UnitParts.{UnitParts};
 ghost use Rattle.lnt_lines.specs.Indexed.{IsIndexOf};
 ghost use Rattle.lnt_paths.specs.Written.{HasBecome};
 ghost use Rattle.lnt_table.specs.ByPath.{path_at, told_path};
@@ -56,9 +56,9 @@ pub fn write_paths<W: Write>(
     version: PathVersion,
     out: &mut W,
 ) -> Result<PathTable, WriteStop>
-    ensures table { IfOk result (λ table. (dead : Option ℕ) (skip : Bool) (units : List (ℕ × Parts)) → IsIndexOf dead skip units index.now
+    ensures table { IfOk result (λ table. (dead : Option ℕ) (skip : Bool) (units : List (ℕ × UnitParts)) → IsIndexOf dead skip units index.now
         → HasBecome version (told_path version index.now dead skip units) (W.contents out.old) (W.contents out.new) table) }
-    ensures begun { OnErr result ((dead : Option ℕ) (skip : Bool) (units : List (ℕ × Parts)) → IsIndexOf dead skip units index.now
+    ensures begun { OnErr result ((dead : Option ℕ) (skip : Bool) (units : List (ℕ × UnitParts)) → IsIndexOf dead skip units index.now
         → BeginsPaths version (told_path version index.now dead skip units) (W.contents out.old) (W.contents out.new)) }
 {
     let paths = IndexPaths { index };

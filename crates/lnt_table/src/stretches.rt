@@ -11,7 +11,7 @@ ghost use Rattle.lnt_paths.specs.Stretching.{HasToldByPath};
 ghost use Rattle.lnt_table.specs.ByPath.{path_at, told_path};
 ghost use Rattle.lnt_table.specs.Headline.{IsFoundTooLong};
 ghost use Rattle.lnt_table.specs.Stretches.{IsAnyDiffering, IsDifferingFrom, IsStartedAny};
-ghost use Rattle.lnt_unit.specs.declared.unit.Parts.{Parts};
+ghost use Rattle.lnt_header.specs.declared.unit_parts.UnitParts.{UnitParts};
 
 use lnt_input::{Source, Stop};
 use lnt_lines::{Index, Spans};
@@ -34,7 +34,7 @@ pub fn differences<'i, T: Source>(
     index: &'i Index<'_>,
 ) -> Result<Differing<Spans<'i>>, Stop>
     requires { T.failures table.old < 2 ^ 64 - 1 }
-    ensures ok { IfOk result (λ differing. (dead : Option ℕ) (skip : Bool) (units : List (ℕ × Parts))
+    ensures ok { IfOk result (λ differing. (dead : Option ℕ) (skip : Bool) (units : List (ℕ × UnitParts))
         → IsIndexOf dead skip units index.entry.now → IfSome (T.remaining table.old) (λ text.
         IsDifferingFrom ⟦<Remaining<Spans<'i>> as SpanSource>⟧.to_come ⟦<SpanList as SpanSource>⟧.to_come dead skip units text differing)) }
     ensures started { IfOk result (λ differing. IsStarted ⟦<Remaining<Spans<'i>> as SpanSource>⟧.to_come ⟦<SpanList as SpanSource>⟧.to_come
@@ -71,7 +71,7 @@ pub fn differences_any<'i, T: Source>(
     index: &'i Index<'_>,
 ) -> Result<AnyDiffering<Spans<'i>>, Stop>
     requires { T.failures table.old < 2 ^ 64 - 1 }
-    ensures ok { IfOk result (λ any. (dead : Option ℕ) (skip : Bool) (units : List (ℕ × Parts))
+    ensures ok { IfOk result (λ any. (dead : Option ℕ) (skip : Bool) (units : List (ℕ × UnitParts))
         → IsIndexOf dead skip units index.entry.now → IfSome (T.remaining table.old) (λ text.
         IsAnyDiffering ⟦<Remaining<Spans<'i>> as SpanSource>⟧.to_come ⟦<SpanList as SpanSource>⟧.to_come dead skip units text any)) }
     ensures started { IfOk result (λ any. IsStartedAny ⟦<Remaining<Spans<'i>> as SpanSource>⟧.to_come ⟦<SpanList as SpanSource>⟧.to_come
@@ -100,7 +100,7 @@ pub fn differences_by_path<'t, 'i>(
     spans: &'t [HeldSpan],
     version: PathVersion,
 ) -> DifferencesByPath<'t, Spans<'i>>
-    ensures told { (dead : Option ℕ) (skip : Bool) (units : List (ℕ × Parts)) → IsIndexOf dead skip units index.entry.now
+    ensures told { (dead : Option ℕ) (skip : Bool) (units : List (ℕ × UnitParts)) → IsIndexOf dead skip units index.entry.now
         → StandInOrder (map held_span spans.entry.now)
         → HasToldByPath ⟦<Spans<'i> as SpanSource>⟧.to_come (path_at index.entry.now) result
         (told_path version index.entry.now dead skip units) (path_span_answer (map held_span spans.entry.now)) [] }

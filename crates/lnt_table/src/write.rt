@@ -1,7 +1,7 @@
 //! Writes the table of a section's lines.
 ghost use Rattle.std.specs.Prelude.{◌⊎◌, Bool, ℕ, List, Option, OnErr, OnOk};
 ghost use Rattle.std.specs.Io.KnownBytes.{Appends, Keeps};
-ghost use Rattle.lnt_unit.specs.declared.unit.Parts.{Parts};
+ghost use Rattle.lnt_header.specs.declared.unit_parts.UnitParts.{UnitParts};
 ghost use Rattle.lnt_lines.specs.Indexed.{IsIndexOf};
 ghost use Rattle.lnt_records.specs.Written.{BeginsCanonicalTable};
 ghost use Rattle.lnt_table.specs.Written.{BeginsTableOfUnits, IsTableOfLines, IsTableOfUnits};
@@ -51,9 +51,9 @@ pub fn write_index<W: Write>(
     out: &mut W,
 ) -> Result<(), WriteStop>
     ensures table { OnOk result ((bytes : List ℕ) × Appends (W.contents out.old) (W.contents out.new) bytes
-        × ((dead : Option ℕ) (skip : Bool) (units : List (ℕ × Parts)) → IsIndexOf dead skip units index.now
+        × ((dead : Option ℕ) (skip : Bool) (units : List (ℕ × UnitParts)) → IsIndexOf dead skip units index.now
         → IsTableOfUnits version dead skip units bytes)) }
-    ensures begun { OnErr result ((dead : Option ℕ) (skip : Bool) (units : List (ℕ × Parts)) → IsIndexOf dead skip units index.now
+    ensures begun { OnErr result ((dead : Option ℕ) (skip : Bool) (units : List (ℕ × UnitParts)) → IsIndexOf dead skip units index.now
         → BeginsTableOfUnits version dead skip units (W.contents out.old) (W.contents out.new)) }
 {
     write_canonical(alloc, index.spans(), version, out)

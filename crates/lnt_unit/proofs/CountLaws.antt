@@ -7,7 +7,7 @@ use Rattle.lnt_header.specs.declared.op.Op.{Op}
 use Rattle.lnt_header.specs.Joins.{Each}
 use Rattle.lnt_ops.proofs.OpLaws.{op_is_some}
 use Rattle.lnt_ops.specs.OpBytes.{OpBytes}
-use Rattle.lnt_unit.specs.declared.unit.Parts.{Parts}
+use Rattle.lnt_header.specs.declared.unit_parts.UnitParts.{UnitParts}
 use Rattle.lnt_unit.specs.UnitBytes.{UnitBytesIn}
 use Rattle.lnt_unit.proofs.UnitLaws.{header_of}
 use Rattle.lnt_unit.proofs.ReadLaws.{program_within}
@@ -25,7 +25,7 @@ few_ops h (op ∷ ops) program spelled =
     )
 
 -- the operations of a unit
-pub ops_within : (order : Order) (unit : Parts) (bytes : List ℕ) → UnitBytesIn order unit bytes → length unit.ops ≤ length bytes
+pub ops_within : (order : Order) (unit : UnitParts) (bytes : List ℕ) → UnitBytesIn order unit bytes → length unit.ops ≤ length bytes
 ops_within order unit bytes p =
     omega (
       arith,

@@ -19,7 +19,7 @@ use Rattle.lnt_header_bytes.specs.Broken.IsFirstField.{frame, start, counted}
 use Rattle.lnt_header_bytes.specs.HeaderBytes.{unit_body, HeaderBytesIn}
 use Rattle.lnt_header_bytes.proofs.HeaderLaws.{regroup}
 use Rattle.lnt_header.specs.declared.header.HeaderParts.{HeaderParts}
-use Rattle.lnt_unit.specs.declared.unit.Parts.{Parts}
+use Rattle.lnt_header.specs.declared.unit_parts.UnitParts.{UnitParts}
 use Rattle.lnt_unit.specs.BrokenUnits.{BeginsWithHeader, BrokenUnit}
 use Rattle.lnt_unit.specs.UnitBytes.{UnitBytesIn}
 
@@ -124,7 +124,7 @@ header_frame order h program x p =
     }
 
 -- the frame of a unit
-pub unit_frame : (order : Order) (unit : Parts) (x : List ℕ) → (p : UnitBytesIn order unit x)
+pub unit_frame : (order : Order) (unit : UnitParts) (x : List ℕ) → (p : UnitBytesIn order unit x)
     → FrameBytes order (unit.header.format, unit_body unit.header p.spelled.whole.fields p.spelled.program) x
 unit_frame order unit x p = header_frame order unit.header p.spelled.program x (record { order_is = p.order_is; spelled = p.spelled.whole })
 

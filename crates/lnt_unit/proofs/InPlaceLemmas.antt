@@ -6,7 +6,7 @@ use Rattle.lnt_wire.specs.FrameBytes.{version_five}
 use Rattle.lnt_wire.specs.InitialLength.{initial_length}
 use Rattle.lnt_wire.specs.Numbers.{number_bytes, offset_size}
 use Rattle.lnt_header_bytes.specs.HeaderBytes.{unit_body}
-use Rattle.lnt_header_bytes.specs.Borrowed.{without_entries}
+use Rattle.lnt_header.specs.HeaderNumbers.{without_entries}
 use Rattle.lnt_ops.specs.Walks.{Walk, Ends}
 use Rattle.lnt_unit.proofs.NumberLaws.{given_all_by_numbers}
 use Rattle.lnt_unit.specs.Views.{View, IsUnitView, HasCount, by_numbers}

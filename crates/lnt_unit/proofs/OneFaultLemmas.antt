@@ -22,7 +22,7 @@ use Rattle.lnt_unit.specs.BrokenUnits.{BeginsWithHeader, BrokenUnit, IsTrueFault
 use Rattle.lnt_unit.specs.Laws.{OneTrueFault}
 use Rattle.lnt_unit.proofs.UnitLaws.{one_spelling, same_units}
 use Rattle.lnt_unit.specs.UnitBytes.{UnitBytesIn, UnitsFrom}
-use Rattle.lnt_unit.specs.declared.unit.Parts.{Parts}
+use Rattle.lnt_header.specs.declared.unit_parts.UnitParts.{UnitParts}
 
 -- ---- whether two faults are one
 
@@ -160,7 +160,7 @@ record SameStart (x y r s : List ℕ) : Type 0 where
   past : r ≡ s
 
 -- the units in front of bytes that no unit begins are the same
-same_start : (order : Order) (k l : ℕ) (us vs : List (ℕ × Parts)) (x y r s : List ℕ) → UnitsFrom order k us x → UnitsFrom order l vs y
+same_start : (order : Order) (k l : ℕ) (us vs : List (ℕ × UnitParts)) (x y r s : List ℕ) → UnitsFrom order k us x → UnitsFrom order l vs y
     → x ++ r ≡ y ++ s → NoneSpelled (UnitBytesIn order) r
     → NoneSpelled (UnitBytesIn order) s → SameStart x y r s
 same_start order k l [] [] x y r s p q e none none' =

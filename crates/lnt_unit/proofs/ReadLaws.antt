@@ -14,7 +14,7 @@ use Rattle.lnt_header_bytes.specs.HeaderBytes.{unit_body, HeaderBytesIn}
 use Rattle.lnt_header.specs.declared.header.HeaderParts.{HeaderParts}
 use Rattle.lnt_unit.specs.BrokenUnits.{BrokenUnit}
 use Rattle.lnt_unit.specs.UnitBytes.{UnitBytesIn}
-use Rattle.lnt_unit.specs.declared.unit.Parts.{Parts}
+use Rattle.lnt_header.specs.declared.unit_parts.UnitParts.{UnitParts}
 use Rattle.lnt_unit.proofs.FrameLaws.{broken_more}
 use Rattle.lnt_unit.proofs.BrokenLaws.{frame_broken}
 
@@ -47,7 +47,7 @@ frame_end order frame old new r here =
     subst (λ (z : List ℕ). new.place ≡ frame.offset + length z) r.spelled.spelled.joined (rw here r.place)
 
 -- the unit of the frame that was read
-pub unit_read : (order : Order) (unit : Parts) (frame : Frame) (old new : At) → Reads (IsFrame order) frame old new
+pub unit_read : (order : Order) (unit : UnitParts) (frame : Frame) (old new : At) → Reads (IsFrame order) frame old new
     → UnitBytesIn order unit (frame_bytes order frame.format frame.body.now)
     → Reads (UnitBytesIn order) unit old new
 unit_read order unit frame old new r p = record {

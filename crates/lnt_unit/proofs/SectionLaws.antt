@@ -9,10 +9,10 @@ use Rattle.lnt_unit.specs.BrokenUnits.{BrokenUnit, IsTrueFault, BrokenSection}
 use Rattle.lnt_unit.proofs.UnitLaws.{unit_is_some, units_push, no_section}
 use Rattle.lnt_unit.specs.Stepping.{AddsUnit}
 use Rattle.lnt_unit.specs.UnitBytes.{UnitBytesIn, SectionBytes}
-use Rattle.lnt_unit.specs.declared.unit.Parts.{Parts}
+use Rattle.lnt_header.specs.declared.unit_parts.UnitParts.{UnitParts}
 
 -- the units that were read up to the cursor
-pub record UnitsSoFar (order : Order) (bytes : List ℕ) (units : List (ℕ × Parts)) (cursor : At) : Type 0 where
+pub record UnitsSoFar (order : Order) (bytes : List ℕ) (units : List (ℕ × UnitParts)) (cursor : At) : Type 0 where
   pub front : List ℕ
   pub whole : bytes ≡ front ++ cursor.rest
   pub joined : SectionBytes order units front
@@ -23,7 +23,7 @@ pub no_units : (order : Order) (bytes : List ℕ) (cursor : At) → cursor.rest 
     → UnitsSoFar order bytes [] cursor
 no_units order bytes cursor rest place order_is = record { front = []; whole = sym rest; joined = refl; place = place; order_is = order_is }
 
-pub one_more_unit : (order : Order) (bytes : List ℕ) (units : List (ℕ × Parts)) (unit : ℕ × Parts) (old new : At)
+pub one_more_unit : (order : Order) (bytes : List ℕ) (units : List (ℕ × UnitParts)) (unit : ℕ × UnitParts) (old new : At)
     → UnitsSoFar order bytes units old → Reads (UnitBytesIn order) unit.1 old new
     → unit.0 ≡ old.place → UnitsSoFar order bytes (units ++ unit ∷ []) new
 one_more_unit order bytes units unit old new so_far r here = record {
@@ -35,29 +35,29 @@ one_more_unit order bytes units unit old new so_far r here = record {
 }
 
 -- a unit has bytes
-pub unit_long : (order : Order) (unit : Parts) (old new : At) → Reads (UnitBytesIn order) unit old new → length new.rest < length old.rest
+pub unit_long : (order : Order) (unit : UnitParts) (old new : At) → Reads (UnitBytesIn order) unit old new → length new.rest < length old.rest
 unit_long order unit old new r =
     omega (arith, ap length r.whole, length-append r.spelling new.rest, unit_is_some order unit r.spelling r.spelled)
 
 -- a unit that was added is one more, and has bytes
-pub unit_added : (order : Order) (bytes : List ℕ) (before after : List (ℕ × Parts)) (old new : At)
+pub unit_added : (order : Order) (bytes : List ℕ) (before after : List (ℕ × UnitParts)) (old new : At)
     → UnitsSoFar order bytes before old → AddsUnit order before after old new → UnitsSoFar order bytes after new
 unit_added order bytes before after old new so_far s =
     rw s.added (one_more_unit order bytes before s.unit old new so_far s.read s.here)
 
-pub unit_added_long : (order : Order) (before after : List (ℕ × Parts)) (old new : At) → AddsUnit order before after old new
+pub unit_added_long : (order : Order) (before after : List (ℕ × UnitParts)) (old new : At) → AddsUnit order before after old new
     → length new.rest < length old.rest
 unit_added_long order before after old new s = unit_long order s.unit.1 old new s.read
 
 -- nothing is left
-pub all_units : (order : Order) (bytes : List ℕ) (units : List (ℕ × Parts)) (cursor : At) → UnitsSoFar order bytes units cursor
+pub all_units : (order : Order) (bytes : List ℕ) (units : List (ℕ × UnitParts)) (cursor : At) → UnitsSoFar order bytes units cursor
     → cursor.rest ≡ [] → SectionBytes order units bytes
 all_units order bytes units cursor so_far nothing =
     subst (λ (z : List ℕ). SectionBytes order units z)
     (sym (so_far.whole ∙ ap (λ (z : List ℕ). so_far.front ++ z) nothing ∙ append-nil so_far.front)) so_far.joined
 
 -- no unit begins what is left
-true_fault : (order : Order) (bytes : List ℕ) (units : List (ℕ × Parts)) (fault : Fault) (cursor : At) → UnitsSoFar order bytes units cursor
+true_fault : (order : Order) (bytes : List ℕ) (units : List (ℕ × UnitParts)) (fault : Fault) (cursor : At) → UnitsSoFar order bytes units cursor
     → 0 < length cursor.rest
     → BrokenUnit order fault cursor.place cursor.rest → IsTrueFault order fault bytes
 true_fault order bytes units fault cursor so_far some b = record {
@@ -70,7 +70,7 @@ true_fault order bytes units fault cursor so_far some b = record {
   broken = subst (λ (n : ℕ). BrokenUnit order fault n cursor.rest) so_far.place b;
 }
 
-pub section_broken : (order : Order) (bytes : List ℕ) (units : List (ℕ × Parts)) (fault : Fault) (cursor : At)
+pub section_broken : (order : Order) (bytes : List ℕ) (units : List (ℕ × UnitParts)) (fault : Fault) (cursor : At)
     → UnitsSoFar order bytes units cursor → 0 < length cursor.rest
     → BrokenUnit order fault cursor.place cursor.rest → BrokenSection order fault bytes
 section_broken order bytes units fault cursor so_far some b =

@@ -13,7 +13,7 @@ use Rattle.lnt_header.specs.Joins.{Each}
 use Rattle.lnt_header_bytes.proofs.HeaderLaws.{same_header}
 use Rattle.lnt_ops.proofs.OpLaws.{same_program}
 use Rattle.lnt_ops.specs.OpBytes.{OpBytes}
-use Rattle.lnt_unit.specs.declared.unit.Parts.{Parts}
+use Rattle.lnt_header.specs.declared.unit_parts.UnitParts.{UnitParts}
 use Rattle.lnt_unit.specs.BrokenUnits.{IsTrueFault}
 use Rattle.lnt_unit.specs.Laws.{OneSpelling, OneSection}
 use Rattle.lnt_unit.specs.UnitBytes.{UnitBytesIn, UnitsFrom, SectionBytes}
@@ -21,7 +21,7 @@ use Rattle.lnt_unit.specs.UnitBytes.{UnitBytesIn, UnitsFrom, SectionBytes}
 -- ---- units
 
 -- a header and the operations of its program
-pub unit_found : (order : Order) (unit : Parts) (program bytes : List ℕ) → HeaderBytesIn order (unit.header, program) bytes
+pub unit_found : (order : Order) (unit : UnitParts) (program bytes : List ℕ) → HeaderBytesIn order (unit.header, program) bytes
     → Each (OpBytes unit.header) unit.ops program → UnitBytesIn order unit bytes
 unit_found order unit program bytes p ops = record {
   order_is = p.order_is;
@@ -29,18 +29,18 @@ unit_found order unit program bytes p ops = record {
 }
 
 -- the header of a unit with its program
-pub header_of : (order : Order) (unit : Parts) (x : List ℕ) → (p : UnitBytesIn order unit x)
+pub header_of : (order : Order) (unit : UnitParts) (x : List ℕ) → (p : UnitBytesIn order unit x)
     → HeaderBytesIn order (unit.header, p.spelled.program) x
 header_of order unit x p = record { order_is = p.order_is; spelled = p.spelled.whole }
 
-parts_of : HeaderParts → List Op → Parts
+parts_of : HeaderParts → List Op → UnitParts
 parts_of header ops = record { header = header; ops = ops }
 
-parts_are : (unit : Parts) → parts_of unit.header unit.ops ≡ unit
+parts_are : (unit : UnitParts) → parts_of unit.header unit.ops ≡ unit
 unfolding parts_of
 parts_are unit = refl
 
-same_unit : (order : Order) (u v : Parts) (x y r s : List ℕ) → UnitBytesIn order u x → UnitBytesIn order v y → x ++ r ≡ y ++ s → (u ≡ v)
+same_unit : (order : Order) (u v : UnitParts) (x y r s : List ℕ) → UnitBytesIn order u x → UnitBytesIn order v y → x ++ r ≡ y ++ s → (u ≡ v)
     × (x ≡ y)
 same_unit order u v x y r s p q e =
     let left = p.spelled in
@@ -58,7 +58,7 @@ pub one_spelling : OneSpelling
 one_spelling order = record { one = λ u v x y r s p q e. same_unit order u v x y r s p q e }
 
 -- a unit has some byte
-pub unit_is_some : (order : Order) (unit : Parts) (x : List ℕ) → UnitBytesIn order unit x → 0 < length x
+pub unit_is_some : (order : Order) (unit : UnitParts) (x : List ℕ) → UnitBytesIn order unit x → 0 < length x
 unit_is_some order unit x p =
     let whole = p.spelled.whole in
     let h = unit.header in
@@ -74,7 +74,7 @@ unit_is_some order unit x p =
 -- ---- sections
 
 -- the bytes of a section of one more unit
-pub units_push : (order : Order) (offset : ℕ) (units : List (ℕ × Parts)) (unit : ℕ × Parts) (front more : List ℕ)
+pub units_push : (order : Order) (offset : ℕ) (units : List (ℕ × UnitParts)) (unit : ℕ × UnitParts) (front more : List ℕ)
     → UnitsFrom order offset units front
     → unit.0 ≡ offset + length front → UnitBytesIn order unit.1 more → UnitsFrom order offset (units ++ unit ∷ []) (front ++ more)
 units_push order offset [] unit front more joined here spelled = (
@@ -96,11 +96,11 @@ units_push order offset (first ∷ units) unit front more (a, b, at, first_spell
       units_push order (offset + length a) units unit b more rest (omega (arith, here, size)) spelled,
     )
 
-same_place : (u v : ℕ × Parts) → u.0 ≡ v.0 → u.1 ≡ v.1 → u ≡ v
+same_place : (u v : ℕ × UnitParts) → u.0 ≡ v.0 → u.1 ≡ v.1 → u ≡ v
 same_place (m, x) (n, y) places parts = cc (places, parts)
 
 -- the units of the same bytes
-pub same_units : (order : Order) (offset : ℕ) (us vs : List (ℕ × Parts)) (x : List ℕ) → UnitsFrom order offset us x
+pub same_units : (order : Order) (offset : ℕ) (us vs : List (ℕ × UnitParts)) (x : List ℕ) → UnitsFrom order offset us x
     → UnitsFrom order offset vs x → us ≡ vs
 same_units order offset [] [] x p q = refl
 same_units order offset [] (v ∷ vs) x p q =
@@ -119,7 +119,7 @@ same_units order offset (u ∷ us) (v ∷ vs) x p q =
     cc (heads, tails)
 
 -- no other list goes past the units that stand before bytes that no unit begins
-none_past : (order : Order) (k l : ℕ) (units others : List (ℕ × Parts)) (front rest whole : List ℕ) → UnitsFrom order k units front
+none_past : (order : Order) (k l : ℕ) (units others : List (ℕ × UnitParts)) (front rest whole : List ℕ) → UnitsFrom order k units front
     → UnitsFrom order l others whole
     → whole ≡ front ++ rest → NoneSpelled (UnitBytesIn order) rest → 0 < length rest → ⊥
 none_past order k l [] [] front rest whole p q e none some =
@@ -134,7 +134,7 @@ none_past order k l (v ∷ vs) (u ∷ us) front rest whole p q e none some =
     let past : q.1 ≡ p.1 ++ rest = same_rest q.0 p.0 q.1 (p.1 ++ rest) same.1 all in
     none_past order (k + length p.0) (l + length q.0) vs us p.1 rest q.1 p.5 q.5 past none some
 
-pub no_section : (order : Order) (fault : Fault) (section : List ℕ) → IsTrueFault order fault section → (units : List (ℕ × Parts))
+pub no_section : (order : Order) (fault : Fault) (section : List ℕ) → IsTrueFault order fault section → (units : List (ℕ × UnitParts))
     → SectionBytes order units section → ⊥
 no_section order fault section t units q =
     none_past order 0 0 t.units units t.front t.rest section t.sound q t.split t.broken.broken.none t.some

@@ -8,15 +8,15 @@ use Rattle.lnt_wire.specs.declared.format.Order.{Order}
 use Rattle.lnt_wire.specs.FrameBytes.{FrameBytes}
 use Rattle.lnt_wire.specs.InitialLength.{initial_length}
 use Rattle.lnt_wire.proofs.LengthLaws.{length-initial}
-use Rattle.lnt_header_bytes.specs.Borrowed.{without_entries}
+use Rattle.lnt_header.specs.HeaderNumbers.{without_entries}
 use Rattle.lnt_header.specs.OpRules.{StandsFor}
 use Rattle.lnt_header.specs.declared.op.Op.{Op}
 use Rattle.lnt_header.specs.declared.op.OpView.{OpView}
-use Rattle.lnt_ops.specs.Walks.{GivesOperation, Walk}
+use Rattle.lnt_ops.specs.Walks.{GivesOperation, Walk, GivesEach}
 use Rattle.lnt_stream.specs.Units as stream
-use Rattle.lnt_unit.specs.declared.unit.Parts.{Parts}
+use Rattle.lnt_header.specs.declared.unit_parts.UnitParts.{UnitParts}
 use Rattle.lnt_unit.specs.BrokenUnits.{BrokenSection, BrokenUnit, IsTrueFault}
-use Rattle.lnt_unit.specs.Laws.{AreGiven, BeginsOf, FaultOfSection, GivesEach, WholeWalk}
+use Rattle.lnt_unit.specs.Laws.{AreGiven, BeginsOf, FaultOfSection, WholeWalk}
 use Rattle.lnt_unit.proofs.BrokenLaws.{frame_broken}
 use Rattle.lnt_unit.proofs.FrameLaws.{broken_more}
 use Rattle.lnt_unit.proofs.NumberLaws.{given_all_by_numbers, given_broken_by_numbers}
@@ -123,7 +123,7 @@ whole_walk = record {
 
 -- ---- units
 
-broken_after : (order : Order) (units : List (ℕ × Parts)) (front rest : List ℕ) (fault : Fault) → SectionBytes order units front
+broken_after : (order : Order) (units : List (ℕ × UnitParts)) (front rest : List ℕ) (fault : Fault) → SectionBytes order units front
     → 0 < length rest → BrokenUnit order fault (length front) rest
     → BrokenSection order fault (front ++ rest)
 broken_after order units front rest fault spelled some b =

@@ -7,7 +7,7 @@ use Rattle.lnt_header.specs.declared.header.HeaderParts.{HeaderParts}
 use Rattle.lnt_header_bytes.specs.Broken.{Broken, IsFirstField}
 use Rattle.lnt_header_bytes.specs.HeaderBytes.{HeaderBytesIn}
 use Rattle.lnt_ops.specs.Programs.{BrokenProgram}
-use Rattle.lnt_unit.specs.declared.unit.Parts.{Parts}
+use Rattle.lnt_header.specs.declared.unit_parts.UnitParts.{UnitParts}
 use Rattle.lnt_unit.specs.UnitBytes.{UnitBytesIn, SectionBytes}
 
 -- A header with a program begins the bytes, which stand at the offset. The program stands at the place, and ends where the unit does.
@@ -30,7 +30,7 @@ pub record BrokenUnit (order : Order) (fault : Fault) (offset : ℕ) (bytes : Li
 
 -- A section is broken after some units that it begins with: more bytes follow, and no unit begins them.
 pub record IsTrueFault (order : Order) (fault : Fault) (section : List ℕ) : Type 0 where
-  pub units : List (ℕ × Parts)
+  pub units : List (ℕ × UnitParts)
   pub front : List ℕ
   pub rest : List ℕ
   pub sound : SectionBytes order units front
@@ -40,5 +40,5 @@ pub record IsTrueFault (order : Order) (fault : Fault) (section : List ℕ) : Ty
 
 -- No list of units spells the section, and the fault is true of it.
 pub record BrokenSection (order : Order) (fault : Fault) (section : List ℕ) : Type 0 where
-  pub none : (units : List (ℕ × Parts)) → SectionBytes order units section → ⊥
+  pub none : (units : List (ℕ × UnitParts)) → SectionBytes order units section → ⊥
   pub true_fault : IsTrueFault order fault section

@@ -1,19 +1,19 @@
 -- What is spelled is read again, whatever follows: no spelling begins another, and each spells one value. And what whole walks
 -- over a unit and over a section say.
-use Rattle.std.specs.Prelude.{◌≡◌, ◌⊎◌, ◌≤◌, ℕ, List, [], ◌∷◌, ◌++◌, length, false, Some}
+use Rattle.std.specs.Prelude.{◌≡◌, ◌⊎◌, ◌≤◌, ℕ, List, ◌++◌, length, false, Some}
 use Rattle.std.specs.List.{AllByRecursion, AllZip}
 use Rattle.lnt_wire.specs.declared.format.Order.{Order}
 use Rattle.lnt_wire.specs.declared.fault.Fault.{Fault}
 use Rattle.lnt_wire.specs.Bytes.{IsCode}
 use Rattle.lnt_wire.specs.Frames.{EndsBy}
-use Rattle.lnt_header_bytes.specs.Borrowed.{without_entries}
+use Rattle.lnt_header.specs.HeaderNumbers.{without_entries}
 use Rattle.lnt_header.specs.HeaderRules.{IsHeader}
 use Rattle.lnt_header.specs.OpRules.{Admits, StandsFor}
 use Rattle.lnt_header.specs.declared.op.Op.{Op}
 use Rattle.lnt_header.specs.declared.op.OpView.{OpView}
-use Rattle.lnt_ops.specs.Walks.{Ends, Fails, GivesOperation, Walk}
+use Rattle.lnt_ops.specs.Walks.{Ends, Fails, GivesEach, Walk}
 use Rattle.lnt_stream.specs.Units as stream
-use Rattle.lnt_unit.specs.declared.unit.Parts.{Parts}
+use Rattle.lnt_header.specs.declared.unit_parts.UnitParts.{UnitParts}
 use Rattle.lnt_unit.specs.BrokenUnits.{BrokenSection, BrokenUnit, IsTrueFault}
 use Rattle.lnt_unit.specs.UnitBytes.{UnitBytesIn, SectionBytes}
 use Rattle.lnt_unit.specs.Views.{IsUnitView, View, with_ops}
@@ -24,9 +24,9 @@ OneSpelling = (order : Order) → IsCode (UnitBytesIn order)
 
 -- Whole sections: the units of one section are the same, and so are their offsets. One with a fault has none.
 pub record OneSection : Type 0 where
-  pub units : (order : Order) (us vs : List (ℕ × Parts)) (bytes : List ℕ) → SectionBytes order us bytes → SectionBytes order vs bytes
+  pub units : (order : Order) (us vs : List (ℕ × UnitParts)) (bytes : List ℕ) → SectionBytes order us bytes → SectionBytes order vs bytes
       → us ≡ vs
-  pub fault : (order : Order) (fault : Fault) (units : List (ℕ × Parts)) (bytes : List ℕ) → IsTrueFault order fault bytes
+  pub fault : (order : Order) (fault : Fault) (units : List (ℕ × UnitParts)) (bytes : List ℕ) → IsTrueFault order fault bytes
       → SectionBytes order units bytes → ⊥
 
 -- Of one section at most one fault is true, at one place and for one reason; and it stands after the same units.
@@ -45,11 +45,6 @@ pub record BeginsOf (view : View) (walk : Walk) : Type 0 where
   pub rest_is : walk.at.rest ≡ view.program
   pub order_is : walk.at.order ≡ view.header.order
   pub going : walk.failed ≡ false
-
--- The walk gives these, one after another, and then stands as told.
-abbrev pub GivesEach : List OpView → Walk → Walk → Type 0
-GivesEach [] old new = new ≡ old
-GivesEach (item ∷ items) old new = (next : Walk) × GivesOperation item old next × GivesEach items next new
 
 -- What was given stands for these operations, which the header admits. They are no more than the program has bytes.
 pub record AreGiven (view : View) (items : List OpView) (ops : List Op) : Type 0 where
@@ -73,9 +68,9 @@ pub record WholeWalk : Type 0 where
 -- What a fault of `next_unit` says, and one of the unit at hand, after units that were given: no list of units spells the section,
 -- whatever follows, and the fault is true of it. After frames that spell no unit, the fault of `next_unit` is so of what is left.
 pub record FaultOfSection : Type 0 where
-  pub next : (order : Order) (units : List (ℕ × Parts)) (front rest : List ℕ) (fault : Fault) → SectionBytes order units front
+  pub next : (order : Order) (units : List (ℕ × UnitParts)) (front rest : List ℕ) (fault : Fault) → SectionBytes order units front
       → EndsBy (record { place = length front; rest = rest; order = order }) (Some fault) → BrokenSection order fault (front ++ rest)
-  pub here : (order : Order) (units : List (ℕ × Parts)) (front more : List ℕ) (unit : stream.BufferedUnit) (fault : Fault)
+  pub here : (order : Order) (units : List (ℕ × UnitParts)) (front more : List ℕ) (unit : stream.BufferedUnit) (fault : Fault)
       → SectionBytes order units front
       → stream.IsWholeUnit unit → unit.offset ≡ length front → unit.order ≡ order → BrokenUnit order fault unit.offset unit.bytes
       → BrokenSection order fault (front ++ (unit.bytes ++ more))

@@ -8,7 +8,7 @@ use Rattle.lnt_ops.specs.Stepping.{OpsSoFar}
 use Rattle.lnt_ops.specs.Walks.{Walk}
 use Rattle.lnt_unit.specs.UnitBytes.{UnitBytesIn}
 use Rattle.lnt_unit.specs.Views.{View}
-use Rattle.lnt_unit.specs.declared.unit.Parts.{Parts}
+use Rattle.lnt_header.specs.declared.unit_parts.UnitParts.{UnitParts}
 
 -- A walk over the program stands after these operations, and none was refused.
 pub record HasGiven (view : View) (ops : List Op) (walk : Walk) : Type 0 where
@@ -17,8 +17,8 @@ pub record HasGiven (view : View) (ops : List Op) (walk : Walk) : Type 0 where
   pub so : OpsSoFar view.header view.place view.program ops walk.at
 
 -- The read moved past the bytes of a unit, which was added with the offset at which it stands.
-pub record AddsUnit (order : Order) (before after : List (ℕ × Parts)) (old new : At) : Type 0 where
-  pub unit : ℕ × Parts
+pub record AddsUnit (order : Order) (before after : List (ℕ × UnitParts)) (old new : At) : Type 0 where
+  pub unit : ℕ × UnitParts
   pub added : after ≡ before ++ unit ∷ []
   pub here : unit.0 ≡ old.place
   pub read : Reads (UnitBytesIn order) unit.1 old new

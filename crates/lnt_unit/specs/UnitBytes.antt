@@ -1,29 +1,29 @@
 -- The bytes of units and of a section (DWARF 5, section 6.2.4).
 use Rattle.std.specs.Prelude.{◌≡◌, ℕ, ◌+◌, List, [], ◌∷◌, ◌++◌, length}
 use Rattle.lnt_wire.specs.declared.format.Order.{Order}
-use Rattle.lnt_unit.specs.declared.unit.Parts.{Parts}
+use Rattle.lnt_header.specs.declared.unit_parts.UnitParts.{UnitParts}
 use Rattle.lnt_header.specs.Joins.{Each}
 use Rattle.lnt_ops.specs.OpBytes.{OpBytes}
 use Rattle.lnt_header_bytes.specs.HeaderBytes.{HeaderBytes}
 
 -- The bytes of a unit: its header, and one spelling of each operation in order.
-pub record UnitBytes (unit : Parts) (bytes : List ℕ) : Type 0 where
+pub record UnitBytes (unit : UnitParts) (bytes : List ℕ) : Type 0 where
   pub program : List ℕ
   pub operations : Each (OpBytes unit.header) unit.ops program
   pub whole : HeaderBytes unit.header program bytes
 
 -- the bytes of a unit in this byte order
-pub record UnitBytesIn (order : Order) (unit : Parts) (bytes : List ℕ) : Type 0 where
+pub record UnitBytesIn (order : Order) (unit : UnitParts) (bytes : List ℕ) : Type 0 where
   pub order_is : unit.header.order ≡ order
   pub spelled : UnitBytes unit bytes
 
 -- The units that stand from an offset on, each with its own offset.
-abbrev pub UnitsFrom : Order → ℕ → List (ℕ × Parts) → List ℕ → Type 0
+abbrev pub UnitsFrom : Order → ℕ → List (ℕ × UnitParts) → List ℕ → Type 0
 UnitsFrom order offset [] bytes = bytes ≡ []
 UnitsFrom order offset (unit ∷ units) bytes =
     (front : List ℕ) × (back : List ℕ) × (unit.0 ≡ offset) × UnitBytesIn order unit.1 front
     × (bytes ≡ front ++ back) × UnitsFrom order (offset + length front) units back
 
 -- A section is the bytes of its units, one after another, and nothing else.
-abbrev pub SectionBytes : Order → List (ℕ × Parts) → List ℕ → Type 0
+abbrev pub SectionBytes : Order → List (ℕ × UnitParts) → List ℕ → Type 0
 SectionBytes order units bytes = UnitsFrom order 0 units bytes

@@ -2,8 +2,8 @@
 use Rattle.std.specs.List.{AllByRecursion}
 use Rattle.lnt_header.specs.HeaderRules.{IsHeader}
 use Rattle.lnt_header.specs.OpRules.{Admits}
-use Rattle.lnt_unit.specs.declared.unit.Parts.{Parts}
+use Rattle.lnt_header.specs.declared.unit_parts.UnitParts.{UnitParts}
 
-pub record IsUnit (unit : Parts) : Type 0 where
+pub record IsUnit (unit : UnitParts) : Type 0 where
   pub header : IsHeader unit.header
   pub ops : AllByRecursion (Admits unit.header) unit.ops

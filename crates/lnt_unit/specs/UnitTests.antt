@@ -5,9 +5,9 @@ use Rattle.lnt_header.specs.declared.fault.UnitFault.TheVariants.{OpNotOfUnit}
 use Rattle.lnt_header.specs.HeaderRules.{IsHeader}
 use Rattle.lnt_header.specs.HeaderTests.{IsFirstNot, IsPartsFault}
 use Rattle.lnt_header.specs.OpRules.{Admits}
-use Rattle.lnt_unit.specs.declared.unit.Parts.{Parts}
+use Rattle.lnt_header.specs.declared.unit_parts.UnitParts.{UnitParts}
 
 -- What is wrong. Whatever is tested earlier is sound.
-abbrev pub IsUnitFault : UnitFault → Parts → Type 0
+abbrev pub IsUnitFault : UnitFault → UnitParts → Type 0
 IsUnitFault (OpNotOfUnit index) unit = IsHeader unit.header × IsFirstNot (Admits unit.header) unit.ops index
 IsUnitFault fault unit = IsPartsFault fault unit.header

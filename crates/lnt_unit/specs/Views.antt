@@ -1,11 +1,11 @@
 -- A unit that lies in a buffer: its header with its program, and how far its operations were read.
 use Rattle.std.specs.Prelude.{◌≡◌, ℕ, ◌+◌, ◌^◌, ◌<◌, List, length}
-use Rattle.lnt_header_bytes.specs.Borrowed.{without_entries}
+use Rattle.lnt_header.specs.HeaderNumbers.{without_entries}
 use Rattle.lnt_header.specs.declared.header.HeaderParts.{HeaderParts}
 use Rattle.lnt_header.specs.declared.op.Op.{Op}
 use Rattle.lnt_header_bytes.specs.HeaderBytes.{HeaderBytesIn}
 use Rattle.lnt_stream.specs.Units.{BufferedUnit}
-use Rattle.lnt_unit.specs.declared.unit.Parts.{Parts}
+use Rattle.lnt_header.specs.declared.unit_parts.UnitParts.{UnitParts}
 use Rattle.lnt_unit.specs.UnitBytes.{UnitBytesIn}
 
 -- the bytes, the header, and the program with the offset of the section at which it begins
@@ -26,7 +26,7 @@ abbrev pub by_numbers : View → View
 by_numbers view = record view { header = without_entries view.header }
 
 -- the unit of these operations
-abbrev pub with_ops : View → List Op → Parts
+abbrev pub with_ops : View → List Op → UnitParts
 with_ops view ops = record { header = view.header; ops = ops }
 
 -- The bytes are the unit of so many operations.

@@ -35,7 +35,7 @@ impl<'a> Model for UnitInPlace<'a> {
 }
 
 impl<'a> UnitInPlace<'a> {
-    ghost use Rattle.lnt_header_bytes.specs.Borrowed.{without_entries};
+    ghost use Rattle.lnt_header.specs.HeaderNumbers.{without_entries};
     ghost use Rattle.lnt_header.specs.HeaderRules.{IsHeader};
     ghost use Rattle.lnt_unit.specs.Views.{IsUnitView, HasCount};
 

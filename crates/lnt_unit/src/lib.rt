@@ -10,11 +10,11 @@ mod view;
 pub use decode::{decode_section, decode_unit};
 pub use in_place::UnitInPlace;
 pub use lnt_header::{
-    Entry, EntryTable, Header, HeaderParts, Op, OpView, Operands, Pair, UnitFault,
+    Entry, EntryTable, Header, HeaderParts, Op, OpView, Operands, Pair, UnitFault, UnitParts,
 };
 pub use lnt_header_bytes::{HeaderInPlace, HeaderView, KeptHeader, decode_header};
 pub use lnt_lists::ShortList;
 pub use lnt_ops::Ops;
 pub use lnt_stream::{Progress, SectionReader, SectionStop, UnitBuffer};
-pub use unit::{Parts, Unit};
+pub use unit::Unit;
 pub use view::UnitView;

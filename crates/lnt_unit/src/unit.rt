@@ -4,19 +4,10 @@ ghost use Rattle.std.specs.List.{AllByRecursion};
 ghost use Rattle.lnt_header.specs.HeaderTests.{IsFirstNot};
 ghost use Rattle.lnt_header.specs.OpRules.{Admits};
 
-use lnt_header::{Header, HeaderParts, Op, UnitFault};
+use lnt_header::{Header, Op, UnitFault, UnitParts};
 use lnt_lists::Items;
 use lnt_wire::{Format, Order};
 use std::marker::Model;
-
-/// What a unit is made of.
-#[derive(Debug, Drop, PartialEq, Eq)]
-pub struct Parts {
-    /// What its header is made of.
-    pub header: HeaderParts,
-    /// Its operations, in order.
-    pub ops: Items<Op>,
-}
 
 /// A unit: a header, and operations that it admits (DWARF 5, section 6.2.4). Contracts see its parts.
 #[derive(Debug, Drop)]
@@ -26,10 +17,10 @@ pub struct Unit {
 }
 
 impl Model for Unit {
-    ghost use Rattle.lnt_unit.specs.declared.unit.Parts.{Parts};
+    ghost use Rattle.lnt_header.specs.declared.unit_parts.UnitParts.{UnitParts};
     ghost use Rattle.lnt_unit.specs.UnitRules.{IsUnit};
 
-    ghost Value = { Parts };
+    ghost Value = { UnitParts };
 
     ghost view = { λ unit. record { header = unit.header; ops = unit.ops } };
 
@@ -40,7 +31,7 @@ impl Unit {
     ghost use Rattle.std.specs.List.{AllByRecursion};
     ghost use Rattle.lnt_header.specs.OpRules.{Admits};
     ghost use Rattle.lnt_unit.specs.UnitRules.{IsUnit};
-    ghost use Rattle.lnt_unit.specs.Converting.{unit_in_format};
+    ghost use Rattle.lnt_header.specs.Conversion.{unit_in_format};
     ghost use Rattle.lnt_unit.specs.UnitTests.{IsUnitFault};
 
     /// The unit of these parts, where some bytes spell it in the 64-bit format, lengths aside. It takes no memory.
@@ -48,32 +39,32 @@ impl Unit {
     /// Else it hands the parts back with the first fault: those of `Header::new`, then `OpNotOfUnit` with the index of the
     /// first operation, from 0, that the header doesn't admit; no unit has such parts.
     #[tactic(auto, using(crate::proofs::UnitLemmas::no_header_first, crate::proofs::UnitLemmas::no_ops, crate::proofs::UnitLemmas::header_fault))]
-    pub fn new(parts: Parts) -> Result<Unit, (UnitFault, Parts)>
+    pub fn new(parts: UnitParts) -> Result<Unit, (UnitFault, UnitParts)>
         ensures ok { IfOk result (λ unit. unit ≡ parts) }
         ensures err { IfErr result (λ refused. IsUnitFault refused.0 parts × (refused.1 ≡ parts)) }
         ensures none { IfErr result (λ _. IsUnit parts → ⊥) }
     {
-        let Parts { header, ops } = parts;
+        let UnitParts { header, ops } = parts;
         let header = match Header::new(header) {
             Ok(header) => header,
-            Err((fault, header)) => return Err((fault, Parts { header, ops })),
+            Err((fault, header)) => return Err((fault, UnitParts { header, ops })),
         };
         match first_not_admitted(&header, ops.as_slice()) {
             None => Ok(Unit { header, ops }),
             Some(index) => {
                 let header = header.into_parts();
-                Err((UnitFault::OpNotOfUnit(index), Parts { header, ops }))
+                Err((UnitFault::OpNotOfUnit(index), UnitParts { header, ops }))
             }
         }
     }
 
     /// What the unit is made of. It takes no memory.
-    pub fn into_parts(self) -> Parts
+    pub fn into_parts(self) -> UnitParts
         ensures value { result ≡ self }
         ensures unit { IsUnit result }
     {
         let Unit { header, ops } = self;
-        Parts {
+        UnitParts {
             header: header.into_parts(),
             ops,
         }

@@ -13,15 +13,16 @@ use Rattle.lnt_header.proofs.PutLaws.{each_push}
 use Rattle.lnt_unit.specs.BrokenUnits.{BrokenUnit, IsTrueFault}
 use Rattle.lnt_unit_encode.specs.ConvertedUnits.{Converts, ConvertsUnit, IsNextStop}
 use Rattle.lnt_unit_encode.specs.Stepping.{ConvertedTo}
-use Rattle.lnt_unit.specs.Converting.{unit_in_format, units_in_format, IsConverted}
+use Rattle.lnt_header.specs.Conversion.{unit_in_format}
+use Rattle.lnt_unit.specs.Converting.{units_in_format, IsConverted}
 use Rattle.lnt_unit.proofs.UnitLaws.{no_section, one_spelling, unit_is_some, units_push}
 use Rattle.lnt_unit.specs.UnitBytes.{UnitBytesIn, UnitsFrom, SectionBytes}
 use Rattle.lnt_unit_encode.specs.declared.convert.ConvertFault.{ConvertFault}
 use Rattle.lnt_unit_encode.specs.declared.convert.ConvertFault.TheVariants.{Malformed, TooLarge, Memory}
-use Rattle.lnt_unit.specs.declared.unit.Parts.{Parts}
+use Rattle.lnt_header.specs.declared.unit_parts.UnitParts.{UnitParts}
 
 -- the bytes of one more unit
-pub units_more : (format : Format) (to : Order) (units : List (ℕ × Parts)) (unit : ℕ × Parts) (old new : List ℕ)
+pub units_more : (format : Format) (to : Order) (units : List (ℕ × UnitParts)) (unit : ℕ × UnitParts) (old new : List ℕ)
     → Each (IsShortest (UnitBytesIn to)) (units_in_format units format to) old
     → Appends (UnitBytesIn to) (unit_in_format unit.1 format to) old new
     → Each (IsShortest (UnitBytesIn to)) (units_in_format (units ++ unit ∷ []) format to) new
@@ -29,15 +30,15 @@ units_more format to units unit old new all more =
     let one = each_push (IsShortest (UnitBytesIn to)) (units_in_format units format to) (unit_in_format unit.1 format to) old more.spelling
     all more.spelled in
     subst (λ (z : List ℕ). Each (IsShortest (UnitBytesIn to)) (units_in_format (units ++ unit ∷ []) format to) z) (sym more.joined)
-    (subst (λ (us : List Parts). Each (IsShortest (UnitBytesIn to)) us (old ++ more.spelling)) (sym (joined units)) one)
+    (subst (λ (us : List UnitParts). Each (IsShortest (UnitBytesIn to)) us (old ++ more.spelling)) (sym (joined units)) one)
   where
-    joined : (us : List (ℕ × Parts))
+    joined : (us : List (ℕ × UnitParts))
         → units_in_format (us ++ unit ∷ []) format to ≡ units_in_format us format to ++ unit_in_format unit.1 format to ∷ []
     joined [] = refl
-    joined (u ∷ us) = ap (λ (l : List Parts). unit_in_format u.1 format to ∷ l) (joined us)
+    joined (u ∷ us) = ap (λ (l : List UnitParts). unit_in_format u.1 format to ∷ l) (joined us)
 
 -- the shortest spellings are spellings
-pub each_spelled : (to : Order) (units : List Parts) (bytes : List ℕ) → Each (IsShortest (UnitBytesIn to)) units bytes
+pub each_spelled : (to : Order) (units : List UnitParts) (bytes : List ℕ) → Each (IsShortest (UnitBytesIn to)) units bytes
     → Each (UnitBytesIn to) units bytes
 each_spelled to [] bytes p = p
 each_spelled to (unit ∷ units) bytes p = record {
@@ -69,7 +70,7 @@ pub converted_more : (order : Order) (section : List ℕ) (format : Format) (to 
     → ConvertedTo order section format to at (done ++ old)
     → ConvertsUnit order format to at next old new → ConvertedTo order section format to next (done ++ new)
 converted_more order section format to done at next old new p c =
-    let unit : ℕ × Parts = (at.place, c.unit) in
+    let unit : ℕ × UnitParts = (at.place, c.unit) in
     let r = c.read in
     record {
       units = p.units ++ unit ∷ [];
@@ -89,24 +90,24 @@ converted_long order format to at next old new c =
     omega (arith, ap length c.read.whole, length-append c.read.spelling next.rest, unit_is_some order c.unit c.read.spelling c.read.spelled)
 
 -- Units with their offsets from this one on.
-record Placed (order : Order) (offset : ℕ) (units : List Parts) (bytes : List ℕ) : Type 0 where
-  others : List (ℕ × Parts)
+record Placed (order : Order) (offset : ℕ) (units : List UnitParts) (bytes : List ℕ) : Type 0 where
+  others : List (ℕ × UnitParts)
   same : map (λ unit. unit.1) others ≡ units
   spelled : UnitsFrom order offset others bytes
 
-placed : (order : Order) (offset : ℕ) (units : List Parts) (bytes : List ℕ) → Each (IsShortest (UnitBytesIn order)) units bytes
+placed : (order : Order) (offset : ℕ) (units : List UnitParts) (bytes : List ℕ) → Each (IsShortest (UnitBytesIn order)) units bytes
     → Placed order offset units bytes
 placed order offset [] bytes p = record { others = []; same = refl; spelled = p }
 placed order offset (unit ∷ units) bytes p =
     let rest = placed order (offset + length p.front) units p.back p.second in
     record {
       others = (offset, unit) ∷ rest.others;
-      same = ap (λ (l : List Parts). unit ∷ l) rest.same;
+      same = ap (λ (l : List UnitParts). unit ∷ l) rest.same;
       spelled = (p.front, p.back, refl, p.first.spelled, p.joined, rest.spelled);
     }
 
 -- all units
-pub whole_converted : (order : Order) (section : List ℕ) (format : Format) (to : Order) (units : List (ℕ × Parts)) (bytes : List ℕ)
+pub whole_converted : (order : Order) (section : List ℕ) (format : Format) (to : Order) (units : List (ℕ × UnitParts)) (bytes : List ℕ)
     → SectionBytes order units section → Each (IsShortest (UnitBytesIn to)) (units_in_format units format to) bytes
     → IsConverted order section format to bytes
 whole_converted order section format to units bytes sound put =
@@ -126,7 +127,7 @@ converted_all order section format to at bytes p ended =
 -- ---- why a unit of a section that has a conversion isn't converted
 
 -- some bytes spell the unit after those that stand before it, since some spell each unit
-spelled_past : (order : Order) (format : Format) (to : Order) (k l : ℕ) (units others : List (ℕ × Parts)) (unit : Parts)
+spelled_past : (order : Order) (format : Format) (to : Order) (k l : ℕ) (units others : List (ℕ × UnitParts)) (unit : UnitParts)
     (front here rest whole put : List ℕ) → UnitsFrom order k units front → UnitsFrom order l others whole
     → whole ≡ front ++ (here ++ rest) → UnitBytesIn order unit here
     → Each (IsShortest (UnitBytesIn to)) (units_in_format others format to) put
@@ -143,7 +144,7 @@ spelled_past order format to k l [] [] unit front here rest whole put p q e spel
 spelled_past order format to k l [] (u ∷ us) unit front here rest whole put p q e spelled all none =
     let joined : q.0 ++ q.1 ≡ here ++ rest = sym q.4 ∙ e ∙ ap (λ (z : List ℕ). z ++ (here ++ rest)) p in
     let same = (one_spelling order).one u.1 unit q.0 here q.1 rest q.3 spelled joined in
-    none all.front (subst (λ (v : Parts). UnitBytesIn to (unit_in_format v format to) all.front) same.0 all.first.spelled)
+    none all.front (subst (λ (v : UnitParts). UnitBytesIn to (unit_in_format v format to) all.front) same.0 all.first.spelled)
 spelled_past order format to k l (v ∷ vs) [] unit front here rest whole put p q e spelled all none =
     omega (
       arith,

@@ -11,8 +11,8 @@ use Rattle.lnt_wire.specs.declared.format.Order.{Order}
 use Rattle.lnt_wire.specs.declared.frame.Frame.{Frame}
 use Rattle.lnt_wire.specs.declared.put.EncodeFault.{EncodeFault}
 use Rattle.lnt_wire.specs.declared.put.EncodeFault.TheVariants as put
-use Rattle.lnt_header_bytes.specs.Borrowed.{without_entries}
-use Rattle.lnt_header.specs.Conversion.{in_format}
+use Rattle.lnt_header.specs.HeaderNumbers.{without_entries}
+use Rattle.lnt_header.specs.Conversion.{in_format, unit_in_format}
 use Rattle.lnt_header.specs.Encoding.{RefusedPut}
 use Rattle.lnt_header_bytes.specs.HeaderBytes.{HeaderBytesIn}
 use Rattle.lnt_header.specs.Joins.{Each}
@@ -27,16 +27,15 @@ use Rattle.lnt_unit_encode.specs.ConvertedUnits.{ConvertsUnit, IsLargeUnit, IsNe
 use Rattle.lnt_unit_encode.specs.Stepping.{ConvertsBytes, IsLarge, IsToldAs, IsUnitStop, JudgesUnit}
 use Rattle.lnt_unit_encode.specs.declared.convert.ConvertFault.{ConvertFault}
 use Rattle.lnt_unit_encode.specs.declared.convert.ConvertFault.TheVariants as convert
-use Rattle.lnt_unit.specs.Converting.{unit_in_format}
-use Rattle.lnt_unit.proofs.NumberLaws.{admits_by_numbers, ops_by_numbers, broken_by_numbers}
+use Rattle.lnt_ops.proofs.NumberLaws.{admits_by_numbers, ops_by_numbers, broken_by_numbers}
 use Rattle.lnt_unit.proofs.UnitLaws.{unit_found}
-use Rattle.lnt_unit.specs.declared.unit.Parts.{Parts}
+use Rattle.lnt_header.specs.declared.unit_parts.UnitParts.{UnitParts}
 use Rattle.lnt_unit_encode.proofs.EncodeLemmas.{unit_put, unit_refused}
 use Rattle.lnt_unit.proofs.ReadLaws.{StandsAt, unit_read, frame_without_unit}
 
 -- ---- the unit of a frame
 
-parts_of : HeaderParts → List Op → Parts
+parts_of : HeaderParts → List Op → UnitParts
 parts_of header ops = record { header = header; ops = ops }
 
 like : (h : HeaderParts) (format : Format) (to : Order) → IsLike h to (in_format h format to)

@@ -11,11 +11,11 @@ use Rattle.lnt_header_bytes.specs.HeaderBytes.{HeaderBytesIn}
 use Rattle.lnt_header.specs.Joins.{Each}
 use Rattle.lnt_header_encode.proofs.ProgramLaws.{shorter_program}
 use Rattle.lnt_ops.specs.OpBytes.{OpBytes}
-use Rattle.lnt_unit.specs.declared.unit.Parts.{Parts}
+use Rattle.lnt_header.specs.declared.unit_parts.UnitParts.{UnitParts}
 use Rattle.lnt_unit.specs.UnitBytes.{UnitBytesIn}
 
 -- the shortest program gives the shortest unit
-pub unit_put : (order : Order) (unit : Parts) (program bytes : List ℕ) → IsShortest (Each (OpBytes unit.header)) unit.ops program
+pub unit_put : (order : Order) (unit : UnitParts) (program bytes : List ℕ) → IsShortest (Each (OpBytes unit.header)) unit.ops program
     → IsShortest (HeaderBytesIn order) (unit.header, program) bytes
     → IsShortest (UnitBytesIn order) unit bytes
 unit_put order unit program bytes p q = record {
@@ -31,7 +31,7 @@ unit_put order unit program bytes p q = record {
 }
 
 -- where the shortest program has no unit, no program has one
-pub unit_refused : (order : Order) (unit : Parts) (program : List ℕ) (fault : EncodeFault)
+pub unit_refused : (order : Order) (unit : UnitParts) (program : List ℕ) (fault : EncodeFault)
     → IsShortest (Each (OpBytes unit.header)) unit.ops program → RefusedPut (HeaderBytesIn order) (unit.header, program) fault
     → RefusedPut (UnitBytesIn order) unit fault
 unit_refused order unit program fault p refused = record {
@@ -43,11 +43,11 @@ unit_refused order unit program fault p refused = record {
 }
 
 -- the operations of a unit, put into an empty vector
-pub record Program (unit : Parts) (header : HeaderParts) (program : List ℕ) : Type 0 where
+pub record Program (unit : UnitParts) (header : HeaderParts) (program : List ℕ) : Type 0 where
   pub header_is : header ≡ unit.header
   pub put : IsShortest (Each (OpBytes unit.header)) unit.ops program
 
-pub program_put : (unit : Parts) (header : HeaderParts) (ops : List Op) (old new program : List ℕ) → header ≡ unit.header → ops ≡ unit.ops
+pub program_put : (unit : UnitParts) (header : HeaderParts) (ops : List Op) (old new program : List ℕ) → header ≡ unit.header → ops ≡ unit.ops
     → old ≡ [] → Appends (Each (OpBytes header)) ops old new → program ≡ new → Program unit header program
 program_put unit header ops old new program same all none p is = record {
   header_is = same;
@@ -55,7 +55,7 @@ program_put unit header ops old new program same all none p is = record {
       p.spelled);
 }
 
-pub unit_written : (unit : Parts) (header : HeaderParts) (program : List ℕ) (r : Result (Vec ℕ Global) EncodeFault)
+pub unit_written : (unit : UnitParts) (header : HeaderParts) (program : List ℕ) (r : Result (Vec ℕ Global) EncodeFault)
     → Program unit header program → IfOk r (λ bytes. IsShortest (HeaderBytesIn header.order) (header, program) bytes.items)
     → IfOk r (λ bytes. IsShortest (UnitBytesIn unit.header.order) unit bytes.items)
 unit_written unit header program (Ok bytes) p q =
@@ -63,7 +63,7 @@ unit_written unit header program (Ok bytes) p q =
     (subst (λ (h : HeaderParts). IsShortest (HeaderBytesIn h.order) (h, program) bytes.items) p.header_is q)
 unit_written unit header program (Err fault) p q = q
 
-pub unit_not_written : (unit : Parts) (header : HeaderParts) (program : List ℕ) (r : Result (Vec ℕ Global) EncodeFault)
+pub unit_not_written : (unit : UnitParts) (header : HeaderParts) (program : List ℕ) (r : Result (Vec ℕ Global) EncodeFault)
     → Program unit header program → IfErr r (λ fault. RefusedPut (HeaderBytesIn header.order) (header, program) fault)
     → IfErr r (λ fault. RefusedPut (UnitBytesIn unit.header.order) unit fault)
 unit_not_written unit header program (Ok bytes) p q = q

@@ -13,12 +13,12 @@ use Rattle.lnt_unit_encode.specs.ConvertFaults.{IsFirstLarge, HasFirstLarge, IsC
 use Rattle.lnt_unit_encode.proofs.ConvertedLaws.{units_more, each_spelled, whole_converted, no_length}
 use Rattle.lnt_unit_encode.specs.declared.convert.ConvertFault.{ConvertFault}
 use Rattle.lnt_unit_encode.specs.declared.convert.ConvertFault.TheVariants.{Malformed, TooLarge, Memory}
-use Rattle.lnt_unit.specs.declared.unit.Parts.{Parts}
+use Rattle.lnt_header.specs.declared.unit_parts.UnitParts.{UnitParts}
 use Rattle.lnt_unit.proofs.SectionLaws as sections
 
 -- the units up to a cursor, of which it is told which is the first that nothing spells
 pub record JudgedTo (order : Order) (section : List ℕ) (format : Format) (to : Order) (large : Option ℕ) (at : At) : Type 0 where
-  pub units : List (ℕ × Parts)
+  pub units : List (ℕ × UnitParts)
   pub so : sections.UnitsSoFar order section units at
   pub judged : IsConversionJudged format to units large
 
@@ -30,19 +30,19 @@ judged_none order section format to at rest place ordered = record {
   judged = ([], refl);
 }
 
-still_first : (format : Format) (to : Order) (units : List (ℕ × Parts)) (unit : ℕ × Parts) (offset : ℕ)
+still_first : (format : Format) (to : Order) (units : List (ℕ × UnitParts)) (unit : ℕ × UnitParts) (offset : ℕ)
     → IsFirstLarge format to units offset → IsFirstLarge format to (units ++ unit ∷ []) offset
 still_first format to units unit offset f = record {
   before = f.before;
   unit = f.unit;
   past = f.past ++ unit ∷ [];
-  joined = ap (λ (l : List (ℕ × Parts)). l ++ unit ∷ []) f.joined ∙ append_assoc f.before ((offset, f.unit) ∷ f.past) (unit ∷ []);
+  joined = ap (λ (l : List (ℕ × UnitParts)). l ++ unit ∷ []) f.joined ∙ append_assoc f.before ((offset, f.unit) ∷ f.past) (unit ∷ []);
   front = f.front;
   spelled = f.spelled;
   none = f.none;
 }
 
-next_judged : (format : Format) (to : Order) (units : List (ℕ × Parts)) (offset : ℕ) (unit : Parts) (large : Option ℕ) (converts : Bool)
+next_judged : (format : Format) (to : Order) (units : List (ℕ × UnitParts)) (offset : ℕ) (unit : UnitParts) (large : Option ℕ) (converts : Bool)
     → IsConversionJudged format to units large → IsSaid converts format to unit
     → IsConversionJudged format to (units ++ (offset, unit) ∷ []) (first_large large converts offset)
 next_judged format to units offset unit (Some first) converts p s = still_first format to units (offset, unit) first p

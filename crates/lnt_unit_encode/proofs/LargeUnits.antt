@@ -8,7 +8,7 @@ use Rattle.lnt_header.specs.declared.header.HeaderParts.{HeaderParts}
 use Rattle.lnt_header.specs.Joins.{Each}
 use Rattle.lnt_header_encode.specs.Large.{HasLargeOffset, IfTooLarge, IsTooLong}
 use Rattle.lnt_ops.specs.OpBytes.{OpBytes}
-use Rattle.lnt_unit.specs.declared.unit.Parts.{Parts}
+use Rattle.lnt_header.specs.declared.unit_parts.UnitParts.{UnitParts}
 use Rattle.lnt_unit_encode.specs.TooLong.{IsTooLongUnit}
 use Rattle.lnt_unit_encode.proofs.EncodeLemmas.{Program}
 
@@ -16,13 +16,13 @@ use Rattle.lnt_unit_encode.proofs.EncodeLemmas.{Program}
 pub memory_not_large : (IsSo : Type 0) (fault : EncodeFault) → fault ≡ Memory → IfTooLarge IsSo fault
 memory_not_large IsSo fault is = record { is_so = λ large. absurd cc }
 
-either : (unit : Parts) (program : List ℕ) → IsShortest (Each (OpBytes unit.header)) unit.ops program → HasLargeOffset unit.header
+either : (unit : UnitParts) (program : List ℕ) → IsShortest (Each (OpBytes unit.header)) unit.ops program → HasLargeOffset unit.header
     ⊎ IsTooLong unit.header program → HasLargeOffset unit.header ⊎ IsTooLongUnit unit
 either unit program p (inl offset) = inl offset
 either unit program p (inr long) = inr (record { program = program; shortest = p; too_long = long })
 
 -- with the program that was put
-pub unit_large : (unit : Parts) (header : HeaderParts) (program : List ℕ) (r : Result (Vec ℕ Global) EncodeFault)
+pub unit_large : (unit : UnitParts) (header : HeaderParts) (program : List ℕ) (r : Result (Vec ℕ Global) EncodeFault)
     → Program unit header program → IfErr r (IfTooLarge (HasLargeOffset header ⊎ IsTooLong header program))
     → IfErr r (IfTooLarge (HasLargeOffset unit.header ⊎ IsTooLongUnit unit))
 unit_large unit header program (Ok bytes) p q = q

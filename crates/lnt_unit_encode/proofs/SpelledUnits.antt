@@ -5,13 +5,13 @@ use Rattle.lnt_header_encode.specs.Laws as header
 use Rattle.lnt_header_encode.proofs.ProgramLaws.{fits_less, length-body}
 use Rattle.lnt_header_encode.specs.Spelled.{HasSmallOffsets}
 use Rattle.lnt_ops.specs.Laws as operations
-use Rattle.lnt_unit.specs.declared.unit.Parts.{Parts}
+use Rattle.lnt_header.specs.declared.unit_parts.UnitParts.{UnitParts}
 use Rattle.lnt_unit_encode.specs.Laws.{AllowedUnitIsSpelled}
 use Rattle.lnt_unit_encode.specs.Spelled.{FitsUnit, UnitLengthsFit}
 use Rattle.lnt_unit.specs.UnitBytes.{UnitBytes}
 use Rattle.lnt_unit.specs.UnitRules.{IsUnit}
 
-unit_spelled : header.AllowedHeaderIsSpelled → operations.AllowedOpsAreSpelled → (unit : Parts) → IsUnit unit → FitsUnit unit
+unit_spelled : header.AllowedHeaderIsSpelled → operations.AllowedOpsAreSpelled → (unit : UnitParts) → IsUnit unit → FitsUnit unit
     → HasSmallOffsets unit.header → UnitLengthsFit unit
     → (bytes : List ℕ) × UnitBytes unit bytes
 unit_spelled headers ops unit is fits small short =
@@ -19,7 +19,7 @@ unit_spelled headers ops unit is fits small short =
     let whole = headers.unit unit.header program.0 is.header fits.header small (short program.0 program.1) in
     (whole.0, record { program = program.0; operations = program.1.spelled; whole = whole.1 })
 
-allowed : header.AllowedHeaderIsSpelled → operations.AllowedOpsAreSpelled → (unit : Parts) (bytes : List ℕ) → UnitBytes unit bytes
+allowed : header.AllowedHeaderIsSpelled → operations.AllowedOpsAreSpelled → (unit : UnitParts) (bytes : List ℕ) → UnitBytes unit bytes
     → IsUnit unit
     × FitsUnit unit × HasSmallOffsets unit.header × UnitLengthsFit unit
 allowed headers ops unit bytes p =

@@ -5,17 +5,18 @@ use Rattle.lnt_wire.specs.declared.format.Order.{Order}
 use Rattle.lnt_header.specs.Encoding.{NoSpelling}
 use Rattle.lnt_header.specs.Joins.{Each}
 use Rattle.lnt_unit.specs.BrokenUnits.{BrokenSection}
-use Rattle.lnt_unit.specs.Converting.{unit_in_format, units_in_format}
+use Rattle.lnt_header.specs.Conversion.{unit_in_format}
+use Rattle.lnt_unit.specs.Converting.{units_in_format}
 use Rattle.lnt_unit.specs.UnitBytes.{UnitBytesIn, SectionBytes}
-use Rattle.lnt_unit.specs.declared.unit.Parts.{Parts}
+use Rattle.lnt_header.specs.declared.unit_parts.UnitParts.{UnitParts}
 use Rattle.lnt_unit_encode.specs.declared.convert.ConvertFault.{ConvertFault}
 use Rattle.lnt_unit_encode.specs.declared.convert.ConvertFault.TheVariants.{Malformed, TooLarge, Memory}
 
 -- No bytes spell the unit at this offset in this format and order, and some spell each unit before it.
-pub record IsFirstLarge (format : Format) (to : Order) (units : List (ℕ × Parts)) (offset : ℕ) : Type 0 where
-  pub before : List (ℕ × Parts)
-  pub unit : Parts
-  pub past : List (ℕ × Parts)
+pub record IsFirstLarge (format : Format) (to : Order) (units : List (ℕ × UnitParts)) (offset : ℕ) : Type 0 where
+  pub before : List (ℕ × UnitParts)
+  pub unit : UnitParts
+  pub past : List (ℕ × UnitParts)
   pub joined : units ≡ before ++ (offset, unit) ∷ past
   pub front : List ℕ
   pub spelled : Each (UnitBytesIn to) (units_in_format before format to) front
@@ -23,7 +24,7 @@ pub record IsFirstLarge (format : Format) (to : Order) (units : List (ℕ × Par
 
 -- The section has such a unit at the offset.
 pub record HasFirstLarge (order : Order) (section : List ℕ) (format : Format) (to : Order) (offset : ℕ) : Type 0 where
-  pub units : List (ℕ × Parts)
+  pub units : List (ℕ × UnitParts)
   pub sound : SectionBytes order units section
   pub first : IsFirstLarge format to units offset
 

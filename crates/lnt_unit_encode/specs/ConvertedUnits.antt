@@ -7,23 +7,24 @@ use Rattle.lnt_wire.specs.declared.format.Format.{Format}
 use Rattle.lnt_wire.specs.declared.format.Order.{Order}
 use Rattle.lnt_header.specs.Encoding.{NoSpelling}
 use Rattle.lnt_unit.specs.BrokenUnits.{BrokenUnit}
-use Rattle.lnt_unit.specs.Converting.{unit_in_format, IsConverted}
+use Rattle.lnt_header.specs.Conversion.{unit_in_format}
+use Rattle.lnt_unit.specs.Converting.{IsConverted}
 use Rattle.lnt_unit.specs.UnitBytes.{UnitBytesIn}
 use Rattle.lnt_unit_encode.specs.declared.convert.ConvertFault.{ConvertFault}
 use Rattle.lnt_unit_encode.specs.declared.convert.ConvertFault.TheVariants.{Malformed, TooLarge, Memory}
-use Rattle.lnt_unit.specs.declared.unit.Parts.{Parts}
+use Rattle.lnt_header.specs.declared.unit_parts.UnitParts.{UnitParts}
 
 -- ---- one unit
 
 -- The read moved past the bytes of a unit, and its shortest spelling in this format and order was added.
 pub record ConvertsUnit (order : Order) (format : Format) (to : Order) (old new : At) (text_old text_new : List ℕ) : Type 0 where
-  pub unit : Parts
+  pub unit : UnitParts
   pub read : Reads (UnitBytesIn order) unit old new
   pub put : Appends (UnitBytesIn to) (unit_in_format unit format to) text_old text_new
 
 -- A unit begins the bytes that are left, which nothing spells in this format and order.
 pub record IsLargeUnit (order : Order) (format : Format) (to : Order) (at : At) : Type 0 where
-  pub unit : Parts
+  pub unit : UnitParts
   pub next : At
   pub read : Reads (UnitBytesIn order) unit at next
   pub none : NoSpelling (UnitBytesIn to) (unit_in_format unit format to)

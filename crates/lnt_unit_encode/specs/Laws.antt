@@ -2,7 +2,7 @@
 use Rattle.std.specs.Prelude.{◌≡◌, ℕ, List}
 use Rattle.lnt_wire.specs.declared.format.Format.TheVariants.{D64}
 use Rattle.lnt_header_encode.specs.Spelled.{HasSmallOffsets}
-use Rattle.lnt_unit.specs.declared.unit.Parts.{Parts}
+use Rattle.lnt_header.specs.declared.unit_parts.UnitParts.{UnitParts}
 use Rattle.lnt_unit.specs.UnitBytes.{UnitBytes}
 use Rattle.lnt_unit.specs.UnitRules.{IsUnit}
 use Rattle.lnt_unit_encode.specs.Spelled.{FitsUnit, UnitLengthsFit}
@@ -10,8 +10,8 @@ use Rattle.lnt_unit_encode.specs.Spelled.{FitsUnit, UnitLengthsFit}
 -- A unit that `Unit::new` allows is spelled by some bytes exactly where its format can say its offsets and its length. In the 64-bit
 -- format no offset is too large.
 pub record AllowedUnitIsSpelled : Type 0 where
-  pub spelled : (unit : Parts) → IsUnit unit → FitsUnit unit → HasSmallOffsets unit.header → UnitLengthsFit unit → (bytes : List ℕ)
+  pub spelled : (unit : UnitParts) → IsUnit unit → FitsUnit unit → HasSmallOffsets unit.header → UnitLengthsFit unit → (bytes : List ℕ)
       × UnitBytes unit bytes
-  pub allowed : (unit : Parts) (bytes : List ℕ) → UnitBytes unit bytes → IsUnit unit × FitsUnit unit × HasSmallOffsets unit.header
+  pub allowed : (unit : UnitParts) (bytes : List ℕ) → UnitBytes unit bytes → IsUnit unit × FitsUnit unit × HasSmallOffsets unit.header
       × UnitLengthsFit unit
-  pub wide : (unit : Parts) → unit.header.format ≡ D64 → HasSmallOffsets unit.header
+  pub wide : (unit : UnitParts) → unit.header.format ≡ D64 → HasSmallOffsets unit.header

@@ -10,22 +10,23 @@ use Rattle.lnt_wire.specs.declared.format.Order.{Order}
 use Rattle.lnt_header.specs.Encoding.{NoSpelling}
 use Rattle.lnt_header.specs.Joins.{Each}
 use Rattle.lnt_unit.specs.BrokenUnits.{BrokenUnit}
-use Rattle.lnt_unit.specs.Converting.{unit_in_format, units_in_format}
+use Rattle.lnt_header.specs.Conversion.{unit_in_format}
+use Rattle.lnt_unit.specs.Converting.{units_in_format}
 use Rattle.lnt_unit.specs.UnitBytes.{UnitBytesIn, SectionBytes}
-use Rattle.lnt_unit.specs.declared.unit.Parts.{Parts}
+use Rattle.lnt_header.specs.declared.unit_parts.UnitParts.{UnitParts}
 use Rattle.lnt_unit_encode.specs.ConvertFaults.{IsFirstLarge}
 use Rattle.lnt_unit_encode.specs.declared.convert.ConvertFault.{ConvertFault}
 use Rattle.lnt_unit_encode.specs.declared.convert.ConvertFault.TheVariants.{Malformed, TooLarge, Memory}
 
 -- The bytes spell a unit, and its shortest spelling in this format and order was added.
 pub record ConvertsBytes (order : Order) (format : Format) (to : Order) (bytes old new : List ℕ) : Type 0 where
-  pub unit : Parts
+  pub unit : UnitParts
   pub spelled : UnitBytesIn order unit bytes
   pub put : Appends (UnitBytesIn to) (unit_in_format unit format to) old new
 
 -- The bytes spell a unit, which nothing spells in this format and order.
 pub record IsLarge (order : Order) (format : Format) (to : Order) (bytes : List ℕ) : Type 0 where
-  pub unit : Parts
+  pub unit : UnitParts
   pub spelled : UnitBytesIn order unit bytes
   pub none : NoSpelling (UnitBytesIn to) (unit_in_format unit format to)
 
@@ -37,13 +38,13 @@ IsUnitStop order format to offset bytes (TooLarge place) = (place ≡ offset) ×
 IsUnitStop order format to offset bytes Memory = Unit {0}
 
 -- whether the unit has a spelling in this format and order
-abbrev pub IsSaid : Bool → Format → Order → Parts → Type 0
+abbrev pub IsSaid : Bool → Format → Order → UnitParts → Type 0
 IsSaid true format to unit = (bytes : List ℕ) × IsShortest (UnitBytesIn to) (unit_in_format unit format to) bytes
 IsSaid false format to unit = NoSpelling (UnitBytesIn to) (unit_in_format unit format to)
 
 -- The read moved past the bytes of a unit, and it is told whether that has a spelling in this format and order.
 pub record JudgesUnit (order : Order) (format : Format) (to : Order) (converts : Bool) (old new : At) : Type 0 where
-  pub unit : Parts
+  pub unit : UnitParts
   pub read : Reads (UnitBytesIn order) unit old new
   pub said : IsSaid converts format to unit
 
@@ -55,7 +56,7 @@ IsToldAs fault Memory = fault.reason ≡ reasons.Memory
 
 -- The units of the section up to a cursor, each in this format and order, are these bytes.
 pub record ConvertedTo (order : Order) (section : List ℕ) (format : Format) (to : Order) (at : At) (bytes : List ℕ) : Type 0 where
-  pub units : List (ℕ × Parts)
+  pub units : List (ℕ × UnitParts)
   pub front : List ℕ
   pub whole : section ≡ front ++ at.rest
   pub sound : SectionBytes order units front
@@ -64,7 +65,7 @@ pub record ConvertedTo (order : Order) (section : List ℕ) (format : Format) (t
   pub put : Each (IsShortest (UnitBytesIn to)) (units_in_format units format to) bytes
 
 -- the first of the units that nothing spells, if there is one
-abbrev pub IsConversionJudged : Format → Order → List (ℕ × Parts) → Option ℕ → Type 0
+abbrev pub IsConversionJudged : Format → Order → List (ℕ × UnitParts) → Option ℕ → Type 0
 IsConversionJudged format to units None = (bytes : List ℕ) × Each (IsShortest (UnitBytesIn to)) (units_in_format units format to) bytes
 IsConversionJudged format to units (Some offset) = IsFirstLarge format to units offset
 

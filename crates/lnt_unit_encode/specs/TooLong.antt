@@ -4,10 +4,10 @@ use Rattle.lnt_wire.specs.Bytes.{IsShortest}
 use Rattle.lnt_header.specs.Joins.{Each}
 use Rattle.lnt_header_encode.specs.Large.{IsTooLong}
 use Rattle.lnt_ops.specs.OpBytes.{OpBytes}
-use Rattle.lnt_unit.specs.declared.unit.Parts.{Parts}
+use Rattle.lnt_header.specs.declared.unit_parts.UnitParts.{UnitParts}
 
 -- Even with the shortest header and the shortest program, the unit's length is more than its format can say.
-pub record IsTooLongUnit (unit : Parts) : Type 0 where
+pub record IsTooLongUnit (unit : UnitParts) : Type 0 where
   pub program : List ℕ
   pub shortest : IsShortest (Each (OpBytes unit.header)) unit.ops program
   pub too_long : IsTooLong unit.header program

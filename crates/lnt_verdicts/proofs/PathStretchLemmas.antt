@@ -7,7 +7,7 @@ use Rattle.std.proofs.KnownBytes.{Appends-trans}
 use Rattle.std.proofs.lemmas.List.Concat.{flat_map-append}
 use Rattle.lnt_output.specs.Fronts.{AppendsFront}
 use Rattle.lnt_output.proofs.FrontLaws.{front_after, front_all, front_before, front_none, front_same}
-use Rattle.lnt_unit.specs.declared.unit.Parts.{Parts}
+use Rattle.lnt_header.specs.declared.unit_parts.UnitParts.{UnitParts}
 use Rattle.lnt_spans.specs.declared.answer.Version.{Version}
 use Rattle.lnt_spans.specs.declared.position.Position.{Position}
 use Rattle.lnt_spans.specs.declared.span.Span.{Span}
@@ -82,7 +82,7 @@ PrintsByPath to_come path differences old new status =
 -- The slice has the held spans, and the paths are those of the index.
 pub told_by_path : {S : Type 0} (to_come : S → List Span → Type 0) (index : Indexed) (path : ℕ → ℕ → List ℕ)
     (differences : DifferencesByPath S) (version : PathVersion) (spans slice : List HeldSpan) (dead : Option ℕ) (skip : Bool)
-    (units : List (ℕ × Parts)) (table old new : Option (List ℕ)) (status : Status) → slice ≡ spans → path ≡ path_at index
+    (units : List (ℕ × UnitParts)) (table old new : Option (List ℕ)) (status : Status) → slice ≡ spans → path ≡ path_at index
     → IfSome table (λ text. ((numbered : Version) → BeginsWith text (column_names numbered ∷ []) → ⊥)
     × IsPathTableOf version text (map held_span spans))
     → StandInOrder (map held_span spans)
@@ -181,7 +181,7 @@ BeginsByPath to_come path differences old new =
 -- The slice has the held spans, and the paths are those of the index.
 pub begun_by_path : {S : Type 0} (to_come : S → List Span → Type 0) (index : Indexed) (path : ℕ → ℕ → List ℕ)
     (differences : DifferencesByPath S) (version : PathVersion) (spans slice : List HeldSpan) (dead : Option ℕ) (skip : Bool)
-    (units : List (ℕ × Parts)) (table old new : Option (List ℕ)) → slice ≡ spans → path ≡ path_at index
+    (units : List (ℕ × UnitParts)) (table old new : Option (List ℕ)) → slice ≡ spans → path ≡ path_at index
     → IfSome table (λ text. ((numbered : Version) → BeginsWith text (column_names numbered ∷ []) → ⊥)
     × IsPathTableOf version text (map held_span spans))
     → StandInOrder (map held_span spans)

@@ -2,7 +2,7 @@
 use Rattle.std.proofs.Common.{◌≡◌, ◌≢◌, Bool, ℕ, List, [], ◌∷◌, ◌++◌, inl, inr, Option, Some, None, IfSome, ap, codes, subst}
 use Rattle.std.specs.Io.KnownBytes.{Appends}
 use Rattle.lnt_output.specs.Fronts.{AppendsFront}
-use Rattle.lnt_unit.specs.declared.unit.Parts.{Parts}
+use Rattle.lnt_header.specs.declared.unit_parts.UnitParts.{UnitParts}
 use Rattle.lnt_spans.specs.declared.answer.Answer.{Answer}
 use Rattle.lnt_spans.specs.declared.answer.Version.{Version}
 use Rattle.lnt_spans.specs.declared.difference.Difference.{Difference}
@@ -40,7 +40,7 @@ Prints of_section of_table differences old new status =
 -- The stretches that were printed are those of the differences that were given.
 pub told_of : {S : Type 0} (of_section : Remaining S → List Span → Type 0) (of_table : SpanList → List Span → Type 0)
     (differences given : Differences (Remaining S) SpanList) (dead : Option ℕ) (skip : Bool)
-    (units : List (ℕ × Parts)) (table old new : Option (List ℕ)) (status : Status)
+    (units : List (ℕ × UnitParts)) (table old new : Option (List ℕ)) (status : Status)
     → given ≡ differences → IfSome table (λ text. DiffersFromUnits of_section of_table dead skip units text differences
     × (Table differences ≢ Fault fault.Header))
     → Prints of_section of_table given old new status → IfSome table (λ text. AreToldOf dead skip units text old new status)
@@ -71,7 +71,7 @@ BeginsStretches of_section of_table differences old new =
 -- The front that was printed is one of the stretches of the differences that were given.
 pub begun_of : {S : Type 0} (of_section : Remaining S → List Span → Type 0) (of_table : SpanList → List Span → Type 0)
     (differences given : Differences (Remaining S) SpanList) (index : Indexed) (dead : Option ℕ) (skip : Bool)
-    (units : List (ℕ × Parts)) (table old new : Option (List ℕ))
+    (units : List (ℕ × UnitParts)) (table old new : Option (List ℕ))
     → given ≡ differences → IfSome table (λ text. DiffersFromUnits of_section of_table dead skip units text differences
     × (Table differences ≢ Fault fault.Header))
     → BeginsStretches of_section of_table given old new → IfSome table (λ text. AreStretchesBegun index dead skip units text old new)
@@ -92,7 +92,7 @@ abbrev pub IsNoHeader : {S : Type 0} → Differing S → Type 0
 IsNoHeader found = found ≢ Fault fault.Header
 
 -- within the line of the fault of a table of version 1 or 2
-pub fault_begun : (S : Type 0) (index : Indexed) (dead : Option ℕ) (skip : Bool) (units : List (ℕ × Parts))
+pub fault_begun : (S : Type 0) (index : Indexed) (dead : Option ℕ) (skip : Bool) (units : List (ℕ × UnitParts))
     (table old new : Option (List ℕ)) (told : TableFault) → IfSome table (λ text. IsFault text told × IsNoHeader {S = S} (Fault told))
     → AppendsFront old new (table_no_text (no_of_fault told) ++ codes "\n")
     → IfSome table (λ text. AreStretchesBegun index dead skip units text old new)
@@ -101,7 +101,7 @@ fault_begun S index dead skip units (Some text) old new told is front =
     inl (record { told = told; is_so = (is.0, λ e. is.1 (ap (λ (t : TableFault). Fault t) e)); front = front })
 
 -- within the line of the fault of a table by path
-pub path_fault_begun : (index : Indexed) (dead : Option ℕ) (skip : Bool) (units : List (ℕ × Parts)) (table old new : Option (List ℕ))
+pub path_fault_begun : (index : Indexed) (dead : Option ℕ) (skip : Bool) (units : List (ℕ × UnitParts)) (table old new : Option (List ℕ))
     (told : TableFault)
     → IfSome table (λ text. ((numbered : Version) → BeginsWith text (column_names numbered ∷ []) → ⊥) × IsPathFault text told)
     → AppendsFront old new (table_no_text (no_of_fault told) ++ codes "\n")

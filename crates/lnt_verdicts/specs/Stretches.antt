@@ -2,7 +2,7 @@
 use Rattle.std.specs.Prelude.{◌≡◌, ◌≢◌, ◌++◌, ◌⊎◌, Bool, ℕ, List, [], ◌∷◌, Option, codes}
 use Rattle.std.specs.Io.KnownBytes.{Appends}
 use Rattle.lnt_output.specs.Fronts.{AppendsFront}
-use Rattle.lnt_unit.specs.declared.unit.Parts.{Parts}
+use Rattle.lnt_header.specs.declared.unit_parts.UnitParts.{UnitParts}
 use Rattle.lnt_spans.specs.declared.answer.Version.{Version}
 use Rattle.lnt_spans.specs.declared.difference.Difference.{Difference}
 use Rattle.lnt_spans.specs.declared.position.Position.{Position}
@@ -33,7 +33,7 @@ use Rattle.lnt_sources.specs.declared.status.Status.TheVariants as ending
 
 -- The bytes are a table. These are exactly the stretches at which it answers otherwise than the rows of the units, as far as
 -- its version tells, and a writer that held these bytes has gained their lines, or `yes` where there is none.
-pub record AreToldOf (dead : Option ℕ) (skip : Bool) (units : List (ℕ × Parts)) (table : List ℕ) (old new : Option (List ℕ))
+pub record AreToldOf (dead : Option ℕ) (skip : Bool) (units : List (ℕ × UnitParts)) (table : List ℕ) (old new : Option (List ℕ))
     (status : Status) : Type 0 where
   pub version : Version
   pub spans : List Span
@@ -44,7 +44,7 @@ pub record AreToldOf (dead : Option ℕ) (skip : Bool) (units : List (ℕ × Par
   pub status_is : status ≡ stretches_status differences
 
 -- The same of a table by path, and of what the rows answer with the whole path of each file.
-pub record AreToldByPath (index : Indexed) (dead : Option ℕ) (skip : Bool) (units : List (ℕ × Parts)) (table : List ℕ)
+pub record AreToldByPath (index : Indexed) (dead : Option ℕ) (skip : Bool) (units : List (ℕ × UnitParts)) (table : List ℕ)
     (old new : Option (List ℕ)) (status : Status) : Type 0 where
   pub version : PathVersion
   pub spans : List PathSpan
@@ -62,7 +62,7 @@ pub record IsFaultByPath (table : List ℕ) (told : TableFault) : Type 0 where
 
 -- What is told is true of the bytes: the stretches at which the table answers otherwise, or its first fault. Of bytes with the header
 -- of version 1 or 2 it is Faulty or Told, of all others FaultyByPath or ToldByPath.
-abbrev pub AreStretchesOf : Indexed → Option ℕ → Bool → List (ℕ × Parts) → List ℕ → Option (List ℕ) → Option (List ℕ) → Stretches → Type 0
+abbrev pub AreStretchesOf : Indexed → Option ℕ → Bool → List (ℕ × UnitParts) → List ℕ → Option (List ℕ) → Option (List ℕ) → Stretches → Type 0
 AreStretchesOf index dead skip units table old new (Faulty told) = IsFault table told × (told ≢ fault.Header)
 AreStretchesOf index dead skip units table old new (Told status) = AreToldOf dead skip units table old new status
 AreStretchesOf index dead skip units table old new (FaultyByPath told) = IsFaultByPath table told
@@ -101,7 +101,7 @@ pub record IsFaultBegun (IsSo : TableFault → Type 0) (old new : Option (List �
 
 -- The bytes are a table, and a front of the lines of the stretches at which it answers otherwise than the rows of the units was
 -- gained.
-pub record AreBegunOf (dead : Option ℕ) (skip : Bool) (units : List (ℕ × Parts)) (table : List ℕ) (old new : Option (List ℕ)) : Type 0
+pub record AreBegunOf (dead : Option ℕ) (skip : Bool) (units : List (ℕ × UnitParts)) (table : List ℕ) (old new : Option (List ℕ)) : Type 0
   where
     pub version : Version
     pub spans : List Span
@@ -109,7 +109,7 @@ pub record AreBegunOf (dead : Option ℕ) (skip : Bool) (units : List (ℕ × Pa
     pub begun : AreDifferencesBegun (told_answer version dead skip units) (span_answer spans) old new
 
 -- The same of a table by path, and of what the rows answer with the whole path of each file.
-pub record AreBegunByPath (index : Indexed) (dead : Option ℕ) (skip : Bool) (units : List (ℕ × Parts)) (table : List ℕ)
+pub record AreBegunByPath (index : Indexed) (dead : Option ℕ) (skip : Bool) (units : List (ℕ × UnitParts)) (table : List ℕ)
     (old new : Option (List ℕ)) : Type 0 where
   pub version : PathVersion
   pub spans : List PathSpan
@@ -118,7 +118,7 @@ pub record AreBegunByPath (index : Indexed) (dead : Option ℕ) (skip : Bool) (u
 
 -- The writer has gained a front of what is told of the table, by its version: of the line of its first fault, or of the lines of the
 -- stretches.
-abbrev pub AreStretchesBegun : Indexed → Option ℕ → Bool → List (ℕ × Parts) → List ℕ → Option (List ℕ) → Option (List ℕ) → Type 0
+abbrev pub AreStretchesBegun : Indexed → Option ℕ → Bool → List (ℕ × UnitParts) → List ℕ → Option (List ℕ) → Option (List ℕ) → Type 0
 AreStretchesBegun index dead skip units table old new =
     IsFaultBegun (λ told. IsFault table told × (told ≢ fault.Header)) old new
     ⊎ (AreBegunOf dead skip units table old new

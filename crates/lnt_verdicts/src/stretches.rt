@@ -14,7 +14,7 @@ ghost use Rattle.lnt_output.specs.Fronts.{AppendsFront};
 ghost use Rattle.lnt_sources.specs.Halts.{IsPrinting};
 ghost use Rattle.lnt_spans.specs.declared.position.Position.{Position};
 ghost use Rattle.lnt_table.specs.Verdicts.{no_of_fault};
-ghost use Rattle.lnt_unit.specs.declared.unit.Parts.{Parts};
+ghost use Rattle.lnt_header.specs.declared.unit_parts.UnitParts.{UnitParts};
 
 use crate::differences::print_differences;
 use lnt_input::Source;
@@ -60,13 +60,13 @@ pub fn print_stretches<T: Source, W: Write>(
     out: &mut W,
 ) -> Result<Stretches, Halt>
     requires { T.failures table.old < 2 ^ 64 - 1 }
-    ensures told { IfOk result (λ told. (dead : Option ℕ) (skip : Bool) (units : List (ℕ × Parts)) → IsIndexOf dead skip units index.now
+    ensures told { IfOk result (λ told. (dead : Option ℕ) (skip : Bool) (units : List (ℕ × UnitParts)) → IsIndexOf dead skip units index.now
         → IfSome (T.remaining table.old) (λ text. AreStretchesOf index.now dead skip units text
         (W.contents out.old) (W.contents out.new) told)) }
     ensures faulty { IfOk result (λ told. IsFaultTold told (W.contents out.old) (W.contents out.new)) }
     ensures read { IsErrOf result Halt.Read → T.failures table.new ≡ T.failures table.old + 1 }
     ensures begun { OnErr result (Keeps (W.contents out.old) (W.contents out.new)
-        ⊎ ((dead : Option ℕ) (skip : Bool) (units : List (ℕ × Parts)) → IsIndexOf dead skip units index.now
+        ⊎ ((dead : Option ℕ) (skip : Bool) (units : List (ℕ × UnitParts)) → IsIndexOf dead skip units index.now
         → IfSome (T.remaining table.old) (λ text. AreStretchesBegun index.now dead skip units text
         (W.contents out.old) (W.contents out.new)))) }
 {

@@ -7,7 +7,7 @@ ghost use Rattle.lnt_sources.specs.Halts.{IsPrinting};
 ghost use Rattle.lnt_sources.specs.declared.status.Status.TheVariants.{Done};
 ghost use Rattle.lnt_table.specs.ByPath.{told_path};
 ghost use Rattle.lnt_table.specs.Written.{BeginsTableOfUnits, IsTableOfUnits};
-ghost use Rattle.lnt_unit.specs.declared.unit.Parts.{Parts};
+ghost use Rattle.lnt_header.specs.declared.unit_parts.UnitParts.{UnitParts};
 ghost use Rattle.lnt_verdicts.specs.PathTables.{BeginsPrintedTable, IsPrintedTable, operation_line};
 ghost use Rattle.lnt_verdicts.specs.Stepping.{halt_of_write};
 
@@ -34,9 +34,9 @@ pub fn print_table<W: Write>(
     ensures done { IfOk result (λ status. status ≡ Done) }
     ensures err { IfErr result IsPrinting }
     ensures table { OnOk result ((bytes : List ℕ) × Appends (W.contents out.old) (W.contents out.new) bytes
-        × ((dead : Option ℕ) (skip : Bool) (units : List (ℕ × Parts)) → IsIndexOf dead skip units index.now
+        × ((dead : Option ℕ) (skip : Bool) (units : List (ℕ × UnitParts)) → IsIndexOf dead skip units index.now
         → IsTableOfUnits version dead skip units bytes)) }
-    ensures begun { OnErr result ((dead : Option ℕ) (skip : Bool) (units : List (ℕ × Parts)) → IsIndexOf dead skip units index.now
+    ensures begun { OnErr result ((dead : Option ℕ) (skip : Bool) (units : List (ℕ × UnitParts)) → IsIndexOf dead skip units index.now
         → BeginsTableOfUnits version dead skip units (W.contents out.old) (W.contents out.new)) }
 {
     match write_index(alloc, index, version, out) {
@@ -57,9 +57,9 @@ pub fn print_path_table<W: Write>(
     out: &mut W,
 ) -> Result<Status, Halt>
     ensures err { IfErr result IsPrinting }
-    ensures table { IfOk result (λ status. (dead : Option ℕ) (skip : Bool) (units : List (ℕ × Parts)) → IsIndexOf dead skip units index.now
+    ensures table { IfOk result (λ status. (dead : Option ℕ) (skip : Bool) (units : List (ℕ × UnitParts)) → IsIndexOf dead skip units index.now
         → IsPrintedTable version (told_path version index.now dead skip units) (W.contents out.old) (W.contents out.new) status) }
-    ensures begun { OnErr result ((dead : Option ℕ) (skip : Bool) (units : List (ℕ × Parts)) → IsIndexOf dead skip units index.now
+    ensures begun { OnErr result ((dead : Option ℕ) (skip : Bool) (units : List (ℕ × UnitParts)) → IsIndexOf dead skip units index.now
         → BeginsPrintedTable version (told_path version index.now dead skip units) (W.contents out.old) (W.contents out.new)) }
 {
     match write_paths(alloc, index, version, out) {

@@ -1,13 +1,16 @@
+use Rattle.lnt_cli.specs.Questions.{AnswersAddressesJudged}
 use Rattle.lnt_cli.specs.Stopped.{BeginsAddressesJudged}
-use Rattle.lnt_cli.proofs.QuestionLemmas.{addresses_of}
+use Rattle.lnt_cli.proofs.QuestionLemmas.{of_file_answered}
 use Rattle.lnt_cli.proofs.StopLemmas.{of_file_stopped}
 use Rattle.lnt_cli.proofs.question.answer_lines.Goals as goal
 
 pub returns-clause-answer : goal.returns-clause-answer
 returns-clause-answer g c =
-    addresses_of (g.O.Opener.tells c.args.opener.now) c.args.from.now c.args.file.now c.args.op (g.W.Write.contents c.args.out.now)
-    (g.W.Write.contents c.answer_lines_of.new.out) c.in_ok-files.files.texts.line.items
-    c.in_ok-files.files.texts.general.items _ _ c.answer_lines_of.result (λ answered. answered.status)
+    let old = g.W.Write.contents c.args.out.now in
+    let new = g.W.Write.contents c.answer_lines_of.new.out in
+    of_file_answered (g.O.Opener.tells c.args.opener.now) c.args.from.now c.args.file.now
+    (λ answered judged text. AnswersAddressesJudged judged c.args.op text old new answered.status)
+    c.in_ok-files.files.texts.line.items c.in_ok-files.files.texts.general.items _ _ c.answer_lines_of.result
     c.in_ok-files.ensures.texts c.in_ok-files.ensures.section_told c.in_ok-files.ensures.file_told c.answer_lines_of.ensures.answer
 
 pub returns-clause-stopped : goal.returns-clause-stopped

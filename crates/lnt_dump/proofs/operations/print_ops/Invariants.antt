@@ -1,4 +1,4 @@
-use Rattle.lnt_header_bytes.specs.Borrowed.{without_entries}
+use Rattle.lnt_header.specs.HeaderNumbers.{without_entries}
 use Rattle.lnt_machine.proofs.WalkLaws.{HaveHeader}
 use Rattle.lnt_dump.proofs.operations.print_ops.Given as goal
 

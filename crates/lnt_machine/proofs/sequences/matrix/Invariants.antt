@@ -1,5 +1,0 @@
-use Rattle.lnt_machine.proofs.MatrixLemmas.{RanSoFar}
-use Rattle.lnt_machine.proofs.sequences.matrix.Given as goal
-
-abbrev pub invariant-loop-op : goal.invariant-loop-op
-invariant-loop-op l = RanSoFar l.unit l.op-index l.run l.sequences.items l.rows.items

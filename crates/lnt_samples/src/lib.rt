@@ -1,9 +1,0 @@
-//! What the crates of tests share: the bytes of some units, the table of one, and readers and writers that give and take
-//! little at a time, and fail.
-#![tactic(auto)]
-
-mod streams;
-mod units;
-
-pub use streams::{Narrow, Pieces, Reader, Refusing, failing, whole};
-pub use units::{BELOW_ZERO, ENDLESS, LISTED, OF_NOTHING, OPEN, PLAIN, SHORT, TABLE, WIDE};

@@ -1,0 +1,15 @@
+//! Tests of the crates below `linetab`, in a crate of their own, since a crate with tests is proved twice.
+//!
+//! They show what no contract says and no run of the program shows: that each call that takes memory answers where there
+//! is enough, how a call ends over a reader or a writer that fails, and each generic at a concrete type. What the program
+//! answers is shown by the scripts of `tests/`.
+#![tactic(auto)]
+
+#[cfg(test)]
+mod cli;
+#[cfg(test)]
+mod samples;
+#[cfg(test)]
+mod tables;
+#[cfg(test)]
+mod unit;

@@ -1,0 +1,7 @@
+//! What tests share: the bytes of some units, the table of one, and readers and writers that give and take little at a
+//! time, and fail.
+mod streams;
+mod units;
+
+pub(crate) use streams::{Narrow, Pieces, Reader, Refusing, failing, whole};
+pub(crate) use units::{BELOW_ZERO, ENDLESS, LISTED, OF_NOTHING, OPEN, PLAIN, SHORT, TABLE, WIDE};

@@ -1,0 +1,138 @@
+//! Readers and writers that give and take little at a time, and fail.
+use std::alloc::Global;
+use std::io::{self, Read, Write};
+
+/// Gives bytes one at a time. It fails after them, or it ends.
+#[derive(Clone, Copy)]
+pub(crate) struct Reader<'a> {
+    bytes: &'a [u8],
+    fails: bool,
+}
+
+impl Read for Reader<'_> {
+    fn read(&mut self, buf: &mut [u8]) -> io::Result<usize> {
+        if self.bytes.is_empty() && self.fails {
+            return Err(io::Error::from(io::ErrorKind::Interrupted));
+        }
+        let (Some((first, rest)), Some(place)) = (self.bytes.split_first(), buf.first_mut()) else {
+            return Ok(0);
+        };
+        *place = *first;
+        self.bytes = rest;
+        Ok(1)
+    }
+}
+
+/// A reader of these bytes, which then ends.
+pub(crate) fn whole(bytes: &[u8]) -> Reader<'_> {
+    Reader {
+        bytes,
+        fails: false,
+    }
+}
+
+/// A reader of these bytes, which fails after them.
+pub(crate) fn failing(bytes: &[u8]) -> Reader<'_> {
+    Reader { bytes, fails: true }
+}
+
+/// Gives bytes in pieces, fails after some reads, and keeps what was asked of it.
+#[derive(Drop)]
+pub(crate) struct Pieces<'a> {
+    bytes: &'a [u8],
+    piece: usize,
+    sound: u64,
+    asked: Vec<usize>,
+}
+
+impl<'a> Pieces<'a> {
+    /// Gives `piece` bytes at a time at most. The first `sound` reads go well, and each one after them is interrupted.
+    pub(crate) fn new(alloc: Global, bytes: &'a [u8], piece: usize, sound: u64) -> Pieces<'a> {
+        Pieces {
+            bytes,
+            piece,
+            sound,
+            asked: Vec::new(alloc),
+        }
+    }
+
+    /// How many bytes were asked for, read by read.
+    pub(crate) fn asked(&self) -> &[usize] {
+        self.asked.as_slice()
+    }
+}
+
+impl Read for Pieces<'_> {
+    fn read(&mut self, buf: &mut [u8]) -> io::Result<usize> {
+        self.asked.push(buf.len())?;
+        if self.sound == 0 {
+            return Err(io::Error::from(io::ErrorKind::Interrupted));
+        }
+        self.sound -= 1;
+        let count = self.piece.min(buf.len()).min(self.bytes.len());
+        let (front, rest) = self.bytes.split_at(count);
+        buf[..count].copy_from_slice(front);
+        self.bytes = rest;
+        Ok(count)
+    }
+}
+
+/// Takes ten bytes at a time. After some writes it refuses each further one.
+#[derive(Drop)]
+pub(crate) struct Refusing {
+    /// How many writes go well before the first that is refused.
+    pub(crate) writes_until_fault: u64,
+}
+
+impl Write for Refusing {
+    fn write(&mut self, buf: &[u8]) -> io::Result<usize> {
+        if self.writes_until_fault == 0 {
+            return Err(io::Error::from(io::ErrorKind::BrokenPipe));
+        }
+        self.writes_until_fault -= 1;
+        Ok(buf.len().min(10))
+    }
+
+    fn flush(&mut self) -> io::Result<()> {
+        Ok(())
+    }
+}
+
+/// Takes one byte at a time, and so many in all.
+#[derive(Drop)]
+pub(crate) struct Narrow {
+    taken: Vec<u8>,
+    room: usize,
+}
+
+impl Narrow {
+    /// A writer with room for so many bytes.
+    pub(crate) fn new(alloc: Global, room: usize) -> Narrow {
+        Narrow {
+            taken: Vec::new(alloc),
+            room,
+        }
+    }
+
+    /// The bytes that it took.
+    pub(crate) fn into_taken(self) -> Vec<u8> {
+        self.taken
+    }
+}
+
+impl Write for Narrow {
+    fn write(&mut self, buf: &[u8]) -> io::Result<usize> {
+        if self.taken.len() >= self.room {
+            return Err(io::Error::from(io::ErrorKind::BrokenPipe));
+        }
+        let Some(first) = buf.first() else {
+            return Ok(0);
+        };
+        self.taken.push(*first)?;
+        Ok(1)
+    }
+
+    fn flush(&mut self) -> io::Result<()> {
+        Ok(())
+    }
+}

@@ -1,0 +1,9 @@
+//! Spans, tables, lines and sums.
+mod by_path;
+mod entries;
+mod lines;
+mod records;
+mod spans;
+mod sums;
+mod table;
+mod worked;

@@ -1,0 +1,83 @@
+//! Tables compared and written.
+ghost use Rattle.std.specs.Prelude.{◌≡◌, ◌∷◌, []};
+ghost use Rattle.std.specs.List.{All};
+ghost use Rattle.lnt_spans.specs.declared.answer.Version.TheVariants as version;
+ghost use Rattle.lnt_spans.specs.Spans.{AreInOrder};
+ghost use Rattle.lnt_records.specs.Written.{IsOfVersion};
+
+use crate::samples::{Refusing, TABLE};
+use crate::tables::worked::{at, narrow, wide};
+use lnt_records::{Compared, WriteStop, compare, write_spans};
+use lnt_spans::{Answer, Span, Version};
+use std::alloc::Global;
+
+// The spans of a unit with two rows, with these answers.
+fn plain(first: Answer, second: Answer) -> [Span; 2]
+    ensures order { AreInOrder result }
+    ensures spans { result ≡ record {
+      low = record { address = 0x1000; op = 0 };
+      high = record { address = 0x1004; op = 0 };
+      answer = first;
+    }
+        ∷ record { low = record { address = 0x1004; op = 0 }; high = record { address = 0x1006; op = 0 }; answer = second } ∷ [] }
+{
+    [
+        Span {
+            low: at(0x1000),
+            high: at(0x1004),
+            answer: first,
+        },
+        Span {
+            low: at(0x1004),
+            high: at(0x1006),
+            answer: second,
+        },
+    ]
+}
+
+// Whether the table answers as the spans do.
+fn agrees(alloc: Global, table: &[u8]) -> bool {
+    let spans = plain(wide(3, 7), wide(4, 0));
+    compare(alloc, table, &spans) == Ok(Compared::Same)
+}
+
+const QUOTED: &[u8] = b"low,low_op,high,high_op,unit,file,line,column,is_stmt
+\"0x1000\",\"0\",0x1004,0,0,1,\"3\",0,\"1\"
+0x1004,0,0x1006,0,0,1,4,0,1
+";
+
+#[test]
+fn tables_compared(rt: HostRuntime) {
+    assert!(rt; agrees(rt.alloc(), TABLE));
+    assert!(rt; agrees(rt.alloc(), QUOTED));
+    assert!(rt; !agrees(rt.alloc(), &TABLE[..82]));
+}
+
+// Spans as version 1 tells them.
+fn narrow_plain() -> [Span; 2]
+    ensures order { AreInOrder result }
+    ensures version { All (λ span. IsOfVersion version.One span.answer) result }
+{
+    plain(narrow(3), narrow(4))
+}
+
+#[test]
+fn tables_written(rt: HostRuntime) {
+    let mut out = Vec::new(rt.alloc());
+    let spans = narrow_plain();
+    assert!(rt; write_spans(rt.alloc(), &spans, Version::One, &mut out) == Ok(()));
+    assert!(rt; out.as_slice() == TABLE);
+}
+
+// Whether a writer that refuses a certain write stops the table.
+fn is_refused(alloc: Global, writes_until_fault: u64) -> bool {
+    let mut out = Refusing { writes_until_fault };
+    write_spans(alloc, &narrow_plain(), Version::One, &mut out) == Err(WriteStop::Write)
+}
+
+#[test]
+fn writers_at_fault(rt: HostRuntime) {
+    assert!(rt; is_refused(rt.alloc(), 0));
+    assert!(rt; is_refused(rt.alloc(), 10));
+    assert!(rt; !is_refused(rt.alloc(), 11));
+}

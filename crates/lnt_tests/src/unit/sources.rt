@@ -1,0 +1,60 @@
+use crate::samples::Pieces;
+use lnt_input::{Counted, Source, Stop, read_all};
+use std::alloc::{AllocError, Global};
+use std::test::Fail;
+
+const BYTES: [u8; 70] = [7; 70];
+
+// Whether all bytes come in pieces of this size, and the source may then still give `left` bytes.
+fn come_whole(alloc: Global, piece: usize, limit: u64, left: u64) -> bool {
+    let reader = Pieces::new(alloc, &BYTES, piece, u64::MAX);
+    let mut source = Counted::new(reader, limit);
+    match read_all(alloc, &mut source) {
+        Ok(all) => all.as_slice() == BYTES.as_slice() && source.left() == left,
+        Err(_) => false,
+    }
+}
+
+#[test]
+fn all_bytes_come(rt: HostRuntime) {
+    let alloc = rt.alloc();
+    assert!(rt; come_whole(alloc, 1, 70, 0));
+    assert!(rt; come_whole(alloc, 100, 71, 1));
+    assert!(rt; come_whole(alloc, 100, u64::MAX, (1 << 40) - 70));
+}
+
+// Whether reading the bytes stops for the reason that is wanted, and the source says the same.
+fn are_stopped(alloc: Global, piece: usize, sound: u64, limit: u64, want: Stop) -> bool {
+    let mut source = Counted::new(Pieces::new(alloc, &BYTES, piece, sound), limit);
+    let stop = read_all(alloc, &mut source).err();
+    stop == Some(want)
+        && source.failures() == u64::from(want == Stop::Read)
+        && source.too_long() == (want == Stop::TooLong)
+}
+
+#[test]
+fn sources_that_stop(rt: HostRuntime) {
+    let alloc = rt.alloc();
+    // Within the bytes, at their end, and at once.
+    assert!(rt; are_stopped(alloc, 1, 40, 70, Stop::Read));
+    assert!(rt; are_stopped(alloc, 1, 70, 70, Stop::Read));
+    assert!(rt; are_stopped(alloc, 100, 0, 70, Stop::Read));
+    assert!(rt; are_stopped(alloc, 1, 100, 69, Stop::TooLong));
+    assert!(rt; are_stopped(alloc, 100, 100, 0, Stop::TooLong));
+}
+
+// Whether `count` bytes are read by reads of these sizes.
+fn are_asked(alloc: Global, count: usize, want: &[usize]) -> Result<bool, AllocError> {
+    let bytes = vec![in alloc; 9; count]?;
+    let mut reader = Pieces::new(alloc, bytes.as_slice(), usize::MAX, u64::MAX);
+    let all = read_all(alloc, &mut Counted::new(&mut reader, 1 << 30)).is_ok();
+    Ok(all && reader.asked() == want)
+}
+
+#[test]
+fn reads_by_blocks(rt: HostRuntime) -> Result<(), Fail> {
+    // The last read, which finds the end, asks for what the fifth left of its block.
+    let sizes = [65536, 65536, 65536, 65536, 65536, 27680];
+    assert!(rt; are_asked(rt.alloc(), 300_000, &sizes)?);
+    Ok(())
+}

@@ -1,0 +1,77 @@
+use crate::samples::{PLAIN, Pieces, WIDE};
+use crate::unit::worked::{joined, unit_of};
+use lnt_input::Counted;
+use lnt_stream::{SectionReader, UnitBuffer};
+use lnt_unit::{Unit, UnitView, decode_section};
+use lnt_unit_encode::{convert_section, encode_unit};
+use lnt_wire::{Format, Order};
+use std::alloc::Global;
+
+// Whether the units are two of five operations, the second at offset 71.
+fn are_two(units: &[(u64, Unit)]) -> bool {
+    match units {
+        [(first, unit), (second, other)] => {
+            (*first, *second) == (0, 71) && unit.ops().len() == 5 && other.ops().len() == 5
+        }
+        _ => false,
+    }
+}
+
+// Whether these bytes, written twice, are read as two units.
+fn are_units(alloc: Global, bytes: &[u8]) -> bool {
+    let Some(twice) = joined(alloc, bytes, bytes) else {
+        return false;
+    };
+    match decode_section(alloc, &twice, Order::Little) {
+        Ok(units) => are_two(&units),
+        Err(_) => false,
+    }
+}
+
+// Whether the unit is written as these bytes.
+fn is_encoded(alloc: Global, unit: &Unit, bytes: &[u8]) -> bool {
+    match encode_unit(alloc, unit) {
+        Ok(written) => written.as_slice() == bytes,
+        Err(_) => false,
+    }
+}
+
+// Whether the unit that is read from these bytes is written as the same bytes.
+fn is_kept(alloc: Global, bytes: &[u8]) -> bool {
+    match unit_of(alloc, bytes) {
+        Some(unit) => is_encoded(alloc, &unit, bytes),
+        None => false,
+    }
+}
+
+// Whether the big-endian section is converted to these bytes.
+fn is_converted(alloc: Global, bytes: &[u8], want: &[u8]) -> bool {
+    match convert_section(alloc, bytes, Order::Big, Format::D32, Order::Little) {
+        Ok(converted) => converted.as_slice() == want,
+        Err(_) => false,
+    }
+}
+
+// How many operations the unit in the buffer has, where it is one.
+fn count_of(alloc: Global, unit: &UnitBuffer) -> Option<u64> {
+    let view = UnitView::over(alloc, unit).ok()?;
+    view.operation_count().ok()
+}
+
+fn is_viewed(alloc: Global, bytes: &[u8]) -> bool {
+    let mut source = Counted::new(Pieces::new(alloc, bytes, 100, u64::MAX), 71);
+    let mut reader = SectionReader::new(&mut source, Order::Little);
+    match reader.next_unit(alloc) {
+        Ok(Some(unit)) => count_of(alloc, &unit) == Some(5),
+        _ => false,
+    }
+}
+
+#[test]
+fn units_and_sections(rt: HostRuntime) {
+    let alloc = rt.alloc();
+    assert!(rt; are_units(alloc, &PLAIN));
+    assert!(rt; is_kept(alloc, &PLAIN));
+    assert!(rt; is_converted(alloc, &WIDE, &PLAIN));
+    assert!(rt; is_viewed(alloc, &PLAIN));
+}
