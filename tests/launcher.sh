@@ -46,7 +46,8 @@ plainly() {
 # The program and the crates below it: all but those of tests and of the library.
 all=$(cd crates && printf '%s\n' */ | grep -cvE '^lnt_(ffi|tests)/')
 section=$top/examples/hello.debug_line
-proving=$'linetab: proving and building the program, which takes some minutes the first time\n'
+proving=$'linetab: proving and building the program, which takes some minutes the first time
+linetab: meanwhile `rt try -- WORD ..` in WORK/tree/crates/linetab answers in a minute, interpreted and unproved, for files by their whole paths\n'
 
 expect 'no program and no toolchain' 127 '' "linetab: the program isn't built: it would be WORK/tree/crates/linetab/out/linetab. To prove and build it, install the Rattle toolchain, so that its command rt is on the PATH"$'\n' \
   plainly without_rt "$tree/linetab" units "$section"

@@ -1,10 +1,11 @@
 //! Prints whether files have the MD5 sums that are listed for them.
-ghost use Rattle.std.specs.Prelude.{◌≡◌, ◌<◌, ◌++◌, IfErr, IfOk, OnErr, OnOk, codes};
+ghost use Rattle.std.specs.Prelude.{◌≡◌, ◌↔◌, ◌<◌, ◌++◌, IfErr, IfOk, IsSome, IsTrue, OnErr, OnOk, codes};
+ghost use Rattle.std.specs.List.{Any};
 ghost use Rattle.std.specs.Io.KnownBytes.{Appends};
 ghost use Rattle.lnt_output.specs.Fronts.{HasBegun};
 ghost use Rattle.lnt_sources.specs.Files.{TellsNoMore};
 ghost use Rattle.lnt_sources.specs.Halts.{IsPrinting};
-ghost use Rattle.lnt_lines.specs.Indexed.{file_count_in};
+ghost use Rattle.lnt_lines.specs.Indexed.{file_count_in, file_sum_in};
 ghost use Rattle.lnt_text.specs.Quotes.{quoted_text};
 ghost use Rattle.lnt_answers.specs.SumLines.{AreSumsTold, IsTrueOfFile, both, found_status, found_text, head_text};
 ghost use Rattle.lnt_answers.specs.SumLines.{listed_at, listed_files, listed_in};
@@ -175,10 +176,12 @@ fn together(first: Status, second: Status) -> Status
     }
 }
 
-/// Whether an MD5 sum is listed for any file. It allocates no memory.
-pub fn lists_sums(index: &Index<'_>) -> bool {
+/// Whether an MD5 sum is listed for the first file of a unit. The files of a unit share one format (DWARF 5, section
+/// 6.2.4.1), so where the first has no sum, none has. It allocates no memory.
+pub fn lists_sums(index: &Index<'_>) -> bool
+    ensures { IsTrue result ↔ Any (λ unit. IsSome (file_sum_in index.now unit 0)) index.now.units }
+{
     for unit in index.units() {
-        // The files of a unit share one format, so where the first has no sum, none has.
         if index.listed(*unit, 0).is_some() {
             return true;
         }

@@ -16,7 +16,7 @@ use Rattle.lnt_table.specs.AnyVersion.{IsTrueCheck}
 use Rattle.lnt_verdicts.specs.Verdicts.{checked_line}
 use Rattle.lnt_answers.specs.SumLines.{listed_files}
 use Rattle.lnt_answers.proofs.SumLaws.{sums_later}
-use Rattle.lnt_cli.specs.Answered.{AnswersQuestion, AreTextsOf, IsChecked, IsOfFile, options_in}
+use Rattle.lnt_cli.specs.Answered.{AnswersQuestion, AreTextsOf, IsChecked, IsOfFile, IsOfSection, options_in}
 use Rattle.lnt_cli.specs.Questions.{AnswersGood, AnswersJudged}
 
 -- an answer stays true where more may be told of the files
@@ -39,6 +39,22 @@ judged_later tells tells' options question (Good index) old new status later so 
     good_later tells tells' options question index old new status later so
 judged_later tells tells' options question (Bad reason) old new status later so = so
 
+-- What is told of a judged section is told of the section in its file.
+pub told_of_section : (tells : List ℕ → Option (List ℕ) → Type 0) (from : Judging) (IsTold : JudgedIndex → Type 0)
+    (line general : List ℕ) (section : Option (List ℕ)) → AreTextsOf tells from line general → tells from.section.now section
+    → (judged : JudgedIndex) × IfSome section (λ bytes. IsJudgedIndex line general (options_in from) bytes judged) × IsTold judged
+    → IsOfSection tells from IsTold
+told_of_section tells from IsTold line general section texts of_section so = record {
+  line = line;
+  general = general;
+  texts = texts;
+  section_bytes = section;
+  of_section = of_section;
+  judged = so.0;
+  is_true = so.1;
+  told = so.2;
+}
+
 -- An answer for a judged section, from a time when less might be told of the files, is the answer to the question.
 pub question_of : {T E : Type 0} (tells tells' : List ℕ → Option (List ℕ) → Type 0) (from : Judging) (question : Question)
     (old new : Option (List ℕ)) (line general : List ℕ) (section : Option (List ℕ)) (ended : Result T E) (status_of : T → Status)
@@ -48,16 +64,9 @@ pub question_of : {T E : Type 0} (tells tells' : List ℕ → Option (List ℕ) 
     × AnswersJudged tells' (options_in from) question judged old new (status_of answered))
     → IfOk ended (λ answered. AnswersQuestion tells from question old new (status_of answered))
 question_of tells tells' from question old new line general section (Ok answered) status_of texts of_section later so =
-    record {
-      line = line;
-      general = general;
-      texts = texts;
-      section_bytes = section;
-      of_section = of_section;
-      judged = so.0;
-      is_true = so.1;
-      answered = judged_later tells tells' (options_in from) question so.0 old new (status_of answered) later so.2;
-    }
+    told_of_section tells from (λ judged. AnswersJudged tells (options_in from) question judged old new (status_of answered)) line
+    general section texts of_section
+    (so.0, so.1, judged_later tells tells' (options_in from) question so.0 old new (status_of answered) later so.2)
 question_of tells tells' from question old new line general section (Err stop) status_of texts of_section later so = so
 
 -- What is told of a judged section and of the bytes of a file is told of that file.
@@ -67,16 +76,9 @@ pub told_of_file : (tells : List ℕ → Option (List ℕ) → Type 0) (from : J
     → (judged : JudgedIndex) × IfSome section (λ bytes. IsJudgedIndex line general (options_in from) bytes judged) × IsTold judged text
     → IsOfFile tells from file IsTold
 told_of_file tells from file IsTold line general section text texts of_section of_file so = record {
-  line = line;
-  general = general;
-  texts = texts;
-  section_bytes = section;
-  of_section = of_section;
-  judged = so.0;
-  is_true = so.1;
   file_bytes = text;
   of_file = of_file;
-  told = so.2;
+  so = told_of_section tells from (λ judged. IsTold judged text) line general section texts of_section so;
 }
 
 -- The answer for a judged section and the bytes of a file is the answer for that file.

@@ -25,7 +25,7 @@ use Rattle.lnt_verdicts.specs.Stretches.{AreStretchesBegun}
 use Rattle.lnt_verdicts.specs.Verdicts.{checked_line, checked_status}
 use Rattle.lnt_cli.specs.Answered.{AnswersCheck, AreTextsOf, IsChecked, IsOfFile, options_in}
 use Rattle.lnt_cli.specs.Stopped.{ArePlacesBegun, BeginsGood, BeginsJudged, BeginsQuestion}
-use Rattle.lnt_cli.proofs.QuestionLemmas.{told_of_file}
+use Rattle.lnt_cli.proofs.QuestionLemmas.{told_of_file, told_of_section}
 
 -- a front of the line of a check's result, which is the answer once its line is printed
 check_begun : (tells : List ℕ → Option (List ℕ) → Type 0) (from : Judging) (table : List ℕ) (checked : Checked) (old new : Option (List ℕ))
@@ -62,25 +62,21 @@ file_stopped Gained worked (Ok value) is gained = tt
 file_stopped Gained (Ok value) (Err stop) is gained = absurd (false≢true is)
 file_stopped Gained (Err halt) (Err stop) is gained = gained
 
--- ---- questions
+-- ---- sections that are judged
 
--- The writer has gained nothing; or a judgement is true, and the writer has gained a front of its answer to the question.
-abbrev pub Begins : (List ℕ → Option (List ℕ) → Type 0) → Options → Question → (JudgedIndex → Type 0) → Option (List ℕ) → Option (List ℕ)
-    → Type 0
-Begins tells options question IsSo old new =
-    Keeps old new ⊎ ((judged : JudgedIndex) × IsSo judged × BeginsJudged tells options question judged old new)
+-- The writer has gained nothing; or a judgement is true, and a part of its answer was written.
+abbrev pub BeginsOf : (JudgedIndex → Type 0) → (JudgedIndex → Type 0) → Option (List ℕ) → Option (List ℕ) → Type 0
+BeginsOf IsSo HasBegunOf old new = Keeps old new ⊎ ((judged : JudgedIndex) × IsSo judged × HasBegunOf judged)
 
 -- a front of the line of a section that isn't good
-line_begun : (tells : List ℕ → Option (List ℕ) → Type 0) (options : Options) (question : Question) (IsSo : JudgedIndex → Type 0)
-    (old new : Option (List ℕ)) → Keeps old new ⊎ HasBegunLine IsSo old new → Begins tells options question IsSo old new
-line_begun tells options question IsSo old new (inl kept) = inl kept
-line_begun tells options question IsSo old new (inr line) = inr (Bad line.reason, line.is_so, line.front)
+pub begins_bad : {T E : Type 0} (IsSo HasBegunOf : JudgedIndex → Type 0) (old new : Option (List ℕ)) (ended : Result T E)
+    → ((reason : No) → AppendsFront old new (no_text reason ++ codes "\n") → HasBegunOf (Bad reason))
+    → Keeps old new ⊎ HasBegunLine IsSo old new → OnErr ended (BeginsOf IsSo HasBegunOf old new)
+begins_bad IsSo HasBegunOf old new (Ok answered) of_bad begun = tt
+begins_bad IsSo HasBegunOf old new (Err stop) of_bad (inl kept) = inl kept
+begins_bad IsSo HasBegunOf old new (Err stop) of_bad (inr line) = inr (Bad line.reason, line.is_so, of_bad line.reason line.front)
 
-pub begins_line : {T E : Type 0} (tells : List ℕ → Option (List ℕ) → Type 0) (options : Options) (question : Question)
-    (IsSo : JudgedIndex → Type 0) (old new : Option (List ℕ)) (ended : Result T E) → Keeps old new ⊎ HasBegunLine IsSo old new
-    → OnErr ended (Begins tells options question IsSo old new)
-begins_line tells options question IsSo old new (Ok answered) begun = tt
-begins_line tells options question IsSo old new (Err stop) begun = line_begun tells options question IsSo old new begun
+-- ---- questions
 
 -- a front of an answer stays true where more may be told of the files
 good_begun_later : (tells tells' : List ℕ → Option (List ℕ) → Type 0) (options : Options) (question : Question) (index : Indexed)
@@ -111,36 +107,17 @@ judged_begun_later tells tells' options question (Bad reason) old new later begu
 pub question_stopped : {T E : Type 0} (tells tells' : List ℕ → Option (List ℕ) → Type 0) (from : Judging) (question : Question)
     (old new : Option (List ℕ)) (line general : List ℕ) (section : Option (List ℕ)) (ended : Result T E)
     → AreTextsOf tells from line general → tells from.section.now section → TellsNoMore tells tells'
-    → OnErr ended (Begins tells' (options_in from) question
-    (λ judged. IfSome section (λ bytes. IsJudgedIndex line general (options_in from) bytes judged)) old new)
+    → OnErr ended (BeginsOf (λ judged. IfSome section (λ bytes. IsJudgedIndex line general (options_in from) bytes judged))
+    (λ judged. BeginsJudged tells' (options_in from) question judged old new) old new)
     → OnErr ended (Keeps old new ⊎ BeginsQuestion tells from question old new)
 question_stopped tells tells' from question old new line general section (Ok answered) texts of_section later begun = tt
 question_stopped tells tells' from question old new line general section (Err stop) texts of_section later (inl kept) = inl kept
 question_stopped tells tells' from question old new line general section (Err stop) texts of_section later (inr begun) =
-    inr (record {
-      line = line;
-      general = general;
-      texts = texts;
-      section_bytes = section;
-      of_section = of_section;
-      judged = begun.0;
-      is_true = begun.1;
-      begun = judged_begun_later tells tells' (options_in from) question begun.0 old new later begun.2;
-    })
+    inr (told_of_section tells from (λ judged. BeginsJudged tells (options_in from) question judged old new) line general section texts
+    of_section
+    (begun.0, begun.1, judged_begun_later tells tells' (options_in from) question begun.0 old new later begun.2))
 
 -- ---- a section and another file
-
--- The writer has gained nothing; or a judgement is true, and a part of its answer was written.
-abbrev pub BeginsOf : (JudgedIndex → Type 0) → (JudgedIndex → Type 0) → Option (List ℕ) → Option (List ℕ) → Type 0
-BeginsOf IsSo HasBegunOf old new = Keeps old new ⊎ ((judged : JudgedIndex) × IsSo judged × HasBegunOf judged)
-
--- a front of the line of a section that isn't good
-pub begins_bad : {T E : Type 0} (IsSo HasBegunOf : JudgedIndex → Type 0) (old new : Option (List ℕ)) (ended : Result T E)
-    → ((reason : No) → AppendsFront old new (no_text reason ++ codes "\n") → HasBegunOf (Bad reason))
-    → Keeps old new ⊎ HasBegunLine IsSo old new → OnErr ended (BeginsOf IsSo HasBegunOf old new)
-begins_bad IsSo HasBegunOf old new (Ok answered) of_bad begun = tt
-begins_bad IsSo HasBegunOf old new (Err stop) of_bad (inl kept) = inl kept
-begins_bad IsSo HasBegunOf old new (Err stop) of_bad (inr line) = inr (Bad line.reason, line.is_so, of_bad line.reason line.front)
 
 -- A part of an answer that was written for the bytes of a file was written for that file.
 pub of_file_stopped : {T E : Type 0} (tells : List ℕ → Option (List ℕ) → Type 0) (from : Judging) (file : List ℕ)

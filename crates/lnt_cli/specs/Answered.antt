@@ -61,9 +61,9 @@ pub record AnswersCheck (tells : List ℕ → Option (List ℕ) → Type 0) (fro
 
 -- ---- sections that are judged
 
--- The judgement of the section in the named file is true, and the writer has gained the answer to the question.
-pub record AnswersQuestion (tells : List ℕ → Option (List ℕ) → Type 0) (from : Judging) (question : Question) (old new : Option (List ℕ))
-    (status : Status) : Type 0 where
+-- The judgement of the section in the named file is true, and what is told of it is so.
+--     IsTold    what is told, of a judgement
+pub record IsOfSection (tells : List ℕ → Option (List ℕ) → Type 0) (from : Judging) (IsTold : JudgedIndex → Type 0) : Type 0 where
   pub line : List ℕ
   pub general : List ℕ
   pub texts : AreTextsOf tells from line general
@@ -71,22 +71,21 @@ pub record AnswersQuestion (tells : List ℕ → Option (List ℕ) → Type 0) (
   pub of_section : tells from.section.now section_bytes
   pub judged : JudgedIndex
   pub is_true : IfSome section_bytes (λ section. IsJudgedIndex line general (options_in from) section judged)
-  pub answered : AnswersJudged tells (options_in from) question judged old new status
+  pub told : IsTold judged
 
--- The judgement of the section in the named file is true, and what is told of it and of the bytes of another file is so.
+-- The writer has gained the answer to the question.
+abbrev pub AnswersQuestion : (List ℕ → Option (List ℕ) → Type 0) → Judging → Question → Option (List ℕ) → Option (List ℕ) → Status
+    → Type 0
+AnswersQuestion tells from question old new status =
+    IsOfSection tells from (λ judged. AnswersJudged tells (options_in from) question judged old new status)
+
+-- The same of what is told of the section and of the bytes of another file.
 --     IsTold    what is told, of a judgement and the other file's bytes
 pub record IsOfFile (tells : List ℕ → Option (List ℕ) → Type 0) (from : Judging) (file : List ℕ)
     (IsTold : JudgedIndex → Option (List ℕ) → Type 0) : Type 0 where
-  pub line : List ℕ
-  pub general : List ℕ
-  pub texts : AreTextsOf tells from line general
-  pub section_bytes : Option (List ℕ)
-  pub of_section : tells from.section.now section_bytes
-  pub judged : JudgedIndex
-  pub is_true : IfSome section_bytes (λ section. IsJudgedIndex line general (options_in from) section judged)
   pub file_bytes : Option (List ℕ)
   pub of_file : tells file file_bytes
-  pub told : IsTold judged file_bytes
+  pub so : IsOfSection tells from (λ judged. IsTold judged file_bytes)
 
 -- The writer has gained the answers to the positions in the lines of the file of this name, or why the section isn't good.
 abbrev pub AnswersAddresses : (List ℕ → Option (List ℕ) → Type 0) → Judging → List ℕ → ℕ → Option (List ℕ) → Option (List ℕ) → Status

@@ -9,7 +9,6 @@ use Rattle.lnt_wire.specs.declared.format.Order.{Order}
 use Rattle.lnt_lines.specs.declared.options.Options.{Options}
 use Rattle.lnt_lines.specs.declared.section.JudgedIndex.{JudgedIndex}
 use Rattle.lnt_lines.specs.declared.section.JudgedIndex.TheVariants.{Good, Bad}
-use Rattle.lnt_lines.specs.Drafts.{IsJudgedIndex}
 use Rattle.lnt_lines.specs.Indexed.{Indexed}
 use Rattle.lnt_paths.specs.declared.version.PathVersion.{PathVersion}
 use Rattle.lnt_paths.specs.declared.version.PathVersion.TheVariants.{Three, Four}
@@ -28,7 +27,7 @@ use Rattle.lnt_answers.specs.SumLines.{AreSumsTold, listed_files}
 use Rattle.lnt_lines.specs.FaultTexts.{no_text}
 use Rattle.lnt_verdicts.specs.PathTables.{BeginsPrintedTable}
 use Rattle.lnt_verdicts.specs.Stretches.{AreStretchesBegun}
-use Rattle.lnt_cli.specs.Answered.{AnswersCheck, AreTextsOf, IsOfFile, options_in}
+use Rattle.lnt_cli.specs.Answered.{AnswersCheck, IsOfFile, IsOfSection, options_in}
 use Rattle.lnt_cli.specs.Questions.{ForUnitsOf}
 use Rattle.lnt_cli.specs.Readings.{BeginsReading}
 
@@ -59,16 +58,8 @@ BeginsJudged tells options question (Good index) old new = BeginsGood tells opti
 BeginsJudged tells options question (Bad reason) old new = AppendsFront old new (no_text reason ++ codes "\n")
 
 -- The judgement of the section in the named file is true, and the writer has gained a front of the answer to the question.
-pub record BeginsQuestion (tells : List ℕ → Option (List ℕ) → Type 0) (from : Judging) (question : Question) (old new : Option (List ℕ))
-    : Type 0 where
-  pub line : List ℕ
-  pub general : List ℕ
-  pub texts : AreTextsOf tells from line general
-  pub section_bytes : Option (List ℕ)
-  pub of_section : tells from.section.now section_bytes
-  pub judged : JudgedIndex
-  pub is_true : IfSome section_bytes (λ section. IsJudgedIndex line general (options_in from) section judged)
-  pub begun : BeginsJudged tells (options_in from) question judged old new
+abbrev pub BeginsQuestion : (List ℕ → Option (List ℕ) → Type 0) → Judging → Question → Option (List ℕ) → Option (List ℕ) → Type 0
+BeginsQuestion tells from question old new = IsOfSection tells from (λ judged. BeginsJudged tells (options_in from) question judged old new)
 
 -- A front of the answers to all lines of a text of positions, for a section with this judgement.
 abbrev pub BeginsAddressesJudged : JudgedIndex → ℕ → Option (List ℕ) → Option (List ℕ) → Option (List ℕ) → Type 0

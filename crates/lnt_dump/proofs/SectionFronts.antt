@@ -86,7 +86,8 @@ has_rest order section format to at bytes p c =
     let IsPut : List UnitParts → List ℕ → Type 0 = λ (us : List UnitParts) (z : List ℕ). Each (IsShortest (UnitBytesIn to)) us z in
     let found = units_begin order 0 p.units whole.units p.front at.rest section p.sound whole.sound p.whole in
     let units = p.units ++ found.0 in
-    let sound : SectionBytes order units section = subst (λ (us : List (ℕ × UnitParts)). SectionBytes order us section) found.1 whole.sound in
+    let sound : SectionBytes order units section = subst (λ (us : List (ℕ × UnitParts)). SectionBytes order us section) found.1 whole.sound
+    in
     let first = units_in_format p.units format to in
     let second = units_in_format found.0 format to in
     let parts : units_in_format units format to ≡ first ++ second =

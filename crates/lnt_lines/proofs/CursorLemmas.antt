@@ -116,7 +116,8 @@ begun_fewer programs all entries entry (Some walk) is left = rw is (omega (arith
 
 -- ---- all of them
 
-entries_found : (dead : Option ℕ) (skip : Bool) (units : List (ℕ × UnitParts)) (index : Indexed) (entries : List Extent) (in_turn : List Placed)
+entries_found : (dead : Option ℕ) (skip : Bool) (units : List (ℕ × UnitParts)) (index : Indexed) (entries : List Extent)
+    (in_turn : List Placed)
     → IsIndexOf dead skip units index
     → AllZip (IsExtentOf (kept_sequences dead skip units)) entries in_turn → AllZip (IsEntry index.units index.programs) entries in_turn
 entries_found dead skip units index [] [] is each = tt

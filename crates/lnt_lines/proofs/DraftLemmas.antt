@@ -57,7 +57,8 @@ added text general dead buffer old new offset kept judged at offsets programs = 
         ∙ sym (offsets_push units (buffer.offset, judged.unit));
     programs = subst (AllZip (λ (unit : ℕ × UnitParts) (k : KeptProgram). KeepsProgram k unit.1)
         (units ++ (buffer.offset, judged.unit) ∷ [])) (sym programs)
-        (zip_push (λ (unit : ℕ × UnitParts) (k : KeptProgram). KeepsProgram k unit.1) units old.programs.items (buffer.offset, judged.unit) kept
+        (zip_push (λ (unit : ℕ × UnitParts) (k : KeptProgram). KeepsProgram k unit.1) units old.programs.items (buffer.offset, judged.unit)
+        kept
         draft.programs judged.keeps);
   };
 }
@@ -105,7 +106,8 @@ all_ordered text general dead (unit ∷ units) all =
 
 -- ---- the index
 
-usable_tables : (text general : List ℕ) (dead : Option ℕ) (units : List (ℕ × UnitParts)) → AllByRecursion (IsSoundUnit text general dead) units
+usable_tables : (text general : List ℕ) (dead : Option ℕ) (units : List (ℕ × UnitParts))
+    → AllByRecursion (IsSoundUnit text general dead) units
     → AllByRecursion (λ (unit : ℕ × UnitParts). AreUsableTables text general unit.1.header) units
 usable_tables text general dead [] all = tt
 usable_tables text general dead (unit ∷ units) all = (all.0.well_formed.tables, usable_tables text general dead units all.1)
@@ -118,7 +120,8 @@ named_files text general dead [] all = tt
 named_files text general dead (unit ∷ units) all = (all.0.files, named_files text general dead units all.1)
 
 -- the kept headers are those of the units
-pub kept_numbers : (units : List (ℕ × UnitParts)) (programs : List KeptProgram) → AllZip (λ unit kept. KeepsProgram kept unit.1) units programs
+pub kept_numbers : (units : List (ℕ × UnitParts)) (programs : List KeptProgram)
+    → AllZip (λ unit kept. KeepsProgram kept unit.1) units programs
     → AllByRecursion (λ (unit : ℕ × UnitParts). HasHeaderNumbers unit.1.header) units
     → AllByRecursion (λ (kept : KeptProgram). HasHeaderNumbers kept.header) programs
 kept_numbers [] [] keeps all = tt

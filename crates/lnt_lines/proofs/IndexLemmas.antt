@@ -45,7 +45,8 @@ sequence_in dead skip units index id placed is contained same =
     let one = live_placed dead units placed (kept_live skip (live_sequences dead units) placed contained) in
     let at = offset_at units one.place one.unit one.within in
     let offset : get_or index.units one.place 0 ≡ id.unit =
-    ap (λ (list : List ℕ). get_or list one.place 0) is.offsets ∙ at.0 ∙ ap (λ (u : ℕ × UnitParts). u.0) (one.unit_at one.unit) ∙ sym one.unit_is
+    ap (λ (list : List ℕ). get_or list one.place 0) is.offsets ∙ at.0 ∙ ap (λ (u : ℕ × UnitParts). u.0) (one.unit_at one.unit)
+    ∙ sym one.unit_is
     ∙ ap (λ (i : SeqId). i.unit) same in
     let kept : (d : KeptProgram) → KeepsProgram (get_or index.programs one.place d) one.unit.1 × (one.place < length index.programs) =
     λ d. let z = zip_at (λ (u : ℕ × UnitParts) (k : KeptProgram). KeepsProgram k u.1) units index.programs one.place one.unit d is.programs
@@ -94,7 +95,8 @@ same_place units unit place found p q = same_Some place found (p ∙ sym q)
 pub rows_come : (kept : KeptProgram) (unit : UnitParts) (index : ℕ) (rows : List Row) (found : Option SequenceWalk) → KeepsProgram kept unit
     → index < length (sequences unit)
     → ((d : Sequence) → rows ≡ (get_or (sequences unit) index d).rows) → IfNone found (length kept.places ≤ index)
-    → IfSome found (λ walk. (unit : UnitParts) (d : Sequence) → KeepsProgram kept unit → WillGive (get_or (sequences unit) index d).rows walk)
+    → IfSome found (λ walk. (unit : UnitParts) (d : Sequence) → KeepsProgram kept unit → WillGive (get_or (sequences unit) index d).rows
+    walk)
     → IsSomeAnd found (WillGive rows)
 rows_come kept unit index rows None keeps few are none some = absurd (omega (arith, none, keeps.count, few))
 rows_come kept unit index rows (Some walk) keeps few are none some =
@@ -165,4 +167,5 @@ pub same_number : (line general : List ℕ) (units : List (ℕ × UnitParts)) (f
     → AllZip (λ (unit : ℕ × UnitParts) (some : List KeptFile). AreFilesOf line general unit.1.header some) units files
     → length (map (λ (u : ℕ × UnitParts). u.0) units) ≡ length files
 same_number line general units files all = zip_length
-    (λ (unit : ℕ × UnitParts) (some : List KeptFile). AreFilesOf line general unit.1.header some) (λ (u : ℕ × UnitParts). u.0) units files all
+    (λ (unit : ℕ × UnitParts) (some : List KeptFile). AreFilesOf line general unit.1.header some) (λ (u : ℕ × UnitParts). u.0) units files
+    all

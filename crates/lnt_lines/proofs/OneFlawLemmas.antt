@@ -168,7 +168,8 @@ flaw_kind text general dead unit (no.FileNumber offset row file) f =
 flaw_kind text general dead unit (no.Falls offset row) f = of_fall row (ap (λ (o : ℕ). no.Falls o row) f.0) f.1 f.2 f.3
 flaw_kind text general dead unit (no.Overlap first second position) f = absurd f
 
-one_kind : MissingFileIsNotThere → (text general : List ℕ) (dead : Option ℕ) (unit : ℕ × UnitParts) (r s : No) → Flaw text general dead unit r
+one_kind : MissingFileIsNotThere → (text general : List ℕ) (dead : Option ℕ) (unit : ℕ × UnitParts) (r s : No)
+    → Flaw text general dead unit r
     → Flaw text general dead unit s → r ≡ s
 one_kind law text general dead unit r s (of_run f e some is) (of_run g e' some' is') =
     e ∙ ap (no.Run unit.0) (one_run unit.1 f g some some' is is') ∙ sym e'

@@ -34,7 +34,8 @@ record SameHead (u v : ℕ × UnitParts) (x y r s : List ℕ) : Type 0 where
   past : r ≡ s
 
 -- the rests are compared with what follows them
-same_head : (order : Order) (offset : ℕ) (u v : ℕ × UnitParts) (x y x' y' r s : List ℕ) → u.0 ≡ offset → v.0 ≡ offset → UnitBytesIn order u.1 x
+same_head : (order : Order) (offset : ℕ) (u v : ℕ × UnitParts) (x y x' y' r s : List ℕ) → u.0 ≡ offset → v.0 ≡ offset
+    → UnitBytesIn order u.1 x
     → UnitBytesIn order v.1 y → (x ++ x') ++ r ≡ (y ++ y') ++ s
     → SameHead u v x y (x' ++ r) (y' ++ s)
 same_head order offset u v x y x' y' r s at at' p q e =

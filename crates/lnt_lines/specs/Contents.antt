@@ -54,7 +54,8 @@ sum_in contents unit file = option_and_then (λ files. kept_sum files file) (fil
 
 -- The contents are those of the units: the spans of their kept sequences, each once and in order, which answer at each position as
 -- the rows do; the units' offsets; and their files.
-pub record TellsOf (line general : List ℕ) (dead : Option ℕ) (skip : Bool) (units : List (ℕ × UnitParts)) (contents : Contents) : Type 0 where
+pub record TellsOf (line general : List ℕ) (dead : Option ℕ) (skip : Bool) (units : List (ℕ × UnitParts)) (contents : Contents)
+    : Type 0 where
   pub spans_are : IsPermutation (spans_of (kept_sequences dead skip units)) contents.spans
   pub in_order : AreInOrder contents.spans
   pub answers : (p : Position) → span_answer contents.spans p ≡ line_answer dead skip units p

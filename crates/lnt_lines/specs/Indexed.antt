@@ -51,6 +51,12 @@ pub record IsIndex (index : Indexed) : Type 0 where
   pub files : AllByRecursion (λ unit. HaveFiles (length unit.1.header.files) (live_in dead unit)) units
   pub numbers : AllByRecursion (λ kept. HasHeaderNumbers kept.header) index.programs
 
+-- ---- the headers of units
+
+-- the header says that no instruction has more than one operation (DWARF 5, section 6.2.4)
+abbrev pub HasOneOperation : KeptProgram → Type 0
+HasOneOperation kept = kept.header.max_ops ≡ 1
+
 -- ---- the files of units
 
 -- the header of the unit at an offset, if one stands there

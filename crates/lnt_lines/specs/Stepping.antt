@@ -5,7 +5,7 @@ use Rattle.lnt_header.specs.HeaderRules.{HasHeaderNumbers}
 use Rattle.lnt_stream.specs.Units.{BufferedUnit}
 use Rattle.lnt_header.specs.declared.unit_parts.UnitParts.{UnitParts}
 use Rattle.lnt_unit.specs.UnitBytes.{SectionBytes, UnitBytesIn}
-use Rattle.lnt_machine.specs.Walking.{KeepsProgram, KeptProgram}
+use Rattle.lnt_machine.specs.Walking.{KeepsProgram}
 use Rattle.lnt_sequences.specs.Rules.{AreDistinct}
 use Rattle.lnt_sequences.specs.Sequences.{live_sequences}
 use Rattle.lnt_sequences.specs.Watching.{Collects}
@@ -63,9 +63,3 @@ IsRefusal line general options section (refusal.Stop stop) = Unit {0}
 abbrev pub GivesHere : Cursor → List Span → Option Span → Type 0
 GivesHere new spans None = ComeLater spans new
 GivesHere new spans (Some given) = GivesFirstSpan (AreToCome new) spans (Some given)
-
--- ---- instructions of one operation
-
--- no instruction of the program has more than one operation
-abbrev pub HasOneOperation : KeptProgram → Type 0
-HasOneOperation kept = kept.header.max_ops ≡ 1

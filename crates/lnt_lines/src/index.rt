@@ -1,5 +1,5 @@
 //! What a good section answers, with its rows decoded again where they are asked for.
-ghost use Rattle.std.specs.Prelude.{◌≡◌, ◌+◌, ◌-◌, ◌^◌, ◌<◌, ◌≤◌, Bool, ℕ, List, length, Option, IfNone, IfOk, IfSome};
+ghost use Rattle.std.specs.Prelude.{◌≡◌, ◌↔◌, ◌+◌, ◌-◌, ◌^◌, ◌<◌, ◌≤◌, Bool, ℕ, List, length, Option, IfNone, IfOk, IfSome};
 ghost use Rattle.std.specs.Prelude.{IsSome, IsSomeAnd, IsTrue};
 ghost use Rattle.std.specs.List.{All, AllByRecursion, AllZip};
 ghost use Rattle.std.specs.List.Sorted.{IsPermutation};
@@ -15,9 +15,8 @@ ghost use Rattle.lnt_sequences.specs.Spanning.{rows_left};
 ghost use Rattle.lnt_spans.specs.declared.span.Span.{Span};
 ghost use Rattle.lnt_lines.specs.Contents.{AreRising, TellsOf};
 ghost use Rattle.lnt_lines.specs.Cursors.{GivesAllOf, room_of};
-ghost use Rattle.lnt_lines.specs.Indexed.{IsIndex, IsIndexOf, IsSequenceIn, file_count_in, file_path_in, file_sum_in, header_in};
+ghost use Rattle.lnt_lines.specs.Indexed.{HasOneOperation, IsIndex, IsIndexOf, IsSequenceIn, file_count_in, file_path_in, file_sum_in, header_in};
 ghost use Rattle.lnt_spans.specs.Instructions.{IsOfInstructions};
-ghost use Rattle.lnt_lines.specs.Stepping.{HasOneOperation};
 
 use crate::lines::place_of;
 use crate::spans::Spans;
@@ -137,10 +136,12 @@ impl<'a> Index<'a> {
         Spans::of(&self.units, &self.programs, &self.entries)
     }
 
-    /// Whether no instruction of the units has more than one operation, as their headers say (DWARF 5, section 6.2.4). Then
-    /// each span begins and ends at operation index 0, which is told without a walk over the rows.
+    /// Whether no instruction of the units has more than one operation, as `maximum_operations_per_instruction` says in the
+    /// header of each (DWARF 5, section 6.2.4). Then each span begins and ends at operation index 0, which is told without a
+    /// walk over the rows.
     pub fn has_single_operations(&self) -> bool
-        ensures { IsTrue result → (dead : Option ℕ) (skip : Bool) (units : List (ℕ × UnitParts)) (spans : List Span)
+        ensures single { IsTrue result ↔ All HasOneOperation self.now.programs }
+        ensures spans { IsTrue result → (dead : Option ℕ) (skip : Bool) (units : List (ℕ × UnitParts)) (spans : List Span)
             → IsIndexOf dead skip units self.now → IsPermutation (spans_of (kept_sequences dead skip units)) spans
             → AllByRecursion IsOfInstructions spans }
     {
@@ -236,7 +237,7 @@ fn offsets_fit(units: &[u64])
 
 // Whether no instruction of the programs has more than one operation.
 fn are_single(programs: &[Program]) -> bool
-    ensures { IsTrue result → All HasOneOperation programs.now }
+    ensures { IsTrue result ↔ All HasOneOperation programs.now }
 {
     for program in programs {
         if program.kept_header().numbers().max_ops() != 1 {

@@ -184,7 +184,8 @@ place_by_numbers h program earlier later place is =
     }
 
 -- the rows of the sequence with an index, where a walk by the header's numbers gives those from its place on
-pub sequence_by_numbers : (kept : KeptProgram) (numbers : HeaderParts) (unit : UnitParts) (index place : ℕ) (d : Sequence) (walk : SequenceWalk)
+pub sequence_by_numbers : (kept : KeptProgram) (numbers : HeaderParts) (unit : UnitParts) (index place : ℕ) (d : Sequence)
+    (walk : SequenceWalk)
     → numbers ≡ without_entries kept.header → KeepsProgram kept unit
     → index < length kept.places → slice_index_or kept.places index 0 ≡ place
     → ((earlier later : List Op) → IsSequencePlace numbers kept.program earlier later place

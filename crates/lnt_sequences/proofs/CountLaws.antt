@@ -87,7 +87,8 @@ unit_within dead unit =
       joined_within (rows unit.1),
     )
 
-live_within : (dead : Option ℕ) (units : List (ℕ × UnitParts)) → length (spans_of (live_sequences dead units)) ≤ length (rows_of_units units)
+live_within : (dead : Option ℕ) (units : List (ℕ × UnitParts))
+    → length (spans_of (live_sequences dead units)) ≤ length (rows_of_units units)
 live_within dead [] = omega arith
 live_within dead (unit ∷ units) =
     let both =

@@ -97,7 +97,8 @@ ran_row unit items k old new ended ended' left left' view op made row ran same m
     (subst (RunsOn view old new) is on) cuts (λ was. sym some)
 
 -- an operation that leads out of the range of lines
-pub ran_out : (unit : UnitParts) (items : List Op) (k : ℕ) (run : RunState) (ended : List Sequence) (left : List Row) (view : OpView) (op : Op)
+pub ran_out : (unit : UnitParts) (items : List Op) (k : ℕ) (run : RunState) (ended : List Sequence) (left : List Row) (view : OpView)
+    (op : Op)
     (fault : RunFault)
     → RanSoFar unit k run ended left → items ≡ unit.ops → k < length items → op ≡ get_or items k op → StandsFor view op
     → LeavesRange view run.machine

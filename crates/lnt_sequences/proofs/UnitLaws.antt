@@ -155,7 +155,8 @@ offsets_from order offset [] bytes h = All-nil (λ (unit : ℕ × UnitParts). of
 offsets_from order offset (unit ∷ units) bytes h =
     let at = h.2 in
     All-cons (λ (unit : ℕ × UnitParts). offset ≤ unit.0) unit units (omega arith)
-    (All-weaker (λ (unit : ℕ × UnitParts). offset + length h.0 ≤ unit.0) (λ (unit : ℕ × UnitParts). offset ≤ unit.0) (λ other le. omega arith) units
+    (All-weaker (λ (unit : ℕ × UnitParts). offset + length h.0 ≤ unit.0) (λ (unit : ℕ × UnitParts). offset ≤ unit.0)
+    (λ other le. omega arith) units
     (offsets_from order (offset + length h.0) units h.1 h.5))
 
 some_bytes : (order : Order) (unit : UnitParts) (bytes : List ℕ) → UnitBytesIn order unit bytes → 0 < length bytes
@@ -194,7 +195,8 @@ offsets_rise order offset (unit ∷ units) bytes h =
     let at = h.2 in
     let some = some_bytes order unit.1 h.0 h.3 in
     pairs_cons (λ (one : ℕ × UnitParts) (other : ℕ × UnitParts). one.0 < other.0) unit units
-    (All-weaker (λ (other : ℕ × UnitParts). offset + length h.0 ≤ other.0) (λ (other : ℕ × UnitParts). unit.0 < other.0) (λ other le. omega arith)
+    (All-weaker (λ (other : ℕ × UnitParts). offset + length h.0 ≤ other.0) (λ (other : ℕ × UnitParts). unit.0 < other.0)
+    (λ other le. omega arith)
     units
     (offsets_from order (offset + length h.0) units h.1 h.5))
     (offsets_rise order (offset + length h.0) units h.1 h.5)

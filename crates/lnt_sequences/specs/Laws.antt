@@ -56,7 +56,8 @@ CollectedUnit =
 -- The live sequences of units at different offsets have different ids.
 abbrev pub DistinctSequences : Type 0
 DistinctSequences =
-    (dead : Option ℕ) (units : List (ℕ × UnitParts)) → AllPairs (λ one other. one.0 ≢ other.0) units → AreDistinct (live_sequences dead units)
+    (dead : Option ℕ) (units : List (ℕ × UnitParts)) → AllPairs (λ one other. one.0 ≢ other.0) units
+    → AreDistinct (live_sequences dead units)
 
 -- Where copies aren't skipped, the kept sequences are the live ones. Where they are, the kept ones are live, and of units at
 -- different offsets no two that hold a position begin and end at the same ones.

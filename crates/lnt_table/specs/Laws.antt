@@ -42,7 +42,8 @@ OwnTable = (line general : List ℕ) (options : Options) (section table : List �
 -- The same for a table that was written of its index.
 abbrev pub OwnTableOfUnits : Type 0
 OwnTableOfUnits =
-    (line general : List ℕ) (options : Options) (section table : List ℕ) (units : List (ℕ × UnitParts)) (version : Version) (verdict : Verdict)
+    (line general : List ℕ) (options : Options) (section table : List ℕ) (units : List (ℕ × UnitParts)) (version : Version)
+    (verdict : Verdict)
     → IsGood line general options section units → IsTableOfUnits version options.dead options.skip_copies units table
     → IsTrueVerdict line general options section table verdict → verdict ≡ Yes
 

@@ -26,7 +26,8 @@ verdict_of (Fault told) = No (no_of_fault told)
 verdict_of (Differs difference) = No (no.Differs difference.position difference.by_table difference.by_section)
 
 -- `compared` is true of the table and of some spans that answer as the units' rows do.
-pub record IsComparedWith (dead : Option ℕ) (skip : Bool) (units : List (ℕ × UnitParts)) (table : List ℕ) (compared : Compared) : Type 0 where
+pub record IsComparedWith (dead : Option ℕ) (skip : Bool) (units : List (ℕ × UnitParts)) (table : List ℕ) (compared : Compared)
+    : Type 0 where
   pub spans : List Span
   pub answers : (p : Position) → span_answer spans p ≡ line_answer dead skip units p
   pub comparison : IsComparison table spans compared

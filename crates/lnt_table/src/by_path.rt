@@ -87,7 +87,8 @@ pub fn check_any<R: Source, T: Source>(
 // Compares the table with the spans of the index: by number or by path, as its header says.
 fn check_index<T: Source>(alloc: Global, table: &mut T, index: &Index<'_>) -> Result<Checked, Stop>
     requires { T.failures table.old < 2 ^ 64 - 1 }
-    ensures ok { IfOk result (λ checked. (dead : Option ℕ) (skip : Bool) (units : List (ℕ × UnitParts)) → IsIndexOf dead skip units index.now
+    ensures ok { IfOk result (λ checked. (dead : Option ℕ) (skip : Bool) (units : List (ℕ × UnitParts))
+        → IsIndexOf dead skip units index.now
         → IfSome (T.remaining table.old) (λ text. IsCheckedWith index.now dead skip units text checked)) }
     ensures good { IfOk result (λ checked. IsOfGood checked) }
     ensures read { IsErrOf result Stop.Read → T.failures table.new ≡ T.failures table.old + 1 }

@@ -85,7 +85,8 @@ fn compare_index<T: Source>(
     index: &Index<'_>,
 ) -> Result<Compared, Stop>
     requires { T.failures table.old < 2 ^ 64 - 1 }
-    ensures ok { IfOk result (λ compared. (dead : Option ℕ) (skip : Bool) (units : List (ℕ × UnitParts)) → IsIndexOf dead skip units index.now
+    ensures ok { IfOk result (λ compared. (dead : Option ℕ) (skip : Bool) (units : List (ℕ × UnitParts))
+        → IsIndexOf dead skip units index.now
         → IfSome (T.remaining table.old) (λ text. IsComparedWith dead skip units text compared)) }
     ensures read { IsErrOf result Stop.Read → T.failures table.new ≡ T.failures table.old + 1 }
     ensures no_failure { result ≢ Err Stop.Read → T.failures table.new ≡ T.failures table.old }

@@ -56,7 +56,8 @@ pub fn write_paths<W: Write>(
     version: PathVersion,
     out: &mut W,
 ) -> Result<PathTable, WriteStop>
-    ensures table { IfOk result (λ table. (dead : Option ℕ) (skip : Bool) (units : List (ℕ × UnitParts)) → IsIndexOf dead skip units index.now
+    ensures table { IfOk result (λ table. (dead : Option ℕ) (skip : Bool) (units : List (ℕ × UnitParts))
+        → IsIndexOf dead skip units index.now
         → HasBecome version (told_path version index.now dead skip units) (W.contents out.old) (W.contents out.new) table) }
     ensures begun { OnErr result ((dead : Option ℕ) (skip : Bool) (units : List (ℕ × UnitParts)) → IsIndexOf dead skip units index.now
         → BeginsPaths version (told_path version index.now dead skip units) (W.contents out.old) (W.contents out.new)) }

@@ -35,7 +35,8 @@ one_more_unit order bytes units unit old new so_far r here = record {
 }
 
 -- a unit has bytes
-pub unit_long : (order : Order) (unit : UnitParts) (old new : At) → Reads (UnitBytesIn order) unit old new → length new.rest < length old.rest
+pub unit_long : (order : Order) (unit : UnitParts) (old new : At) → Reads (UnitBytesIn order) unit old new
+    → length new.rest < length old.rest
 unit_long order unit old new r =
     omega (arith, ap length r.whole, length-append r.spelling new.rest, unit_is_some order unit r.spelling r.spelled)
 
@@ -57,7 +58,8 @@ all_units order bytes units cursor so_far nothing =
     (sym (so_far.whole ∙ ap (λ (z : List ℕ). so_far.front ++ z) nothing ∙ append-nil so_far.front)) so_far.joined
 
 -- no unit begins what is left
-true_fault : (order : Order) (bytes : List ℕ) (units : List (ℕ × UnitParts)) (fault : Fault) (cursor : At) → UnitsSoFar order bytes units cursor
+true_fault : (order : Order) (bytes : List ℕ) (units : List (ℕ × UnitParts)) (fault : Fault) (cursor : At)
+    → UnitsSoFar order bytes units cursor
     → 0 < length cursor.rest
     → BrokenUnit order fault cursor.place cursor.rest → IsTrueFault order fault bytes
 true_fault order bytes units fault cursor so_far some b = record {

@@ -47,7 +47,8 @@ pub record Program (unit : UnitParts) (header : HeaderParts) (program : List ℕ
   pub header_is : header ≡ unit.header
   pub put : IsShortest (Each (OpBytes unit.header)) unit.ops program
 
-pub program_put : (unit : UnitParts) (header : HeaderParts) (ops : List Op) (old new program : List ℕ) → header ≡ unit.header → ops ≡ unit.ops
+pub program_put : (unit : UnitParts) (header : HeaderParts) (ops : List Op) (old new program : List ℕ) → header ≡ unit.header
+    → ops ≡ unit.ops
     → old ≡ [] → Appends (Each (OpBytes header)) ops old new → program ≡ new → Program unit header program
 program_put unit header ops old new program same all none p is = record {
   header_is = same;

@@ -42,7 +42,8 @@ still_first format to units unit offset f = record {
   none = f.none;
 }
 
-next_judged : (format : Format) (to : Order) (units : List (ℕ × UnitParts)) (offset : ℕ) (unit : UnitParts) (large : Option ℕ) (converts : Bool)
+next_judged : (format : Format) (to : Order) (units : List (ℕ × UnitParts)) (offset : ℕ) (unit : UnitParts) (large : Option ℕ)
+    (converts : Bool)
     → IsConversionJudged format to units large → IsSaid converts format to unit
     → IsConversionJudged format to (units ++ (offset, unit) ∷ []) (first_large large converts offset)
 next_judged format to units offset unit (Some first) converts p s = still_first format to units (offset, unit) first p

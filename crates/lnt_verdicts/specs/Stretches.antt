@@ -62,7 +62,8 @@ pub record IsFaultByPath (table : List ℕ) (told : TableFault) : Type 0 where
 
 -- What is told is true of the bytes: the stretches at which the table answers otherwise, or its first fault. Of bytes with the header
 -- of version 1 or 2 it is Faulty or Told, of all others FaultyByPath or ToldByPath.
-abbrev pub AreStretchesOf : Indexed → Option ℕ → Bool → List (ℕ × UnitParts) → List ℕ → Option (List ℕ) → Option (List ℕ) → Stretches → Type 0
+abbrev pub AreStretchesOf : Indexed → Option ℕ → Bool → List (ℕ × UnitParts) → List ℕ → Option (List ℕ) → Option (List ℕ) → Stretches
+    → Type 0
 AreStretchesOf index dead skip units table old new (Faulty told) = IsFault table told × (told ≢ fault.Header)
 AreStretchesOf index dead skip units table old new (Told status) = AreToldOf dead skip units table old new status
 AreStretchesOf index dead skip units table old new (FaultyByPath told) = IsFaultByPath table told

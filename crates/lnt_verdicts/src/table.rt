@@ -57,7 +57,8 @@ pub fn print_path_table<W: Write>(
     out: &mut W,
 ) -> Result<Status, Halt>
     ensures err { IfErr result IsPrinting }
-    ensures table { IfOk result (λ status. (dead : Option ℕ) (skip : Bool) (units : List (ℕ × UnitParts)) → IsIndexOf dead skip units index.now
+    ensures table { IfOk result (λ status. (dead : Option ℕ) (skip : Bool) (units : List (ℕ × UnitParts))
+        → IsIndexOf dead skip units index.now
         → IsPrintedTable version (told_path version index.now dead skip units) (W.contents out.old) (W.contents out.new) status) }
     ensures begun { OnErr result ((dead : Option ℕ) (skip : Bool) (units : List (ℕ × UnitParts)) → IsIndexOf dead skip units index.now
         → BeginsPrintedTable version (told_path version index.now dead skip units) (W.contents out.old) (W.contents out.new)) }

@@ -11,11 +11,9 @@ use Rattle.std.proofs.Math.Seq.{take-append_seam}
 use Rattle.lnt_wire.specs.declared.format.Order.{Order}
 use Rattle.lnt_wire.specs.declared.format.Format.{Format}
 use Rattle.lnt_wire.specs.declared.format.Format.TheVariants.{D32, D64}
-use Rattle.lnt_wire.specs.declared.form.FormValue.{FormValue}
 use Rattle.lnt_wire.specs.declared.put.EncodeFault.{EncodeFault}
 use Rattle.lnt_wire.specs.declared.put.EncodeFault.TheVariants.{Memory, TooLarge}
-use Rattle.lnt_wire.specs.Bytes.{Appends, Extends, TakenBytes}
-use Rattle.lnt_wire.specs.FormBytes.{FormBytes, IsTooLarge}
+use Rattle.lnt_wire.specs.Bytes.{Appends, Extends}
 use Rattle.lnt_wire.specs.Leb128.{IsLeb, signed_groups, UnsignedLeb, SignedLeb}
 use Rattle.lnt_wire.specs.Numbers.{NumberBytes, IsLargeOffset}
 use Rattle.lnt_wire.proofs.LebLemmas.{signed_more, one_low, one_high}
@@ -211,35 +209,7 @@ put_byte order n old new lt joined = record {
   joined = joined;
 }
 
--- ---- values in their forms
-
--- The same bytes spell the value in its form as spell what was put.
-pub put_as_value : {X : Type 0} (Spells : X → List ℕ → Type 0) (x : X) (format : Format) (order : Order) (value is : FormValue)
-    (old new : List ℕ) → value ≡ is → ((bytes : List ℕ) → Spells x bytes → FormBytes format order is bytes)
-    → ((bytes : List ℕ) → FormBytes format order is bytes → Spells x bytes)
-    → Appends Spells x old new → Appends (FormBytes format order) value old new
-put_as_value Spells x format order value is old new same there back put =
-    subst (λ (v : FormValue). Appends (FormBytes format order) v old new) (sym same)
-    (record {
-      spelling = put.spelling;
-      spelled = record {
-        spelled = there put.spelling put.spelled.spelled;
-        shortest = λ other p. put.spelled.shortest other (back other p);
-      };
-      joined = put.joined;
-    })
-
-pub extends_none : (old new : List ℕ) → new ≡ old → Extends old new
-extends_none old new same = record { more = []; joined = same ∙ sym (append-nil old) }
-
--- how a call ended
-pub on_ok : {T E P Q : Type 0} (r : Result T E) → (P → Q) → OnOk r P → OnOk r Q
-on_ok (Ok x) f p = f p
-on_ok (Err e) f p = tt
-
-pub on_err : {T E P Q : Type 0} (r : Result T E) → (P → Q) → OnErr r P → OnErr r Q
-on_err (Ok x) f p = tt
-on_err (Err e) f p = f p
+-- ---- how a call ended
 
 pub after_err : {T E : Type 0} (r : Result T E) (P : Type 0) → P → OnErr r P
 after_err (Ok x) P p = tt
@@ -257,28 +227,6 @@ only_memory (Err e) Large small p = (λ q. absurd (cc), λ q. absurd (small q))
 
 pub all_put : {T : Type 0} (x : T) (Large : Type 0) → (Large → ⊥) → IsErrOf {T = T} {E = EncodeFault} (Ok x) TooLarge ↔ Large
 all_put x Large small = (λ q. absurd (cc), λ q. absurd (small q))
-
--- A value that is no offset isn't too large.
-pub memory_only : {T : Type 0} (r : Result T EncodeFault) (format : Format) (value is : FormValue) → value ≡ is
-    → (IsTooLarge format is → ⊥) → IsErrAnd r (λ fault. fault ≡ Memory) → IsErrOf r TooLarge ↔ IsTooLarge format value
-memory_only r format value is same small p =
-    only_memory r (IsTooLarge format value) (λ q. small (subst (IsTooLarge format) same q)) p
-
-pub put_whole : {T : Type 0} (x : T) (format : Format) (value is : FormValue) → value ≡ is → (IsTooLarge format is → ⊥)
-    → IsErrOf {T = T} {E = EncodeFault} (Ok x) TooLarge ↔ IsTooLarge format value
-put_whole x format value is same small =
-    all_put x (IsTooLarge format value) (λ q. small (subst (IsTooLarge format) same q))
-
-pub put_bytes : (count : ℕ) (taken old new : List ℕ) → length taken ≡ count → new ≡ old ++ taken
-    → Appends (TakenBytes count) taken old new
-put_bytes count taken old new is joined = record {
-  spelling = taken;
-  spelled = record {
-    spelled = record { count_is = is; taken_is = refl };
-    shortest = λ other p. omega (arith, ap length p.taken_is);
-  };
-  joined = joined;
-}
 
 pub not_large_narrow : (format : Format) (n : ℕ) → format ≡ D32 → n < 2 ^ 32 → IsLargeOffset format n → ⊥
 not_large_narrow format n is small large =

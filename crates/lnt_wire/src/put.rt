@@ -4,7 +4,7 @@ ghost use Rattle.std.specs.Prelude.{◌≡◌, ◌<◌, ◌↔◌, Some, pos, le
 ghost use Rattle.std.specs.Int.{int_rem_euclid};
 ghost use Rattle.lnt_wire.specs.Bytes.{Appends, Extends};
 ghost use Rattle.lnt_wire.specs.FaultTexts.{encode_fault_text};
-ghost use Rattle.lnt_wire.specs.FormBytes.{BlockBytes, FormBytes, HasSpelling, IsTooLarge};
+ghost use Rattle.lnt_wire.specs.FormBytes.{BlockBytes, FormBytes, HasNoZero, HasSpelling, IsTooLarge, TextBytes};
 ghost use Rattle.lnt_wire.specs.Leb128.{UnsignedLeb, SignedLeb};
 ghost use Rattle.lnt_wire.specs.Prefixes.{BlockLengthFits, LengthBytes};
 ghost use Rattle.lnt_wire.specs.Numbers.{NumberBytes, OffsetBytes, IsLargeOffset};
@@ -230,23 +230,43 @@ fn add_form(
     ensures extends { OnErr result (Extends out.old.items out.new.items) }
 {
     match value {
-        FormValue::Text(text) => {
-            out.extend_from_slice(text.as_slice())?;
-            Ok(out.push(0)?)
-        }
         FormValue::LineStrp(offset) => put_offset(out, *offset, format, order),
         FormValue::Strp(offset) => put_offset(out, *offset, format, order),
-        FormValue::Udata(n) => Ok(put_uleb(out, *n)?),
-        FormValue::Data1(n) => Ok(out.push(*n)?),
-        FormValue::Data2(n) => Ok(put_u16(out, *n, order)?),
-        FormValue::Data4(n) => Ok(put_u32(out, *n, order)?),
-        FormValue::Data8(n) => Ok(put_u64(out, *n, order)?),
-        FormValue::Data16(bytes) => Ok(out.extend_from_slice(bytes)?),
-        FormValue::Block(block) => Ok(add_block(out, block.as_slice(), Prefix::Leb, order)?),
-        FormValue::Block1(block) => Ok(add_block(out, block.as_slice(), Prefix::One, order)?),
-        FormValue::Block2(block) => Ok(add_block(out, block.as_slice(), Prefix::Two, order)?),
-        FormValue::Block4(block) => Ok(add_block(out, block.as_slice(), Prefix::Four, order)?),
+        _ => Ok(add_wide(out, value, order)?),
     }
+}
+
+// Adds the value in its form, an offset as in the 64-bit format. After a refusal a part of it may be there.
+fn add_wide(out: &mut Vec<u8>, value: &FormValue, order: Order) -> Result<(), AllocError>
+    requires { HasSpelling value.now }
+    ensures ok { OnOk result (Appends (FormBytes Format.D64 order) value.now out.old.items out.new.items) }
+    ensures extends { OnErr result (Extends out.old.items out.new.items) }
+{
+    match value {
+        FormValue::Text(text) => add_text(out, text.as_slice()),
+        FormValue::LineStrp(offset) => put_u64(out, *offset, order),
+        FormValue::Strp(offset) => put_u64(out, *offset, order),
+        FormValue::Udata(n) => put_uleb(out, *n),
+        FormValue::Data1(n) => out.extend_from_slice(&[*n]),
+        FormValue::Data2(n) => put_u16(out, *n, order),
+        FormValue::Data4(n) => put_u32(out, *n, order),
+        FormValue::Data8(n) => put_u64(out, *n, order),
+        FormValue::Data16(bytes) => out.extend_from_slice(bytes),
+        FormValue::Block(block) => add_block(out, block.as_slice(), Prefix::Leb, order),
+        FormValue::Block1(block) => add_block(out, block.as_slice(), Prefix::One, order),
+        FormValue::Block2(block) => add_block(out, block.as_slice(), Prefix::Two, order),
+        FormValue::Block4(block) => add_block(out, block.as_slice(), Prefix::Four, order),
+    }
+}
+
+// Adds the text and a zero byte. After a refusal a part of it may be there.
+fn add_text(out: &mut Vec<u8>, text: &[u8]) -> Result<(), AllocError>
+    requires { HasNoZero text.now }
+    ensures ok { OnOk result (Appends TextBytes text.now out.old.items out.new.items) }
+    ensures extends { OnErr result (Extends out.old.items out.new.items) }
+{
+    out.extend_from_slice(text)?;
+    out.extend_from_slice(&[0])
 }
 
 // Adds the length of a block, spelled as `prefix` says, and its bytes. After a refusal a part of it may be there.

@@ -5,7 +5,8 @@ use Rattle.lnt_files.proofs.components.read_summed_path.Goals as goal
 
 pub returns-clause-ok : goal.returns-clause-ok
 returns-clause-ok c =
-    summed_path_read c.args.format c.args.pairs.now c.in_ok-path.path c.in_ok-directory.directory c.in_ok-sum.sum _ c.args.cursor.now _ _ _ c.requires
+    summed_path_read c.args.format c.args.pairs.now c.in_ok-path.path c.in_ok-directory.directory c.in_ok-sum.sum _ c.args.cursor.now _ _ _
+    c.requires
     refl c.in_ok-path.ensures.ok c.in_ok-directory.ensures.ok c.in_ok-sum.ensures.ok
 
 pub returns-in_err-path-clause-err : goal.returns-in_err-path-clause-err

@@ -1,6 +1,6 @@
 use Rattle.std.specs.Prelude.{take}
 use Rattle.std.specs.List.{All}
-use Rattle.lnt_lines.specs.Stepping.{HasOneOperation}
+use Rattle.lnt_lines.specs.Indexed.{HasOneOperation}
 use Rattle.lnt_lines.proofs.index.are_single.Given as goal
 
 abbrev pub invariant-loop-program : goal.invariant-loop-program

@@ -23,7 +23,7 @@ returns-clause-table g c = IfOk-weaker c.write_by_path.result _ _
 pub returns-then-has_single_operations-clause-table : goal.returns-then-has_single_operations-clause-table
 returns-then-has_single_operations-clause-table g c dead skip units is =
     let all = c.spans.ensures.gives dead skip units is in
-    let single = c.has_single_operations.ensures c.if-has_single_operations.true dead skip units all.spans is all.spans_are in
+    let single = c.has_single_operations.ensures.spans c.if-has_single_operations.true dead skip units all.spans is all.spans_are in
     becomes_so c.args.version (spans_by_path c.args.version (path_at c.args.index.now) all.spans)
     (told_path c.args.version c.args.index.now dead skip units)
     (g.W.Write.contents c.args.out.now) (g.W.Write.contents c.write_instructions_by_path.new.out) Written
@@ -47,7 +47,7 @@ returns-in_err-write_instructions_by_path-clause-begun g c =
     so_stopped c.from_residual.result _
     (λ dead skip units is.
     let all = c.spans.ensures.gives dead skip units is in
-    let single = c.has_single_operations.ensures c.if-has_single_operations.true dead skip units all.spans is all.spans_are in
+    let single = c.has_single_operations.ensures.spans c.if-has_single_operations.true dead skip units all.spans is all.spans_are in
     paths_begun c.args.version (path_at c.args.index.now) all.spans (told_path c.args.version c.args.index.now dead skip units)
     (g.W.Write.contents c.args.out.now) (g.W.Write.contents c.write_instructions_by_path.new.out) all.in_order all.fits
     (λ p. ap (option_map (path_answer c.args.version (path_at c.args.index.now))) (all.answers p))

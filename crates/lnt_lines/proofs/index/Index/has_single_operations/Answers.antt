@@ -1,12 +1,16 @@
-use Rattle.std.proofs.Common.{subst}
+use Rattle.std.proofs.Common.{subst, ◌↔◌, IsTrue}
 use Rattle.std.specs.List.{All}
-use Rattle.lnt_lines.specs.Indexed.{Indexed}
-use Rattle.lnt_lines.specs.Stepping.{HasOneOperation}
+use Rattle.lnt_lines.specs.Indexed.{HasOneOperation, Indexed}
 use Rattle.lnt_lines.proofs.InstructionLemmas.{spans_of_instructions}
 use Rattle.lnt_lines.proofs.index.Index.has_single_operations.Goals as goal
 
-pub returns : goal.returns
-returns c single dead skip units spans is same =
-    let programs = rw c.deref.ensures.value at c.are_single.ensures single in
+pub returns-clause-single : goal.returns-clause-single
+returns-clause-single c =
+    let programs = rw c.deref.ensures.value at c.are_single.ensures in
+    subst (λ (i : Indexed). IsTrue c.are_single.result ↔ All HasOneOperation i.programs) c.self.view_is programs
+
+pub returns-clause-spans : goal.returns-clause-spans
+returns-clause-spans c single dead skip units spans is same =
+    let programs = rw c.deref.ensures.value at c.are_single.ensures.0 single in
     let all = subst (λ (i : Indexed). All HasOneOperation i.programs) c.self.view_is programs in
     spans_of_instructions c.args.self.now dead skip units spans all is same
