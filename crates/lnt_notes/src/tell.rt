@@ -1,7 +1,12 @@
 //! Prints the notes to an answer.
-ghost use Rattle.std.specs.Prelude.{OnOk};
+ghost use Rattle.std.specs.Prelude.{◌≡◌, ◌↔◌, Bool, IsTrue, List, OnOk, Option, [], false, ℕ};
 ghost use Rattle.std.specs.Io.KnownBytes.{Appends};
+ghost use Rattle.lnt_header.specs.declared.unit_parts.UnitParts.{UnitParts};
+ghost use Rattle.lnt_sequences.specs.RowSpans.{spans_of};
+ghost use Rattle.lnt_sequences.specs.Sequences.{kept_sequences};
+ghost use Rattle.lnt_lines.specs.Indexed.{IsIndexOf};
 ghost use Rattle.lnt_text.specs.Notes.{note_line};
+ghost use Rattle.lnt_notes.specs.Told.{AddsNotes};
 
 use crate::ends::end_alike;
 use crate::look::look_of;
@@ -50,7 +55,11 @@ pub struct Hints {
 }
 
 /// The hints of a good section with this index, where sums weren't asked for.
-pub fn hints_of(index: &Index<'_>) -> Hints {
+pub fn hints_of(index: &Index<'_>) -> Hints
+    ensures nothing { (dead : Option ℕ) (skip : Bool) (units : List (ℕ × UnitParts)) → IsIndexOf dead skip units index.now
+        → IsTrue result.holds_nothing ↔ spans_of (kept_sequences dead skip units) ≡ [] }
+    ensures sums { result.lists_no_sum ≡ false }
+{
     let first = index.spans().next_span();
     let mark = match &first {
         Some(span) if span.low.address == 0 => Some(0),
@@ -90,15 +99,29 @@ fn holds(index: &Index<'_>, address: u64) -> bool {
 
 /// Prints the line of a note. It fails only where the writer does; then a front of this line may be written.
 pub fn print_note<N: Write>(note: Note, notes: &mut N) -> io::Result<()>
-    ensures { OnOk result (Appends (N.contents notes.old) (N.contents notes.new) (note_line note)) }
+    ensures line { OnOk result (Appends (N.contents notes.old) (N.contents notes.new) (note_line note)) }
+    ensures notes { OnOk result (AddsNotes (N.contents notes.old) (N.contents notes.new)) }
 {
     writeln!(notes, "linetab: note: {note}")
+}
+
+// Prints the note where it is to be told.
+fn print_where<N: Write>(is_told: bool, note: Note, notes: &mut N) -> io::Result<()>
+    ensures { OnOk result (AddsNotes (N.contents notes.old) (N.contents notes.new)) }
+{
+    if is_told {
+        print_note(note, notes)
+    } else {
+        Ok(())
+    }
 }
 
 /// Prints the note to a refusal, where the section was read in this byte order and its lines weren't judged: what the file
 /// looks like instead, if it looks like something else. It fails only where the writer does; then a front of the note may be
 /// written.
-pub fn tell_refused<N: Write>(seen: &Seen, order: Order, notes: &mut N) -> io::Result<()> {
+pub fn tell_refused<N: Write>(seen: &Seen, order: Order, notes: &mut N) -> io::Result<()>
+    ensures { OnOk result (AddsNotes (N.contents notes.old) (N.contents notes.new)) }
+{
     match look_of(seen, order) {
         Some(look) => print_note(Note::NotRaw(look), notes),
         None => Ok(()),
@@ -114,7 +137,9 @@ pub fn tell_bad<O: Opener, N: Write>(
     given: &Given<'_>,
     opener: &mut O,
     notes: &mut N,
-) -> io::Result<()> {
+) -> io::Result<()>
+    ensures { OnOk result (AddsNotes (N.contents notes.old) (N.contents notes.new)) }
+{
     match *no {
         No::Malformed(_) => tell_refused(seen, given.order, notes),
         No::StringOutside(unit, which, _) => {
@@ -143,13 +168,11 @@ pub fn tell_good<O: Opener, N: Write>(
     given: &Given<'_>,
     opener: &mut O,
     notes: &mut N,
-) -> io::Result<()> {
-    if hints.holds_nothing {
-        print_note(Note::HoldsNothing, notes)?;
-    }
-    if hints.lists_no_sum {
-        print_note(Note::NoSums, notes)?;
-    }
+) -> io::Result<()>
+    ensures { OnOk result (AddsNotes (N.contents notes.old) (N.contents notes.new)) }
+{
+    print_where(hints.holds_nothing, Note::HoldsNothing, notes)?;
+    print_where(hints.lists_no_sum, Note::NoSums, notes)?;
     if hints.mark.is_some() || given.dead.is_some() {
         tell_dead(
             alloc,
@@ -158,9 +181,10 @@ pub fn tell_good<O: Opener, N: Write>(
             given,
             opener,
             notes,
-        )?;
+        )
+    } else {
+        Ok(())
     }
-    Ok(())
 }
 
 // Prints the option that gives the string section with the paths of this table of a unit, where it wasn't given.
@@ -171,7 +195,9 @@ fn tell_strings<O: Opener, N: Write>(
     given: &Given<'_>,
     opener: &mut O,
     notes: &mut N,
-) -> io::Result<()> {
+) -> io::Result<()>
+    ensures { OnOk result (AddsNotes (N.contents notes.old) (N.contents notes.new)) }
+{
     let Some(section) = strings_again(alloc, unit, which, given, opener) else {
         return Ok(());
     };
@@ -208,19 +234,29 @@ fn tell_dead<O: Opener, N: Write>(
     given: &Given<'_>,
     opener: &mut O,
     notes: &mut N,
-) -> io::Result<()> {
+) -> io::Result<()>
+    ensures { OnOk result (AddsNotes (N.contents notes.old) (N.contents notes.new)) }
+{
     let Some(survey) = survey_again(alloc, all, given, opener) else {
         return match known {
             Some(address) => print_note(Note::MaybeDead(None, address), notes),
             None => Ok(()),
         };
     };
-    if let Some(address) = survey.mark {
-        print_note(Note::MaybeDead(Some(survey.count), address), notes)?;
-    }
+    tell_mark(&survey, notes)?;
     match given.dead {
         Some(address) if !survey.begins_dead => print_note(Note::NoneDead(address), notes),
         _ => Ok(()),
+    }
+}
+
+// Prints the note that sequences begin at a mark, if any does.
+fn tell_mark<N: Write>(survey: &Survey, notes: &mut N) -> io::Result<()>
+    ensures { OnOk result (AddsNotes (N.contents notes.old) (N.contents notes.new)) }
+{
+    match survey.mark {
+        Some(address) => print_note(Note::MaybeDead(Some(survey.count), address), notes),
+        None => Ok(()),
     }
 }
 
@@ -244,7 +280,9 @@ fn tell_copies<O: Opener, N: Write>(
     given: &Given<'_>,
     opener: &mut O,
     notes: &mut N,
-) -> io::Result<()> {
+) -> io::Result<()>
+    ensures { OnOk result (AddsNotes (N.contents notes.old) (N.contents notes.new)) }
+{
     if given.skip_copies || alike_again(alloc, first, second, given, opener) != Some(true) {
         return Ok(());
     }
@@ -271,17 +309,19 @@ pub fn tell_agreed<O: Opener, N: Write>(
     table: &str,
     opener: &mut O,
     notes: &mut N,
-) -> io::Result<()> {
-    if let Some(reader) = opener.reader_again(table) {
+) -> io::Result<()>
+    ensures { OnOk result (AddsNotes (N.contents notes.old) (N.contents notes.new)) }
+{
+    let holds_nothing = opener.reader_again(table).is_some_and(|reader| {
         // A table without a span answers nothing.
-        if let Ok(None) = line_of(alloc, reader, 1) {
-            print_note(Note::HoldsNothing, notes)?;
-        }
-    }
+        matches!(line_of(alloc, reader, 1), Ok(None))
+    });
+    print_where(holds_nothing, Note::HoldsNothing, notes)?;
     if given.dead.is_some() {
-        tell_dead(alloc, None, false, given, opener, notes)?;
+        tell_dead(alloc, None, false, given, opener, notes)
+    } else {
+        Ok(())
     }
-    Ok(())
 }
 
 /// Prints the note to a fault of the table in the file of this name, which was read as one with these columns. For a fault of
@@ -294,7 +334,9 @@ pub fn tell_table<O: Opener, N: Write>(
     table: &str,
     opener: &mut O,
     notes: &mut N,
-) -> io::Result<()> {
+) -> io::Result<()>
+    ensures { OnOk result (AddsNotes (N.contents notes.old) (N.contents notes.new)) }
+{
     let note = match fault {
         TableFault::Header => Note::TableHeader,
         TableFault::Fields(record) => {

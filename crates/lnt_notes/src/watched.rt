@@ -16,7 +16,9 @@ pub struct Seen {
 
 impl Seen {
     /// No byte was read yet.
-    pub fn nothing() -> Seen {
+    pub fn nothing() -> Seen
+        ensures { result.count ≡ 0 }
+    {
         Seen {
             head: [0; HEAD],
             count: 0,

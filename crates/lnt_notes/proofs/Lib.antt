@@ -1,0 +1,2 @@
+pub mod HintLemmas
+pub mod NoteLemmas
