@@ -1,5 +1,5 @@
-# For `linetab`, `library`, `test` and `share/prove`, which set $top: the built program, whether it is that of the sources as they
-# are, and what a crate stands on.
+# For `linetab`, `library`, `test`, `share/prove` and `must-fail/try`, which set $top: the built program, whether it is that of the
+# sources as they are, what a crate stands on, and a copy of crates.
 program=$top/crates/linetab/out/linetab
 built_of=$program.sources
 # The sum of the sources that the gate has proved, where all of it passed.
@@ -23,5 +23,29 @@ uses() { # NAME
     [[ -d $top/crates/$name && " ${below[*]} " != *" $name "* ]] || continue
     uses "$name"
     below+=("$name")
+  done
+}
+
+# Adds to `below` these crates, and those that they use.
+with_used() { # NAME..
+  local name
+  for name; do
+    [[ " ${below[*]} " != *" $name "* ]] || continue
+    uses "$name"
+    below+=("$name")
+  done
+}
+
+# Copies the crates of `below` to a folder, as a repository of their own, but for the edits that `./test` tries.
+copy_crates() { # FOLDER
+  local name part
+  # By this `rt ci` knows the top of a repository.
+  mkdir -p "$1/.git" "$1/crates" && cp "$top/HANDLES" "$1" || return
+  for name in "${below[@]}"; do
+    mkdir "$1/crates/$name" || return
+    for part in "$top/crates/$name"/*; do
+      [[ ${part##*/} == @(out|must-fail) ]] || cp -r "$part" "$1/crates/$name" || return
+    done
+    grep -E "^$name( staticlib)?:" "$top/crates.txt" >>"$1/crates.txt" || return
   done
 }

@@ -6,16 +6,16 @@ top=$PWD
 tree=$work/tree
 mkdir -p "$tree/crates/linetab/out" "$tree/share" "$work/bin" "$work/without" "$work/temporary"
 cp linetab sources.bash crates.txt HANDLES "$tree"
-cp share/prove "$tree/share"
+cp share/prove share/build "$tree/share"
 for crate in crates/*/; do
   mkdir -p "$tree/$crate/must-fail" && cp -r "$crate/src" "$tree/$crate"
 done
-for tool in bash sed find sort xargs sha256sum readlink dirname mktemp mkdir mv rm cat tail grep tee cp env flock sleep touch chmod; do
+for tool in bash sed find sort xargs sha256sum readlink dirname mktemp mkdir mv rm cat tail grep tee cp env flock sleep touch chmod nproc basename nice; do
   ln -s "$(command -v "$tool")" "$work/without/$tool"
 done
 
-# A toolchain whose gate proves each crate at once and copies the program, or proves those whose names it is given, and that
-# keeps a line for each time that it is asked.
+# A toolchain whose gate proves each crate at once, or those whose names it is given, and that keeps a line for each time that it is
+# asked; and whose prover and linker copy the program.
 cat >"$work/bin/rt" <<END
 #!/usr/bin/env bash
 echo "\$*" >>"$work/asked"
@@ -29,22 +29,36 @@ for name in \${@:2} \$([ \$# -gt 1 ] || sed -n 's/^\([a-z_]*\)[ a-z]*:.*/\1/p' c
   fi
   printf '%s\n' "fn \$name::a: proved" "rt: \$name proved"
 done
-[ \$# -eq 1 ] || exit 0
-sleep 1
-mkdir crates/linetab/out && cp "$top/crates/linetab/out/linetab" crates/linetab/out
+[ \$# -gt 1 ] || sleep 1
 END
-chmod +x "$work/bin/rt"
+cat >"$work/bin/rattle" <<END
+#!/usr/bin/env bash
+[[ \$1 == build && -e src/main.rt && \${*: -2:1} == -o ]] || exit 2
+if [ -e "$work/no_linetab" ]; then
+  printf '%s\n' 'fn linetab::a: proved' 'fn linetab::main: not proved'
+  exit 1
+fi
+echo 'fn linetab::main: proved'
+cp "$top/crates/linetab/out/linetab" "\${*: -1}"
+END
+cat >"$work/bin/rattle-link" <<END
+#!/usr/bin/env bash
+while [ "\$1" != -o ]; do shift; done
+cp "\$3" "\$2"
+END
+chmod +x "$work/bin"/*
 with_rt() { env TMPDIR="$work/temporary" PATH="$work/bin:$work/without" "$@"; }
 without_rt() { env TMPDIR="$work/temporary" PATH="$work/without" "$@"; }
-# The same, with what is said of seconds and of the folder made plain, and of the crates that are proved the last alone.
+# The same, with what is said of seconds, of the folder and of a crate's name made plain, and of the crates that are proved the last
+# alone: some are proved beside others.
 plainly() {
   "$@" 2>"$work/said"
   local status=$?
-  sed -E '/^linetab: proved /{/\(([0-9]+) of \1\)/!d}; s/[0-9]+ s$/N s/; s|'"$work"'|WORK|g' "$work/said" >&2
+  sed -E '/^linetab: proved /{/\(([0-9]+) of \1\)/!d; s/lnt_[a-z_]+/NAME/}; s/[0-9]+ s$/N s/; s|'"$work"'|WORK|g' "$work/said" >&2
   return $status
 }
-# The program and the crates below it: all but those of tests and of the library.
-all=$(cd crates && printf '%s\n' */ | grep -cvE '^lnt_(ffi|tests)/')
+# The crates below the program: all but those of tests, of the library and its own.
+all=$(cd crates && printf '%s\n' */ | grep -cvE '^(lnt_(ffi|tests)|linetab)/')
 section=$top/examples/hello.debug_line
 proving=$'linetab: proving and building the program, which takes some minutes the first time
 linetab: meanwhile `rt try -- WORD ..` in WORK/tree/crates/linetab answers in a minute, interpreted and unproved, for files by their whole paths\n'
@@ -56,12 +70,18 @@ expect 'a crate that is not proved' 126 '' "$proving"$'== lnt_ops\nfn lnt_ops::b
   plainly with_rt "$tree/linetab" units "$section"
 expect 'no program is left' 1 '' '' test -e "$tree/crates/linetab/out/linetab"
 expect 'no temporary folder is left' 0 '' '' eval '[ -z "$(ls "$work/temporary")" ]'
-rm "$work/no_lnt_ops" "$work/asked"
-expect 'the first build' 0 $'0x0 32 156\n' "$proving"'linetab: proved linetab ('"$all of $all"$'), N s\nlinetab: built in N s\n' \
+rm "$work/no_lnt_ops"
+touch "$work/no_linetab"
+expect 'a program that is not proved' 126 '' "$proving"'linetab: proved NAME ('"$all of $all"$'), N s\nfn linetab::main: not proved\nlinetab: the program isn\'t proved\n' \
+  plainly with_rt "$tree/linetab" units "$section"
+expect 'no program is left of it' 1 '' '' test -e "$tree/crates/linetab/out/linetab"
+rm "$work/no_linetab" "$work/asked"
+expect 'the first build' 0 $'0x0 32 156\n' "$proving"'linetab: proved NAME ('"$all of $all"$'), N s\nlinetab: built in N s\n' \
   plainly with_rt "$tree/linetab" units "$section"
 expect 'no temporary folder is left of it' 0 '' '' eval '[ -z "$(ls "$work/temporary")" ]'
 expect 'once built, nothing is asked of the toolchain' 0 $'0x0 32 156\n' '' with_rt "$tree/linetab" units "$section"
-expect 'the gate was asked for what all wait for, and once for all' 0 $'ci lnt_header\nci\n' '' cat "$work/asked"
+expect 'the gate was asked for what all wait for' 0 $'ci lnt_header_bytes\n' '' grep lnt_header "$work/asked"
+expect 'and once for all' 0 $'ci\n' '' grep -x ci "$work/asked"
 expect 'it runs without one' 0 $'0x0 32 156\n' '' without_rt "$tree/linetab" units "$section"
 cp -r "$tree" "$work/copy"
 find "$work/copy" -name '*.rt' -exec touch {} +
@@ -71,5 +91,5 @@ touch -d 2000-01-01 "$tree/crates/lnt_wire/src/lib.rt"
 rm "$work/asked"
 expect 'a changed source, and two that ask at once' 0 $'0x0 64 172\n' '' \
   with_rt bash -c '"$0" convert "$1" --format 64 --order little 2>/dev/null | "$0" units - 2>/dev/null' "$tree/linetab" "$section"
-expect 'are one build' 0 $'ci lnt_header\nci\n' '' cat "$work/asked"
+expect 'are one build' 0 $'ci\n' '' grep -x ci "$work/asked"
 finish
