@@ -72,11 +72,11 @@ expect 'no program is left' 1 '' '' test -e "$tree/crates/linetab/out/linetab"
 expect 'no temporary folder is left' 0 '' '' eval '[ -z "$(ls "$work/temporary")" ]'
 rm "$work/no_lnt_ops"
 touch "$work/no_linetab"
-expect 'a program that is not proved' 126 '' "$proving"'linetab: proved NAME ('"$all of $all"$'), N s\nfn linetab::main: not proved\nlinetab: the program isn\'t proved\n' \
+expect 'a program that is not proved' 126 '' "$proving"'linetab: proved NAME ('"$all of $all"$'), N s\nlinetab: proving and compiling the program over them, N s\nfn linetab::main: not proved\nlinetab: the program isn\'t proved\n' \
   plainly with_rt "$tree/linetab" units "$section"
 expect 'no program is left of it' 1 '' '' test -e "$tree/crates/linetab/out/linetab"
 rm "$work/no_linetab" "$work/asked"
-expect 'the first build' 0 $'0x0 32 156\n' "$proving"'linetab: proved NAME ('"$all of $all"$'), N s\nlinetab: built in N s\n' \
+expect 'the first build' 0 $'0x0 32 156\n' "$proving"'linetab: proved NAME ('"$all of $all"$'), N s\nlinetab: proving and compiling the program over them, N s\nlinetab: built in N s\n' \
   plainly with_rt "$tree/linetab" units "$section"
 expect 'no temporary folder is left of it' 0 '' '' eval '[ -z "$(ls "$work/temporary")" ]'
 expect 'once built, nothing is asked of the toolchain' 0 $'0x0 32 156\n' '' with_rt "$tree/linetab" units "$section"
