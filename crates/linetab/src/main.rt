@@ -4,7 +4,7 @@
 mod exit;
 
 use exit::exit_code;
-use lnt_cli::{CliStop, Status, run};
+use lnt_cli::{CliStop, Status, run_with_notes};
 use lnt_system::{Output, System, hold_standard_descriptors};
 use std::alloc::Global;
 use std::cell::Cell;
@@ -53,7 +53,7 @@ fn run_words(
         return Err(CliStop::Memory);
     };
     let reason = Cell::new(None);
-    let ended = run(alloc, words, &mut System::new(rt, &reason), &mut out, notes);
+    let ended = run_with_notes(alloc, words, &mut System::new(rt, &reason), &mut out, notes);
     let flushed = out.flush();
     if ended.is_ok() && flushed.is_err() {
         return Err(CliStop::Write);

@@ -15,5 +15,5 @@ mod stop;
 pub use lnt_sources::{Opener, Status};
 pub use lnt_sums::{Agreement, md5_agrees, sum_of};
 pub use lnt_words::Asked;
-pub use program::{answer, run};
+pub use program::{answer, run, run_with_notes};
 pub use stop::CliStop;

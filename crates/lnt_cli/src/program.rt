@@ -13,7 +13,7 @@ use lnt_sources::{Opener, Status};
 use lnt_text::Note;
 use lnt_words::{Asked, WordsStop, request_of};
 use std::alloc::Global;
-use std::io::Write;
+use std::io::{self, Write};
 
 /// Runs the command that the words give, and writes its answer to `out`. The first word is the program's own name.
 ///
@@ -25,7 +25,7 @@ use std::io::Write;
 ///
 /// Advice for a person is written to `notes`, a line for each note, to be shown after the answer; nothing where the words ask
 /// for no notes. A run isn't stopped where `notes` fails.
-pub fn run<O: Opener, W: Write, N: Write>(
+pub fn run_with_notes<O: Opener, W: Write, N: Write>(
     alloc: Global,
     words: Vec<String>,
     opener: &mut O,
@@ -46,6 +46,22 @@ pub fn run<O: Opener, W: Write, N: Write>(
         }
     };
     answer(alloc, &asked, opener, out, notes)
+}
+
+/// Runs the command as [`run_with_notes`] does, and gives its notes up.
+pub fn run<O: Opener, W: Write>(
+    alloc: Global,
+    words: Vec<String>,
+    opener: &mut O,
+    out: &mut W,
+) -> Result<Status, CliStop>
+    ensures usage { IfErr result (λ stop. IsUsage stop → Keeps (W.contents out.old) (W.contents out.new)) }
+    ensures answer { IfOk result (λ status. AnswersWords (O.tells opener.old) (map string_bytes words.items)
+        (W.contents out.old) (W.contents out.new) status) }
+    ensures stopped { OnErr result (Keeps (W.contents out.old) (W.contents out.new)
+        ⊎ StopsWords (O.tells opener.old) (map string_bytes words.items) (W.contents out.old) (W.contents out.new)) }
+{
+    run_with_notes(alloc, words, opener, out, &mut io::sink())
 }
 
 /// Answers a request: writes the answer to `out`, and its notes to `notes`.

@@ -104,10 +104,10 @@ verdict_of_no (no.Overlap first second position) = record (numbered 32 0) {
 abbrev pub verdict_of_table : Verdict → FlatVerdict
 verdict_of_table Yes = yes
 verdict_of_table (IsNo (table.Section found)) = verdict_of_no found
-verdict_of_table (IsNo table.Header) = numbered 36 0
-verdict_of_table (IsNo (table.Fields entry)) = record (numbered 37 0) { index = entry }
-verdict_of_table (IsNo (table.Number entry column)) = record (numbered 38 0) { index = entry; value = column }
-verdict_of_table (IsNo (table.Order entry)) = record (numbered 39 0) { index = entry }
+verdict_of_table (IsNo table.TableHeader) = numbered 36 0
+verdict_of_table (IsNo (table.TableFields entry)) = record (numbered 37 0) { index = entry }
+verdict_of_table (IsNo (table.TableNumber entry column)) = record (numbered 38 0) { index = entry; value = column }
+verdict_of_table (IsNo (table.TableOrder entry)) = record (numbered 39 0) { index = entry }
 verdict_of_table (IsNo (table.Differs position by_table by_section)) = record (numbered 40 0) {
   address = position.address;
   op = position.op;

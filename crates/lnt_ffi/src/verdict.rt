@@ -166,13 +166,13 @@ pub(crate) fn verdict_of_no(no: No) -> FlatVerdict
             index: file,
             ..numbered(29, 0)
         },
-        No::FileNumber { unit, row, file } => FlatVerdict {
+        No::FileNumber(unit, row, file) => FlatVerdict {
             offset: unit,
             index: row,
             value: file,
             ..numbered(30, 0)
         },
-        No::Falls { unit, row } => FlatVerdict {
+        No::Falls(unit, row) => FlatVerdict {
             offset: unit,
             index: row,
             ..numbered(31, 0)
@@ -230,10 +230,10 @@ pub(crate) fn verdict_of_table(verdict: Verdict) -> FlatVerdict
     };
     match no {
         TableNo::Section(no) => verdict_of_no(no),
-        TableNo::Header => numbered(36, 0),
-        TableNo::Fields(number) => of_record(37, number, 0),
-        TableNo::Number { record, column } => of_record(38, record, column),
-        TableNo::Order(number) => of_record(39, number, 0),
+        TableNo::TableHeader => numbered(36, 0),
+        TableNo::TableFields(number) => of_record(37, number, 0),
+        TableNo::TableNumber(record, column) => of_record(38, record, column),
+        TableNo::TableOrder(number) => of_record(39, number, 0),
         TableNo::Differs {
             position,
             by_table,

@@ -8,3 +8,4 @@ pub mod PutLaws
 pub mod ReaderLaws
 pub mod ShortestLaws
 pub mod TestLemmas
+pub mod UnitLemmas

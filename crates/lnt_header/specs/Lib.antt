@@ -8,3 +8,5 @@ pub mod HeaderRules
 pub mod HeaderTests
 pub mod Joins
 pub mod OpRules
+pub mod UnitRules
+pub mod UnitTests

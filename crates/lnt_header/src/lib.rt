@@ -6,10 +6,12 @@ mod fault;
 mod header;
 mod op;
 mod tested;
+mod unit;
 mod unit_parts;
 
 pub use fault::UnitFault;
 pub use header::{Entry, EntryTable, Header, HeaderParts, Pair};
 pub use op::{CodedOp, LAST_KNOWN, Op, OpView, Operands, known_length};
 pub use tested::is_address_size;
+pub use unit::Unit;
 pub use unit_parts::UnitParts;

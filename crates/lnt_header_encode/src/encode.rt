@@ -15,8 +15,8 @@ ghost use Rattle.lnt_header_bytes.specs.TableBytes.{PairBytes, TableOf};
 
 use lnt_header::{Entry, Header, HeaderParts, Pair};
 use lnt_wire::{
-    EncodeFault, FormValue, Format, Order, put_form, put_offset, put_u16, put_u32, put_u64,
-    put_uleb,
+    EncodeFault, FormValue, Format, Order, append_uleb, put_form, put_offset, put_u16, put_u32,
+    put_u64,
 };
 use std::alloc::{AllocError, Global};
 
@@ -193,7 +193,7 @@ fn add_table(
 {
     out.push(pairs.len() as u8)?;
     add_pairs(out, pairs)?;
-    put_uleb(out, entries.len() as u64)?;
+    append_uleb(out, entries.len() as u64)?;
     add_entries(out, entries, format, order)?;
     Ok(())
 }
@@ -213,8 +213,8 @@ pub(crate) fn add_pairs(out: &mut Vec<u8>, pairs: &[Pair]) -> Result<(), AllocEr
 fn add_pair(out: &mut Vec<u8>, pair: &Pair) -> Result<(), AllocError>
     ensures ok { OnOk result (Appends PairBytes pair.now out.old.items out.new.items) }
 {
-    put_uleb(out, pair.content)?;
-    put_uleb(out, pair.form.code())
+    append_uleb(out, pair.content)?;
+    append_uleb(out, pair.form.code())
 }
 
 // Adds the entries of a table.

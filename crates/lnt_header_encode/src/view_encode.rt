@@ -12,7 +12,7 @@ ghost use Rattle.lnt_header_bytes.specs.TableBytes.{EntryBytes, TableOf};
 use crate::encode::{add_around, add_both, add_pairs};
 use lnt_header::Pair;
 use lnt_header_bytes::{EntryTableView, HeaderView};
-use lnt_wire::{Cursor, EncodeFault, Format, Order, Reason, put_form, put_uleb};
+use lnt_wire::{Cursor, EncodeFault, Format, Order, Reason, append_uleb, put_form};
 use std::alloc::Global;
 
 /// Adds the bytes of a unit with this header in the format and order, and with this program, each LEB128 in its
@@ -96,7 +96,7 @@ fn add_table_view(
 {
     out.push(table.pairs().len() as u8)?;
     add_pairs(out, table.pairs())?;
-    put_uleb(out, table.count())?;
+    append_uleb(out, table.count())?;
     add_entries_view(alloc, out, table, format, order)
 }
 

@@ -128,12 +128,12 @@ fn missing_no(unit: u64, missing: Option<MissingFile>) -> Option<No>
     ensures { result ≡ option_map (missing_no unit) missing }
 {
     let MissingFile { row, file } = missing?;
-    Some(No::FileNumber { unit, row, file })
+    Some(No::FileNumber(unit, row, file))
 }
 
 // What is wrong with the unit at an offset where the position of a row falls.
 fn falls_no(unit: u64, row: Option<u64>) -> Option<No>
     ensures { result ≡ option_map (Falls unit) row }
 {
-    Some(No::Falls { unit, row: row? })
+    Some(No::Falls(unit, row?))
 }

@@ -31,21 +31,11 @@ pub enum No {
     /// 29: in the unit at this offset, this file is the first whose directory isn't there.
     DirectoryNumber(u64, u64),
     /// 30: the first row of a live sequence that names a file which isn't there. End rows name none.
-    FileNumber {
-        /// The offset of the row's unit in the section.
-        unit: u64,
-        /// The row's index in the unit.
-        row: u64,
-        /// The file that the row names.
-        file: u64,
-    },
+    /// It has the offset of the row's unit in the section, the row's index in the unit, and the file that the row names.
+    FileNumber(u64, u64, u64),
     /// 31: the first row whose position is below that of the row before it, in the same live sequence.
-    Falls {
-        /// The offset of the row's unit in the section.
-        unit: u64,
-        /// The row's index in the unit.
-        row: u64,
-    },
+    /// It has the offset of the row's unit in the section, and the row's index in the unit.
+    Falls(u64, u64),
     /// 32: the first two kept sequences, by their first positions and then by their places in the section, that hold one
     /// position. No lower one is held by two. Kept are the live ones, less the copies where these are skipped.
     Overlap {
@@ -81,10 +71,10 @@ impl fmt::Display for No {
             No::DirectoryNumber(unit, file) => {
                 write!(f, "no 29 directory number unit 0x{unit:x} file {file}")
             }
-            No::FileNumber { unit, row, file } => {
+            No::FileNumber(unit, row, file) => {
                 write!(f, "no 30 file number unit 0x{unit:x} row {row} file {file}")
             }
-            No::Falls { unit, row } => write!(f, "no 31 falls unit 0x{unit:x} row {row}"),
+            No::Falls(unit, row) => write!(f, "no 31 falls unit 0x{unit:x} row {row}"),
             No::Overlap {
                 first,
                 second,

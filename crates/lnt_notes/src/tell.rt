@@ -145,9 +145,7 @@ pub fn tell_bad<O: Opener, N: Write>(
         No::StringOutside(unit, which, _) => {
             tell_strings(alloc, unit, which, given, opener, notes)
         }
-        No::FileNumber { .. } | No::Falls { .. } => {
-            tell_dead(alloc, None, true, given, opener, notes)
-        }
+        No::FileNumber(..) | No::Falls(..) => { tell_dead(alloc, None, true, given, opener, notes) }
         No::Overlap {
             first,
             second,

@@ -14,7 +14,7 @@ ghost use Rattle.lnt_ops.specs.Stepping.{AddsOperands, AddsSpelled};
 ghost use Rattle.lnt_ops.specs.OpSpellings.{Coded, ExtendedCoded, ExtendedStart};
 
 use lnt_header::{CodedOp, Header, Op, OpView, Operands};
-use lnt_wire::{Cursor, Order, put_sleb, put_u16, put_u32, put_u64, put_uleb};
+use lnt_wire::{Cursor, Order, append_sleb, append_uleb, put_u16, put_u32, put_u64};
 use std::alloc::AllocError;
 
 /// Adds the bytes of the operations in a unit with the header, one after the other, each LEB128 in its shortest
@@ -104,7 +104,7 @@ fn add_unsigned(out: &mut Vec<u8>, code: u8, n: u64) -> Result<(), AllocError>
     ensures extends { OnErr result (Extends out.old.items out.new.items) }
 {
     out.push(code)?;
-    put_uleb(out, n)
+    append_uleb(out, n)
 }
 
 // Adds an opcode and a signed number.
@@ -114,7 +114,7 @@ fn add_signed(out: &mut Vec<u8>, code: u8, z: i64) -> Result<(), AllocError>
     ensures extends { OnErr result (Extends out.old.items out.new.items) }
 {
     out.push(code)?;
-    put_sleb(out, z)
+    append_sleb(out, z)
 }
 
 // Adds an opcode and a number of 2 bytes.
@@ -149,7 +149,7 @@ fn add_spelled(out: &mut Vec<u8>, bytes: &[u8]) -> Result<(), AllocError>
 {
     let mut cursor = Cursor::new(bytes, 0, Order::Little);
     while let Ok(number) = cursor.uleb() {
-        put_uleb(out, number)?;
+        append_uleb(out, number)?;
     }
     Ok(())
 }
@@ -161,7 +161,7 @@ fn add_numbers(out: &mut Vec<u8>, numbers: &[u64]) -> Result<(), AllocError>
     ensures extends { OnErr result (Extends out.old.items out.new.items) }
 {
     for number in numbers {
-        put_uleb(out, *number)?;
+        append_uleb(out, *number)?;
     }
     Ok(())
 }
@@ -185,7 +185,7 @@ fn start_extended(out: &mut Vec<u8>, count: u64, code: u8) -> Result<(), AllocEr
     ensures extends { OnErr result (Extends out.old.items out.new.items) }
 {
     out.push(0)?;
-    put_uleb(out, count)?;
+    append_uleb(out, count)?;
     out.push(code)?;
     Ok(())
 }
@@ -230,7 +230,7 @@ fn add_counted(out: &mut Vec<u8>, code: u8, n: u64) -> Result<(), AllocError>
 {
     out.extend_from_slice(&[0, 0, code])?;
     let place = out.len() - 2;
-    put_uleb(out, n)?;
+    append_uleb(out, n)?;
     out[place] = (out.len() - place - 1) as u8;
     Ok(())
 }

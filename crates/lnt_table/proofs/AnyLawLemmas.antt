@@ -36,12 +36,12 @@ by_number verdicts flawless line general options section table Yes (ByPath compa
     absurd (k.told.unnumbered h.0.version (table_begins table h.0.version h.0.spans h.0.is_table))
 by_number verdicts flawless line general options section table (No (no.Section reason)) (ByPath compared) h k =
     absurd (flawless line general options section k.of_section.units reason k.of_section.good h.0)
-by_number verdicts flawless line general options section table (No no.Header) (ByPath compared) h k = absurd (h.1 refl)
-by_number verdicts flawless line general options section table (No (no.Fields n)) (ByPath compared) h k =
+by_number verdicts flawless line general options section table (No no.TableHeader) (ByPath compared) h k = absurd (h.1 refl)
+by_number verdicts flawless line general options section table (No (no.TableFields n)) (ByPath compared) h k =
     absurd (k.told.unnumbered h.0.faulty.version (faulty_begins table (fault.Fields n) h.0.faulty))
-by_number verdicts flawless line general options section table (No (no.Number n i)) (ByPath compared) h k =
+by_number verdicts flawless line general options section table (No (no.TableNumber n i)) (ByPath compared) h k =
     absurd (k.told.unnumbered h.0.faulty.version (faulty_begins table (fault.Number n i) h.0.faulty))
-by_number verdicts flawless line general options section table (No (no.Order n)) (ByPath compared) h k =
+by_number verdicts flawless line general options section table (No (no.TableOrder n)) (ByPath compared) h k =
     absurd (k.told.unnumbered h.0.faulty.version (faulty_begins table (fault.Order n) h.0.faulty))
 by_number verdicts flawless line general options section table (No (no.Differs position by_table by_section)) (ByPath compared) h k =
     absurd (k.told.unnumbered h.0.version (table_begins table h.0.version h.0.spans h.0.is_table))

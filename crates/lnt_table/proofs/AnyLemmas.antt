@@ -67,7 +67,7 @@ path_told (Some bytes) taken index dead skip units spans compared other answers 
 }
 
 -- The verdict is `Header` only where the comparison found that fault.
-header_found : (found : Compared) → verdict_of found ≡ No no.Header → found ≡ kind.Fault fault.Header
+header_found : (found : Compared) → verdict_of found ≡ No no.TableHeader → found ≡ kind.Fault fault.Header
 header_found kind.Same e = cc
 header_found (kind.Fault fault.Header) e = refl
 header_found (kind.Fault (fault.Fields k)) e = cc
@@ -81,7 +81,7 @@ pub numbered_told : (text : Option (List ℕ)) (dead : Option ℕ) (skip : Bool)
     → IfSome text (λ bytes. IsComparison bytes spans compared × (compared ≢ kind.Fault fault.Header))
     → IfSome text (λ bytes. (compared' : Compared) × IsComparedWith dead skip units bytes compared'
     × (verdict_of compared ≡ verdict_of compared')
-    × (verdict_of compared ≢ No no.Header))
+    × (verdict_of compared ≢ No no.TableHeader))
 numbered_told None dead skip units spans compared answers h = tt
 numbered_told (Some bytes) dead skip units spans compared answers h =
     (compared, record { spans = spans; answers = answers; comparison = h.0 }, refl, λ e. h.1 (header_found compared e))

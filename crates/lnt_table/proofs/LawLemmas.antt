@@ -35,13 +35,13 @@ pub only_yes : GoodHasNoFlaw → OneTable → NoFault → OnlyYes
 only_yes flawless one none line general options bytes table Yes h v = refl
 only_yes flawless one none line general options bytes table (No (no.Section reason)) h v =
     absurd (flawless line general options bytes h.units reason h.good v)
-only_yes flawless one none line general options bytes table (No no.Header) h v =
+only_yes flawless one none line general options bytes table (No no.TableHeader) h v =
     absurd (none table h.version h.spans fault.Header h.is_table v.faulty)
-only_yes flawless one none line general options bytes table (No (no.Fields k)) h v =
+only_yes flawless one none line general options bytes table (No (no.TableFields k)) h v =
     absurd (none table h.version h.spans (fault.Fields k) h.is_table v.faulty)
-only_yes flawless one none line general options bytes table (No (no.Number k i)) h v =
+only_yes flawless one none line general options bytes table (No (no.TableNumber k i)) h v =
     absurd (none table h.version h.spans (fault.Number k i) h.is_table v.faulty)
-only_yes flawless one none line general options bytes table (No (no.Order k)) h v =
+only_yes flawless one none line general options bytes table (No (no.TableOrder k)) h v =
     absurd (none table h.version h.spans (fault.Order k) h.is_table v.faulty)
 only_yes flawless one none line general options bytes table (No (no.Differs position by_table by_section)) h v =
     absurd (difference_none line general options bytes table (record { position = position; by_table = by_table; by_section = by_section })

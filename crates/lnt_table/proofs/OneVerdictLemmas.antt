@@ -79,10 +79,10 @@ kind_of : (line general : List ℕ) (options : Options) (bytes table : List ℕ)
     → IsTrueVerdict line general options bytes table verdict → Kind line general options bytes table verdict
 kind_of line general options bytes table Yes v = right v
 kind_of line general options bytes table (No (no.Section reason)) v = bad reason refl v
-kind_of line general options bytes table (No no.Header) v = faulty fault.Header refl v
-kind_of line general options bytes table (No (no.Fields k)) v = faulty (fault.Fields k) refl v
-kind_of line general options bytes table (No (no.Number k i)) v = faulty (fault.Number k i) refl v
-kind_of line general options bytes table (No (no.Order k)) v = faulty (fault.Order k) refl v
+kind_of line general options bytes table (No no.TableHeader) v = faulty fault.Header refl v
+kind_of line general options bytes table (No (no.TableFields k)) v = faulty (fault.Fields k) refl v
+kind_of line general options bytes table (No (no.TableNumber k i)) v = faulty (fault.Number k i) refl v
+kind_of line general options bytes table (No (no.TableOrder k)) v = faulty (fault.Order k) refl v
 kind_of line general options bytes table (No (no.Differs position by_table by_section)) v =
     differs (record { position = position; by_table = by_table; by_section = by_section }) refl v
 

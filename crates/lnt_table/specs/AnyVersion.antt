@@ -35,7 +35,7 @@ pub record IsTrueByPath (line general : List ℕ) (options : Options) (section t
 -- of neither version 1 nor 2, it is an answer by path and no verdict.
 abbrev pub IsTrueCheck : List ℕ → List ℕ → Options → List ℕ → List ℕ → Checked → Type 0
 IsTrueCheck line general options section table (Numbered verdict) =
-    IsTrueVerdict line general options section table verdict × (verdict ≢ No no.Header)
+    IsTrueVerdict line general options section table verdict × (verdict ≢ No no.TableHeader)
 IsTrueCheck line general options section table (ByPath compared) = IsTrueByPath line general options section table compared
 
 -- What the answer says of the section, whatever the table is: that it is good, or why it isn't.

@@ -19,10 +19,10 @@ use Rattle.lnt_text.specs.Texts.{difference_text}
 -- why a table doesn't answer as the section does
 abbrev pub table_no_text : TableNo → List ℕ
 table_no_text (no.Section reason) = no_text reason
-table_no_text no.Header = codes "no 36 " ++ table_fault_text fault.Header
-table_no_text (no.Fields record_number) = codes "no 37 " ++ table_fault_text (fault.Fields record_number)
-table_no_text (no.Number record_number column) = codes "no 38 " ++ table_fault_text (fault.Number record_number column)
-table_no_text (no.Order record_number) = codes "no 39 " ++ table_fault_text (fault.Order record_number)
+table_no_text no.TableHeader = codes "no 36 " ++ table_fault_text fault.Header
+table_no_text (no.TableFields record_number) = codes "no 37 " ++ table_fault_text (fault.Fields record_number)
+table_no_text (no.TableNumber record_number column) = codes "no 38 " ++ table_fault_text (fault.Number record_number column)
+table_no_text (no.TableOrder record_number) = codes "no 39 " ++ table_fault_text (fault.Order record_number)
 table_no_text (no.Differs position by_table by_section) =
     difference_text (record { position = position; by_table = by_table; by_section = by_section })
 

@@ -57,12 +57,12 @@ pub record AnswersOtherwise (line general : List ℕ) (options : Options) (secti
 -- The reason is true, and it is the first thing that is wrong.
 abbrev pub IsTrueTableNo : List ℕ → List ℕ → Options → List ℕ → List ℕ → TableNo → Type 0
 IsTrueTableNo line general options section table (no.Section reason) = IsTrueNo line general options section reason
-IsTrueTableNo line general options section table no.Header = IsFaultyTable line general options section table fault.Header
-IsTrueTableNo line general options section table (no.Fields record_number) =
+IsTrueTableNo line general options section table no.TableHeader = IsFaultyTable line general options section table fault.Header
+IsTrueTableNo line general options section table (no.TableFields record_number) =
     IsFaultyTable line general options section table (fault.Fields record_number)
-IsTrueTableNo line general options section table (no.Number record_number column) =
+IsTrueTableNo line general options section table (no.TableNumber record_number column) =
     IsFaultyTable line general options section table (fault.Number record_number column)
-IsTrueTableNo line general options section table (no.Order record_number) =
+IsTrueTableNo line general options section table (no.TableOrder record_number) =
     IsFaultyTable line general options section table (fault.Order record_number)
 IsTrueTableNo line general options section table (no.Differs position by_table by_section) =
     AnswersOtherwise line general options section table (record { position = position; by_table = by_table; by_section = by_section })

@@ -37,7 +37,7 @@ pub record IsComparedWith (dead : Option ℕ) (skip : Bool) (units : List (ℕ �
 -- What was checked is true of the table and of an index of these units. The header of a table of version 1 or 2 isn't at fault.
 abbrev pub IsCheckedWith : Indexed → Option ℕ → Bool → List (ℕ × UnitParts) → List ℕ → Checked → Type 0
 IsCheckedWith index dead skip units table (Numbered verdict) =
-    (compared : Compared) × IsComparedWith dead skip units table compared × (verdict ≡ verdict_of compared) × (verdict ≢ No no.Header)
+    (compared : Compared) × IsComparedWith dead skip units table compared × (verdict ≡ verdict_of compared) × (verdict ≢ No no.TableHeader)
 IsCheckedWith index dead skip units table (ByPath compared) = IsComparedByPath index dead skip units table compared
 
 -- A verdict is what a comparison makes of it, and none of the section.

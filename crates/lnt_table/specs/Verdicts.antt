@@ -5,7 +5,7 @@ use Rattle.lnt_table.specs.declared.verdict.TableNo.{TableNo}
 use Rattle.lnt_table.specs.declared.verdict.TableNo.TheVariants as no
 
 abbrev pub no_of_fault : TableFault → TableNo
-no_of_fault fault.Header = no.Header
-no_of_fault (fault.Fields k) = no.Fields k
-no_of_fault (fault.Number k i) = no.Number k i
-no_of_fault (fault.Order k) = no.Order k
+no_of_fault fault.Header = no.TableHeader
+no_of_fault (fault.Fields k) = no.TableFields k
+no_of_fault (fault.Number k i) = no.TableNumber k i
+no_of_fault (fault.Order k) = no.TableOrder k

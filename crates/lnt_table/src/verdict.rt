@@ -43,18 +43,13 @@ pub enum TableNo {
     Section(No),
     /// 36: the table has no record 0, or one with the column names of no version: of 1 and 2 for `check`, of 1 to 4 for
     /// `check_any`.
-    Header,
+    TableHeader,
     /// 37: this record hasn't as many fields as the table has columns.
-    Fields(u64),
-    /// 38: a field of a record is no value of its column's kind.
-    Number {
-        /// The record.
-        record: u64,
-        /// The column of its first such field.
-        column: u64,
-    },
+    TableFields(u64),
+    /// 38: a field of a record is no value of its column's kind: the record, and the column of its first such field.
+    TableNumber(u64, u64),
     /// 39: the span of this record is empty, or begins below the end of the span before it.
-    Order(u64),
+    TableOrder(u64),
     /// 40: the answers of the table and of the section differ, as the table's version tells answers. None where a side has no
     /// answer.
     Differs {
@@ -74,12 +69,12 @@ impl fmt::Display for TableNo {
     fn fmt<W: fmt::Write>(&self, f: &mut fmt::Formatter<W>) -> fmt::Result {
         match *self {
             TableNo::Section(no) => no.fmt(f),
-            TableNo::Header => write!(f, "no 36 {}", TableFault::Header),
-            TableNo::Fields(record) => write!(f, "no 37 {}", TableFault::Fields(record)),
-            TableNo::Number { record, column } => {
+            TableNo::TableHeader => write!(f, "no 36 {}", TableFault::Header),
+            TableNo::TableFields(record) => write!(f, "no 37 {}", TableFault::Fields(record)),
+            TableNo::TableNumber(record, column) => {
                 write!(f, "no 38 {}", TableFault::Number(record, column))
             }
-            TableNo::Order(record) => write!(f, "no 39 {}", TableFault::Order(record)),
+            TableNo::TableOrder(record) => write!(f, "no 39 {}", TableFault::Order(record)),
             TableNo::Differs {
                 position,
                 by_table,
@@ -101,10 +96,10 @@ impl From<TableFault> for TableNo {
 
     fn from(fault: TableFault) -> TableNo {
         match fault {
-            TableFault::Header => TableNo::Header,
-            TableFault::Fields(record) => TableNo::Fields(record),
-            TableFault::Number(record, column) => TableNo::Number { record, column },
-            TableFault::Order(record) => TableNo::Order(record),
+            TableFault::Header => TableNo::TableHeader,
+            TableFault::Fields(record) => TableNo::TableFields(record),
+            TableFault::Number(record, column) => TableNo::TableNumber(record, column),
+            TableFault::Order(record) => TableNo::TableOrder(record),
         }
     }
 }
@@ -116,10 +111,10 @@ impl TableNo {
         ensures none { IfNone result ((fault : TableFaultSpec) → self.now ≢ no_of_fault fault) }
     {
         match *self {
-            TableNo::Header => Some(TableFault::Header),
-            TableNo::Fields(record) => Some(TableFault::Fields(record)),
-            TableNo::Number { record, column } => Some(TableFault::Number(record, column)),
-            TableNo::Order(record) => Some(TableFault::Order(record)),
+            TableNo::TableHeader => Some(TableFault::Header),
+            TableNo::TableFields(record) => Some(TableFault::Fields(record)),
+            TableNo::TableNumber(record, column) => Some(TableFault::Number(record, column)),
+            TableNo::TableOrder(record) => Some(TableFault::Order(record)),
             TableNo::Section(_) | TableNo::Differs { .. } => None,
         }
     }

@@ -7,7 +7,8 @@ pub mod OneFaultLemmas
 pub mod ReadLaws
 pub mod SectionLaws
 pub mod UnitLaws
-pub mod UnitLemmas
 pub mod ViewLaws
 pub mod ViewLemmas
 pub mod WholeWalks
+pub mod EncodeLaws
+pub mod LargeUnits

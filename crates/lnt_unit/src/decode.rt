@@ -6,7 +6,7 @@ ghost use Rattle.lnt_unit.specs.BrokenUnits.{BrokenUnit, BrokenSection};
 ghost use Rattle.lnt_unit.specs.Stepping.{AddsUnit};
 ghost use Rattle.lnt_unit.specs.UnitBytes.{UnitBytesIn, SectionBytes};
 
-use crate::unit::Unit;
+use lnt_header::Unit;
 use lnt_header_bytes::decode_header;
 use lnt_ops::read_ops;
 use lnt_wire::{Cursor, Fault, Frame, Order, Reason, take_frame};

@@ -2,19 +2,21 @@
 #![tactic(auto)]
 
 mod decode;
+mod encode;
 mod in_place;
 pub mod laws;
-mod unit;
 mod view;
 
 pub use decode::{decode_section, decode_unit};
+pub use encode::encode_unit;
 pub use in_place::UnitInPlace;
 pub use lnt_header::{
-    Entry, EntryTable, Header, HeaderParts, Op, OpView, Operands, Pair, UnitFault, UnitParts,
+    Entry, EntryTable as Which, Header, HeaderParts, Op, OpView, Operands, Pair, Unit, UnitFault,
+    UnitParts as Parts,
 };
 pub use lnt_header_bytes::{HeaderInPlace, HeaderView, KeptHeader, decode_header};
-pub use lnt_lists::ShortList;
+pub use lnt_header_encode::encode_header;
+pub use lnt_lists::{Items, ShortList};
 pub use lnt_ops::Ops;
 pub use lnt_stream::{Progress, SectionReader, SectionStop, UnitBuffer};
-pub use unit::Unit;
 pub use view::UnitView;

@@ -30,7 +30,7 @@ use Rattle.lnt_unit_encode.specs.declared.convert.ConvertFault.TheVariants as co
 use Rattle.lnt_ops.proofs.NumberLaws.{admits_by_numbers, ops_by_numbers, broken_by_numbers}
 use Rattle.lnt_unit.proofs.UnitLaws.{unit_found}
 use Rattle.lnt_header.specs.declared.unit_parts.UnitParts.{UnitParts}
-use Rattle.lnt_unit_encode.proofs.EncodeLemmas.{unit_put, unit_refused}
+use Rattle.lnt_unit.proofs.EncodeLaws.{unit_put, unit_refused}
 use Rattle.lnt_unit.proofs.ReadLaws.{StandsAt, unit_read, frame_without_unit}
 
 -- ---- the unit of a frame

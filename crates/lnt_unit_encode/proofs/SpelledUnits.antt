@@ -9,7 +9,7 @@ use Rattle.lnt_header.specs.declared.unit_parts.UnitParts.{UnitParts}
 use Rattle.lnt_unit_encode.specs.Laws.{AllowedUnitIsSpelled}
 use Rattle.lnt_unit_encode.specs.Spelled.{FitsUnit, UnitLengthsFit}
 use Rattle.lnt_unit.specs.UnitBytes.{UnitBytes}
-use Rattle.lnt_unit.specs.UnitRules.{IsUnit}
+use Rattle.lnt_header.specs.UnitRules.{IsUnit}
 
 unit_spelled : header.AllowedHeaderIsSpelled → operations.AllowedOpsAreSpelled → (unit : UnitParts) → IsUnit unit → FitsUnit unit
     → HasSmallOffsets unit.header → UnitLengthsFit unit

@@ -4,7 +4,7 @@ use Rattle.lnt_wire.specs.declared.format.Format.TheVariants.{D64}
 use Rattle.lnt_header_encode.specs.Spelled.{HasSmallOffsets}
 use Rattle.lnt_header.specs.declared.unit_parts.UnitParts.{UnitParts}
 use Rattle.lnt_unit.specs.UnitBytes.{UnitBytes}
-use Rattle.lnt_unit.specs.UnitRules.{IsUnit}
+use Rattle.lnt_header.specs.UnitRules.{IsUnit}
 use Rattle.lnt_unit_encode.specs.Spelled.{FitsUnit, UnitLengthsFit}
 
 -- A unit that `Unit::new` allows is spelled by some bytes exactly where its format can say its offsets and its length. In the 64-bit

@@ -4,4 +4,3 @@ pub mod FaultTexts
 pub mod Laws
 pub mod Spelled
 pub mod Stepping
-pub mod TooLong

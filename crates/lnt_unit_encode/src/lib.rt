@@ -4,10 +4,9 @@
 
 mod convert;
 mod converting;
-mod encode;
 pub mod laws;
 
 pub use convert::{ConvertFault, convert_section, judge_conversion};
 pub use converting::convert_unit;
-pub use encode::encode_unit;
 pub use lnt_header_encode::encode_header;
+pub use lnt_unit::encode_unit;

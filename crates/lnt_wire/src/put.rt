@@ -1,6 +1,6 @@
 //! Numbers and values, written at the end of a vector (DWARF 5, sections 7.4, 7.5.6 and 7.6). A refused call leaves the vector
 //! as it was.
-ghost use Rattle.std.specs.Prelude.{◌≡◌, ◌<◌, ◌↔◌, Some, pos, length, take, IsErrOf, OnOk, OnErr};
+ghost use Rattle.std.specs.Prelude.{◌≡◌, ◌<◌, ◌↔◌, Some, pos, length, take, IsErrOf, IfErr, OnOk, OnErr};
 ghost use Rattle.std.specs.Int.{int_rem_euclid};
 ghost use Rattle.lnt_wire.specs.Bytes.{Appends, Extends};
 ghost use Rattle.lnt_wire.specs.FaultTexts.{encode_fault_text};
@@ -61,7 +61,7 @@ impl<T: Drop> From<AllocFailed<T>> for EncodeFault {
 /// Adds the number as an unsigned LEB128 number, in as few bytes as spell it. The one error is that memory ran out, and then
 /// `out` is as before.
 #[tactic(auto, using(crate::proofs::PutLemmas::taken_back))]
-pub fn put_uleb(out: &mut Vec<u8>, n: u64) -> Result<(), AllocError>
+pub fn append_uleb(out: &mut Vec<u8>, n: u64) -> Result<(), AllocError>
     ensures ok { OnOk result (Appends UnsignedLeb n out.old.items out.new.items) }
     ensures unchanged { OnErr result (out.new.items ≡ out.old.items) }
 {
@@ -73,13 +73,31 @@ pub fn put_uleb(out: &mut Vec<u8>, n: u64) -> Result<(), AllocError>
 /// Adds the number as a signed LEB128 number, in as few bytes as spell it. The one error is that memory ran out, and then `out`
 /// is as before.
 #[tactic(auto, using(crate::proofs::PutLemmas::taken_back))]
-pub fn put_sleb(out: &mut Vec<u8>, z: i64) -> Result<(), AllocError>
+pub fn append_sleb(out: &mut Vec<u8>, z: i64) -> Result<(), AllocError>
     ensures ok { OnOk result (Appends SignedLeb z out.old.items out.new.items) }
     ensures unchanged { OnErr result (out.new.items ≡ out.old.items) }
 {
     let start = out.len();
     let ended = add_sleb(out, z);
     cut_back(out, start, ended)
+}
+
+/// Adds the number as `append_uleb` does. The one refusal is `Memory`.
+pub fn put_uleb(out: &mut Vec<u8>, n: u64) -> Result<(), EncodeFault>
+    ensures ok { OnOk result (Appends UnsignedLeb n out.old.items out.new.items) }
+    ensures err { IfErr result (λ fault. fault ≡ EncodeFault.Memory) }
+    ensures unchanged { OnErr result (out.new.items ≡ out.old.items) }
+{
+    Ok(append_uleb(out, n)?)
+}
+
+/// Adds the number as `append_sleb` does. The one refusal is `Memory`.
+pub fn put_sleb(out: &mut Vec<u8>, z: i64) -> Result<(), EncodeFault>
+    ensures ok { OnOk result (Appends SignedLeb z out.old.items out.new.items) }
+    ensures err { IfErr result (λ fault. fault ≡ EncodeFault.Memory) }
+    ensures unchanged { OnErr result (out.new.items ≡ out.old.items) }
+{
+    Ok(append_sleb(out, z)?)
 }
 
 /// Adds the value in its form, in the format and the order of its unit, each LEB128 number in as few bytes as spell it. The
@@ -246,7 +264,7 @@ fn add_wide(out: &mut Vec<u8>, value: &FormValue, order: Order) -> Result<(), Al
         FormValue::Text(text) => add_text(out, text.as_slice()),
         FormValue::LineStrp(offset) => put_u64(out, *offset, order),
         FormValue::Strp(offset) => put_u64(out, *offset, order),
-        FormValue::Udata(n) => put_uleb(out, *n),
+        FormValue::Udata(n) => append_uleb(out, *n),
         FormValue::Data1(n) => out.extend_from_slice(&[*n]),
         FormValue::Data2(n) => put_u16(out, *n, order),
         FormValue::Data4(n) => put_u32(out, *n, order),
@@ -297,7 +315,7 @@ fn add_length(
     ensures unchanged { OnErr result (out.new.items ≡ out.old.items) }
 {
     match prefix {
-        Prefix::Leb => put_uleb(out, length as u64),
+        Prefix::Leb => append_uleb(out, length as u64),
         Prefix::One => Ok(out.push(length as u8)?),
         Prefix::Two => put_u16(out, length as u16, order),
         Prefix::Four => put_u32(out, length as u32, order),

@@ -67,7 +67,7 @@ pub(crate) fn ran(
 ) -> (Result<Status, CliStop>, Vec<u8>) {
     let mut out = Narrow::new(alloc, room);
     let ended = match words(alloc, line) {
-        Ok(words) => run(alloc, words, &mut files, &mut out, &mut io::sink()),
+        Ok(words) => run(alloc, words, &mut files, &mut out),
         Err(_) => Err(CliStop::Memory),
     };
     (ended, out.into_taken())

@@ -1,7 +1,6 @@
 use crate::samples::{BELOW_ZERO, OPEN, PLAIN};
 use crate::unit::worked::unit_of;
-use lnt_machine::{Row, RunFault, Sequence};
-use lnt_sequences::matrix;
+use lnt_machine::{Row, RunFault, Sequence, matrix};
 use lnt_unit::Unit;
 use std::alloc::Global;
 

@@ -8,7 +8,7 @@ overflow_cast-len c =
     let three : c.extend_from_slice.new.self.items ≡ c.args.out.now.items ++ 0 ∷ 0 ∷ c.args.code ∷ [] = grind (arith, common_steps) in
     omega (
       arith,
-      counted_room c.args.code c.args.n c.args.out.now.items _ c.put_uleb.new.out.items three c.in_ok-put_uleb.ensures.ok,
+      counted_room c.args.code c.args.n c.args.out.now.items _ c.append_uleb.new.out.items three c.in_ok-append_uleb.ensures.ok,
       c.len.ensures,
       c.len-place.ensures,
     )
@@ -16,7 +16,7 @@ overflow_cast-len c =
 pub returns-clause-ok : goal.returns-clause-ok
 returns-clause-ok c =
     let three : c.extend_from_slice.new.self.items ≡ c.args.out.now.items ++ 0 ∷ 0 ∷ c.args.code ∷ [] = grind (arith, common_steps) in
-    counted_put c.args.code c.args.n _ _ c.args.out.now.items _ c.put_uleb.new.out.items three c.in_ok-put_uleb.ensures.ok
+    counted_put c.args.code c.args.n _ _ c.args.out.now.items _ c.append_uleb.new.out.items three c.in_ok-append_uleb.ensures.ok
     (grind (arith, common_steps)) (grind (arith, common_steps))
 
 pub index_mut-requires : goal.index_mut-requires

@@ -1,0 +1,39 @@
+-- Units by their parts, tested.
+use Rattle.std.proofs.Common.{◌≡◌, ap, ℕ, List}
+use Rattle.lnt_header.specs.declared.fault.UnitFault.{UnitFault}
+use Rattle.lnt_header.specs.declared.fault.UnitFault.TheVariants.{HeaderNumber, EntryNotOfFormat, TextHoldsZero, OpNotOfUnit}
+use Rattle.lnt_header.specs.declared.header.HeaderParts.{HeaderParts}
+use Rattle.lnt_header.specs.declared.op.Op.{Op}
+use Rattle.lnt_header.specs.HeaderRules.{IsHeader}
+use Rattle.lnt_header.specs.HeaderTests.{IsFirstNot, IsPartsFault}
+use Rattle.lnt_header.proofs.FirstLaws.{first_is_wrong}
+use Rattle.lnt_header.specs.OpRules.{Admits}
+use Rattle.lnt_header.specs.declared.unit_parts.UnitParts.{UnitParts}
+use Rattle.lnt_header.specs.UnitRules.{IsUnit}
+use Rattle.lnt_header.specs.UnitTests.{IsUnitFault}
+
+-- a header's fault is a unit's
+pub header_fault : (unit : UnitParts) (fault : UnitFault) → IsPartsFault fault unit.header → IsUnitFault fault unit
+header_fault unit HeaderNumber h = h
+header_fault unit (EntryNotOfFormat which index) h = h
+header_fault unit (TextHoldsZero which index) h = h
+header_fault unit (OpNotOfUnit index) h = absurd h
+
+pub no_header_first : (unit : UnitParts) → (IsHeader unit.header → ⊥) → IsUnit unit → ⊥
+no_header_first unit none is = none is.header
+
+pub no_ops : (unit : UnitParts) (index : ℕ) → IsFirstNot (Admits unit.header) unit.ops index → IsUnit unit → ⊥
+no_ops unit index first is = first_is_wrong first is.ops
+
+-- the first operation that isn't admitted, where the header is known by other names
+pub first_op : (unit : UnitParts) (header : HeaderParts) (ops : List Op) (index : ℕ) → header ≡ unit.header → ops ≡ unit.ops
+    → IsFirstNot (Admits header) ops index → IsFirstNot (Admits unit.header) unit.ops index
+first_op unit header ops index same all first = rw (← same, ← all) first
+
+parts_with : HeaderParts → List Op → UnitParts
+parts_with header ops = record { header = header; ops = ops }
+
+-- parts that were taken apart and put together again
+pub same_parts : (unit : UnitParts) (header : HeaderParts) → header ≡ unit.header → record { header = header; ops = unit.ops } ≡ unit
+unfolding parts_with
+same_parts unit header same = ap (λ (h : HeaderParts). parts_with h unit.ops) same

@@ -1,5 +1,0 @@
-use Rattle.std.proofs.Common.{rules}
-use Rattle.lnt_lines.proofs.lines.Lines.path_of.Goals as goal
-
-pub returns : goal.returns
-returns c = search rules
