@@ -4,8 +4,7 @@ ghost use Rattle.lnt_header.specs.FaultTexts.{entry_text};
 
 use crate::fault::UnitFault;
 use crate::tested::parts_fault;
-use lnt_lists::{Items, ShortList};
-use lnt_wire::{Form, FormValue, Format, Order};
+use lnt_wire::{Form, FormValue, Format, Items, Order};
 use std::fmt;
 use std::marker::Model;
 
@@ -22,7 +21,7 @@ pub struct Pair {
 #[derive(Debug, Drop, PartialEq, Eq)]
 pub struct Entry {
     /// One value for each pair of the table's format, in order.
-    pub values: ShortList<FormValue>,
+    pub values: Items<FormValue>,
 }
 
 /// One of the two tables of a header (DWARF 5, section 6.2.4.1).

@@ -5,7 +5,7 @@ ghost use Rattle.lnt_header.specs.HeaderRules.{IsAddressSize, IsHeader};
 ghost use Rattle.lnt_header.specs.OpRules.{Admits, IsUnknownOf, known_lengths, last_known};
 
 use crate::header::Header;
-use lnt_lists::Items;
+use lnt_wire::Items;
 
 /// The last standard opcode that is known: the first is 1 (DWARF 5, section 6.2.5.2).
 pub const LAST_KNOWN: u8 = 12;

@@ -8,8 +8,7 @@ use crate::fault::UnitFault;
 use crate::header::Header;
 use crate::op::Op;
 use crate::unit_parts::UnitParts;
-use lnt_lists::Items;
-use lnt_wire::{Format, Order};
+use lnt_wire::{Format, Items, Order};
 use std::marker::Model;
 
 /// A unit: a header, and operations that it admits (DWARF 5, section 6.2.4). Contracts see its parts.

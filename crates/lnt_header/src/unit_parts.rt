@@ -1,7 +1,7 @@
 //! What a unit is made of: the parts of its header, and operations (DWARF 5, section 6.2.4).
 use crate::header::HeaderParts;
 use crate::op::Op;
-use lnt_lists::Items;
+use lnt_wire::Items;
 
 /// What a unit is made of. `Unit::new` of the crate `lnt_unit` tells whether some unit has these parts.
 #[derive(Debug, Drop, PartialEq, Eq)]

@@ -12,7 +12,7 @@ use Rattle.lnt_wire.specs.declared.form.FormValue.{FormValue}
 use Rattle.lnt_wire.specs.declared.format.Format.{Format}
 use Rattle.lnt_header.specs.declared.header.Entry.{Entry}
 use Rattle.lnt_header.specs.declared.header.Pair.{Pair}
-use Rattle.lnt_header_bytes.specs.declared.table.Layout.TheVariants.{Path, IndexedPath, SummedPath}
+use Rattle.lnt_header_bytes.specs.declared.pass.Layout.TheVariants.{Path, IndexedPath, SummedPath}
 use Rattle.lnt_header_bytes.specs.Stepping.{Passes, PassesAll, PassesFirstTwo, IsLayout}
 use Rattle.lnt_header.specs.Joins.{Each, Several}
 use Rattle.lnt_header.proofs.ReaderLaws.{reads_map}

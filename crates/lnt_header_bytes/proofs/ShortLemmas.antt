@@ -12,11 +12,10 @@ use Rattle.lnt_wire.specs.declared.form.FormValue.{FormValue}
 use Rattle.lnt_wire.specs.declared.format.Format.{Format}
 use Rattle.lnt_header.specs.declared.header.Entry.{Entry}
 use Rattle.lnt_header.specs.declared.header.Pair.{Pair}
-use Rattle.lnt_header_bytes.specs.declared.table.Layout.TheVariants.{Path, IndexedPath, SummedPath}
 use Rattle.lnt_header.specs.Joins.{Each}
-use Rattle.lnt_header.proofs.ReaderLaws.{refuses_map, reads_map}
-use Rattle.lnt_header_bytes.specs.Layouts.{forms_of, entry_of}
-use Rattle.lnt_header_bytes.specs.Stepping.{AreFirstTwo, IsLayout, ReadsNext}
+use Rattle.lnt_header.proofs.ReaderLaws.{refuses_map}
+use Rattle.lnt_header_bytes.specs.Layouts.{forms_of}
+use Rattle.lnt_header_bytes.specs.Stepping.{ReadsNext}
 use Rattle.lnt_header_bytes.specs.TableBytes.{ValuesBytes, EntryBytes}
 use Rattle.lnt_header_bytes.specs.TableFaults.{IsEntryFault}
 use Rattle.lnt_header_bytes.proofs.ValueLaws.{values_none, values_more}
@@ -32,17 +31,6 @@ next_value : (format : Format) (pairs : List Pair) (a : Pair) (f : Form) (us : L
 next_value format pairs a f us u old middle new e r s =
     values_more format pairs a us u old middle new r (subst (λ (x : Form). Reads (ValueBytes format middle.order x) u middle new) (sym e) s)
 
-entry_next : (format : Format) (pairs : List Pair) (values : List FormValue) (before after : List Entry) (old new : At)
-    → Reads (ValuesBytes format old.order pairs) values old new → after ≡ before ++ entry_of values ∷ []
-    → ReadsNext (EntryBytes format old.order pairs) before after old new
-entry_next format pairs values before after old new r e =
-    record {
-      value = entry_of values;
-      added = e;
-      read =
-          reads_map (ValuesBytes format old.order pairs) (EntryBytes format old.order pairs) values (entry_of values) old new (λ x p. p) r;
-    }
-
 pub path_values : (format : Format) (pairs : List Pair) (u : FormValue) (old new : At) → forms_of pairs ≡ LineStrp ∷ []
     → Reads (ValueBytes format old.order LineStrp) u old new
     → Reads (ValuesBytes format old.order pairs) (u ∷ []) old new
@@ -50,12 +38,6 @@ path_values format [] u old new e r = absurd cc
 path_values format (a ∷ []) u old new e r =
     next_value format [] a LineStrp [] u old old new (same_head a.form LineStrp [] [] e) (values_none format old) r
 path_values format (a ∷ b ∷ pairs) u old new e r = absurd cc
-
-pub path_entry : (format : Format) (pairs : List Pair) (u : FormValue) (before after : List Entry) (old new : At) → IsLayout Path pairs
-    → Reads (ValueBytes format old.order LineStrp) u old new
-    → after ≡ before ++ entry_of (u ∷ []) ∷ [] → ReadsNext (EntryBytes format old.order pairs) before after old new
-path_entry format pairs u before after old new e r added =
-    entry_next format pairs (u ∷ []) before after old new (path_values format pairs u old new e r) added
 
 pub indexed_values : (format : Format) (pairs : List Pair) (u v : FormValue) (old middle new : At) → forms_of pairs ≡ LineStrp ∷ Udata ∷ []
     → Reads (ValueBytes format old.order LineStrp) u old middle
@@ -67,13 +49,6 @@ indexed_values format (a ∷ b ∷ []) u v old middle new e r s =
     let second : b.form ≡ Udata = cc in
     next_value format (a ∷ []) b Udata (u ∷ []) v old middle new second (path_values format (a ∷ []) u old middle one r) s
 indexed_values format (a ∷ b ∷ c ∷ pairs) u v old middle new e r s = absurd cc
-
-pub indexed_path_entry : (format : Format) (pairs : List Pair) (u v : FormValue) (before after : List Entry) (old middle new : At)
-    → IsLayout IndexedPath pairs
-    → Reads (ValueBytes format old.order LineStrp) u old middle → Reads (ValueBytes format middle.order Udata) v middle new
-    → after ≡ before ++ entry_of (u ∷ v ∷ []) ∷ [] → ReadsNext (EntryBytes format old.order pairs) before after old new
-indexed_path_entry format pairs u v before after old middle new e r s added =
-    entry_next format pairs (u ∷ v ∷ []) before after old new (indexed_values format pairs u v old middle new e r s) added
 
 pub summed_values : (format : Format) (pairs : List Pair) (u v w : FormValue) (old m1 m2 new : At)
     → forms_of pairs ≡ LineStrp ∷ Udata ∷ Data16 ∷ [] → Reads (ValueBytes format old.order LineStrp) u old m1
@@ -88,26 +63,12 @@ summed_values format (a ∷ b ∷ c ∷ []) u v w old m1 m2 new e r s t =
     next_value format (a ∷ b ∷ []) c Data16 (u ∷ v ∷ []) w old m2 new third (indexed_values format (a ∷ b ∷ []) u v old m1 m2 two r s) t
 summed_values format (a ∷ b ∷ c ∷ d ∷ pairs) u v w old m1 m2 new e r s t = absurd cc
 
-pub summed_path_entry : (format : Format) (pairs : List Pair) (u v w : FormValue) (before after : List Entry) (old m1 m2 new : At)
-    → IsLayout SummedPath pairs
-    → Reads (ValueBytes format old.order LineStrp) u old m1 → Reads (ValueBytes format m1.order Udata) v m1 m2
-    → Reads (ValueBytes format m2.order Data16) w m2 new
-    → after ≡ before ++ entry_of (u ∷ v ∷ w ∷ []) ∷ [] → ReadsNext (EntryBytes format old.order pairs) before after old new
-summed_path_entry format pairs u v w before after old m1 m2 new e r s t added =
-    entry_next format pairs (u ∷ v ∷ w ∷ []) before after old new (summed_values format pairs u v w old m1 m2 new e r s t) added
-
 pub one_more_entry : (format : Format) (pairs : List Pair) (before after : List Entry) (old middle new : At)
     → Reads (Each (EntryBytes format old.order pairs)) before old middle
     → ReadsNext (EntryBytes format middle.order pairs) before after middle new
     → (length after ≡ length before + 1) × Reads (Each (EntryBytes format old.order pairs)) after old new
 one_more_entry format pairs before after old middle new r s =
     rw s.added (length-append before (s.value ∷ []), entries_more format pairs before s.value old middle new r s.read)
-
-pub entry_of_three : (format : Format) (pairs : List Pair) (u v w : FormValue) (before after : List Entry) (old middle new : At)
-    → IsLayout SummedPath pairs → AreFirstTwo format u v old middle → Reads (ValueBytes format middle.order Data16) w middle new
-    → after ≡ before ++ entry_of (u ∷ v ∷ w ∷ []) ∷ [] → ReadsNext (EntryBytes format old.order pairs) before after old new
-entry_of_three format pairs u v w before after old middle new e two r added =
-    summed_path_entry format pairs u v w before after old two.between middle new e two.path_read two.directory_read r added
 
 -- refusals
 pub entry_refused : (format : Format) (pairs : List Pair) (old : At) (fault : Fault)

@@ -13,8 +13,8 @@ use Rattle.lnt_wire.specs.Reading.{Reads, Refuses}
 use Rattle.lnt_header.specs.declared.header.HeaderParts.{HeaderParts}
 use Rattle.lnt_header.specs.declared.header.Pair.{Pair}
 use Rattle.lnt_header_bytes.specs.declared.numbers.Singles.{Singles}
-use Rattle.lnt_header_bytes.specs.declared.table.Layout.{Layout}
-use Rattle.lnt_header_bytes.specs.declared.table.Layout.TheVariants.{Path, IndexedPath, SummedPath, Other}
+use Rattle.lnt_header_bytes.specs.declared.pass.Layout.{Layout}
+use Rattle.lnt_header_bytes.specs.declared.pass.Layout.TheVariants.{Path, IndexedPath, SummedPath, Other}
 use Rattle.lnt_header_bytes.specs.Layouts.{forms_of}
 use Rattle.lnt_header_bytes.specs.declared.read_table.EntryTableRead.{EntryTableRead}
 use Rattle.lnt_header_bytes.specs.FieldsBytes.{FieldsBytes}

@@ -9,7 +9,7 @@ use crate::marks::Marks;
 use crate::read_table::EntriesInPlace;
 use crate::table_view::EntryTableView;
 use lnt_header::{Header, HeaderParts};
-use lnt_lists::Items;
+use lnt_wire::Items;
 use std::alloc::{AllocError, Global};
 use std::marker::Model;
 

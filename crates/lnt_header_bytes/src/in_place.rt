@@ -19,8 +19,7 @@ use crate::numbers::{Singles, read_lengths, read_singles};
 use crate::read_table::{EntriesInPlace, EntryTableRead, read_table};
 use crate::start::read_start;
 use lnt_header::{Header, HeaderParts, Pair};
-use lnt_lists::Items;
-use lnt_wire::{Cursor, Fault, Format, Frame, Order, Reason, copied};
+use lnt_wire::{Cursor, Fault, Format, Frame, Items, Order, Reason, copied};
 use std::alloc::Global;
 use std::marker::Model;
 

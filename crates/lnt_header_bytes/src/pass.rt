@@ -6,7 +6,6 @@ ghost use Rattle.lnt_header_bytes.specs.TableBytes.{EntryBytes};
 ghost use Rattle.lnt_header_bytes.specs.TableFaults.{IsEntryFault, IsEntriesFault};
 ghost use Rattle.lnt_wire.specs.Reading.{Refuses};
 
-use crate::table::{Layout, layout_of};
 use lnt_header::Pair;
 use lnt_wire::{Cursor, Fault, Form, Format};
 
@@ -30,6 +29,59 @@ pub(crate) fn pass_entries<'a>(
     }
     let (bytes, _) = all.split_at(all.len() - cursor.rest().len());
     Ok(bytes)
+}
+
+// Which forms the entries of a table have. Entries of the layouts that compilers write are passed by a function of their own. The
+// layout says nothing of the content types; its name is what compilers mean by it.
+#[derive(Clone, Copy)]
+enum Layout {
+    // A `LineStrp`: a path in `.debug_line_str`.
+    Path,
+    // The same, and a `Udata`: the index of a directory.
+    IndexedPath,
+    // The same, and a `Data16`: an MD5 sum.
+    SummedPath,
+    // Any forms, those above too.
+    Other,
+}
+
+// The layout of a table's entries.
+fn layout_of(pairs: &[Pair]) -> Layout
+    ensures { IsLayout result pairs.now }
+{
+    match pairs {
+        [
+            Pair {
+                form: Form::LineStrp,
+                ..
+            },
+        ] => Layout::Path,
+        [
+            Pair {
+                form: Form::LineStrp,
+                ..
+            },
+            Pair {
+                form: Form::Udata,
+                ..
+            },
+        ] => Layout::IndexedPath,
+        [
+            Pair {
+                form: Form::LineStrp,
+                ..
+            },
+            Pair {
+                form: Form::Udata,
+                ..
+            },
+            Pair {
+                form: Form::Data16,
+                ..
+            },
+        ] => Layout::SummedPath,
+        _ => Layout::Other,
+    }
 }
 
 // Moves past the next entry.

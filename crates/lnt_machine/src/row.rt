@@ -1,5 +1,5 @@
 //! Rows, and the sequences that they stand in.
-use lnt_lists::Items;
+use lnt_wire::Items;
 
 /// A row of the matrix: the registers as they stood when it was made (DWARF 5, section 6.2.2).
 ///

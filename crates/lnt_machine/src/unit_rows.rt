@@ -8,7 +8,7 @@ use crate::fault::RunFault;
 use crate::row::{Row, Sequence};
 use crate::run::Run;
 use lnt_header::Unit;
-use lnt_lists::Items;
+use lnt_wire::Items;
 use std::alloc::{AllocError, Global};
 use std::mem;
 

@@ -12,8 +12,7 @@ use crate::extended::read_extended;
 use crate::owned::owned_operands;
 use crate::unknown::read_unknown;
 use lnt_header::{Header, Op, OpView};
-use lnt_lists::Items;
-use lnt_wire::{Cursor, Fault};
+use lnt_wire::{Cursor, Fault, Items};
 use std::alloc::{AllocError, Global};
 
 /// The next operation of a program in a unit with this header, in whose byte order the cursor reads (DWARF 5, section

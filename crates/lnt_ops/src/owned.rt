@@ -6,8 +6,7 @@ ghost use Rattle.lnt_header.specs.OpRules.{AreOperands};
 ghost use Rattle.lnt_ops.specs.OperandLists.{IsOperands, SpellsNumbers};
 
 use lnt_header::Operands;
-use lnt_lists::Items;
-use lnt_wire::{Cursor, Order};
+use lnt_wire::{Cursor, Items, Order};
 use std::alloc::{AllocError, Global};
 
 /// The numbers of borrowed operands, in memory of their own. The only error is that memory ran out.

@@ -9,8 +9,7 @@ ghost use Rattle.lnt_ops.specs.Programs.{BrokenProgram};
 use crate::iterator::Ops;
 use crate::operation::owned_op;
 use lnt_header::{Header, Op};
-use lnt_lists::Items;
-use lnt_wire::{Fault, Reason};
+use lnt_wire::{Fault, Items, Reason};
 use std::alloc::Global;
 
 /// The operations of a whole program in a unit with this header (DWARF 5, section 6.2.5). The program's first byte

@@ -1,5 +1,4 @@
 //! Bytes, units and their rows.
-mod lists;
 mod matrices;
 mod sections;
 mod sources;

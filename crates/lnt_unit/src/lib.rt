@@ -16,7 +16,6 @@ pub use lnt_header::{
 };
 pub use lnt_header_bytes::{HeaderInPlace, HeaderView, KeptHeader, decode_header};
 pub use lnt_header_encode::encode_header;
-pub use lnt_lists::{Items, ShortList};
 pub use lnt_ops::Ops;
 pub use lnt_stream::{Progress, SectionReader, SectionStop, UnitBuffer};
 pub use view::UnitView;

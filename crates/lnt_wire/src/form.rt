@@ -2,8 +2,8 @@
 ghost use Rattle.std.specs.Prelude.{◌≡◌, ◌↔◌, IsTrue, MatchOption};
 ghost use Rattle.lnt_wire.specs.FormBytes.{form_code, form_of, IsUnknownForm, HasSpelling};
 
+use crate::items::Items;
 use crate::strings::text_size;
-use lnt_lists::Items;
 
 /// A form that a value of a table may have. A table with values in any other form is refused, with `UnknownForm`.
 #[derive(Clone, Copy, Debug, PartialEq, Eq)]

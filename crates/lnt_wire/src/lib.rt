@@ -11,6 +11,7 @@ mod form;
 mod format;
 mod frame;
 mod initial;
+mod items;
 pub mod laws;
 mod leb;
 mod number;
@@ -24,8 +25,8 @@ pub use fault::{Fault, Reason};
 pub use form::{Form, FormValue};
 pub use format::{Format, Order};
 pub use frame::{Frame, Framed, frames, take_frame};
+pub use items::Items;
 pub use lnt_input::{Counted, ReadFault, Source, Stop as SourceStop, read_all};
-pub use lnt_lists::Items;
 pub use put::{
     EncodeFault, append_sleb, append_uleb, put_form, put_offset, put_sleb, put_u16, put_u32,
     put_u64, put_uleb,

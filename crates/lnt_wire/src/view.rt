@@ -3,7 +3,7 @@ ghost use Rattle.std.specs.Prelude.{◌≡◌, IfOk};
 ghost use Rattle.lnt_wire.specs.Borrowed.{value_of};
 
 use crate::form::FormValue;
-use lnt_lists::Items;
+use crate::items::Items;
 use std::alloc::{AllocError, Global};
 
 /// A value in one of the forms. Its bytes are those of the section, which aren't copied; `FormValue` has bytes of its own.

@@ -4,4 +4,4 @@ use Rattle.lnt_header_bytes.specs.TableBytes.{ValuesBytes}
 use Rattle.lnt_header_bytes.proofs.table.read_values.Given as goal
 
 abbrev pub invariant-loop-pair : goal.invariant-loop-pair
-invariant-loop-pair l = Reads (ValuesBytes l.fn.format l.fn.cursor.order (take l.pair-index l.fn.pairs)) l.values l.fn.cursor l.cursor
+invariant-loop-pair l = Reads (ValuesBytes l.fn.format l.fn.cursor.order (take l.pair-index l.fn.pairs)) l.values.items l.fn.cursor l.cursor

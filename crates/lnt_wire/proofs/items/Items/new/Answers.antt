@@ -1,5 +1,5 @@
 use Rattle.std.proofs.Common.{rules}
-use Rattle.lnt_lists.proofs.items.Items.into_vec.Goals as goal
+use Rattle.lnt_wire.proofs.items.Items.new.Goals as goal
 
 pub returns : goal.returns
 returns g c = search rules

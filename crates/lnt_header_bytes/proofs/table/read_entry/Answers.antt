@@ -3,7 +3,7 @@ use Rattle.lnt_wire.specs.Reading.{RefusesOr}
 use Rattle.lnt_header_bytes.specs.TableBytes.{EntryBytes}
 use Rattle.lnt_header_bytes.specs.TableFaults.{IsEntryFault}
 use Rattle.lnt_header_bytes.proofs.ShortLemmas.{entry_refused}
-use Rattle.lnt_header_bytes.proofs.table.read_other_entry.Goals as goal
+use Rattle.lnt_header_bytes.proofs.table.read_entry.Goals as goal
 
 pub returns-in_err-values-clause-err : goal.returns-in_err-values-clause-err
 returns-in_err-values-clause-err c =
