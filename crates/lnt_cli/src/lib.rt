@@ -1,8 +1,9 @@
-//! The command `linetab`, over an opener of files and two writers, of the answer and of notes.
+//! The command `linetab`, over an opener of files and two writers, of the answer and of notes. It reads the words, opens the files that
+//! they name, and writes the answer to one writer and advice to the other. It doesn't call the system: a program hands it an
+//! [`Opener`] and the writers.
 //!
-//! [`run`] reads the words of the command, opens the files that they name, and writes the answer to one writer and notes to
-//! another; [`answer`] does the same for a request that was read already. Neither calls the system: a program hands it an
-//! [`Opener`] and the two writers.
+//! Start with [`run`] for the answer alone, with [`run_with_notes`] for both, or with [`answer`] for a request that was read
+//! already.
 #![tactic(auto)]
 
 mod inputs;
@@ -12,8 +13,14 @@ mod question;
 mod session;
 mod stop;
 
-pub use lnt_sources::{Opener, Status};
-pub use lnt_sums::{Agreement, md5_agrees, sum_of};
-pub use lnt_words::Asked;
+// Running the command.
+pub use lnt_words::{Asked, WordsStop};
 pub use program::{answer, run, run_with_notes};
 pub use stop::CliStop;
+
+// Files by their names, and how a run ends.
+pub use lnt_sources::{Halt, Opener, Status};
+
+// MD5 sums.
+pub use lnt_sums::{Agreement, md5_agrees, sum_of};
+pub use lnt_wire::{Source, SourceStop as Stop};

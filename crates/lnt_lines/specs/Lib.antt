@@ -10,3 +10,20 @@ pub mod Nos
 pub mod Refusals
 pub mod Running
 pub mod Stepping
+-- what public clauses say of sources and of units
+pub use Rattle.lnt_input.specs.FaultTexts as SourceTexts
+pub use Rattle.lnt_input.specs.Pulling
+pub use Rattle.lnt_unit.specs.UnitBytes
+pub use Rattle.lnt_header.specs.declared.unit_parts.UnitParts as DeclaredParts
+-- of their tables and of their rows
+pub use Rattle.lnt_files.specs.Tables
+pub use Rattle.lnt_machine.specs.Matrix
+pub use Rattle.lnt_sequences.specs.FaultTexts as SequenceTexts
+pub use Rattle.lnt_sequences.specs.RowSpans
+pub use Rattle.lnt_sequences.specs.Sequences
+-- and of positions, answers and spans
+pub use Rattle.lnt_spans.specs.Answers
+pub use Rattle.lnt_spans.specs.Instructions
+pub use Rattle.lnt_spans.specs.Positions
+pub use Rattle.lnt_spans.specs.Sides
+pub use Rattle.lnt_spans.specs.Spans

@@ -1,8 +1,9 @@
-//! A whole line number section of DWARF 5, judged in one pass, and what a good one answers.
+//! A whole line number section of DWARF 5 (section 6.2), judged in one pass, and what a good one answers. A good section answers at
+//! each position, an address with an operation index, what its rows say there; of another one the first thing that is wrong is
+//! told as a [`No`].
 //!
-//! [`verify`] takes the section unit by unit from a source, keeps no operation and no row, and gives its [`Lines`], or
-//! the first thing that is wrong with it as a [`No`]. [`index_section`] judges alike, and gives an [`Index`], which decodes
-//! rows where they are asked for.
+//! Start with [`verify`], whose [`Lines`] hold all spans and need the section no more, or with [`index_section`], whose
+//! [`Index`] is smaller and decodes rows where they are asked for.
 #![tactic(auto)]
 
 mod draft;
@@ -18,12 +19,17 @@ mod run;
 mod section;
 mod spans;
 
-pub use index::Index;
-pub use lines::Lines;
-pub use lnt_input::Stop;
-pub use lnt_sequences::SeqId;
-pub use lnt_spans::{Answer, More, Position, Probes, Span, Version};
+// Judging.
+pub use lnt_wire::{Fault, Order, SourceStop as Stop, Strings};
 pub use no::No;
 pub use options::Options;
 pub use section::{Judged, JudgedIndex, index_section, verify};
+
+// What a good section answers.
+pub use index::Index;
+pub use lines::Lines;
 pub use spans::Spans;
+
+// Positions and answers.
+pub use lnt_sequences::{Overlap, SeqId};
+pub use lnt_spans::{Answer, More, Position, Probes, Span, SpanSource, Version};

@@ -8,3 +8,26 @@ pub mod Stepping
 pub mod Stretches
 pub mod Verdicts
 pub mod Written
+-- what public clauses say of sources
+pub use Rattle.lnt_input.specs.FaultTexts as SourceTexts
+pub use Rattle.lnt_input.specs.Pulling
+-- of sections
+pub use Rattle.lnt_lines.specs.Good
+pub use Rattle.lnt_lines.specs.Indexed
+pub use Rattle.lnt_lines.specs.Nos
+-- and of tables: their records, their spans, and what differs
+pub use Rattle.lnt_paths.specs.Held
+pub use Rattle.lnt_paths.specs.PathAnswers
+pub use Rattle.lnt_paths.specs.PathDifferences
+pub use Rattle.lnt_paths.specs.PathSpans
+pub use Rattle.lnt_paths.specs.PathStretches
+pub use Rattle.lnt_paths.specs.Stretching
+pub use Rattle.lnt_paths.specs.Written as WrittenByPath
+pub use Rattle.lnt_records.specs.Differing
+pub use Rattle.lnt_records.specs.FaultTexts as TableTexts
+pub use Rattle.lnt_records.specs.Faults
+pub use Rattle.lnt_records.specs.Table
+pub use Rattle.lnt_records.specs.Written as WrittenByNumber
+pub use Rattle.lnt_spans.specs.AnyStretches
+pub use Rattle.lnt_spans.specs.Differences
+pub use Rattle.lnt_spans.specs.Spans

@@ -2,6 +2,31 @@ pub mod BrokenUnits
 pub mod Converting
 pub mod Laws
 pub mod Stepping
+pub mod TooLong
 pub mod UnitBytes
 pub mod Views
-pub mod TooLong
+-- what public clauses say of units as values
+pub use Rattle.lnt_header.specs.Conversion
+pub use Rattle.lnt_header.specs.Encoding
+pub use Rattle.lnt_header.specs.FaultTexts
+pub use Rattle.lnt_header.specs.HeaderNumbers
+pub use Rattle.lnt_header.specs.HeaderRules
+pub use Rattle.lnt_header.specs.HeaderTests
+pub use Rattle.lnt_header.specs.OpRules
+pub use Rattle.lnt_header.specs.UnitRules
+pub use Rattle.lnt_header.specs.UnitTests
+-- of their bytes
+pub use Rattle.lnt_header_bytes.specs.Borrowed
+pub use Rattle.lnt_header_bytes.specs.Broken
+pub use Rattle.lnt_header_bytes.specs.HeaderBytes
+pub use Rattle.lnt_header_bytes.specs.Kept
+pub use Rattle.lnt_header_bytes.specs.Marks
+pub use Rattle.lnt_header_encode.specs.Large
+pub use Rattle.lnt_ops.specs.OpBytes
+pub use Rattle.lnt_ops.specs.Short
+pub use Rattle.lnt_ops.specs.Walks
+-- and of what is read unit by unit
+pub use Rattle.lnt_stream.specs.Readers
+pub use Rattle.lnt_stream.specs.Steps
+pub use Rattle.lnt_stream.specs.Stops
+pub use Rattle.lnt_stream.specs.Units
