@@ -20,7 +20,7 @@ mod section;
 mod spans;
 
 // Judging.
-pub use lnt_wire::{Fault, Order, SourceStop as Stop, Strings};
+pub use lnt_wire::{Counted, Fault, Order, Source, SourceStop as Stop, Strings};
 pub use no::No;
 pub use options::Options;
 pub use section::{Judged, JudgedIndex, index_section, verify};
