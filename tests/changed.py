@@ -1,46 +1,107 @@
-"""changed.py FILE COUNT: reads FILE as linetab-object does, COUNT times with one to four bytes that are others. Each is read, or refused
-with a reason; anything else is told, and so is a reading that takes a second."""
+"""changed.py COUNT FILE..: does as linetab-object does with each FILE, COUNT times with some bytes that are others. Each run ends with a
+status or a refusal, within a second and 64 MB. Anything else is told. The program isn't started: its answers are made up."""
 
 import importlib.machinery
 import importlib.util
 import os
 import random
+import resource
 import signal
+import subprocess
 import sys
+import tempfile
 
 TOP = os.path.dirname(os.path.dirname(os.path.abspath(__file__)))
-sys.dont_write_bytecode = True
-loader = importlib.machinery.SourceFileLoader("linetab_object", os.path.join(TOP, "linetab-object"))
-reading = importlib.util.module_from_spec(importlib.util.spec_from_loader("linetab_object", loader))
-loader.exec_module(reading)
+EXTREMES = (0, 1, 2, 0x7F, 0x80, 0xFF, 0xFFFF, 0x7FFFFFFF, 0x80000000, 0xFFFFFFFE, 0xFFFFFFFF, 1 << 63, (1 << 64) - 1)
+LINES = (
+    b"yes\n",
+    b"no 25 malformed at 0x4: version 4\n",
+    b"no 25 malformed at 0x0: truncated\n",
+    b"no 28 string outside unit 0x0 directories entry 0\n",
+    b"no 32 overlap 0x0:0 0xa0:0 at 0x1129,0\n",
+)
 
 
-def read(data):
-    try:
-        image = reading.image_of(data, "file")
-        for name in (reading.LINE, *reading.STRINGS.values()):
-            if image.has(name):
-                section = image.bytes_of(name)
-                list(reading.versions(section, image.big))
-        image.has_code_at(0)
-        reading.link_of(image)
-        list(reading.candidates("file", image, reading.link_of(image)))
-    except reading.Refusal:
-        pass
+class Late(BaseException):
+    """A run takes a second."""
 
 
-with open(sys.argv[1], "rb") as file:
-    whole = file.read()
-for seed in range(int(sys.argv[2])):
-    chance = random.Random(seed)
-    changed = bytearray(whole)
+def late(*_):
+    raise Late
+
+
+def changed(whole, chance):
+    """The file with one to four changes: other bytes, a number that is an extreme, a part moved, doubled, left out or cut off."""
+    data = bytearray(whole)
     for _ in range(chance.randint(1, 4)):
-        changed[chance.randrange(len(changed))] = chance.choice((0, 1, 0x7F, 0x80, 0xFF, chance.randrange(256)))
+        kind, at, size = chance.randrange(8), chance.randrange(len(data)), chance.choice((1, 2, 4, 8, 40, 64, 80))
+        if kind < 3:
+            data[at] = chance.choice((0, 1, 0x7F, 0x80, 0xFF, chance.randrange(256)))
+        elif kind < 5:
+            width = chance.choice((2, 4, 8))
+            number = chance.choice(EXTREMES + (len(data), len(data) - 1, chance.randrange(len(data))))
+            data[at : at + width] = (number % (1 << 8 * width)).to_bytes(width, chance.choice(("little", "big")))
+        elif kind == 5:
+            other = chance.randrange(len(data))
+            data[at : at + size] = data[other : other + size]
+        elif kind == 6:
+            data[at:at] = chance.choice((data[at : at + size], b"\xff" * size, b"\x80" * size))
+        else:
+            del data[at : chance.choice((at + size, len(data)))]
+        data = data or bytearray(1)
+    return bytes(data)
+
+
+def loaded(chance):
+    """linetab-object as a module, without its program and what it tells."""
+    sys.dont_write_bytecode = True
+    loader = importlib.machinery.SourceFileLoader("linetab_object", os.path.join(TOP, "linetab-object"))
+    module = importlib.util.module_from_spec(importlib.util.spec_from_loader("linetab_object", loader))
+    loader.exec_module(module)
+
+    def ran(words, **_):
+        if words[-1] == "--help":
+            return subprocess.CompletedProcess(words, 0, b"  --big\n  --dead\n  --line-str\n  --str\n", b"")
+        line = chance.choice(LINES)
+        return subprocess.CompletedProcess(words, line != b"yes\n", line, chance.choice((b"", b"linetab: note: no sequence begins at 0x0,\n")))
+
+    module.ran = ran
+    module.put_error = lambda content: None
+    return module
+
+
+def tried(module, path, seed):
+    """Runs a word on the file."""
     signal.setitimer(signal.ITIMER_REAL, 1)
     try:
-        read(bytes(changed))
+        module.run("verify", path, [])
+    except module.Refusal:
+        pass
     except BaseException as error:
-        print("seed %d: %r" % (seed, error))
+        print("%s, seed %d: %r" % (sys.argv[2], seed, error))
         raise
-    signal.setitimer(signal.ITIMER_REAL, 0)
-print("%s files" % sys.argv[2])
+    finally:
+        signal.setitimer(signal.ITIMER_REAL, 0)
+
+
+def main():
+    chance = random.Random()
+    module = loaded(chance)
+    signal.signal(signal.SIGALRM, late)
+    with open("/proc/self/statm", "rb") as statm:
+        limit = int(statm.read().split()[0]) * resource.getpagesize() + (64 << 20)
+    resource.setrlimit(resource.RLIMIT_AS, (limit, limit))
+    for name in sys.argv[2:]:
+        with open(name, "rb") as file:
+            whole = file.read()
+        with tempfile.TemporaryDirectory() as folder:
+            for seed in range(int(sys.argv[1])):
+                chance.seed(seed)
+                path = os.path.join(folder, "file")
+                with open(path, "wb") as file:
+                    file.write(changed(whole, chance))
+                tried(module, path, seed)
+    print("%d files" % (int(sys.argv[1]) * len(sys.argv[2:])))
+
+
+main()

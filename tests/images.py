@@ -1,11 +1,13 @@
 """images.py FORMAT OUT [WORD..]: writes a program of that format, of nothing but headers and the sections that WORDs name.
 
 FORMAT is elf64, elf64-big, elf32, elf32-big, pe, pe32, macho, macho32-big, fat (a Mach-O file in one for several machines) or
-wasm. A WORD is NAME=FILE, a section with the bytes of a file; z:NAME=FILE, compressed with a header of ELF's own; gnu:NAME=FILE,
-compressed as .zdebug; code=ADDRESS,SIZE, code without bytes; link=NAME,FILE, a debug link with the sum of the file; id=DIGITS, a
-build id; object, core; dwo, module: sections that split debug information and kernel modules have; damaged: the compressed
-sections end early."""
+wasm. A WORD is NAME=FILE, a section with the bytes of a file; z:NAME=FILE, compressed with a header of ELF's own; zstd:NAME=FILE,
+with such a header before the bytes of a file that zstd made; gnu:NAME=FILE, compressed as .zdebug; claims=SIZE, what the headers of
+compressed sections say that they hold; code=ADDRESS,SIZE, code without bytes; link=NAME,FILE, a debug link with the sum of the file;
+id=DIGITS, a build id; object, core; dwo, module: sections that split debug information and kernel modules have; damaged: the
+compressed sections end early."""
 
+import os
 import struct
 import sys
 import zlib
@@ -18,7 +20,7 @@ def read(name):
 
 def link(order, words):
     name, file = words.split(",")
-    content = name.encode() + b"\0"
+    content = os.fsencode(name) + b"\0"
     content += b"\0" * (-len(content) % 4)
     return content + struct.pack(order + "I", zlib.crc32(read(file)))
 
@@ -33,11 +35,19 @@ def squeezed(content, damaged):
     return packed[:-8] if damaged else packed
 
 
+def packed_part(order, wide, kind, size, packed):
+    """A section with a compression header of ELF's own."""
+    return struct.pack(order + ("IIQQ" if wide else "III"), *((kind, 0, size, 1) if wide else (kind, size, 1))) + packed
+
+
 def parts_of(words, order, wide):
     """The sections: name, bytes, ELF's kind and flags, address, and the size where that isn't the number of bytes."""
     damaged = "damaged" in words
+    claims = [int(word[7:]) for word in words if word.startswith("claims=")]
     for word in words:
         name, _, value = word.partition("=")
+        if name == "claims":
+            continue
         if name == "code":
             address, size = (int(each, 0) for each in value.split(","))
             yield ".text", b"", 8, 6, address, size
@@ -49,12 +59,13 @@ def parts_of(words, order, wide):
             yield {"dwo": ".debug_info.dwo", "module": ".modinfo"}[name], b"some", 1, 0, 0, None
         elif name.startswith("z:"):
             content = read(value)
-            size = len(content)
-            head = struct.pack(order + ("IIQQ" if wide else "III"), *((1, 0, size, 1) if wide else (1, size, 1)))
-            yield name[2:], head + squeezed(content, damaged), 1, 0x800, 0, None
+            size = claims[0] if claims else len(content)
+            yield name[2:], packed_part(order, wide, 1, size, squeezed(content, damaged)), 1, 0x800, 0, None
+        elif name.startswith("zstd:"):
+            yield name[5:], packed_part(order, wide, 2, claims[0], read(value)), 1, 0x800, 0, None
         elif name.startswith("gnu:"):
             content = read(value)
-            packed = b"ZLIB" + struct.pack(">Q", len(content)) + squeezed(content, damaged)
+            packed = b"ZLIB" + struct.pack(">Q", claims[0] if claims else len(content)) + squeezed(content, damaged)
             yield name[4:].replace(".debug", ".zdebug"), packed, 1, 0, 0, None
         elif value:
             yield name, read(value), 1, 0, 0, None
@@ -63,7 +74,7 @@ def parts_of(words, order, wide):
 def elf(words, wide, big):
     order = ">" if big else "<"
     parts = list(parts_of(words, order, wide))
-    names = b"\0" + b"".join(part[0].encode() + b"\0" for part in parts) + b".shstrtab\0"
+    names = b"\0" + b"".join(os.fsencode(part[0]) + b"\0" for part in parts) + b".shstrtab\0"
     parts.append((".shstrtab", names, 3, 0, 0, None))
     start = 64 if wide else 52
     layout = order + ("IIQQQQIIQQ" if wide else "IIIIIIIIII")
@@ -88,7 +99,7 @@ def pe(words, wide):
     at = (size + 511) // 512 * 512
     headers, body, names = b"", b"", b""
     for k, (name, content, kind, _, address, length) in enumerate(parts):
-        text = name.encode()
+        text = os.fsencode(name)
         if len(text) > 8:
             names, text = names + text + b"\0", b"/%d" % (4 + len(names))
         padded = content + b"\0" * (-len(content) % 512)
@@ -113,7 +124,7 @@ def macho(words, wide, big):
     sections, body = b"", b""
     for name, content, kind, _, address, length in parts:
         inner = "__text" if kind == 8 else "__" + name[1:]
-        fields = (inner.encode(), b"__TEXT" if kind == 8 else b"__DWARF", address, len(content) if length is None else length,
+        fields = (os.fsencode(inner), b"__TEXT" if kind == 8 else b"__DWARF", address, len(content) if length is None else length,
                   at + len(body), 0, 0, 0, 0x80000400 if kind == 8 else 0x2000000, 0, 0)
         sections += struct.pack(order + ("16s16sQQIIIIIII4x" if wide else "16s16sIIIIIIIII"), *fields)
         body += content
@@ -144,7 +155,7 @@ def leb(value):
 def wasm(words):
     out = b"\0asm\1\0\0\0"
     for name, content, *_ in parts_of(words, "<", False):
-        inner = leb(len(name)) + name.encode() + content
+        inner = leb(len(os.fsencode(name))) + os.fsencode(name) + content
         out += b"\0" + leb(len(inner)) + inner
     return out + (b"\0\x08\x07linking" if "object" in words else b"")
 

@@ -3,6 +3,7 @@
 # they are here.
 cd "$(dirname "$0")/.." || exit 1
 . tests/check.bash
+. tests/unit.bash
 work=$(cd "$work" && pwd -P)
 hello=(.debug_line=examples/hello.debug_line .debug_line_str=examples/hello.debug_line_str)
 dead=(.debug_line=examples/gc-sections.debug_line .debug_line_str=examples/gc-sections.debug_line_str)
@@ -139,9 +140,44 @@ sys.stdout.buffer.write(section.replace(start + bytes(8), start + b"\xff" * 8))'
   (bytes 520000000500080038000000 010101fb0e0d 000101010100000001000001 020108 81400a 01 2f7300 0b 0009020000000000000000 \
     020108020b02612e630000612e630000 0009020010000000000000 144b0202 000101) >"$work/none"
   image elf64 dead .debug_line="$work/none"
-  expect 'the bytes of address 0 elsewhere' 0 \
-    $'low,low_op,high,high_op,unit,file,line,column,is_stmt\n0x1000,0,0x1004,0,0,1,3,0,1\n0x1004,0,0x1006,0,0,1,4,0,1\n' '' \
-    object table "$work/dead"
+  local rows=$'low,low_op,high,high_op,unit,file,line,column,is_stmt\n0x1000,0,0x1004,0,0,1,3,0,1\n0x1004,0,0x1006,0,0,1,4,0,1\n'
+  expect_notes 'the bytes of address 0 elsewhere' 0 "$rows" '' object table "$work/dead"
+  expect_notes 'the bytes of address 0 elsewhere, and a difference' 1 "no 36 table header"$'\n' \
+    "$("$linetab" check "$work/none" /dev/null 2>&1 >"$work/out")"$'\n' object check "$work/dead" /dev/null
+  cat "$work/none" "$work/ones" >"$work/both"
+  image elf64 dead .debug_line="$work/both" "${dead[1]}"
+  expect_notes 'these bytes, and sequences at the highest address' 0 \
+    "$("$linetab" verify "$work/both" --line-str examples/gc-sections.debug_line_str --dead 0xffffffffffffffff)"$'\n' \
+    "$says note: sequences begin at 0xffffffffffffffff, $note --dead 0xffffffffffffffff leaves them out"$'\n' object verify "$work/dead"
+}
+
+# Of each kind one note is told: the program's own, unless it is told here in other words.
+once() {
+  local sections=(examples/gc-sections.debug_line --line-str examples/gc-sections.debug_line_str)
+  image elf64 live "${dead[@]}" code=0x0,0x100000
+  expect_notes 'discarded code' 1 "$("$linetab" verify "${sections[@]}" --quiet)"$'\n' \
+    "$says note: sequences overlap at 0x0; if the linker left those of discarded functions there, --dead 0x0 leaves them out"$'\n' \
+    object verify "$work/live"
+  expect_notes 'discarded code, quiet' 1 "$("$linetab" verify "${sections[@]}" --quiet)"$'\n' '' object verify "$work/live" --quiet
+  image elf64 dead "${dead[@]}"
+  expect_notes 'discarded code that is left out, quiet' 0 "$("$linetab" verify "${sections[@]}" --dead 0x0 --quiet)"$'\n' '' \
+    object verify "$work/dead" --quiet
+  image elf64 texts .debug_line=examples/hello.debug_line
+  expect_notes 'texts' 1 $'no 28 string outside unit 0x0 directories entry 0\n' \
+    "$says note: the file has no .debug_line_str and no .debug_str, in which the text may be"$'\n' object verify "$work/texts"
+  # A unit of version 4 after one with a discarded sequence, which names a file that isn't there.
+  (bytes "45000000 $start $header 0009020000000000000000 0405 144b0202 000101") >"$work/named"
+  (bytes "43000000 $start $header 0009020000000000000000 144b0202 000101") >"$work/unnamed"
+  local version="$says note: 1 of its 2 units, of src/a.c, is of version 4; linetab reads DWARF 5 alone: compile with -gdwarf-5"$'\n'
+  cat "$work/named" "$work/old4" >"$work/mixed" && image elf64 dead .debug_line="$work/mixed"
+  expect_notes 'discarded code, without which another fault is told' 1 $'no 25 malformed at 0x4d: version 4\n' \
+    "$says note: sequences begin at 0x0, where $work/dead has no code: the linker left those of discarded functions there; "\
+"--dead 0x0 leaves them out"$'\n'"$version" object verify "$work/dead"
+  cat "$work/unnamed" "$work/old4" >"$work/mixed" && image elf64 dead .debug_line="$work/mixed"
+  expect_notes 'discarded code, without which the same fault is told' 1 $'no 25 malformed at 0x4b: version 4\n' "$version" \
+    object verify "$work/dead"
+  (echo ldc version) >"$work/said" && image elf64 dead .debug_line="$work/old4" z:.debug_info="$work/said" damaged
+  expect_notes 'a note that no damaged section gives' 1 $'no 25 malformed at 0x4: version 4\n' '' object verify "$work/dead"
 }
 
 versions() {
@@ -190,6 +226,8 @@ END
   expect 'two copies' 1 $'no 32 overlap 0x0:0 0xa0:0 at 0x1129,0\n' \
     "$says note: two sequences hold 0x1129: $copies"$'\n' \
     object table "$work/unit"
+  expect_notes 'two copies, told once' 1 $'no 32 overlap 0x0:0 0xa0:0 at 0x1129,0\n' \
+    "$says note: two sequences hold 0x1129: $copies"$'\n' object verify "$work/unit"
   expect 'two copies, one skipped' 0 $'yes\n' '' object verify "$work/unit" --skip-copies
 }
 
@@ -281,13 +319,91 @@ cuts() {
   done
 }
 
-# Files of which some bytes are others end in an answer or a line as well.
+# Files of which some bytes are others end in an answer or a line as well, each within a second and 64 MB.
 changes() {
   local format
+  cat "$work/old2" examples/gc-sections.debug_line "$work/old4" "$work/ones" >"$work/mixed"
   for format in elf64 elf32-big pe macho macho32-big fat wasm; do
-    image "$format" "$format" "z:${hello[0]}" "gnu:${hello[1]}" link=app,/dev/null id=0011223344 code=0x1000,0x1000
-    expect "$format, with other bytes" 0 $'1500 files\n' '' python3 tests/changed.py "$work/$format" 1500
+    image "$format" packed "z:${hello[0]}" "gnu:${hello[1]}" link=app,/dev/null id=0011223344 code=0x1000,0x1000
+    image "$format" plain .debug_line="$work/mixed" gnu:.debug_str="$work/said" code=0x1000,0x1000 link=app,/dev/null
+    expect "$format, with other bytes" 0 $'2000 files\n' '' python3 tests/changed.py 1000 "$work/packed" "$work/plain"
   done
+}
+
+# Files that would cost much more than their bytes, or another file: each is refused in little time and memory.
+hostile() {
+  local damaged="its headers reach past the end of the file, or aren't whole: it is cut or damaged"
+  local torn="section .debug_line isn't what its compression header says: the file is damaged"
+  local many='it has more than 65536 headers of sections or commands, as no program has'
+  local none='it has no .debug_line: compile'
+  local link="it has no .debug_line, and its .gnu_debuglink isn't the name of a file"
+  local name number
+  mkdir "$work/hostile" && python3 tests/hostile.py "$work/hostile" || exit 1
+  # In 200 MB and 20 seconds, with what Python itself takes.
+  within() { (ulimit -v 200000 && timeout 20 "$work/bin/linetab-object" "$@"); }
+  costs() { # NAME FILE REASON
+    expect "$1" 3 '' "$says $work/$2: $3"$'\n' within table "$work/$2"
+  }
+  costs 'names that reach far' hostile/elf-names "$none and link it with -gdwarf-5, and don't strip it"
+  costs 'files within one another, deep' hostile/fat-deep "$damaged"
+  costs 'files within one another, long' hostile/fat-long "$damaged"
+  costs 'commands that overlap' hostile/macho-commands "$damaged"
+  costs 'commands that are too many' hostile/macho-many "$many"
+  costs 'names that reach far, WebAssembly' hostile/wasm-names "$damaged"
+  costs 'a number without an end' hostile/wasm-number "$damaged"
+  costs 'sections that are too many' hostile/wasm-many "$many"
+  expect 'units of four bytes' 1 $'no 25 malformed at 0x4: truncated\n' '' within table "$work/hostile/elf-units"
+  image pe slash $'/\xb2'=/dev/null && costs 'a name that is a slash and no number' slash "$none with -gdwarf-5 by gcc or clang for mingw; a PDB has no DWARF"
+  image elf64 twice "${hello[0]}" "${hello[0]}" && costs 'two sections of a name' twice \
+    'it has two sections .debug_line, and nothing says which of them is meant'
+
+  head -c 64M /dev/zero >"$work/zeros"
+  image elf64 zeros z:.debug_line="$work/zeros" claims=100 && costs 'a compressed section that holds more than it says' zeros "$torn"
+  image elf64 zeros gnu:.debug_line="$work/zeros" claims=100 && costs 'one in .zdebug' zeros "$torn"
+  number=$(python3 -c 'import zlib; print(len(zlib.compress(bytes(64 << 20))))')
+  image elf64 zeros z:.debug_line="$work/zeros" && costs 'one that holds very much' zeros "section .debug_line stands for 67108864 bytes \
+by its compression header, and has $number: where that is true, objcopy --decompress-debug-sections unpacks it"
+  if here 'a section that zstd made, which holds more than it says' zstd; then
+    zstd -qc "$work/zeros" >"$work/zeros.zst"
+    image elf64 zeros zstd:.debug_line="$work/zeros.zst" claims=100 && costs 'one that zstd made' zeros "$torn"
+  fi
+
+  mkfifo "$work/pipe" && costs 'a pipe' pipe 'it is no regular file: write what it gives into one'
+  for name in ../etc/passwd "$work/pipe" /dev/stdin .. '' "$(printf 'n%.0s' {1..300})"; do
+    image elf64 leads link="$name",/dev/null && costs "a debug link to ${name:0:20}" leads "$link"
+  done
+  name=pipe
+  image elf64 leads link=$name,/dev/null && costs 'a debug link to a pipe' leads "it has no .debug_line: it is stripped, and its debug \
+information isn't in $work/$name or $work/.debug/$name or /usr/lib/debug$work/$name; install the package with the debug symbols (Debian: \
+-dbgsym or -dbg), or take the file before it was stripped"
+}
+
+# Standard streams that are closed or full, and a program that doesn't end by itself.
+streams() {
+  local dead="$says note: sequences begin at 0x0, where $work/dead has no code: the linker left those of discarded functions there;"
+  local left
+  image elf64 elf64 "${hello[@]}" code=0x1000,0x1000
+  image elf64 dead "${dead[@]}"
+  left=$("$linetab" verify examples/gc-sections.debug_line --line-str examples/gc-sections.debug_line_str --dead 0x0)$'\n'
+  expect 'a closed standard error' 0 "$table" '' bash -c 'object table "$0" 2>&-' "$work/elf64"
+  expect 'a closed standard error, and a note' 0 "$left" '' bash -c 'object verify "$0" 2>&-' "$work/dead"
+  expect 'a full standard error, and a note' 0 "$left" '' bash -c 'object verify "$0" 2>/dev/full' "$work/dead"
+  expect 'a full standard error, and a refusal' 3 '' '' bash -c 'object verify "$0" 2>/dev/full' "$work/nothing"
+  expect 'a closed standard error, and a refusal' 3 '' '' bash -c 'object verify "$0" 2>&-' "$work/nothing"
+  expect 'a closed standard output' 3 '' $'linetab: cannot write\n' bash -c 'object table "$0" >&-' "$work/elf64"
+  expect 'a closed standard input' 0 "$table" '' bash -c 'object table "$0" <&-' "$work/elf64"
+  expect 'a table of a closed standard input' 3 '' $'linetab: cannot read -\n' bash -c 'object check "$0" - <&-' "$work/elf64"
+  expect 'no standard stream' 3 '' '' bash -c 'object table "$0" <&- >&- 2>&-' "$work/elf64"
+  expect 'help on a closed output' 3 '' "$says cannot write"$'\n' bash -c 'object --help >&-'
+  expect 'help on a full device' 3 '' "$says cannot write"$'\n' bash -c 'object --help >/dev/full'
+  mkdir "$work/killed" && cp linetab-object "$work/killed"
+  printf '#!/bin/sh\n[ "$2" = --help ] || kill -KILL $$\n' >"$work/killed/linetab" && chmod +x "$work/killed/linetab"
+  expect 'a program that is killed' 0 $'-9\n' '' python3 -c 'import subprocess, sys; print(subprocess.call(sys.argv[1:]))' \
+    "$work/killed/linetab-object" table "$work/elf64"
+  echo none >"$work/killed/linetab"
+  expect 'a program that is none' 3 '' "$says $work/elf64: the program linetab can't be run: Exec format error"$'\n' \
+    "$work/killed/linetab-object" table "$work/elf64"
+  expect 'a closed pipe' 0 $'low,\n3\n' '' bash -c 'object table "$0" --wide | head -c 4; echo; echo ${PIPESTATUS[0]}' "$work/elf64"
 }
 
 # A program of each compiler: its own table is answered by yes.
@@ -345,10 +461,13 @@ words
 packed
 discarded
 versions
+once
 apart
 refusals
 cuts
 changes
+hostile
+streams
 compiled
 installed
 finish
