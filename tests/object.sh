@@ -358,14 +358,14 @@ hostile() {
     'it has two sections .debug_line, and nothing says which of them is meant'
 
   head -c 64M /dev/zero >"$work/zeros"
-  image elf64 zeros z:.debug_line="$work/zeros" claims=100 && costs 'a compressed section that holds more than it says' zeros "$torn"
-  image elf64 zeros gnu:.debug_line="$work/zeros" claims=100 && costs 'one in .zdebug' zeros "$torn"
+  image elf64 lies z:.debug_line="$work/zeros" claims=100 && costs 'a compressed section that holds more than it says' lies "$torn"
+  image elf64 lies gnu:.debug_line="$work/zeros" claims=100 && costs 'one in .zdebug' lies "$torn"
   number=$(python3 -c 'import zlib; print(len(zlib.compress(bytes(64 << 20))))')
-  image elf64 zeros z:.debug_line="$work/zeros" && costs 'one that holds very much' zeros "section .debug_line stands for 67108864 bytes \
+  image elf64 lies z:.debug_line="$work/zeros" && costs 'one that holds very much' lies "section .debug_line stands for 67108864 bytes \
 by its compression header, and has $number: where that is true, objcopy --decompress-debug-sections unpacks it"
   if here 'a section that zstd made, which holds more than it says' zstd; then
     zstd -qc "$work/zeros" >"$work/zeros.zst"
-    image elf64 zeros zstd:.debug_line="$work/zeros.zst" claims=100 && costs 'one that zstd made' zeros "$torn"
+    image elf64 lies zstd:.debug_line="$work/zeros.zst" claims=100 && costs 'one that zstd made' lies "$torn"
   fi
 
   mkfifo "$work/pipe" && costs 'a pipe' pipe 'it is no regular file: write what it gives into one'
@@ -380,7 +380,6 @@ information isn't in $work/$name or $work/.debug/$name or /usr/lib/debug$work/$n
 
 # Standard streams that are closed or full, and a program that doesn't end by itself.
 streams() {
-  local dead="$says note: sequences begin at 0x0, where $work/dead has no code: the linker left those of discarded functions there;"
   local left
   image elf64 elf64 "${hello[@]}" code=0x1000,0x1000
   image elf64 dead "${dead[@]}"
@@ -403,7 +402,7 @@ streams() {
   echo none >"$work/killed/linetab"
   expect 'a program that is none' 3 '' "$says $work/elf64: the program linetab can't be run: Exec format error"$'\n' \
     "$work/killed/linetab-object" table "$work/elf64"
-  expect 'a closed pipe' 0 $'low,\n3\n' '' bash -c 'object table "$0" --wide | head -c 4; echo; echo ${PIPESTATUS[0]}' "$work/elf64"
+  expect 'a closed pipe' 0 $'3\n' '' bash -c '{ sleep 1; object table "$0"; echo $? >"$0.status"; } | true; cat "$0.status"' "$work/elf64"
 }
 
 # A program of each compiler: its own table is answered by yes.
