@@ -7,5 +7,5 @@ function flag(name,   i) {
 /^debug_line\[/ { count = 0 }
 /^0x[0-9a-f]+ +[0-9]+ +[0-9]+ +[0-9]+ +[0-9]+ +[0-9]+/ {
   marks = (flag("basic_block") ? "b" : "") (flag("end_sequence") ? "e" : "") (flag("prologue_end") ? "p" : "") (flag("epilogue_begin") ? "g" : "")
-  print "row", count++, hex($1), $4, $2, $3, flag("is_stmt"), marks == "" ? "-" : marks, $5, $6
+  print "row", count++, hex($1), $4, $2, $3, flag("is_stmt"), (marks == "" ? "-" : marks), $5, $6
 }

@@ -4,8 +4,8 @@ function component(content,   i) {
   for (i = 3; i <= NF; i++) if (index($i, content "=") == 1) return substr($i, length(content) + 2)
   return ""
 }
-function or(value, other) { return value == "" ? other : value }
+function value_or(value, other) { return value == "" ? other : value }
 /^unit / { print }
 /^header / { print }
 /^dir / { print "dir", $2, component("1") }
-/^file / { print "file", $2, component("1"), or(component("2"), 0), or(component("5"), "-") }
+/^file / { print "file", $2, component("1"), value_or(component("2"), 0), value_or(component("5"), "-") }
