@@ -1,10 +1,9 @@
 #!/usr/bin/env bash
 # What the program answers of sections and tables that are written here byte by byte: verdicts, lookups, tables, sums,
 # what is printed of units, and what it says of words that it doesn't take.
-cd "$(dirname "$0")/.." || exit 1
+cd "$(dirname "$(readlink -f -- "$0")")/.." || exit 1
 . tests/check.bash
 . tests/unit.bash
-top=$PWD
 
 # ---- units, in hexadecimal digits: little-endian and in the 32-bit format unless said otherwise
 

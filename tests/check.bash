@@ -1,13 +1,22 @@
 # For the scripts of tests/: runs a command and compares what it writes and its exit status with what is wanted. That python3 is
 # here is taken for granted, since the toolchain's command `rt` is written in it.
+top=$PWD
+. ./sources.bash
+tell_help "tests/${0##*/}" "$@"
 passed=0
 failed=0
 skipped=0
-work=$(mktemp -d) || exit 1
-trap 'rm -rf "$work"' EXIT
+tools=(bash awk)
+make_room || exit 1
+work=$room
 
 # Builds the program, where it isn't built.
-./linetab --help >/dev/null || exit 1
+guarded ./linetab --help >/dev/null || exit 1
+
+# The whole path of a file that a word of the script names, from where the script was called.
+from_there() { # NAME
+  (cd "$OLDPWD" && readlink -f -- "$1")
+}
 
 # The bytes of hexadecimal digits.
 bytes() {
@@ -58,12 +67,21 @@ here() {
   local tool
   for tool in "${@:2}"; do
     command -v "$tool" >/dev/null || { skip "$tool isn't here: $1"; return 1; }
+    [[ " ${tools[*]} " == *" $tool "* ]] || tools+=("$tool")
   done
 }
 
-# Prints the counts, with what was left out, and ends the script.
+# What a tool says of its version.
+version_of() { # TOOL
+  { "$1" --version || "$1" -W version; } 2>&1 </dev/null | grep -m 1 '[0-9]'
+}
+
+# Prints the counts, with what was left out, and ends the script. Where something failed, it tells first by which tools.
 finish() {
-  local left_out=
+  local left_out= tool
+  [ "$failed" -eq 0 ] || for tool in "${tools[@]}"; do
+    echo "with $tool: $(version_of "$tool")"
+  done
   [ "$skipped" -eq 0 ] || left_out=", $skipped skipped"
   echo "$passed passed, $failed failed$left_out"
   [ "$failed" -eq 0 ]

@@ -1,6 +1,9 @@
 #!/usr/bin/env bash
 # The edits of must-fail/, which the gate doesn't try: each names a file of its crate, and has texts that stand in it exactly once.
-cd "$(dirname "$0")/.." || exit 1
+cd "$(dirname "$(readlink -f -- "$0")")/.." || exit 1
+top=$PWD
+. ./sources.bash
+tell_help tests/edits.sh "$@"
 exec python3 - must-fail/*/*.edit <<'END'
 import sys
 

@@ -2,15 +2,13 @@
 # embedding.sh [FOLDER..]: the static library, called from C, C++, Rust and Python: what it tells is what the built program prints,
 # of the sections in FOLDERs too, as tests/embedding/callers.py names them. Each request for memory is refused in turn, and eight
 # threads call at once. What isn't here, as a compiler, is left out and counted.
+cd "$(dirname "$(readlink -f -- "$0")")/.." || exit 1
+. tests/check.bash
 folders=()
 for folder; do
-  folders+=("$(cd "$folder" && pwd)") || exit 1
+  [ -d "$(from_there "$folder")" ] || { echo "tests/embedding.sh: no folder $folder" >&2; exit 2; }
+  folders+=("$(from_there "$folder")")
 done
-cd "$(dirname "$0")/.." || exit 1
-. tests/check.bash
-top=$PWD
-. ./sources.bash
-work=$(cd "$work" && pwd -P)
 prefix=$work/prefix
 hello=(examples/hello.debug_line examples/hello.debug_line_str)
 callers=()

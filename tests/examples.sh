@@ -1,6 +1,6 @@
 #!/usr/bin/env bash
 # The units of the example sections, as readelf and llvm-dwarfdump list them, and a table of what the latter says.
-cd "$(dirname "$0")/.." || exit 1
+cd "$(dirname "$(readlink -f -- "$0")")/.." || exit 1
 . tests/check.bash
 for name in hello hello-clang gc-sections; do
   expect "units of $name" 0 "$(cat tests/expected/$name.units)"$'\n' '' ./linetab units "examples/$name.debug_line"

@@ -1,9 +1,9 @@
 #!/usr/bin/env bash
 # What install puts under a prefix: programs that run, man pages and completions of each word and option that the program's help
-# has; and the archive of release, which is the same twice, and runs where nothing but the C library is.
-cd "$(dirname "$0")/.." || exit 1
+# has; and the archive of release, which is the same twice, and runs where nothing but the C library is. What words neither takes, and
+# what they leave where something is in the way.
+cd "$(dirname "$(readlink -f -- "$0")")/.." || exit 1
 . tests/check.bash
-work=$(cd "$work" && pwd -P)
 prefix=$work/prefix
 linetab=$prefix/bin/linetab
 hello=(examples/hello.debug_line examples/hello.csv --line-str examples/hello.debug_line_str)
@@ -21,7 +21,9 @@ same() { # NAME WANTED GIVEN
 }
 
 expect 'a prefix' 0 '' '' ./install "$prefix"
-expect 'no prefix' 2 '' $'usage: ./install [--library] PREFIX\n' ./install
+for words in '' "''" --libary '-- x' 'x y' '--library'; do
+  expect "no prefix: $words" 2 '' $'usage: ./install [--library] PREFIX\n' bash -c "./install $words"
+done
 expect 'the program' 0 $'yes\n' '' "$linetab" check "${hello[@]}"
 python3 tests/images.py elf64 "$work/app" .debug_line=examples/hello.debug_line .debug_line_str=examples/hello.debug_line_str
 expect 'linetab-object beside it' 0 $'yes\n' '' "$prefix/bin/linetab-object" check "$work/app" examples/hello.csv
@@ -30,6 +32,33 @@ expect 'by a link' 0 $'yes\n' '' \
 expect 'no file that all may write' 0 '' '' find "$prefix" -perm /022
 expect 'licences' 0 '' '' \
   bash -c 'for file in LICENSE-APACHE LICENSE-MIT; do cmp $file "$0/share/doc/linetab/$file" || exit; done' "$prefix"
+
+in_the_way() {
+  local there=$work/in\ the\ way before
+  mkdir -p "$there/elsewhere/a prefix"
+  # The same, by a relative name, where CDPATH has such a folder too; and by two at once.
+  expect 'a relative prefix' 0 '' '' bash -c 'cd "$1" && CDPATH=$1/elsewhere "$0/install" "a prefix" && diff -r "a prefix" "$2"' \
+    "$top" "$there" "$prefix"
+  expect 'two at once' 0 '' '' bash -c './install "$0/both" & ./install "$0/both" && wait "$!" && diff -r "$0/both" "$1"' "$there" "$prefix"
+  : >"$there/file"
+  for before in "$there/file" "$there/file/within" /proc/none; do
+    expect "nothing can be written: $before" 1 '' "install: nothing can be written to $before/bin"$'\n' last_line ./install "$before"
+  done
+  mkdir -p "$there/folder/bin/linetab"
+  expect 'a folder in the place of a file' 1 '' '' bash -c './install "$0" 2>/dev/null' "$there/folder"
+  expect 'which is left empty' 0 '' '' find "$there/folder" -mindepth 3
+  # Half of the program could be written.
+  rm -rf "$there/folder/bin/linetab"
+  echo before >"$there/folder/bin/linetab"
+  expect 'a full disk' 1 '' '' bash -c 'trap "" XFSZ; ulimit -f $(($(stat -c %s "$1") / 2048)); ./install "$0" 2>/dev/null' "$there/folder" "$program"
+  expect 'which leaves what was there' 0 $'before\n' '' cat "$there/folder/bin/linetab"
+  expect 'and nothing else' 0 $'linetab\n' '' ls -A "$there/folder/bin"
+}
+# The last line of a command's standard error, and its status.
+last_line() { # COMMAND..
+  "$@" 2>&1 >/dev/null | tail -n 1 >&2
+  return "${PIPESTATUS[0]}"
+}
 
 manual() {
   local page=$prefix/share/man/man1/linetab.1 word
@@ -108,6 +137,20 @@ release() {
   expect 'an archive' 0 "$name.tar.gz"$'\n' '' bash -c './release "$0" | cut -c 67-' "$work/one"
   expect 'the same by another umask' 0 '' '' \
     bash -c 'umask 077; ./release "$1" >/dev/null && cmp "$0" "$1/${0##*/}"' "$work/one/$name.tar.gz" "$work/two"
+  # Where git takes the folder for another user's, and CDPATH has such a folder too.
+  mkdir -p "$work/three/elsewhere/here" "$work/three/here"
+  expect 'the same where git refuses the folder' 0 '' '' \
+    bash -c 'cd "$1" && CDPATH=$1/elsewhere GIT_TEST_ASSUME_DIFFERENT_OWNER=1 "$0/release" here >/dev/null && cmp "$2" "here/${2##*/}"' \
+    "$top" "$work/three" "$work/one/$name.tar.gz"
+  expect 'the same by options of tar and gzip' 0 '' '' \
+    bash -c 'TAR_OPTIONS=--xattrs GZIP=-1 ./release "$1" >/dev/null && cmp "$0" "$1/${0##*/}"' "$work/one/$name.tar.gz" "$work/two"
+  for words in "''" - --libary 'x y'; do
+    expect "no folder: $words" 2 '' $'usage: ./release [--library] [FOLDER]\n' bash -c "./release $words"
+  done
+  expect 'a file in the place of a folder' 1 '' "release: nothing can be written to $work/one/$name.tar.gz"$'\n' \
+    last_line ./release "$work/one/$name.tar.gz"
+  expect 'a time that is none' 2 '' $'release: SOURCE_DATE_EPOCH is a number of seconds, and not today\n' \
+    env SOURCE_DATE_EPOCH=today ./release "$work/two"
   expect 'its sum' 0 "$name.tar.gz: OK"$'\n' '' bash -c 'cd "$0" && sha256sum -c "$1.tar.gz.sha256"' "$work/one" "$name"
   expect 'the same as under a prefix' 0 '' '' bash -c 'tar xzf "$0" -C "$1/unpacked" && diff -r "$1/unpacked/$2" "$1/prefix"' \
     "$work/one/$name.tar.gz" "$work" "$name"
@@ -125,6 +168,16 @@ release() {
   expect 'under a bare root' 0 $'yes\n' '' "${enter[@]}" "$root" /opt/bin/linetab check "${hello[@]}"
 }
 
+# The head of each script, where its help is asked for.
+helps() {
+  local script
+  for script in install library release test must-fail/try bench/peers/build share/prove share/build tests/install.sh; do
+    expect "the help of $script" 0 "$(sed -n '2s/^# //p' "$script")"$'\n' '' bash -c '"./$0" --help | head -n 1' "$script"
+  done
+}
+
+in_the_way
+helps
 manual
 in_bash
 in_fish

@@ -1,25 +1,31 @@
 #!/usr/bin/env bash
-# The launcher `linetab` over a copy of the tree, with a toolchain that only pretends: when it builds, and what it says.
-cd "$(dirname "$0")/.." || exit 1
+# The launcher `linetab` over a copy of the tree, with a toolchain that only pretends: when it builds, what it says, and what it leaves
+# where it is ended. So `library`, `install` and `test`, as far as they build.
+cd "$(dirname "$(readlink -f -- "$0")")/.." || exit 1
 . tests/check.bash
-top=$PWD
 tree=$work/tree
-mkdir -p "$tree/crates/linetab/out" "$tree/share" "$work/bin" "$work/without" "$work/temporary"
-cp linetab sources.bash crates.txt HANDLES "$tree"
-cp share/prove share/build "$tree/share"
+mkdir -p "$tree/crates/linetab/out" "$tree/share" "$tree/include" "$tree/tests" "$tree/.git" "$work/bin" "$work/without" "$work/temporary"
+cp linetab library install test sources.bash crates.txt HANDLES "$tree"
+cp include/linetab.h "$tree/include"
+cp share/prove share/build share/linetab_heap.c "$tree/share"
 for crate in crates/*/; do
   mkdir -p "$tree/$crate/must-fail" && cp -r "$crate/src" "$tree/$crate"
 done
-for tool in bash sed find sort xargs sha256sum readlink dirname mktemp mkdir mv rm cat tail grep tee cp env flock sleep touch chmod nproc basename nice; do
+for tool in bash sed find sort xargs sha256sum readlink dirname mktemp mkdir mv rm cat tail grep tee cp env flock sleep touch chmod nproc nice awk; do
   ln -s "$(command -v "$tool")" "$work/without/$tool"
 done
 
-# A toolchain whose gate proves each crate at once, or those whose names it is given, and that keeps a line for each time that it is
-# asked; and whose prover and linker copy the program.
+# A toolchain whose gate proves each crate at once, or those whose names it is given, or never ends, and that keeps a line for each time
+# that it is asked; and whose prover and linker copy the program, which stands for the library too.
 cat >"$work/bin/rt" <<END
 #!/usr/bin/env bash
 echo "\$*" >>"$work/asked"
 [[ \$1 == ci && -d .git && -e HANDLES ]] || exit 2
+if [ -e "$work/endless" ]; then
+  sleep 60 &
+  echo "\$\$ \$!" >>"$work/running"
+  wait
+fi
 for name in \${@:2} \$([ \$# -gt 1 ] || sed -n 's/^\([a-z_]*\)[ a-z]*:.*/\1/p' crates.txt); do
   # As the real one, it refuses a list with a crate that has no folder.
   [[ -d crates/\$name/src && ! -e crates/\$name/must-fail ]] || exit 2
@@ -33,11 +39,13 @@ done
 END
 cat >"$work/bin/rattle" <<END
 #!/usr/bin/env bash
-[[ \$1 == build && -e src/main.rt && \${*: -2:1} == -o ]] || exit 2
+[[ \$1 == build && (-e src/main.rt || \$* == *" --crate-type staticlib src/lib.rt "*) && \${*: -2:1} == -o ]] || exit 2
 if [ -e "$work/no_linetab" ]; then
   printf '%s\n' 'fn linetab::a: proved' 'fn linetab::main: not proved'
+  echo half >"\${*: -1}"
   exit 1
 fi
+[ ! -e "$work/meanwhile" ] || echo '// changed' >>"$tree/crates/lnt_wire/src/lib.rt"
 echo 'fn linetab::main: proved'
 cp "$top/crates/linetab/out/linetab" "\${*: -1}"
 END
@@ -82,6 +90,8 @@ expect 'no temporary folder is left of it' 0 '' '' eval '[ -z "$(ls "$work/tempo
 expect 'once built, nothing is asked of the toolchain' 0 $'0x0 32 156\n' '' with_rt "$tree/linetab" units "$section"
 expect 'the gate was asked for what all wait for' 0 $'ci lnt_header_bytes\n' '' grep lnt_header "$work/asked"
 expect 'and once for all' 0 $'ci\n' '' grep -x ci "$work/asked"
+expect 'by a relative path, where CDPATH has such a folder too' 0 $'0x0 32 156\n' '' \
+  without_rt bash -c 'mkdir -p "$0/elsewhere/tree" && cd "$0" && CDPATH=$0/elsewhere tree/linetab units "$1"' "$work" "$section"
 expect 'it runs without one' 0 $'0x0 32 156\n' '' without_rt "$tree/linetab" units "$section"
 cp -r "$tree" "$work/copy"
 find "$work/copy" -name '*.rt' -exec touch {} +
@@ -90,6 +100,68 @@ echo '// changed' >>"$tree/crates/lnt_wire/src/lib.rt"
 touch -d 2000-01-01 "$tree/crates/lnt_wire/src/lib.rt"
 rm "$work/asked"
 expect 'a changed source, and two that ask at once' 0 $'0x0 64 172\n' '' \
-  with_rt bash -c '"$0" convert "$1" --format 64 --order little 2>/dev/null | "$0" units - 2>/dev/null' "$tree/linetab" "$section"
+  with_rt bash -c '"$0" convert "$1" --format 64 --order little 2>>"$2" | "$0" units - 2>>"$2"' "$tree/linetab" "$section" "$work/both"
 expect 'are one build' 0 $'ci\n' '' grep -x ci "$work/asked"
+expect 'for which one waits' 0 $'linetab: another one proves and builds the program; waiting for it\n' '' grep waiting "$work/both"
+# The last line that a command says, and its status.
+in_short() { # COMMAND..
+  with_rt "$@" 2>&1 >/dev/null | tail -n 1 >&2
+  return "${PIPESTATUS[0]}"
+}
+change() { # CRATE
+  echo '// changed' >>"$tree/crates/$1/src/lib.rt"
+}
+touch "$work/meanwhile"
+change lnt_wire
+expect 'a source that is changed meanwhile' 126 '' $'linetab: the sources were changed meanwhile\n' in_short "$tree/linetab" units "$section"
+rm "$work/meanwhile"
+mv "$tree/crates/linetab/out" "$work/out_before" && : >"$tree/crates/linetab/out"
+expect 'a file where its folder is wanted' 126 '' "linetab: nothing can be written to $tree/crates/linetab/out"$'\n' in_short "$tree/linetab" units "$section"
+rm "$tree/crates/linetab/out" && mv "$work/out_before" "$tree/crates/linetab/out"
+
+# ---- the library
+
+expect 'no prefix for the library' 2 '' $'usage: ./library PREFIX\n' "$tree/library" ''
+expect 'the library' 0 '' $'fn linetab::main: proved\n' in_short "$tree/library" "$work/prefix"
+expect 'once built, nothing is asked of the toolchain for it' 0 '' '' without_rt "$tree/library" "$work/prefix"
+change lnt_ffi
+echo before >"$tree/crates/lnt_ffi/out/liblnt_ffi.a"
+touch "$work/no_linetab"
+expect 'one that is not proved' 1 '' $'fn linetab::main: not proved\n' in_short "$tree/library" "$work/prefix"
+expect 'leaves that of before' 0 $'before\n' '' cat "$tree/crates/lnt_ffi/out/liblnt_ffi.a"
+rm "$work/no_linetab" "$work/asked"
+expect 'two that ask for it at once' 0 '' $'library: another one proves and builds it; waiting for it\nlibrary: proving and building it, which takes some minutes the first time\n' \
+  with_rt bash -c '{ "$0" "$1" & "$0" "$1"; wait; } 2>&1 | grep ^library: | sort >&2' "$tree/library" "$work/prefix"
+expect 'are one build of it' 0 $'ci\n' '' grep -x ci "$work/asked"
+
+# ---- what is ended alone, while so many calls of the toolchain run, which never end
+
+ended_alone() { # COUNT COMMAND..: its status, and which of them run on
+  local ended status process
+  rm -f "$work/running"
+  TMPDIR=$work/temporary PATH=$work/bin:$work/without "${@:2}" >/dev/null 2>&1 &
+  ended=$!
+  for _ in {1..100}; do
+    [ "$(cat "$work/running" 2>/dev/null | wc -l)" -lt "$1" ] && sleep 0.1 || break
+  done
+  kill -TERM "$ended"
+  wait "$ended" 2>/dev/null
+  status=$?
+  for process in $(cat "$work/running"); do
+    ! kill -0 "$process" 2>/dev/null || echo "$process runs on"
+  done
+  return "$status"
+}
+touch "$work/endless"
+change lnt_wire
+count=$(($(nproc) > 1 ? 2 : 1))
+expect 'the launcher, ended alone' 143 '' '' ended_alone "$count" "$tree/linetab" units "$section"
+expect 'library, ended alone' 143 '' '' ended_alone "$count" "$tree/library" "$work/prefix"
+expect 'install, ended alone' 143 '' '' ended_alone "$count" "$tree/install" "$work/prefix"
+expect 'test, ended alone' 143 '' '' ended_alone 1 "$tree/test"
+expect 'no temporary folder is left of them' 0 '' '' eval '[ -z "$(ls "$work/temporary")" ]'
+expect 'no file is left that is not whole' 0 $'liblnt_ffi.a\nliblnt_ffi.a.sources\nlinetab\nlinetab.sources\nlock\nlock\n' '' \
+  bash -c 'cd "$0/crates" && find linetab/out lnt_ffi/out -type f | sed "s,.*/,," | LC_ALL=C sort' "$tree"
+rm "$work/endless"
+expect 'test, another word' 2 '' $'usage: ./test [--all] [--anew]\n' "$tree/test" --al
 finish

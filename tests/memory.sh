@@ -1,11 +1,10 @@
 #!/usr/bin/env bash
 # Each request for memory refused in turn: the program stops for want of memory, or gives its answer where the
 # library tried again in another way. It never gives another answer. With ample memory it isn't stopped for want of it.
-cd "$(dirname "$0")/.." || exit 1
+cd "$(dirname "$(readlink -f -- "$0")")/.." || exit 1
 . tests/check.bash
 here 'requests for memory that are refused' cc || finish
 cc -O1 -shared -fPIC -o "$work/refuse.so" tests/refuse_memory.c -ldl || exit 1
-program=crates/linetab/out/linetab
 
 # Whether both outputs are those with ample memory. A note may be missing, for which there was none, but none is another one.
 is_wanted() {

@@ -1,9 +1,8 @@
 #!/usr/bin/env bash
 # The notes on standard error: each kind of them, after what is printed without them, and none with --quiet.
-cd "$(dirname "$0")/.." || exit 1
+cd "$(dirname "$(readlink -f -- "$0")")/.." || exit 1
 . tests/check.bash
 . tests/unit.bash
-program=$PWD/crates/linetab/out/linetab
 hello=(examples/hello.debug_line --line-str examples/hello.debug_line_str)
 truncated=$'no 25 malformed at 0x0: truncated\n'
 

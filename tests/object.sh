@@ -1,7 +1,7 @@
 #!/usr/bin/env bash
 # linetab-object on programs of each format: some written here byte by byte by tests/images.py, and some by compilers, where
 # they are here.
-cd "$(dirname "$0")/.." || exit 1
+cd "$(dirname "$(readlink -f -- "$0")")/.." || exit 1
 . tests/check.bash
 . tests/unit.bash
 work=$(cd "$work" && pwd -P)

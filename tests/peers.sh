@@ -2,7 +2,7 @@
 # Compares what the program says of a section with what llvm-dwarfdump and readelf say of it, where they are there.
 # peers.sh [SECTION LINE_STR little|big DEAD]..: the raw sections, each with the 16 digits of the address at which its
 # discarded sequences begin, or - where there are none; with no words, those of examples/.
-cd "$(dirname "$0")/.." || exit 1
+cd "$(dirname "$(readlink -f -- "$0")")/.." || exit 1
 . tests/check.bash
 
 # A program that has the sections and nothing else, for tools that don't read raw ones.
@@ -86,17 +86,18 @@ by_addr2line() {
   expect "a program and the table of its lines by addr2line" 0 $'yes\n' '' ./linetab-object check "$work/loop" "$work/theirs"
 }
 
+[ $(($# % 4)) -eq 0 ] || { echo 'usage: tests/peers.sh [SECTION LINE_STR little|big DEAD]..' >&2; exit 2; }
 here 'what others say of a section' llvm-objcopy llvm-dwarfdump readelf || finish
+! here 'a table by addr2line' cc addr2line || by_addr2line
 if [ $# -eq 0 ]; then
   for name in hello hello-clang; do
-    set -- "$@" "examples/$name.debug_line" "examples/$name.debug_line_str" little -
+    compare "examples/$name.debug_line" "examples/$name.debug_line_str" little -
   done
-  set -- "$@" examples/gc-sections.debug_line examples/gc-sections.debug_line_str little 0x0000000000000000
-  set -- "$@" examples/powerpc64.debug_line examples/powerpc64.debug_line_str big -
+  compare examples/gc-sections.debug_line examples/gc-sections.debug_line_str little 0x0000000000000000
+  compare examples/powerpc64.debug_line examples/powerpc64.debug_line_str big -
 fi
-! here 'a table by addr2line' cc addr2line || by_addr2line
-while [ $# -ge 4 ]; do
-  compare "$1" "$2" "$3" "$4"
+while [ $# -gt 0 ]; do
+  compare "$(from_there "$1")" "$(from_there "$2")" "$3" "$4"
   shift 4
 done
 finish

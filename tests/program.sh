@@ -1,8 +1,7 @@
 #!/usr/bin/env bash
 # The program as a process: its streams, its texts and its exit statuses.
-cd "$(dirname "$0")/.." || exit 1
+cd "$(dirname "$(readlink -f -- "$0")")/.." || exit 1
 . tests/check.bash
-top=$PWD
 stop() { # NAME STATUS STDERR COMMAND..: nothing on standard output
   expect "$1" "$2" '' "$3" "${@:4}"
 }

@@ -2,9 +2,8 @@
 # The commands of README.md, examples/README.md and docs/STORES.md: those with a `$` before them print what stands below them, and
 # all others that stand in blocks, or in tables of examples/README.md, end with status 0. They run in a folder like the top of the
 # repository, with a program `app` and a folder `store` of debug information.
-cd "$(dirname "$0")/.." || exit 1
+cd "$(dirname "$(readlink -f -- "$0")")/.." || exit 1
 . tests/check.bash
-top=$PWD
 there=$work/there
 
 # A tool that a command needs, or that makes the file which it reads, isn't here.

@@ -1,13 +1,12 @@
 #!/usr/bin/env bash
 # The listed sum of a program that clang compiled, where it is here: its source as it was, changed and gone.
-cd "$(dirname "$0")/.." || exit 1
+cd "$(dirname "$(readlink -f -- "$0")")/.." || exit 1
 . tests/check.bash
 here 'the sum of a program that clang compiled' clang objcopy || finish
-folder=$(cd "$work" && pwd -P)
-source=$folder/sum.c
+source=$work/sum.c
 echo 'int main(void) { return 0; }' >"$source"
-(cd "$folder" && clang -gdwarf-5 -o sum sum.c && objcopy --dump-section .debug_line=line --dump-section .debug_line_str=line_str sum) || exit 1
-sums=(./linetab md5 "$folder/line" --line-str "$folder/line_str")
+(cd "$work" && clang -gdwarf-5 -o sum sum.c && objcopy --dump-section .debug_line=line --dump-section .debug_line_str=line_str sum) || exit 1
+sums=(./linetab md5 "$work/line" --line-str "$work/line_str")
 expect 'a source as it was' 0 "unit 0 file 0 same \"$source\""$'\n' '' "${sums[@]}"
 echo '// changed' >>"$source"
 sum=$(md5sum "$source" | cut -d ' ' -f 1)

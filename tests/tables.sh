@@ -1,6 +1,6 @@
 #!/usr/bin/env bash
 # Tables of the example sections, checked against them, whole and changed; sections converted and back.
-cd "$(dirname "$0")/.." || exit 1
+cd "$(dirname "$(readlink -f -- "$0")")/.." || exit 1
 . tests/check.bash
 . tests/unit.bash
 

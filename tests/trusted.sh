@@ -1,4 +1,8 @@
 #!/usr/bin/env bash
 # docs/TRUSTED.md lists the files of definitions that the contract of lnt_table::check leads to, in order, and no other; and
 # docs/ARCHITECTURE.md says of each file of specs/ what it defines.
-cd "$(dirname "$0")/.." && exec python3 tests/trusted.py
+cd "$(dirname "$(readlink -f -- "$0")")/.." || exit 1
+top=$PWD
+. ./sources.bash
+tell_help tests/trusted.sh "$@"
+exec python3 tests/trusted.py

@@ -1,10 +1,9 @@
 #!/usr/bin/env bash
 # Worked units: their headers, operations and rows as the program prints them, the bytes that it writes for them, and
 # what it says of units that are cut or at fault.
-cd "$(dirname "$0")/.." || exit 1
+cd "$(dirname "$(readlink -f -- "$0")")/.." || exit 1
 . tests/check.bash
 . tests/unit.bash
-program=crates/linetab/out/linetab
 
 # Units and their parts are hexadecimal digits here. A number of 4 bytes, low byte first.
 number() {

@@ -1,8 +1,7 @@
 #!/usr/bin/env bash
 # The words about sections as a whole, on the examples: verify, lookups of many addresses, files, and the version.
-cd "$(dirname "$0")/.." || exit 1
+cd "$(dirname "$(readlink -f -- "$0")")/.." || exit 1
 . tests/check.bash
-program=$PWD/crates/linetab/out/linetab
 hello=(examples/hello.debug_line --line-str examples/hello.debug_line_str)
 at_1137=$'0x1137,0 unit 0 file 1 line 1 column 50 stmt 1 path "/w/src/small/a.c"\n'
 at_1130=$'0x1130,0 unit 0 file 1 line 1 column 36 stmt 1 path "/w/src/small/a.c"\n'
