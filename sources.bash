@@ -19,13 +19,14 @@ room=
 new=
 clean() {
   if [ -n "$group" ] && kill -- "-$group" 2>/dev/null; then
-    for _ in {1..50}; do
-      kill -0 -- "-$group" 2>/dev/null && sleep 0.1 || break
+    # The first process of a group ends when it has ended what it began.
+    for _ in {1..100}; do
+      kill -0 "$group" 2>/dev/null && sleep 0.1 || break
     done
-    kill -KILL -- "-$group" 2>/dev/null || :
+    ! kill -0 "$group" 2>/dev/null || kill -KILL -- "-$group"
   fi
   [ -z "$new" ] || rm -f "$new"
-  # What `rt` began ends a moment after it.
+  # The others, and what `rt` began, end a moment later.
   [ -z "$room" ] || rm -rf "$room" 2>/dev/null || { sleep 1; rm -rf "$room"; }
 }
 

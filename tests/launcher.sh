@@ -77,7 +77,7 @@ touch "$work/no_lnt_ops"
 expect 'a crate that is not proved' 126 '' "$proving"$'== lnt_ops\nfn lnt_ops::b: not proved\nrt: lnt_ops NOT PROVED\nlinetab: the program isn\'t proved\n' \
   plainly with_rt "$tree/linetab" units "$section"
 expect 'no program is left' 1 '' '' test -e "$tree/crates/linetab/out/linetab"
-expect 'no temporary folder is left' 0 '' '' eval '[ -z "$(ls "$work/temporary")" ]'
+expect 'no temporary folder is left' 0 '' '' find "$work/temporary" -mindepth 1
 rm "$work/no_lnt_ops"
 touch "$work/no_linetab"
 expect 'a program that is not proved' 126 '' "$proving"'linetab: proved NAME ('"$all of $all"$'), N s\nlinetab: proving and compiling the program over them, N s\nfn linetab::main: not proved\nlinetab: the program isn\'t proved\n' \
@@ -86,7 +86,7 @@ expect 'no program is left of it' 1 '' '' test -e "$tree/crates/linetab/out/line
 rm "$work/no_linetab" "$work/asked"
 expect 'the first build' 0 $'0x0 32 156\n' "$proving"'linetab: proved NAME ('"$all of $all"$'), N s\nlinetab: proving and compiling the program over them, N s\nlinetab: built in N s\n' \
   plainly with_rt "$tree/linetab" units "$section"
-expect 'no temporary folder is left of it' 0 '' '' eval '[ -z "$(ls "$work/temporary")" ]'
+expect 'no temporary folder is left of it' 0 '' '' find "$work/temporary" -mindepth 1
 expect 'once built, nothing is asked of the toolchain' 0 $'0x0 32 156\n' '' with_rt "$tree/linetab" units "$section"
 expect 'the gate was asked for what all wait for' 0 $'ci lnt_header_bytes\n' '' grep lnt_header "$work/asked"
 expect 'and once for all' 0 $'ci\n' '' grep -x ci "$work/asked"
@@ -141,16 +141,28 @@ ended_alone() { # COUNT COMMAND..: its status, and which of them run on
   rm -f "$work/running"
   TMPDIR=$work/temporary PATH=$work/bin:$work/without "${@:2}" >/dev/null 2>&1 &
   ended=$!
-  for _ in {1..100}; do
-    [ "$(cat "$work/running" 2>/dev/null | wc -l)" -lt "$1" ] && sleep 0.1 || break
-  done
+  outlast fewer_run_than "$1"
   kill -TERM "$ended"
   wait "$ended" 2>/dev/null
   status=$?
   for process in $(cat "$work/running"); do
-    ! kill -0 "$process" 2>/dev/null || echo "$process runs on"
+    outlast runs "$process" || echo "$process runs on"
   done
   return "$status"
+}
+# Waits until a command fails, for ten seconds at most.
+outlast() { # COMMAND..
+  for _ in {1..100}; do
+    "$@" || return 0
+    sleep 0.1
+  done
+  return 1
+}
+fewer_run_than() { # COUNT
+  [ "$(cat "$work/running" 2>/dev/null | wc -l)" -lt "$1" ]
+}
+runs() { # PROCESS
+  grep -q '^State:[[:space:]]*[^ZX]' "/proc/$1/status" 2>/dev/null
 }
 touch "$work/endless"
 change lnt_wire
@@ -159,7 +171,7 @@ expect 'the launcher, ended alone' 143 '' '' ended_alone "$count" "$tree/linetab
 expect 'library, ended alone' 143 '' '' ended_alone "$count" "$tree/library" "$work/prefix"
 expect 'install, ended alone' 143 '' '' ended_alone "$count" "$tree/install" "$work/prefix"
 expect 'test, ended alone' 143 '' '' ended_alone 1 "$tree/test"
-expect 'no temporary folder is left of them' 0 '' '' eval '[ -z "$(ls "$work/temporary")" ]'
+expect 'no temporary folder is left of them' 0 '' '' find "$work/temporary" -mindepth 1
 expect 'no file is left that is not whole' 0 $'liblnt_ffi.a\nliblnt_ffi.a.sources\nlinetab\nlinetab.sources\nlock\nlock\n' '' \
   bash -c 'cd "$0/crates" && find linetab/out lnt_ffi/out -type f | sed "s,.*/,," | LC_ALL=C sort' "$tree"
 rm "$work/endless"

@@ -75,6 +75,23 @@ compare() { # SECTION LINE_STR ORDER DEAD
     ./linetab check $big "${dead[@]}" "$1" "$work/theirs" --line-str "$2"
 }
 
+# What each awk that is here makes of what all say, whether a script is for that or not, is what `awk` makes of it.
+by_each_awk() { # SECTION
+  local awk script
+  { ./linetab dump "$1"
+    llvm-dwarfdump --debug-line --verbose "$work/image"
+    llvm-dwarfdump --debug-line "$work/image"
+    readelf --debug-dump=rawline "$work/image"; } >"$work/said" 2>"$work/err"
+  for awk in gawk mawk original-awk 'busybox awk'; do
+    command -v "${awk% *}" >/dev/null || continue
+    for script in tests/peers/*.awk; do
+      awk -f "$script" "$work/said" >"$work/theirs"
+      $awk -f "$script" "$work/said" >"$work/ours" 2>&1
+      same "$script by $awk"
+    done
+  done
+}
+
 # A program of this machine's compiler, and its table of what addr2line says of where the spans of another begin and end.
 by_addr2line() {
   printf '%s\n' 'static int twice(int x) { return x + x; }' 'int main(int n, char **v) {' '  while (--n)' '    v += twice(n);' \
@@ -93,6 +110,7 @@ if [ $# -eq 0 ]; then
   for name in hello hello-clang; do
     compare "examples/$name.debug_line" "examples/$name.debug_line_str" little -
   done
+  by_each_awk examples/hello-clang.debug_line
   compare examples/gc-sections.debug_line examples/gc-sections.debug_line_str little 0x0000000000000000
   compare examples/powerpc64.debug_line examples/powerpc64.debug_line_str big -
 fi
