@@ -68,7 +68,7 @@ compare() { # SECTION LINE_STR ORDER DEAD
   expect "$1 and a table of llvm-dwarfdump's rows" 0 $'yes\n' '' ./linetab check $big "${dead[@]}" "$1" "$work/table" --line-str "$2"
   lookups $big "${dead[@]}" "$1" --line-str "$2"
   same "lookups in $1 by llvm-dwarfdump"
-  llvm-dwarfdump --debug-line "$work/image" | examples/from-llvm "${dead[@]}" >"$work/theirs"
+  llvm-dwarfdump --debug-line "$work/image" | ./linetab-table llvm-dwarfdump - "${dead[@]}" >"$work/theirs"
   ./linetab table --paths $big "${dead[@]}" "$1" --line-str "$2" >"$work/ours"
   same "the table by path of $1 by llvm-dwarfdump"
   expect "$1 and its table by path by llvm-dwarfdump" 0 $'yes\n' '' \
@@ -92,12 +92,12 @@ by_each_awk() { # SECTION
   done
 }
 
-# A program of this machine's compiler, and its table of what addr2line says of where the spans of another begin and end.
+# A program of this machine's compiler, and its table of what addr2line says of each address of its code.
 by_addr2line() {
   printf '%s\n' 'static int twice(int x) { return x + x; }' 'int main(int n, char **v) {' '  while (--n)' '    v += twice(n);' \
     '  return v == 0;' '}' >"$work/loop.c"
-  (cd "$work" && cc -gdwarf-5 -O1 -o loop loop.c) && ./linetab-object table "$work/loop" 2>"$work/err" >"$work/table" || { skip "cc makes no DWARF 5"; return; }
-  awk -F, 'NR > 1 { print $1; print $3 }' "$work/table" | addr2line -a -e "$work/loop" | examples/from-addr2line >"$work/theirs"
+  (cd "$work" && cc -gdwarf-5 -O1 -o loop loop.c) && ./linetab-object verify "$work/loop" >"$work/err" 2>&1 || { skip "cc makes no DWARF 5"; return; }
+  ./linetab-table points addr2line "$work/loop" >"$work/theirs"
   ./linetab-object table "$work/loop" --lines >"$work/ours" 2>"$work/err"
   same "the table of a program's lines by addr2line"
   expect "a program and the table of its lines by addr2line" 0 $'yes\n' '' ./linetab-object check "$work/loop" "$work/theirs"
