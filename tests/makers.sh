@@ -1,0 +1,291 @@
+#!/usr/bin/env bash
+# linetab-table: small files of each maker with the tables that are in them, broken files, and files and answers of the tools that are
+# here, for programs of the compilers that are here.
+cd "$(dirname "$0")/.." || exit 1
+. tests/check.bash
+work=$(cd "$work" && pwd -P)
+says=linetab-table:
+three=$'low,high,path,line\n'
+four=$'low,high,path,line,column\n'
+
+# A folder with the script and a linetab-object that tells these paths.
+mkdir "$work/bin" "$work/tools"
+cp linetab-table "$work/bin"
+table() { # WORD..
+  "$work/bin/linetab-table" "$@"
+}
+export -f table
+export work
+refuses() { # NAME REASON MAKER FILE
+  expect "$1" 3 '' "$says $4: $2"$'\n' table "$3" "$4"
+}
+
+gsym() {
+  local order cut wrong=0 wanted=$three$'0x1000,0x1004,/src/a.c,5\n0x1004,0x1008,/src/a.c,7\n0x1008,0x1010,b.h,9\n0x1014,0x1020,/src/a.c,20\n'
+  wanted+=$'0x1032,0x1038,/src/a.c,40\n0x1040,0x1050,/src/a.c,50\n0x1050,0x1054,/src/a.c,60\n'
+  for order in little big; do
+    python3 tests/gsym_file.py $order "$work/$order"
+    expect "a GSYM file, $order-endian" 0 "$wanted" '' table gsym "$work/$order"
+  done
+  expect 'the same by its first rows' 0 "${wanted/0x1004,0x1008,\/src\/a.c,7/0x1004,0x1005,/src/a.c,6$'\n'0x1005,0x1008,/src/a.c,7}" '' \
+    table gsym --first-row "$work/little"
+  for ((cut = 1; cut < $(stat -c %s "$work/little"); cut += 23)); do
+    head -c $cut "$work/little" >"$work/cut"
+    table gsym "$work/cut" >"$work/out" 2>"$work/err"
+    [ "$?" -eq 3 ] && [ ! -s "$work/out" ] && [ "$(wc -l <"$work/err")" -eq 1 ] || wrong=$((wrong + 1))
+  done
+  expect 'a GSYM file that is cut anywhere' 0 $'0\n' '' echo $wrong
+  refuses 'no GSYM file' "it isn't a GSYM file" gsym tests/makers.sh
+  (head -c 4 "$work/little"; bytes 02; tail -c +6 "$work/little") >"$work/two"
+  refuses 'a GSYM file of another version' 'it is a GSYM file of version 2, of which nothing is known here' gsym "$work/two"
+  python3 tests/gsym_file.py little "$work/shared" 20000
+  expect 'a line table that many functions share' 3 '' "$says $work/shared: it is cut or damaged"$'\n' \
+    timeout 60 "$work/bin/linetab-table" gsym "$work/shared"
+}
+
+breakpad() {
+  cat >"$work/sym" <<'END'
+MODULE Linux x86_64 000000000000000000000000000000000 app
+INFO CODE_ID 00
+FILE 0 /w/a.c
+FILE 7 /w/b, c.h
+INLINE_ORIGIN 0 twice
+FUNC m 1010 8 0 main
+1010 4 9 0
+1014 8 10 0
+FUNC 1000 10 0 first(int, char)
+INLINE 0 3 0 0 1004 2
+1000 4 3 0
+1004 2 18446744073709551 7
+1006 0 5 0
+1008 8 4 0
+PUBLIC 2000 0 _fini
+STACK CFI INIT 1000 10 .cfa: $rsp 8 +
+END
+  local lines=$'0x1000,0x1004,/w/a.c,3\n0x1004,0x1006,"/w/b, c.h",18446744073709551\n0x1008,0x1010,/w/a.c,4\n'
+  lines+=$'0x1010,0x1014,/w/a.c,9\n0x1014,0x1018,/w/a.c,10\n'
+  expect 'a symbol file' 0 "$three$lines" '' table breakpad "$work/sym"
+  expect 'from a pipe' 0 "$three$lines" '' bash -c 'cat "$work/sym" | table breakpad -'
+  expect 'with ends of lines of Windows' 0 "$three$lines" '' bash -c 'sed "s/$/\r/" "$work/sym" | table breakpad -'
+  expect 'with a base' 0 "$three${lines//0x1/0x401}" '' table breakpad "$work/sym" --base 0x400000
+  (cat "$work/sym"; printf 'FUNC 1008 20 0 other\n1008 20 77 0\nFUNC 1018 8 0 last\n101a 4 2 0\n1018 4 1 0\n') >"$work/more"
+  expect 'with ranges that overlap' 0 "$three$lines"$'0x1018,0x101c,/w/a.c,1\n' \
+    "$says note: left out, as they overlap one before: 1 function"$'\n'"$says note: left out, as they overlap one before: 1 line"$'\n' \
+    table breakpad "$work/more"
+  expect 'without notes' 0 "$three$lines"$'0x1018,0x101c,/w/a.c,1\n' '' table breakpad "$work/more" --quiet
+  (cat "$work/sym"; echo '1018 1 1 9') | sed 's/^FUNC 1000 10/FUNC 1000 1020/' >"$work/broken"
+  refuses 'a file that is not there' 'it has no FILE 9, which a line names' breakpad "$work/broken"
+  (cat "$work/sym"; echo nonsense) >"$work/broken"
+  refuses 'a line that is none' 'its line 17 is none of a symbol file of Breakpad, or has no FUNC before it' breakpad "$work/broken"
+  refuses 'no symbol file' "it isn't a symbol file of Breakpad: its first line isn't MODULE" breakpad tests/makers.sh
+  refuses 'an empty file' "it isn't a symbol file of Breakpad: it is empty" breakpad /dev/null
+  expect 'an address beyond 2^64' 3 '' "$says $work/sym: its addresses aren't below 2^64"$'\n' \
+    table breakpad "$work/sym" --base 0xfffffffffffff000
+}
+
+llvm_dwarfdump() {
+  cat >"$work/llvm" <<'END'
+app:	file format elf64-x86-64
+
+.debug_line contents:
+debug_line[0x00000000]
+Line table prologue:
+         version: 5
+include_directories[  0] = "/w"
+include_directories[  1] = "s \"q\"\303\244"
+file_names[  0]:
+           name: "a.c"
+      dir_index: 0
+file_names[  1]:
+           name: "b.h"
+      dir_index: 1
+
+Address            Line   Column File   ISA Discriminator Flags
+------------------ ------ ------ ------ --- ------------- -------------
+0x0000000000001010      3      1      0   0             0  is_stmt
+0x0000000000001014      4      2      1   0             0  is_stmt prologue_end
+0x0000000000001014      5      2      1   0             0  is_stmt
+0x0000000000001018      5      2      1   0             0 
+0x000000000000101c      5      2      1   0             0  is_stmt end_sequence
+
+0x0000000000000000      7      1      0   0             0  is_stmt
+0x0000000000000008      7      1      0   0             0  is_stmt end_sequence
+
+0x0000000000001000      8      9      0   0             0  is_stmt
+0x0000000000001010      8      9      0   0             0  is_stmt end_sequence
+
+0x0000000000001000     88      9      0   0             0  is_stmt
+0x0000000000001010     88      9      0   0             0  is_stmt end_sequence
+END
+  local lines=$'0x1010,0x1014,/w/a.c,3,1\n0x1014,0x101c,"/w/s ""q""\303\244/b.h",5,2\n'
+  expect 'what llvm-dwarfdump prints' 0 "$four"$'0x0,0x8,/w/a.c,7,1\n0x1000,0x1010,/w/a.c,8,9\n'"$lines" '' \
+    table llvm-dwarfdump --skip-copies "$work/llvm"
+  expect 'without dead code' 0 "$four"$'0x1000,0x1010,/w/a.c,8,9\n0x1000,0x1010,/w/a.c,88,9\n'"$lines" '' \
+    table llvm-dwarfdump "$work/llvm" --dead 0x0
+  head -n 20 "$work/llvm" >"$work/broken"
+  refuses 'what is cut' 'it ends within a sequence: it is cut' llvm-dwarfdump "$work/broken"
+  sed 's/^0x0000000000001014      4      2      1/0x0000000000001014      4      2      9/' "$work/llvm" >"$work/broken"
+  refuses 'a file that no header has' 'it has no file 9, which a row names, or is of another kind of print' llvm-dwarfdump "$work/broken"
+  sed 's/dir_index: 1/dir_index: x/' "$work/llvm" >"$work/broken"
+  refuses 'a directory that is no number' 'it is cut or damaged' llvm-dwarfdump "$work/broken"
+  refuses 'what is none' "it isn't what llvm-dwarfdump --debug-line prints of a program with a line number section" llvm-dwarfdump /dev/null
+}
+
+readelf_text() {
+  cat >"$work/readelf" <<'END'
+Contents of the .debug_line section:
+
+CU: /w/a.c:
+File name                            Line number    Starting address    View    Stmt
+a.c                                            3              0x1010               x
+a.c                                            4              0x1014       1       x
+
+sub/b 2 0x5.h:
+b 2 0x5.h                                      9              0x1018        
+b 2 0x5.h                                     10              0x101c       2
+b 2 0x5.h                                      -              0x1020
+c.h                                            7                   0       1       x
+c.h                                            -                 0x8
+
+./d.h:[++]
+d.h                                            1              0x2000[0]               x
+d.h                                            -              0x2004
+
+
+END
+  local lines=$'0x1010,0x1014,/w/a.c,3\n0x1014,0x1018,/w/a.c,4\n0x1018,0x101c,sub/b 2 0x5.h,9\n0x101c,0x1020,sub/b 2 0x5.h,10\n'
+  lines+=$'0x2000,0x2004,./d.h,1\n'
+  expect 'what readelf prints' 0 "$three"$'0x0,0x8,c.h,7\n'"$lines" '' table readelf "$work/readelf"
+  expect 'without dead code' 0 "$three$lines" '' table readelf "$work/readelf" --dead 0x0
+  sed 's/^CU: //' "$work/readelf" >"$work/broken"
+  refuses 'what has cut names' 'names are cut in it: let readelf print it with --wide' readelf "$work/broken"
+  head -n 9 "$work/readelf" >"$work/broken"
+  refuses 'what is cut' 'it ends within a sequence: it is cut' readelf "$work/broken"
+  refuses 'what is none' "it isn't what readelf --wide --debug-dump=decodedline prints of a program with a line number section" \
+    readelf /dev/null
+}
+
+# A program that answers each address of its input by ANSWERS, a program of awk.
+answerer() { # NAME ANSWERS
+  printf '#!/bin/sh\nexec awk %s\n' "'{ print \$1; a = substr(\$1, 3) } $2'" >"$work/tools/$1"
+  chmod +x "$work/tools/$1"
+}
+points() {
+  cp linetab-object "$work/bin"
+  python3 tests/images.py elf64 "$work/app" .debug_line=examples/hello.debug_line code=0x1000,0x8
+  answerer addr2line 'a < "1002" { print "??:0" } a >= "1002" && a < "1005" { print "/w/a:b.c:7 (discriminator 3)" } a == "1005" { print "/w/a.c:?" } a > "1005" { print "crtstuff.c:?" }'
+  expect 'points by addr2line' 0 "$three"$'0x1002,0x1005,/w/a:b.c,7\n0x1005,0x1006,/w/a.c,0\n' '' \
+    table points "$work/tools/addr2line" "$work/app"
+  answerer eu-addr2line 'a < "1004" { print "/w/a.c:3:5" } a >= "1004" { print "/w/a.c:4" }'
+  expect 'points by eu-addr2line' 0 "$four"$'0x1000,0x1004,/w/a.c,3,5\n0x1004,0x1008,/w/a.c,4,0\n' '' \
+    table points "$work/tools/eu-addr2line" "$work/app"
+  answerer llvm-symbolizer-99 'a < "1004" { print "/w/a.c:3:5"; print "" } a >= "1004" { print "??:0:0"; print "" }'
+  expect 'points by llvm-symbolizer' 0 "$four"$'0x1000,0x1004,/w/a.c,3,5\n' '' table points "$work/tools/llvm-symbolizer-99" "$work/app"
+  answerer bad-addr2line 'a < "1004" { print "/w/a.c:3" } a >= "1004" { print "what?" }'
+  refuses_points 'an answer that is none' bad-addr2line "its answer isn't as it should be"
+  printf '#!/bin/sh\necho "no such day" >&2\n' >"$work/tools/bad-addr2line"
+  refuses_points 'one that ends' bad-addr2line 'no such day'
+  expect 'one that is not there' 3 '' "$says $work/app: $work/none-addr2line can't be run: No such file or directory"$'\n' \
+    table points "$work/none-addr2line" "$work/app"
+  expect 'no program' 3 '' "$says examples/hello.csv: it is none of ELF, PE, Mach-O and WebAssembly; a raw section is for linetab itself"$'\n' \
+    table points "$work/tools/addr2line" examples/hello.csv
+  python3 tests/images.py elf64 "$work/app" .debug_line=examples/hello.debug_line code=0x1000,0x7000000000000000
+  expect 'more code than a file has' 3 '' "$says $work/app: it has no code, or more than a file of its size has"$'\n' \
+    table points "$work/tools/addr2line" "$work/app"
+}
+refuses_points() { # NAME COMMAND REASON
+  expect "$1" 3 '' "$says $work/app: $work/tools/$2 doesn't answer of each address: $3"$'\n' table points "$work/tools/$2" "$work/app"
+}
+
+whole_paths() {
+  printf '#!/bin/sh\n[ "$1 $2" = "files app" ] && printf "unit,file,path,md5\\n0,0,/w/a.c,\\n0,1,/w/sub/b 2 0x5.h,\\n9,0,/w/./d.h,\\n9,1,/x/c.h,\\n9,2,/y/c.h,\\n"\n' \
+    >"$work/bin/linetab-object"
+  chmod +x "$work/bin/linetab-object"
+  local lines=$'0x0,0x8,c.h,7\n0x1010,0x1014,/w/a.c,3\n0x1014,0x1018,/w/a.c,4\n0x1018,0x101c,/w/sub/b 2 0x5.h,9\n'
+  expect 'whole paths' 0 "$three$lines"$'0x101c,0x1020,/w/sub/b 2 0x5.h,10\n0x2000,0x2004,/w/./d.h,1\n' \
+    "$says note: c.h stays as it is: more than one path of app ends so"$'\n' table readelf "$work/readelf" --paths-of app
+  sed 's,^CU: /w,CU: /build//w,' "$work/readelf" >"$work/other"
+  expect 'a directory before a whole path' 0 "$three$lines"$'0x101c,0x1020,/w/sub/b 2 0x5.h,10\n0x2000,0x2004,/w/./d.h,1\n' '' \
+    table readelf "$work/other" --paths-of app --quiet
+  sed 's/c\.h/e.h/' "$work/readelf" >"$work/other"
+  expect 'a path that the program has not' 0 "$says note: e.h stays as it is: no path of app ends so"$'\n' '' \
+    bash -c 'table readelf "$work/other" --paths-of app 2>&1 >/dev/null'
+  expect 'a program that tells none' 3 '' "$says $work/readelf: linetab-object files none: it tells no paths"$'\n' \
+    table readelf "$work/readelf" --paths-of none
+}
+
+words() {
+  local makers='gsym, breakpad, llvm-dwarfdump, readelf, points'
+  expect 'no words' 2 '' "$says one of $makers is wanted first: linetab-table MAKER FILE [OPTIONS..]"$'\n' table
+  expect 'another maker' 2 '' "$says one of $makers is wanted first: linetab-table MAKER FILE [OPTIONS..]"$'\n' table gdb file
+  expect 'no file' 2 '' "$says linetab-table gsym FILE: no more and no less is wanted"$'\n' table gsym
+  expect 'a word too many' 2 '' "$says linetab-table readelf FILE: no more and no less is wanted"$'\n' table readelf a b
+  expect 'an option of another maker' 2 '' "$says --first-row is for gsym"$'\n' table readelf a --first-row
+  expect 'no address' 2 '' "$says argument --dead: an address is 0x and 1 to 16 hexadecimal digits, and 12 isn't"$'\n' \
+    table readelf a --dead 12
+  expect 'another command' 2 '' "$says gdb: COMMAND is an addr2line, eu-addr2line or llvm-symbolizer, and named so"$'\n' table points gdb app
+  expect 'a file that is not there' 3 '' "$says none: cannot read it: No such file or directory"$'\n' table gsym none
+  expect 'a folder' 3 '' "$says tests: cannot read it: Is a directory"$'\n' table breakpad tests
+  expect 'help' 0 $'usage: linetab-table MAKER FILE [OPTIONS..]\n' '' bash -c 'table --help | grep usage'
+  expect 'a full device' 3 '' "$says cannot write: No space left on device"$'\n' bash -c 'table gsym "$work/little" >/dev/full'
+  expect 'a closed pipe' 3 '' '' bash -c 'mkfifo "$work/pipe"; exec 3<>"$work/pipe" 4>"$work/pipe" 3<&-; table gsym "$work/little" >&4'
+}
+
+# ---- programs of the compilers that are here, and the tools that are here
+
+programs() {
+  cat >"$work/many.cc" <<'END'
+#include <algorithm>
+#include <map>
+#include <string>
+#include <vector>
+template <class T> T sum(const std::vector<T> &all) { T total{}; for (auto &it : all) total += it; return total; }
+int main(int n, char **words) {
+  std::vector<int> numbers;
+  std::vector<double> halves;
+  std::map<std::string, int> counts;
+  for (int i = 0; i < n * 10; i++) { numbers.push_back(i); halves.push_back(i * 0.5); counts[words[i % n]] += i; }
+  std::sort(numbers.begin(), numbers.end(), [](int a, int b) { return a > b; });
+  return sum(numbers) + (int)sum(halves) + (int)counts.size();
+}
+END
+  local compiler level
+  for compiler in c++ clang++; do
+    here "its programs" $compiler || continue
+    for level in O0 O2; do
+      "$compiler" -g -gdwarf-5 -$level -o "$work/many-$compiler-$level" "$work/many.cc" 2>"$work/err" &&
+        ./linetab-object verify "$work/many-$compiler-$level" --skip-copies >"$work/err" 2>&1 ||
+        { skip "$compiler makes no program with DWARF 5"; break; }
+      of_program "$work/many-$compiler-$level"
+    done
+  done
+}
+of_program() { # PROGRAM
+  local tool name=${1##*/} first
+  for tool in $(compgen -c llvm-gsymutil | grep -xE 'llvm-gsymutil(-[0-9]+)?' | sort -u); do
+    "$tool" --convert "$1" --out-file "$1.gsym" >/dev/null 2>&1 || { skip "$tool makes no GSYM file of $name"; continue; }
+    first=
+    [ "$("$tool" --version | sed -nE 's/.*LLVM version ([0-9]+).*/\1/p')" -gt 17 ] || first=--first-row
+    ./linetab-table gsym $first "$1.gsym" >"$1.csv"
+    expect "the answers of $tool of $name" 0 '' '' python3 tests/peers/gsym.py "$tool" "$1.gsym" "$1.csv" 1000
+  done
+  is_right "$name by llvm-dwarfdump" llvm-dwarfdump "$1" 'llvm-dwarfdump --debug-line "$0" | ./linetab-table llvm-dwarfdump - --skip-copies'
+  is_right "$name by readelf" readelf "$1" \
+    'readelf --wide --debug-dump=decodedline "$0" | ./linetab-table readelf - --skip-copies --paths-of "$0"'
+  is_right "$name by llvm-symbolizer" llvm-symbolizer "$1" './linetab-table points llvm-symbolizer "$0"'
+}
+is_right() { # NAME TOOL PROGRAM COMMAND
+  ! here "$1" "$2" || expect "$1" 0 $'yes\n' '' \
+    bash -c "$4"' 2>/dev/null | ./linetab-object check "$0" - --skip-copies --quiet' "$3"
+}
+
+gsym
+breakpad
+llvm_dwarfdump
+readelf_text
+points
+whole_paths
+words
+[ -n "$(compgen -c llvm-gsymutil)" ] || skip "llvm-gsymutil isn't here: what it answers of GSYM files"
+programs
+finish
