@@ -29,6 +29,8 @@ python3 tests/images.py elf64 "$work/app" .debug_line=examples/hello.debug_line 
 expect 'linetab-object beside it' 0 $'yes\n' '' "$prefix/bin/linetab-object" check "$work/app" examples/hello.csv
 expect 'by a link' 0 $'yes\n' '' \
   bash -c 'ln -s "$0/bin/linetab-object" "$1/link" && "$1/link" check "$1/app" examples/hello.csv' "$prefix" "$work"
+expect 'linetab-table beside it' 0 $'low,high,path,line\n0x1000,0x1004,/w/a.c,3\n' '' bash -c '"$0/bin/linetab-table" breakpad -' "$prefix" \
+  < <(printf 'MODULE Linux x86_64 0 a\nFILE 0 /w/a.c\nFUNC 1000 4 0 main\n1000 4 3 0\n')
 expect 'no file that all may write' 0 '' '' find "$prefix" -perm /022
 expect 'licences' 0 '' '' \
   bash -c 'for file in LICENSE-APACHE LICENSE-MIT; do cmp $file "$0/share/doc/linetab/$file" || exit; done' "$prefix"
@@ -71,7 +73,8 @@ manual() {
   same 'the exit statuses are those of README.md' "$(grep '^The exit status is' README.md | tr -d '`')" \
     "$(sed -n 's/\\-/-/g; /^The exit status is/p' "$page")"
   here 'the man page, as mandoc reads it' mandoc || return
-  expect 'man pages without faults' 0 '' '' mandoc -T lint -W error "$page" "$prefix/share/man/man1/linetab-object.1"
+  expect 'man pages without faults' 0 '' '' mandoc -T lint -W error "$page" "$prefix/share/man/man1/linetab-object.1" \
+    "$prefix/share/man/man1/linetab-table.1"
 }
 
 in_bash() {
@@ -88,7 +91,27 @@ in_bash() {
   same 'options without a word in bash' "$(options)" "$(offered linetab --)"
   same 'the beginning of a word in bash' convert "$(offered linetab con)"
   same 'a choice in bash' $'32\n64' "$(offered linetab convert --format '')"
+  made_in_bash
   same 'for linetab-object in bash' $'--format\n--help\n--order' "$(offered linetab-object convert file -- | grep -vxE -- '--(big|quiet)')"
+}
+
+# Makers and options of linetab-table's help.
+makers() {
+  "$prefix/bin/linetab-table" --help | sed -nE '/^Makers:/,/^$/s/^  ([a-z-]+) .*/\1/p' | sort
+}
+made_options() {
+  "$prefix/bin/linetab-table" --help | sed -nE 's/^ +(--[a-z-]+) .*/\1/p' | sort
+}
+made_in_bash() {
+  made() {
+    bash -c 'complete() { :; }; . "$0"; COMP_WORDS=("$@") COMP_CWORD=$(($# - 1)); _linetab_table
+      printf "%s\n" "${COMPREPLY[@]}" | sort' "$prefix/share/bash-completion/completions/linetab-table" "$@"
+  }
+  same 'makers in bash' "$(makers)" "$(made linetab-table '' | grep -v '^-')"
+  same 'options of makers in bash' "$(made_options)" "$(made linetab-table gsym --)"
+  same 'a command in bash' bash "$(made linetab-table points bash | grep -x bash | head -n 1)"
+  same 'options of makers in the man page' "$(made_options)" \
+    "$(sed -n 's/\\-/-/g; s/^\.B \(--[a-z-]*\).*/\1/p' "$prefix/share/man/man1/linetab-table.1" | sort)"
 }
 
 in_fish() {
@@ -106,6 +129,8 @@ in_fish() {
   done
   same 'options without a word in fish' "$(options)" "$(offered 'linetab --')"
   same 'a choice in fish' $'big\nlittle' "$(offered 'linetab convert --order ')"
+  same 'makers in fish' "$(makers)" "$(cd "$work/none" && HOME=$work fish --no-config -c "
+    source '$prefix/share/fish/vendor_completions.d/linetab-table.fish'; complete -C 'linetab-table '" | cut -f 1 | sort -u)"
   same 'words of linetab-object in fish' "$(words)" "$(offered 'linetab-object ')"
 }
 
@@ -126,6 +151,8 @@ in_zsh() {
   same 'options without a word in zsh' "$(options)" \
     "$(zsh -fc 'compadd() { shift; print -l -- $@ }; PREFIX=-; words=(linetab -); CURRENT=2; . $1' zsh \
       "$prefix/share/zsh/site-functions/_linetab" | sort)"
+  same 'makers in zsh' "$(makers)" "$(zsh -fc '_arguments() { print -rl -- "$@" | sed -n "s/^1:maker:(\(.*\))/\1/p" }; . $1' zsh \
+    "$prefix/share/zsh/site-functions/_linetab-table" | tr ' ' '\n' | sort)"
   expect 'its commands in zsh' 0 $'_linetab _linetab\n' '' zsh -fc 'fpath=($1 $fpath); autoload -Uz compinit; compinit -D -u
     print $_comps[linetab] $_comps[linetab-object]' zsh "$prefix/share/zsh/site-functions"
 }
