@@ -75,9 +75,7 @@ fn read_values(
     ensures err { IfErr result (λ fault. RefusesOr (IsEntryFault format cursor.old.order pairs.now)
         (ValuesBytes format cursor.old.order pairs.now) cursor.old fault) }
 {
-    let Ok(mut values) = Vec::with_capacity(alloc, pairs.len()) else {
-        return Err(no_memory(cursor));
-    };
+    let mut values = Vec::new(alloc);
     for pair in pairs {
         let value = match cursor.form(alloc, pair.form, format) {
             Ok(value) => value,
