@@ -6,7 +6,7 @@ use lnt_machine::Rows;
 use lnt_sequences::SeqId;
 use lnt_spans::Position;
 use lnt_stream::{SectionReader, UnitBuffer};
-use lnt_unit::UnitView;
+use lnt_unit::UnitInPlace;
 use lnt_wire::Order;
 use std::alloc::Global;
 
@@ -49,15 +49,15 @@ pub(crate) fn end_alike<R: Source>(
 
 // The ends of the sequence with this index in the unit of the buffer.
 fn ends_in(alloc: Global, buffer: &UnitBuffer, index: u64) -> Option<Ends> {
-    ends_of(&UnitView::over(alloc, buffer).ok()?, index)
+    ends_of(&UnitInPlace::over(alloc, buffer).ok()?, index)
 }
 
 // The ends of the sequence with this index in the unit. None where the unit has fewer sequences, or its program doesn't run
 // that far.
-fn ends_of(unit: &UnitView<'_>, index: u64) -> Option<Ends> {
+fn ends_of(unit: &UnitInPlace<'_>, index: u64) -> Option<Ends> {
     let mut ended: u64 = 0;
     let mut first = None;
-    for row in Rows::new(unit.header(), unit.ops()) {
+    for row in Rows::new(unit.numbers(), unit.ops()) {
         let row = row.ok()?;
         let last = Position {
             address: row.address,

@@ -5,7 +5,7 @@ use lnt_header::{EntryTable, Header, Pair};
 use lnt_input::Source;
 use lnt_stream::{SectionReader, UnitBuffer};
 use lnt_text::StringSection;
-use lnt_unit::UnitView;
+use lnt_unit::UnitInPlace;
 use lnt_wire::{Form, Order};
 use std::alloc::Global;
 
@@ -35,14 +35,14 @@ pub(crate) fn strings_of<R: Source>(
 }
 
 fn strings_in(alloc: Global, buffer: &UnitBuffer, which: EntryTable) -> Option<StringSection> {
-    let view = UnitView::over(alloc, buffer).ok()?;
-    strings_by(format_of(view.header(), which))
+    let unit = UnitInPlace::over(alloc, buffer).ok()?;
+    strings_by(format_of(unit.numbers(), which))
 }
 
-fn format_of(header: &Header, which: EntryTable) -> &[Pair] {
+fn format_of(numbers: &Header, which: EntryTable) -> &[Pair] {
     match which {
-        EntryTable::Directories => header.directory_format(),
-        EntryTable::Files => header.file_format(),
+        EntryTable::Directories => numbers.directory_format(),
+        EntryTable::Files => numbers.file_format(),
     }
 }
 
