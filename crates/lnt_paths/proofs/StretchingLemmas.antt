@@ -1,5 +1,6 @@
 -- The spans of a section and of a table by path, passed as their stretches are told.
-use Rattle.std.proofs.Common.{◌≡◌, ◌∙◌, List, [], ◌∷◌, ◌⊎◌, Option, Some, None, ap, map, subst, sym}
+use Rattle.std.proofs.Common.{◌≡◌, ◌∙◌, ℕ, List, [], ◌∷◌, ◌⊎◌, Option, Some, None, ap, map, subst, sym}
+use Rattle.std.specs.Prelude.{IfSome, MatchOption}
 use Rattle.std.specs.Option.{option_map}
 use Rattle.lnt_spans.specs.declared.answer.Answer.{Answer}
 use Rattle.lnt_spans.specs.declared.position.Position.{Position}
@@ -12,12 +13,16 @@ use Rattle.lnt_spans.specs.Stepping.{BeginsWith, IsRun, IsUpTo, run_end}
 use Rattle.lnt_spans.proofs.AnsweringLaws as answering
 use Rattle.lnt_spans.proofs.PositionLaws.{at_most_trans}
 use Rattle.lnt_spans.proofs.RunLaws.{Moves, after_high, moves, same_run, up_to_high}
+use Rattle.lnt_paths.specs.declared.answer.AnswerByPath.{AnswerByPath}
 use Rattle.lnt_paths.specs.declared.held.HeldSpan.{HeldSpan}
 use Rattle.lnt_paths.specs.declared.merge.Section.{Section}
+use Rattle.lnt_paths.specs.declared.told.ToldFile.{ToldFile}
+use Rattle.lnt_paths.specs.declared.told.ToldFiles.{ToldFiles}
+use Rattle.lnt_paths.specs.Compared.{AreTold}
 use Rattle.lnt_paths.specs.Held.{held_span}
 use Rattle.lnt_paths.specs.PathAnswers.{answer_told, PathAnswer}
 use Rattle.lnt_paths.specs.PathSpans.{path_span_answer, PathSpan, StandInOrder, whole}
-use Rattle.lnt_paths.specs.Stretching.{IsSectionAt, IsTableAt, PathsEndAfter}
+use Rattle.lnt_paths.specs.Stretching.{AreToldOfFirst, IsOfFirst, IsSectionAt, IsTableAt, PathsEndAfter}
 use Rattle.lnt_paths.proofs.MergingLemmas.{given_left, left_first}
 use Rattle.lnt_paths.proofs.PathSpanLemmas.{none_before}
 
@@ -80,6 +85,33 @@ table_says : (table : List HeldSpan) (at : Position) (answers : Position → Opt
     → IsRun answers at answer end
 table_says table at answers answer end t runs =
     same_run (path_span_answer (map held_span table)) answers at answer end t.same (runs t.order t.past)
+
+-- ---- what is remembered of paths
+
+-- what is told of the path of the first span, where it is of the answer at hand
+pub told_of_answer : (path : ℕ → ℕ → List ℕ) (table : List HeldSpan) (answer : Option AnswerByPath) (slots : List (Option ToldFile))
+    → IfSome answer (λ answer. IsOfFirst answer table) → AreToldOfFirst path table slots
+    → IfSome answer (λ held. AreTold path held.path.items slots)
+told_of_answer path table None slots first told = tt
+told_of_answer path table (Some answer) slots first told =
+    subst (λ (a : AnswerByPath). AreTold path a.path.items slots) (sym first.answer_is)
+    (subst (λ (spans : List HeldSpan). AreToldOfFirst path spans slots) first.table_is told)
+
+-- It stays right where no more is told than of the answer at hand.
+pub told_kept : (path : ℕ → ℕ → List ℕ) (table : List HeldSpan) (answer : Option AnswerByPath) (old new : ToldFiles)
+    → IfSome answer (λ answer. IsOfFirst answer table) → AreToldOfFirst path table old.slots
+    → MatchOption answer (new ≡ old) (λ held. AreTold path held.path.items new.slots) → AreToldOfFirst path table new.slots
+told_kept path table None old new first told same =
+    subst (λ (files : ToldFiles). AreToldOfFirst path table files.slots) (sym same) told
+told_kept path table (Some answer) old new first told now =
+    subst (λ (spans : List HeldSpan). AreToldOfFirst path spans new.slots) (sym first.table_is)
+    (subst (λ (a : AnswerByPath). AreTold path a.path.items new.slots) first.answer_is now)
+
+-- what holds of any path holds of the first span's
+pub told_of_any : (path : ℕ → ℕ → List ℕ) (table : List HeldSpan) (slots : List (Option ToldFile))
+    → ((target : List ℕ) → AreTold path target slots) → AreToldOfFirst path table slots
+told_of_any path [] slots any = tt
+told_of_any path (first ∷ table) slots any = any first.answer.path.items
 
 -- ---- a step
 

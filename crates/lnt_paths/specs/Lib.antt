@@ -1,4 +1,5 @@
 pub mod Borders
+pub mod Compared
 pub mod Held
 pub mod Joining
 pub mod Laws

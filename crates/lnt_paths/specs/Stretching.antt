@@ -10,9 +10,12 @@ use Rattle.lnt_spans.specs.Positions.{IsBelow, IsAtMost, is_below}
 use Rattle.lnt_spans.specs.Remaining.{EndsAfter, SpansAreLeft}
 use Rattle.lnt_spans.specs.Spans.{AreInOrder}
 use Rattle.lnt_spans.specs.ToldStretches.{AreToldBelow}
+use Rattle.lnt_paths.specs.declared.answer.AnswerByPath.{AnswerByPath}
 use Rattle.lnt_paths.specs.declared.held.HeldSpan.{HeldSpan}
 use Rattle.lnt_paths.specs.declared.merge.Section.{Section}
 use Rattle.lnt_paths.specs.declared.stretches.DifferencesByPath.{DifferencesByPath}
+use Rattle.lnt_paths.specs.declared.told.ToldFile.{ToldFile}
+use Rattle.lnt_paths.specs.Compared.{AreCompared, AreTold}
 use Rattle.lnt_paths.specs.Held.{held_span}
 use Rattle.lnt_paths.specs.PathAnswers.{answer_told, path_answer, PathAnswer}
 use Rattle.lnt_paths.specs.PathDifferences.{told_path_answer}
@@ -40,6 +43,18 @@ pub record IsTableAt (table : List HeldSpan) (at : Position) (answers : Position
   pub past : PathsEndAfter at (map held_span table)
   pub same : (p : Position) → IsAtMost at p → path_span_answer (map held_span table) p ≡ answers p
 
+-- The answer is that of the first of these spans.
+pub record IsOfFirst (answer : AnswerByPath) (table : List HeldSpan) : Type 0 where
+  pub first : HeldSpan
+  pub more : List HeldSpan
+  pub table_is : table ≡ first ∷ more
+  pub answer_is : answer ≡ first.answer
+
+-- Of the files in these slots it is told rightly whether they have the path of the first span, if there is one.
+abbrev pub AreToldOfFirst : (ℕ → ℕ → List ℕ) → List HeldSpan → List (Option ToldFile) → Type 0
+AreToldOfFirst path [] slots = Unit {0}
+AreToldOfFirst path (first ∷ table) slots = AreTold path first.answer.path.items slots
+
 -- 1 if a gap lies between the position and the first span, else 0
 abbrev pub held_gap : Position → List HeldSpan → ℕ
 held_gap at [] = 0
@@ -52,13 +67,15 @@ held_runs at table = length table + length table + held_gap at table
 -- ---- both sides
 
 -- These stretches were given, and the spans from there on are still to come, where these are the paths of the files of
--- units.
+-- units. What is remembered of paths is right.
 pub record HasToldByPath {S : Type 0} (to_come : S → List Span → Type 0) (path : ℕ → ℕ → List ℕ) (differences : DifferencesByPath S)
     (by_section by_table : Position → Option PathAnswer) (told : List (Stretch PathAnswer)) : Type 0 where
   pub section : IsSectionAt to_come (path_answer differences.version path) differences.section differences.at by_section
   pub table : IsTableAt differences.table.now differences.at by_table
   pub below : AreToldBelow by_section by_table differences.at (option_map (path_answer differences.version path) differences.by_section)
       (option_map told_path_answer (option_copied differences.by_table)) told
+  pub files : AreToldOfFirst path differences.table.now differences.told.slots
+  pub compared : AreCompared path differences.compared.slots
 
 -- An upper bound on the stretches that are left to give, where the function bounds the spans that are left in the section's
 -- source. Each stretch begins where a run of one side does, so the runs left on both sides are added up.

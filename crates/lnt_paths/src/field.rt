@@ -12,6 +12,9 @@ use std::alloc::{AllocError, Global};
 // The number of fields kept at most.
 const SLOTS: u64 = 256;
 
+// The number of bytes of the longest field that is kept, so that all of them together take 2 MiB at most.
+const LONGEST: usize = 8192;
+
 // The path of a file as a field of a record, with the comma after it.
 #[derive(Drop)]
 pub(crate) struct PathField {
@@ -60,6 +63,9 @@ impl PathFields {
         }
         let text = field_of(alloc, paths, unit, file)?;
         line.extend_from_slice(&text)?;
+        if text.len() > LONGEST {
+            return Ok(());
+        }
         if let Some(slot) = self.slots.get_mut(place) {
             *slot = Some(PathField { unit, file, text });
         }

@@ -1,14 +1,16 @@
 //! Joins spans, as they come, where they touch and have the same answer by path.
-ghost use Rattle.std.specs.Prelude.{◌≡◌, ◌≢◌, ◌<◌, List, IfOk, IfSome};
+ghost use Rattle.std.specs.Prelude.{◌≡◌, ◌≢◌, ◌<◌, ℕ, List, IfOk, IfSome, OnOk};
 ghost use Rattle.std.specs.Bool.{MatchBool};
 ghost use Rattle.lnt_spans.specs.declared.answer.Answer as answer;
 ghost use Rattle.lnt_spans.specs.declared.span.Span as spec;
 ghost use Rattle.lnt_spans.specs.Ahead.{count_ahead};
 ghost use Rattle.lnt_spans.specs.Coming.{GivesFirstSpan};
+ghost use Rattle.lnt_paths.specs.Compared.{AreCompared};
 ghost use Rattle.lnt_paths.specs.Joining.{AllJoinTo, IsExtendedBy, WillGive};
 ghost use Rattle.lnt_paths.specs.PathAnswers.{PathAnswer, path_answer, told_column};
 
-use crate::paths::{Paths, same_path};
+use crate::paths::Paths;
+use crate::told::ComparedPaths;
 use crate::version::PathVersion;
 use lnt_spans::{Answer, Span, SpanSource};
 use std::alloc::{AllocError, Global};
@@ -18,16 +20,23 @@ use std::alloc::{AllocError, Global};
 pub(crate) struct Joined<S> {
     next: Option<Span>,
     spans: S,
+    // how paths compared so far
+    compared: ComparedPaths,
 }
 
 impl<S: SpanSource> Joined<S> {
     // Takes the first span out of the source.
     pub(crate) fn of(mut spans: S) -> Joined<S>
-        ensures { (tell : answer.Answer → PathAnswer) (list joined : List spec.Span) → S.to_come spans list → AllJoinTo tell list joined
+        ensures compared { (path : ℕ → ℕ → List ℕ) → AreCompared path result.compared.slots }
+        ensures gives { (tell : answer.Answer → PathAnswer) (list joined : List spec.Span) → S.to_come spans list → AllJoinTo tell list joined
             → WillGive tell result.next (S.to_come result.spans) joined }
     {
         let next = spans.next_span();
-        Joined { next, spans }
+        Joined {
+            next,
+            spans,
+            compared: ComparedPaths::none(),
+        }
     }
 
     // Gives the next joined span: the next span with all those that extend it.
@@ -37,6 +46,8 @@ impl<S: SpanSource> Joined<S> {
         paths: &P,
         version: PathVersion,
     ) -> Result<Option<Span>, AllocError>
+        requires { AreCompared (P.bytes_of paths.now) self.old.compared.slots }
+        ensures compared { OnOk result (AreCompared (P.bytes_of paths.now) self.new.compared.slots) }
         ensures gives { IfOk result (λ given. (joined : List spec.Span)
             → WillGive (path_answer version (P.bytes_of paths.now)) self.old.next (S.to_come self.old.spans) joined
             → GivesFirstSpan (WillGive (path_answer version (P.bytes_of paths.now)) self.new.next
@@ -48,7 +59,7 @@ impl<S: SpanSource> Joined<S> {
             return Ok(None);
         };
         while let Some(span) = self.spans.next_span() {
-            if !goes_on(alloc, paths, version, &last, &span)? {
+            if !goes_on(alloc, paths, version, &mut self.compared, &last, &span)? {
                 self.next = Some(span);
                 return Ok(Some(last));
             }
@@ -63,16 +74,19 @@ fn goes_on<P: Paths>(
     alloc: Global,
     paths: &P,
     version: PathVersion,
+    compared: &mut ComparedPaths,
     last: &Span,
     span: &Span,
 ) -> Result<bool, AllocError>
-    ensures { IfOk result (λ goes. MatchBool goes (IsExtendedBy (path_answer version (P.bytes_of paths.now)) last.now span.now)
+    requires { AreCompared (P.bytes_of paths.now) compared.old.slots }
+    ensures compared { OnOk result (AreCompared (P.bytes_of paths.now) compared.new.slots) }
+    ensures goes { IfOk result (λ goes. MatchBool goes (IsExtendedBy (path_answer version (P.bytes_of paths.now)) last.now span.now)
         (IsExtendedBy (path_answer version (P.bytes_of paths.now)) last.now span.now → ⊥)) }
 {
     if last.high != span.low || !same_place(version, &last.answer, &span.answer) {
         return Ok(false);
     }
-    same_path(alloc, paths, &last.answer, &span.answer)
+    compared.same_path(alloc, paths, &last.answer, &span.answer)
 }
 
 // Whether two answers have the same line, and the same column if the version tells it.

@@ -1,14 +1,19 @@
 //! Caches the paths of files.
 ghost use Rattle.std.specs.Prelude.{◌≡◌, ◌≢◌, ℕ, List, IfOk, OnOk};
 ghost use Rattle.std.specs.Bool.{MatchBool};
+ghost use Rattle.lnt_paths.specs.Compared.{AreTold};
 ghost use Rattle.lnt_paths.specs.Merging.{AreKnownOf};
 
 use crate::paths::Paths;
+use crate::told::ToldFiles;
 use lnt_spans::Answer;
 use std::alloc::{AllocError, Global};
 
 // The number of paths kept at most.
 const SLOTS: u64 = 4096;
+
+// The number of bytes of the longest path that is kept, so that all of them together take 2 MiB at most.
+const LONGEST: usize = 512;
 
 // The path of a file, with its unit and file number.
 #[derive(Drop)]
@@ -19,7 +24,7 @@ pub(crate) struct KnownPath {
 }
 
 // A cache of paths, one in each slot, which the sum of the unit and the file number selects: a path is made again only after
-// another file with the same slot was asked for.
+// another file with the same slot was asked for, or if it is long.
 #[derive(Drop)]
 pub(crate) struct KnownPaths {
     slots: Vec<Option<KnownPath>>,
@@ -37,8 +42,33 @@ impl KnownPaths {
         Ok(KnownPaths { slots })
     }
 
+    // Whether the file that an answer names has this path, byte for byte. It is remembered of some files whether they do.
+    #[inline(always)]
+    pub(crate) fn has_told_path<P: Paths>(
+        &mut self,
+        alloc: Global,
+        paths: &P,
+        told: &mut ToldFiles,
+        answer: &Answer,
+        path: &[u8],
+    ) -> Result<bool, AllocError>
+        requires known { AreKnownOf (P.bytes_of paths.now) self.old.slots.items }
+        requires told { AreTold (P.bytes_of paths.now) path.now told.old.slots }
+        ensures kept { OnOk result (AreKnownOf (P.bytes_of paths.now) self.new.slots.items) }
+        ensures told { OnOk result (AreTold (P.bytes_of paths.now) path.now told.new.slots) }
+        ensures same { IfOk result (λ same. MatchBool same (P.bytes_of paths.now answer.now.unit answer.now.file ≡ path.now)
+            (P.bytes_of paths.now answer.now.unit answer.now.file ≢ path.now)) }
+    {
+        if let Some(same) = told.recall(answer.unit, answer.file) {
+            return Ok(same);
+        }
+        let same = self.has_path(alloc, paths, answer, path)?;
+        told.keep(answer.unit, answer.file, same);
+        Ok(same)
+    }
+
     // Whether the file that an answer names has this path, byte for byte.
-    pub(crate) fn has_path<P: Paths>(
+    fn has_path<P: Paths>(
         &mut self,
         alloc: Global,
         paths: &P,
@@ -59,6 +89,9 @@ impl KnownPaths {
         }
         let made = paths.path_of(alloc, unit, file)?;
         let same = made.as_slice() == path;
+        if made.len() > LONGEST {
+            return Ok(same);
+        }
         if let Some(slot) = self.slots.get_mut(place) {
             *slot = Some(KnownPath {
                 unit,

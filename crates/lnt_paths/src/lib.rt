@@ -22,6 +22,7 @@ mod paths;
 mod plain;
 mod record;
 mod stretches;
+mod told;
 mod version;
 mod write;
 

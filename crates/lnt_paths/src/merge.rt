@@ -5,6 +5,7 @@ ghost use Rattle.lnt_spans.specs.declared.answer.Answer as spec_answer;
 ghost use Rattle.lnt_spans.specs.declared.span.Span as spec;
 ghost use Rattle.lnt_spans.specs.Positions.{IsAtMost, IsBelow};
 ghost use Rattle.lnt_spans.specs.Spans.{AreInOrder};
+ghost use Rattle.lnt_paths.specs.Compared.{AreTold};
 ghost use Rattle.lnt_paths.specs.Merging.{IsFirstApart, AreKnownOf, ArePassed};
 ghost use Rattle.lnt_spans.specs.Remaining.{SpansAreLeft};
 ghost use Rattle.lnt_paths.specs.PathAnswers.{path_answer, told_column};
@@ -14,6 +15,7 @@ ghost use Rattle.lnt_paths.specs.Reading.{record_answer, record_span};
 use crate::known::KnownPaths;
 use crate::paths::Paths;
 use crate::record::PathRecord;
+use crate::told::ToldFiles;
 use crate::version::PathVersion;
 use lnt_spans::{Answer, Position, Span, SpanSource};
 use std::alloc::{AllocError, Global};
@@ -74,6 +76,7 @@ pub(crate) fn first_apart<S: SpanSource, P: Paths>(
 {
     let mut at = whole(said.low);
     let end = whole(said.high);
+    let mut told = ToldFiles::none();
     if let Some(span) = begun_below(section.next, at) {
         return Ok(Some(Apart::before_record(&span)));
     }
@@ -81,7 +84,7 @@ pub(crate) fn first_apart<S: SpanSource, P: Paths>(
         let Some(span) = begun_by(section.next, at) else {
             return Ok(Some(Apart::in_record(at, None)));
         };
-        if !answers_so(alloc, paths, version, known, &span.answer, said)? {
+        if !answers_so(alloc, paths, version, known, &mut told, &span.answer, said)? {
             return Ok(Some(Apart::in_record(at, Some(span.answer))));
         }
         if end.is_below(span.high) {
@@ -142,24 +145,27 @@ impl Apart {
     }
 }
 
-// Whether the answer of a section, told by path, is that of a record.
+// Whether the answer of a section, told by path, is that of a record. It is told of some files whether they have its path.
 fn answers_so<P: Paths>(
     alloc: Global,
     paths: &P,
     version: PathVersion,
     known: &mut KnownPaths,
+    told: &mut ToldFiles,
     answer: &Answer,
     said: &PathRecord<'_>,
 ) -> Result<bool, AllocError>
-    requires { AreKnownOf (P.bytes_of paths.now) known.old.slots.items }
+    requires known { AreKnownOf (P.bytes_of paths.now) known.old.slots.items }
+    requires told { AreTold (P.bytes_of paths.now) said.now.path.now told.old.slots }
     ensures kept { OnOk result (AreKnownOf (P.bytes_of paths.now) known.new.slots.items) }
+    ensures told { OnOk result (AreTold (P.bytes_of paths.now) said.now.path.now told.new.slots) }
     ensures same { IfOk result (λ same. MatchBool same (path_answer version (P.bytes_of paths.now) answer.now ≡ record_answer said.now)
         (path_answer version (P.bytes_of paths.now) answer.now ≢ record_answer said.now)) }
 {
     if answer.line != said.line || column_in(version, answer.column) != said.column {
         return Ok(false);
     }
-    known.has_path(alloc, paths, answer, said.path)
+    known.has_told_path(alloc, paths, told, answer, said.path)
 }
 
 // The column, if the version tells it.

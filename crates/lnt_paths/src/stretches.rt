@@ -1,5 +1,5 @@
 //! Lists all stretches of positions at which a section and a table by path answer differently, one after another.
-ghost use Rattle.std.specs.Prelude.{◌≡◌, ◌≢◌, ◌⊎◌, ◌<◌, ◌≤◌, ℕ, List, [], ◌∷◌, ◌++◌, map, None, Option, Some, IfOk, IfSome};
+ghost use Rattle.std.specs.Prelude.{◌≡◌, ◌≢◌, ◌⊎◌, ◌<◌, ◌≤◌, ℕ, List, [], ◌∷◌, ◌++◌, length, map, None, Option, Some, IfOk, IfSome, OnOk};
 ghost use Rattle.std.specs.Prelude.{MatchOption};
 ghost use Rattle.std.specs.Bool.{MatchBool};
 ghost use Rattle.std.specs.Option.{option_copied, option_map};
@@ -14,6 +14,7 @@ ghost use Rattle.lnt_spans.specs.Spans.{AreInOrder};
 ghost use Rattle.lnt_spans.specs.Stepping.{IsRun, IsUpTo, run_end};
 ghost use Rattle.lnt_paths.specs.declared.answer.DifferenceByPath as spec_difference;
 ghost use Rattle.lnt_paths.specs.declared.stretches.Step.TheVariants as step;
+ghost use Rattle.lnt_paths.specs.Compared.{AreCompared, AreTold};
 ghost use Rattle.lnt_paths.specs.Held.{held_span};
 ghost use Rattle.lnt_paths.specs.Stepping.{Steps, held_end, stretch_begun};
 ghost use Rattle.lnt_spans.specs.AnyStretches.{Stretch};
@@ -21,7 +22,7 @@ ghost use Rattle.lnt_paths.specs.PathAnswers.{PathAnswer, answer_told, path_answ
 ghost use Rattle.lnt_paths.specs.PathDifferences.{told_path_answer};
 ghost use Rattle.lnt_paths.specs.PathSpans.{StandInOrder, path_span_answer};
 ghost use Rattle.lnt_paths.specs.PathStretches.{ArePathStretches, stretch_of, stretches_of};
-ghost use Rattle.lnt_paths.specs.Stretching.{HasToldByPath, IsSectionAt, IsTableAt, PathsEndAfter};
+ghost use Rattle.lnt_paths.specs.Stretching.{AreToldOfFirst, HasToldByPath, IsOfFirst, IsSectionAt, IsTableAt, PathsEndAfter};
 ghost use Rattle.lnt_paths.specs.Stretching.{held_runs, path_stretches_left};
 
 use crate::answer::{AnswerByPath, DifferenceByPath};
@@ -29,7 +30,8 @@ use crate::comparison::told_of;
 use crate::held::HeldSpan;
 use crate::joined::same_place;
 use crate::merge::{Section, column_in, whole};
-use crate::paths::{Paths, same_path};
+use crate::paths::Paths;
+use crate::told::{ComparedPaths, ToldFiles};
 use crate::version::PathVersion;
 use lnt_spans::{Answer, Position, Span, SpanSource};
 use std::alloc::{AllocError, Global};
@@ -50,6 +52,9 @@ pub struct DifferencesByPath<'t, S> {
     // both answers right below `at`
     by_section: Option<Answer>,
     by_table: Option<&'t AnswerByPath>,
+    // which files have the path of the table's next span, and which have the same path, as far as they were compared
+    told: ToldFiles,
+    compared: ComparedPaths,
 }
 
 // One side's answer, and where it may end; no end where it never does.
@@ -96,6 +101,8 @@ impl<'t, S: SpanSource> DifferencesByPath<'t, S> {
             at: whole(0),
             by_section: None,
             by_table: None,
+            told: ToldFiles::none(),
+            compared: ComparedPaths::none(),
         }
     }
 
@@ -149,9 +156,21 @@ impl<'t, S: SpanSource> DifferencesByPath<'t, S> {
         let Some(end) = earlier_end(section.end, table.end) else {
             return Ok(Step::Ended);
         };
-        let is_known = self.is_known(alloc, paths, section.answer, table.answer)?;
+        let mut told = self.told;
+        let mut compared = self.compared;
+        let is_known = self.is_known(
+            alloc,
+            paths,
+            &mut told,
+            &mut compared,
+            section.answer,
+            table.answer,
+        )?;
         pass_section(&mut self.section, end);
-        self.table = past_end(self.table, end);
+        let rest = past_end(self.table, end);
+        self.told = told_after(told, self.table, rest);
+        self.compared = compared;
+        self.table = rest;
         self.at = end;
         self.by_section = section.answer;
         self.by_table = table.answer;
@@ -170,10 +189,17 @@ impl<'t, S: SpanSource> DifferencesByPath<'t, S> {
         &self,
         alloc: Global,
         paths: &P,
+        told: &mut ToldFiles,
+        compared: &mut ComparedPaths,
         section: Option<Answer>,
         table: Option<&AnswerByPath>,
     ) -> Result<bool, AllocError>
-        ensures { IfOk result (λ known. MatchBool known
+        requires told { IfSome (option_copied table) (λ held. AreTold (P.bytes_of paths.now) held.path.items told.old.slots) }
+        requires compared { AreCompared (P.bytes_of paths.now) compared.old.slots }
+        ensures told { OnOk result (MatchOption (option_copied table.entry) (told.new ≡ told.old)
+            (λ held. AreTold (P.bytes_of paths.now) held.path.items told.new.slots)) }
+        ensures compared { OnOk result (AreCompared (P.bytes_of paths.now) compared.new.slots) }
+        ensures known { IfOk result (λ known. MatchBool known
             ((option_map (path_answer self.now.version (P.bytes_of paths.now)) section
             ≡ option_map told_path_answer (option_copied table.entry))
             ⊎ (option_map (path_answer self.now.version (P.bytes_of paths.now)) section
@@ -186,13 +212,20 @@ impl<'t, S: SpanSource> DifferencesByPath<'t, S> {
             → option_map told_path_answer (option_copied table.entry) ≡ option_map told_path_answer (option_copied self.now.by_table)
             → ⊥))) }
     {
-        if are_alike(alloc, paths, self.version, section, table)? {
+        if are_alike(alloc, paths, self.version, told, section, table)? {
             return Ok(true);
         }
         if !is_as_held(table, self.by_table) {
             return Ok(false);
         }
-        is_as_before(alloc, paths, self.version, section, self.by_section)
+        is_as_before(
+            alloc,
+            paths,
+            self.version,
+            compared,
+            section,
+            self.by_section,
+        )
     }
 }
 
@@ -223,6 +256,7 @@ fn section_run(next: Option<Span>, at: Position) -> Run<Answer>
 // The table's answer at `at`, and where it may end; no end where it never does.
 fn table_run<'t>(table: &'t [HeldSpan], at: Position) -> Run<&'t AnswerByPath>
     ensures end { result.end ≡ held_end at table.now }
+    ensures first { IfSome (option_copied result.answer) (λ answer. IsOfFirst answer table.now) }
     ensures run { StandInOrder (map held_span table.now) → PathsEndAfter at (map held_span table.now)
         → IsRun (path_span_answer (map held_span table.now)) at (option_map told_path_answer (option_copied result.answer)) result.end }
 {
@@ -279,6 +313,7 @@ fn pass_section<S: SpanSource>(section: &mut Section<S>, end: Position)
 
 // The spans of a table, without the first if that ends at or below `end`.
 fn past_end<'t>(table: &'t [HeldSpan], end: Position) -> &'t [HeldSpan]
+    ensures same { length result.now ≡ length table.now → result.now ≡ table.now }
     ensures side { (at : spec_position.Position) (answers : spec_position.Position → Option PathAnswer) → IsTableAt table.now at answers
         → IsAtMost at end → IsUpTo end (held_end at table.now) → IsTableAt result.now end answers }
     ensures fewer { (at : spec_position.Position) → IsAtMost at end → IsUpTo end (held_end at table.now)
@@ -294,41 +329,59 @@ fn past_end<'t>(table: &'t [HeldSpan], end: Position) -> &'t [HeldSpan]
     rest
 }
 
-// Whether a section's answer, told by path, is the table's.
+// What is remembered of the files that have the path of a table's next span, once these spans of the table are left.
+fn told_after(told: ToldFiles, table: &[HeldSpan], rest: &[HeldSpan]) -> ToldFiles
+    requires { length rest.now ≡ length table.now → rest.now ≡ table.now }
+    ensures { (path : ℕ → ℕ → List ℕ) → AreToldOfFirst path table.now told.slots → AreToldOfFirst path rest.now result.slots }
+{
+    if rest.len() == table.len() {
+        told
+    } else {
+        ToldFiles::none()
+    }
+}
+
+// Whether a section's answer, told by path, is the table's. It is told of some files whether they have the table's path.
 fn are_alike<P: Paths>(
     alloc: Global,
     paths: &P,
     version: PathVersion,
+    told: &mut ToldFiles,
     section: Option<Answer>,
     table: Option<&AnswerByPath>,
 ) -> Result<bool, AllocError>
-    ensures { IfOk result (λ same. MatchBool same
+    requires { IfSome (option_copied table) (λ held. AreTold (P.bytes_of paths.now) held.path.items told.old.slots) }
+    ensures told { OnOk result (MatchOption (option_copied table.entry) (told.new ≡ told.old)
+        (λ held. AreTold (P.bytes_of paths.now) held.path.items told.new.slots)) }
+    ensures same { IfOk result (λ same. MatchBool same
         (option_map (path_answer version (P.bytes_of paths.now)) section ≡ option_map told_path_answer (option_copied table.entry))
         (option_map (path_answer version (P.bytes_of paths.now)) section ≢ option_map told_path_answer (option_copied table.entry))) }
 {
     match (section, table) {
-        (Some(answer), Some(held)) => is_told_so(alloc, paths, version, &answer, held),
+        (Some(answer), Some(held)) => is_told_so(alloc, paths, version, told, &answer, held),
         (None, None) => Ok(true),
         _ => Ok(false),
     }
 }
 
-// Whether an answer of a section, told by path, is this one.
+// Whether an answer of a section, told by path, is this one. It is told of some files whether they have its path.
 fn is_told_so<P: Paths>(
     alloc: Global,
     paths: &P,
     version: PathVersion,
+    told: &mut ToldFiles,
     answer: &Answer,
-    told: &AnswerByPath,
+    held: &AnswerByPath,
 ) -> Result<bool, AllocError>
-    ensures { IfOk result (λ same. MatchBool same (path_answer version (P.bytes_of paths.now) answer.now ≡ told_path_answer told.now)
-        (path_answer version (P.bytes_of paths.now) answer.now ≢ told_path_answer told.now)) }
+    requires { AreTold (P.bytes_of paths.now) held.now.path.items told.old.slots }
+    ensures told { OnOk result (AreTold (P.bytes_of paths.now) held.now.path.items told.new.slots) }
+    ensures same { IfOk result (λ same. MatchBool same (path_answer version (P.bytes_of paths.now) answer.now ≡ told_path_answer held.now)
+        (path_answer version (P.bytes_of paths.now) answer.now ≢ told_path_answer held.now)) }
 {
-    if answer.line != told.line || column_in(version, answer.column) != told.column {
+    if answer.line != held.line || column_in(version, answer.column) != held.column {
         return Ok(false);
     }
-    let path = paths.path_of(alloc, answer.unit, answer.file)?;
-    Ok(path.as_slice() == told.path.as_slice())
+    told.has_path(alloc, paths, answer, held.path.as_slice())
 }
 
 // Whether two answers of a table are the same.
@@ -353,10 +406,13 @@ fn is_as_before<P: Paths>(
     alloc: Global,
     paths: &P,
     version: PathVersion,
+    compared: &mut ComparedPaths,
     one: Option<Answer>,
     other: Option<Answer>,
 ) -> Result<bool, AllocError>
-    ensures { IfOk result (λ same. MatchBool same (option_map (path_answer version (P.bytes_of paths.now)) one
+    requires { AreCompared (P.bytes_of paths.now) compared.old.slots }
+    ensures compared { OnOk result (AreCompared (P.bytes_of paths.now) compared.new.slots) }
+    ensures same { IfOk result (λ same. MatchBool same (option_map (path_answer version (P.bytes_of paths.now)) one
         ≡ option_map (path_answer version (P.bytes_of paths.now)) other)
         (option_map (path_answer version (P.bytes_of paths.now)) one ≢ option_map (path_answer version (P.bytes_of paths.now)) other)) }
 {
@@ -365,7 +421,7 @@ fn is_as_before<P: Paths>(
             if !same_place(version, &one, &other) {
                 return Ok(false);
             }
-            same_path(alloc, paths, &one, &other)
+            compared.same_path(alloc, paths, &one, &other)
         }
         (None, None) => Ok(true),
         _ => Ok(false),

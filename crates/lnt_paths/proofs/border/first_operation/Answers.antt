@@ -2,11 +2,21 @@ use Rattle.std.proofs.Common.{List, [], ◌∷◌, ◌++◌, inl, inr, Option, S
 use Rattle.lnt_spans.specs.declared.answer.Answer.{Answer}
 use Rattle.lnt_spans.specs.declared.span.Span.{Span}
 use Rattle.lnt_spans.specs.Coming.{GivesFirstSpan}
-use Rattle.lnt_spans.proofs.ComingLaws.{one_given}
+use Rattle.lnt_spans.proofs.ComingLaws.{none_given, one_given}
 use Rattle.lnt_paths.specs.Joining.{WillGive}
 use Rattle.lnt_paths.specs.PathAnswers.{PathAnswer, path_answer}
 use Rattle.lnt_paths.proofs.BorderLemmas.{found, none_more}
 use Rattle.lnt_paths.proofs.border.first_operation.Goals as goal
+
+pub loop-joined-init : goal.loop-joined-init
+loop-joined-init g c =
+    let tell : Answer → PathAnswer = path_answer c.args.version (g.P.Paths.bytes_of c.args.paths.now) in
+    let new : List Span → Type 0 = WillGive tell c.of-joined.result.next (g.S.SpanSource.to_come c.of-joined.result.spans) in (
+      [],
+      tt,
+      c.of-joined.ensures.compared (g.P.Paths.bytes_of c.args.paths.now),
+      λ list joined come joins. none_given joined new (c.of-joined.ensures.gives tell list joined come joins),
+    )
 
 pub returns-then-span-ne0 : goal.returns-then-span-ne0
 returns-then-span-ne0 g c list joined come joins =
@@ -16,7 +26,7 @@ returns-then-span-ne0 g c list joined come joins =
     let new : List Span → Type 0 = WillGive tell c.next_joined.new.self.next (g.S.SpanSource.to_come c.next_joined.new.self.spans) in
     let gives : (spans : List Span) → old spans → GivesFirstSpan new spans (Some c.in-Some.span) =
     subst (λ (o : Option Span). (spans : List Span) → old spans → GivesFirstSpan new spans o) c.in-Some.is c.in_ok-span.ensures.gives in
-    found joined inv.0 c.in-Some.span c.in-Some.span.low old new (inv.2 list joined come joins) gives inv.1
+    found joined inv.0 c.in-Some.span c.in-Some.span.low old new (inv.3 list joined come joins) gives inv.1
     (λ more. inl (c.if-span-ne0.true, refl))
 
 pub returns-then-span-ne0-2 : goal.returns-then-span-ne0-2
@@ -27,7 +37,7 @@ returns-then-span-ne0-2 g c list joined come joins =
     let new : List Span → Type 0 = WillGive tell c.next_joined.new.self.next (g.S.SpanSource.to_come c.next_joined.new.self.spans) in
     let gives : (spans : List Span) → old spans → GivesFirstSpan new spans (Some c.in-Some.span) =
     subst (λ (o : Option Span). (spans : List Span) → old spans → GivesFirstSpan new spans o) c.in-Some.is c.in_ok-span.ensures.gives in
-    found joined inv.0 c.in-Some.span c.in-Some.span.high old new (inv.2 list joined come joins) gives inv.1
+    found joined inv.0 c.in-Some.span c.in-Some.span.high old new (inv.3 list joined come joins) gives inv.1
     (λ more. inr (inl (c.if-span-ne0.false, c.if-span-ne0-2.true, refl)))
 
 pub loop-joined-preserved : goal.loop-joined-preserved
@@ -40,5 +50,6 @@ loop-joined-preserved g c =
     subst (λ (o : Option Span). (spans : List Span) → old spans → GivesFirstSpan new spans o) c.in-Some.is c.in_ok-span.ensures.gives in (
       inv.0 ++ c.in-Some.span ∷ [],
       none_more inv.0 c.in-Some.span inv.1 (c.if-span-ne0.false, c.if-span-ne0-2.false),
-      λ list joined come joins. one_given joined inv.0 c.in-Some.span old new (inv.2 list joined come joins) gives,
+      c.in_ok-span.ensures.compared,
+      λ list joined come joins. one_given joined inv.0 c.in-Some.span old new (inv.3 list joined come joins) gives,
     )

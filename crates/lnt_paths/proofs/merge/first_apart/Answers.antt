@@ -19,6 +19,7 @@ returns-in-Some-clause-apart g c list left order =
 pub loop-alloc-init : goal.loop-alloc-init
 loop-alloc-init g c = (
   c.requires.known,
+  c.none-told.ensures (g.P.Paths.bytes_of c.args.paths.now) c.args.said.now.path.now,
   subst (λ (p : Position). IsAtMost p (whole c.args.said.now.high)) (sym c.whole-at.ensures)
       (below_is_at_most (low_high c.args.said.now c.requires.holds)),
   c.whole-end.ensures,
@@ -34,8 +35,8 @@ returns-in_default-begun_by-clause-apart g c list left order =
     let inv = c.loop-alloc.invariant in
     rw c.in_record.ensures
     (apart_gap g.S.SpanSource.to_come (path_answer c.args.version (g.P.Paths.bytes_of c.args.paths.now)) list c.args.said.now
-    c.loop-alloc.at _ _ c.in_default-begun_by.ensures (inv.3 list left order).0 (rw inv.2 at c.loop-alloc-test.ensures)
-    (inv.3 list left order).1)
+    c.loop-alloc.at _ _ c.in_default-begun_by.ensures (inv.4 list left order).0 (rw inv.3 at c.loop-alloc-test.ensures)
+    (inv.4 list left order).1)
 
 pub returns-then-not-branch-clause-apart : goal.returns-then-not-branch-clause-apart
 returns-then-not-branch-clause-apart g c list left order =
@@ -44,7 +45,7 @@ returns-then-not-branch-clause-apart g c list left order =
     (apart_other g.S.SpanSource.to_come (path_answer c.args.version (g.P.Paths.bytes_of c.args.paths.now)) list c.args.said.now
     c.loop-alloc.at _ _ c.in-Some-begun_by.span
     c.in-Some-begun_by.ensures.0 c.in-Some-begun_by.ensures.1 (rw c.if-not-branch.true at c.in_ok-answers_so.ensures.same)
-    (inv.3 list left order).0 (rw inv.2 at c.loop-alloc-test.ensures) (inv.3 list left order).1)
+    (inv.4 list left order).0 (rw inv.3 at c.loop-alloc-test.ensures) (inv.4 list left order).1)
 
 pub returns-then-is_below-clause-apart : goal.returns-then-is_below-clause-apart
 returns-then-is_below-clause-apart g c list left order =
@@ -53,18 +54,19 @@ returns-then-is_below-clause-apart g c list left order =
     (passed_within g.S.SpanSource.to_come (path_answer c.args.version (g.P.Paths.bytes_of c.args.paths.now)) list c.args.said.now
     c.loop-alloc.at _ _ c.in-Some-begun_by.span
     c.in-Some-begun_by.ensures.0 c.in-Some-begun_by.ensures.1 (rw c.if-not-branch.false at c.in_ok-answers_so.ensures.same)
-    (inv.3 list left order).0 (rw inv.2 at c.loop-alloc-test.ensures)
-    (rw inv.2 at c.if-is_below.ensures) (inv.3 list left order).1)
+    (inv.4 list left order).0 (rw inv.3 at c.loop-alloc-test.ensures)
+    (rw inv.3 at c.if-is_below.ensures) (inv.4 list left order).1)
 
 pub loop-alloc-preserved : goal.loop-alloc-preserved
 loop-alloc-preserved g c =
     let inv = c.loop-alloc.invariant in
-    let over : IsAtMost c.in-Some-begun_by.span.high (whole c.args.said.now.high) = rw inv.2 at c.if-is_below.ensures in (
+    let over : IsAtMost c.in-Some-begun_by.span.high (whole c.args.said.now.high) = rw inv.3 at c.if-is_below.ensures in (
       c.in_ok-answers_so.ensures.kept,
+      c.in_ok-answers_so.ensures.told,
       over,
-      inv.2,
+      inv.3,
       λ list left order.
-          let now = inv.3 list left order in (
+          let now = inv.4 list left order in (
             low_after g.S.SpanSource.to_come (path_answer c.args.version (g.P.Paths.bytes_of c.args.paths.now)) list c.args.said.now
                 c.loop-alloc.at _ _ c.in-Some-begun_by.span
                 c.in-Some-begun_by.ensures.0 now.0 now.1,

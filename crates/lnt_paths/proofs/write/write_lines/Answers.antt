@@ -18,7 +18,8 @@ loop-line-init g c =
       [],
       names_written tell c.args.version _ _ c.header_line.result.now c.header_line.ensures c.in_ok-send.ensures.sent,
       c.in_ok-fields.ensures (g.P.Paths.bytes_of c.args.paths.now),
-      λ list joined come joins. none_given joined new (c.of-joined.ensures tell list joined come joins),
+      c.of-joined.ensures.compared (g.P.Paths.bytes_of c.args.paths.now),
+      λ list joined come joins. none_given joined new (c.of-joined.ensures.gives tell list joined come joins),
     )
 
 pub loop-line-preserved : goal.loop-line-preserved
@@ -35,7 +36,8 @@ loop-line-preserved g c =
           (subst (Appends (g.W.Write.contents c.loop-line.out) (g.W.Write.contents c.send-in-Some.new.out)) c.as_slice.ensures.value
           c.in_ok-send-2.ensures.sent),
       c.in_ok-put_line.ensures.kept,
-      λ list joined come joins. one_given joined inv.0 c.in-Some.span old new (inv.3 list joined come joins) gives,
+      c.in_ok-span.ensures.compared,
+      λ list joined come joins. one_given joined inv.0 c.in-Some.span old new (inv.4 list joined come joins) gives,
     )
 
 pub returns-in_err-fields-clause-begun : goal.returns-in_err-fields-clause-begun
@@ -61,7 +63,7 @@ returns-in_err-span-clause-begun g c =
       inv.0,
       lines_so_far tell c.args.version _ _ inv.0 inv.1,
       λ list come all joins.
-          let given = inv.3 list all come joins in (given.rest, given.list_is),
+          let given = inv.4 list all come joins in (given.rest, given.list_is),
     )
 
 pub returns-in_err-put_line-clause-begun : goal.returns-in_err-put_line-clause-begun
@@ -72,7 +74,7 @@ returns-in_err-put_line-clause-begun g c =
       inv.0,
       lines_so_far tell c.args.version _ _ inv.0 inv.1,
       λ list come all joins.
-          let given = inv.3 list all come joins in (given.rest, given.list_is),
+          let given = inv.4 list all come joins in (given.rest, given.list_is),
     )
 
 pub returns-in_err-send-2-clause-begun : goal.returns-in_err-send-2-clause-begun
@@ -90,5 +92,5 @@ returns-in_err-send-2-clause-begun g c =
           (subst (AppendsFront (g.W.Write.contents c.loop-line.out) (g.W.Write.contents c.send-in-Some.new.out)) c.as_slice.ensures.value
           c.in_err-send-2.ensures.front),
       λ list come all joins.
-          let given = one_given all inv.0 c.in-Some.span old new (inv.3 list all come joins) gives in (given.rest, given.list_is),
+          let given = one_given all inv.0 c.in-Some.span old new (inv.4 list all come joins) gives in (given.rest, given.list_is),
     )

@@ -2,6 +2,7 @@ use Rattle.std.specs.Prelude.{List}
 use Rattle.lnt_spans.specs.declared.span.Span.{Span}
 use Rattle.lnt_spans.specs.Ahead.{count_ahead}
 use Rattle.lnt_spans.proofs.ComingLaws.{HasGiven}
+use Rattle.lnt_paths.specs.Compared.{AreCompared}
 use Rattle.lnt_paths.specs.Joining.{AllJoinTo, AreFieldsOf, HasWritten, WillGive}
 use Rattle.lnt_paths.specs.PathAnswers.{path_answer}
 use Rattle.lnt_paths.proofs.write.write_lines.Given as goal
@@ -10,6 +11,7 @@ abbrev pub invariant-loop-line : goal.invariant-loop-line
 invariant-loop-line g l = (given : List Span) × HasWritten (path_answer l.version (g.P.Paths.bytes_of l.paths)) l.version
     (g.W.Write.contents l.fn.out) (g.W.Write.contents l.out) given
     × AreFieldsOf (g.P.Paths.bytes_of l.paths) l.fields.slots.items
+    × AreCompared (g.P.Paths.bytes_of l.paths) l.joined.compared.slots
     × ((list joined : List Span) → g.S.SpanSource.to_come l.fn.spans list
     → AllJoinTo (path_answer l.version (g.P.Paths.bytes_of l.paths)) list joined
     → HasGiven joined given (WillGive (path_answer l.version (g.P.Paths.bytes_of l.paths)) l.joined.next
