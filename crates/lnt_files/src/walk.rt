@@ -59,8 +59,8 @@ impl<'t> Entries<'t> {
         }
     }
 
-    /// A walk before the entry of this number or an earlier one, and the number of the entry that it stands before. Where
-    /// entries 64, 128 and so on are all marked, fewer than 64 entries stand between the two.
+    /// A walk before the entry of this number or an earlier one, and the number of the entry that it stands before. Where the
+    /// table has marks, fewer than 256 bytes stand between the two.
     #[tactic(auto, using(crate::proofs::WalkLemmas::walk_before, crate::proofs::WalkLemmas::before_is))]
     pub(crate) fn before(table: &'t EntryTableView<'t>, number: u64) -> (u64, Entries<'t>)
         requires { number < length table.now.entries }

@@ -1,11 +1,9 @@
 -- Marks in a table: where some of its entries begin, so that these are found without those before them.
-use Rattle.std.specs.Prelude.{ℕ, ◌+◌, ◌≤◌, List, [], ◌∷◌, length, take, drop}
+use Rattle.std.specs.Prelude.{ℕ, ◌≤◌, List, length, take, drop}
+use Rattle.std.specs.List.{All}
 use Rattle.lnt_header_bytes.specs.Borrowed.{BorrowedTable, AreEntryBytes, directories_over, files_over, IsHeaderInBytes}
 use Rattle.lnt_header.specs.declared.header.HeaderParts.{HeaderParts}
-
--- one of so many entries is marked
-abbrev pub stride : ℕ
-stride = 64
+use Rattle.lnt_header_bytes.specs.declared.marks.Mark.{Mark}
 
 -- the table with its entries from this number on
 abbrev pub from_entry : ℕ → BorrowedTable → BorrowedTable
@@ -17,29 +15,24 @@ pub record BeginsAt (table : BorrowedTable) (bytes : List ℕ) (number place : �
   pub within : place ≤ length bytes
   pub lies : AreEntryBytes (from_entry number table) (drop place bytes)
 
--- the first mark is where the entry of this number begins, and each other one that of the entry 64 numbers on
-abbrev pub AreMarksFrom : ℕ → BorrowedTable → List ℕ → List ℕ → Type 0
-AreMarksFrom number table bytes [] = Unit {0}
-AreMarksFrom number table bytes (place ∷ places) = BeginsAt table bytes number place × AreMarksFrom (number + stride) table bytes places
-
--- the marks of a table, whose entries lie in these bytes: entry 0 has none
-abbrev pub AreMarks : BorrowedTable → List ℕ → List ℕ → Type 0
-AreMarks table bytes places = AreMarksFrom stride table bytes places
+-- the marks of a table, whose entries lie in these bytes: each is where its entry begins
+abbrev pub AreMarks : BorrowedTable → List ℕ → List Mark → Type 0
+AreMarks table bytes marks = All (λ mark. BeginsAt table bytes mark.number mark.place) marks
 
 -- these bytes, and no others, spell the table's entries, and the marks are its own
-pub record IsMarkedTable (table : BorrowedTable) (bytes places : List ℕ) : Type 0 where
+pub record IsMarkedTable (table : BorrowedTable) (bytes : List ℕ) (places : List Mark) : Type 0 where
   pub lies : AreEntryBytes table bytes
   pub marks : AreMarks table bytes places
 
 -- the marks of a header's two tables
 pub record AreMarksOver (numbers : HeaderParts) (directories : ℕ) (directory_bytes : List ℕ) (files : ℕ) (file_bytes : List ℕ)
-    (directory_marks file_marks : List ℕ) : Type 0 where
+    (directory_marks file_marks : List Mark) : Type 0 where
   pub of_directories : AreMarks (directories_over numbers directories directory_bytes) directory_bytes directory_marks
   pub of_files : AreMarks (files_over numbers files file_bytes) file_bytes file_marks
 
 -- a header that lies in these bytes, with its marks
 pub record IsMarkedHeader (numbers : HeaderParts) (directories files : ℕ) (bytes : List ℕ) (directory_size file_size : ℕ)
-    (directory_marks file_marks : List ℕ) : Type 0 where
+    (directory_marks file_marks : List Mark) : Type 0 where
   pub lies : IsHeaderInBytes numbers directories files bytes directory_size file_size
   pub marks : AreMarksOver numbers directories (take directory_size bytes) files (take file_size (drop directory_size bytes))
       directory_marks file_marks

@@ -8,7 +8,7 @@ ghost use Rattle.lnt_header.specs.HeaderRules.{IsHeader};
 
 use crate::header_view::HeaderView;
 use crate::in_place::HeaderInPlace;
-use crate::marks::{Marks, marks_of};
+use crate::marks::{Mark, Marks, marks_of};
 use crate::read_table::EntriesInPlace;
 use lnt_header::{Header, Pair};
 use std::alloc::{AllocError, Global};
@@ -36,8 +36,8 @@ struct KeptEntries {
     directory_size: usize,
     file_size: usize,
     // Where in their bytes some directories and some files begin.
-    directory_marks: Vec<usize>,
-    file_marks: Vec<usize>,
+    directory_marks: Vec<Mark>,
+    file_marks: Vec<Mark>,
 }
 
 impl Model for KeptHeader {

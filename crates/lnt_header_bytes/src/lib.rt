@@ -19,6 +19,6 @@ pub use decode::decode_header;
 pub use header_view::HeaderView;
 pub use in_place::{HeaderInPlace, view_header};
 pub use kept::KeptHeader;
-pub use marks::Marks;
+pub use marks::{Mark, Marks};
 pub use read_table::EntriesInPlace;
 pub use table_view::EntryTableView;

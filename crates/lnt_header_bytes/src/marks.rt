@@ -1,5 +1,5 @@
 //! Marks in a table: where some of its entries begin, so that one of them is found without a walk over all before it.
-ghost use Rattle.std.specs.Prelude.{◌≡◌, ◌≤◌, ℕ, List, [], IfOk, IfSome};
+ghost use Rattle.std.specs.Prelude.{◌≡◌, ◌≤◌, ℕ, List, [], IfOk, IfSome, OnOk};
 ghost use Rattle.lnt_header_bytes.specs.Borrowed.{borrowed_table, AreEntryBytes, BorrowedTable};
 ghost use Rattle.lnt_header_bytes.specs.Marks.{AreMarks, BeginsAt};
 
@@ -9,17 +9,25 @@ use lnt_header::{Header, Pair};
 use lnt_wire::Cursor;
 use std::alloc::{AllocError, Global};
 
-// Every entry whose number is a multiple of this is marked, but for entry 0.
-const STRIDE: u64 = 64;
+// An entry is marked where it begins at least so many bytes after the last one that is marked, or after the first entry.
+const STEP: usize = 256;
 
-/// The marks of a header's tables: where in the bytes of a table's entries its entries 64, 128 and so on begin. A table
-/// may have fewer, or none.
+/// A mark: where an entry begins.
+#[derive(Clone, Copy, Debug)]
+pub struct Mark {
+    // The number of the entry, counted from 0.
+    pub(crate) number: u64,
+    // The index of its first byte among those of the entries.
+    pub(crate) place: usize,
+}
+
+/// The marks of a header's tables: where in the bytes of a table's entries some of them begin. They rise. A table may have none.
 #[derive(Clone, Copy, Debug)]
 pub struct Marks<'a> {
     /// Those of the directories.
-    pub directories: &'a [usize],
+    pub directories: &'a [Mark],
     /// Those of the files.
-    pub files: &'a [usize],
+    pub files: &'a [Mark],
 }
 
 impl<'a> Marks<'a> {
@@ -35,42 +43,62 @@ impl<'a> Marks<'a> {
     }
 }
 
-/// The marks of a table of the header's format and order, whose entries consist of these pairs. It refuses only where
-/// memory runs out, and takes none for a table of fewer than 64 entries.
+/// The marks of a table of the header's format and order, whose entries consist of these pairs. Between the last mark before
+/// an entry and that entry are fewer than 256 bytes. It refuses only where memory runs out, and takes none for a table of at
+/// most 256 bytes, and for any other a sixteenth of its bytes.
 pub(crate) fn marks_of(
     alloc: Global,
     header: &Header,
     pairs: &[Pair],
     entries: EntriesInPlace<'_>,
-) -> Result<Vec<usize>, AllocError>
+) -> Result<Vec<Mark>, AllocError>
     requires { AreEntryBytes (borrowed_table header.now.format header.now.order pairs.now entries.count entries.bytes.now)
         entries.bytes.now }
     ensures marks { IfOk result (λ marks. AreMarks (borrowed_table header.now.format header.now.order pairs.now entries.entry.count
         entries.entry.bytes.now) entries.entry.bytes.now marks.items) }
 {
-    let count = entries.count / STRIDE;
-    let mut marks = Vec::with_capacity(alloc, count as usize)?;
+    if entries.bytes.len() <= STEP {
+        return Ok(Vec::new(alloc));
+    }
+    let mut marks = Vec::with_capacity(alloc, entries.bytes.len() / STEP)?;
     let mut cursor = Cursor::new(entries.bytes, 0, header.order());
-    for _ in 0..count {
-        let Ok(_) = pass_entries(&mut cursor, header.format(), pairs, STRIDE) else {
+    for number in 1..entries.count {
+        let Ok(_) = pass_entries(&mut cursor, header.format(), pairs, 1) else {
             unreachable!()
         };
-        marks.push(entries.bytes.len() - cursor.rest().len())?;
+        let place = entries.bytes.len() - cursor.rest().len();
+        add_mark(&mut marks, number, place)?;
     }
     Ok(marks)
 }
 
-/// The entry whose number is the greatest multiple of 64 that isn't above this one: that number, and the index of its first
-/// byte among those of the entries. None where it is 0, or has no mark.
-pub(crate) fn marked_before(marks: &[usize], number: u64) -> Option<(u64, usize)>
-    ensures before { IfSome result (λ found. found.0 ≤ number) }
-    ensures begins { IfSome result (λ found. (table : BorrowedTable) (bytes : List ℕ) → AreMarks table bytes marks.now
-        → BeginsAt table bytes found.0 found.1) }
+// Adds the mark of the entry that begins at this place, if that is far enough after the last mark.
+fn add_mark(marks: &mut Vec<Mark>, number: u64, place: usize) -> Result<(), AllocError>
+    ensures { OnOk result ((table : BorrowedTable) (bytes : List ℕ) → AreMarks table bytes marks.old.items
+        → BeginsAt table bytes number place → AreMarks table bytes marks.new.items) }
 {
-    let marked = number / STRIDE;
-    if marked == 0 {
-        return None;
+    let last = match marks.last() {
+        Some(mark) => mark.place,
+        None => 0,
+    };
+    if place.saturating_sub(last) < STEP {
+        return Ok(());
     }
-    let place = marks.get(marked as usize - 1)?;
-    Some((number - number % STRIDE, *place))
+    Ok(marks.push(Mark { number, place })?)
+}
+
+/// The last mark of an entry up to this number. None where no entry up to it has a mark.
+pub(crate) fn marked_before(marks: &[Mark], number: u64) -> Option<Mark>
+    ensures before { IfSome result (λ mark. mark.number ≤ number) }
+    ensures begins { IfSome result (λ mark. (table : BorrowedTable) (bytes : List ℕ) → AreMarks table bytes marks.now
+        → BeginsAt table bytes mark.number mark.place) }
+{
+    let above = marks.partition_point(|mark| mark.number <= number);
+    let mark = marks.get(above.checked_sub(1)?)?;
+    // The marks rise, so that this always holds; the number itself is what is relied on.
+    if mark.number <= number {
+        Some(*mark)
+    } else {
+        None
+    }
 }

@@ -3,7 +3,7 @@ ghost use Rattle.std.specs.Prelude.{◌≡◌, ◌≤◌, length, IfOk};
 ghost use Rattle.lnt_header_bytes.specs.Borrowed.{borrowed_table, AreEntryBytes};
 ghost use Rattle.lnt_header_bytes.specs.Marks.{AreMarks, from_entry};
 
-use crate::marks::marked_before;
+use crate::marks::{Mark, marked_before};
 use crate::read_table::EntriesInPlace;
 use crate::table::read_entries;
 use lnt_header::{Entry, Header, Pair};
@@ -21,7 +21,7 @@ pub struct EntryTableView<'a> {
     pairs: &'a [Pair],
     entries: EntriesInPlace<'a>,
     // Where in their bytes some of them begin.
-    marks: &'a [usize],
+    marks: &'a [Mark],
 }
 
 impl<'a> Model for EntryTableView<'a> {
@@ -42,7 +42,7 @@ impl<'a> EntryTableView<'a> {
         header: &Header,
         pairs: &'a [Pair],
         entries: EntriesInPlace<'a>,
-        marks: &'a [usize],
+        marks: &'a [Mark],
     ) -> EntryTableView<'a>
         requires lies { AreEntryBytes (borrowed_table header.now.format header.now.order pairs.now entries.count entries.bytes.now)
             entries.bytes.now }
@@ -89,19 +89,19 @@ impl<'a> EntryTableView<'a> {
         Cursor::new(self.entries.bytes, 0, self.order)
     }
 
-    /// A cursor before the entry of this number or an earlier one, and the number of that entry. Where entries 64, 128 and
-    /// so on are all marked, fewer than 64 entries stand between the two.
+    /// A cursor before the entry of this number or an earlier one, and the number of that entry. Where the table has marks,
+    /// fewer than 256 bytes stand between the two.
     pub fn cursor_before(&self, number: u64) -> (u64, Cursor<'_>)
         ensures before { result.0 ≤ number }
         ensures there { result.0 ≤ length self.now.entries }
         ensures order { result.1.order ≡ self.now.order }
         ensures rest { AreEntryBytes (from_entry result.0 self.now) result.1.rest }
     {
-        let Some((first, place)) = marked_before(self.marks, number) else {
+        let Some(mark) = marked_before(self.marks, number) else {
             return (0, self.cursor());
         };
-        let (_, bytes) = self.entries.bytes.split_at(place);
-        (first, Cursor::new(bytes, 0, self.order))
+        let (_, bytes) = self.entries.bytes.split_at(mark.place);
+        (mark.number, Cursor::new(bytes, 0, self.order))
     }
 
     /// The entries themselves. It refuses only where memory runs out.
