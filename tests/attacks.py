@@ -1,6 +1,7 @@
 """Makes good sections of shapes that cost a careless reader much, looks up an address in each, and lists its files. A section
 of four times the size has to take less than eight times the processor time. The memory of each word has to stay within four times the
-bytes that are given and 8 MB. With the word --figures it also prints what each took. The last line is 'N passed, M failed'."""
+bytes that are given and 8 MB, or within what docs/LIMITS.md says of the shape. With the word --figures it also prints what each took.
+The last line is 'N passed, M failed'."""
 
 import os
 import subprocess
@@ -79,6 +80,85 @@ def units(count):
     return b"".join(unit(ONE_DIRECTORY + TWO_FILES, sequence(0x1000 + 16 * place)) for place in range(count))
 
 
+def one_sequence(tables, rows):
+    """A section of one sequence with these rows, which ends an address after the last."""
+    return unit(tables, b"\0\x09\2" + (0x1000).to_bytes(8, "little") + rows + b"\2\1\0\1\1")
+
+
+def long_directory(count):
+    return bytes([1, 1, 8, 1]) + b"/" + b"s" * count + b"\0"
+
+
+def one_span(count, path):
+    """A table by path of one span, of this many addresses."""
+    return b"low,high,path,line\n0x1001,0x%x,%s,1\n" % (0x1001 + count, path)
+
+
+# A row at the next address, of the same line.
+NEXT_ROW = b"\x20"
+
+
+def long_paths(length):
+    """A row for each of many files of the same long path."""
+    files = bytes([2, 1, 8, 2, 0x0B]) + leb(1024) + b"a\0\0" * 1024
+    rows = b"".join(b"\4" + leb(file) + NEXT_ROW for file in range(1024))
+    return {
+        "line": one_sequence(long_directory(length) + files, rows),
+        "table": one_span(1024, b"/" + b"s" * length + b"/a"),
+    }
+
+
+def directories_before(count):
+    """Files of a short directory that stands after many long ones."""
+    long = (b"/" + b"d" * (count // 10) + b"\0") * 63
+    files = bytes([2, 1, 8, 2, 0x0B]) + leb(count) + b"a\0\x3f" * count
+    return {"line": with_tables(bytes([1, 1, 8, 64]) + long + b"/e\0" + files)}
+
+
+def files_before(count):
+    """Lookups of two files with short names, each of which stands after many with long ones."""
+    names = ((b"f" * (count // 10) + b"\0") * 63 + b"x\0") * 2
+    rows = b"".join(b"\4" + (b"\x3f" if row % 2 else b"\x7f") + NEXT_ROW for row in range(count))
+    return {
+        "line": one_sequence(ONE_DIRECTORY + bytes([1, 1, 8]) + leb(128) + names, rows),
+        "addresses": b"0x1002\n" * count,
+    }
+
+
+def columns_of_one_file(count):
+    """Rows of one file with a long path, whose columns alternate."""
+    return {
+        "line": one_sequence(long_directory(count) + TWO_FILES, b"\5\1\x20\5\2\x20" * (count // 2)),
+        "table": one_span(count, b"/" + b"s" * count + b"/a"),
+    }
+
+
+def two_files(count):
+    """Rows of two files in turn, which have the same long path."""
+    return {"line": one_sequence(long_directory(count) + TWO_FILES, b"\4\0\x20\4\1\x20" * (count // 2))}
+
+
+def overlap_of_many_files(count):
+    """Two sequences of the same addresses, in a unit of many files without a name."""
+    return {"line": unit(bytes([1, 1, 8, 1, 0, 1, 1, 8]) + leb(count) + b"\0" * count, sequence(0x1000) * 2)}
+
+
+def short_sequences(count):
+    """Sequences of five bytes each."""
+    return {"line": unit(ONE_DIRECTORY + TWO_FILES, b"\1\x08\0\1\1" * count)}
+
+
+def short_units(count):
+    """Units of 22 bytes each, with headers that differ from one to the next."""
+    one, other = (b"\x12\0\0\0\5\0\x08\0\x0a\0\0\0" + bytes([least, 1, 1, 0, 1, 1]) + b"\0" * 4 for least in (1, 2))
+    return {"line": (one + other) * (count // 2)}
+
+
+def fields(count, before=b""):
+    """A table with a record of many empty fields."""
+    return {"line": sequences([0]), "table": before + b"," * count + b"\n"}
+
+
 # The whole paths of its files are themselves the square of its bytes.
 LONG_PATHS = "one long directory of many files"
 
@@ -96,6 +176,38 @@ SHAPES = {
 }
 
 
+# For each shape that is slow for some words alone its files of a size, the size, and these words.
+SLOW = {
+    "many files of a long path": (long_paths, 250_000, ["check LINE TABLE"]),
+    "many long directories before a short one": (directories_before, 20_000, ["files LINE"]),
+    "many long names before short ones": (files_before, 10_000, ["lookup LINE --addresses ADDRESSES", "table LINE --paths"]),
+    "columns of a file with a long path": (columns_of_one_file, 40_000, ["check LINE TABLE", "check LINE TABLE --all"]),
+    "two files of a long path": (two_files, 40_000, ["table LINE --lines"]),
+}
+
+
+# For each shape that takes much memory for a word alone its files of a size, the size, the word, its status, and how many
+# bytes it may take of that size and these bytes given.
+LARGE = {
+    "a note about many files": (overlap_of_many_files, 2_000_000, "verify LINE", 1, lambda size, given: MOST_COPIES * given),
+    "many short sequences": (
+        short_sequences,
+        1_100_000,
+        "verify LINE --skip-copies",
+        0,
+        lambda size, given: MOST_COPIES * given + 128 * size,
+    ),
+    "many short units": (short_units, 140_000, "verify LINE", 0, lambda size, given: MOST_COPIES * given + 1024 * size),
+    "a record of many fields": (
+        lambda size: fields(size, b"low,high,path,line\n"),
+        8_000_000,
+        "check LINE TABLE",
+        1,
+        lambda size, given: 10 * given,
+    ),
+}
+
+
 # The words that read no strings, and those that do, with an address at which no sequence begins as that of discarded code.
 BARE = ["units", "dump --ops --rows", "convert --format 32 --order big"]
 WITH_STRINGS = ["verify", "md5", "table", "verify --dead 0x7", "lookup 0x1000 0x7 --dead 0x7", "check TABLE", "check TABLE --dead 0x7"]
@@ -104,28 +216,42 @@ WITH_STRINGS = ["verify", "md5", "table", "verify --dead 0x7", "lookup 0x1000 0x
 TIMED = ["lookup 0x1000", "files"]
 
 
-class Given:
-    """A section of a shape and its strings, in files."""
+class Files:
+    """Contents in files, by their kind, and the bytes of memory that a word may take with them."""
 
-    def __init__(self, shape, size, folder):
-        make, strings_of, _ = SHAPES[shape]
-        contents = {"line": make(size), "strings": strings_of(size) if strings_of else b""}
+    def __init__(self, contents, size, folder, most=lambda size, given: MOST_COPIES * given):
         self.bytes = sum(map(len, contents.values()))
-        self.names = {kind: os.path.join(folder, "%s%d" % (kind, size)) for kind in [*contents, "table"]}
+        self.allowed = OWN_MEMORY + most(size, self.bytes)
+        self.names = {kind: os.path.join(folder, "%s%d" % (kind, size)) for kind in contents}
         for kind, content in contents.items():
             with open(self.names[kind], "wb") as file:
                 file.write(content)
 
     def words(self, text):
-        """A word's own words, with the names of the files."""
-        word, *rest = [self.names["table"] if it == "TABLE" else it for it in text.split()]
+        """The words of a text, with the names of the files."""
+        return [self.names.get(word.lower(), word) if word.isupper() else word for word in text.split()]
+
+
+class Given(Files):
+    """A section of a shape and its strings, and later its table."""
+
+    def __init__(self, shape, size, folder):
+        make, strings_of, _ = SHAPES[shape]
+        super().__init__({"line": make(size), "strings": strings_of(size) if strings_of else b""}, size, folder)
+
+    def words(self, text):
+        """A word's own words, with the section, and the strings where it reads them."""
+        word, *rest = super().words(text)
         return [word, self.names["line"], *rest, *([] if text in BARE else ["--line-str", self.names["strings"]])]
 
-    def table(self):
-        """Writes the section's table, and gives how many bytes it has."""
-        with open(self.names["table"], "wb") as file:
+    def add_table(self, folder):
+        """Writes the section's table, which then counts as given."""
+        table = os.path.join(folder, "table")
+        with open(table, "wb") as file:
             subprocess.run([PROGRAM, *self.words("table")], stdout=file, check=True)
-        return os.path.getsize(self.names["table"])
+        self.names["table"] = table
+        self.bytes += os.path.getsize(table)
+        self.allowed += MOST_COPIES * os.path.getsize(table)
 
 
 def taken(measured, words):
@@ -135,25 +261,31 @@ def taken(measured, words):
     return run.returncode, float(seconds), int(kilobytes) << 10
 
 
-def memory_fault(status, memory, given):
-    if status != 0:
+def memory_fault(status, wanted, memory, files):
+    if status != wanted:
         return "status %d" % status
-    if memory > MOST_COPIES * given + OWN_MEMORY:
-        return "%d bytes of memory for %d given" % (memory, given)
+    if memory > files.allowed:
+        return "%d bytes of memory for %d given" % (memory, files.bytes)
     return None
 
 
-def times_given(memory, given):
-    return "%.1f times the bytes given" % (memory / given)
+def times_given(memory, files):
+    return "%.1f times the bytes given" % (memory / files.bytes)
+
+
+def judged_memory(measured, text, files, wanted=0):
+    """What is wrong with the memory of a word, if anything, and what it took."""
+    status, _, memory = taken(measured, files.words(text))
+    return memory_fault(status, wanted, memory, files), times_given(memory, files)
 
 
 def judged_timed(measured, text, small, large):
     """What is wrong with the time and memory of a word, if anything, and what it took."""
     least = [None, None]
     for _ in range(TURNS):
-        for which, given in enumerate((small, large)):
-            status, seconds, memory = taken(measured, given.words(text))
-            figures, fault = times_given(memory, given.bytes), memory_fault(status, memory, given.bytes)
+        for which, files in enumerate((small, large)):
+            status, seconds, memory = taken(measured, files.words(text))
+            figures, fault = times_given(memory, files), memory_fault(status, 0, memory, files)
             if fault:
                 return fault, figures
             least[which] = seconds if least[which] is None else min(least[which], seconds)
@@ -168,11 +300,24 @@ def judged(shape, measured, folder):
     for text in TIMED:
         if (text, shape) != ("files", LONG_PATHS):
             yield text, *judged_timed(measured, text, small, large)
-    table = given.table()
     for text in BARE + WITH_STRINGS:
-        status, _, memory = taken(measured, given.words(text))
-        all_given = given.bytes + (table if "TABLE" in text else 0)
-        yield text, memory_fault(status, memory, all_given), times_given(memory, all_given)
+        if "TABLE" in text and "table" not in given.names:
+            given.add_table(folder)
+        yield text, *judged_memory(measured, text, given)
+
+
+def judged_slow(name, measured, folder):
+    """Each word with a shape that is slow for this word alone, as `judged` gives it."""
+    make, size, texts = SLOW[name]
+    small, large = [Files(make(it), it, folder) for it in (size // 2, 2 * size)]
+    for text in texts:
+        yield text, *judged_timed(measured, text, small, large)
+
+
+def judged_large(name, measured, folder):
+    """A word with a shape that takes much memory for this word alone, as `judged` gives it."""
+    make, size, text, wanted, most = LARGE[name]
+    yield text, *judged_memory(measured, text, Files(make(size), size, folder, most), wanted)
 
 
 def main():
@@ -180,15 +325,16 @@ def main():
     with tempfile.TemporaryDirectory() as folder:
         measured = os.path.join(folder, "measured")
         subprocess.run(["cc", "-O2", "-o", measured, "bench/peers/measured.c"], check=True)
-        for shape in SHAPES:
-            for text, fault, figures in judged(shape, measured, folder):
-                if "--figures" in sys.argv:
-                    print("%s: %s: %s" % (text, shape, figures), flush=True)
-                if fault:
-                    failed += 1
-                    print("failed: %s: %s: %s" % (text, shape, fault))
-                else:
-                    passed += 1
+        for judge, shapes in (judged, SHAPES), (judged_slow, SLOW), (judged_large, LARGE):
+            for shape in shapes:
+                for text, fault, figures in judge(shape, measured, folder):
+                    if "--figures" in sys.argv:
+                        print("%s: %s: %s" % (text, shape, figures), flush=True)
+                    if fault:
+                        failed += 1
+                        print("failed: %s: %s: %s" % (text, shape, fault))
+                    else:
+                        passed += 1
     print("%d passed, %d failed" % (passed, failed))
     return 1 if failed else 0
 
