@@ -150,6 +150,17 @@ by_clang() {
     tool_says "clang's code by eu-addr2line" '??:0' "$build/f.c:3" eu-addr2line -e "$build/app" "$at"
 }
 
+whole_name() {
+  local at
+  here 'a whole name by readelf' clang nm readelf || return
+  sources gsym-first
+  (cd "$build" && clang -g -gdwarf-5 -o app "$build/f.c")
+  at=$(address f)
+  section_says 'a whole name' "$at" "$build/f.c:3" || return
+  tool_says 'a whole name by readelf' "$build/$build/f.c" "$build/f.c" \
+    bash -c 'readelf --wide --debug-dump=decodedline "$0" | sed -n "s/^CU: \(.*\):$/\1/p"' "$build/app"
+}
+
 go_relative() {
   local at
   here 'a relative path by Go' cc nm || return
@@ -170,5 +181,6 @@ breakpad_ranges
 comp_dir
 dead_code
 by_clang
+whole_name
 go_relative
 finish
