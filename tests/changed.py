@@ -62,8 +62,8 @@ def loaded(chance):
     def ran(words, **_):
         if words[-1] == "--help":
             return subprocess.CompletedProcess(words, 0, b"  --big\n  --dead\n  --line-str\n  --str\n", b"")
-        line = chance.choice(LINES)
-        return subprocess.CompletedProcess(words, line != b"yes\n", line, chance.choice((b"", b"linetab: note: no sequence begins at 0x0,\n")))
+        line, note = chance.choice(LINES), chance.choice((b"", b"linetab: note: no sequence begins at 0x0,\n"))
+        return subprocess.CompletedProcess(words, line != b"yes\n", line, note)
 
     module.ran = ran
     module.put_error = lambda content: None
