@@ -56,6 +56,12 @@ is_written() {
   diff "$work/err.wanted" "$work/err" | head -n 10
 }
 
+# Runs a command that can write to no file, but for what it tells on standard error.
+unwritten() { # COMMAND..
+  (ulimit -f 0; "$@" 2>&1) | cat >&2
+  return "${PIPESTATUS[0]}"
+}
+
 # Leaves something out, and says why.
 skip() { # TEXT
   skipped=$((skipped + 1))

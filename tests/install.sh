@@ -22,7 +22,7 @@ same() { # NAME WANTED GIVEN
 
 expect 'a prefix' 0 '' '' ./install "$prefix"
 for words in '' "''" --libary '-- x' 'x y' '--library'; do
-  expect "no prefix: $words" 2 '' $'usage: ./install [--library] PREFIX\n' bash -c "./install $words"
+  expect "no prefix: $words" 2 '' $'usage: ./install [--library] PREFIX\n' unwritten bash -c "./install $words"
 done
 expect 'the program' 0 $'yes\n' '' "$linetab" check "${hello[@]}"
 python3 tests/images.py elf64 "$work/app" .debug_line=examples/hello.debug_line .debug_line_str=examples/hello.debug_line_str
@@ -172,7 +172,7 @@ release() {
   expect 'the same by options of tar and gzip' 0 '' '' \
     bash -c 'TAR_OPTIONS=--xattrs GZIP=-1 ./release "$1" >/dev/null && cmp "$0" "$1/${0##*/}"' "$work/one/$name.tar.gz" "$work/two"
   for words in "''" - --libary 'x y'; do
-    expect "no folder: $words" 2 '' $'usage: ./release [--library] [FOLDER]\n' bash -c "./release $words"
+    expect "no folder: $words" 2 '' $'usage: ./release [--library] [FOLDER]\n' unwritten bash -c "./release $words"
   done
   expect 'a file in the place of a folder' 1 '' "release: nothing can be written to $work/one/$name.tar.gz"$'\n' \
     last_line ./release "$work/one/$name.tar.gz"

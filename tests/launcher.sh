@@ -121,7 +121,9 @@ rm "$tree/crates/linetab/out" && mv "$work/out_before" "$tree/crates/linetab/out
 
 # ---- the library
 
-expect 'no prefix for the library' 2 '' $'usage: ./library PREFIX\n' "$tree/library" ''
+for words in '' "''" -x 'x y'; do
+  expect "no prefix for the library: $words" 2 '' $'usage: ./library PREFIX\n' unwritten with_rt bash -c "\"\$0\" $words" "$tree/library"
+done
 expect 'the library' 0 '' $'fn linetab::main: proved\n' in_short "$tree/library" "$work/prefix"
 expect 'once built, nothing is asked of the toolchain for it' 0 '' '' without_rt "$tree/library" "$work/prefix"
 change lnt_ffi
