@@ -160,17 +160,12 @@ in_zsh() {
 release() {
   local name
   name=linetab-$(<VERSION)-x86_64-linux
-  mkdir "$work/one" "$work/two" "$work/unpacked"
+  mkdir -p "$work/one" "$work/two" "$work/elsewhere/two" "$work/unpacked"
   expect 'an archive' 0 "$name.tar.gz"$'\n' '' bash -c './release "$0" | cut -c 67-' "$work/one"
-  expect 'the same by another umask' 0 '' '' \
-    bash -c 'umask 077; ./release "$1" >/dev/null && cmp "$0" "$1/${0##*/}"' "$work/one/$name.tar.gz" "$work/two"
-  # Where git takes the folder for another user's, and CDPATH has such a folder too.
-  mkdir -p "$work/three/elsewhere/here" "$work/three/here"
-  expect 'the same where git refuses the folder' 0 '' '' \
-    bash -c 'cd "$1" && CDPATH=$1/elsewhere GIT_TEST_ASSUME_DIFFERENT_OWNER=1 "$0/release" here >/dev/null && cmp "$2" "here/${2##*/}"' \
-    "$top" "$work/three" "$work/one/$name.tar.gz"
-  expect 'the same by options of tar and gzip' 0 '' '' \
-    bash -c 'TAR_OPTIONS=--xattrs GZIP=-1 ./release "$1" >/dev/null && cmp "$0" "$1/${0##*/}"' "$work/one/$name.tar.gz" "$work/two"
+  # GIT_TEST_ASSUME_DIFFERENT_OWNER has git take the folder for another user's.
+  expect 'the same by another umask and CDPATH, by options of tar and gzip, and where git refuses the folder' 0 '' '' bash -c 'umask 077
+    export CDPATH=$1/elsewhere TAR_OPTIONS=--xattrs GZIP=-1 GIT_TEST_ASSUME_DIFFERENT_OWNER=1
+    cd "$1" && "$0/release" two >/dev/null && cmp "one/$2" "two/$2"' "$top" "$work" "$name.tar.gz"
   for words in "''" - --libary 'x y'; do
     expect "no folder: $words" 2 '' $'usage: ./release [--library] [FOLDER]\n' unwritten bash -c "./release $words"
   done
