@@ -1,9 +1,8 @@
 #!/usr/bin/env bash
 # The wrong answers of docs/FOUND.md, each made anew by the tools that are here: what a tool says of an address, and what the section
 # says there. A tool that says what the section says is left out, as one in which it was mended.
-cd "$(dirname "$0")/.." || exit 1
+cd "$(dirname "$(readlink -f -- "$0")")/.." || exit 1
 . tests/check.bash
-work=$(cd "$work" && pwd -P)
 linetab=$PWD/crates/linetab/out/linetab
 object=$PWD/linetab-object
 build=$work/build

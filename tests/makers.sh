@@ -1,9 +1,8 @@
 #!/usr/bin/env bash
 # linetab-table: small files of each maker with the tables that are in them, broken files, and files and answers of the tools that are
 # here, for programs of the compilers that are here.
-cd "$(dirname "$0")/.." || exit 1
+cd "$(dirname "$(readlink -f -- "$0")")/.." || exit 1
 . tests/check.bash
-work=$(cd "$work" && pwd -P)
 says=linetab-table:
 three=$'low,high,path,line\n'
 four=$'low,high,path,line,column\n'

@@ -4,7 +4,6 @@
 cd "$(dirname "$(readlink -f -- "$0")")/.." || exit 1
 . tests/check.bash
 . tests/unit.bash
-work=$(cd "$work" && pwd -P)
 hello=(.debug_line=examples/hello.debug_line .debug_line_str=examples/hello.debug_line_str)
 dead=(.debug_line=examples/gc-sections.debug_line .debug_line_str=examples/gc-sections.debug_line_str)
 table=$(cat examples/hello.csv)$'\n'

@@ -2,7 +2,8 @@
 //! `lnt_lines` and `lnt_table` pass on, and of nothing below them.
 #![tactic(auto)]
 
-ghost use Rattle.std.specs.Prelude.{◌-◌, ◌^◌, ◌<◌, IfOk, IfSome, OnTrue};
+ghost use Rattle.std.specs.Bool.{OnTrue};
+ghost use Rattle.std.specs.Prelude.{◌-◌, ◌^◌, ◌<◌, IfOk, IfSome};
 ghost use Rattle.lnt_table.specs.Headline.{AnswersRight};
 
 use lnt_lines::{Options, Source, Stop, Strings};
