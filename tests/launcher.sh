@@ -103,13 +103,19 @@ expect 'a changed source, and two that ask at once' 0 $'0x0 64 172\n' '' \
   with_rt bash -c '"$0" convert "$1" --format 64 --order little 2>>"$2" | "$0" units - 2>>"$2"' "$tree/linetab" "$section" "$work/both"
 expect 'are one build' 0 $'ci\n' '' grep -x ci "$work/asked"
 expect 'for which one waits' 0 $'linetab: another one proves and builds the program; waiting for it\n' '' grep waiting "$work/both"
+change() { # CRATE
+  echo '// changed' >>"$tree/crates/$1/src/lib.rt"
+}
+ln -s "$(python3 -c 'import sys; print(sys.executable)')" "$work/without/python3"
+cp linetab-object "$tree"
+python3 tests/images.py elf64 "$work/app" .debug_line=examples/hello.debug_line .debug_line_str=examples/hello.debug_line_str
+change lnt_wire
+expect 'linetab-object, which tells what the launcher tells' 0 $'0x0 32 156\n' "$proving"'linetab: proved NAME ('"$all of $all"$'), N s\nlinetab: proving and compiling the program over them, N s\nlinetab: built in N s\n' \
+  plainly with_rt "$tree/linetab-object" units "$work/app"
 # The last line that a command says, and its status.
 in_short() { # COMMAND..
   with_rt "$@" 2>&1 >/dev/null | tail -n 1 >&2
   return "${PIPESTATUS[0]}"
-}
-change() { # CRATE
-  echo '// changed' >>"$tree/crates/$1/src/lib.rt"
 }
 touch "$work/meanwhile"
 change lnt_wire
