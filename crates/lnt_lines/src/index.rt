@@ -15,7 +15,8 @@ ghost use Rattle.lnt_sequences.specs.Spanning.{rows_left};
 ghost use Rattle.lnt_spans.specs.declared.span.Span.{Span};
 ghost use Rattle.lnt_lines.specs.Contents.{AreRising, TellsOf};
 ghost use Rattle.lnt_lines.specs.Cursors.{GivesAllOf, room_of};
-ghost use Rattle.lnt_lines.specs.Indexed.{HasOneOperation, IsIndex, IsIndexOf, IsSequenceIn, file_count_in, file_path_in, file_sum_in, header_in};
+ghost use Rattle.lnt_lines.specs.Indexed.{HasOneOperation, IsIndex, IsIndexOf, IsSequenceIn};
+ghost use Rattle.lnt_lines.specs.Indexed.{file_count_in, file_path_in, file_sum_in, header_in};
 ghost use Rattle.lnt_spans.specs.Instructions.{IsOfInstructions};
 
 use crate::lines::place_of;

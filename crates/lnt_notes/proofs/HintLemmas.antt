@@ -7,7 +7,8 @@ use Rattle.lnt_spans.specs.Coming.{GivesFirstSpan}
 use Rattle.lnt_spans.specs.declared.span.Span.{Span}
 
 -- No first one of these spans is there exactly where the same spans in another order are none.
-pub no_first_of_none : (left : List Span → Type 0) (spans all : List Span) (given : Option Span) (is : Bool) → GivesFirstSpan left spans given
+pub no_first_of_none : (left : List Span → Type 0) (spans all : List Span) (given : Option Span) (is : Bool)
+    → GivesFirstSpan left spans given
     → IsPermutation all spans → is ≡ is_none given → IsTrue is ↔ all ≡ []
 no_first_of_none left [] all None is gives same none = (λ _. nil_from_length all (sym (length_permutation all [] same)), λ _. none)
 no_first_of_none left (span ∷ spans) all (Some given) is gives same some = (

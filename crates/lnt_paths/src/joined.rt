@@ -28,8 +28,8 @@ impl<S: SpanSource> Joined<S> {
     // Takes the first span out of the source.
     pub(crate) fn of(mut spans: S) -> Joined<S>
         ensures compared { (path : ℕ → ℕ → List ℕ) → AreCompared path result.compared.slots }
-        ensures gives { (tell : answer.Answer → PathAnswer) (list joined : List spec.Span) → S.to_come spans list → AllJoinTo tell list joined
-            → WillGive tell result.next (S.to_come result.spans) joined }
+        ensures gives { (tell : answer.Answer → PathAnswer) (list joined : List spec.Span) → S.to_come spans list
+            → AllJoinTo tell list joined → WillGive tell result.next (S.to_come result.spans) joined }
     {
         let next = spans.next_span();
         Joined {

@@ -33,7 +33,8 @@ returns-then-is_known-clause-told g c f f' told h =
       table = c.past_end-rest.ensures.side own.at f' h.table (below_is_at_most moves.below)
           (subst (IsUpTo end) c.table_run-table.ensures.end c.in-Some.ensures.1);
       files = c.told_after-self.ensures (g.P.Paths.bytes_of c.args.paths.now)
-          (told_kept (g.P.Paths.bytes_of c.args.paths.now) own.table.now (option_copied c.table_run-table.result.answer) _ _ c.table_run-table.ensures.first
+          (told_kept (g.P.Paths.bytes_of c.args.paths.now) own.table.now (option_copied c.table_run-table.result.answer) _ _
+          c.table_run-table.ensures.first
           h.files c.in_ok-is_known.ensures.told);
       compared = c.in_ok-is_known.ensures.compared;
       below = step_known f f' own.at end section-before table-before section table told h.below moves
@@ -78,7 +79,8 @@ returns-clause-told g c f f' told h =
       table = c.past_end-rest.ensures.side own.at f' h.table (below_is_at_most moves.below)
           (subst (IsUpTo end) c.table_run-table.ensures.end c.in-Some.ensures.1);
       files = c.told_after-self.ensures (g.P.Paths.bytes_of c.args.paths.now)
-          (told_kept (g.P.Paths.bytes_of c.args.paths.now) own.table.now (option_copied c.table_run-table.result.answer) _ _ c.table_run-table.ensures.first
+          (told_kept (g.P.Paths.bytes_of c.args.paths.now) own.table.now (option_copied c.table_run-table.result.answer) _ _
+          c.table_run-table.ensures.first
           h.files c.in_ok-is_known.ensures.told);
       compared = c.in_ok-is_known.ensures.compared;
       below = let differs = rw c.if-is_known.false at c.in_ok-is_known.ensures.known in
