@@ -198,6 +198,7 @@ LARGE = {
         lambda size, given: MOST_COPIES * given + 128 * size,
     ),
     "many short units": (short_units, 140_000, "verify LINE", 0, lambda size, given: MOST_COPIES * given + 1024 * size),
+    "a header of many fields": (fields, 8_000_000, "check LINE TABLE", 1, lambda size, given: MOST_COPIES * given),
     "a record of many fields": (
         lambda size: fields(size, b"low,high,path,line\n"),
         8_000_000,

@@ -396,6 +396,12 @@ header_found None bytes fields reader first other = λ v x. other v (sym (first.
 header_found (Some v) bytes fields reader first same =
     subst (λ (names : Fields). HasRead reader bytes (names ∷ [])) same first.0
 
+-- bytes whose record 0 has more fields than any table has columns
+pub wide_header : (bytes : List ℕ) → ((fields : Fields) → BeginsWith bytes (fields ∷ []) → 11 < length fields) → (v : PathVersion)
+    → BeginsWith bytes (path_column_names v ∷ []) → ⊥
+wide_header bytes wide Three begins = absurd (omega (arith, wide (path_column_names Three) begins))
+wide_header bytes wide Four begins = absurd (omega (arith, wide (path_column_names Four) begins))
+
 pub header_begins : (found : Option PathVersion) (bytes : List ℕ) (reader : BytesReader)
     → MatchOption found ((v : PathVersion) → BeginsWith bytes (path_column_names v ∷ []) → ⊥)
     (λ v. HasRead reader bytes (path_column_names v ∷ []))

@@ -26,7 +26,7 @@ use crate::paths::Paths;
 use crate::record::{PathRecord, record_after};
 use crate::version::PathVersion;
 use csv::{ByteRecord, Reader};
-use lnt_records::{TableFault, read_next, reader_of};
+use lnt_records::{TableFault, begins_wide, read_next, reader_of};
 use lnt_spans::{Answer, SpanSource};
 use std::alloc::{AllocError, Global};
 
@@ -68,6 +68,9 @@ fn header_of(alloc: Global, table: &[u8]) -> Result<Option<PathVersion>, AllocEr
     ensures { IfOk result (λ found. MatchOption found ((v : PathVersion) → BeginsWith table.now (path_column_names v ∷ []) → ⊥)
         (λ v. BeginsWith table.now (path_column_names v ∷ []))) }
 {
+    if begins_wide(alloc, table)? {
+        return Ok(None);
+    }
     let mut reader = reader_of(alloc, table);
     let mut row = ByteRecord::new(alloc);
     read_header(&mut reader, &mut row)

@@ -108,7 +108,7 @@ pub(crate) struct ComparedFiles {
 }
 
 // Whether two files have the same path, for some pairs of files, one in each slot, which the file numbers select.
-#[derive(Clone, Copy, Drop)]
+#[derive(Clone, Copy)]
 pub(crate) struct ComparedPaths {
     slots: [Option<ComparedFiles>; SLOTS],
 }

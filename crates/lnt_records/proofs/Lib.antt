@@ -18,5 +18,6 @@ pub mod SaidLemmas
 pub mod StreamLemmas
 pub mod TextLemmas
 pub mod VersionLaws
+pub mod WideLemmas
 pub mod WriteLemmas
 pub mod WrittenLaws

@@ -66,7 +66,7 @@ record Left (s : State) (bytes : List ℕ) (p : Read) : Type 0 where
 left_some : (s : State) (bytes : List ℕ) (p q : Read) → q ≡ p → Left s bytes q → Left s bytes p
 left_some s bytes p q e h = subst (Left s bytes) e h
 
-same_read : (p q : Read) → Some p ≡ Some q → p ≡ q
+pub same_read : (p q : Read) → Some p ≡ Some q → p ≡ q
 same_read p q e = cc
 
 record_left : (s : State) (fields : Fields) (field bytes : List ℕ) (p : Read) → next_record default_config s fields field bytes ≡ Some p
@@ -168,7 +168,7 @@ begins : (reader : BytesReader) (bytes : List ℕ) (records : List Fields) → H
 begins reader bytes records h = (reader_state reader, h.rest, h.reached)
 
 -- the same bytes have the same first record
-first_same : (bytes : List ℕ) (a b : Fields) → BeginsWith bytes (a ∷ []) → BeginsWith bytes (b ∷ []) → a ≡ b
+pub first_same : (bytes : List ℕ) (a b : Fields) → BeginsWith bytes (a ∷ []) → BeginsWith bytes (b ∷ []) → a ≡ b
 unfolding Reached
 first_same bytes a b x y =
     let one = x.2 in

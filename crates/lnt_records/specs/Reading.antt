@@ -1,5 +1,5 @@
 -- A reader of the records in some bytes in memory: what it has read, and what it has left.
-use Rattle.std.specs.Prelude.{◌≡◌, ℕ, ◌+◌, ◌≤◌, true, false, List, Option, Some, None, length}
+use Rattle.std.specs.Prelude.{◌≡◌, ℕ, ◌+◌, ◌≤◌, ◌++◌, true, false, List, Option, Some, None, length}
 use Rattle.std.proofs.Common.{Bor}
 use Rattle.csv.specs.Machine.{ends_at_end}
 use Rattle.csv.specs.Reading.{Reached, Ready, default_config, is_flexible, reader_config, reader_state, reader_trim, source_of, strip_bom}
@@ -18,6 +18,11 @@ bytes_left reader = source_of (λ s. Some s.now) reader
 abbrev pub known_length : Option (List ℕ) → ℕ
 known_length None = 0
 known_length (Some bytes) = length bytes
+
+-- The bytes begin with these.
+pub record IsFrontOf (front bytes : List ℕ) : Type 0 where
+  pub more : List ℕ
+  pub joined : bytes ≡ front ++ more
 
 -- The reader has read these records, the first ones of the bytes, and is between two records. It takes records with any
 -- number of fields, so only a lack of memory can make it fail.

@@ -13,6 +13,7 @@ ghost use Rattle.lnt_records.specs.Table.{BeginsWith, Fields, IsSpanRecord, IsTa
 use crate::fault::TableFault;
 use crate::reading::{read_header, read_next, reader_of};
 use crate::record::{RecordFault, span_of};
+use crate::wide::begins_wide;
 use csv::{ByteRecord, Reader};
 use lnt_spans::{Difference, Merge, Span, SpanSlice, SpanSource, Version};
 use std::alloc::{AllocError, Global};
@@ -66,6 +67,9 @@ pub(crate) fn header_of(alloc: Global, table: &[u8]) -> Result<Option<Version>, 
     ensures { IfOk result (λ found. MatchOption found ((v : Version) → BeginsWith table.now (column_names v ∷ []) → ⊥)
         (λ v. BeginsWith table.now (column_names v ∷ []))) }
 {
+    if begins_wide(alloc, table)? {
+        return Ok(None);
+    }
     let mut reader = reader_of(alloc, table);
     let mut row = ByteRecord::new(alloc);
     read_header(&mut reader, &mut row)

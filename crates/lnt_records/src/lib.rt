@@ -22,6 +22,7 @@ mod record;
 mod remaining;
 mod stream;
 mod text;
+mod wide;
 mod window;
 mod write;
 
@@ -33,4 +34,5 @@ pub use fault::{TableFault, WriteStop};
 pub use reading::{read_first, read_next, reader_of};
 pub use remaining::Remaining;
 pub use stream::{TableRead, compare_or_take, compare_table};
+pub use wide::begins_wide;
 pub use write::write_spans;
