@@ -8,6 +8,8 @@
 #[cfg(test)]
 mod cli;
 #[cfg(test)]
+mod each;
+#[cfg(test)]
 mod samples;
 #[cfg(test)]
 mod tables;
