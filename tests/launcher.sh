@@ -65,8 +65,8 @@ plainly() {
   sed -E '/^linetab: proved /{/\(([0-9]+) of \1\)/!d; s/lnt_[a-z_]+/NAME/}; s/[0-9]+ s$/N s/; s|'"$work"'|WORK|g' "$work/said" >&2
   return $status
 }
-# The crates below the program: all but those of tests, of the library and its own.
-all=$(cd crates && printf '%s\n' */ | grep -cvE '^(lnt_(ffi|tests)|linetab)/')
+# The crates below the program: all but those of an example, of tests, of the library and its own.
+all=$(cd crates && printf '%s\n' */ | grep -cvE '^(lnt_(example|ffi|tests)|linetab)/')
 section=$top/examples/hello.debug_line
 proving=$'linetab: proving and building the program, which takes some minutes the first time
 linetab: meanwhile `rt try -- WORD ..` in WORK/tree/crates/linetab answers in a minute, interpreted and unproved, for files by their whole paths\n'
