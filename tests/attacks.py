@@ -116,13 +116,10 @@ def directories_before(count):
 
 
 def files_before(count):
-    """Lookups of two files with short names, each of which stands after many with long ones."""
+    """Rows of two files with short names by turns, each of which stands after many with long ones."""
     names = ((b"f" * (count // 10) + b"\0") * 63 + b"x\0") * 2
     rows = b"".join(b"\4" + (b"\x3f" if row % 2 else b"\x7f") + NEXT_ROW for row in range(count))
-    return {
-        "line": one_sequence(ONE_DIRECTORY + bytes([1, 1, 8]) + leb(128) + names, rows),
-        "addresses": b"0x1002\n" * count,
-    }
+    return {"line": one_sequence(ONE_DIRECTORY + bytes([1, 1, 8]) + leb(128) + names, rows)}
 
 
 def columns_of_one_file(count):
@@ -180,7 +177,7 @@ SHAPES = {
 SLOW = {
     "many files of a long path": (long_paths, 250_000, ["check LINE TABLE"]),
     "many long directories before a short one": (directories_before, 20_000, ["files LINE"]),
-    "many long names before short ones": (files_before, 10_000, ["lookup LINE --addresses ADDRESSES", "table LINE --paths"]),
+    "many long names before short ones": (files_before, 10_000, ["table LINE --paths"]),
     "columns of a file with a long path": (columns_of_one_file, 40_000, ["check LINE TABLE", "check LINE TABLE --all"]),
     "two files of a long path": (two_files, 40_000, ["table LINE --lines"]),
 }
